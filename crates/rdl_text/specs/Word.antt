@@ -1,0 +1,9 @@
+-- A word of a text, as a contract sees it.
+use Rattle.std.specs.Prelude.{ℕ, List}
+use Rattle.rdl_text.specs.declared.token.TokenKind.{TokenKind}
+
+-- its kind, the byte at which it begins, and its spelling
+pub record Word : Type 0 where
+  pub kind : TokenKind
+  pub start : ℕ
+  pub source : List ℕ

@@ -1,0 +1,5 @@
+//! The words of a text of SystemRDL, and the places in it.
+#![tactic(auto)]
+
+pub mod name;
+pub mod token;
