@@ -34,6 +34,9 @@ pub enum NameFault {
 }
 
 impl From<AllocError> for NameFault {
+    ghost use Rattle.rdl_text.specs.declared.name.NameFault.{NameFault};
+    ghost use Rattle.std.specs.Prelude.{◌≡◌};
+
     ghost from_gives = { λ _ f. f ≡ NameFault.Memory };
 
     fn from(_error: AllocError) -> NameFault {

@@ -1,0 +1,2 @@
+//! The flat language: a map is empty, or one address map of registers, each with its fields.
+pub mod map;
