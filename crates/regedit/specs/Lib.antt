@@ -1,3 +1,4 @@
 pub mod FlatMap
+pub mod FlatRows
 pub mod FlatSpelling
 pub mod Reserved

@@ -1,0 +1,100 @@
+-- Stacks of steps back, when a step is put on one or taken off.
+use Rattle.std.proofs.Common.{◌≡◌, ℕ, suc, ◌+◌, ◌-◌, ◌<◌, ◌≤◌, List, [], ◌∷◌, ◌++◌, length, take, refl, sym, ap, ◌∙◌, subst, arith, append_assoc, length-append, Some, slice_get, nat_lt, if◌then◌else◌, true}
+use mathlib.Core.List.{reverse}
+use Rattle.std.proofs.lemmas.Bool.{lt-ltb}
+use Rattle.std.proofs.lemmas.List.{reverse-append, length-reverse, take_at, get_or_at}
+use Rattle.std.proofs.lemmas.Option.{slice_get-get_or}
+use Rattle.std.proofs.Math.Logic.{∥∥₁_elim, ∥∥₁_map, ∥∥₁_prop, ∥∥₁_map₂}
+use Rattle.journal_core.specs.Along.{back_to, states_along, FitAlong, Steps}
+use Rattle.journal_core.specs.History.{History, after_edit, after_undo, after_redo}
+
+pub back_to-push : {S B : Type 0} (prior : S → B → S) (now : S) (bs : List B) (b : B) → back_to prior now (bs ++ b ∷ []) ≡ back_to prior (prior now b) bs
+back_to-push prior now [] b = refl
+back_to-push prior now (x ∷ bs) b = ap (λ s. prior s x) (back_to-push prior now bs b)
+
+pub states-push : {S B : Type 0} (prior : S → B → S) (now : S) (bs : List B) (b : B) → states_along prior now (bs ++ b ∷ []) ≡ states_along prior (prior now b) bs ++ prior now b ∷ []
+states-push prior now [] b = refl
+states-push {S} prior now (x ∷ bs) b =
+    ap (λ s. prior s x ∷ states_along prior now (bs ++ b ∷ [])) (back_to-push prior now bs b)
+    ∙ ap (λ (ss : List S). prior (back_to prior (prior now b) bs) x ∷ ss) (states-push prior now bs b)
+
+pub length-states : {S B : Type 0} (prior : S → B → S) (now : S) (bs : List B) → length (states_along prior now bs) ≡ length bs
+length-states prior now [] = refl
+length-states prior now (x ∷ bs) = ap suc (length-states prior now bs)
+
+-- the last step of a stack that fits
+pub FitAlong-last : {S B : Type 0} (prior : S → B → S) (fits : S → B → Type 0) (now : S) (bs : List B) (b : B) → FitAlong prior fits now (bs ++ b ∷ []) → fits now b × FitAlong prior fits (prior now b) bs
+FitAlong-last prior fits now [] b h = (h.0, tt)
+FitAlong-last prior fits now (x ∷ bs) b h =
+    let rest = FitAlong-last prior fits now bs b h.1 in
+    (rest.0, (subst (λ s. fits s x) (back_to-push prior now bs b) h.0, rest.1))
+
+pub FitAlong-push : {S B : Type 0} (prior : S → B → S) (fits : S → B → Type 0) (now : S) (bs : List B) (b : B) → fits now b → FitAlong prior fits (prior now b) bs → FitAlong prior fits now (bs ++ b ∷ [])
+FitAlong-push prior fits now [] b f h = (f, tt)
+FitAlong-push prior fits now (x ∷ bs) b f h =
+    (subst (λ s. fits s x) (sym (back_to-push prior now bs b)) h.0, FitAlong-push prior fits now bs b f h.1)
+
+-- the steps are all one list of states, from either end
+pub states-from : {S B : Type 0} (prior : S → B → S) (old new : S) (from from' to to' : List B) → Steps prior old new from from' to to' → states_along prior old from ≡ states_along prior new from' ++ new ∷ []
+states-from {S} prior old new from from' to to' h =
+    ap (states_along prior old) h.taken ∙ states-push prior old from' h.back
+    ∙ ap (λ (s : S). states_along prior s from' ++ s ∷ []) (sym h.there)
+
+pub states-to : {S B : Type 0} (prior : S → B → S) (old new : S) (from from' to to' : List B) → Steps prior old new from from' to to' → states_along prior new to' ≡ states_along prior old to ++ old ∷ []
+states-to {S} prior old new from from' to to' h =
+    ap (states_along prior new) h.put ∙ states-push prior new to h.forward
+    ∙ ap (λ (s : S). states_along prior s to ++ s ∷ []) h.again
+
+-- one list, with its place one further to the left
+pub moved : {S : Type 0} (a b a' b' : List S) (s t : S) → a ≡ a' ++ t ∷ [] → b' ≡ b ++ s ∷ [] → a' ++ t ∷ reverse b' ≡ a ++ s ∷ reverse b
+moved {S} a b a' b' s t p q =
+    ap (λ (r : List S). a' ++ t ∷ r) (ap reverse q ∙ reverse-append b (s ∷ []))
+    ∙ sym (append_assoc a' (t ∷ []) (s ∷ reverse b)) ∙ ap (λ (l : List S). l ++ s ∷ reverse b) (sym p)
+
+pub undone : {S B : Type 0} (prior : S → B → S) (old new : S) (limit : ℕ) (from from' to to' : List B) → Steps prior old new from from' to to'
+    → ◌≡◌ {A = History S} (record { limit = limit; states = states_along prior new from' ++ new ∷ reverse (states_along prior new to'); place = length from' })
+      (after_undo (record { limit = limit; states = states_along prior old from ++ old ∷ reverse (states_along prior old to); place = length from }))
+undone {S} prior old new limit from from' to to' h =
+    let all = moved (states_along prior old from) (states_along prior old to) (states_along prior new from') (states_along prior new to') old new
+      (states-from prior old new from from' to to' h) (states-to prior old new from from' to to' h) in
+    let place : length from' ≡ length from - 1 = omega (arith, ap length h.taken, length-append from' (h.back ∷ [])) in
+    ap (λ (ss : List S). record { limit = limit; states = ss; place = length from' }) all
+    ∙ ap (λ (n : ℕ). record { limit = limit; states = states_along prior old from ++ old ∷ reverse (states_along prior old to); place = n }) place
+
+pub length-states-all : {S B : Type 0} (prior : S → B → S) (now : S) (done undone : List B) → length (states_along prior now done ++ now ∷ reverse (states_along prior now undone)) ≡ length done + (length undone + 1)
+length-states-all prior now done undone =
+    length-append (states_along prior now done) (now ∷ reverse (states_along prior now undone))
+    ∙ omega (arith, length-states prior now done, length-reverse (states_along prior now undone), length-states prior now undone)
+
+pub redone : {S B : Type 0} (prior : S → B → S) (old new : S) (limit : ℕ) (from from' to to' : List B) → Steps prior old new from from' to to'
+    → ◌≡◌ {A = History S} (record { limit = limit; states = states_along prior new to' ++ new ∷ reverse (states_along prior new from'); place = length to' })
+      (after_redo (record { limit = limit; states = states_along prior old to ++ old ∷ reverse (states_along prior old from); place = length to }))
+redone {S} prior old new limit from from' to to' h =
+    let all = sym (moved (states_along prior new to') (states_along prior new from') (states_along prior old to) (states_along prior old from) new old
+      (states-to prior old new from from' to to' h) (states-from prior old new from from' to to' h)) in
+    let room : length to + 1 < length (states_along prior old to ++ old ∷ reverse (states_along prior old from)) =
+      omega (arith, length-states-all prior old to from, ap length h.taken, length-append from' (h.back ∷ [])) in
+    let place : length to' ≡ length to + 1 = omega (arith, ap length h.put, length-append to (h.forward ∷ [])) in
+    ap (λ (ss : List S). record { limit = limit; states = ss; place = length to' }) all
+    ∙ ap (λ (n : ℕ). record { limit = limit; states = states_along prior old to ++ old ∷ reverse (states_along prior old from); place = n })
+      (place ∙ sym (ap (λ b. if b then length to + 1 else length to) (lt-ltb _ _ room)))
+
+pub slice_get_at : {X : Type 0} (xs ys : List X) (y : X) (n : ℕ) → length xs ≡ n → slice_get (xs ++ y ∷ ys) n ≡ Some y
+slice_get_at xs ys y n e =
+    slice_get-get_or (xs ++ y ∷ ys) n y (omega (arith, e, length-append xs (y ∷ ys))) ∙ ap Some (get_or_at xs y ys y n e)
+
+pub edited : {S B : Type 0} (prior : S → B → S) (old new : S) (limit : ℕ) (done done' undone undone' : List B) (back : B) → done' ≡ done ++ back ∷ [] → undone' ≡ [] → prior new back ≡ old
+    → ◌≡◌ {A = History S} (record { limit = limit; states = states_along prior new done' ++ new ∷ reverse (states_along prior new undone'); place = length done' })
+      (after_edit (record { limit = limit; states = states_along prior old done ++ old ∷ reverse (states_along prior old undone); place = length done }) new)
+edited {S} {B} prior old new limit done done' undone undone' back d u e =
+    let before = states_along prior old done in
+    let after = reverse (states_along prior old undone) in
+    let front : states_along prior new done' ≡ before ++ old ∷ [] =
+      ap (states_along prior new) d ∙ states-push prior new done back ∙ ap (λ (s : S). states_along prior s done ++ s ∷ []) e in
+    let place : length done' ≡ length done + 1 = omega (arith, ap length d, length-append done (back ∷ [])) in
+    let cut : take (length done + 1) (before ++ old ∷ after) ≡ before ++ old ∷ [] =
+      ap (take (length done + 1)) (sym (append_assoc before (old ∷ []) after))
+      ∙ take_at (before ++ old ∷ []) after (length done + 1) (length-append before (old ∷ []) ∙ omega (arith, length-states prior old done)) in
+    ap (λ (us : List B). record { limit = limit; states = states_along prior new done' ++ new ∷ reverse (states_along prior new us); place = length done' }) u
+    ∙ ap (λ (ss : List S). record { limit = limit; states = ss ++ new ∷ []; place = length done' }) (front ∙ sym cut)
+    ∙ ap (λ (n : ℕ). record { limit = limit; states = take (length done + 1) (before ++ old ∷ after) ++ new ∷ []; place = n }) place

@@ -1,0 +1,25 @@
+use Rattle.std.proofs.Common.{rules, ◌≡◌, ℕ, ◌+◌, ◌-◌, ◌<◌, ◌≤◌, List, [], ◌∷◌, ◌++◌, length, refl, sym, ap, ◌∙◌, subst, arith, Some, slice_get}
+use Rattle.std.proofs.lemmas.Result.{on_ok_weaker}
+use Rattle.journal_core.specs.Along.{FitAlong, Steps, states_along, back_to}
+use Rattle.journal_core.proofs.Stacks.{FitAlong-last, FitAlong-push}
+use Rattle.journal_core.proofs.journal.take_step.Goals as goal
+
+pub revert-requires : goal.revert-requires
+revert-requires g c =
+    let m = g.M.Invertible in
+    let items : c.args.from.now.items ≡ c.pop.new.self.items ++ c.unwrap-back.result ∷ [] = search rules in
+    (FitAlong-last m.prior m.fits _ _ _ (subst (FitAlong m.prior m.fits (m.state c.args.map.now)) items c.requires.from_fit)).0
+
+pub returns-in-Ok-clause-from_fits : goal.returns-in-Ok-clause-from_fits
+returns-in-Ok-clause-from_fits g c =
+    let m = g.M.Invertible in
+    let items : c.args.from.now.items ≡ c.pop.new.self.items ++ c.unwrap-back.result ∷ [] = search rules in
+    let rest = (FitAlong-last m.prior m.fits _ _ _ (subst (FitAlong m.prior m.fits (m.state c.args.map.now)) items c.requires.from_fit)).1 in
+    subst (λ s. FitAlong m.prior m.fits s c.pop.new.self.items) (sym c.in-Ok.ensures.leads) rest
+
+pub returns-in-Ok-clause-to_fits : goal.returns-in-Ok-clause-to_fits
+returns-in-Ok-clause-to_fits g c =
+    let m = g.M.Invertible in
+    let items : c.push.new.self.items ≡ c.args.to.now.items ++ c.in-Ok.forward ∷ [] = search rules in
+    subst (FitAlong m.prior m.fits (m.state c.revert.new.self)) (sym items)
+      (FitAlong-push m.prior m.fits _ _ _ c.in-Ok.ensures.fits (subst (λ s. FitAlong m.prior m.fits s c.args.to.now.items) (sym c.in-Ok.ensures.back) c.requires.to_fit))

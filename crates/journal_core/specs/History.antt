@@ -1,0 +1,54 @@
+-- A list of states, a place in it, and how far the place may go.
+use Rattle.std.specs.Prelude.{◌≡◌, ℕ, slice_get, Some, zero, suc, ◌+◌, ◌-◌, ◌<◌, nat_lt, if◌then◌else◌, List, [], ◌∷◌, ◌++◌, length, take, Option, Some, slice_get, IfErr, Result}
+
+pub record History (S : Type 0) : Type 0 where
+  pub limit : ℕ
+  pub states : List S
+  pub place : ℕ
+
+-- what was after the place goes, and the state comes there
+abbrev pub after_edit : {S : Type 0} → History S → S → History S
+after_edit h s = record { limit = h.limit; states = take (h.place + 1) h.states ++ s ∷ []; place = h.place + 1 }
+
+-- one place back; at the first there is none
+abbrev pub after_undo : {S : Type 0} → History S → History S
+after_undo h = record { limit = h.limit; states = h.states; place = h.place - 1 }
+
+-- one place on; at the last there is none
+abbrev pub after_redo : {S : Type 0} → History S → History S
+after_redo h = record { limit = h.limit; states = h.states; place = if nat_lt (h.place + 1) (length h.states) then h.place + 1 else h.place }
+
+-- the place is in the list
+abbrev pub IsHistory : {S : Type 0} → History S → Type 0
+IsHistory h = h.place < length h.states
+
+-- edits that lead to these states, one after another
+abbrev pub after_edits : {S : Type 0} → History S → List S → History S
+after_edits h [] = h
+after_edits h (s ∷ ss) = after_edits (after_edit h s) ss
+
+abbrev pub after_undos : {S : Type 0} → ℕ → History S → History S
+after_undos zero h = h
+after_undos (suc n) h = after_undos n (after_undo h)
+
+abbrev pub after_redos : {S : Type 0} → ℕ → History S → History S
+after_redos zero h = h
+after_redos (suc n) h = after_redos n (after_redo h)
+
+-- this is the state at the place
+abbrev pub IsAt : {S : Type 0} → History S → S → Type 0
+IsAt h s = slice_get h.states h.place ≡ Some s
+
+-- a change leads from the state at the place to a new one, which comes after it
+pub record Edits {S C : Type 0} (leads : S → C → S → Type 0) (change : C) (old new : History S) : Type 0 where
+  pub from : S
+  pub to : S
+  pub stood : IsAt old from
+  pub led : leads from change to
+  pub edited : new ≡ after_edit old to
+
+-- a change is refused at the place
+pub record Refuses {S C R : Type 0} (refuses : S → C → R → Type 0) (change : C) (old : History S) (refusal : R) : Type 0 where
+  pub at : S
+  pub stood : IsAt old at
+  pub refused : refuses at change refusal

@@ -1,0 +1,4 @@
+pub mod Along
+pub mod History
+pub mod Faults
+pub mod Example

@@ -1,0 +1,42 @@
+//! What the history asks of the object that it keeps.
+ghost use Rattle.std.specs.Prelude.{◌≡◌, IfOk, IfErr, OnOk, OnErr};
+
+use std::alloc::Global;
+
+/// An object whose accepted changes can be taken back.
+pub trait Invertible {
+    type Change;
+    type Back: Drop;
+    type Refusal;
+    type State;
+
+    /// What a contract knows of the object.
+    ghost state: { Self → Self.State };
+
+    /// The state to which a step back leads.
+    ghost prior: { Self.State → Self.Back → Self.State };
+    /// A step back can be taken there.
+    ghost fits: { Self.State → Self.Back → Type 0 };
+    /// A change may lead from the first state to the second.
+    ghost leads: { Self.State → Self.Change → Self.State → Type 0 };
+    /// A change may be refused there, in this way.
+    ghost refuses: { Self.State → Self.Change → Self.Refusal → Type 0 };
+
+    /// Makes a change, and answers the step back.
+    fn apply(&mut self, alloc: Global, change: &Self::Change) -> Result<Self::Back, Self::Refusal>
+        ensures leads { OnOk result (leads (state self.old) change.now (state self.new)) }
+        ensures fits { IfOk result (λ back. fits (state self.new) back) }
+        ensures back { IfOk result (λ back. prior (state self.new) back ≡ state self.old) }
+        ensures refused { IfErr result (λ refusal. refuses (state self.old) change.now refusal) }
+        ensures err { OnErr result (state self.new ≡ state self.old) };
+
+    /// Takes a step back, and answers the step that leads forward again. Only memory can be refused, and then the
+    /// step is handed over again.
+    fn revert(&mut self, alloc: Global, back: Self::Back) -> Result<Self::Back, Self::Back>
+        requires { fits (state self.old) back }
+        ensures leads { OnOk result (state self.new ≡ prior (state self.old) back) }
+        ensures fits { IfOk result (λ forward. fits (state self.new) forward) }
+        ensures back { IfOk result (λ forward. prior (state self.new) forward ≡ state self.old) }
+        ensures handed { IfErr result (λ same. same ≡ back) }
+        ensures err { OnErr result (state self.new ≡ state self.old) };
+}

@@ -1,0 +1,154 @@
+//! The history.
+ghost use Rattle.std.specs.Prelude.{◌≡◌, ◌+◌, [], ◌∷◌, length, Ok, Err, IfErr, OnOk, OnErr, ◌↔◌};
+ghost use Rattle.journal_core.specs.declared.fault.EditFault.{EditFault};
+ghost use Rattle.journal_core.specs.declared.fault.StepFault.TheVariants.{Nothing};
+ghost use Rattle.journal_core.specs.Along.{FitAlong, Steps};
+ghost use Rattle.journal_core.specs.History.{after_undo, after_redo, Edits, IsAt};
+ghost use Rattle.journal_core.specs.Faults.{Explains};
+
+use crate::fault::{EditFault, StepFault};
+use crate::invertible::Invertible;
+use std::alloc::Global;
+use std::marker::Model;
+
+/// Takes the last step of one stack, and puts the step that leads there again on the other.
+fn take_step<M: Invertible>(
+    alloc: Global,
+    map: &mut M,
+    from: &mut Vec<M::Back>,
+    to: &mut Vec<M::Back>,
+) -> Result<(), StepFault>
+    requires from_fit { (FitAlong M.prior M.fits (M.state map.old) from.old.items) }
+    requires to_fit { (FitAlong M.prior M.fits (M.state map.old) to.old.items) }
+    ensures ok { OnOk result (Steps M.prior (M.state map.old) (M.state map.new) from.old.items from.new.items to.old.items to.new.items) }
+    ensures nothing { (length from.old.items ≡ 0) ↔ (result ≡ Err Nothing) }
+    ensures map { OnErr result (M.state map.new ≡ M.state map.old) }
+    ensures from { OnErr result (from.new.items ≡ from.old.items) }
+    ensures to { OnErr result (to.new.items ≡ to.old.items) }
+    ensures from_fits { (FitAlong M.prior M.fits (M.state map.new) from.new.items) }
+    ensures to_fits { (FitAlong M.prior M.fits (M.state map.new) to.new.items) }
+{
+    if from.is_empty() {
+        return Err(StepFault::Nothing);
+    }
+    if to.reserve(1).is_err() {
+        return Err(StepFault::Memory);
+    }
+    let back = from.pop().unwrap();
+    match map.revert(alloc, back) {
+        Ok(forward) => {
+            to.push(forward).unwrap();
+            Ok(())
+        }
+        Err(same) => {
+            from.push(same).unwrap();
+            Err(StepFault::Memory)
+        }
+    }
+}
+
+/// A map with the changes that can be undone and redone. A contract sees a list of states and a place in it.
+#[derive(Drop)]
+pub struct Journal<M: Invertible> {
+    map: M,
+    limit: u32,
+    done: Vec<M::Back>,
+    undone: Vec<M::Back>,
+}
+
+impl<M: Invertible> Model for Journal<M> {
+    ghost use Rattle.std.specs.Prelude.{ℕ, List, length, ◌++◌, ◌∷◌, ◌+◌, ◌≤◌};
+    ghost use mathlib.Core.List.{reverse};
+    ghost use Rattle.journal_core.specs.Along.{states_along, IsSound};
+    ghost use Rattle.journal_core.specs.History.{History};
+
+    ghost Value = { History M.State };
+
+    ghost view = { λ j. record {
+        limit = j.limit;
+        states = states_along M.prior (M.state j.map) j.done.items ++ M.state j.map ∷ reverse (states_along M.prior (M.state j.map) j.undone.items);
+        place = length j.done.items
+    } };
+
+    ghost invariant = { λ j. IsSound M.prior M.fits (M.state j.map) j.limit j.done.items j.undone.items };
+}
+
+impl<M: Invertible> Journal<M> {
+    /// A history of the map alone. It takes no memory.
+    pub fn new(alloc: Global, map: M, limit: u32) -> Journal<M>
+        ensures { result ≡ record { limit = limit; states = M.state map ∷ []; place = 0 } }
+    {
+        Journal {
+            map,
+            limit,
+            done: Vec::new(alloc),
+            undone: Vec::new(alloc),
+        }
+    }
+
+    /// The map, at the history's place.
+    pub fn map(&self) -> &M
+        ensures { IsAt self.now (M.state result.now) }
+    {
+        &self.map
+    }
+
+    /// How many changes can be undone.
+    pub fn undo_len(&self) -> usize
+        ensures { result ≡ self.now.place }
+    {
+        self.done.len()
+    }
+
+    /// How many changes can be redone.
+    pub fn redo_len(&self) -> usize
+        ensures { self.now.place + result + 1 ≡ length self.now.states }
+    {
+        self.undone.len()
+    }
+
+    /// Makes a change, after which nothing can be redone.
+    pub fn edit(
+        &mut self,
+        alloc: Global,
+        change: &M::Change,
+    ) -> Result<(), EditFault<M::Refusal>>
+        ensures ok { OnOk result (Edits M.leads change.now self.old self.new) }
+        ensures full { self.old.place ≡ self.old.limit → result ≡ Err EditFault.Full }
+        ensures fault { IfErr result (Explains M.refuses change.now self.old) }
+        ensures err { OnErr result (self.new ≡ self.old) }
+    {
+        if self.done.len() == self.limit as usize {
+            return Err(EditFault::Full);
+        }
+        if self.done.reserve(1).is_err() {
+            return Err(EditFault::Memory);
+        }
+        match self.map.apply(alloc, change) {
+            Ok(back) => {
+                self.undone.clear();
+                self.done.push(back).unwrap();
+                Ok(())
+            }
+            Err(refusal) => Err(EditFault::Refused(refusal)),
+        }
+    }
+
+    /// Takes the last change back.
+    pub fn undo(&mut self, alloc: Global) -> Result<(), StepFault>
+        ensures ok { OnOk result (self.new ≡ after_undo self.old) }
+        ensures nothing { (self.old.place ≡ 0) ↔ (result ≡ Err Nothing) }
+        ensures err { OnErr result (self.new ≡ self.old) }
+    {
+        take_step(alloc, &mut self.map, &mut self.done, &mut self.undone)
+    }
+
+    /// Makes the change again that was taken back last.
+    pub fn redo(&mut self, alloc: Global) -> Result<(), StepFault>
+        ensures ok { OnOk result (self.new ≡ after_redo self.old) }
+        ensures nothing { (self.old.place + 1 ≡ length self.old.states) ↔ (result ≡ Err Nothing) }
+        ensures err { OnErr result (self.new ≡ self.old) }
+    {
+        take_step(alloc, &mut self.map, &mut self.undone, &mut self.done)
+    }
+}
