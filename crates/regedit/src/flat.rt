@@ -1,3 +1,6 @@
 //! The flat language: a map is empty, or one address map of registers, each with its fields.
+pub mod edit;
+pub mod fault;
 pub mod map;
 pub mod rows;
+pub mod text;

@@ -1,8 +1,11 @@
 //! A map of the flat language.
-ghost use Rattle.std.specs.Prelude.{◌≡◌, ℕ, List, IfOk};
+ghost use Rattle.std.specs.Prelude.{◌≡◌, ◌++◌, [], ◌∷◌, IfOk, OnOk, OnErr, None, Some};
+ghost use Rattle.std.specs.Option.{option_copied};
+ghost use Rattle.regedit.specs.FlatRows.{width};
 
 use rdl_text::name::Name;
 use rdl_text::token::Number;
+use std::alloc::{AllocError, Global};
 use std::marker::Model;
 
 /// A field: `field {} NAME`, then `[size]` in bits or nothing, then `= reset` or nothing.
@@ -47,4 +50,80 @@ impl Model for AddressMap {
 #[derive(Debug, Drop)]
 pub struct FlatMap {
     pub top: Option<AddressMap>,
+}
+
+impl Field {
+    /// The width in bits.
+    pub fn width(&self) -> Number
+        ensures { result ≡ width self.now }
+    {
+        self.size.unwrap_or(1)
+    }
+
+    pub fn try_copy(&self, alloc: Global) -> Result<Field, AllocError>
+        ensures { IfOk result (λ f. f ≡ self.now) }
+    {
+        let name = self.name.try_copy(alloc)?;
+        Ok(Field {
+            name,
+            size: self.size,
+            reset: self.reset,
+        })
+    }
+}
+
+impl Register {
+    pub fn name(&self) -> &Name
+        ensures { result.now ≡ self.now.name }
+    {
+        &self.name
+    }
+
+    pub fn fields(&self) -> &[Field]
+        ensures { result.now ≡ self.now.fields }
+    {
+        self.fields.as_slice()
+    }
+
+    pub fn try_copy(&self, alloc: Global) -> Result<Register, AllocError>
+        ensures { IfOk result (λ r. r ≡ self.now) }
+    {
+        let name = self.name.try_copy(alloc)?;
+        let mut fields = Vec::with_capacity(alloc, self.fields.len())?;
+        for field in &self.fields {
+            fields.push(field.try_copy(alloc)?)?;
+        }
+        Ok(Register { name, fields })
+    }
+}
+
+impl AddressMap {
+    pub fn name(&self) -> &Name
+        ensures { result.now ≡ self.now.name }
+    {
+        &self.name
+    }
+
+    pub fn registers(&self) -> &[Register]
+        ensures { result.now ≡ self.now.registers }
+    {
+        self.registers.as_slice()
+    }
+
+    /// A copy with one register more, behind the others.
+    pub fn with_register(
+        &self,
+        alloc: Global,
+        register: &Register,
+    ) -> Result<AddressMap, AllocError>
+        ensures { IfOk result (λ t. t ≡ record { name = self.now.name; registers = self.now.registers ++ register.now ∷ [] }) }
+    {
+        let name = self.name.try_copy(alloc)?;
+        let mut registers = Vec::new(alloc);
+        for old in &self.registers {
+            registers.push(old.try_copy(alloc)?)?;
+        }
+        registers.push(register.try_copy(alloc)?)?;
+        Ok(AddressMap { name, registers })
+    }
 }

@@ -1,0 +1,8 @@
+-- Which registers have room for their fields.
+use Rattle.std.specs.Prelude.{◌≤◌, All, sum_by, Option, None, Some, ⊤}
+use Rattle.regedit.specs.FlatMap.{Reg, Top}
+use Rattle.regedit.specs.FlatRows.{width}
+
+-- all the fields together have at most so many bits as a register
+abbrev pub HasRoom : Reg → Type 0
+HasRoom r = sum_by width r.fields ≤ 32
