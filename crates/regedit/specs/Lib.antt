@@ -5,4 +5,5 @@ pub mod FlatRows
 pub mod FlatSpelling
 pub mod FlatStep
 pub mod FlatText
+pub mod Known
 pub mod Reserved

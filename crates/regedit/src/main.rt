@@ -2,5 +2,8 @@
 #![tactic(auto)]
 
 mod flat;
+mod input;
+mod output;
+mod status;
 
 fn main(_rt: HostRuntime) {}
