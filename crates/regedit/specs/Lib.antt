@@ -1,3 +1,4 @@
 pub mod FlatMap
+pub mod FlatReading
 pub mod FlatSpelling
 pub mod Reserved

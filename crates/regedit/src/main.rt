@@ -2,5 +2,6 @@
 #![tactic(auto)]
 
 mod flat;
+mod reserved;
 
 fn main(_rt: HostRuntime) {}
