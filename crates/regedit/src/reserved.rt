@@ -1,5 +1,7 @@
 //! The words that are never names.
-ghost use Rattle.std.specs.Prelude.{◌≡◌};
+ghost use Rattle.std.specs.Prelude.{◌≡◌, ◌==◌};
+ghost use Rattle.std.specs.List.{list_any};
+ghost use Rattle.std.specs.Cmp.Lexicographic.{pointwise};
 ghost use Rattle.regedit.specs.Reserved.{is_reserved};
 
 const RESERVED: [&str; 40] = [
@@ -45,8 +47,14 @@ const RESERVED: [&str; 40] = [
     "encode",
 ];
 
+fn is_among(text: &str, words: &[&str]) -> bool
+    ensures { result ≡ list_any (λ word. pointwise ◌==◌ text.now word.now) words.now }
+{
+    words.iter().any(|word| text == *word)
+}
+
 pub fn is_reserved(text: &str) -> bool
     ensures { result ≡ is_reserved text.now }
 {
-    RESERVED.iter().any(|word| text == *word)
+    is_among(text, &RESERVED)
 }
