@@ -139,14 +139,19 @@ turns on step (suc n) s ws = if on ws then (step s ws >>= λ x. turns on step n 
 unfoldable pub repeated : {S : Type 0} → (List Word → Bool) → (S → List Word → Result (S × List Word) ReadFault) → S → List Word → Result (S × List Word) ReadFault
 repeated on step s ws = turns on step (length ws) s ws
 
-abbrev pub on_field : List Word → Bool
-on_field ws = begins (is_keyword (codes "field")) ws
+-- A reader of a statement answers what it defines, and the room and the words behind it.
+abbrev pub Statement : Type 0 → Type 0
+Statement X = Room → List Word → Result ((X × Room) × List Word) ReadFault
 
-unfoldable pub next_field : List Field × Room → List Word → Result ((List Field × Room) × List Word) ReadFault
-next_field s ws = field_at s.1 ws >>= λ x. Ok ((s.0 ++ (x.0.0 ∷ []), x.0.1), x.1)
+unfoldable pub next : {X : Type 0} → Statement X → List X × Room → List Word → Result ((List X × Room) × List Word) ReadFault
+next one s ws = one s.1 ws >>= λ x. Ok ((s.0 ++ (x.0.0 ∷ []), x.0.1), x.1)
+
+-- statements as long as they begin with a keyword
+unfoldable pub many_at : {X : Type 0} → List ℕ → Statement X → List X × Room → List Word → Result ((List X × Room) × List Word) ReadFault
+many_at k one s ws = repeated (begins (is_keyword k)) (next one) s ws
 
 abbrev pub fields_at : List Field × Room → List Word → Result ((List Field × Room) × List Word) ReadFault
-fields_at s ws = repeated on_field next_field s ws
+fields_at s ws = many_at (codes "field") field_at s ws
 
 -- ---- Registers.
 
@@ -163,14 +168,8 @@ register_at room ws = do
   e ← finish_at n.0 fs.0.1 n.1
   Ok ((reg n.0 fs.0.0, e.0), e.1)
 
-abbrev pub on_register : List Word → Bool
-on_register ws = begins (is_keyword (codes "reg")) ws
-
-unfoldable pub next_register : List Reg × Room → List Word → Result ((List Reg × Room) × List Word) ReadFault
-next_register s ws = register_at s.1 ws >>= λ x. Ok ((s.0 ++ (x.0.0 ∷ []), x.0.1), x.1)
-
 abbrev pub registers_at : List Reg × Room → List Word → Result ((List Reg × Room) × List Word) ReadFault
-registers_at s ws = repeated on_register next_register s ws
+registers_at s ws = many_at (codes "reg") register_at s ws
 
 -- ---- A map, and one register statement.
 

@@ -1,3 +1,4 @@
+pub mod FlatFaults
 pub mod FlatMap
 pub mod FlatReading
 pub mod FlatSpelling

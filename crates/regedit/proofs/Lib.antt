@@ -1,0 +1,3 @@
+pub mod FlatOutcomes
+pub mod FlatSound
+pub mod FlatTurns
