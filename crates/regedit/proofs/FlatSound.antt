@@ -20,7 +20,7 @@ use Rattle.regedit.specs.declared.flat.reader.ReadFault.{ReadFault}
 use Rattle.regedit.specs.declared.flat.reader.ReadFault.TheVariants.{Unexpected, End, TooLarge, Memory}
 use Rattle.regedit.specs.declared.flat.reader.Room.{Room}
 use Rattle.regedit.specs.FlatFaults.{Stands}
-use Rattle.regedit.specs.FlatMap.{Reg, Top, field_weight, register_items, register_weight, map_items, map_weight, IsMapWithin, IsRegisterWithin}
+use Rattle.regedit.specs.FlatMap.{Reg, Top, field_weight, register_items, register_weight, map_items, map_weight, IsWithin, IsMapWithin, IsRegisterWithin}
 use Rattle.regedit.specs.FlatReading.{◌>>=◌, Fails, is_mark, is_keyword, begins, taken, mark_at, keyword_at, is_usable, name_by, name_at, number_by, number_at, fits, less, finish_at, size_at, reset_at, field, field_at, turns, repeated, Statement, next, many_at, fields_at, reg, register_at, registers_at, top, top_at, end_at, whole, map_at, one_register_at}
 use Rattle.regedit.specs.FlatSpelling.{Sort, identifier, number, string, mark, sort_by, sort_of, size_words, reset_words, field_words, fields_words, register_words, registers_words, map_words, IsItemName, HasRegisterNames, HasMapNames, SpellsMap, SpellsRegister}
 use Rattle.regedit.specs.Reserved.{is_reserved}
@@ -250,7 +250,7 @@ pub many-done : {X : Type 0} (k : List ℕ) (one : Statement X) → Takes one �
 unfolding many_at begins
 many-done k one t s ws h = repeated-done (begins (is_keyword k)) (next one) (next-shortens one t) refl s ws h
 
-many-on : {X : Type 0} (k : List ℕ) (one : Statement X) → Takes one → (s : List X × Room) (ws : List Word) (r : Result ((X × Room) × List Word) ReadFault) → begins (is_keyword k) ws ≡ true → one s.1 ws ≡ r
+pub many-on : {X : Type 0} (k : List ℕ) (one : Statement X) → Takes one → (s : List X × Room) (ws : List Word) (r : Result ((X × Room) × List Word) ReadFault) → begins (is_keyword k) ws ≡ true → one s.1 ws ≡ r
     → many_at k one s ws ≡ (r >>= λ x. many_at k one (s.0 ++ (x.0.0 ∷ []), x.0.1) x.1)
 unfolding many_at begins next
 many-on k one t s ws (Ok x) h e = repeated-on (begins (is_keyword k)) (next one) (next-shortens one t) refl s ws (Ok ((s.0 ++ (x.0.0 ∷ []), x.0.1), x.1)) h (ap (λ r. r >>= λ x. Ok ((s.0 ++ (x.0.0 ∷ []), x.0.1), x.1)) e)
@@ -270,3 +270,159 @@ many-fails k one t s ws Memory total h e q = tt
 many-fails k one t s ws End total h e q = many-stops k one t s ws End total h e q
 many-fails k one t s ws (Unexpected at) total h e q = many-stops k one t s ws (Unexpected at) total h e q
 many-fails k one t s ws (TooLarge at) total h e q = many-stops k one t s ws (TooLarge at) total h e q
+
+-- ---- Many statements.
+
+pub record IsRead {X : Type 0} (words : List X → List Sort → List Sort) (N : X → Type 0) (items weight : X → ℕ) (ws0 : List Word) (room : Room) (x : (List X × Room) × List Word) : Type 0 where
+  pub read : Read ws0 (words x.0.0) x.1
+  pub names : All N x.0.0
+  pub spends : Spends room (sum_by items x.0.0) (sum_by weight x.0.0) x.0.1
+
+none-read : {X : Type 0} (words : List X → List Sort → List Sort) (N : X → Type 0) (items weight : X → ℕ) (room : Room) (ws : List Word) → ((after : List Sort) → words [] after ≡ after) → IsRead words N items weight ws room (([], room), ws)
+none-read words N items weight room ws none = record {
+  read = record { words = sym (none (map sort_of ws)); behind = λ e h. h };
+  names = λ k d l. absurd (omega arith);
+  spends = record { items_spent = omega arith; weight_spent = omega arith };
+}
+
+module _ {X : Type 0} (k : List ℕ) (one : Statement X) (word : X → List Sort → List Sort) (words : List X → List Sort → List Sort)
+    (snoc : (xs : List X) (x : X) (after : List Sort) → words (xs ++ (x ∷ [])) after ≡ words xs (word x after)) (N : X → Type 0) (items weight : X → ℕ)
+    (reads : (room : Room) (ws : List Word) → Reads (one room ws) ws (λ x. x.1) (λ x after. word x.0.0 after) (λ x. N x.0.0 × Spends room (items x.0.0) (weight x.0.0) x.0.1)) where
+
+  pushed : (ws0 : List Word) (room : Room) (s : List X × Room) (ws : List Word) (x : (X × Room) × List Word) → IsRead words N items weight ws0 room (s, ws)
+      → N x.0.0 → Spends s.1 (items x.0.0) (weight x.0.0) x.0.1 → Read ws0 (λ after. words s.0 (word x.0.0 after)) x.1 → IsRead words N items weight ws0 room ((s.0 ++ (x.0.0 ∷ []), x.0.1), x.1)
+  pushed ws0 room s ws x h named spends r =
+      let a = sum_by-append items s.0 (x.0.0 ∷ []) in
+      let b = sum_by-append weight s.0 (x.0.0 ∷ []) in
+      let c = h.spends.items_spent in
+      let d = h.spends.weight_spent in
+      let e = spends.items_spent in
+      let f = spends.weight_spent in
+      record {
+        read = record { words = r.words ∙ sym (snoc s.0 x.0.0 (map sort_of x.1)); behind = r.behind };
+        names = All-push N s.0 x.0.0 h.names named;
+        spends = record { items_spent = omega arith; weight_spent = omega arith };
+      }
+
+  next-reads : (ws0 : List Word) (room : Room) (s : List X × Room) (ws : List Word) → IsRead words N items weight ws0 room (s, ws) → Outcome (next one s ws) (IsRead words N items weight ws0 room) (Stands ws0)
+  unfolding next
+  next-reads ws0 room s ws h = step _ h.read (reads s.1 ws) (λ x p r. done _ (pushed ws0 room s ws x h p.0 p.1 r))
+
+  turns-reads : (n : ℕ) (ws0 : List Word) (room : Room) (s : List X × Room) (ws : List Word) → IsRead words N items weight ws0 room (s, ws)
+      → Outcome (turns (begins (is_keyword k)) (next one) n s ws) (IsRead words N items weight ws0 room) (Stands ws0)
+  unfolding turns
+  turns-reads zero ws0 room s ws h = done (s, ws) h
+  turns-reads (suc n) ws0 room s ws h =
+      split (begins (is_keyword k) ws) _ _
+      (λ _. on (next one s ws) _ (next-reads ws0 room s ws h) (λ x p. turns-reads n ws0 room x.0 x.1 p))
+      (λ _. done (s, ws) h)
+
+  pub many-reads : ((after : List Sort) → words [] after ≡ after) → (room : Room) (ws : List Word)
+      → Reads (many_at k one ([], room) ws) ws (λ x. x.1) (λ x. words x.0.0) (λ x. All N x.0.0 × Spends room (sum_by items x.0.0) (sum_by weight x.0.0) x.0.1)
+  unfolding many_at repeated
+  many-reads none room ws = record { outcome = weaker (turns-reads (length ws) ws room ([], room) ws (none-read words N items weight room ws none)) (λ x h. (h.read, (h.names, h.spends))) (λ e h. h) }
+
+-- ---- Registers, a map, and one register.
+
+fields-snoc : (fs : List Field) (f : Field) (after : List Sort) → fields_words (fs ++ (f ∷ [])) after ≡ fields_words fs (field_words f after)
+fields-snoc [] f after = refl
+fields-snoc (g ∷ fs) f after = ap (field_words g) (fields-snoc fs f after)
+
+registers-snoc : (rs : List Reg) (r : Reg) (after : List Sort) → registers_words (rs ++ (r ∷ [])) after ≡ registers_words rs (register_words r after)
+registers-snoc [] r after = refl
+registers-snoc (q ∷ rs) r after = ap (register_words q) (registers-snoc rs r after)
+
+abbrev pub one_item : Field → ℕ
+one_item _ = 1
+
+pub sum-items : (fs : List Field) → sum_by one_item fs ≡ length fs
+sum-items [] = refl
+sum-items (f ∷ fs) = let e : sum_by one_item (f ∷ fs) ≡ 1 + sum_by one_item fs = refl in omega (arith, e, sum-items fs)
+
+pub fields-reads : (room : Room) (ws : List Word)
+    → Reads (fields_at ([], room) ws) ws (λ x. x.1) (λ x. fields_words x.0.0) (λ x. All (λ f. IsItemName f.name) x.0.0 × Spends room (sum_by one_item x.0.0) (sum_by field_weight x.0.0) x.0.1)
+fields-reads room ws = many-reads (codes "field") field_at field_words fields_words fields-snoc (λ f. IsItemName f.name) one_item field_weight field-reads (λ _. refl) room ws
+
+register-spends : (room a b : Room) (name : List ℕ) (fs : List Field) → Spends room (sum_by one_item fs) (sum_by field_weight fs) a → Spends a 1 (1 + length name) b → Spends room (register_items (reg name fs)) (register_weight (reg name fs)) b
+register-spends room a b name fs h k =
+    let s = sum-items fs in
+    let c = h.items_spent in
+    let d = h.weight_spent in
+    let e = k.items_spent in
+    let f = k.weight_spent in
+    record { items_spent = omega arith; weight_spent = omega arith }
+
+pub register-reads : (room : Room) (ws : List Word) → Reads (register_at room ws) ws (λ x. x.1) (λ x after. register_words x.0.0 after) (λ x. HasRegisterNames x.0.0 × Spends room (register_items x.0.0) (register_weight x.0.0) x.0.1)
+unfolding register_at
+register-reads room ws = record {
+  outcome =
+    step _ (start ws) (keyword-reads (codes "reg") ws) (λ a _ s1.
+    step _ s1 (mark-reads OpenBrace a) (λ b _ s2.
+    step _ s2 (fields-reads room b) (λ fs p s3.
+    step _ s3 (mark-reads CloseBrace fs.1) (λ c _ s4.
+    step _ s4 (name-reads c) (λ n named s5.
+    step _ s5 (finish-reads n.0 fs.0.1 n.1) (λ e spends s6.
+    done ((reg n.0 fs.0.0, e.0), e.1) (s6, ((named, p.0), register-spends room fs.0.1 e.0 n.0 fs.0.0 p.1 spends))))))));
+}
+
+pub register-takes : Takes register_at
+register-takes = record {
+  takes = λ room ws x e. let p = (register-reads room ws).outcome.ok x e in
+    shorter ws x.1 (register_words x.0.0 (map sort_of x.1)) p.0.words (longer-register x.0.0 (map sort_of x.1));
+}
+
+registers-reads : (room : Room) (ws : List Word)
+    → Reads (registers_at ([], room) ws) ws (λ x. x.1) (λ x. registers_words x.0.0) (λ x. All HasRegisterNames x.0.0 × Spends room (sum_by register_items x.0.0) (sum_by register_weight x.0.0) x.0.1)
+registers-reads room ws = many-reads (codes "reg") register_at register_words registers_words registers-snoc HasRegisterNames register_items register_weight register-reads (λ _. refl) room ws
+
+top_words : Top → List Sort → List Sort
+top_words t after =
+    identifier (codes "addrmap") ∷ identifier t.name ∷ mark OpenBrace
+    ∷ registers_words t.registers (mark CloseBrace ∷ mark Semicolon ∷ after)
+
+top-spends : (room a b : Room) (name : List ℕ) (rs : List Reg) → Spends room (sum_by register_items rs) (sum_by register_weight rs) a → Spends a 1 (1 + length name) b → Spends room (map_items (Some (top name rs))) (map_weight (Some (top name rs))) b
+top-spends room a b name rs h k =
+    let c = h.items_spent in
+    let d = h.weight_spent in
+    let e = k.items_spent in
+    let f = k.weight_spent in
+    record { items_spent = omega arith; weight_spent = omega arith }
+
+top-reads : (room : Room) (ws : List Word) → Reads (top_at room ws) ws (λ x. x.1) (λ x after. top_words x.0.0 after) (λ x. HasMapNames (Some x.0.0) × Spends room (map_items (Some x.0.0)) (map_weight (Some x.0.0)) x.0.1)
+unfolding top_at top_words
+top-reads room ws = record {
+  outcome =
+    step _ (start ws) (keyword-reads (codes "addrmap") ws) (λ a _ s1.
+    step _ s1 (name-reads a) (λ n named s2.
+    step _ s2 (mark-reads OpenBrace n.1) (λ b _ s3.
+    step _ s3 (registers-reads room b) (λ rs p s4.
+    step _ s4 (mark-reads CloseBrace rs.1) (λ c _ s5.
+    step _ s5 (finish-reads n.0 rs.0.1 c) (λ e spends s6.
+    done ((top n.0 rs.0.0, e.0), e.1) (s6, ((named, p.0), top-spends room rs.0.1 e.0 n.0 rs.0.0 p.1 spends))))))));
+}
+
+end-reads : (ws : List Word) → Outcome (end_at ws) (λ _. ws ≡ []) (Stands ws)
+unfolding end_at
+end-reads [] = done tt refl
+end-reads (w ∷ ws) = stopped (Unexpected w.start) (stands-here w ws)
+
+within : (items weight : ℕ) (left : Room) → Spends whole items weight left → IsWithin items weight
+within items weight left h =
+    let a = h.items_spent in
+    let b = h.weight_spent in
+    record { items_within = omega arith; weight_within = omega arith }
+
+pub map-reads : (ws : List Word) → Outcome (map_at ws) (λ m. SpellsMap ws m × IsMapWithin m) (Stands ws)
+unfolding map_at top_words
+map-reads [] = done None (record { spelled = refl; names = tt }, record { items_within = omega arith; weight_within = omega arith })
+map-reads (w ∷ ws) =
+    step _ (start (w ∷ ws)) (top-reads whole (w ∷ ws)) (λ t p s.
+    on (end_at t.1) _ (weaker (end-reads t.1) (λ _ e. e) s.behind) (λ _ e.
+    done (Some t.0.0) (record { spelled = s.words ∙ ap (λ rest. top_words t.0.0 (map sort_of rest)) e; names = p.0 }, within _ _ t.0.1 p.1)))
+
+pub one-register-reads : (ws : List Word) → Outcome (one_register_at ws) (λ r. SpellsRegister ws r × IsRegisterWithin r) (Stands ws)
+unfolding one_register_at
+one-register-reads ws =
+    step _ (start ws) (register-reads whole ws) (λ r p s.
+    on (end_at r.1) _ (weaker (end-reads r.1) (λ _ e. e) s.behind) (λ _ e.
+    done r.0.0 (record { spelled = s.words ∙ ap (λ rest. register_words r.0.0 (map sort_of rest)) e; names = p.0 }, within _ _ r.0.1 p.1)))

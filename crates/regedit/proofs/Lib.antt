@@ -1,3 +1,5 @@
+pub mod FlatExact
 pub mod FlatOutcomes
 pub mod FlatSound
 pub mod FlatTurns
+pub mod FlatWhole
