@@ -1,5 +1,5 @@
 -- The contracts of the reader from what reading gives.
-use Rattle.std.proofs.Common.{◌≡◌, List, Option, Result, Ok, Err, IfOk, ap, sym, ◌∙◌}
+use Rattle.std.proofs.Common.{◌≡◌, List, Option, Result, Ok, Err, IfOk, refl, sym, ◌∙◌}
 use Rattle.std.specs.Prelude.{IfErr, MatchResult}
 use Rattle.rdl_text.specs.Word.{Word}
 use Rattle.regedit.specs.declared.flat.map.FlatMap.{FlatMap}

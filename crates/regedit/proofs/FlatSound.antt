@@ -5,7 +5,7 @@ use Rattle.std.specs.List.{All, Any}
 use Rattle.std.specs.Cmp.Lexicographic.{pointwise, same_text}
 use Rattle.std.proofs.lemmas.Bool.{leb-true}
 use Rattle.std.proofs.lemmas.List.Elements.{All-push}
-use Rattle.std.proofs.lemmas.List.Sums.{sum_by-append}
+use Rattle.std.proofs.lemmas.List.Sums.{sum_by-append, sum_by-cons}
 use Rattle.std.proofs.lemmas.List.{length-append, length-map}
 use denote.Enum.Bare.{same_true}
 use Rattle.rdl_text.specs.Name.{IsName, is_identifier}
@@ -337,7 +337,7 @@ one_item _ = 1
 
 pub sum-items : (fs : List Field) → sum_by one_item fs ≡ length fs
 sum-items [] = refl
-sum-items (f ∷ fs) = let e : sum_by one_item (f ∷ fs) ≡ 1 + sum_by one_item fs = refl in omega (arith, e, sum-items fs)
+sum-items (f ∷ fs) = omega (arith, sum_by-cons one_item f fs, sum-items fs)
 
 pub fields-reads : (room : Room) (ws : List Word)
     → Reads (fields_at ([], room) ws) ws (λ x. x.1) (λ x. fields_words x.0.0) (λ x. All (λ f. IsItemName f.name) x.0.0 × Spends room (sum_by one_item x.0.0) (sum_by field_weight x.0.0) x.0.1)

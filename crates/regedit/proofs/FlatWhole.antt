@@ -5,6 +5,7 @@ use Rattle.std.specs.List.{All}
 use Rattle.std.proofs.Math.Seq.{append_snoc}
 use Rattle.std.proofs.lemmas.Bool.{le-leb}
 use Rattle.std.proofs.lemmas.List.{append-nil}
+use Rattle.std.proofs.lemmas.List.Sums.{sum_by-cons}
 use Rattle.std.proofs.lemmas.List.Elements.{All-head, All-tail}
 use denote.Enum.Bare.{true_same}
 use Rattle.rdl_text.specs.Name.{IsName, is_identifier}
@@ -173,6 +174,25 @@ module _ {X : Type 0} (k : List ℕ) (same : is_keyword k (identifier k) ≡ tru
     (one-found : (x : X) (room : Room) (ws : List Word) (after : List Sort) → map sort_of ws ≡ identifier k ∷ tail x after → N x → items x ≤ room.items → weight x ≤ room.weight
       → Found (one room ws) (IsWhole x after room (items x) (weight x))) where
 
+  more-found : (x : X) (xs : List X) (s : List X × Room) (ws : List Word) (after : List Sort) → begins (is_keyword k) ws ≡ true
+      → (p : Found (one s.1 ws) (IsWhole x (words xs (mark CloseBrace ∷ after)) s.1 (items x) (weight x)))
+      → Found (many_at k one (s.0 ++ (p.value.0.0 ∷ []), p.value.0.1) p.value.1) (IsWhole ((s.0 ++ (p.value.0.0 ∷ [])) ++ xs) (mark CloseBrace ∷ after) p.value.0.1 (sum_by items xs) (sum_by weight xs))
+      → Found (many_at k one s ws) (IsWhole (s.0 ++ (x ∷ xs)) (mark CloseBrace ∷ after) s.1 (sum_by items (x ∷ xs)) (sum_by weight (x ∷ xs)))
+  more-found x xs s ws after b p q =
+      let c = p.holds.spends.items_spent in
+      let d = p.holds.spends.weight_spent in
+      let f = q.holds.spends.items_spent in
+      let g = q.holds.spends.weight_spent in
+      record {
+        value = q.value;
+        is = many-on k one takes s ws (Ok p.value) b p.is ∙ q.is;
+        holds = record {
+          same = q.holds.same ∙ ap (λ z. (s.0 ++ (z ∷ [])) ++ xs) p.holds.same ∙ append_snoc s.0 x xs;
+          rest = q.holds.rest;
+          spends = record { items_spent = omega (arith, sum_by-cons items x xs); weight_spent = omega (arith, sum_by-cons weight x xs) };
+        };
+      }
+
   many-found : (xs : List X) (s : List X × Room) (ws : List Word) (after : List Sort) → map sort_of ws ≡ words xs (mark CloseBrace ∷ after) → All N xs
       → sum_by items xs ≤ s.1.items → sum_by weight xs ≤ s.1.weight
       → Found (many_at k one s ws) (IsWhole (s.0 ++ xs) (mark CloseBrace ∷ after) s.1 (sum_by items xs) (sum_by weight xs))
@@ -185,23 +205,13 @@ module _ {X : Type 0} (k : List ℕ) (same : is_keyword k (identifier k) ≡ tru
       }
   many-found (x ∷ xs) s ws after e h l m =
       let i = e ∙ some x xs (mark CloseBrace ∷ after) in
-      let a : sum_by items (x ∷ xs) ≡ items x + sum_by items xs = refl in
-      let b : sum_by weight (x ∷ xs) ≡ weight x + sum_by weight xs = refl in
+      let a = sum_by-cons items x xs in
+      let b = sum_by-cons weight x xs in
       let p = one-found x s.1 ws (words xs (mark CloseBrace ∷ after)) i (All-head N x xs h) (omega arith) (omega arith) in
       let c = p.holds.spends.items_spent in
       let d = p.holds.spends.weight_spent in
-      let q = many-found xs (s.0 ++ (p.value.0.0 ∷ []), p.value.0.1) p.value.1 after p.holds.rest (All-tail N x xs h) (omega arith) (omega arith) in
-      let f = q.holds.spends.items_spent in
-      let g = q.holds.spends.weight_spent in
-      record {
-        value = q.value;
-        is = many-on k one takes s ws (Ok p.value) (begins-at (is_keyword k) (identifier k) ws (tail x (words xs (mark CloseBrace ∷ after))) i ∙ same) p.is ∙ q.is;
-        holds = record {
-          same = q.holds.same ∙ ap (λ z. (s.0 ++ (z ∷ [])) ++ xs) p.holds.same ∙ append_snoc s.0 x xs;
-          rest = q.holds.rest;
-          spends = record { items_spent = omega arith; weight_spent = omega arith };
-        };
-      }
+      more-found x xs s ws after (begins-at (is_keyword k) (identifier k) ws (tail x (words xs (mark CloseBrace ∷ after))) i ∙ same) p
+      (many-found xs (s.0 ++ (p.value.0.0 ∷ []), p.value.0.1) p.value.1 after p.holds.rest (All-tail N x xs h) (omega arith) (omega arith))
 
 -- ---- Registers, a map, and one register.
 
@@ -280,3 +290,35 @@ one-register-found r ws h w =
     find _ _ (register-found r whole ws [] h.spelled h.names w.items_within w.weight_within) (λ y p.
     find _ _ (end-found y.1 p.rest) (λ _ _.
     found y.0.0 p.same))
+
+-- ---- One map, whatever the limits.
+
+ample : ℕ → ℕ → Room
+ample items weight = record { items = items; weight = weight }
+
+same-top : (t u : Top) (r : Result ((Top × Room) × List Word) ReadFault) → Found r (λ y. (y.0.0 ≡ t) × (map sort_of y.1 ≡ [])) → Found r (λ y. (y.0.0 ≡ u) × (map sort_of y.1 ≡ [])) → t ≡ u
+same-top t u r p q =
+    let e = sym p.is ∙ q.is in
+    let h : p.value ≡ q.value = cc in
+    sym p.holds.0 ∙ ap (λ y. y.0.0) h ∙ q.holds.0
+
+pub one-map : (ws : List Word) (m n : Option Top) → SpellsMap ws m → SpellsMap ws n → m ≡ n
+unfolding ample
+one-map ws None None h k = refl
+one-map ws None (Some u) h k = let d = h.spelled in let e = k.spelled in absurd cc
+one-map ws (Some t) None h k = let d = h.spelled in let e = k.spelled in absurd cc
+one-map ws (Some t) (Some u) h k =
+    let room = ample (map_items (Some t) + map_items (Some u)) (map_weight (Some t) + map_weight (Some u)) in
+    ap Some (same-top t u (top_at room ws) (top-found t room ws h.spelled h.names (omega arith) (omega arith)) (top-found u room ws k.spelled k.names (omega arith) (omega arith)))
+
+same-register : (q r : Reg) (room : Room) (a b c d : ℕ) (read : Result ((Reg × Room) × List Word) ReadFault) → Found read (IsWhole q [] room a b) → Found read (IsWhole r [] room c d) → q ≡ r
+same-register q r room a b c d read f g =
+    let e = sym f.is ∙ g.is in
+    let h : f.value ≡ g.value = cc in
+    sym f.holds.same ∙ ap (λ y. y.0.0) h ∙ g.holds.same
+
+pub one-register : (ws : List Word) (q r : Reg) → SpellsRegister ws q → SpellsRegister ws r → q ≡ r
+unfolding ample
+one-register ws q r h k =
+    let room = ample (register_items q + register_items r) (register_weight q + register_weight r) in
+    same-register q r room _ _ _ _ (register_at room ws) (register-found q room ws [] h.spelled h.names (omega arith) (omega arith)) (register-found r room ws [] k.spelled k.names (omega arith) (omega arith))

@@ -1,7 +1,9 @@
 //! Reading: from words to a map or a register of the flat language.
-ghost use Rattle.std.specs.Prelude.{◌≡◌, ◌+◌, ◌-◌, ℕ, List, [], ◌∷◌, length, IfOk};
+ghost use Rattle.std.specs.Prelude.{◌≡◌, ◌+◌, ◌-◌, ℕ, List, [], ◌∷◌, length, Option, IfOk, IfErr, MatchResult};
 ghost use Rattle.regedit.specs.FlatReading.{Gives, wrong_at, is_mark, is_keyword, begins, mark_at, keyword_at, name_by, name_at, number_at, fits, less, finish_at, size_at, reset_at, field_at, fields_at, register_at, registers_at, top_at, end_at, whole, map_at, one_register_at};
-ghost use Rattle.regedit.specs.FlatSpelling.{sort_of};
+ghost use Rattle.regedit.specs.FlatSpelling.{sort_of, SpellsMap, SpellsRegister};
+ghost use Rattle.regedit.specs.FlatMap.{Reg, Top, IsMapWithin, IsRegisterWithin};
+ghost use Rattle.regedit.specs.FlatFaults.{Stands};
 ghost use Rattle.rdl_text.specs.Word.{Word};
 
 use crate::flat::map::{AddressMap, Field, FlatMap, Register};
@@ -315,7 +317,7 @@ fn name_of(alloc: Global, word: &Token<'_>) -> Result<Name, ReadFault>
 }
 
 #[tactic(auto, unfolding(crate::specs::FlatReading::map_at))]
-fn map(alloc: Global, words: &[Token<'_>]) -> Result<FlatMap, ReadFault>
+fn map_of(alloc: Global, words: &[Token<'_>]) -> Result<FlatMap, ReadFault>
     ensures { Gives (λ m. m.top) result (map_at words.now) }
 {
     if words.is_empty() {
@@ -331,7 +333,7 @@ fn map(alloc: Global, words: &[Token<'_>]) -> Result<FlatMap, ReadFault>
 }
 
 #[tactic(auto, unfolding(crate::specs::FlatReading::one_register_at))]
-fn one_register(alloc: Global, words: &[Token<'_>]) -> Result<Register, ReadFault>
+fn register_of(alloc: Global, words: &[Token<'_>]) -> Result<Register, ReadFault>
     ensures { Gives (λ r. r) result (one_register_at words.now) }
 {
     let mut reader = Reader {
@@ -341,4 +343,38 @@ fn one_register(alloc: Global, words: &[Token<'_>]) -> Result<Register, ReadFaul
     let register = reader.register(alloc)?;
     reader.end()?;
     Ok(register)
+}
+
+/// The map that the words spell.
+pub fn read_map(alloc: Global, words: &[Token<'_>]) -> Result<FlatMap, ReadFault>
+    ensures found { IfOk result (λ m. SpellsMap words.now m.top) }
+    ensures within { IfOk result (λ m. IsMapWithin m.top) }
+    // Each map that is spelled within the limits is answered, unless memory runs out.
+    ensures only { (m : Option Top) → SpellsMap words.now m → IsMapWithin m → MatchResult result (λ r. r.top ≡ m) (λ e. e ≡ ReadFault.Memory) }
+    ensures stands { IfErr result (λ e. Stands words.now e) }
+{
+    map_of(alloc, words)
+}
+
+/// The register that the words spell, as exactly one statement.
+pub fn read_register(alloc: Global, words: &[Token<'_>]) -> Result<Register, ReadFault>
+    ensures found { IfOk result (λ r. SpellsRegister words.now r) }
+    ensures within { IfOk result (λ r. IsRegisterWithin r) }
+    // Each register that is spelled within the limits is answered, unless memory runs out.
+    ensures only { (r : Reg) → SpellsRegister words.now r → IsRegisterWithin r → MatchResult result (λ q. q ≡ r) (λ e. e ≡ ReadFault.Memory) }
+    ensures stands { IfErr result (λ e. Stands words.now e) }
+{
+    register_of(alloc, words)
+}
+
+/// No words spell two maps.
+pub fn one_map()
+    ensures { (words : List Word) (m n : Option Top) → SpellsMap words m → SpellsMap words n → m ≡ n }
+{
+}
+
+/// No words spell two registers.
+pub fn one_register()
+    ensures { (words : List Word) (q r : Reg) → SpellsRegister words q → SpellsRegister words r → q ≡ r }
+{
 }
