@@ -1,4 +1,9 @@
 pub mod Accepted
+pub mod FlatExact
+pub mod FlatOutcomes
+pub mod FlatSound
+pub mod FlatTurns
+pub mod FlatWhole
 pub mod Pieces
 pub mod Rows
 pub mod Written

@@ -1,6 +1,7 @@
 -- Which words spell which map of the flat language. SystemRDL 2.0, component definitions and instances, as far as
 -- registers of fields in one address map go; the restriction is own.
 use Rattle.std.specs.Prelude.{◌≡◌, ℕ, List, [], ◌∷◌, map, All, ⊤, Option, None, Some, codes}
+use Rattle.rdl_text.specs.Name.{IsName}
 use Rattle.rdl_text.specs.Word.{Word}
 use Rattle.rdl_text.specs.declared.token.TokenKind.{TokenKind}
 use Rattle.rdl_text.specs.declared.token.TokenKind.TheVariants as kinds
@@ -60,14 +61,18 @@ map_words (Some t) =
     identifier (codes "addrmap") ∷ identifier t.name ∷ mark OpenBrace
     ∷ registers_words t.registers (mark CloseBrace ∷ mark Semicolon ∷ [])
 
--- ---- No name is a reserved word.
+-- ---- A name is an identifier of at most 255 bytes that is no reserved word.
+
+pub record IsItemName (name : List ℕ) : Type 0 where
+  pub identifier : IsName name
+  pub unreserved : IsUnreserved name
 
 abbrev pub HasRegisterNames : Reg → Type 0
-HasRegisterNames r = IsUnreserved r.name × All (λ f. IsUnreserved f.name) r.fields
+HasRegisterNames r = IsItemName r.name × All (λ f. IsItemName f.name) r.fields
 
 abbrev pub HasMapNames : Option Top → Type 0
 HasMapNames None = ⊤
-HasMapNames (Some t) = IsUnreserved t.name × All HasRegisterNames t.registers
+HasMapNames (Some t) = IsItemName t.name × All HasRegisterNames t.registers
 
 -- the words spell the map
 pub record SpellsMap (words : List Word) (m : Option Top) : Type 0 where

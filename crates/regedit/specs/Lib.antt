@@ -1,6 +1,8 @@
 pub mod FlatBits
 pub mod FlatFault
+pub mod FlatFaults
 pub mod FlatMap
+pub mod FlatReading
 pub mod FlatRows
 pub mod FlatSpelling
 pub mod FlatStep

@@ -2,5 +2,6 @@
 pub mod edit;
 pub mod fault;
 pub mod map;
+pub mod reader;
 pub mod rows;
 pub mod text;

@@ -4,6 +4,7 @@
 mod flat;
 mod input;
 mod output;
+mod reserved;
 mod status;
 
 fn main(_rt: HostRuntime) {}
