@@ -4,6 +4,7 @@ pub mod FlatOutcomes
 pub mod FlatSound
 pub mod FlatTurns
 pub mod FlatWhole
+pub mod ItemNames
 pub mod Pieces
 pub mod Rows
 pub mod Written

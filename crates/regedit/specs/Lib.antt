@@ -1,3 +1,4 @@
+pub mod Commands
 pub mod FlatBits
 pub mod FlatFault
 pub mod FlatFaults
@@ -9,3 +10,4 @@ pub mod FlatStep
 pub mod FlatText
 pub mod Known
 pub mod Reserved
+pub mod Seen

@@ -5,6 +5,7 @@ mod flat;
 mod input;
 mod output;
 mod reserved;
+mod script;
 mod status;
 
 fn main(_rt: HostRuntime) {}
