@@ -1,3 +1,4 @@
+pub mod Classes
 pub mod Fault
 pub mod Name
 pub mod Number

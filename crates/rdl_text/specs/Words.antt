@@ -1,6 +1,6 @@
 -- The words of a text, or its first fault: past blanks and comments, the longest word that begins at each place.
 -- SystemRDL 2.0, lexical conventions; own: the faults, the limits, and that the width of a Verilog number is judged before its value.
-use Rattle.std.specs.Prelude.{ℕ, zero, suc, ◌+◌, ◌-◌, ◌^◌, Bool, true, false, not, ◌&&◌, ◌||◌, nat_eq, nat_lt, if◌then◌else◌, List, [], ◌∷◌, take, drop, Option, Some, None, Result, Ok, Err}
+use Rattle.std.specs.Prelude.{ℕ, zero, suc, ◌+◌, ◌-◌, ◌^◌, Bool, true, false, not, ◌&&◌, ◌||◌, nat_eq, nat_lt, if◌then◌else◌, List, [], ◌∷◌, take, drop, slice_range, Option, Some, None, Result, Ok, Err}
 use Rattle.std.specs.List.{prefix_len}
 use Rattle.std.specs.Option.{option_map}
 use Rattle.rdl_text.specs.Number.{value, number_bits}
@@ -28,10 +28,10 @@ abbrev pub number : ℕ → Result TokenKind FaultKind
 number v = if nat_lt v (2 ^ number_bits) then Ok (kinds.Number v) else Err NumberTooLarge
 
 unfoldable pub decimal : List ℕ → Option Candidate
-decimal s = candidate (decimal_len s) (number (value 10 (take (decimal_len s) s)))
+decimal s = candidate (decimal_len s) (number (value 10 (slice_range s 0 (decimal_len s))))
 
 unfoldable pub hexadecimal : List ℕ → Option Candidate
-hexadecimal s = candidate (hexadecimal_len s) (number (value 16 (drop 2 (take (hexadecimal_len s) s))))
+hexadecimal s = candidate (hexadecimal_len s) (number (value 16 (slice_range s 2 (hexadecimal_len s))))
 
 -- a Verilog number: first the width is judged, then whether the value is below two to the power of it
 abbrev pub sized : (width : ℕ) → (value : ℕ) → Result TokenKind FaultKind
@@ -43,7 +43,7 @@ sized width value =
 unfoldable pub verilog : List ℕ → Option Candidate
 verilog s =
     candidate (verilog_len s)
-        (sized (value 10 (take (width_len s) s)) (value (verilog_base s) (drop (width_len s + 2) (take (verilog_len s) s))))
+        (sized (value 10 (slice_range s 0 (width_len s))) (value (verilog_base s) (slice_range s (width_len s + 2) (verilog_len s))))
 
 unfoldable pub string : List ℕ → Option Candidate
 string s = candidate (string_len s) (Ok kinds.Text)
