@@ -1,2 +1,5 @@
 pub mod Examples
 pub mod Lists
+pub mod Longest
+pub mod Numbers
+pub mod Steps

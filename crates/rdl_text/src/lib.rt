@@ -7,4 +7,5 @@ pub mod name;
 mod number;
 mod piece;
 pub mod raw;
+mod rows;
 pub mod token;
