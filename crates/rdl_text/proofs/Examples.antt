@@ -1,7 +1,7 @@
 -- The definition of words on small texts.
 use Rattle.std.proofs.Common.{◌≡◌, ℕ, List, [], ◌∷◌, refl, Result, Ok, Err}
 use Rattle.std.specs.Prelude.{codes}
-use Rattle.rdl_text.specs.Word.{Word}
+use Rattle.rdl_text.specs.Word.{Word, word}
 use Rattle.rdl_text.specs.Number.{value}
 use Rattle.rdl_text.specs.Rows.{identifier_len, decimal_len, hexadecimal_len, verilog_len, string_len}
 use Rattle.rdl_text.specs.Words.{words, words_from, piece, block_comment, word_piece, longest, identifier, decimal, hexadecimal, verilog, string, mark}
@@ -11,9 +11,6 @@ use Rattle.rdl_text.specs.declared.fault.TextFault.{TextFault}
 use Rattle.rdl_text.specs.declared.token.Mark.TheVariants.{OpenBrace, CloseBrace, Semicolon, Equals, At, PlusEquals, PercentEquals, Arrow, Dot}
 use Rattle.rdl_text.specs.declared.token.TokenKind.{TokenKind}
 use Rattle.rdl_text.specs.declared.token.TokenKind.TheVariants.{Identifier, Number, Text, Mark}
-
-abbrev word : TokenKind → ℕ → List ℕ → Word
-word kind start source = record { kind = kind; start = start; source = source }
 
 abbrev at : FaultKind → ℕ → Result (List Word) TextFault
 at kind offset = Err (record { kind = kind; offset = offset })

@@ -1,4 +1,5 @@
 pub mod Examples
+pub mod Following
 pub mod Lists
 pub mod Longest
 pub mod Numbers

@@ -5,7 +5,7 @@ use Rattle.std.specs.List.{prefix_len}
 use Rattle.std.specs.Option.{option_map}
 use Rattle.rdl_text.specs.Number.{value, number_bits}
 use Rattle.rdl_text.specs.Rows.{byte, run, is_digit_rest, identifier_len, decimal_len, hexadecimal_len, width_len, verilog_base, verilog_len, string_len, short_mark, long_mark}
-use Rattle.rdl_text.specs.Word.{Word}
+use Rattle.rdl_text.specs.Word.{Word, word}
 use Rattle.rdl_text.specs.declared.fault.FaultKind.{FaultKind}
 use Rattle.rdl_text.specs.declared.fault.FaultKind.TheVariants.{BadCharacter, UnendedComment, UnendedString, NumberTooLarge, ValueTooWide, WidthOutOfRange, IdentifierTooLong}
 use Rattle.rdl_text.specs.declared.fault.TextFault.{TextFault}
@@ -107,7 +107,7 @@ words_from zero at (c ∷ cs) =
     elim (piece (c ∷ cs)) [
       Ok found ↦ elim found [
         pieces.Gap len ↦ words_from (len - 1) (at + 1) cs
-      | pieces.Word kind len ↦ before (record { kind = kind; start = at; source = take len (c ∷ cs) }) (words_from (len - 1) (at + 1) cs)
+      | pieces.Word kind len ↦ before (word kind at (take len (c ∷ cs))) (words_from (len - 1) (at + 1) cs)
       ]
     | Err fault ↦ Err (record { kind = fault; offset = at })
     ]
