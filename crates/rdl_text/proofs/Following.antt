@@ -39,19 +39,19 @@ pub words-gap : (at len : ℕ) (s : List ℕ) → piece s ≡ Ok (Gap len) → 1
 unfolding words_from
 words-gap at zero s e low high = absurd (omega arith)
 words-gap at (suc n) [] e low high = absurd (omega arith)
-words-gap at (suc n) (c ∷ cs) e low high = rw e (past_piece n at cs)
+words-gap at (suc n) (c ∷ cs) e low high = rw (e, words_from) (past_piece n at cs)
 
 pub words-word : (at len : ℕ) (kind : TokenKind) (s : List ℕ) → piece s ≡ Ok (Found kind len) → 1 ≤ len → len ≤ length s
     → words_from 0 at s ≡ before (word kind at (take len s)) (words_from 0 (at + len) (drop len s))
 unfolding words_from
 words-word at zero kind s e low high = absurd (omega arith)
 words-word at (suc n) kind [] e low high = absurd (omega arith)
-words-word at (suc n) kind (c ∷ cs) e low high = rw e (ap (before (word kind at (take (suc n) (c ∷ cs)))) (past_piece n at cs))
+words-word at (suc n) kind (c ∷ cs) e low high = rw (e, words_from) (ap (before (word kind at (take (suc n) (c ∷ cs)))) (past_piece n at cs))
 
 pub words-fault : (at : ℕ) (kind : FaultKind) (s : List ℕ) → piece s ≡ Err kind → 1 ≤ length s → words_from 0 at s ≡ Err (record { kind = kind; offset = at })
 unfolding words_from
 words-fault at kind [] e some = absurd (omega arith)
-words-fault at kind (c ∷ cs) e some = rw e refl
+words-fault at kind (c ∷ cs) e some = rw (e, words_from) refl
 
 pub words-end : (at : ℕ) (s : List ℕ) → length s ≡ 0 → words_from 0 at s ≡ Ok []
 unfolding words_from

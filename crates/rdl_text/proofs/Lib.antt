@@ -1,3 +1,5 @@
+pub mod Cutting
+pub mod Ends
 pub mod Examples
 pub mod Following
 pub mod Lists

@@ -63,10 +63,14 @@ closing taken [] = None
 closing true (c ∷ cs) = option_map (λ n. n + 1) (closing false cs)
 closing false (c ∷ cs) = if nat_eq c 34 then Some 0 else option_map (λ n. n + 1) (closing (nat_eq c 92) cs)
 
+-- a string with so many bytes between its quotes, if it is closed
+abbrev pub quoted_len : Option ℕ → ℕ
+quoted_len (Some n) = n + 2
+quoted_len None = 0
+
 -- a quote, then characters up to the next quote; a backslash takes the next character with it
 unfoldable pub string_len : List ℕ → ℕ
-string_len s =
-    if nat_eq (byte s 0) 34 then elim (closing false (drop 1 s)) [ Some n ↦ n + 2 | None ↦ 0 ] else 0
+string_len s = if nat_eq (byte s 0) 34 then quoted_len (closing false (drop 1 s)) else 0
 
 -- the mark of one byte
 abbrev pub short_mark : ℕ → Option Mark

@@ -64,10 +64,15 @@ mark s = longer (option_map (marked 2) (long_mark (byte s 0) (byte s 1))) (optio
 unfoldable pub longest : List ℕ → Option Candidate
 longest s = longer (identifier s) (longer (decimal s) (longer (hexadecimal s) (longer (verilog s) (longer (string s) (mark s)))))
 
--- a text begins with it, or no word begins it: with a quote an unended string does
-unfoldable pub word_piece : (first : ℕ) → Option Candidate → Result Piece FaultKind
+-- the word that a text begins with, or why it is refused
+abbrev pub judged : (len : ℕ) → Result TokenKind FaultKind → Result Piece FaultKind
+judged len (Ok kind) = Ok (pieces.Word kind len)
+judged len (Err fault) = Err fault
+
+-- the same where there may be none: with a quote begins a string that doesn't end
+abbrev pub word_piece : (first : ℕ) → Option Candidate → Result Piece FaultKind
 word_piece first None = if nat_eq first 34 then Err UnendedString else Err BadCharacter
-word_piece first (Some c) = elim c.kind [ Ok kind ↦ Ok (pieces.Word kind c.len) | Err fault ↦ Err fault ]
+word_piece first (Some word) = judged word.len word.kind
 
 -- space, tab, line feed, vertical tab, form feed, carriage return
 abbrev pub is_blank : ℕ → Bool
@@ -82,9 +87,14 @@ comment_end [] = None
 comment_end (c ∷ cs) =
     if nat_eq c 42 && nat_eq (byte cs 0) 47 then Some 0 else option_map (λ n. n + 1) (comment_end cs)
 
+-- a comment with so many bytes between `/*` and `*/`, if it is closed
+abbrev pub enclosed : Option ℕ → Result Piece FaultKind
+enclosed (Some n) = Ok (pieces.Gap (n + 4))
+enclosed None = Err UnendedComment
+
 -- `/*`, up to the `*/` after it
-unfoldable pub block_comment : List ℕ → Result Piece FaultKind
-block_comment s = elim (comment_end (drop 2 s)) [ Some n ↦ Ok (pieces.Gap (n + 4)) | None ↦ Err UnendedComment ]
+abbrev pub block_comment : List ℕ → Result Piece FaultKind
+block_comment s = enclosed (comment_end (drop 2 s))
 
 -- what begins a text that isn't empty: blanks, a comment up to a line feed, one up to `*/`, or a word
 unfoldable pub piece : List ℕ → Result Piece FaultKind

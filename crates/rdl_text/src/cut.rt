@@ -24,7 +24,6 @@ fn comment_end(bytes: &[u8]) -> Option<usize>
     None
 }
 
-#[tactic(auto, unfolding(crate::specs::Words::block_comment))]
 fn block_comment(bytes: &[u8]) -> Result<Piece, FaultKind>
     requires { 2 ≤ length bytes.now }
     ensures { result ≡ spec.block_comment bytes.now }
@@ -35,7 +34,6 @@ fn block_comment(bytes: &[u8]) -> Result<Piece, FaultKind>
     }
 }
 
-#[tactic(auto, unfolding(crate::specs::Words::word_piece))]
 fn word_piece(first: u8, word: Option<Candidate>) -> Result<Piece, FaultKind>
     ensures { result ≡ spec.word_piece first word }
 {
