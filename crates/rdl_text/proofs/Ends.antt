@@ -118,13 +118,13 @@ decimal_ends : (s : List ℕ) (x : Candidate) → IsUtf8 s → decimal s ≡ Som
 unfolding decimal decimal_len
 decimal_ends s x u e =
     candidate_ends s (is_digit (byte s 0) 10) (1 + run (is_digit_rest 10) 1 s) _ x
-        (λ h. run_ends (is_digit_rest 10) s 0 u (digit_some 10 _ (omega arith) h) (digit_ascii 10 _ (omega arith) h) (λ c d. digit_rest_ascii 10 c (omega arith) d)) e
+    (λ h. run_ends (is_digit_rest 10) s 0 u (digit_some 10 _ (omega arith) h) (digit_ascii 10 _ (omega arith) h) (λ c d. digit_rest_ascii 10 c (omega arith) d)) e
 
 hexadecimal_ends : (s : List ℕ) (x : Candidate) → IsUtf8 s → hexadecimal s ≡ Some x → Ends s x.len
 unfolding hexadecimal hexadecimal_len
 hexadecimal_ends s x u e =
     candidate_ends s _ (3 + run (is_digit_rest 16) 3 s) _ x
-        (λ h. let d = (and_parts _ _ h).1 in run_ends (is_digit_rest 16) s 2 u (digit_some 16 _ (omega arith) d) (digit_ascii 16 _ (omega arith) d) (λ c f. digit_rest_ascii 16 c (omega arith) f)) e
+    (λ h. let d = (and_parts _ _ h).1 in run_ends (is_digit_rest 16) s 2 u (digit_some 16 _ (omega arith) d) (digit_ascii 16 _ (omega arith) d) (λ c f. digit_rest_ascii 16 c (omega arith) f)) e
 
 verilog_run : (s : List ℕ) → IsUtf8 s → is_digit (byte s (width_len s + 2)) (verilog_base s) ≡ true
     → Ends s (width_len s + 3 + run (is_digit_rest (verilog_base s)) (width_len s + 3) s)
@@ -133,7 +133,7 @@ verilog_run s u d =
     let small = base_small (byte s (width_len s + 1)) in
     let three : width_len s + 2 + 1 ≡ width_len s + 3 = omega arith in
     subst (λ (k : ℕ). Ends s (k + run (is_digit_rest base) k s)) three
-        (run_ends (is_digit_rest base) s (width_len s + 2) u (digit_some base _ small d) (digit_ascii base _ small d) (λ c f. digit_rest_ascii base c small f))
+    (run_ends (is_digit_rest base) s (width_len s + 2) u (digit_some base _ small d) (digit_ascii base _ small d) (λ c f. digit_rest_ascii base c small f))
 
 verilog_ends : (s : List ℕ) (x : Candidate) → IsUtf8 s → verilog s ≡ Some x → Ends s x.len
 unfolding verilog verilog_len
@@ -170,7 +170,7 @@ string_ends s x u e =
     let q = quoted_some (nat_eq (byte s 0) 34) (closing false (drop 1 s)) x.len found.1 (omega (arith, found.0, found.1)) in
     let m = q.0 in
     let place : get_or s (m + 1) 0 ≡ 34 =
-        ap (λ (k : ℕ). get_or s k 0) (omega arith) ∙ (sym (get_or-drop 1 s m 0) ∙ closing_at false (drop 1 s) m q.1) in
+    ap (λ (k : ℕ). get_or s k 0) (omega arith) ∙ (sym (get_or-drop 1 s m 0) ∙ closing_at false (drop 1 s) m q.1) in
     let same : m + 1 + 1 ≡ x.len = omega (arith, q.2) in
     subst (Ends s) same (byte_ends s (m + 1) u (omega (arith, place)) (omega (arith, place)))
 
@@ -181,6 +181,7 @@ some_mark c m e = (short_low c m e, short_high c m e)
   where
     short_low : (c : ℕ) (m : Mark) → short_mark c ≡ Some m → 0 < c
     short_low c m e = grind (arith, nat_tests)
+
     short_high : (c : ℕ) (m : Mark) → short_mark c ≡ Some m → c < 128
     short_high c m e = grind (arith, nat_tests)
 
@@ -201,8 +202,8 @@ mark_ends : (s : List ℕ) (x : Candidate) → IsUtf8 s → mark s ≡ Some x �
 unfolding mark
 mark_ends s x u e =
     marks_end s (long_mark (byte s 0) (byte s 1)) (short_mark (byte s 0)) x
-        (λ m h. byte_ends s 1 u (long_low (byte s 0) (byte s 1) m h) (long_high (byte s 0) (byte s 1) m h))
-        (λ m h. let k = some_mark (byte s 0) m h in byte_ends s 0 u k.0 k.1) e
+    (λ m h. byte_ends s 1 u (long_low (byte s 0) (byte s 1) m h) (long_high (byte s 0) (byte s 1) m h))
+    (λ m h. let k = some_mark (byte s 0) m h in byte_ends s 0 u k.0 k.1) e
 
 -- words
 
@@ -220,10 +221,10 @@ unfolding longest
 longest_ends s x u e =
     let P : Candidate → Type 0 = λ y. Ends s y.len in
     longer_from P (identifier s) _ x (identifier_ends s x u)
-        (longer_from P (decimal s) _ x (decimal_ends s x u)
-            (longer_from P (hexadecimal s) _ x (hexadecimal_ends s x u)
-                (longer_from P (verilog s) _ x (verilog_ends s x u)
-                    (longer_from P (string s) (mark s) x (string_ends s x u) (mark_ends s x u))))) e
+    (longer_from P (decimal s) _ x (decimal_ends s x u)
+    (longer_from P (hexadecimal s) _ x (hexadecimal_ends s x u)
+    (longer_from P (verilog s) _ x (verilog_ends s x u)
+    (longer_from P (string s) (mark s) x (string_ends s x u) (mark_ends s x u))))) e
 
 abbrev pub piece_len : Piece → ℕ
 piece_len (Gap n) = n
@@ -291,7 +292,7 @@ comment_ends s p u e = go (comment_end (drop 2 s)) refl e
     go None q f = cc
     go (Some n) q f =
         let place : get_or s (n + 3) 0 ≡ 47 =
-            ap (λ (k : ℕ). get_or s k 0) (omega arith) ∙ (sym (get_or-drop 2 s (n + 1) 0) ∙ comment_at (drop 2 s) n q) in
+        ap (λ (k : ℕ). get_or s k 0) (omega arith) ∙ (sym (get_or-drop 2 s (n + 1) 0) ∙ comment_at (drop 2 s) n q) in
         let same : n + 3 + 1 ≡ piece_len p = omega (arith, same_piece (Gap (n + 4)) p f) in
         subst (Ends s) same (byte_ends s (n + 3) u (omega (arith, place)) (omega (arith, place)))
 
@@ -304,7 +305,7 @@ unfolding piece
 piece_ends s p u e =
     let P = Ends s (piece_len p) in
     chosen (is_blank (byte s 0)) _ _ (Ok p) P (λ b f. subst (Ends s) (same_piece (Gap (run is_blank 0 s)) p f) (blanks_end s u b))
-        (λ b. chosen (nat_eq (byte s 0) 47 && nat_eq (byte s 1) 47) _ _ (Ok p) P
-            (λ l f. subst (Ends s) (same_piece (Gap (2 + run is_in_line 2 s)) p f) (line_ends s u (eqb-true _ _ (and_parts _ _ l).1)))
-            (λ l. chosen (nat_eq (byte s 0) 47 && nat_eq (byte s 1) 42) _ _ (Ok p) P (λ m f. comment_ends s p u f)
-                (λ m f. word_ends s (byte s 0) (longest s) p (λ x h. longest_ends s x u h) f))) e
+    (λ b. chosen (nat_eq (byte s 0) 47 && nat_eq (byte s 1) 47) _ _ (Ok p) P
+    (λ l f. subst (Ends s) (same_piece (Gap (2 + run is_in_line 2 s)) p f) (line_ends s u (eqb-true _ _ (and_parts _ _ l).1)))
+    (λ l. chosen (nat_eq (byte s 0) 47 && nat_eq (byte s 1) 42) _ _ (Ok p) P (λ m f. comment_ends s p u f)
+    (λ m f. word_ends s (byte s 0) (longest s) p (λ x h. longest_ends s x u h) f))) e

@@ -77,8 +77,8 @@ letter_no_mark s h =
     let low = letter_low c h in
     let high = letter_high c h in
     no_mark s
-        (no_short c (omega (arith, high)) (omega (arith, high)) (letter_91 c h) (letter_93 c h) (omega (arith, low)) (omega (arith, low)) (omega (arith, low)) (omega (arith, low)) (omega (arith, low)) (omega (arith, low)))
-        (no_long c (byte s 1) (omega (arith, low)) (omega (arith, low)) (omega (arith, low)))
+    (no_short c (omega (arith, high)) (omega (arith, high)) (letter_91 c h) (letter_93 c h) (omega (arith, low)) (omega (arith, low)) (omega (arith, low)) (omega (arith, low)) (omega (arith, low)) (omega (arith, low)))
+    (no_long c (byte s 1) (omega (arith, low)) (omega (arith, low)) (omega (arith, low)))
 
 pub longest_letter : (s : List ℕ) → is_letter (byte s 0) ≡ true → identifier s ≡ longest s
 unfolding longest
@@ -102,8 +102,8 @@ digit_no_mark s d =
     let low = digit_low c d in
     let high = digit_high c d in
     no_mark s
-        (no_short c (omega (arith, high)) (omega (arith, high)) (omega (arith, high)) (omega (arith, high)) (omega (arith, high)) (omega (arith, high)) (omega (arith, low)) (omega (arith, low)) (omega (arith, high)) (omega (arith, high)))
-        (no_long c (byte s 1) (omega (arith, low)) (omega (arith, low)) (omega (arith, low)))
+    (no_short c (omega (arith, high)) (omega (arith, high)) (omega (arith, high)) (omega (arith, high)) (omega (arith, high)) (omega (arith, high)) (omega (arith, low)) (omega (arith, low)) (omega (arith, high)) (omega (arith, high)))
+    (no_long c (byte s 1) (omega (arith, low)) (omega (arith, low)) (omega (arith, low)))
 
 pub longest_digit : (s : List ℕ) → is_digit (byte s 0) 10 ≡ true → longer (decimal s) (longer (hexadecimal s) (verilog s)) ≡ longest s
 unfolding longest

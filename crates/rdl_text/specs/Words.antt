@@ -43,7 +43,7 @@ sized width value =
 unfoldable pub verilog : List ℕ → Option Candidate
 verilog s =
     candidate (verilog_len s)
-        (sized (value 10 (slice_range s 0 (width_len s))) (value (verilog_base s) (slice_range s (width_len s + 2) (verilog_len s))))
+    (sized (value 10 (slice_range s 0 (width_len s))) (value (verilog_base s) (slice_range s (width_len s + 2) (verilog_len s))))
 
 unfoldable pub string : List ℕ → Option Candidate
 string s = candidate (string_len s) (Ok kinds.Text)
@@ -115,11 +115,11 @@ words_from skip at [] = Ok []
 words_from (suc skip) at (c ∷ cs) = words_from skip (at + 1) cs
 words_from zero at (c ∷ cs) =
     elim (piece (c ∷ cs)) [
-      Ok found ↦ elim found [
-        pieces.Gap len ↦ words_from (len - 1) (at + 1) cs
-      | pieces.Word kind len ↦ before (word kind at (take len (c ∷ cs))) (words_from (len - 1) (at + 1) cs)
+      | Ok found ↦ elim found [
+        | pieces.Gap len ↦ words_from (len - 1) (at + 1) cs
+        | pieces.Word kind len ↦ before (word kind at (take len (c ∷ cs))) (words_from (len - 1) (at + 1) cs)
       ]
-    | Err fault ↦ Err (record { kind = fault; offset = at })
+      | Err fault ↦ Err (record { kind = fault; offset = at })
     ]
 
 abbrev pub words : List ℕ → Result (List Word) TextFault

@@ -54,7 +54,10 @@ impl From<AllocError> for TextFault {
     ghost from_gives = { λ _ f. f ≡ out_of_memory };
 
     fn from(_error: AllocError) -> TextFault {
-        TextFault { kind: FaultKind::Memory, offset: 0 }
+        TextFault {
+            kind: FaultKind::Memory,
+            offset: 0,
+        }
     }
 }
 
@@ -62,6 +65,9 @@ impl<T: Drop> From<AllocFailed<T>> for TextFault {
     ghost from_gives = { λ _ f. f ≡ out_of_memory };
 
     fn from(_error: AllocFailed<T>) -> TextFault {
-        TextFault { kind: FaultKind::Memory, offset: 0 }
+        TextFault {
+            kind: FaultKind::Memory,
+            offset: 0,
+        }
     }
 }

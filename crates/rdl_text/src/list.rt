@@ -42,7 +42,11 @@ impl<'a> Tokens<'a> {
     pub fn get(&self, index: usize) -> Option<&Token<'a>>
         ensures { option_copied result ≡ slice_get self.now index }
     {
-        if index < self.tokens.len() { Some(&self.tokens[index]) } else { None }
+        if index < self.tokens.len() {
+            Some(&self.tokens[index])
+        } else {
+            None
+        }
     }
 
     pub fn as_slice(&self) -> &[Token<'a>]

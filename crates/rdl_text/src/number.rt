@@ -12,7 +12,9 @@ use crate::token::{Number, TokenKind};
 fn append_digit(value: Number, base: u8, digit: u8) -> Option<Number>
     ensures { result ≡ in_bits (value * base + digit) }
 {
-    value.checked_mul(Number::from(base))?.checked_add(Number::from(digit))
+    value
+        .checked_mul(Number::from(base))?
+        .checked_add(Number::from(digit))
 }
 
 /// What digits in a base and `_` are worth, if the bits of a number suffice.
@@ -53,7 +55,9 @@ pub(crate) fn sized(width: Option<Number>, value: Option<Number>) -> Result<Toke
 {
     match (width, value) {
         (None, _) => Err(FaultKind::WidthOutOfRange),
-        (Some(width), _) if width == 0 || width > Number::BITS as Number => Err(FaultKind::WidthOutOfRange),
+        (Some(width), _) if width == 0 || width > Number::BITS as Number => Err(
+            FaultKind::WidthOutOfRange,
+        ),
         (Some(width), Some(value)) if fits(value, width) => Ok(TokenKind::Number(value)),
         _ => Err(FaultKind::ValueTooWide),
     }

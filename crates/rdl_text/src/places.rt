@@ -10,7 +10,11 @@ pub fn place(text: &str, offset: usize) -> (usize, usize)
     ensures column { result.1 ≡ column text.now offset }
 {
     let bytes = text.as_bytes();
-    let before = if offset < bytes.len() { &bytes[..offset] } else { bytes };
+    let before = if offset < bytes.len() {
+        &bytes[..offset]
+    } else {
+        bytes
+    };
     (1 + line_feeds(before), 1 + since_line_feed(before))
 }
 
@@ -25,5 +29,9 @@ fn since_line_feed(bytes: &[u8]) -> usize
     ensures count { result ≡ prefix_len (λ c. not (nat_eq c 10)) (reverse bytes.now) }
     ensures within { result ≤ length bytes.now }
 {
-    bytes.iter().rev().take_while(|byte| **byte != b'\n').count()
+    bytes
+        .iter()
+        .rev()
+        .take_while(|byte| **byte != b'\n')
+        .count()
 }

@@ -19,7 +19,11 @@ pub(crate) fn identifier(bytes: &[u8]) -> Option<Candidate>
         return None;
     }
     let len = 1 + run_len(bytes, 1, Class::IdentifierRest);
-    let kind = if len > Name::MAX_LEN { Err(FaultKind::IdentifierTooLong) } else { Ok(TokenKind::Identifier) };
+    let kind = if len > Name::MAX_LEN {
+        Err(FaultKind::IdentifierTooLong)
+    } else {
+        Ok(TokenKind::Identifier)
+    };
     Some(Candidate { len, kind })
 }
 
@@ -40,7 +44,10 @@ fn hexadecimal(bytes: &[u8]) -> Option<Candidate>
     ensures { result ≡ spec.hexadecimal bytes.now }
 {
     let letter = byte_at(bytes, 1);
-    if !(byte_at(bytes, 0) == b'0' && (letter == b'x' || letter == b'X') && is_digit(byte_at(bytes, 2), 16)) {
+    if !(byte_at(bytes, 0) == b'0'
+        && (letter == b'x' || letter == b'X')
+        && is_digit(byte_at(bytes, 2), 16))
+    {
         return None;
     }
     let len = 3 + run_len(bytes, 3, Class::DigitRest(16));
@@ -58,7 +65,10 @@ fn verilog(bytes: &[u8]) -> Option<Candidate>
         return None;
     }
     let len = width + 3 + run_len(bytes, width + 3, Class::DigitRest(base));
-    let kind = sized(value(10, &bytes[..width]), value(base, &bytes[width + 2..len]));
+    let kind = sized(
+        value(10, &bytes[..width]),
+        value(base, &bytes[width + 2..len]),
+    );
     Some(Candidate { len, kind })
 }
 
@@ -105,7 +115,10 @@ fn string(bytes: &[u8]) -> Option<Candidate>
         return None;
     }
     let len = closing(&bytes[1..])? + 2;
-    Some(Candidate { len, kind: Ok(TokenKind::Text) })
+    Some(Candidate {
+        len,
+        kind: Ok(TokenKind::Text),
+    })
 }
 
 fn short_mark(byte: u8) -> Option<Mark>
@@ -141,7 +154,10 @@ fn marked(len: usize, mark: Option<Mark>) -> Option<Candidate>
     ensures { result ≡ option_map (spec.marked len) mark }
 {
     let mark = mark?;
-    Some(Candidate { len, kind: Ok(TokenKind::Mark(mark)) })
+    Some(Candidate {
+        len,
+        kind: Ok(TokenKind::Mark(mark)),
+    })
 }
 
 #[tactic(auto, unfolding(crate::specs::Words::mark))]
@@ -149,7 +165,10 @@ fn mark(bytes: &[u8]) -> Option<Candidate>
     ensures { result ≡ spec.mark bytes.now }
 {
     let first = byte_at(bytes, 0);
-    longer(marked(2, long_mark(first, byte_at(bytes, 1))), marked(1, short_mark(first)))
+    longer(
+        marked(2, long_mark(first, byte_at(bytes, 1))),
+        marked(1, short_mark(first)),
+    )
 }
 
 /// The longest word that a text begins with.

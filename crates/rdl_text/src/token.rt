@@ -54,7 +54,11 @@ impl<'a> Token<'a> {
     pub(crate) fn new(kind: TokenKind, source: &'a str, start: usize) -> Token<'a>
         ensures { result ≡ word kind start source.now }
     {
-        Token { kind, source, start }
+        Token {
+            kind,
+            source,
+            start,
+        }
     }
 
     pub fn kind(&self) -> TokenKind

@@ -62,14 +62,17 @@ pieces-preserved c =
     let rest = words_from 0 (at + len) (drop (at + len) text) in
     let long : at + len - at ≡ len = omega arith in
     let same : c.new.result ≡ word kind at (take len (drop at text)) =
-        c.new.ensures ∙ ap (word kind at) (c.range.ensures.value ∙ ap (λ (k : ℕ). take k (drop at text)) long) in
-    (n.within, n.boundary, ap (λ (ws : List Word). follow ws rest) c.in_ok-push-in-Ok-Word.ensures.items
-        ∙ (ap (λ (w : Word). follow (old ++ (w ∷ [])) rest) same ∙ step-word old text at len kind (found_pushed c) n c.pieces.invariant.2))
+    c.new.ensures ∙ ap (word kind at) (c.range.ensures.value ∙ ap (λ (k : ℕ). take k (drop at text)) long) in (
+      n.within,
+      n.boundary,
+      ap (λ (ws : List Word). follow ws rest) c.in_ok-push-in-Ok-Word.ensures.items
+          ∙ (ap (λ (w : Word). follow (old ++ (w ∷ [])) rest) same ∙ step-word old text at len kind (found_pushed c) n c.pieces.invariant.2),
+    )
 
 pub returns-in-Err-clause-fault : goal.returns-in-Err-clause-fault
 returns-in-Err-clause-fault c =
     let e : piece (drop c.pieces.at c.args.text.now) ≡ Err c.in-Err.kind =
-        piece_of c.as_bytes.result.now c.args.text.now c.pieces.at _ _ c.as_bytes.ensures.value c.piece_at.ensures c.in-Err.is in
+    piece_of c.as_bytes.result.now c.args.text.now c.pieces.at _ _ c.as_bytes.ensures.value c.piece_at.ensures c.in-Err.is in
     inr (step-fault c.pieces.words.items c.args.text.now c.pieces.at c.in-Err.kind c.pieces-test.true e c.pieces.invariant.2)
 
 pub returns-clause-words : goal.returns-clause-words

@@ -26,7 +26,7 @@ returns-in_err-value c =
     let i = c.digits.byte-index in
     let next = v * base + digit_value (get_or ds i 0) in
     let worth : value base ds ≡ value_after base next (drop (i + 1) ds) =
-        value_is base ds ∙ (sym c.digits.invariant.1 ∙ value_after-digit base v i ds c.digits-test.true c.if-byte-ne95.true) in
+    value_is base ds ∙ (sym c.digits.invariant.1 ∙ value_after-digit base v i ds c.digits-test.true c.if-byte-ne95.true) in
     let none : in_bits next ≡ None = ap (λ (d : ℕ). in_bits (v * base + d)) (sym c.digit_value.ensures.value) ∙ sym c.in_err-value.ensures in
     let large : 2 ^ 64 ≤ value base ds = rw worth (omega (arith, too_large next none, le-value_after base next (filter counts (drop (i + 1) ds)) c.requires)) in
     rw c.from_residual.ensures (sym (in_bits_none _ large))

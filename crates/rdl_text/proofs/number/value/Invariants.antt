@@ -9,4 +9,4 @@ abbrev pub invariant-digits : goal.invariant-digits
 invariant-digits l =
     (l.value < 2 ^ 64)
     × (digits_value_after l.base l.value (filter (λ c. not (is_underscore c)) (drop l.byte-index l.digits))
-        ≡ digits_value_after l.base 0 (filter (λ c. not (is_underscore c)) l.digits))
+    ≡ digits_value_after l.base 0 (filter (λ c. not (is_underscore c)) l.digits))

@@ -29,6 +29,6 @@ scan-preserved c =
     let i = c.scan.index in
     let s = c.args.bytes.now in
     elim c.if-taken.branch [
-      then-taken w ↦ let e = taken i s c.scan-test.true in cc
-    | else-taken+else-byte-eq34 w ↦ let e = plain i s c.scan-test.true (ne_eqb _ _ w.if-byte-eq34.false) in cc
+      | then-taken w ↦ let e = taken i s c.scan-test.true in cc
+      | else-taken+else-byte-eq34 w ↦ let e = plain i s c.scan-test.true (ne_eqb _ _ w.if-byte-eq34.false) in cc
     ]
