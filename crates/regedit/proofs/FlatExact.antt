@@ -1,11 +1,10 @@
 -- The contracts of the reader from what reading gives.
-use Rattle.std.proofs.Common.{◌≡◌, List, Option, Result, Ok, Err, IfOk, refl, inl, inr}
+use Rattle.std.proofs.Common.{◌≡◌, List, Result, Ok, Err, IfOk, refl, inl, inr}
 use Rattle.std.specs.Prelude.{IfErr, MatchResult}
 use Rattle.rdl_text.specs.Word.{Word}
-use Rattle.regedit.specs.declared.flat.map.FlatMap.{FlatMap}
 use Rattle.regedit.specs.declared.flat.reader.ReadFault.{ReadFault}
 use Rattle.regedit.specs.declared.flat.reader.ReadFault.TheVariants.{Unexpected, End, TooLarge, Memory}
-use Rattle.regedit.specs.FlatFaults.{Stands, IsTooLarge, IsLimit}
+use Rattle.regedit.specs.FlatFaults.{Stands, IsLimit}
 use Rattle.regedit.specs.FlatReading.{Gives}
 use Rattle.regedit.proofs.FlatOutcomes.{Outcome}
 use Rattle.regedit.proofs.FlatWhole.{Beyond}

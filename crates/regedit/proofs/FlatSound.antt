@@ -1,14 +1,14 @@
 -- What is read is spelled, and each fault stands at its word.
-use Rattle.std.proofs.Common.{◌≡◌, ℕ, zero, suc, ◌+◌, ◌-◌, ◌<◌, ◌≤◌, Bool, true, false, cond, List, [], ◌∷◌, ◌++◌, length, map, Option, Some, None, Result, Ok, Err, refl, ap, sym, subst, ◌∙◌, arith, rules}
-use Rattle.std.specs.Prelude.{◌==◌, nat_le, ◌&&◌, not, IsTrue, codes, sum_by}
+use Rattle.std.proofs.Common.{◌≡◌, ℕ, zero, suc, ◌+◌, ◌<◌, ◌≤◌, Bool, true, false, List, [], ◌∷◌, ◌++◌, length, map, Option, Some, None, Result, Ok, Err, refl, ap, sym, ◌∙◌, arith, rules}
+use Rattle.std.specs.Prelude.{nat_le, ◌&&◌, not, IsTrue, codes, sum_by}
 use Rattle.std.specs.List.{All, Any}
-use Rattle.std.specs.Cmp.Lexicographic.{pointwise, same_text}
+use Rattle.std.specs.Cmp.Lexicographic.{same_text}
 use Rattle.std.proofs.lemmas.Bool.{leb-true}
 use Rattle.std.proofs.lemmas.List.Elements.{All-push}
 use Rattle.std.proofs.lemmas.List.Sums.{sum_by-append, sum_by-cons}
-use Rattle.std.proofs.lemmas.List.{length-append, length-map}
+use Rattle.std.proofs.lemmas.List.{length-map}
 use denote.Enum.Bare.{same_true}
-use Rattle.rdl_text.specs.Name.{IsName, is_identifier}
+use Rattle.rdl_text.specs.Name.{is_identifier}
 use Rattle.rdl_text.specs.Word.{Word}
 use Rattle.rdl_text.specs.contracts.token.Mark.{the_type}
 use Rattle.rdl_text.specs.declared.token.TokenKind.{TokenKind}
@@ -22,7 +22,7 @@ use Rattle.regedit.specs.declared.flat.reader.Room.{Room}
 use Rattle.regedit.specs.FlatFaults.{Stands}
 use Rattle.regedit.specs.FlatMap.{Reg, Top, field_weight, register_items, register_weight, map_items, map_weight, IsWithin, IsMapWithin, IsRegisterWithin}
 use Rattle.regedit.specs.FlatReading.{◌>>=◌, Fails, is_mark, is_keyword, begins, taken, mark_at, keyword_at, is_usable, name_by, name_at, number_by, number_at, fits, less, finish_at, size_at, reset_at, field, field_at, turns, repeated, Statement, next, many_at, fields_at, reg, register_at, registers_at, top, top_at, end_at, whole, map_at, one_register_at}
-use Rattle.regedit.specs.FlatSpelling.{Sort, identifier, number, string, mark, sort_by, sort_of, size_words, reset_words, field_words, fields_words, register_words, registers_words, map_words, IsItemName, HasRegisterNames, HasMapNames, SpellsMap, SpellsRegister}
+use Rattle.regedit.specs.FlatSpelling.{Sort, identifier, number, string, mark, sort_by, sort_of, size_words, reset_words, field_words, fields_words, register_words, registers_words, IsItemName, HasRegisterNames, HasMapNames, SpellsMap, SpellsRegister}
 use Rattle.regedit.specs.Reserved.{is_reserved}
 use Rattle.regedit.proofs.FlatOutcomes.{Outcome, done, stopped, on, weaker, split}
 use Rattle.regedit.proofs.FlatTurns.{Shortens, repeated-done, repeated-on}

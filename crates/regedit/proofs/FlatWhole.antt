@@ -1,24 +1,22 @@
 -- What is spelled is read, or it is too large for the room.
-use Rattle.std.proofs.Common.{◌≡◌, ℕ, zero, suc, ◌+◌, ◌-◌, ◌<◌, ◌≤◌, Bool, true, false, cond, List, [], ◌∷◌, ◌++◌, length, map, Option, Some, None, Result, Ok, Err, refl, ap, sym, subst, ◌∙◌, arith, rules}
-use Rattle.std.specs.Prelude.{◌==◌, nat_le, ◌&&◌, not, IsTrue, codes, sum_by}
+use Rattle.std.proofs.Common.{◌≡◌, ℕ, ◌+◌, ◌≤◌, Bool, true, false, List, [], ◌∷◌, ◌++◌, length, map, Option, Some, None, Result, refl, ap, sym, ◌∙◌, arith, rules}
+use Rattle.std.specs.Prelude.{nat_le, ◌&&◌, not, IsTrue, codes, sum_by}
 use Rattle.std.specs.List.{All}
 use Rattle.std.proofs.Math.Seq.{append_snoc}
 use Rattle.std.proofs.lemmas.Bool.{le-leb, leb-true}
 use Rattle.std.proofs.lemmas.List.{append-nil}
 use Rattle.std.proofs.lemmas.List.Sums.{sum_by-cons}
 use Rattle.std.proofs.lemmas.List.Elements.{All-head, All-tail}
-use denote.Enum.Bare.{true_same}
-use Rattle.rdl_text.specs.Name.{IsName, is_identifier}
+use Rattle.rdl_text.specs.Name.{is_identifier}
 use Rattle.rdl_text.specs.Word.{Word}
-use Rattle.rdl_text.specs.contracts.token.Mark.{the_type}
 use Rattle.rdl_text.specs.declared.token.Mark.{Mark}
 use Rattle.rdl_text.specs.declared.token.Mark.TheVariants.{OpenBrace, CloseBrace, OpenBracket, CloseBracket, Semicolon, Equals}
 use Rattle.regedit.specs.declared.flat.map.Field.{Field}
 use Rattle.regedit.specs.declared.flat.reader.ReadFault.{ReadFault}
-use Rattle.regedit.specs.declared.flat.reader.ReadFault.TheVariants.{Unexpected, End, TooLarge, Memory}
+use Rattle.regedit.specs.declared.flat.reader.ReadFault.TheVariants.{TooLarge}
 use Rattle.regedit.specs.declared.flat.reader.Room.{Room}
-use Rattle.regedit.specs.FlatMap.{Reg, Top, field_weight, register_items, register_weight, map_items, map_weight, IsWithin, IsMapWithin, IsRegisterWithin}
-use Rattle.regedit.specs.FlatReading.{◌>>=◌, is_mark, is_keyword, begins, taken, mark_at, keyword_at, is_usable, name_by, name_at, number_by, number_at, fits, less, finish_at, size_at, reset_at, field, field_at, Statement, many_at, fields_at, reg, register_at, registers_at, top, top_at, end_at, whole, map_at, one_register_at}
+use Rattle.regedit.specs.FlatMap.{Reg, Top, field_weight, register_items, register_weight, map_items, map_weight, IsMapWithin, IsRegisterWithin}
+use Rattle.regedit.specs.FlatReading.{is_mark, is_keyword, begins, taken, mark_at, keyword_at, is_usable, name_by, name_at, number_by, number_at, fits, less, finish_at, size_at, reset_at, field, field_at, Statement, many_at, fields_at, reg, register_at, registers_at, top, top_at, end_at, whole, map_at, one_register_at}
 use Rattle.regedit.specs.FlatSpelling.{Sort, identifier, number, string, mark, sort_of, size_words, reset_words, field_words, fields_words, register_words, registers_words, map_words, IsItemName, HasRegisterNames, HasMapNames, SpellsMap, SpellsRegister}
 use Rattle.regedit.specs.Reserved.{is_reserved}
 use Rattle.regedit.specs.FlatFaults.{IsTooLarge}
