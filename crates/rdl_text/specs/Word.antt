@@ -7,3 +7,6 @@ pub record Word : Type 0 where
   pub kind : TokenKind
   pub start : ℕ
   pub source : List ℕ
+
+abbrev pub word : TokenKind → (start : ℕ) → (source : List ℕ) → Word
+word kind start source = record { kind = kind; start = start; source = source }

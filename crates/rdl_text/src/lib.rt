@@ -1,6 +1,17 @@
 //! The words of a text of SystemRDL, and the places in it.
 #![tactic(auto)]
 
+mod bytes;
+mod cut;
+pub mod fault;
+pub mod list;
 pub mod name;
+mod number;
+mod piece;
+mod places;
 pub mod raw;
+mod rows;
 pub mod token;
+
+pub use cut::tokens;
+pub use places::place;

@@ -1,5 +1,6 @@
 //! One word of a text.
 ghost use Rattle.std.specs.Prelude.{◌≡◌, List};
+ghost use Rattle.rdl_text.specs.Word.{word};
 
 use std::marker::Model;
 
@@ -50,6 +51,16 @@ impl<'a> Model for Token<'a> {
 }
 
 impl<'a> Token<'a> {
+    pub(crate) fn new(kind: TokenKind, source: &'a str, start: usize) -> Token<'a>
+        ensures { result ≡ word kind start source.now }
+    {
+        Token {
+            kind,
+            source,
+            start,
+        }
+    }
+
     pub fn kind(&self) -> TokenKind
         ensures { result ≡ self.now.kind }
     {

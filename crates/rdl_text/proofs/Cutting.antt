@@ -1,0 +1,58 @@
+-- One turn of the loop that cuts a text: where the next piece begins, and which words are known then.
+use Rattle.std.proofs.Common.{◌≡◌, ℕ, ◌+◌, ◌-◌, ◌<◌, ◌≤◌, List, [], ◌∷◌, ◌++◌, length, take, take_all, drop, IsUtf8, Result, Ok, Err, refl, sym, ◌∙◌, ap, subst, arith, append-nil}
+use Rattle.std.proofs.lemmas.List.{length-drop, drop-drop}
+use Rattle.std.proofs.lemmas.Str.{IsCharBoundary-from_rest, IsUtf8-drop}
+use Rattle.std.specs.Str.{IsCharBoundary}
+use Rattle.rdl_text.specs.Word.{Word, word}
+use Rattle.rdl_text.specs.Words.{words, words_from, piece}
+use Rattle.rdl_text.specs.declared.fault.FaultKind.{FaultKind}
+use Rattle.rdl_text.specs.declared.token.TokenKind.{TokenKind}
+use Rattle.rdl_text.specs.declared.piece.Piece.{Piece}
+use Rattle.rdl_text.specs.declared.piece.Piece.TheVariants.{Gap, Word as Found}
+use Rattle.rdl_text.proofs.Ends.{Ends, piece_len, piece_ends}
+use Rattle.rdl_text.proofs.Following.{follow, words-gap, words-word, words-fault, words-end, follow_before}
+
+tail : (b text : List ℕ) (at : ℕ) → b ≡ text → take (length b - at) (drop at b) ≡ drop at text
+tail b text at e = take_all (length b - at) (drop at b) (omega (arith, length-drop at b)) ∙ ap (drop at) e
+
+-- what the piece at a place is
+pub piece_of : (b text : List ℕ) (at : ℕ) (r q : Result Piece FaultKind) → b ≡ text → r ≡ piece (take (length b - at) (drop at b)) → r ≡ q → piece (drop at text) ≡ q
+piece_of b text at r q e f g = ap piece (sym (tail b text at e)) ∙ (sym f ∙ g)
+
+-- the place behind a piece
+pub record Next (text : List ℕ) (at len : ℕ) : Type 0 where
+  pub some : 1 ≤ len
+  pub within : at + len ≤ length text
+  pub inside : len ≤ length (drop at text)
+  pub boundary : IsCharBoundary text (at + len)
+
+pub next : (text : List ℕ) (at : ℕ) (p : Piece) → IsUtf8 text → at ≤ length text → IsCharBoundary text at → piece (drop at text) ≡ Ok p → Next text at (piece_len p)
+next text at p u h b e =
+    let ends = piece_ends (drop at text) p (IsUtf8-drop text at u b) e in
+    let boundary = IsCharBoundary-from_rest text at (piece_len p) h ends.boundary in
+    record { some = ends.some; within = boundary.0; inside = ends.within; boundary = boundary }
+
+pub step-gap : (ws : List Word) (text : List ℕ) (at len : ℕ) → piece (drop at text) ≡ Ok (Gap len) → Next text at len
+    → follow ws (words_from 0 at (drop at text)) ≡ words text → follow ws (words_from 0 (at + len) (drop (at + len) text)) ≡ words text
+step-gap ws text at len e n told =
+    let turn = words-gap at len (drop at text) e n.some n.inside in
+    let on = ap (words_from 0 (at + len)) (drop-drop len at text) in
+    ap (follow ws) (sym (turn ∙ on)) ∙ told
+
+pub step-word : (ws : List Word) (text : List ℕ) (at len : ℕ) (kind : TokenKind) → piece (drop at text) ≡ Ok (Found kind len) → Next text at len
+    → follow ws (words_from 0 at (drop at text)) ≡ words text
+    → follow (ws ++ (word kind at (take len (drop at text)) ∷ [])) (words_from 0 (at + len) (drop (at + len) text)) ≡ words text
+step-word ws text at len kind e n told =
+    let w = word kind at (take len (drop at text)) in
+    let turn = words-word at len kind (drop at text) e n.some n.inside in
+    let on = ap (words_from 0 (at + len)) (drop-drop len at text) in
+    ap (follow (ws ++ (w ∷ []))) (sym on) ∙ (sym (follow_before ws w _) ∙ (ap (follow ws) (sym turn) ∙ told))
+
+pub step-fault : (ws : List Word) (text : List ℕ) (at : ℕ) (kind : FaultKind) → at < length text → piece (drop at text) ≡ Err kind
+    → follow ws (words_from 0 at (drop at text)) ≡ words text → words text ≡ Err (record { kind = kind; offset = at })
+step-fault ws text at kind h e told =
+    sym told ∙ ap (follow ws) (words-fault at kind (drop at text) e (omega (arith, length-drop at text)))
+
+pub step-end : (ws : List Word) (text : List ℕ) (at : ℕ) → length text ≤ at → follow ws (words_from 0 at (drop at text)) ≡ words text → words text ≡ Ok ws
+step-end ws text at h told =
+    sym told ∙ (ap (follow ws) (words-end at (drop at text) (omega (arith, length-drop at text))) ∙ ap Ok (append-nil ws))

@@ -1,0 +1,40 @@
+-- What digits are worth, one more at a time, and numbers that have too many bits.
+use Rattle.std.proofs.Common.{◌≡◌, ◌≢◌, ℕ, ◌+◌, ◌*◌, ◌^◌, ◌<◌, ◌≤◌, Bool, not, List, [], ◌∷◌, length, get_or, drop, Option, Some, None, refl, ◌∙◌, arith}
+use Rattle.std.proofs.Math.Nat.{mul-le-mul_left, le_refl, le_trans}
+use Rattle.std.proofs.lemmas.Bool.{ne_eqb}
+use Rattle.std.proofs.lemmas.Bool.Decides.{nat_tests}
+use Rattle.std.proofs.lemmas.List.{at_drop_more}
+use Rattle.std.specs.Char.{digit_value}
+use Rattle.std.specs.List.{filter}
+use Rattle.std.specs.Str.Parse.{digits_value, digits_value_after}
+use Rattle.rdl_text.specs.Number.{is_underscore, value, in_bits}
+
+abbrev pub counts : ℕ → Bool
+counts c = not (is_underscore c)
+
+-- the digits behind those that are worth v
+abbrev pub value_after : (base v : ℕ) → List ℕ → ℕ
+value_after base v digits = digits_value_after base v (filter counts digits)
+
+pub value_is : (base : ℕ) (digits : List ℕ) → value base digits ≡ value_after base 0 digits
+unfolding value
+value_is base digits = refl
+
+pub le-value_after : (base n : ℕ) (ds : List ℕ) → 1 ≤ base → n ≤ digits_value_after base n ds
+le-value_after base n [] h = le_refl n
+le-value_after base n (d ∷ ds) h =
+    let step : n ≤ n * base + digit_value d = omega (arith, mul-le-mul_left n h) in
+    le_trans step (le-value_after base (n * base + digit_value d) ds h)
+
+pub value_after-digit : (base v i : ℕ) (ds : List ℕ) → i < length ds → get_or ds i 0 ≢ 95
+    → value_after base v (drop i ds) ≡ value_after base (v * base + digit_value (get_or ds i 0)) (drop (i + 1) ds)
+value_after-digit base v i ds h ne = at_drop_more (value_after base v) ds i 0 h ∙ rw (ne_eqb (get_or ds i 0) 95 ne) refl
+
+pub too_large : (v : ℕ) → in_bits v ≡ None → 2 ^ 64 ≤ v
+too_large v e = grind (arith, nat_tests)
+
+pub in_bits_none : (v : ℕ) → 2 ^ 64 ≤ v → in_bits v ≡ None
+in_bits_none v h = grind (arith, nat_tests)
+
+pub in_bits_some : (v : ℕ) → v < 2 ^ 64 → in_bits v ≡ Some v
+in_bits_some v h = grind (arith, nat_tests)

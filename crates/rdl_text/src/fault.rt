@@ -1,0 +1,73 @@
+//! Why a text has no words.
+ghost use Rattle.std.specs.Prelude.{◌≡◌};
+ghost use Rattle.rdl_text.specs.Fault.{fault_number, out_of_memory};
+
+use std::alloc::{AllocError, AllocFailed};
+
+/// What is wrong at a place of a text.
+#[derive(Clone, Copy, Debug, PartialEq, Eq)]
+pub enum FaultKind {
+    /// S1: no word, blank or comment begins there.
+    BadCharacter,
+    /// S2: a comment from `/*` on has no `*/`.
+    UnendedComment,
+    /// S3: a string has no closing quote.
+    UnendedString,
+    /// S4: a decimal or hexadecimal number has too many bits.
+    NumberTooLarge,
+    /// S5: a Verilog number has more bits than its width.
+    ValueTooWide,
+    /// S6: the width of a Verilog number is 0 or more than the bits of a number.
+    WidthOutOfRange,
+    /// S7: an identifier has more than 255 bytes.
+    IdentifierTooLong,
+    /// S8: no memory.
+    Memory,
+}
+
+impl FaultKind {
+    /// The number that messages name it by.
+    pub fn number(&self) -> u8
+        ensures { result ≡ fault_number self.now }
+    {
+        match self {
+            FaultKind::BadCharacter => 1,
+            FaultKind::UnendedComment => 2,
+            FaultKind::UnendedString => 3,
+            FaultKind::NumberTooLarge => 4,
+            FaultKind::ValueTooWide => 5,
+            FaultKind::WidthOutOfRange => 6,
+            FaultKind::IdentifierTooLong => 7,
+            FaultKind::Memory => 8,
+        }
+    }
+}
+
+/// A fault, and the byte at which the word that has it begins; 0 for `Memory`.
+#[derive(Clone, Copy, Debug, PartialEq, Eq)]
+pub struct TextFault {
+    pub kind: FaultKind,
+    pub offset: usize,
+}
+
+impl From<AllocError> for TextFault {
+    ghost from_gives = { λ _ f. f ≡ out_of_memory };
+
+    fn from(_error: AllocError) -> TextFault {
+        TextFault {
+            kind: FaultKind::Memory,
+            offset: 0,
+        }
+    }
+}
+
+impl<T: Drop> From<AllocFailed<T>> for TextFault {
+    ghost from_gives = { λ _ f. f ≡ out_of_memory };
+
+    fn from(_error: AllocFailed<T>) -> TextFault {
+        TextFault {
+            kind: FaultKind::Memory,
+            offset: 0,
+        }
+    }
+}

@@ -1,0 +1,64 @@
+//! The values of numbers.
+ghost use Rattle.std.specs.Prelude.{◌≡◌, ℕ, ◌+◌, ◌*◌, ◌^◌, ◌≤◌, ◌<◌, nat_lt, Option, Some, None};
+ghost use Rattle.rdl_text.specs.Number.{value, in_bits};
+ghost use Rattle.rdl_text.specs.Words.{number, sized};
+
+use crate::bytes::digit_value;
+use crate::fault::FaultKind;
+use crate::token::{Number, TokenKind};
+
+/// A number with one more digit behind it, if its bits suffice.
+#[inline]
+fn append_digit(value: Number, base: u8, digit: u8) -> Option<Number>
+    ensures { result ≡ in_bits (value * base + digit) }
+{
+    value
+        .checked_mul(Number::from(base))?
+        .checked_add(Number::from(digit))
+}
+
+/// What digits in a base and `_` are worth, if the bits of a number suffice.
+pub(crate) fn value(base: u8, digits: &[u8]) -> Option<Number>
+    requires { 1 ≤ base }
+    ensures { result ≡ in_bits (value base digits.now) }
+{
+    let mut value: Number = 0;
+    'digits: for byte in digits {
+        if *byte != b'_' {
+            value = append_digit(value, base, digit_value(*byte))?;
+        }
+    }
+    Some(value)
+}
+
+/// What a number of this value is.
+pub(crate) fn number(value: Option<Number>) -> Result<TokenKind, FaultKind>
+    ensures { (v : ℕ) → value ≡ in_bits v → result ≡ number v }
+{
+    match value {
+        Some(value) => Ok(TokenKind::Number(value)),
+        None => Err(FaultKind::NumberTooLarge),
+    }
+}
+
+/// Whether a number has no more bits than this.
+fn fits(value: Number, width: Number) -> bool
+    requires { width ≤ 64 }
+    ensures { result ≡ nat_lt value (2 ^ width) }
+{
+    width >= Number::BITS as Number || value < (1 << width)
+}
+
+/// What a Verilog number of this width and value is.
+pub(crate) fn sized(width: Option<Number>, value: Option<Number>) -> Result<TokenKind, FaultKind>
+    ensures { (w v : ℕ) → width ≡ in_bits w → value ≡ in_bits v → result ≡ sized w v }
+{
+    match (width, value) {
+        (None, _) => Err(FaultKind::WidthOutOfRange),
+        (Some(width), _) if width == 0 || width > Number::BITS as Number => Err(
+            FaultKind::WidthOutOfRange,
+        ),
+        (Some(width), Some(value)) if fits(value, width) => Ok(TokenKind::Number(value)),
+        _ => Err(FaultKind::ValueTooWide),
+    }
+}
