@@ -380,3 +380,6 @@ pub fn one_map()
 pub fn one_register()
     ensures { (words : List Word) (q r : Reg) → SpellsRegister words q → SpellsRegister words r → q ≡ r }
 {}
+
+#[cfg(test)]
+mod tests;
