@@ -1,5 +1,5 @@
 -- What holds of what is read, and of the fault.
-use Rattle.std.proofs.Common.{◌≡◌, Bool, true, false, cond, Result, Ok, Err, refl, subst, ap, ◌∙◌}
+use Rattle.std.proofs.Common.{◌≡◌, Bool, true, false, cond, Result, Ok, Err, refl, subst, sym, ap, ◌∙◌}
 use Rattle.regedit.specs.declared.flat.reader.ReadFault.{ReadFault}
 use Rattle.regedit.specs.FlatReading.{◌>>=◌}
 
@@ -55,3 +55,14 @@ find-then b r q e p = record { value = p.value; is = cond-at b r q e ∙ p.is; h
 
 pub find-else : {A : Type 0} {P : A → Type 0} (b : Bool) (r q : Result A ReadFault) → b ≡ false → Found q P → Found (cond b r q) P
 find-else b r q e p = record { value = p.value; is = cond-not b r q e ∙ p.is; holds = p.holds }
+
+pub certainly : {A B : Type 0} {P : A → Type 0} {Q : B → Type 0} {S : ReadFault → Type 0} {r : Result A ReadFault} (f : A → Result B ReadFault)
+    → Found r P → ((x : A) → P x → Outcome (f x) Q S) → Outcome (r >>= f) Q S
+certainly {Q = Q} {S = S} f p h = subst (λ r. Outcome (r >>= f) Q S) (sym p.is) (h p.value p.holds)
+
+pub along : {A B : Type 0} {P : B → Type 0} {S : ReadFault → Type 0} {x y : A} (f : A → Result B ReadFault) → x ≡ y → Outcome (f x) P S → Outcome (f y) P S
+along {P = P} {S = S} f e o = subst (λ x. Outcome (f x) P S) e o
+
+pub surely : {A : Type 0} {P : A → Type 0} {S : ReadFault → Type 0} (r : Result A ReadFault) → Outcome r P S → ((e : ReadFault) → S e → ⊥) → Found r P
+surely (Ok x) o h = found x (o.ok x refl)
+surely (Err e) o h = absurd (h e (o.err e refl))

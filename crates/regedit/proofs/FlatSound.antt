@@ -1,14 +1,14 @@
 -- What is read is spelled, and each fault stands at its word.
-use Rattle.std.proofs.Common.{◌≡◌, ℕ, zero, suc, ◌+◌, ◌-◌, ◌<◌, ◌≤◌, Bool, true, false, cond, List, [], ◌∷◌, ◌++◌, length, map, Option, Some, None, Result, Ok, Err, refl, ap, sym, subst, ◌∙◌, arith, rules}
-use Rattle.std.specs.Prelude.{◌==◌, nat_le, ◌&&◌, not, IsTrue, codes, sum_by}
+use Rattle.std.proofs.Common.{◌≡◌, ℕ, zero, suc, ◌+◌, ◌<◌, ◌≤◌, Bool, true, false, List, [], ◌∷◌, ◌++◌, length, map, Option, Some, None, Result, Ok, Err, refl, ap, sym, ◌∙◌, arith, rules}
+use Rattle.std.specs.Prelude.{nat_le, ◌&&◌, not, IsTrue, codes, sum_by}
 use Rattle.std.specs.List.{All, Any}
-use Rattle.std.specs.Cmp.Lexicographic.{pointwise, same_text}
+use Rattle.std.specs.Cmp.Lexicographic.{same_text}
 use Rattle.std.proofs.lemmas.Bool.{leb-true}
 use Rattle.std.proofs.lemmas.List.Elements.{All-push}
 use Rattle.std.proofs.lemmas.List.Sums.{sum_by-append, sum_by-cons}
-use Rattle.std.proofs.lemmas.List.{length-append, length-map}
+use Rattle.std.proofs.lemmas.List.{length-map}
 use denote.Enum.Bare.{same_true}
-use Rattle.rdl_text.specs.Name.{IsName, is_identifier}
+use Rattle.rdl_text.specs.Name.{is_identifier}
 use Rattle.rdl_text.specs.Word.{Word}
 use Rattle.rdl_text.specs.contracts.token.Mark.{the_type}
 use Rattle.rdl_text.specs.declared.token.TokenKind.{TokenKind}
@@ -22,7 +22,7 @@ use Rattle.regedit.specs.declared.flat.reader.Room.{Room}
 use Rattle.regedit.specs.FlatFaults.{Stands}
 use Rattle.regedit.specs.FlatMap.{Reg, Top, field_weight, register_items, register_weight, map_items, map_weight, IsWithin, IsMapWithin, IsRegisterWithin}
 use Rattle.regedit.specs.FlatReading.{◌>>=◌, Fails, is_mark, is_keyword, begins, taken, mark_at, keyword_at, is_usable, name_by, name_at, number_by, number_at, fits, less, finish_at, size_at, reset_at, field, field_at, turns, repeated, Statement, next, many_at, fields_at, reg, register_at, registers_at, top, top_at, end_at, whole, map_at, one_register_at}
-use Rattle.regedit.specs.FlatSpelling.{Sort, identifier, number, string, mark, sort_by, sort_of, size_words, reset_words, field_words, fields_words, register_words, registers_words, map_words, IsItemName, HasRegisterNames, HasMapNames, SpellsMap, SpellsRegister}
+use Rattle.regedit.specs.FlatSpelling.{Sort, identifier, number, string, mark, sort_by, sort_of, size_words, reset_words, field_words, fields_words, register_words, registers_words, IsItemName, HasRegisterNames, HasMapNames, SpellsMap, SpellsRegister}
 use Rattle.regedit.specs.Reserved.{is_reserved}
 use Rattle.regedit.proofs.FlatOutcomes.{Outcome, done, stopped, on, weaker, split}
 use Rattle.regedit.proofs.FlatTurns.{Shortens, repeated-done, repeated-on}
@@ -94,7 +94,7 @@ mark-reads m ws = taken-reads (is_mark m) (mark m) (mark-true m) ws
 pub keyword-reads : (k : List ℕ) (ws : List Word) → Reads (keyword_at k ws) ws (λ rest. rest) (λ _ after. identifier k ∷ after) (λ _. Unit {0})
 keyword-reads k ws = taken-reads (is_keyword k) (identifier k) (keyword-true k) ws
 
-both-true : (a b : Bool) → a && b ≡ true → (a ≡ true) × (b ≡ true)
+pub both-true : (a b : Bool) → a && b ≡ true → (a ≡ true) × (b ≡ true)
 both-true true true h = (refl, refl)
 both-true true false h = absurd cc
 both-true false b h = absurd cc
@@ -164,11 +164,11 @@ unfolding finish_at
 finish-reads name room [] = record { outcome = stopped End tt }
 finish-reads name room (w ∷ ws) = record {
   outcome = split (is_mark Semicolon (sort_of w)) _ _
-    (λ h. let e = mark-true Semicolon (sort_of w) h in
+      (λ h. let e = mark-true Semicolon (sort_of w) h in
       split (fits name room) _ _
       (λ k. done (less name room, ws) (one w ws (mark Semicolon) e, fits-spends name room k))
       (λ k. stopped (TooLarge w.start) (any-here (λ v. (v.start ≡ w.start) × (v.kind ≡ kinds.Mark Semicolon)) w ws (refl, kind-mark w.kind w.source Semicolon e))))
-    (λ h. stopped (Unexpected w.start) (stands-here w ws));
+      (λ h. stopped (Unexpected w.start) (stands-here w ws));
 }
 
 -- ---- A field.
@@ -177,30 +177,30 @@ pub size-reads : (ws : List Word) → Reads (size_at ws) ws (λ x. x.1) (λ x af
 unfolding size_at
 size-reads ws = record {
   outcome = split (begins (is_mark OpenBracket) ws) _ _
-    (λ _. step _ (start ws) (mark-reads OpenBracket ws) (λ a _ s1. step _ s1 (number-reads a) (λ n _ s2. step _ s2 (mark-reads CloseBracket n.1) (λ b _ s3. done (Some n.0, b) (s3, tt)))))
-    (λ _. done (None, ws) (start ws, tt));
+      (λ _. step _ (start ws) (mark-reads OpenBracket ws) (λ a _ s1. step _ s1 (number-reads a) (λ n _ s2. step _ s2 (mark-reads CloseBracket n.1) (λ b _ s3. done (Some n.0, b) (s3, tt)))))
+      (λ _. done (None, ws) (start ws, tt));
 }
 
 pub reset-reads : (ws : List Word) → Reads (reset_at ws) ws (λ x. x.1) (λ x after. reset_words x.0 after) (λ _. Unit {0})
 unfolding reset_at
 reset-reads ws = record {
   outcome = split (begins (is_mark Equals) ws) _ _
-    (λ _. step _ (start ws) (mark-reads Equals ws) (λ a _ s1. step _ s1 (number-reads a) (λ n _ s2. done (Some n.0, n.1) (s2, tt))))
-    (λ _. done (None, ws) (start ws, tt));
+      (λ _. step _ (start ws) (mark-reads Equals ws) (λ a _ s1. step _ s1 (number-reads a) (λ n _ s2. done (Some n.0, n.1) (s2, tt))))
+      (λ _. done (None, ws) (start ws, tt));
 }
 
 pub field-reads : (room : Room) (ws : List Word) → Reads (field_at room ws) ws (λ x. x.1) (λ x after. field_words x.0.0 after) (λ x. IsItemName x.0.0.name × Spends room 1 (field_weight x.0.0) x.0.1)
 unfolding field_at
 field-reads room ws = record {
   outcome =
-    step _ (start ws) (keyword-reads (codes "field") ws) (λ a _ s1.
-    step _ s1 (mark-reads OpenBrace a) (λ b _ s2.
-    step _ s2 (mark-reads CloseBrace b) (λ c _ s3.
-    step _ s3 (name-reads c) (λ n named s4.
-    step _ s4 (size-reads n.1) (λ s _ s5.
-    step _ s5 (reset-reads s.1) (λ r _ s6.
-    step _ s6 (finish-reads n.0 room r.1) (λ e spends s7.
-    done ((field n.0 s.0 r.0, e.0), e.1) (s7, (named, spends)))))))));
+      step _ (start ws) (keyword-reads (codes "field") ws) (λ a _ s1.
+      step _ s1 (mark-reads OpenBrace a) (λ b _ s2.
+      step _ s2 (mark-reads CloseBrace b) (λ c _ s3.
+      step _ s3 (name-reads c) (λ n named s4.
+      step _ s4 (size-reads n.1) (λ s _ s5.
+      step _ s5 (reset-reads s.1) (λ r _ s6.
+      step _ s6 (finish-reads n.0 room r.1) (λ e spends s7.
+      done ((field n.0 s.0 r.0, e.0), e.1) (s7, (named, spends)))))))));
 }
 
 -- ---- Each statement takes a word.
@@ -232,7 +232,7 @@ shorter ws rest all e h = omega (arith, ap length e, length-map ws sort_of, leng
 pub field-takes : Takes field_at
 field-takes = record {
   takes = λ room ws x e. let p = (field-reads room ws).outcome.ok x e in
-    shorter ws x.1 (field_words x.0.0 (map sort_of x.1)) p.0.words (longer-field x.0.0 (map sort_of x.1));
+      shorter ws x.1 (field_words x.0.0 (map sort_of x.1)) p.0.words (longer-field x.0.0 (map sort_of x.1));
 }
 
 next-outcome : {X : Type 0} (one : Statement X) → Takes one → (s : List X × Room) (ws : List Word) → Outcome (next one s ws) (λ x. length x.1 < length ws) (λ _. Unit {0})
@@ -288,7 +288,6 @@ none-read words N items weight room ws none = record {
 module _ {X : Type 0} (k : List ℕ) (one : Statement X) (word : X → List Sort → List Sort) (words : List X → List Sort → List Sort)
     (snoc : (xs : List X) (x : X) (after : List Sort) → words (xs ++ (x ∷ [])) after ≡ words xs (word x after)) (N : X → Type 0) (items weight : X → ℕ)
     (reads : (room : Room) (ws : List Word) → Reads (one room ws) ws (λ x. x.1) (λ x after. word x.0.0 after) (λ x. N x.0.0 × Spends room (items x.0.0) (weight x.0.0) x.0.1)) where
-
   pushed : (ws0 : List Word) (room : Room) (s : List X × Room) (ws : List Word) (x : (X × Room) × List Word) → IsRead words N items weight ws0 room (s, ws)
       → N x.0.0 → Spends s.1 (items x.0.0) (weight x.0.0) x.0.1 → Read ws0 (λ after. words s.0 (word x.0.0 after)) x.1 → IsRead words N items weight ws0 room ((s.0 ++ (x.0.0 ∷ []), x.0.1), x.1)
   pushed ws0 room s ws x h named spends r =
@@ -356,19 +355,19 @@ pub register-reads : (room : Room) (ws : List Word) → Reads (register_at room 
 unfolding register_at
 register-reads room ws = record {
   outcome =
-    step _ (start ws) (keyword-reads (codes "reg") ws) (λ a _ s1.
-    step _ s1 (mark-reads OpenBrace a) (λ b _ s2.
-    step _ s2 (fields-reads room b) (λ fs p s3.
-    step _ s3 (mark-reads CloseBrace fs.1) (λ c _ s4.
-    step _ s4 (name-reads c) (λ n named s5.
-    step _ s5 (finish-reads n.0 fs.0.1 n.1) (λ e spends s6.
-    done ((reg n.0 fs.0.0, e.0), e.1) (s6, ((named, p.0), register-spends room fs.0.1 e.0 n.0 fs.0.0 p.1 spends))))))));
+      step _ (start ws) (keyword-reads (codes "reg") ws) (λ a _ s1.
+      step _ s1 (mark-reads OpenBrace a) (λ b _ s2.
+      step _ s2 (fields-reads room b) (λ fs p s3.
+      step _ s3 (mark-reads CloseBrace fs.1) (λ c _ s4.
+      step _ s4 (name-reads c) (λ n named s5.
+      step _ s5 (finish-reads n.0 fs.0.1 n.1) (λ e spends s6.
+      done ((reg n.0 fs.0.0, e.0), e.1) (s6, ((named, p.0), register-spends room fs.0.1 e.0 n.0 fs.0.0 p.1 spends))))))));
 }
 
 pub register-takes : Takes register_at
 register-takes = record {
   takes = λ room ws x e. let p = (register-reads room ws).outcome.ok x e in
-    shorter ws x.1 (register_words x.0.0 (map sort_of x.1)) p.0.words (longer-register x.0.0 (map sort_of x.1));
+      shorter ws x.1 (register_words x.0.0 (map sort_of x.1)) p.0.words (longer-register x.0.0 (map sort_of x.1));
 }
 
 registers-reads : (room : Room) (ws : List Word)
@@ -392,13 +391,13 @@ top-reads : (room : Room) (ws : List Word) → Reads (top_at room ws) ws (λ x. 
 unfolding top_at top_words
 top-reads room ws = record {
   outcome =
-    step _ (start ws) (keyword-reads (codes "addrmap") ws) (λ a _ s1.
-    step _ s1 (name-reads a) (λ n named s2.
-    step _ s2 (mark-reads OpenBrace n.1) (λ b _ s3.
-    step _ s3 (registers-reads room b) (λ rs p s4.
-    step _ s4 (mark-reads CloseBrace rs.1) (λ c _ s5.
-    step _ s5 (finish-reads n.0 rs.0.1 c) (λ e spends s6.
-    done ((top n.0 rs.0.0, e.0), e.1) (s6, ((named, p.0), top-spends room rs.0.1 e.0 n.0 rs.0.0 p.1 spends))))))));
+      step _ (start ws) (keyword-reads (codes "addrmap") ws) (λ a _ s1.
+      step _ s1 (name-reads a) (λ n named s2.
+      step _ s2 (mark-reads OpenBrace n.1) (λ b _ s3.
+      step _ s3 (registers-reads room b) (λ rs p s4.
+      step _ s4 (mark-reads CloseBrace rs.1) (λ c _ s5.
+      step _ s5 (finish-reads n.0 rs.0.1 c) (λ e spends s6.
+      done ((top n.0 rs.0.0, e.0), e.1) (s6, ((named, p.0), top-spends room rs.0.1 e.0 n.0 rs.0.0 p.1 spends))))))));
 }
 
 end-reads : (ws : List Word) → Outcome (end_at ws) (λ _. ws ≡ []) (Stands ws)

@@ -1,5 +1,5 @@
 -- The words that are never names of definitions or instances. SystemRDL 2.0, keywords; the list is own.
-use Rattle.std.specs.Prelude.{ℕ, ◌==◌, Bool, false, IsTrue, ◌≡◌, List, [], ◌∷◌, codes}
+use Rattle.std.specs.Prelude.{ℕ, ◌==◌, Bool, false, ◌≡◌, List, [], ◌∷◌, codes}
 use Rattle.std.specs.List.{list_any}
 use Rattle.std.specs.Cmp.Lexicographic.{pointwise}
 

@@ -3,7 +3,7 @@ ghost use Rattle.std.specs.Prelude.{◌≡◌, ◌+◌, ◌-◌, ℕ, List, [], 
 ghost use Rattle.regedit.specs.FlatReading.{Gives, wrong_at, is_mark, is_keyword, begins, mark_at, keyword_at, name_by, name_at, number_at, fits, less, finish_at, size_at, reset_at, field_at, fields_at, register_at, registers_at, top_at, end_at, whole, map_at, one_register_at};
 ghost use Rattle.regedit.specs.FlatSpelling.{sort_of, SpellsMap, SpellsRegister};
 ghost use Rattle.regedit.specs.FlatMap.{Reg, Top, IsMapWithin, IsRegisterWithin};
-ghost use Rattle.regedit.specs.FlatFaults.{Stands};
+ghost use Rattle.regedit.specs.FlatFaults.{Stands, IsLimit};
 ghost use Rattle.rdl_text.specs.Word.{Word};
 
 use crate::flat::map::{AddressMap, Field, FlatMap, Register};
@@ -351,6 +351,8 @@ pub fn read_map(alloc: Global, words: &[Token<'_>]) -> Result<FlatMap, ReadFault
     ensures within { IfOk result (λ m. IsMapWithin m.top) }
     // Each map that is spelled within the limits is answered, unless memory runs out.
     ensures only { (m : Option Top) → SpellsMap words.now m → IsMapWithin m → MatchResult result (λ r. r.top ≡ m) (λ e. e ≡ ReadFault.Memory) }
+    // Where a map is spelled, a fault is a limit's.
+    ensures limit { (m : Option Top) → SpellsMap words.now m → IfErr result (λ e. IsLimit e) }
     ensures stands { IfErr result (λ e. Stands words.now e) }
 {
     map_of(alloc, words)
@@ -362,6 +364,8 @@ pub fn read_register(alloc: Global, words: &[Token<'_>]) -> Result<Register, Rea
     ensures within { IfOk result (λ r. IsRegisterWithin r) }
     // Each register that is spelled within the limits is answered, unless memory runs out.
     ensures only { (r : Reg) → SpellsRegister words.now r → IsRegisterWithin r → MatchResult result (λ q. q ≡ r) (λ e. e ≡ ReadFault.Memory) }
+    // Where a register is spelled, a fault is a limit's.
+    ensures limit { (r : Reg) → SpellsRegister words.now r → IfErr result (λ e. IsLimit e) }
     ensures stands { IfErr result (λ e. Stands words.now e) }
 {
     register_of(alloc, words)
@@ -370,11 +374,12 @@ pub fn read_register(alloc: Global, words: &[Token<'_>]) -> Result<Register, Rea
 /// No words spell two maps.
 pub fn one_map()
     ensures { (words : List Word) (m n : Option Top) → SpellsMap words m → SpellsMap words n → m ≡ n }
-{
-}
+{}
 
 /// No words spell two registers.
 pub fn one_register()
     ensures { (words : List Word) (q r : Reg) → SpellsRegister words q → SpellsRegister words r → q ≡ r }
-{
-}
+{}
+
+#[cfg(test)]
+mod tests;

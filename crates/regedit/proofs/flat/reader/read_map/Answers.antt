@@ -1,10 +1,11 @@
+use Rattle.std.proofs.Common.{◌≡◌}
 use Rattle.regedit.specs.FlatMap.{IsMapWithin}
 use Rattle.regedit.specs.FlatReading.{map_at}
 use Rattle.regedit.specs.FlatSpelling.{SpellsMap}
-use Rattle.regedit.proofs.FlatExact.{gives-ok, gives-err, gives-only}
+use Rattle.regedit.proofs.FlatExact.{gives-ok, gives-err, gives-only, gives-limit}
 use Rattle.regedit.proofs.FlatOutcomes.{weaker}
 use Rattle.regedit.proofs.FlatSound.{map-reads}
-use Rattle.regedit.proofs.FlatWhole.{map-found}
+use Rattle.regedit.proofs.FlatWhole.{Beyond, map-whole}
 use Rattle.regedit.proofs.flat.reader.read_map.Goals as goal
 
 pub returns-clause-found : goal.returns-clause-found
@@ -18,7 +19,10 @@ returns-clause-within c =
     (weaker (map-reads c.args.words.now) (λ x p. p.1) (λ _ _. tt))
 
 pub returns-clause-only : goal.returns-clause-only
-returns-clause-only c = λ m h w. gives-only (λ m. m.top) m c.map_of.result (map_at c.args.words.now) c.map_of.ensures (map-found m c.args.words.now h w)
+returns-clause-only c = λ m h w. gives-only (λ m. m.top) m (Beyond (IsMapWithin m)) c.map_of.result (map_at c.args.words.now) c.map_of.ensures (map-whole m c.args.words.now h) (λ e b. b.1 w)
+
+pub returns-clause-limit : goal.returns-clause-limit
+returns-clause-limit c = λ m h. gives-limit (λ m. m.top) (λ n. n ≡ m) (IsMapWithin m) c.map_of.result (map_at c.args.words.now) c.map_of.ensures (map-whole m c.args.words.now h)
 
 pub returns-clause-stands : goal.returns-clause-stands
 returns-clause-stands c = gives-err (λ m. m.top) _ c.args.words.now c.map_of.result (map_at c.args.words.now) c.map_of.ensures (map-reads c.args.words.now)

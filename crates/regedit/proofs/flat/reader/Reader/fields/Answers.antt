@@ -1,5 +1,5 @@
 use Rattle.std.proofs.lemmas.Result.{err_from_is_err_and}
-use Rattle.std.proofs.Common.{◌≡◌, ◌∙◌, sym, arith, true, false, refl}
+use Rattle.std.proofs.Common.{◌≡◌, ◌∙◌, sym, true, false}
 use Rattle.std.specs.Prelude.{codes}
 use Rattle.regedit.specs.FlatReading.{field_at, begins, is_keyword}
 use Rattle.regedit.proofs.FlatSound.{field-takes, many-done, many-next, many-fails}
