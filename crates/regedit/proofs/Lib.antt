@@ -6,5 +6,6 @@ pub mod FlatTurns
 pub mod FlatWhole
 pub mod ItemNames
 pub mod Pieces
+pub mod ReadingLemmas
 pub mod Rows
 pub mod Written

@@ -9,5 +9,7 @@ pub mod FlatSpelling
 pub mod FlatStep
 pub mod FlatText
 pub mod Known
+pub mod ReadingFaults
+pub mod Readings
 pub mod Reserved
 pub mod Seen

@@ -4,6 +4,7 @@
 mod flat;
 mod input;
 mod output;
+mod reading;
 mod reserved;
 mod script;
 mod status;
