@@ -14,4 +14,4 @@ mod rows;
 pub mod token;
 
 pub use cut::tokens;
-pub use places::place;
+pub use places::{byte_place, place};

@@ -9,7 +9,14 @@ pub fn place(text: &str, offset: usize) -> (usize, usize)
     ensures line { result.0 ≡ line text.now offset }
     ensures column { result.1 ≡ column text.now offset }
 {
-    let bytes = text.as_bytes();
+    byte_place(text.as_bytes(), offset)
+}
+
+/// The same of bytes that need not be a text.
+pub fn byte_place(bytes: &[u8], offset: usize) -> (usize, usize)
+    ensures line { result.0 ≡ line bytes.now offset }
+    ensures column { result.1 ≡ column bytes.now offset }
+{
     let before = if offset < bytes.len() {
         &bytes[..offset]
     } else {

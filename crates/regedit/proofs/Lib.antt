@@ -8,4 +8,6 @@ pub mod ItemNames
 pub mod Pieces
 pub mod ReadingLemmas
 pub mod Rows
+pub mod ScriptLines
+pub mod SoFar
 pub mod Written

@@ -18,6 +18,11 @@ abbrev pub lines_of : List ℕ → List (List ℕ)
 lines_of [] = [] ∷ []
 lines_of (c ∷ cs) = if nat_eq c 10 then [] ∷ lines_of cs else with_first c (lines_of cs)
 
+-- the lines of what is left of a script, if anything is
+abbrev pub lines_left : Option (List ℕ) → List (List ℕ)
+lines_left None = []
+lines_left (Some bytes) = lines_of bytes
+
 -- ---- Words: blanks at both ends are dropped, and spaces and tabs part the words between.
 
 -- space, tab, line feed, vertical tab, form feed, carriage return

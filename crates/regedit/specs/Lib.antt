@@ -1,3 +1,4 @@
+pub mod Answers
 pub mod Commands
 pub mod FlatBits
 pub mod FlatFault
@@ -9,7 +10,9 @@ pub mod FlatSpelling
 pub mod FlatStep
 pub mod FlatText
 pub mod Known
+pub mod Messages
 pub mod ReadingFaults
 pub mod Readings
 pub mod Reserved
+pub mod ScriptLines
 pub mod Seen

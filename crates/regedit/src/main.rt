@@ -5,8 +5,10 @@ mod flat;
 mod input;
 mod output;
 mod reading;
+mod reply;
 mod reserved;
 mod script;
+mod serve;
 mod status;
 
 fn main(_rt: HostRuntime) {}

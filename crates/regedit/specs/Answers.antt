@@ -1,0 +1,95 @@
+-- What each line of a script does to the history, and the run of a whole script. Own.
+use Rattle.std.specs.Prelude.{◌≡◌, ◌≢◌, ℕ, ◌+◌, Bool, true, false, List, [], ◌∷◌, length, string_bytes, Some}
+use Rattle.std.specs.List.{list_any}
+use Rattle.journal_core.specs.History.{History, IsAt, Edits, after_undo, after_redo}
+use Rattle.regedit.specs.Commands.{Command, nothing, undo, redo, list, add, refused, command_of}
+use Rattle.regedit.specs.FlatMap.{Reg}
+use Rattle.regedit.specs.FlatRows.{list_text}
+use Rattle.regedit.specs.FlatStep.{State, Leads, step}
+use Rattle.regedit.specs.Known.{concat}
+use Rattle.regedit.specs.Messages.{reply_text}
+use Rattle.regedit.specs.Readings.{ReadsRegister, RefusesRegister}
+use Rattle.regedit.specs.declared.flat.edit.Edit.{Edit}
+use Rattle.regedit.specs.declared.flat.edit.Refusal.{Refusal}
+use Rattle.regedit.specs.declared.reply.LineRefusal.TheVariants.{Command as OfCommand, Text, Edit as OfEdit, HistoryFull, NothingToUndo, NothingToRedo}
+use Rattle.regedit.specs.declared.reply.Reply.{Reply}
+use Rattle.regedit.specs.declared.reply.Reply.TheVariants.{Done, Listed, Refused}
+use Rattle.journal_core.specs.History as history
+use Rattle.regedit.specs.FlatStep as flat
+
+abbrev pub History' : Type 0
+History' = History State
+
+abbrev pub edit : List ℕ → Reg → Edit
+edit target r = record { target = target; register = r }
+
+-- the text was read and the edit made; what could be redone is dropped
+pub record Added (old : History') (target text : List ℕ) (new : History') : Type 0 where
+  pub register : Reg
+  pub read : ReadsRegister text register
+  pub room : old.place ≢ old.limit
+  pub made : Edits Leads (edit target register) old new
+
+-- the text was read, and the edit is refused at the place
+pub record NotAdded (old : History') (target text : List ℕ) (refusal : Refusal) : Type 0 where
+  pub register : Reg
+  pub read : ReadsRegister text register
+  pub room : old.place ≢ old.limit
+  pub refused : history.Refuses flat.Refuses (edit target register) old refusal
+
+-- the text was read, and the history is full
+pub record Full (old : History') (text : List ℕ) : Type 0 where
+  pub register : Reg
+  pub read : ReadsRegister text register
+  pub full : old.place ≡ old.limit
+
+-- the rows at the place
+pub record Lists (old : History') (text : List ℕ) : Type 0 where
+  pub now : State
+  pub at : IsAt old now
+  pub rows : text ≡ list_text (Some now.top)
+
+-- one line: a command, its reply, and the history before and after it; whatever is refused moves nothing
+abbrev pub Answers : History' → Command → Reply → History' → Type 0
+Answers old nothing Done new = new ≡ old
+Answers old undo Done new = (old.place ≢ 0) × (new ≡ after_undo old)
+Answers old undo (Refused NothingToUndo) new = (old.place ≡ 0) × (new ≡ old)
+Answers old redo Done new = (old.place + 1 ≢ length old.states) × (new ≡ after_redo old)
+Answers old redo (Refused NothingToRedo) new = (old.place + 1 ≡ length old.states) × (new ≡ old)
+Answers old list (Listed text) new = Lists old (string_bytes text) × (new ≡ old)
+Answers old (add target text) Done new = Added old target text new
+Answers old (add target text) (Refused (Text kind offset)) new = RefusesRegister text kind offset × (new ≡ old)
+Answers old (add target text) (Refused HistoryFull) new = Full old text × (new ≡ old)
+Answers old (add target text) (Refused (OfEdit refusal)) new = NotAdded old target text refusal × (new ≡ old)
+Answers old (refused fault) (Refused (OfCommand given)) new = (given ≡ fault) × (new ≡ old)
+Answers old c r new = ⊥
+
+-- the lines one after another
+abbrev pub Run : History' → List (List ℕ) → List Reply → History' → Type 0
+Run old [] [] new = new ≡ old
+Run old (line ∷ lines) (reply ∷ replies) new = (mid : History') × Answers old (command_of line) reply mid × Run mid lines replies new
+Run old lines replies new = ⊥
+
+abbrev pub is_refused : Reply → Bool
+is_refused Done = false
+is_refused (Listed text) = false
+is_refused (Refused refusal) = true
+
+-- the messages, of lines that count from this number
+abbrev pub messages_from : ℕ → List Reply → List (List ℕ)
+messages_from number [] = []
+messages_from number (reply ∷ replies) = reply_text number reply ∷ messages_from (number + 1) replies
+
+-- one line, which has this number: its message, and whether it is refused
+pub record Replied (old : History') (line : List ℕ) (number : ℕ) (text : List ℕ) (refuses : Bool) (new : History') : Type 0 where
+  pub reply : Reply
+  pub answers : Answers old (command_of line) reply new
+  pub text_is : text ≡ reply_text number reply
+  pub refuses_is : refuses ≡ is_refused reply
+
+-- these lines: their messages in a row, and whether one is refused
+pub record Serves (old : History') (lines : List (List ℕ)) (text : List ℕ) (refuses : Bool) (new : History') : Type 0 where
+  pub replies : List Reply
+  pub ran : Run old lines replies new
+  pub text_is : text ≡ concat (messages_from 1 replies)
+  pub refuses_is : refuses ≡ list_any is_refused replies

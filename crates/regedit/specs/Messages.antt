@@ -1,0 +1,91 @@
+-- The texts of messages. Own.
+use Rattle.std.specs.Prelude.{ℕ, ◌+◌, ◌-◌, ◌^◌, min, List, [], ◌∷◌, ◌++◌, codes, string_bytes}
+use Rattle.std.specs.Fmt.{decimal}
+use Rattle.rdl_text.specs.Place.{line, column}
+use Rattle.rdl_text.specs.declared.fault.FaultKind.{FaultKind as WordsFault}
+use Rattle.rdl_text.specs.declared.fault.FaultKind.TheVariants as words
+use Rattle.regedit.specs.FlatRows.{newline}
+use Rattle.regedit.specs.declared.flat.edit.Refusal.{Refusal}
+use Rattle.regedit.specs.declared.flat.edit.Refusal.TheVariants as refusals
+use Rattle.regedit.specs.declared.flat.fault.Fault.{Fault}
+use Rattle.regedit.specs.declared.flat.fault.FaultKind.{FaultKind}
+use Rattle.regedit.specs.declared.flat.fault.FaultKind.TheVariants as kinds
+use Rattle.regedit.specs.declared.flat.fault.ItemAddress.{ItemAddress}
+use Rattle.regedit.specs.declared.flat.fault.ItemAddress.TheVariants as at
+use Rattle.regedit.specs.declared.reading.TextFaultKind.{TextFaultKind}
+use Rattle.regedit.specs.declared.reading.TextFaultKind.TheVariants as texts
+use Rattle.regedit.specs.declared.reply.LineRefusal.{LineRefusal}
+use Rattle.regedit.specs.declared.reply.LineRefusal.TheVariants as lines
+use Rattle.regedit.specs.declared.reply.Reply.{Reply}
+use Rattle.regedit.specs.declared.reply.Reply.TheVariants as replies
+use Rattle.regedit.specs.declared.script.CommandFault.{CommandFault}
+use Rattle.regedit.specs.declared.script.CommandFault.TheVariants as commands
+
+-- want of memory ends the run, and has no message
+abbrev pub words_fault_text : WordsFault → List ℕ
+words_fault_text words.BadCharacter = codes "S1 bad character"
+words_fault_text words.UnendedComment = codes "S2 unended comment"
+words_fault_text words.UnendedString = codes "S3 unended string"
+words_fault_text words.NumberTooLarge = codes "S4 number over 64 bits"
+words_fault_text words.ValueTooWide = codes "S5 Verilog value does not fit its width"
+words_fault_text words.WidthOutOfRange = codes "S6 Verilog width out of range"
+words_fault_text words.IdentifierTooLong = codes "S7 identifier too long"
+words_fault_text words.Memory = []
+
+unfoldable pub text_fault_text : TextFaultKind → List ℕ
+text_fault_text (texts.Words fault) = words_fault_text fault
+text_fault_text texts.Unexpected = codes "S9 unexpected word"
+text_fault_text texts.End = codes "S10 unexpected end"
+text_fault_text texts.TooLarge = codes "S12 description too large"
+
+unfoldable pub fault_text : FaultKind → List ℕ
+fault_text kinds.NameTwice = codes "E1 name twice"
+fault_text kinds.OutOfRange = codes "E12 number out of range"
+fault_text kinds.NoTop = codes "E13 no top"
+fault_text kinds.PastRegister = codes "E21 field past register"
+fault_text kinds.ResetTooWide = codes "E23 reset too wide"
+fault_text kinds.TooLarge = codes "E25 description too large"
+
+-- item numbers parted by dots, or a dash for the root
+unfoldable pub address_text : ItemAddress → List ℕ
+address_text at.Root = codes "-"
+address_text (at.Register i) = codes "0." ++ decimal i
+address_text (at.Field i j) = codes "0." ++ decimal i ++ codes "." ++ decimal j
+
+unfoldable pub command_fault_text : CommandFault → List ℕ
+command_fault_text commands.Unknown = codes "C1 unknown command"
+command_fault_text commands.BadOperands = codes "C2 bad operands"
+command_fault_text commands.NotUtf8 = codes "C3 not UTF-8"
+
+unfoldable pub refusal_text : Refusal → List ℕ
+refusal_text refusals.NoSuchPath = codes "X1 no such path: P1 no such name"
+refusal_text refusals.NameTaken = codes "X3 name taken"
+refusal_text (refusals.Faulty fault) =
+    codes "X9 the edited map has a fault: " ++ fault_text fault.kind ++ codes " at item " ++ address_text fault.at
+refusal_text refusals.Memory = []
+
+-- the text of an `add` has no line feed, so its columns are its bytes, from 1; no text reaches the greatest number
+abbrev pub add_column : ℕ → ℕ
+add_column offset = min (offset + 1) (2 ^ 64 - 1)
+
+unfoldable pub line_refusal_text : LineRefusal → List ℕ
+line_refusal_text (lines.Command fault) = command_fault_text fault
+line_refusal_text (lines.Text kind offset) =
+    codes "C4 text refused: " ++ text_fault_text kind ++ codes " at column " ++ decimal (add_column offset)
+line_refusal_text (lines.Edit refusal) = refusal_text refusal
+line_refusal_text lines.HistoryFull = codes "J1 history full"
+line_refusal_text lines.NothingToUndo = codes "J2 nothing to undo"
+line_refusal_text lines.NothingToRedo = codes "J3 nothing to redo"
+
+-- the message of a line of the script, which counts from 1
+abbrev pub script_line : ℕ → List ℕ → List ℕ
+script_line number what = codes "script:" ++ decimal number ++ codes ": " ++ what ++ newline
+
+unfoldable pub reply_text : ℕ → Reply → List ℕ
+reply_text number replies.Done = []
+reply_text number (replies.Listed text) = string_bytes text
+reply_text number (replies.Refused refusal) = script_line number (line_refusal_text refusal)
+
+-- the message of a map that is refused
+abbrev pub map_line : (line column : ℕ) → List ℕ → List ℕ
+map_line line column what = codes "map:" ++ decimal line ++ codes ":" ++ decimal column ++ codes ": " ++ what ++ newline

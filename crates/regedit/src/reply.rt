@@ -1,0 +1,178 @@
+//! What a line of a script is answered.
+ghost use Rattle.std.specs.Prelude.{◌≡◌, ◌++◌, ◌+◌, ◌<◌, ◌^◌, string_bytes, IfOk, OnOk};
+ghost use Rattle.regedit.specs.Answers.{is_refused};
+ghost use Rattle.regedit.specs.Messages.{
+    words_fault_text, text_fault_text, fault_text, address_text, command_fault_text, refusal_text, line_refusal_text, reply_text, map_line
+};
+
+use crate::flat::edit::Refusal;
+use crate::flat::fault::{FaultKind, ItemAddress};
+use crate::reading::TextFaultKind;
+use crate::script::CommandFault;
+use rdl_text::fault::FaultKind as WordsFault;
+use std::alloc::{AllocError, Global};
+
+/// Why a line is refused.
+#[derive(Debug, Drop)]
+pub enum LineRefusal {
+    /// C1 to C3.
+    Command(CommandFault),
+    /// C4: the text of an `add` has this fault, at this byte.
+    Text(TextFaultKind, usize),
+    /// The map refuses the edit.
+    Edit(Refusal),
+    /// J1.
+    HistoryFull,
+    /// J2.
+    NothingToUndo,
+    /// J3.
+    NothingToRedo,
+}
+
+/// What a line is answered.
+#[derive(Debug, Drop)]
+pub enum Reply {
+    /// It was done, and there is nothing to say.
+    Done,
+    /// The lines of `list`.
+    Listed(String),
+    Refused(LineRefusal),
+}
+
+impl Reply {
+    pub fn is_refused(&self) -> bool
+        ensures { result ≡ is_refused self.now }
+    {
+        matches!(self, Reply::Refused(_))
+    }
+}
+
+fn words_fault_text(fault: WordsFault) -> &'static str
+    ensures { result.now ≡ words_fault_text fault }
+{
+    match fault {
+        WordsFault::BadCharacter => "S1 bad character",
+        WordsFault::UnendedComment => "S2 unended comment",
+        WordsFault::UnendedString => "S3 unended string",
+        WordsFault::NumberTooLarge => "S4 number over 64 bits",
+        WordsFault::ValueTooWide => "S5 Verilog value does not fit its width",
+        WordsFault::WidthOutOfRange => "S6 Verilog width out of range",
+        WordsFault::IdentifierTooLong => "S7 identifier too long",
+        WordsFault::Memory => "",
+    }
+}
+
+#[tactic(auto, unfolding(crate::specs::Messages::text_fault_text))]
+pub fn text_fault_text(kind: TextFaultKind) -> &'static str
+    ensures { result.now ≡ text_fault_text kind }
+{
+    match kind {
+        TextFaultKind::Words(fault) => words_fault_text(fault),
+        TextFaultKind::Unexpected => "S9 unexpected word",
+        TextFaultKind::End => "S10 unexpected end",
+        TextFaultKind::TooLarge => "S12 description too large",
+    }
+}
+
+#[tactic(auto, unfolding(crate::specs::Messages::fault_text))]
+pub fn fault_text(kind: FaultKind) -> &'static str
+    ensures { result.now ≡ fault_text kind }
+{
+    match kind {
+        FaultKind::NameTwice => "E1 name twice",
+        FaultKind::OutOfRange => "E12 number out of range",
+        FaultKind::NoTop => "E13 no top",
+        FaultKind::PastRegister => "E21 field past register",
+        FaultKind::ResetTooWide => "E23 reset too wide",
+        FaultKind::TooLarge => "E25 description too large",
+    }
+}
+
+#[tactic(auto, unfolding(crate::specs::Messages::command_fault_text))]
+fn command_fault_text(fault: CommandFault) -> &'static str
+    ensures { result.now ≡ command_fault_text fault }
+{
+    match fault {
+        CommandFault::Unknown => "C1 unknown command",
+        CommandFault::BadOperands => "C2 bad operands",
+        CommandFault::NotUtf8 => "C3 not UTF-8",
+    }
+}
+
+#[tactic(auto, unfolding(crate::specs::Messages::address_text))]
+fn push_address(text: &mut String, address: ItemAddress) -> Result<(), AllocError>
+    ensures { OnOk result (string_bytes text.new ≡ string_bytes text.old ++ address_text address) }
+{
+    match address {
+        ItemAddress::Root => text.push_str("-"),
+        ItemAddress::Register(i) => write!(text, "0.{i}"),
+        ItemAddress::Field(i, j) => write!(text, "0.{i}.{j}"),
+    }
+}
+
+#[tactic(auto, unfolding(crate::specs::Messages::refusal_text))]
+fn push_refusal(text: &mut String, refusal: &Refusal) -> Result<(), AllocError>
+    ensures { OnOk result (string_bytes text.new ≡ string_bytes text.old ++ refusal_text refusal.now) }
+{
+    match refusal {
+        Refusal::NoSuchPath => text.push_str("X1 no such path: P1 no such name"),
+        Refusal::NameTaken => text.push_str("X3 name taken"),
+        Refusal::Faulty(fault) => {
+            text.push_str("X9 the edited map has a fault: ")?;
+            text.push_str(fault_text(fault.kind))?;
+            text.push_str(" at item ")?;
+            push_address(text, fault.at)
+        }
+        Refusal::Memory => Ok(()),
+    }
+}
+
+#[tactic(auto, unfolding(crate::specs::Messages::line_refusal_text))]
+fn push_line_refusal(text: &mut String, refusal: &LineRefusal) -> Result<(), AllocError>
+    ensures { OnOk result (string_bytes text.new ≡ string_bytes text.old ++ line_refusal_text refusal.now) }
+{
+    match refusal {
+        LineRefusal::Command(fault) => text.push_str(command_fault_text(*fault)),
+        LineRefusal::Text(kind, offset) => {
+            let what = text_fault_text(*kind);
+            let column = offset.saturating_add(1);
+            write!(text, "C4 text refused: {what} at column {column}")
+        }
+        LineRefusal::Edit(refusal) => push_refusal(text, refusal),
+        LineRefusal::HistoryFull => text.push_str("J1 history full"),
+        LineRefusal::NothingToUndo => text.push_str("J2 nothing to undo"),
+        LineRefusal::NothingToRedo => text.push_str("J3 nothing to redo"),
+    }
+}
+
+/// The message of a line of the script, which counts from 1.
+#[tactic(auto, unfolding(crate::specs::Messages::reply_text))]
+pub fn reply_text(alloc: Global, number: usize, reply: Reply) -> Result<String, AllocError>
+    ensures { IfOk result (λ text. string_bytes text ≡ reply_text number reply) }
+{
+    match reply {
+        Reply::Done => Ok(String::new(alloc)),
+        Reply::Listed(text) => Ok(text),
+        Reply::Refused(refusal) => {
+            let mut text = String::new(alloc);
+            write!(text, "script:{number}: ")?;
+            push_line_refusal(&mut text, &refusal)?;
+            text.push_str("\n")?;
+            Ok(text)
+        }
+    }
+}
+
+/// The message of a map that is refused.
+pub fn map_line(
+    alloc: Global,
+    place: (usize, usize),
+    what: &str,
+) -> Result<String, AllocError>
+    ensures { IfOk result (λ text. string_bytes text ≡ map_line place.0 place.1 what.now) }
+{
+    let mut text = String::new(alloc);
+    let (line, column) = place;
+    write!(text, "map:{line}:{column}: {what}\n")?;
+    Ok(text)
+}

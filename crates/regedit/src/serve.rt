@@ -1,0 +1,168 @@
+//! One line of a script after another.
+ghost use Rattle.std.specs.Prelude.{◌≡◌, ◌⊎◌, ℕ, ◌≤◌, ◌<◌, ◌^◌, List, ◌∷◌, length, string_bytes, IfOk, IfErr, IsOkUnless};
+ghost use Rattle.std.specs.Io.KnownBytes.{Appends};
+ghost use Rattle.std.specs.List.{prefix_len};
+ghost use Rattle.std.specs.Option.{option_copied};
+ghost use Rattle.regedit.specs.Answers.{Answers, Replied, Serves};
+ghost use Rattle.regedit.specs.Commands.{add, undo, redo, lines_of, lines_left};
+ghost use Rattle.regedit.specs.ScriptLines.{is_in_line, left_len};
+ghost use Rattle.regedit.specs.Seen.{seen};
+
+use crate::flat::edit::{Edit, EditedMap, Refusal};
+use crate::output::write_whole;
+use crate::reading::{ReadingFault, register_of};
+use crate::reply::{LineRefusal, Reply, reply_text};
+use crate::script::{Request, request_of};
+use crate::status::RunFault;
+use journal_core::fault::{EditFault, StepFault};
+use journal_core::journal::Journal;
+use rdl_text::name::Name;
+use std::alloc::Global;
+use std::io::Write;
+
+fn add(
+    alloc: Global,
+    journal: &mut Journal<EditedMap>,
+    target: Name,
+    text: &[u8],
+) -> Result<Reply, RunFault>
+    ensures answers { IfOk result (λ reply. Answers journal.old (add target text.now) reply journal.new) }
+    ensures fault { IsOkUnless result RunFault.Memory }
+{
+    let register = match register_of(alloc, text) {
+        Ok(register) => register,
+        Err(ReadingFault::Refused(kind, at)) => {
+            return Ok(Reply::Refused(LineRefusal::Text(kind, at)));
+        }
+        Err(ReadingFault::Memory) => return Err(RunFault::Memory),
+    };
+    let edit = Edit { target, register };
+    match journal.edit(alloc, &edit) {
+        Ok(()) => Ok(Reply::Done),
+        Err(EditFault::Full) => Ok(Reply::Refused(LineRefusal::HistoryFull)),
+        Err(EditFault::Refused(Refusal::Memory)) => Err(RunFault::Memory),
+        Err(EditFault::Refused(refusal)) => Ok(Reply::Refused(LineRefusal::Edit(refusal))),
+        Err(EditFault::Memory) => Err(RunFault::Memory),
+    }
+}
+
+fn undo(alloc: Global, journal: &mut Journal<EditedMap>) -> Result<Reply, RunFault>
+    ensures answers { IfOk result (λ reply. Answers journal.old undo reply journal.new) }
+    ensures fault { IsOkUnless result RunFault.Memory }
+{
+    match journal.undo(alloc) {
+        Ok(()) => Ok(Reply::Done),
+        Err(StepFault::Nothing) => Ok(Reply::Refused(LineRefusal::NothingToUndo)),
+        Err(StepFault::Memory) => Err(RunFault::Memory),
+    }
+}
+
+fn redo(alloc: Global, journal: &mut Journal<EditedMap>) -> Result<Reply, RunFault>
+    ensures answers { IfOk result (λ reply. Answers journal.old redo reply journal.new) }
+    ensures fault { IsOkUnless result RunFault.Memory }
+{
+    match journal.redo(alloc) {
+        Ok(()) => Ok(Reply::Done),
+        Err(StepFault::Nothing) => Ok(Reply::Refused(LineRefusal::NothingToRedo)),
+        Err(StepFault::Memory) => Err(RunFault::Memory),
+    }
+}
+
+/// Does what a line asks for.
+pub fn serve(
+    alloc: Global,
+    journal: &mut Journal<EditedMap>,
+    request: Request<'_>,
+) -> Result<Reply, RunFault>
+    ensures answers { IfOk result (λ reply. Answers journal.old (seen request.entry) reply journal.new) }
+    ensures fault { IsOkUnless result RunFault.Memory }
+{
+    match request {
+        Request::Nothing => Ok(Reply::Done),
+        Request::Undo => undo(alloc, journal),
+        Request::Redo => redo(alloc, journal),
+        Request::List => match journal.map().list_text(alloc) {
+            Ok(text) => Ok(Reply::Listed(text)),
+            Err(_) => Err(RunFault::Memory),
+        },
+        Request::Add(target, text) => add(alloc, journal, target, text),
+        Request::Refused(fault) => Ok(Reply::Refused(LineRefusal::Command(fault))),
+    }
+}
+
+fn line_len(bytes: &[u8]) -> usize
+    ensures count { result ≡ prefix_len is_in_line bytes.now }
+    ensures within { result ≤ length bytes.now }
+{
+    bytes.iter().take_while(|byte| **byte != b'\n').count()
+}
+
+/// The first line, and what stands behind its line feed, if it has one.
+fn split_line(bytes: &[u8]) -> (&[u8], Option<&[u8]>)
+    ensures lines { lines_of bytes.now ≡ result.0.now ∷ lines_left (option_copied result.1) }
+    ensures less { left_len (option_copied result.1) ≤ length bytes.now }
+{
+    let end = line_len(bytes);
+    if end < bytes.len() {
+        (&bytes[..end], Some(&bytes[end + 1..]))
+    } else {
+        (bytes, None)
+    }
+}
+
+/// One line's message, and whether it is refused.
+fn serve_line(
+    alloc: Global,
+    journal: &mut Journal<EditedMap>,
+    number: usize,
+    line: &[u8],
+) -> Result<(String, bool), RunFault>
+    ensures replied { IfOk result (λ r. Replied journal.old line.now number (string_bytes r.0) r.1 journal.new) }
+    ensures fault { IsOkUnless result RunFault.Memory }
+{
+    let request = match request_of(alloc, line) {
+        Ok(request) => request,
+        Err(_) => return Err(RunFault::Memory),
+    };
+    let reply = match serve(alloc, journal, request) {
+        Ok(reply) => reply,
+        Err(_) => return Err(RunFault::Memory),
+    };
+    let refused = reply.is_refused();
+    match reply_text(alloc, number, reply) {
+        Ok(text) => Ok((text, refused)),
+        Err(_) => Err(RunFault::Memory),
+    }
+}
+
+/// Serves the lines of a script, and writes the messages of each before the next is served. Answers whether one was
+/// refused.
+pub fn serve_all<E: Write>(
+    alloc: Global,
+    journal: &mut Journal<EditedMap>,
+    script: &[u8],
+    messages: &mut E,
+) -> Result<bool, RunFault>
+    requires { length script.now < 2 ^ 32 }
+    ensures served { IfOk result (λ refused. (text : List ℕ) × (Serves journal.old (lines_of script.now) text refused journal.new) × (Appends (E.contents messages.old) (E.contents messages.new) text)) }
+    ensures fault { IfErr result (λ fault. (fault ≡ RunFault.Memory) ⊎ (fault ≡ RunFault.Write)) }
+{
+    let mut interrupts = 0usize;
+    let mut number = 0usize;
+    let mut refused = false;
+    let mut rest = Some(script);
+    'lines: while let Some(bytes) = rest {
+        let (line, behind) = split_line(bytes);
+        number += 1;
+        let (text, refuses) = match serve_line(alloc, journal, number, line) {
+            Ok(said) => said,
+            Err(_) => return Err(RunFault::Memory),
+        };
+        if write_whole(messages, &mut interrupts, text.as_bytes()).is_err() {
+            return Err(RunFault::Write);
+        }
+        refused = refused || refuses;
+        rest = behind;
+    }
+    Ok(refused)
+}
