@@ -1,4 +1,5 @@
 pub mod FlatExact
+pub mod FlatNamed
 pub mod FlatOutcomes
 pub mod FlatSound
 pub mod FlatTurns

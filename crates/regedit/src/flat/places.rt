@@ -1,8 +1,9 @@
 //! Where each item of a map stands among the map's words.
-ghost use Rattle.std.specs.Prelude.{◌≡◌, ◌≤◌, ◌*◌, [], length, take, sum_by};
-ghost use Rattle.regedit.specs.FlatMap.{IsMapWithin, register_items};
+ghost use Rattle.std.specs.Prelude.{◌≡◌, ◌≤◌, ◌*◌, ℕ, List, [], Option, length, map, slice_get, sum_by, take};
+ghost use Rattle.rdl_text.specs.Word.{Word};
+ghost use Rattle.regedit.specs.FlatMap.{IsMapWithin, Reg, Top, register_items};
 ghost use Rattle.regedit.specs.FlatPlaces.{field_len, register_len, word_in, word_of};
-ghost use Rattle.regedit.specs.FlatSpelling.{size_words, reset_words};
+ghost use Rattle.regedit.specs.FlatSpelling.{SpellsMap, identifier, reset_words, size_words, sort_of};
 
 use crate::flat::map::{Field, FlatMap, Register};
 use rdl_text::token::Number;
@@ -93,4 +94,11 @@ pub fn word_of(map: &FlatMap, register: Option<usize>, field: Option<usize>) -> 
         return 0;
     }
     3 + registers_len(&top.registers[..i]) + word_in(&top.registers[i], field)
+}
+
+/// In the words that spell a map, the word of a register or of a field is its name.
+pub fn words_are_names()
+    ensures registers { (words : List Word) (t : Top) (i : ℕ) (r : Reg) → SpellsMap words (Some t) → slice_get t.registers i ≡ Some r → slice_get (map sort_of words) (word_of (Some t) (Some i) None) ≡ Some (identifier r.name) }
+    ensures fields { (words : List Word) (t : Top) (i : ℕ) (j : ℕ) (r : Reg) (f : Field) → SpellsMap words (Some t) → slice_get t.registers i ≡ Some r → slice_get r.fields j ≡ Some f → slice_get (map sort_of words) (word_of (Some t) (Some i) (Some j)) ≡ Some (identifier f.name) }
+{
 }

@@ -1,6 +1,6 @@
 //! Reading: from words to a map or a register of the flat language.
-ghost use Rattle.std.specs.Prelude.{◌≡◌, ◌+◌, ◌-◌, ℕ, List, [], ◌∷◌, length, Option, IfOk, IfErr, MatchResult};
-ghost use Rattle.regedit.specs.FlatReading.{Gives, wrong_at, is_mark, is_keyword, begins, mark_at, keyword_at, name_by, name_at, number_at, fits, less, finish_at, size_at, reset_at, field_at, fields_at, register_at, registers_at, top_at, end_at, whole, map_at, one_register_at};
+ghost use Rattle.std.specs.Prelude.{◌≡◌, List, [], Option, IfOk, IfErr, MatchResult};
+ghost use Rattle.regedit.specs.FlatReading.{Gives, wrong_at, is_mark, is_keyword, begins, mark_at, keyword_at, name_by, name_at, number_at, fits, finish_at, size_at, reset_at, field_at, fields_at, register_at, registers_at, top_at, end_at, map_at, one_register_at};
 ghost use Rattle.regedit.specs.FlatSpelling.{sort_of, SpellsMap, SpellsRegister};
 ghost use Rattle.regedit.specs.FlatMap.{Reg, Top, IsMapWithin, IsRegisterWithin};
 ghost use Rattle.regedit.specs.FlatFaults.{Stands, IsLimit};
