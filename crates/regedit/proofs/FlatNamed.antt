@@ -1,14 +1,13 @@
 -- The word at the place of an item is its name.
-use Rattle.std.proofs.Common.{◌≡◌, ℕ, zero, suc, ◌+◌, List, [], ◌∷◌, length, map, take, sum_by, Option, None, Some, refl, ap, sym, ◌∙◌, arith}
-use Rattle.std.specs.Prelude.{slice_get, codes}
+use Rattle.std.proofs.Common.{◌≡◌, ℕ, zero, suc, ◌+◌, List, [], ◌∷◌, length, map, take, sum_by, Option, None, Some, refl, ap, ◌∙◌, arith}
+use Rattle.std.specs.Prelude.{slice_get}
 use Rattle.std.proofs.lemmas.List.Sums.{sum_by-cons}
 use Rattle.rdl_text.specs.Word.{Word}
-use Rattle.rdl_text.specs.declared.token.Mark.TheVariants.{OpenBrace, CloseBrace, Semicolon}
+use Rattle.rdl_text.specs.declared.token.Mark.TheVariants.{CloseBrace, Semicolon}
 use Rattle.regedit.specs.declared.flat.map.Field.{Field}
 use Rattle.regedit.specs.FlatMap.{Reg, Top}
 use Rattle.regedit.specs.FlatPlaces.{field_len, register_len, word_in, word_behind, word_of}
 use Rattle.regedit.specs.FlatSpelling.{Sort, identifier, mark, sort_of, size_words, reset_words, field_words, fields_words, register_words, registers_words, SpellsMap}
-
 
 -- ---- Past a part.
 

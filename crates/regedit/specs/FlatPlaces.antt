@@ -1,5 +1,5 @@
 -- Where each item of a map of the flat language stands among the map's words. Own.
-use Rattle.std.specs.Prelude.{ℕ, ◌+◌, List, [], length, take, sum_by, slice_get, Option, None, Some}
+use Rattle.std.specs.Prelude.{ℕ, ◌+◌, [], length, take, sum_by, slice_get, Option, None, Some}
 use Rattle.regedit.specs.declared.flat.map.Field.{Field}
 use Rattle.regedit.specs.FlatMap.{Reg, Top}
 use Rattle.regedit.specs.FlatSpelling.{size_words, reset_words}

@@ -100,5 +100,4 @@ pub fn word_of(map: &FlatMap, register: Option<usize>, field: Option<usize>) -> 
 pub fn words_are_names()
     ensures registers { (words : List Word) (t : Top) (i : ℕ) (r : Reg) → SpellsMap words (Some t) → slice_get t.registers i ≡ Some r → slice_get (map sort_of words) (word_of (Some t) (Some i) None) ≡ Some (identifier r.name) }
     ensures fields { (words : List Word) (t : Top) (i : ℕ) (j : ℕ) (r : Reg) (f : Field) → SpellsMap words (Some t) → slice_get t.registers i ≡ Some r → slice_get r.fields j ≡ Some f → slice_get (map sort_of words) (word_of (Some t) (Some i) (Some j)) ≡ Some (identifier f.name) }
-{
-}
+{}
