@@ -345,7 +345,8 @@ fn register_of(alloc: Global, words: &[Token<'_>]) -> Result<Register, ReadFault
     Ok(register)
 }
 
-/// The map that the words spell.
+/// The map that the words spell. Reading stops at the first word with which no text of the language goes on, at the end
+/// of the words, or at the `;` after which the finished statements pass a limit, whichever comes first.
 pub fn read_map(alloc: Global, words: &[Token<'_>]) -> Result<FlatMap, ReadFault>
     ensures found { IfOk result (λ m. SpellsMap words.now m.top) }
     ensures within { IfOk result (λ m. IsMapWithin m.top) }
@@ -358,7 +359,7 @@ pub fn read_map(alloc: Global, words: &[Token<'_>]) -> Result<FlatMap, ReadFault
     map_of(alloc, words)
 }
 
-/// The register that the words spell, as exactly one statement.
+/// The register that the words spell, as exactly one statement. Reading stops as in [`read_map`].
 pub fn read_register(alloc: Global, words: &[Token<'_>]) -> Result<Register, ReadFault>
     ensures found { IfOk result (λ r. SpellsRegister words.now r) }
     ensures within { IfOk result (λ r. IsRegisterWithin r) }
