@@ -120,8 +120,8 @@ finished name room (w ∷ ws) after e =
     let is : is_mark Semicolon (sort_of w) ≡ true = ap (is_mark Semicolon) i in
     split (is_mark Semicolon (sort_of w)) _ _
     (λ _. split (fits name room) _ _
-      (λ h. done (less name room, ws) (k, fits-spends name room h))
-      (λ h. stopped (TooLarge w.start) (record { large = tt; over = unfit name room h })))
+    (λ h. done (less name room, ws) (k, fits-spends name room h))
+    (λ h. stopped (TooLarge w.start) (record { large = tt; over = unfit name room h })))
     (λ no. absurd cc)
 
 -- ---- A field.
@@ -186,8 +186,7 @@ module _ {X : Type 0} (k : List ℕ) (same : is_keyword k (identifier k) ≡ tru
     (some : (x : X) (xs : List X) (after : List Sort) → words (x ∷ xs) after ≡ identifier k ∷ tail x (words xs after))
     (N : X → Type 0) (items weight : X → ℕ)
     (one-whole : (x : X) (room : Room) (ws : List Word) (after : List Sort) → map sort_of ws ≡ identifier k ∷ tail x after → N x
-      → Outcome (one room ws) (IsWhole x after room (items x) (weight x)) (Over room (items x) (weight x))) where
-
+    → Outcome (one room ws) (IsWhole x after room (items x) (weight x)) (Over room (items x) (weight x))) where
   more-whole : (x : X) (xs : List X) (s : List X × Room) (after rest : List Sort) (y : (X × Room) × List Word) → IsWhole x rest s.1 (items x) (weight x) y
       → Outcome (many_at k one (s.0 ++ (y.0.0 ∷ []), y.0.1) y.1) (IsWhole ((s.0 ++ (y.0.0 ∷ [])) ++ xs) (mark CloseBrace ∷ after) y.0.1 (sum_by items xs) (sum_by weight xs)) (Over y.0.1 (sum_by items xs) (sum_by weight xs))
       → Outcome (many_at k one (s.0 ++ (y.0.0 ∷ []), y.0.1) y.1) (IsWhole (s.0 ++ (x ∷ xs)) (mark CloseBrace ∷ after) s.1 (sum_by items (x ∷ xs)) (sum_by weight (x ∷ xs))) (Over s.1 (sum_by items (x ∷ xs)) (sum_by weight (x ∷ xs)))
@@ -198,13 +197,13 @@ module _ {X : Type 0} (k : List ℕ) (same : is_keyword k (identifier k) ≡ tru
       let d = p.spends.weight_spent in
       weaker q
       (λ z w.
-        let f = w.spends.items_spent in
-        let g = w.spends.weight_spent in
-        record {
-          same = w.same ∙ ap (λ z. (s.0 ++ (z ∷ [])) ++ xs) p.same ∙ append_snoc s.0 x xs;
-          rest = w.rest;
-          spends = record { items_spent = omega arith; weight_spent = omega arith };
-        })
+      let f = w.spends.items_spent in
+      let g = w.spends.weight_spent in
+      record {
+        same = w.same ∙ ap (λ z. (s.0 ++ (z ∷ [])) ++ xs) p.same ∙ append_snoc s.0 x xs;
+        rest = w.rest;
+        spends = record { items_spent = omega arith; weight_spent = omega arith };
+      })
       (λ e o. record { large = o.large; over = λ i j. o.over (omega arith) (omega arith) })
 
   first-over : (x : X) (xs : List X) (room : Room) (e : ReadFault) → Over room (items x) (weight x) e → Over room (sum_by items (x ∷ xs)) (sum_by weight (x ∷ xs)) e

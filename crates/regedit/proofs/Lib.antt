@@ -1,5 +1,6 @@
 pub mod Accepted
 pub mod FlatExact
+pub mod FlatNamed
 pub mod FlatOutcomes
 pub mod FlatSound
 pub mod FlatTurns

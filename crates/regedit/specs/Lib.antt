@@ -4,6 +4,7 @@ pub mod FlatBits
 pub mod FlatFault
 pub mod FlatFaults
 pub mod FlatMap
+pub mod FlatPlaces
 pub mod FlatReading
 pub mod FlatRows
 pub mod FlatSpelling

@@ -2,6 +2,7 @@
 pub mod edit;
 pub mod fault;
 pub mod map;
+pub mod places;
 pub mod reader;
 pub mod rows;
 pub mod text;

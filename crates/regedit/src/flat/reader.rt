@@ -1,6 +1,6 @@
 //! Reading: from words to a map or a register of the flat language.
-ghost use Rattle.std.specs.Prelude.{◌≡◌, ◌+◌, ◌-◌, ℕ, List, [], ◌∷◌, length, Option, IfOk, IfErr, MatchResult};
-ghost use Rattle.regedit.specs.FlatReading.{Gives, wrong_at, is_mark, is_keyword, begins, mark_at, keyword_at, name_by, name_at, number_at, fits, less, finish_at, size_at, reset_at, field_at, fields_at, register_at, registers_at, top_at, end_at, whole, map_at, one_register_at};
+ghost use Rattle.std.specs.Prelude.{◌≡◌, List, [], Option, IfOk, IfErr, MatchResult};
+ghost use Rattle.regedit.specs.FlatReading.{Gives, wrong_at, is_mark, is_keyword, begins, mark_at, keyword_at, name_by, name_at, number_at, fits, finish_at, size_at, reset_at, field_at, fields_at, register_at, registers_at, top_at, end_at, map_at, one_register_at};
 ghost use Rattle.regedit.specs.FlatSpelling.{sort_of, SpellsMap, SpellsRegister};
 ghost use Rattle.regedit.specs.FlatMap.{Reg, Top, IsMapWithin, IsRegisterWithin};
 ghost use Rattle.regedit.specs.FlatFaults.{Stands, IsLimit};
@@ -345,7 +345,8 @@ fn register_of(alloc: Global, words: &[Token<'_>]) -> Result<Register, ReadFault
     Ok(register)
 }
 
-/// The map that the words spell.
+/// The map that the words spell. Reading stops at the first word with which no text of the language goes on, at the end
+/// of the words, or at the `;` after which the finished statements pass a limit, whichever comes first.
 pub fn read_map(alloc: Global, words: &[Token<'_>]) -> Result<FlatMap, ReadFault>
     ensures found { IfOk result (λ m. SpellsMap words.now m.top) }
     ensures within { IfOk result (λ m. IsMapWithin m.top) }
@@ -358,7 +359,7 @@ pub fn read_map(alloc: Global, words: &[Token<'_>]) -> Result<FlatMap, ReadFault
     map_of(alloc, words)
 }
 
-/// The register that the words spell, as exactly one statement.
+/// The register that the words spell, as exactly one statement. Reading stops as in [`read_map`].
 pub fn read_register(alloc: Global, words: &[Token<'_>]) -> Result<Register, ReadFault>
     ensures found { IfOk result (λ r. SpellsRegister words.now r) }
     ensures within { IfOk result (λ r. IsRegisterWithin r) }

@@ -35,8 +35,14 @@ fn says_where_a_map_goes_wrong(rt: HostRuntime) -> Result<(), Fail> {
         ("reg { } a;", ReadFault::Unexpected(0)),
         ("addrmap reg { };", ReadFault::Unexpected(8)),
         ("addrmap top { };;", ReadFault::Unexpected(16)),
-        ("addrmap top { reg { field {} f = 5[8]; } a; };", ReadFault::Unexpected(34)),
-        ("addrmap top { reg { field {} f, g; } a; };", ReadFault::Unexpected(30)),
+        (
+            "addrmap top { reg { field {} f = 5[8]; } a; };",
+            ReadFault::Unexpected(34),
+        ),
+        (
+            "addrmap top { reg { field {} f, g; } a; };",
+            ReadFault::Unexpected(30),
+        ),
         ("addrmap top { reg { } a; }", ReadFault::End),
     ];
     for (text, want) in &cases {
@@ -49,11 +55,19 @@ fn says_where_a_map_goes_wrong(rt: HostRuntime) -> Result<(), Fail> {
 
 #[test]
 fn reads_one_register(rt: HostRuntime) -> Result<(), Fail> {
-    let words = tokens(rt.alloc(), "reg { field {} f; } a;").ok().ok_or("words")?;
-    let register = read_register(rt.alloc(), words.as_slice()).ok().ok_or("register")?;
+    let words = tokens(rt.alloc(), "reg { field {} f; } a;")
+        .ok()
+        .ok_or("words")?;
+    let register = read_register(rt.alloc(), words.as_slice())
+        .ok()
+        .ok_or("register")?;
     assert_eq!(rt; register.name.as_str(), "a");
-    let words = tokens(rt.alloc(), "reg {} a; reg {} b;").ok().ok_or("words")?;
-    let fault = read_register(rt.alloc(), words.as_slice()).err().ok_or("fault")?;
+    let words = tokens(rt.alloc(), "reg {} a; reg {} b;")
+        .ok()
+        .ok_or("words")?;
+    let fault = read_register(rt.alloc(), words.as_slice())
+        .err()
+        .ok_or("fault")?;
     assert_eq!(rt; fault, ReadFault::Unexpected(10));
     Ok(())
 }
