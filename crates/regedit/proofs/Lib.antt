@@ -9,6 +9,7 @@ pub mod ItemNames
 pub mod Pieces
 pub mod ReadingLemmas
 pub mod Rows
+pub mod RunLemmas
 pub mod ScriptLines
 pub mod SoFar
 pub mod Written

@@ -1,7 +1,8 @@
 -- The first line of a script, and what stands behind it.
-use Rattle.std.proofs.Common.{◌≡◌, ℕ, suc, ◌+◌, ◌≤◌, ◌<◌, Bool, true, false, not, nat_eq, List, [], ◌∷◌, length, take, drop, refl, sym, ap, ◌∙◌, arith}
+use Rattle.std.proofs.Common.{◌≡◌, ℕ, suc, ◌+◌, ◌≤◌, ◌<◌, Bool, true, false, not, nat_eq, List, [], ◌∷◌, length, take, drop, refl, sym, ap, ◌∙◌, subst, ◌-◌, arith}
 use Rattle.std.specs.Prelude.{cond, if◌then◌else◌}
 use Rattle.std.specs.List.{prefix_len}
+use Rattle.std.proofs.lemmas.List.{take_rest}
 use Rattle.regedit.specs.Commands.{lines_of, with_first}
 use Rattle.regedit.specs.ScriptLines.{is_in_line}
 
@@ -27,3 +28,13 @@ lines-more (c ∷ cs) h =
         ∙ sym (ap (λ (l : List ℕ). l ∷ lines_of (drop (1 + n + 1) (c ∷ cs))) (ap (λ m. take m (c ∷ cs)) one)
           ∙ ap (λ (l : List ℕ). (c ∷ take n cs) ∷ lines_of l) (ap (λ m. drop m (c ∷ cs)) two))
     ] h
+
+-- the same of the slices that are cut there
+pub cut-more : (bs : List ℕ) (n : ℕ) → n ≡ prefix_len is_in_line bs → n < length bs → lines_of bs ≡ take n bs ∷ lines_of (take (length bs - (n + 1)) (drop (n + 1) bs))
+cut-more bs n e h =
+    lines-more bs (subst (λ m. m < length bs) e h)
+    ∙ sym (ap (λ m. take m bs ∷ lines_of (take (length bs - (m + 1)) (drop (m + 1) bs))) e
+      ∙ ap (λ (l : List ℕ). take (prefix_len is_in_line bs) bs ∷ lines_of l) (take_rest bs (prefix_len is_in_line bs + 1)))
+
+pub cut-last : (bs : List ℕ) (n : ℕ) → n ≡ prefix_len is_in_line bs → length bs ≤ n → lines_of bs ≡ bs ∷ []
+cut-last bs n e h = lines-last bs (subst (λ m. length bs ≤ m) e h)

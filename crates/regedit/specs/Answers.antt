@@ -11,6 +11,7 @@ use Rattle.regedit.specs.Messages.{reply_text}
 use Rattle.regedit.specs.Readings.{ReadsRegister, RefusesRegister}
 use Rattle.regedit.specs.declared.flat.edit.Edit.{Edit}
 use Rattle.regedit.specs.declared.flat.edit.Refusal.{Refusal}
+use Rattle.regedit.specs.declared.flat.edit.Refusal.TheVariants.{Memory}
 use Rattle.regedit.specs.declared.reply.LineRefusal.TheVariants.{Command as OfCommand, Text, Edit as OfEdit, HistoryFull, NothingToUndo, NothingToRedo}
 use Rattle.regedit.specs.declared.reply.Reply.{Reply}
 use Rattle.regedit.specs.declared.reply.Reply.TheVariants.{Done, Listed, Refused}
@@ -30,12 +31,13 @@ pub record Added (old : History') (target text : List ℕ) (new : History') : Ty
   pub room : old.place ≢ old.limit
   pub made : Edits Leads (edit target register) old new
 
--- the text was read, and the edit is refused at the place
+-- the text was read, and the edit is refused at the place, not for want of memory
 pub record NotAdded (old : History') (target text : List ℕ) (refusal : Refusal) : Type 0 where
   pub register : Reg
   pub read : ReadsRegister text register
   pub room : old.place ≢ old.limit
   pub refused : history.Refuses flat.Refuses (edit target register) old refusal
+  pub real : refusal ≢ Memory
 
 -- the text was read, and the history is full
 pub record Full (old : History') (text : List ℕ) : Type 0 where

@@ -12,6 +12,9 @@ pub mod FlatStep
 pub mod FlatText
 pub mod Known
 pub mod Messages
+pub mod Opening
+pub mod OpeningFaults
+pub mod Output
 pub mod ReadingFaults
 pub mod Readings
 pub mod Reserved

@@ -68,10 +68,13 @@ refusal_text refusals.Memory = []
 abbrev pub add_column : ℕ → ℕ
 add_column offset = min (offset + 1) (2 ^ 64 - 1)
 
+unfoldable pub text_refusal_text : TextFaultKind → (offset : ℕ) → List ℕ
+text_refusal_text kind offset =
+    codes "C4 text refused: " ++ text_fault_text kind ++ codes " at column " ++ decimal (add_column offset)
+
 unfoldable pub line_refusal_text : LineRefusal → List ℕ
 line_refusal_text (lines.Command fault) = command_fault_text fault
-line_refusal_text (lines.Text kind offset) =
-    codes "C4 text refused: " ++ text_fault_text kind ++ codes " at column " ++ decimal (add_column offset)
+line_refusal_text (lines.Text kind offset) = text_refusal_text kind offset
 line_refusal_text (lines.Edit refusal) = refusal_text refusal
 line_refusal_text lines.HistoryFull = codes "J1 history full"
 line_refusal_text lines.NothingToUndo = codes "J2 nothing to undo"

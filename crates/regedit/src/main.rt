@@ -3,10 +3,12 @@
 
 mod flat;
 mod input;
+mod open;
 mod output;
 mod reading;
 mod reply;
 mod reserved;
+mod run;
 mod script;
 mod serve;
 mod status;

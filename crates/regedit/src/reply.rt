@@ -2,11 +2,12 @@
 ghost use Rattle.std.specs.Prelude.{◌≡◌, ◌++◌, ◌+◌, ◌<◌, ◌^◌, string_bytes, IfOk, OnOk};
 ghost use Rattle.regedit.specs.Answers.{is_refused};
 ghost use Rattle.regedit.specs.Messages.{
-    words_fault_text, text_fault_text, fault_text, address_text, command_fault_text, refusal_text, line_refusal_text, reply_text, map_line
+    words_fault_text, text_fault_text, fault_text, address_text, command_fault_text, refusal_text, add_column, text_refusal_text, line_refusal_text, reply_text, map_line
 };
 
 use crate::flat::edit::Refusal;
 use crate::flat::fault::{FaultKind, ItemAddress};
+use crate::flat::rows::push_decimal;
 use crate::reading::TextFaultKind;
 use crate::script::CommandFault;
 use rdl_text::fault::FaultKind as WordsFault;
@@ -127,17 +128,34 @@ fn push_refusal(text: &mut String, refusal: &Refusal) -> Result<(), AllocError>
     }
 }
 
+fn add_column(offset: usize) -> usize
+    ensures { result ≡ add_column offset }
+{
+    offset.saturating_add(1)
+}
+
+#[tactic(auto, unfolding(crate::specs::Messages::text_refusal_text))]
+fn push_text_refusal(
+    text: &mut String,
+    kind: TextFaultKind,
+    offset: usize,
+) -> Result<(), AllocError>
+    ensures { OnOk result (string_bytes text.new ≡ string_bytes text.old ++ text_refusal_text kind offset) }
+{
+    text.push_str("C4 text refused: ")?;
+    text.push_str(text_fault_text(kind))?;
+    text.push_str(" at column ")?;
+    push_decimal(text, add_column(offset) as u64)?;
+    Ok(())
+}
+
 #[tactic(auto, unfolding(crate::specs::Messages::line_refusal_text))]
 fn push_line_refusal(text: &mut String, refusal: &LineRefusal) -> Result<(), AllocError>
     ensures { OnOk result (string_bytes text.new ≡ string_bytes text.old ++ line_refusal_text refusal.now) }
 {
     match refusal {
         LineRefusal::Command(fault) => text.push_str(command_fault_text(*fault)),
-        LineRefusal::Text(kind, offset) => {
-            let what = text_fault_text(*kind);
-            let column = offset.saturating_add(1);
-            write!(text, "C4 text refused: {what} at column {column}")
-        }
+        LineRefusal::Text(kind, offset) => push_text_refusal(text, *kind, *offset),
         LineRefusal::Edit(refusal) => push_refusal(text, refusal),
         LineRefusal::HistoryFull => text.push_str("J1 history full"),
         LineRefusal::NothingToUndo => text.push_str("J2 nothing to undo"),

@@ -1,0 +1,64 @@
+-- From the parts of a run to the whole.
+use Rattle.std.proofs.Common.{◌≡◌, ◌⊎◌, inl, inr, ℕ, Bool, List, [], ◌∷◌, Option, Some, refl, sym, ap, ◌∙◌, subst}
+use Rattle.std.specs.Prelude.{if◌then◌else◌}
+use Rattle.std.specs.Io.KnownBytes.{Appends}
+use Rattle.std.proofs.KnownBytes.{Appends-nil}
+use Rattle.journal_core.specs.History.{IsAt}
+use Rattle.rdl_text.specs.Word.{Word}
+use Rattle.regedit.specs.Answers.{History', Serves}
+use Rattle.regedit.specs.Commands.{lines_of}
+use Rattle.regedit.specs.FlatFault.{first_fault}
+use Rattle.regedit.specs.FlatMap.{Top}
+use Rattle.regedit.specs.FlatStep.{State}
+use Rattle.regedit.specs.FlatText.{map_text}
+use Rattle.regedit.specs.Known.{Gives}
+use Rattle.regedit.specs.Opening.{fault_line, RefusesToOpen}
+use Rattle.regedit.specs.OpeningFaults.{IfRefusedToOpen}
+use Rattle.regedit.specs.Output.{Output, Outputs, one_map, RanFrom, Ran}
+use Rattle.regedit.specs.Readings.{HasWords, ReadsMap}
+use Rattle.regedit.specs.declared.flat.fault.Fault.{Fault}
+use Rattle.regedit.specs.declared.open.OpenFault.{OpenFault}
+use Rattle.regedit.specs.declared.open.OpenFault.TheVariants.{Refused, Memory}
+use Rattle.regedit.specs.declared.status.Status.{Status}
+use Rattle.regedit.specs.declared.status.Status.TheVariants.{Accepted, LineRefused, MapRefused}
+
+-- a map that is read and has a fault
+pub refused_to_open : (option : Option (List ℕ)) (bytes : List ℕ) (m : Option Top) (fault : Fault) → ReadsMap bytes m → first_fault option m ≡ Some fault → (r : OpenFault)
+    → IfRefusedToOpen r (λ text. (ws : List Word) → HasWords bytes ws → text ≡ fault_line bytes ws m fault.kind fault.at) → IfRefusedToOpen r (RefusesToOpen option bytes)
+refused_to_open option bytes m fault read first (Refused text) h = inr (record { m = m; read = read; fault = fault; first = first; is = h read.ws read.has_words })
+refused_to_open option bytes m fault read first Memory h = tt
+
+-- the script was run, and both files written
+pub ran_from : (limit : ℕ) (first : State) (script : List ℕ) (refuses : Bool) (status : Status) (before last : History') (now : State) (m m' r r' h h' : Option (List ℕ))
+    → before ≡ one_map limit first → status ≡ (if refuses then LineRefused else Accepted)
+    → (text : List ℕ) × Serves before (lines_of script) text refuses last × Appends m m' text
+    → IsAt last now → Appends r r' (map_text (Some now.top)) → Appends h h' []
+    → RanFrom limit first script (record { messages = m; rdl = r; header = h }) (record { messages = m'; rdl = r'; header = h' }) status
+ran_from limit first script refuses status before last now m m' r r' h h' e s served at rdl header = record {
+  out = record { messages = served.0; rdl = map_text (Some now.top); header = []; status = status };
+  runs = record {
+    last = last;
+    refuses = refuses;
+    serves = subst (λ b. Serves b (lines_of script) served.0 refuses last) e served.1;
+    now = now;
+    at = at;
+    rdl = refl;
+    header = refl;
+    status = s
+  };
+  holds = record { messages = served.2; rdl = rdl; header = header; answer = refl }
+}
+
+-- the map was refused
+pub refused_run : (option : Option (List ℕ)) (limit : ℕ) (map script : Option (List ℕ)) (map_bytes script_bytes message : List ℕ) (m m' r h : Option (List ℕ))
+    → Gives map map_bytes → Gives script script_bytes → RefusesToOpen option map_bytes message → Appends m m' message
+    → Ran option limit map script (record { messages = m; rdl = r; header = h }) (record { messages = m'; rdl = r; header = h }) MapRefused
+refused_run option limit map script map_bytes script_bytes message m m' r h p q refused wrote = record {
+  map_bytes = map_bytes;
+  script_bytes = script_bytes;
+  map_given = p;
+  script_given = q;
+  out = record { messages = message; rdl = []; header = []; status = MapRefused };
+  is_output = inl (record { refused = refused; rdl = refl; header = refl; status = refl });
+  holds = record { messages = wrote; rdl = Appends-nil r; header = Appends-nil h; answer = refl }
+}
