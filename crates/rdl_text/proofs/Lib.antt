@@ -5,4 +5,5 @@ pub mod Following
 pub mod Lists
 pub mod Longest
 pub mod Numbers
+pub mod Spellings
 pub mod Steps

@@ -5,5 +5,6 @@ pub mod Number
 pub mod Place
 pub mod Raw
 pub mod Rows
+pub mod Spelling
 pub mod Word
 pub mod Words

@@ -11,6 +11,8 @@ mod piece;
 mod places;
 pub mod raw;
 mod rows;
+#[cfg(test)]
+mod tests;
 pub mod token;
 
 pub use cut::tokens;

@@ -3,10 +3,12 @@ use Rattle.std.proofs.Common.{◌≡◌, ℕ, ◌+◌, ◌-◌, ◌≤◌, ◌<�
 use Rattle.std.proofs.lemmas.Grind.{common_steps}
 use Rattle.std.proofs.lemmas.Str.{IsCharBoundary-start}
 use Rattle.rdl_text.specs.Word.{Word, word}
+use Rattle.rdl_text.specs.Spelling.{IsSpelled}
 use Rattle.rdl_text.specs.Words.{words, words_from, piece}
 use Rattle.rdl_text.specs.declared.piece.Piece.TheVariants.{Gap, Word as Found}
 use Rattle.rdl_text.proofs.Cutting.{Next, next, piece_of, step-gap, step-word, step-fault, step-end}
 use Rattle.rdl_text.proofs.Following.{follow, follow_none}
+use Rattle.rdl_text.proofs.Spellings.{piece_fits}
 use Rattle.rdl_text.proofs.cut.tokens.Goals as goal
 
 found_gap : (c : goal.In-Ok-Gap) → piece (drop c.pieces.at c.args.text.now) ≡ Ok (Gap c.in-Ok-Gap.len)
@@ -47,6 +49,18 @@ found_pushed c = piece_of c.as_bytes.result.now c.args.text.now c.pieces.at _ _ 
 
 next_pushed : (c : goal.In_ok-push-in-Ok-Word) → Next c.args.text.now c.pieces.at c.in-Ok-Word.len
 next_pushed c = next c.args.text.now c.pieces.at (Found c.in-Ok-Word.kind c.in-Ok-Word.len) c.utf8.text c.pieces.invariant.0 c.pieces.invariant.1 (found_pushed c)
+
+pub new-requires : goal.new-requires
+new-requires c =
+    let text = c.args.text.now in
+    let at = c.pieces.at in
+    let len = c.in-Ok-Word.len in
+    let kind = c.in-Ok-Word.kind in
+    let found : piece (drop at text) ≡ Ok (Found kind len) =
+        piece_of c.as_bytes.result.now text at _ _ c.as_bytes.ensures.value c.piece_at.ensures (c.in-Ok-Word.is ∙ ap Ok c.in-Ok-Word.field-0-is) in
+    let long : at + len - at ≡ len = omega arith in
+    let same : c.range.result.now ≡ take len (drop at text) = c.range.ensures.value ∙ ap (λ (k : ℕ). take k (drop at text)) long in
+    subst (λ (s : List ℕ). IsSpelled kind s) (sym same) (piece_fits (drop at text) kind len found)
 
 pub pieces-smaller : goal.pieces-smaller
 pieces-smaller c = let n = next_pushed c in omega (arith, n.some, c.pieces-test.true)
