@@ -79,7 +79,7 @@ identifier_spelled (c ∷ cs) h small =
     let one : suc n ≡ 1 + n = omega arith in
     let short : 1 + n ≤ 255 = small in
     subst (λ (k : ℕ). IsName (take k (c ∷ cs))) one
-        (record { short = omega (arith, length-take n cs); identifier = rw h (all_front cs n refl) })
+    (record { short = omega (arith, length-take n cs); identifier = rw h (all_front cs n refl) })
 
 identifier_judged : (s : List ℕ) (n : ℕ) (b : Bool) → nat_lt 255 n ≡ b → (n ≤ 255 → IsName (take n s)) → Fits s n (cond b (Err IdentifierTooLong) (Ok kinds.Identifier))
 identifier_judged s n true e f = tt
@@ -150,11 +150,13 @@ string_spelled : (s : List ℕ) (m : ℕ) → byte s 0 ≡ 34 → closing false 
 string_spelled [] m h e = absurd (omega arith)
 string_spelled (c ∷ cs) m h e =
     let k = closes false cs m e in
-    let two : m + 2 ≡ suc (m + 1) = omega arith in
-    (take m cs, record {
-      quoted = ap (λ (j : ℕ). take j (c ∷ cs)) two ∙ (ap (λ (d : ℕ). d ∷ take (m + 1) cs) h ∙ ap (λ (t : List ℕ). 34 ∷ t) k.text);
-      raw = record { inside = k.inside };
-    })
+    let two : m + 2 ≡ suc (m + 1) = omega arith in (
+      take m cs,
+      record {
+        quoted = ap (λ (j : ℕ). take j (c ∷ cs)) two ∙ (ap (λ (d : ℕ). d ∷ take (m + 1) cs) h ∙ ap (λ (t : List ℕ). 34 ∷ t) k.text);
+        raw = record { inside = k.inside };
+      },
+    )
 
 quoted_first : (b : Bool) (n : ℕ) → 0 < cond b n 0 → b ≡ true
 quoted_first true n h = refl
@@ -190,10 +192,10 @@ unfolding longest
 longest_fits s x e =
     let P : Candidate → Type 0 = λ y. Fits s y.len y.kind in
     longer_from P (identifier s) _ x (identifier_fits s x)
-        (longer_from P (decimal s) _ x (decimal_fits s x)
-            (longer_from P (hexadecimal s) _ x (hexadecimal_fits s x)
-                (longer_from P (verilog s) _ x (verilog_fits s x)
-                    (longer_from P (string s) (mark s) x (string_fits s x) (mark_fits s x))))) e
+    (longer_from P (decimal s) _ x (decimal_fits s x)
+    (longer_from P (hexadecimal s) _ x (hexadecimal_fits s x)
+    (longer_from P (verilog s) _ x (verilog_fits s x)
+    (longer_from P (string s) (mark s) x (string_fits s x) (mark_fits s x))))) e
 
 judged_fits : (s : List ℕ) (n len : ℕ) (k : Result TokenKind FaultKind) (kind : TokenKind) → Fits s n k → judged n k ≡ Ok (pieces.Word kind len) → IsSpelled kind (take len s)
 judged_fits s n len (Ok k) kind f e =
@@ -225,8 +227,8 @@ unfolding piece
 piece_fits s kind len e =
     let P = IsSpelled kind (take len s) in
     chosen (is_blank (byte s 0)) _ _ (Ok (pieces.Word kind len)) P (λ b f. absurd (gap_word (run is_blank 0 s) len kind f))
-        (λ b. chosen (nat_eq (byte s 0) 47 && nat_eq (byte s 1) 47) _ _ (Ok (pieces.Word kind len)) P
-            (λ l f. absurd (gap_word (2 + run is_in_line 2 s) len kind f))
-            (λ l. chosen (nat_eq (byte s 0) 47 && nat_eq (byte s 1) 42) _ _ (Ok (pieces.Word kind len)) P
-                (λ m f. absurd (enclosed_gap (comment_end (drop 2 s)) kind len f))
-                (λ m f. word_fits s (byte s 0) len (longest s) kind (longest_fits s) f))) e
+    (λ b. chosen (nat_eq (byte s 0) 47 && nat_eq (byte s 1) 47) _ _ (Ok (pieces.Word kind len)) P
+    (λ l f. absurd (gap_word (2 + run is_in_line 2 s) len kind f))
+    (λ l. chosen (nat_eq (byte s 0) 47 && nat_eq (byte s 1) 42) _ _ (Ok (pieces.Word kind len)) P
+    (λ m f. absurd (enclosed_gap (comment_end (drop 2 s)) kind len f))
+    (λ m f. word_fits s (byte s 0) len (longest s) kind (longest_fits s) f))) e

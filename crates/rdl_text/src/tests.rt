@@ -11,7 +11,14 @@ use std::process::Abort;
 use std::test::Fail;
 
 /// Checks a word and its place.
-fn is_word(rt: &impl Abort, words: &Tokens<'_>, index: usize, kind: TokenKind, start: usize, source: &str) {
+fn is_word(
+    rt: &impl Abort,
+    words: &Tokens<'_>,
+    index: usize,
+    kind: TokenKind,
+    start: usize,
+    source: &str,
+) {
     let Some(word) = words.get(index) else {
         assert!(rt; false, "no word {index}");
         return;
@@ -27,8 +34,14 @@ fn only_kind(alloc: Global, text: &str) -> Result<Option<TokenKind>, TextFault> 
     if words.len() != 1 {
         return Ok(None);
     }
-    let Some(word) = words.get(0) else { return Ok(None) };
-    Ok(if word.source() == text { Some(word.kind()) } else { None })
+    let Some(word) = words.get(0) else {
+        return Ok(None)
+    };
+    Ok(if word.source() == text {
+        Some(word.kind())
+    } else {
+        None
+    })
 }
 
 /// The number of a text's fault and its place, or zeros.
@@ -56,7 +69,10 @@ fn identifiers(rt: HostRuntime) -> Result<(), Fail> {
     is_word(&rt, &words, 2, TokenKind::Identifier, 4, "aZ_09");
     is_word(&rt, &words, 3, TokenKind::Identifier, 10, "reg");
     let longest = letters(rt.alloc(), 255)?;
-    assert_eq!(rt; only_kind(rt.alloc(), &longest)?, Some(TokenKind::Identifier));
+    assert_eq!(rt;
+        only_kind(rt.alloc(), &longest)?,
+        Some(TokenKind::Identifier)
+    );
     let longer = letters(rt.alloc(), 256)?;
     assert_eq!(rt; fault(rt.alloc(), &longer), (7, 0));
     Ok(())
@@ -66,23 +82,50 @@ fn identifiers(rt: HostRuntime) -> Result<(), Fail> {
 fn numbers(rt: HostRuntime) -> Result<(), Fail> {
     assert_eq!(rt; only_kind(rt.alloc(), "0")?, Some(TokenKind::Number(0)));
     assert_eq!(rt; only_kind(rt.alloc(), "0017")?, Some(TokenKind::Number(17)));
-    assert_eq!(rt; only_kind(rt.alloc(), "1_000__")?, Some(TokenKind::Number(1000)));
-    assert_eq!(rt; only_kind(rt.alloc(), "18446744073709551615")?, Some(TokenKind::Number(u64::MAX)));
+    assert_eq!(rt;
+        only_kind(rt.alloc(), "1_000__")?,
+        Some(TokenKind::Number(1000))
+    );
+    assert_eq!(rt;
+        only_kind(rt.alloc(), "18446744073709551615")?,
+        Some(TokenKind::Number(u64::MAX))
+    );
     assert_eq!(rt; fault(rt.alloc(), " 18446744073709551616"), (4, 1));
-    assert_eq!(rt; only_kind(rt.alloc(), "0xFf")?, Some(TokenKind::Number(255)));
-    assert_eq!(rt; only_kind(rt.alloc(), "0X0_1_")?, Some(TokenKind::Number(1)));
-    assert_eq!(rt; only_kind(rt.alloc(), "0xFFFF_FFFF_FFFF_FFFF")?, Some(TokenKind::Number(u64::MAX)));
+    assert_eq!(rt;
+        only_kind(rt.alloc(), "0xFf")?,
+        Some(TokenKind::Number(255))
+    );
+    assert_eq!(rt;
+        only_kind(rt.alloc(), "0X0_1_")?,
+        Some(TokenKind::Number(1))
+    );
+    assert_eq!(rt;
+        only_kind(rt.alloc(), "0xFFFF_FFFF_FFFF_FFFF")?,
+        Some(TokenKind::Number(u64::MAX))
+    );
     assert_eq!(rt; fault(rt.alloc(), "a 0x1_0000_0000_0000_0000"), (4, 2));
     Ok(())
 }
 
 #[test]
 fn sized_numbers(rt: HostRuntime) -> Result<(), Fail> {
-    assert_eq!(rt; only_kind(rt.alloc(), "4'b1_01")?, Some(TokenKind::Number(5)));
-    assert_eq!(rt; only_kind(rt.alloc(), "04'B0101")?, Some(TokenKind::Number(5)));
-    assert_eq!(rt; only_kind(rt.alloc(), "8'd255")?, Some(TokenKind::Number(255)));
+    assert_eq!(rt;
+        only_kind(rt.alloc(), "4'b1_01")?,
+        Some(TokenKind::Number(5))
+    );
+    assert_eq!(rt;
+        only_kind(rt.alloc(), "04'B0101")?,
+        Some(TokenKind::Number(5))
+    );
+    assert_eq!(rt;
+        only_kind(rt.alloc(), "8'd255")?,
+        Some(TokenKind::Number(255))
+    );
     assert_eq!(rt; only_kind(rt.alloc(), "8'D0_")?, Some(TokenKind::Number(0)));
-    assert_eq!(rt; only_kind(rt.alloc(), "64'hFFFFFFFFFFFFFFFF")?, Some(TokenKind::Number(u64::MAX)));
+    assert_eq!(rt;
+        only_kind(rt.alloc(), "64'hFFFFFFFFFFFFFFFF")?,
+        Some(TokenKind::Number(u64::MAX))
+    );
     assert_eq!(rt; only_kind(rt.alloc(), "2'H3")?, Some(TokenKind::Number(3)));
     assert_eq!(rt; fault(rt.alloc(), ";2'h4"), (5, 1));
     assert_eq!(rt; fault(rt.alloc(), "64'h1_0000_0000_0000_0000"), (5, 0));
@@ -112,8 +155,14 @@ fn numbers_that_break_off(rt: HostRuntime) -> Result<(), Fail> {
 #[test]
 fn strings(rt: HostRuntime) -> Result<(), Fail> {
     assert_eq!(rt; only_kind(rt.alloc(), "\"\"")?, Some(TokenKind::Text));
-    assert_eq!(rt; only_kind(rt.alloc(), "\"a // b\n/* é\"")?, Some(TokenKind::Text));
-    assert_eq!(rt; only_kind(rt.alloc(), "\"a\\\"b\\\\\"")?, Some(TokenKind::Text));
+    assert_eq!(rt;
+        only_kind(rt.alloc(), "\"a // b\n/* é\"")?,
+        Some(TokenKind::Text)
+    );
+    assert_eq!(rt;
+        only_kind(rt.alloc(), "\"a\\\"b\\\\\"")?,
+        Some(TokenKind::Text)
+    );
     assert_eq!(rt; fault(rt.alloc(), "a \"b"), (3, 2));
     assert_eq!(rt; fault(rt.alloc(), "\"b\\\""), (3, 0));
     assert_eq!(rt; fault(rt.alloc(), "\"\\"), (3, 0));
@@ -121,7 +170,10 @@ fn strings(rt: HostRuntime) -> Result<(), Fail> {
     is_word(&rt, &words, 2, TokenKind::Text, 2, "\"a\\\"é\"");
     let inside = words.get(2).and_then(|word| word.raw());
     assert!(rt; inside == Some("a\\\"é"), "without the quotes");
-    assert!(rt; words.get(1).and_then(|word| word.raw()) == None, "only strings have an inside");
+    assert!(rt;
+        words.get(1).and_then(|word| word.raw()) == None,
+        "only strings have an inside"
+    );
     Ok(())
 }
 
@@ -140,21 +192,34 @@ fn marks(rt: HostRuntime) -> Result<(), Fail> {
     is_word(&rt, &words, 8, TokenKind::Mark(Mark::Equals), 8, "=");
     is_word(&rt, &words, 9, TokenKind::Mark(Mark::At), 9, "@");
     is_word(&rt, &words, 10, TokenKind::Mark(Mark::PlusEquals), 10, "+=");
-    is_word(&rt, &words, 11, TokenKind::Mark(Mark::PercentEquals), 12, "%=");
+    is_word(
+        &rt,
+        &words,
+        11,
+        TokenKind::Mark(Mark::PercentEquals),
+        12,
+        "%=",
+    );
     is_word(&rt, &words, 12, TokenKind::Mark(Mark::Arrow), 14, "->");
     Ok(())
 }
 
 #[test]
 fn blanks_and_comments(rt: HostRuntime) -> Result<(), Fail> {
-    let words = tokens(rt.alloc(), " \t\n\u{B}\u{C}\ra//é;\n;/* * / // */b/**/c// d")?;
+    let words = tokens(
+        rt.alloc(),
+        " \t\n\u{B}\u{C}\ra//é;\n;/* * / // */b/**/c// d",
+    )?;
     assert_eq!(rt; words.len(), 4);
     is_word(&rt, &words, 0, TokenKind::Identifier, 6, "a");
     is_word(&rt, &words, 1, TokenKind::Mark(Mark::Semicolon), 13, ";");
     is_word(&rt, &words, 2, TokenKind::Identifier, 26, "b");
     is_word(&rt, &words, 3, TokenKind::Identifier, 31, "c");
     assert!(rt; tokens(rt.alloc(), "")?.is_empty(), "no word in no text");
-    assert!(rt; tokens(rt.alloc(), "//")?.is_empty(), "a comment up to the end");
+    assert!(rt;
+        tokens(rt.alloc(), "//")?.is_empty(),
+        "a comment up to the end"
+    );
     assert_eq!(rt; fault(rt.alloc(), "a/*/"), (2, 1));
     assert_eq!(rt; fault(rt.alloc(), "/* *"), (2, 0));
     Ok(())
@@ -179,7 +244,10 @@ fn names(rt: HostRuntime) -> Result<(), Fail> {
     assert!(rt; name.as_str() == "a_1", "the text");
     assert!(rt; name == name.try_copy(rt.alloc())?, "a copy is equal");
     assert!(rt; !(name == Name::new(rt.alloc(), "a_2")?), "another isn't");
-    assert!(rt; format!(in rt.alloc(); "{name}")?.as_str() == "a_1", "the printed text");
+    assert!(rt;
+        format!(in rt.alloc(); "{name}")?.as_str() == "a_1",
+        "the printed text"
+    );
     for text in ["", "1a", "a b", "é", "a-"] {
         match Name::new(rt.alloc(), text) {
             Ok(_) => assert!(rt; false, "no name: {text}"),
@@ -194,7 +262,10 @@ fn raw_strings(rt: HostRuntime) -> Result<(), Fail> {
     let raw = Raw::new(rt.alloc(), "a\\\"\né")?;
     assert_eq!(rt; raw.len(), 6);
     assert!(rt; raw == raw.try_copy(rt.alloc())?, "a copy is equal");
-    assert!(rt; format!(in rt.alloc(); "{raw}")?.as_str() == "a\\\"\né", "the printed text");
+    assert!(rt;
+        format!(in rt.alloc(); "{raw}")?.as_str() == "a\\\"\né",
+        "the printed text"
+    );
     for text in ["\"", "a\\", "\\\\\"", "\\\\\\"] {
         match Raw::new(rt.alloc(), text) {
             Ok(_) => assert!(rt; false, "no inside of a string: {text}"),

@@ -1,5 +1,5 @@
 //! One word of a text.
-ghost use Rattle.std.specs.Prelude.{◌≡◌, ◌≢◌, List, IfSome, IfNone};
+ghost use Rattle.std.specs.Prelude.{◌≡◌, ◌≢◌, ℕ, List, IfSome, IfNone};
 ghost use Rattle.rdl_text.specs.Spelling.{IsSpelled, IsQuoted};
 ghost use Rattle.rdl_text.specs.declared.token.TokenKind.{TokenKind};
 ghost use Rattle.rdl_text.specs.Word.{word};
@@ -99,11 +99,16 @@ impl<'a> Token<'a> {
         ensures none { IfNone result (self.now.kind ≢ TokenKind.Text) }
     {
         match self.kind {
-            TokenKind::Text => {
-                let end = self.source.len() - 1;
-                Some(&self.source[1..end])
-            }
+            TokenKind::Text => Some(unquoted(self.source)),
             _ => None,
         }
     }
+}
+
+/// What stands between two quotes.
+fn unquoted(source: &str) -> &str
+    requires { (inside : List ℕ) × IsQuoted source.now inside }
+    ensures { IsQuoted source.now result.now }
+{
+    &source[1..source.len() - 1]
 }

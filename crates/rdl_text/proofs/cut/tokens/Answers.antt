@@ -57,7 +57,7 @@ new-requires c =
     let len = c.in-Ok-Word.len in
     let kind = c.in-Ok-Word.kind in
     let found : piece (drop at text) ≡ Ok (Found kind len) =
-        piece_of c.as_bytes.result.now text at _ _ c.as_bytes.ensures.value c.piece_at.ensures (c.in-Ok-Word.is ∙ ap Ok c.in-Ok-Word.field-0-is) in
+    piece_of c.as_bytes.result.now text at _ _ c.as_bytes.ensures.value c.piece_at.ensures (c.in-Ok-Word.is ∙ ap Ok c.in-Ok-Word.field-0-is) in
     let long : at + len - at ≡ len = omega arith in
     let same : c.range.result.now ≡ take len (drop at text) = c.range.ensures.value ∙ ap (λ (k : ℕ). take k (drop at text)) long in
     subst (λ (s : List ℕ). IsSpelled kind s) (sym same) (piece_fits (drop at text) kind len found)
