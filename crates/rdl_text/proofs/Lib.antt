@@ -5,5 +5,6 @@ pub mod Following
 pub mod Lists
 pub mod Longest
 pub mod Numbers
+pub mod Spanning
 pub mod Spellings
 pub mod Steps

@@ -1,12 +1,12 @@
 -- What digits are worth, one more at a time, and numbers that have too many bits.
-use Rattle.std.proofs.Common.{◌≡◌, ◌≢◌, ℕ, ◌+◌, ◌*◌, ◌^◌, ◌<◌, ◌≤◌, Bool, not, List, [], ◌∷◌, length, get_or, drop, Option, Some, None, refl, ◌∙◌, arith}
+use Rattle.std.proofs.Common.{◌≡◌, ◌≢◌, ℕ, ◌+◌, ◌*◌, ◌^◌, ◌<◌, ◌≤◌, Bool, not, List, [], ◌∷◌, length, get_or, drop, Some, None, refl, ◌∙◌, arith}
 use Rattle.std.proofs.Math.Nat.{mul-le-mul_left, le_refl, le_trans}
 use Rattle.std.proofs.lemmas.Bool.{ne_eqb}
 use Rattle.std.proofs.lemmas.Bool.Decides.{nat_tests}
 use Rattle.std.proofs.lemmas.List.{at_drop_more}
 use Rattle.std.specs.Char.{digit_value}
 use Rattle.std.specs.List.{filter}
-use Rattle.std.specs.Str.Parse.{digits_value, digits_value_after}
+use Rattle.std.specs.Str.Parse.{digits_value_after}
 use Rattle.rdl_text.specs.Number.{is_underscore, value, in_bits}
 
 abbrev pub counts : ℕ → Bool

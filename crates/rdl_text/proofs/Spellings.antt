@@ -1,16 +1,16 @@
 -- The words that are found are spelled as words of their kind.
-use Rattle.std.proofs.Common.{◌≡◌, ℕ, zero, suc, ◌+◌, ◌^◌, ◌<◌, ◌≤◌, Bool, true, false, cond, not, ◌&&◌, ◌||◌, List, [], ◌∷◌, ◌++◌, length, get_or, take, drop, Option, Some, None, Result, Ok, Err, refl, sym, ◌∙◌, ap, subst, arith, add-one}
+use Rattle.std.proofs.Common.{◌≡◌, ℕ, zero, suc, ◌+◌, ◌^◌, ◌<◌, ◌≤◌, Bool, true, false, cond, ◌&&◌, ◌||◌, List, [], ◌∷◌, ◌++◌, take, drop, Option, Some, None, Result, Ok, Err, refl, sym, ◌∙◌, ap, subst, arith}
 use Rattle.std.proofs.lemmas.Bool.{eqb-true, ltb-false}
 use Rattle.std.proofs.lemmas.List.{length-take}
 use Rattle.std.specs.List.{prefix_len, list_all}
 use Rattle.std.specs.Option.{option_map}
 use Rattle.std.specs.Prelude.{nat_eq, nat_lt, slice_range}
-use Rattle.rdl_text.specs.Name.{IsName, is_letter, is_rest, is_identifier}
+use Rattle.rdl_text.specs.Name.{IsName, is_letter, is_rest}
 use Rattle.rdl_text.specs.Number.{value}
-use Rattle.rdl_text.specs.Raw.{IsRaw, is_inside}
+use Rattle.rdl_text.specs.Raw.{is_inside}
 use Rattle.rdl_text.specs.Rows.{byte, run, identifier_len, decimal_len, hexadecimal_len, width_len, verilog_base, verilog_len, closing, quoted_len, string_len, short_mark, long_mark}
 use Rattle.rdl_text.specs.Spelling.{IsQuoted, IsSpelled}
-use Rattle.rdl_text.specs.Words.{candidate, number, sized, identifier, decimal, hexadecimal, verilog, string, marked, mark, longer, longest, judged, word_piece, piece, block_comment, enclosed, comment_end, is_blank, is_in_line}
+use Rattle.rdl_text.specs.Words.{candidate, number, sized, identifier, decimal, hexadecimal, verilog, string, marked, mark, longer, longest, judged, word_piece, piece, enclosed, comment_end, is_blank, is_in_line}
 use Rattle.rdl_text.specs.declared.fault.FaultKind.{FaultKind}
 use Rattle.rdl_text.specs.declared.fault.FaultKind.TheVariants.{UnendedString, BadCharacter, NumberTooLarge, WidthOutOfRange, ValueTooWide, IdentifierTooLong}
 use Rattle.rdl_text.specs.declared.token.Mark.{Mark}

@@ -5,6 +5,7 @@ pub mod Number
 pub mod Place
 pub mod Raw
 pub mod Rows
+pub mod Spans
 pub mod Spelling
 pub mod Word
 pub mod Words

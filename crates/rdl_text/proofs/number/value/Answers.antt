@@ -1,6 +1,5 @@
 -- The end of the digits, and a number that has too many bits whatever follows.
 use Rattle.std.proofs.Common.{◌≡◌, ℕ, ◌+◌, ◌*◌, ◌^◌, ◌≤◌, get_or, drop, length, None, ◌∙◌, sym, ap, arith, refl}
-use Rattle.std.proofs.lemmas.List.{at_drop_more}
 use Rattle.std.specs.Char.{digit_value}
 use Rattle.std.proofs.Math.ListN.{drop_of_length-le}
 use Rattle.rdl_text.specs.Number.{value, in_bits}

@@ -1,5 +1,5 @@
 -- A text may be cut behind a quote.
-use Rattle.std.proofs.Common.{◌≡◌, ℕ, ◌+◌, ◌<◌, ◌≤◌, List, [], ◌∷◌, ◌++◌, length, get_or, refl, ap, arith}
+use Rattle.std.proofs.Common.{◌≡◌, ℕ, ◌<◌, List, length, get_or, refl, arith}
 use Rattle.std.proofs.lemmas.Str.{IsCharBoundary-after_ascii}
 use Rattle.rdl_text.specs.Spelling.{IsQuoted}
 use Rattle.rdl_text.proofs.token.unquoted.Goals as goal
