@@ -6,7 +6,7 @@ use Rattle.std.specs.List.{prefix_len, list_all}
 use Rattle.std.specs.Option.{option_map}
 use Rattle.std.specs.Prelude.{nat_eq, nat_lt, slice_range}
 use Rattle.rdl_text.specs.Name.{IsName, is_letter, is_rest}
-use Rattle.rdl_text.specs.Number.{value}
+use Rattle.rdl_text.specs.Number.{number_bits, value}
 use Rattle.rdl_text.specs.Raw.{is_inside}
 use Rattle.rdl_text.specs.Rows.{byte, run, identifier_len, decimal_len, hexadecimal_len, width_len, verilog_base, verilog_len, closing, quoted_len, string_len, short_mark, long_mark}
 use Rattle.rdl_text.specs.Spelling.{IsQuoted, IsSpelled}
@@ -28,14 +28,14 @@ Fits s n (Ok kind) = IsSpelled kind (take n s)
 Fits s n (Err fault) = Unit {0}
 
 number_fits : (s : List ℕ) (n v : ℕ) → Fits s n (number v)
-number_fits s n v = go (nat_lt v (2 ^ 64))
+number_fits s n v = go (nat_lt v (2 ^ number_bits))
   where
     go : (b : Bool) → Fits s n (cond b (Ok (kinds.Number v)) (Err NumberTooLarge))
     go true = tt
     go false = tt
 
 sized_fits : (s : List ℕ) (n w v : ℕ) → Fits s n (sized w v)
-sized_fits s n w v = go (nat_eq w 0 || nat_lt 64 w) (nat_lt v (2 ^ w))
+sized_fits s n w v = go (nat_eq w 0 || nat_lt number_bits w) (nat_lt v (2 ^ w))
   where
     go : (a b : Bool) → Fits s n (cond a (Err WidthOutOfRange) (cond b (Ok (kinds.Number v)) (Err ValueTooWide)))
     go true b = tt

@@ -48,7 +48,7 @@ fn only_kind(alloc: Global, text: &str) -> Result<Option<TokenKind>, TextFault> 
 fn fault(alloc: Global, text: &str) -> (u8, usize) {
     match tokens(alloc, text) {
         Ok(_) => (0, 0),
-        Err(fault) => (fault.kind.number(), fault.offset),
+        Err(fault) => (fault.number(), fault.offset),
     }
 }
 
