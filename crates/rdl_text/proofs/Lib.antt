@@ -2,6 +2,7 @@ pub mod Cutting
 pub mod Ends
 pub mod Examples
 pub mod Following
+pub mod Joining
 pub mod Lists
 pub mod Longest
 pub mod Numbers

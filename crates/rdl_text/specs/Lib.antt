@@ -1,5 +1,6 @@
 pub mod Classes
 pub mod Fault
+pub mod Joined
 pub mod Name
 pub mod Number
 pub mod Place

@@ -4,6 +4,7 @@
 mod bytes;
 mod cut;
 pub mod fault;
+pub mod laws;
 pub mod list;
 pub mod name;
 mod number;
