@@ -6,15 +6,18 @@ use Rattle.std.proofs.lemmas.List.{length-append}
 use Rattle.std.specs.List.{prefix_len, list_all}
 use Rattle.std.specs.Option.{option_map}
 use Rattle.std.specs.Prelude.{nat_eq, nat_lt}
-use Rattle.rdl_text.specs.Joined.{NameIsWord, QuotedIsWord, quoted}
+use Rattle.rdl_text.specs.Joined.{NameIsWord, QuotedIsWord, quoted, mark_spelling, MarkIsWord}
 use Rattle.rdl_text.specs.Name.{is_letter, is_rest}
 use Rattle.rdl_text.specs.Raw.{is_inside}
-use Rattle.rdl_text.specs.Rows.{byte, identifier_len, closing, string_len}
+use Rattle.rdl_text.specs.Rows.{byte, identifier_len, decimal_len, hexadecimal_len, verilog_len, closing, string_len}
 use Rattle.rdl_text.specs.Word.{word}
-use Rattle.rdl_text.specs.Words.{words_from, before, identifier, string, longest, piece, is_blank}
+use Rattle.rdl_text.specs.Words.{words_from, before, identifier, decimal, hexadecimal, verilog, string, mark, longest, piece, is_blank}
 use Rattle.rdl_text.specs.declared.piece.Candidate.{Candidate}
 use Rattle.rdl_text.specs.declared.piece.Piece.TheVariants.{Word}
 use Rattle.rdl_text.specs.declared.token.TokenKind.{TokenKind}
+use Rattle.rdl_text.specs.declared.token.Mark.{Mark}
+use Rattle.rdl_text.specs.declared.token.Mark.TheVariants.{OpenBrace, CloseBrace, OpenBracket, CloseBracket, Colon, Semicolon, Comma, Dot, Equals, At, PlusEquals, PercentEquals, Arrow}
+use Rattle.rdl_text.specs.declared.token.TokenKind.TheVariants as kinds
 use Rattle.rdl_text.specs.declared.token.TokenKind.TheVariants.{Identifier, Text}
 use Rattle.rdl_text.proofs.Following.{words-word}
 use Rattle.rdl_text.proofs.Longest.{longest_letter, longest_quote}
@@ -112,3 +115,39 @@ quoted_is_word at inside rest r =
     let long : n + 2 ≡ length (quoted inside) = omega (arith, length-append inside (34 ∷ [])) in
     front_word at (quoted inside) rest Text
     (subst (λ (k : ℕ). piece (quoted inside ++ rest) ≡ Ok (Word Text k)) long (subst (λ (t : List ℕ). piece t ≡ Ok (Word Text (n + 2))) joined is)) (omega arith)
+
+-- marks
+
+mark_piece : (m : Mark) (rest : List ℕ) → piece (mark_spelling m ++ rest) ≡ Ok (Word (kinds.Mark m) (length (mark_spelling m)))
+unfolding piece longest identifier decimal hexadecimal verilog string mark identifier_len decimal_len hexadecimal_len verilog_len string_len
+mark_piece OpenBrace rest = refl
+mark_piece CloseBrace rest = refl
+mark_piece OpenBracket rest = refl
+mark_piece CloseBracket rest = refl
+mark_piece Colon rest = refl
+mark_piece Semicolon rest = refl
+mark_piece Comma rest = refl
+mark_piece Dot rest = refl
+mark_piece Equals rest = refl
+mark_piece At rest = refl
+mark_piece PlusEquals rest = refl
+mark_piece PercentEquals rest = refl
+mark_piece Arrow rest = refl
+
+mark_some : (m : Mark) → 1 ≤ length (mark_spelling m)
+mark_some OpenBrace = omega arith
+mark_some CloseBrace = omega arith
+mark_some OpenBracket = omega arith
+mark_some CloseBracket = omega arith
+mark_some Colon = omega arith
+mark_some Semicolon = omega arith
+mark_some Comma = omega arith
+mark_some Dot = omega arith
+mark_some Equals = omega arith
+mark_some At = omega arith
+mark_some PlusEquals = omega arith
+mark_some PercentEquals = omega arith
+mark_some Arrow = omega arith
+
+pub mark_is_word : MarkIsWord
+mark_is_word at m rest = front_word at (mark_spelling m) rest (kinds.Mark m) (mark_piece m rest) (mark_some m)
