@@ -1,0 +1,4 @@
+pub mod Changes
+pub mod Components
+pub mod Rounds
+pub mod Steps

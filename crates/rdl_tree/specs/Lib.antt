@@ -1,0 +1,10 @@
+pub mod Address
+pub mod Component
+pub mod Edit
+pub mod Falls
+pub mod ItemWeight
+pub mod Items
+pub mod Shell
+pub mod View
+pub mod Weight
+pub mod Word

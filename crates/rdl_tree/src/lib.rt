@@ -1,0 +1,13 @@
+//! Descriptions of register maps: the tree of items that a text of SystemRDL spells.
+#![tactic(auto)]
+
+pub mod address;
+pub mod copy;
+pub mod description;
+pub mod dims;
+pub mod edit;
+pub mod reach;
+pub mod shell;
+pub mod target;
+pub mod value;
+pub mod weight;
