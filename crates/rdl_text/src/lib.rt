@@ -2,4 +2,5 @@
 #![tactic(auto)]
 
 pub mod name;
+pub mod raw;
 pub mod token;

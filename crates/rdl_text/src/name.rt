@@ -2,8 +2,10 @@
 ghost use Rattle.std.specs.Prelude.{◌≡◌, ◌≤◌, ℕ, List, [], ◌∷◌, length, IfOk, IfErr, ◌==◌};
 ghost use Rattle.std.specs.List.{list_all};
 ghost use Rattle.rdl_text.specs.Name.{IsName, is_letter, is_rest, is_identifier};
+ghost use Rattle.rdl_text.specs.declared.name.NameFault.{NameFault};
 
 use std::alloc::{AllocError, Global};
+use std::fmt;
 use std::marker::Model;
 
 /// An identifier of 1 to 255 bytes. A contract sees its bytes.
@@ -38,5 +40,109 @@ impl From<AllocError> for NameFault {
 
     fn from(_error: AllocError) -> NameFault {
         NameFault::Memory
+    }
+}
+
+/// Whether a byte may begin an identifier.
+pub fn is_letter(byte: u8) -> bool
+    ensures { result ≡ is_letter byte }
+{
+    byte.is_ascii_uppercase() || byte.is_ascii_lowercase() || byte == b'_'
+}
+
+/// Whether a byte may stand behind the first of an identifier.
+pub fn is_rest(byte: u8) -> bool
+    ensures { result ≡ is_rest byte }
+{
+    is_letter(byte) || byte.is_ascii_digit()
+}
+
+fn all_rest(bytes: &[u8]) -> bool
+    ensures { result ≡ list_all is_rest bytes.now }
+{
+    bytes.iter().all(|byte| is_rest(*byte))
+}
+
+#[tactic(auto, using(crate::proofs::Lists::first_split))]
+fn is_identifier(bytes: &[u8]) -> bool
+    ensures { result ≡ is_identifier bytes.now }
+{
+    match bytes {
+        [] => false,
+        [first, rest @ ..] => is_letter(*first) && all_rest(rest),
+    }
+}
+
+impl Name {
+    pub const MAX_LEN: usize = 255;
+
+    pub fn new(alloc: Global, text: &str) -> Result<Name, NameFault>
+        ensures ok { IfOk result (λ n. n ≡ text.now) }
+        ensures is_name { IfOk result (λ n. IsName n) }
+        ensures not_such { IfErr result (λ f. f ≡ NameFault.NotSuch → ¬ (IsName text.now)) }
+    {
+        if text.len() > Name::MAX_LEN || !is_identifier(text.as_bytes()) {
+            return Err(NameFault::NotSuch);
+        }
+        let text = String::from_str(alloc, text)?;
+        Ok(Name { text })
+    }
+
+    /// What each name is. It does nothing when it runs.
+    pub fn is_name(&self)
+        ensures { IsName self.now }
+    {
+        let _text = &self.text;
+    }
+
+    pub fn as_str(&self) -> &str
+        ensures { result.now ≡ self.now }
+    {
+        self.text.as_str()
+    }
+
+    pub fn len(&self) -> usize
+        ensures { result ≡ length self.now }
+    {
+        self.text.len()
+    }
+
+    pub fn try_copy(&self, alloc: Global) -> Result<Name, AllocError>
+        ensures { IfOk result (λ n. n ≡ self.now) }
+    {
+        let text = String::from_str(alloc, self.text.as_str())?;
+        Ok(Name { text })
+    }
+}
+
+impl Eq for Name {
+    ghost use Rattle.std.specs.Cmp.Rules.{comparing};
+    ghost use Rattle.std.proofs.Common.{rules};
+
+    ghost laws = { Prim.search (comparing, rules) };
+}
+
+impl PartialEq for Name {
+    ghost use Rattle.std.specs.Prelude.{◌==◌};
+    ghost use Rattle.std.specs.Cmp.Lexicographic.{pointwise};
+    ghost use Rattle.std.specs.Cmp.Rules.{comparing};
+    ghost use Rattle.std.proofs.Common.{rules};
+
+    ghost eq = { pointwise ◌==◌ };
+
+    ghost laws = { Prim.search (comparing, rules) };
+
+    fn eq(&self, other: &Name) -> bool {
+        self.text.as_str() == other.text.as_str()
+    }
+}
+
+impl fmt::Display for Name {
+    ghost use Rattle.std.specs.Prelude.{Some};
+
+    ghost output = { λ n. Some n };
+
+    fn fmt<W: fmt::Write>(&self, f: &mut fmt::Formatter<W>) -> fmt::Result {
+        f.write_str(self.text.as_str())
     }
 }
