@@ -1,4 +1,5 @@
 -- The body at an address, and the tree with another body there.
+-- own: SystemRDL 2.0 names components by paths of names; item numbers are this project's.
 use Rattle.std.specs.Prelude.{ℕ, zero, suc, List, [], ◌∷◌, Option, Some, None, option_and_then}
 use Rattle.rdl_tree.specs.Items.{Items, no_items, plain, holder}
 

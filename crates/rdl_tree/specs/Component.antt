@@ -1,5 +1,5 @@
 -- An item's own component, and the item with another in its place.
--- SystemRDL 2.0, clause 5, defining and instantiating components: a definition and an anonymous instance have a component of their own.
+-- SystemRDL 2.0, clause 5, defining and instantiating components: a definition and an anonymous instance have one.
 use Rattle.std.specs.Prelude.{ℕ, zero, suc, Option, Some, None}
 use Rattle.rdl_tree.specs.Items.{Items, no_items, plain, holder, Holder, define, anonymous}
 use Rattle.rdl_tree.specs.declared.shell.Kind.{Kind}

@@ -1,4 +1,5 @@
--- A body has more items than each component inside it.
+-- A body has more items than each component inside it, so that a tree ends.
+-- own: no part of what a description means.
 use Rattle.std.specs.Prelude.{◌≤◌, max, List, [], ◌∷◌}
 use Rattle.std.proofs.Common.{arith}
 use denote.Param.Weighed.{most}

@@ -1,4 +1,5 @@
 -- The weight of one item, with all that is inside it.
+-- own: SystemRDL 2.0 has no weights.
 use Rattle.std.specs.Prelude.{ℕ}
 use Rattle.rdl_tree.specs.Items.{no_items}
 use Rattle.rdl_tree.specs.View.{add}

@@ -1,5 +1,5 @@
 -- The shell of an instance that has no part but a name.
--- SystemRDL 2.0, component instantiation (5.1.2): every part behind the name may be left out.
+-- SystemRDL 2.0, clause 5, instantiating components: every part behind the name may be left out.
 use Rattle.std.specs.Prelude.{ℕ, List, [], None}
 use Rattle.rdl_tree.specs.declared.shell.Shell.{Shell}
 use Rattle.rdl_tree.specs.declared.shell.Outside.TheVariants.{Unsaid}

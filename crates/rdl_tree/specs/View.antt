@@ -1,4 +1,5 @@
--- One level of a body as a list, where each component's body is already seen as its items.
+-- One level of a body as the list of its items, where each component's body is already seen as its items.
+-- SystemRDL 2.0, clause 5, general concepts: the statements between two braces, in order.
 use Rattle.std.specs.Prelude.{List, [], ◌∷◌, Option, Some, None}
 use Rattle.rdl_tree.specs.Items.{Items, no_items, plain, holder, Plain, named, own, default, dynamic, Holder, define, anonymous}
 use Rattle.rdl_tree.specs.declared.description.Item.{Item}

@@ -1,4 +1,5 @@
--- How much memory's worth of text and items a description has.
+-- The weight of a description: its items, and the bytes of their names, target names, property names and strings.
+-- own: SystemRDL 2.0 has no weights.
 use Rattle.std.specs.Prelude.{ℕ, ◌+◌, length, min, sum_by, ◌^◌, ◌-◌}
 use Rattle.rdl_tree.specs.Items.{Items, no_items, plain, holder, Plain, named, own, default, dynamic, Holder, define, anonymous}
 use Rattle.rdl_tree.specs.declared.value.Value.{Value}

@@ -1,5 +1,5 @@
 -- How a text spells each word that stands for a value.
--- SystemRDL 2.0: access types (9.4), read and write effects (9.6), addressing modes (13.4).
+-- SystemRDL 2.0: field access properties and software access properties (clause 9), addressing modes (clause 13).
 use Rattle.std.specs.Prelude.{ℕ, List, codes}
 use Rattle.rdl_tree.specs.declared.value.Word.{Word}
 use Rattle.rdl_tree.specs.declared.value.Word.TheVariants.{R, W, Rw, Wr, Rw1, W1, Na, Rclr, Rset, Ruser, Woset, Woclr, Wot, Wzs, Wzc, Wzt, Wclr, Wset, Wuser, Compact, Regalign, Fullalign}

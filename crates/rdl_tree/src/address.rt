@@ -1,6 +1,7 @@
 //! Where an item stands.
 ghost use Rattle.std.specs.Prelude.{◌≡◌, ℕ, ◌<◌, ◌≤◌, List, [], ◌∷◌, ◌++◌, length, take};
 
+use std::fmt;
 use std::marker::Model;
 
 /// The number of an item in the root body, then the number of an item in that item's component body, and so on. All
@@ -96,5 +97,26 @@ impl PartialEq for Address {
 
     fn eq(&self, other: &Address) -> bool {
         self.as_slice() == other.as_slice()
+    }
+}
+
+impl fmt::Display for Address {
+    ghost use Rattle.std.specs.Prelude.{Some};
+    ghost use Rattle.rdl_tree.specs.AddressText.{address_text};
+
+    ghost output = { λ address. Some (address_text address) };
+
+    #[tactic(auto, using(crate::proofs::Steps::path_split))]
+    fn fmt<W: fmt::Write>(&self, f: &mut fmt::Formatter<W>) -> fmt::Result {
+        match self.as_slice() {
+            [] => write!(f, "-"),
+            [first, rest @ ..] => {
+                write!(f, "{first}")?;
+                for number in rest {
+                    write!(f, ".{number}")?;
+                }
+                Ok(())
+            }
+        }
     }
 }

@@ -1,6 +1,5 @@
 //! The tree of a description.
-ghost use Rattle.std.specs.Prelude.{◌≡◌, ℕ, length, option_copied, Some, slice_get};
-ghost use Rattle.std.specs.Prelude.{slice_set};
+ghost use Rattle.std.specs.Prelude.{◌≡◌, ℕ, length, option_copied, slice_get, slice_set};
 ghost use Rattle.std.specs.Option.{option_copied_mut};
 ghost use Rattle.std.specs.Borrow.{LendsIf, sem};
 ghost use Rattle.rdl_tree.specs.Items.{no_items};
@@ -66,7 +65,8 @@ pub struct Component {
 }
 
 impl Model for Body {
-    ghost use Rattle.rdl_tree.specs.Items.{Items, coded_items, count};
+    ghost use Rattle.rdl_tree.specs.Items.{Items, count};
+    ghost use Rattle.rdl_tree.specs.Codes.{coded_items};
 
     ghost Value = { Items };
 
