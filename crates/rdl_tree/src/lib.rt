@@ -15,3 +15,6 @@ pub mod shell;
 pub mod target;
 pub mod value;
 pub mod weight;
+
+#[cfg(test)]
+mod tests;
