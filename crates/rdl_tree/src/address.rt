@@ -1,5 +1,5 @@
 //! Where an item stands.
-ghost use Rattle.std.specs.Prelude.{◌≡◌, ℕ, ◌<◌, ◌≤◌, List, [], ◌∷◌, ◌++◌, length, take};
+ghost use Rattle.std.specs.Prelude.{◌≡◌, ◌==◌, ℕ, ◌<◌, ◌≤◌, List, [], ◌∷◌, ◌++◌, length, take};
 
 use std::fmt;
 use std::marker::Model;
@@ -10,7 +10,7 @@ use std::marker::Model;
 /// It has at most 17 numbers, as bodies nest at most 16 deep below the root, and takes no memory.
 #[derive(Debug, Drop)]
 pub struct Address {
-    numbers: [usize; 17],
+    numbers: [usize; Address::MAX_LEN],
     len: usize,
 }
 
@@ -23,12 +23,14 @@ impl Model for Address {
 }
 
 impl Address {
+    pub const MAX_LEN: usize = 17;
+
     /// The address of the root body.
     pub fn new() -> Address
         ensures { result ≡ [] }
     {
         Address {
-            numbers: [0; 17],
+            numbers: [0; Address::MAX_LEN],
             len: 0,
         }
     }
@@ -47,6 +49,13 @@ impl Address {
         self.len
     }
 
+    pub fn is_empty(&self) -> bool
+        ensures { result ≡ (length self.now == 0) }
+    {
+        self.len == 0
+    }
+
+    /// Goes on to an item of the body at this address.
     pub fn push(&mut self, number: usize)
         requires { length self.old < 17 }
         ensures { self.new ≡ self.old ++ number ∷ [] }
@@ -75,6 +84,12 @@ impl Address {
             numbers: self.numbers,
             len: self.len,
         }
+    }
+}
+
+impl Default for Address {
+    fn default() -> Address {
+        Address::new()
     }
 }
 

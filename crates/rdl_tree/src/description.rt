@@ -1,5 +1,5 @@
 //! The tree of a description.
-ghost use Rattle.std.specs.Prelude.{◌≡◌, ℕ, length, option_copied, slice_get, slice_set};
+ghost use Rattle.std.specs.Prelude.{◌≡◌, ◌==◌, ℕ, length, option_copied, slice_get, slice_set};
 ghost use Rattle.std.specs.Option.{option_copied_mut};
 ghost use Rattle.std.specs.Borrow.{LendsIf, sem};
 ghost use Rattle.rdl_tree.specs.Items.{no_items};
@@ -112,6 +112,13 @@ impl Body {
         ensures { result ≡ length (list_of self.now) }
     {
         self.items.len()
+    }
+
+    #[tactic(auto, using(crate::proofs::Rounds::views))]
+    pub fn is_empty(&self) -> bool
+        ensures { result ≡ (length (list_of self.now) == 0) }
+    {
+        self.items.is_empty()
     }
 
     #[tactic(auto, using(crate::proofs::Rounds::views))]

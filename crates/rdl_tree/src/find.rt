@@ -13,7 +13,7 @@ impl Description {
     pub fn find(&self, path: &Path) -> Result<Address, PathFault>
         ensures { result ≡ find path.now self.now.items }
     {
-        if path.len() > 17 {
+        if path.len() > Address::MAX_LEN {
             return Err(PathFault::NoSuchName);
         }
         let mut address = Address::new();

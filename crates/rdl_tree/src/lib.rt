@@ -13,8 +13,7 @@ pub mod path;
 pub mod reach;
 pub mod shell;
 pub mod target;
-pub mod value;
-pub mod weight;
-
 #[cfg(test)]
 mod tests;
+pub mod value;
+pub mod weight;

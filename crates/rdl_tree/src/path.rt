@@ -1,5 +1,5 @@
 //! Paths of names.
-ghost use Rattle.std.specs.Prelude.{◌≡◌, List, [], ◌∷◌, ◌++◌, length, is_ok, if◌then◌else◌, IfErr};
+ghost use Rattle.std.specs.Prelude.{◌≡◌, ◌==◌, List, [], ◌∷◌, ◌++◌, length, is_ok, if◌then◌else◌, IfErr};
 ghost use Rattle.rdl_tree.specs.declared.path.Segment.{Segment};
 
 use rdl_text::name::Name;
@@ -65,6 +65,12 @@ impl Path {
         ensures { result ≡ length self.now }
     {
         self.segments.len()
+    }
+
+    pub fn is_empty(&self) -> bool
+        ensures { result ≡ (length self.now == 0) }
+    {
+        self.segments.is_empty()
     }
 
     pub fn push(&mut self, segment: Segment) -> Result<(), AllocFailed<Segment>>

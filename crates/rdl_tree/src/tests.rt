@@ -29,10 +29,7 @@ fn instance_of(alloc: Global, of: &str, text: &str) -> Result<Item, Fail> {
 }
 
 fn anonymous(alloc: Global, text: &str, kind: Kind, body: Body) -> Result<Item, Fail> {
-    Ok(Item::Instance(
-        shell(alloc, text)?,
-        Of::Anonymous(Component { kind, body }),
-    ))
+    Ok(Item::Instance(shell(alloc, text)?, Of::Anonymous(Component { kind, body })))
 }
 
 // external T all[2][3] @ 0x10 += 8 %= 4;
