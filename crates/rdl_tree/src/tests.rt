@@ -233,46 +233,67 @@ fn names(alloc: Global, body: &Body) -> Result<String, Fail> {
     Ok(names)
 }
 
-#[test]
-fn changes_a_body(rt: HostRuntime) -> Result<(), Fail> {
-    let alloc = rt.alloc();
+// T a; T b; T c;
+fn three(alloc: Global) -> Result<Body, Fail> {
     let mut body = Body::new(alloc);
     for text in ["a", "b", "c"] {
         body.push(instance_of(alloc, "T", text)?)?;
     }
+    Ok(body)
+}
+
+#[test]
+fn shifts_items(rt: HostRuntime) -> Result<(), Fail> {
+    let mut body = three(rt.alloc())?;
     assert_eq!(rt; body.len(), 3);
     body.shift(0, 2);
-    assert_eq!(rt; names(alloc, &body)?.as_str(), "bca");
+    assert_eq!(rt; names(rt.alloc(), &body)?.as_str(), "bca");
     assert_eq!(rt; body.len(), 3);
     body.shift(2, 1);
-    assert_eq!(rt; names(alloc, &body)?.as_str(), "bac");
-    assert_eq!(rt; body.len(), 3);
-    body.insert(3, instance_of(alloc, "T", "d")?)?;
-    assert_eq!(rt; names(alloc, &body)?.as_str(), "bacd");
-    assert_eq!(rt; body.len(), 4);
-    let removed = body.remove(1);
-    assert_eq!(rt; removed.weight(), 3);
-    assert_eq!(rt; names(alloc, &body)?.as_str(), "bcd");
-    assert_eq!(rt; body.len(), 3);
-    let replaced = body.replace(0, instance_of(alloc, "Type", "e")?);
-    assert_eq!(rt; replaced.weight(), 3);
-    assert_eq!(rt; names(alloc, &body)?.as_str(), "ecd");
+    assert_eq!(rt; names(rt.alloc(), &body)?.as_str(), "bac");
     Ok(())
 }
 
 #[test]
-fn exchanges_parts(rt: HostRuntime) -> Result<(), Fail> {
-    let alloc = rt.alloc();
-    let mut item = Item::Own(name(alloc, "name")?, Value::Bool(true));
-    let new = Part::Value(Value::Text(Raw::new(alloc, "ten bytes.")?));
-    let old = item.exchange(new);
+fn inserts_and_removes_items(rt: HostRuntime) -> Result<(), Fail> {
+    let mut body = three(rt.alloc())?;
+    assert_eq!(rt; body.len(), 3);
+    body.insert(2, instance_of(rt.alloc(), "T", "d")?)?;
+    assert_eq!(rt; names(rt.alloc(), &body)?.as_str(), "abdc");
+    assert_eq!(rt; body.len(), 4);
+    let removed = body.remove(1);
+    assert_eq!(rt; names(rt.alloc(), &body)?.as_str(), "adc");
+    assert_eq!(rt; removed.weight(), 3);
+    Ok(())
+}
+
+#[test]
+fn replaces_items(rt: HostRuntime) -> Result<(), Fail> {
+    let mut body = three(rt.alloc())?;
+    assert_eq!(rt; body.len(), 3);
+    let replaced = body.replace(1, instance_of(rt.alloc(), "Type", "d")?);
+    assert_eq!(rt; names(rt.alloc(), &body)?.as_str(), "adc");
+    assert_eq!(rt; replaced.weight(), 3);
+    Ok(())
+}
+
+#[test]
+fn exchanges_a_value(rt: HostRuntime) -> Result<(), Fail> {
+    let mut item = Item::Own(name(rt.alloc(), "name")?, Value::Bool(true));
+    let text = Raw::new(rt.alloc(), "ten bytes.")?;
+    let old = item.exchange(Part::Value(Value::Text(text)));
     assert!(rt; matches!(old, Part::Value(Value::Bool(true))));
     assert_eq!(rt; item.weight(), 1 + 4 + 10);
-    let mut item = Item::Instance(shell(alloc, "u")?, Of::Named(name(alloc, "T")?));
-    drop(item.exchange(Part::Type(name(alloc, "Other")?)));
+    Ok(())
+}
+
+#[test]
+fn exchanges_a_type(rt: HostRuntime) -> Result<(), Fail> {
+    let shell = shell(rt.alloc(), "u")?;
+    let mut item = Item::Instance(shell, Of::Named(name(rt.alloc(), "T")?));
+    let old = item.exchange(Part::Type(name(rt.alloc(), "Other")?));
+    assert!(rt; matches!(old, Part::Type(_)));
     assert_eq!(rt; item.weight(), 1 + 1 + 5);
-    drop(item.exchange(Part::Shell(shell(alloc, "longer")?)));
-    assert_eq!(rt; item.weight(), 1 + 6 + 5);
     Ok(())
 }
 
