@@ -88,6 +88,10 @@ impl Address {
 }
 
 impl Default for Address {
+    ghost use Rattle.std.specs.Prelude.{◌≡◌, []};
+
+    ghost is_default = { λ address. address ≡ [] };
+
     fn default() -> Address {
         Address::new()
     }
