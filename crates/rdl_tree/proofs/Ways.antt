@@ -1,5 +1,5 @@
 -- A way that is known up to some number.
-use Rattle.std.proofs.Common.{◌≡◌, ℕ, List, [], ◌∷◌, ◌++◌, Some, None, Option, refl, ap, append_assoc}
+use Rattle.std.proofs.Common.{◌≡◌, ℕ, List, [], ◌∷◌, ◌++◌, refl, ap, append_assoc}
 use Rattle.std.specs.Prelude.{Result, Ok, Err}
 use Rattle.rdl_tree.specs.Find.{after_number}
 use Rattle.rdl_tree.specs.declared.path.PathFault.{PathFault}

@@ -7,7 +7,7 @@ use Rattle.rdl_tree.specs.declared.part.Part.{Part}
 use Rattle.rdl_tree.specs.declared.part.Part.TheVariants as part
 use Rattle.rdl_tree.specs.declared.description.Item.{Item}
 use Rattle.rdl_tree.specs.declared.description.Item.TheVariants.{Define, Instance, Own, Default, Dynamic}
-use Rattle.rdl_tree.specs.declared.description.Of.TheVariants.{Named, Anonymous}
+use Rattle.rdl_tree.specs.declared.description.Of.TheVariants.{Named}
 
 -- the item has a part of this one's sort
 abbrev pub has_part : Part → Item → Bool

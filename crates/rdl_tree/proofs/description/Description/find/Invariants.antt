@@ -1,4 +1,4 @@
-use Rattle.std.proofs.Common.{◌≡◌, ◌<◌, ◌≤◌, length, drop, Some}
+use Rattle.std.proofs.Common.{◌≡◌, ◌≤◌, length, drop, Some}
 use Rattle.std.specs.Prelude.{option_copied}
 use Rattle.rdl_tree.specs.Find.{walk}
 use Rattle.rdl_tree.proofs.Ways.{after}
