@@ -22,4 +22,4 @@ returns-in-Ok-clause-to_fits g c =
     let m = g.M.Invertible in
     let items : c.push.new.self.items ≡ c.args.to.now.items ++ c.in-Ok.forward ∷ [] = search rules in
     subst (FitAlong m.prior m.fits (m.state c.revert.new.self)) (sym items)
-      (FitAlong-push m.prior m.fits _ _ _ c.in-Ok.ensures.fits (subst (λ s. FitAlong m.prior m.fits s c.args.to.now.items) (sym c.in-Ok.ensures.back) c.requires.to_fit))
+    (FitAlong-push m.prior m.fits _ _ _ c.in-Ok.ensures.fits (subst (λ s. FitAlong m.prior m.fits s c.args.to.now.items) (sym c.in-Ok.ensures.back) c.requires.to_fit))

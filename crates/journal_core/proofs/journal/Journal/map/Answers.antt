@@ -12,4 +12,4 @@ returns g c =
     let j = c.self.inside in
     let now = m.state j.map in
     subst (λ h. IsAt h now) c.self.view_is
-      (slice_get_at (states_along m.prior now j.done.items) (reverse (states_along m.prior now j.undone.items)) now _ (length-states m.prior now j.done.items))
+    (slice_get_at (states_along m.prior now j.done.items) (reverse (states_along m.prior now j.undone.items)) now _ (length-states m.prior now j.done.items))

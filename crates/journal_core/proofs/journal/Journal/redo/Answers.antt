@@ -14,5 +14,5 @@ returns-clause-nothing g c =
     let m = g.M.Invertible in
     let j = c.self.inside in
     let len : length c.args.self.now.states ≡ c.args.self.now.place + (length j.undone.items + 1) =
-      subst (λ h. length h.states ≡ h.place + (length j.undone.items + 1)) c.self.view_is (length-states-all m.prior (m.state j.map) j.done.items j.undone.items) in
+    subst (λ h. length h.states ≡ h.place + (length j.undone.items + 1)) c.self.view_is (length-states-all m.prior (m.state j.map) j.done.items j.undone.items) in
     (λ e. c.take_step.ensures.nothing.0 (omega (arith, len, e)), λ e. let none : length j.undone.items ≡ 0 = c.take_step.ensures.nothing.1 e in omega (arith, len, none))

@@ -12,5 +12,5 @@ returns g c =
     let j = c.self.inside in
     let len : c.len.result ≡ length j.undone.items = search rules in
     subst (λ h. h.place + c.len.result + 1 ≡ length h.states) c.self.view_is
-      (let e : length j.done.items + c.len.result + 1 ≡ length (states_along m.prior (m.state j.map) j.done.items ++ m.state j.map ∷ reverse (states_along m.prior (m.state j.map) j.undone.items)) =
-        omega (arith, len, length-states-all m.prior (m.state j.map) j.done.items j.undone.items) in e)
+    (let e : length j.done.items + c.len.result + 1 ≡ length (states_along m.prior (m.state j.map) j.done.items ++ m.state j.map ∷ reverse (states_along m.prior (m.state j.map) j.undone.items)) =
+    omega (arith, len, length-states-all m.prior (m.state j.map) j.done.items j.undone.items) in e)
