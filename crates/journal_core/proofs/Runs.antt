@@ -1,6 +1,6 @@
 -- Edits in a row, and then steps back and on.
-use Rattle.std.proofs.Common.{◌≡◌, ℕ, zero, suc, ◌+◌, ◌-◌, ◌<◌, ◌≤◌, List, [], ◌∷◌, ◌++◌, length, take, refl, sym, ap, ◌∙◌, subst, arith, append_assoc, length-append, length-take, Some, slice_get, nat_lt, if◌then◌else◌, true, get_or, add-one}
-use Rattle.std.proofs.lemmas.List.{take-take, take-append-le, length-take-le, take_all}
+use Rattle.std.proofs.Common.{◌≡◌, ℕ, zero, suc, ◌+◌, ◌-◌, ◌<◌, List, [], ◌∷◌, length, take, refl, sym, ap, ◌∙◌, arith, length-append, slice_get, if◌then◌else◌, add-one}
+use Rattle.std.proofs.lemmas.List.{take-take, take-append-le, length-take-le}
 use Rattle.std.proofs.lemmas.Bool.{lt-ltb}
 use Rattle.journal_core.specs.History.{History, IsHistory, after_edit, after_undo, after_redo, after_edits, after_undos, after_redos}
 

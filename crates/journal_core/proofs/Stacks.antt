@@ -1,10 +1,9 @@
 -- Stacks of steps back, when a step is put on one or taken off.
-use Rattle.std.proofs.Common.{◌≡◌, ℕ, suc, ◌+◌, ◌-◌, ◌<◌, ◌≤◌, List, [], ◌∷◌, ◌++◌, length, take, refl, sym, ap, ◌∙◌, subst, arith, append_assoc, length-append, Some, slice_get, nat_lt, if◌then◌else◌, true}
+use Rattle.std.proofs.Common.{◌≡◌, ℕ, suc, ◌+◌, ◌-◌, ◌<◌, List, [], ◌∷◌, ◌++◌, length, take, refl, sym, ap, ◌∙◌, subst, arith, append_assoc, length-append, Some, slice_get, if◌then◌else◌}
 use mathlib.Core.List.{reverse}
 use Rattle.std.proofs.lemmas.Bool.{lt-ltb}
 use Rattle.std.proofs.lemmas.List.{reverse-append, length-reverse, take_at, get_or_at}
 use Rattle.std.proofs.lemmas.Option.{slice_get-get_or}
-use Rattle.std.proofs.Math.Logic.{∥∥₁_elim, ∥∥₁_map, ∥∥₁_prop, ∥∥₁_map₂}
 use Rattle.journal_core.specs.Along.{back_to, states_along, FitAlong, Steps}
 use Rattle.journal_core.specs.History.{History, after_edit, after_undo, after_redo}
 

@@ -1,6 +1,5 @@
-use Rattle.std.proofs.Common.{rules, ◌≡◌, ℕ, ◌+◌, ◌-◌, ◌<◌, ◌≤◌, List, [], ◌∷◌, ◌++◌, length, refl, sym, ap, ◌∙◌, subst, arith, Some, slice_get}
-use Rattle.std.proofs.lemmas.Result.{on_ok_weaker}
-use Rattle.journal_core.specs.Along.{FitAlong, Steps, states_along, back_to}
+use Rattle.std.proofs.Common.{rules, ◌≡◌, [], ◌∷◌, ◌++◌, sym, subst}
+use Rattle.journal_core.specs.Along.{FitAlong}
 use Rattle.journal_core.proofs.Stacks.{FitAlong-last, FitAlong-push}
 use Rattle.journal_core.proofs.journal.take_step.Goals as goal
 

@@ -1,8 +1,7 @@
-use Rattle.std.proofs.Common.{rules, ◌≡◌, ℕ, ◌+◌, ◌-◌, ◌<◌, ◌≤◌, List, [], ◌∷◌, ◌++◌, length, refl, sym, ap, ◌∙◌, subst, arith, Some, slice_get}
-use Rattle.std.proofs.lemmas.Result.{on_ok_weaker}
+use Rattle.std.proofs.Common.{subst}
 use mathlib.Core.List.{reverse}
-use Rattle.journal_core.specs.Along.{FitAlong, IsSound, Steps, states_along, back_to}
-use Rattle.journal_core.specs.History.{IsAt, Edits, Refuses, after_undo, after_redo, after_edit}
+use Rattle.journal_core.specs.Along.{states_along}
+use Rattle.journal_core.specs.History.{IsAt}
 use Rattle.journal_core.proofs.Stacks.{slice_get_at, length-states}
 use Rattle.journal_core.proofs.journal.Journal.map.Goals as goal
 
