@@ -1,6 +1,6 @@
 -- Edits in a row, and then steps back and on.
-use Rattle.std.proofs.Common.{◌≡◌, ℕ, zero, suc, ◌+◌, ◌-◌, ◌<◌, ◌≤◌, List, [], ◌∷◌, ◌++◌, length, take, refl, sym, ap, ◌∙◌, subst, arith, append_assoc, length-append, length-take, Some, slice_get, nat_lt, if◌then◌else◌, true, get_or, add-one}
-use Rattle.std.proofs.lemmas.List.{take-take, take-append-le, length-take-le, take_all}
+use Rattle.std.proofs.Common.{◌≡◌, ℕ, zero, suc, ◌+◌, ◌-◌, ◌<◌, List, [], ◌∷◌, length, take, refl, sym, ap, ◌∙◌, arith, length-append, slice_get, if◌then◌else◌, add-one}
+use Rattle.std.proofs.lemmas.List.{take-take, take-append-le, length-take-le}
 use Rattle.std.proofs.lemmas.Bool.{lt-ltb}
 use Rattle.journal_core.specs.History.{History, IsHistory, after_edit, after_undo, after_redo, after_edits, after_undos, after_redos}
 
@@ -36,7 +36,7 @@ pub redos-is : {S : Type 0} (n : ℕ) (h : History S) → h.place + n < length h
 redos-is zero h i = ap (λ (n : ℕ). record { limit = h.limit; states = h.states; place = n }) (let e : h.place ≡ h.place + 0 = omega arith in e)
 redos-is {S} (suc n) h i =
     let one : after_redo h ≡ record { limit = h.limit; states = h.states; place = h.place + 1 } =
-      ap (λ b. record { limit = h.limit; states = h.states; place = if b then h.place + 1 else h.place }) (lt-ltb (h.place + 1) (length h.states) (omega (arith, i))) in
+    ap (λ b. record { limit = h.limit; states = h.states; place = if b then h.place + 1 else h.place }) (lt-ltb (h.place + 1) (length h.states) (omega (arith, i))) in
     ap (after_redos n) one ∙ redos-is n (record { limit = h.limit; states = h.states; place = h.place + 1 }) (let e : h.place + 1 + n < length h.states = omega (arith, i) in e)
     ∙ ap (λ (k : ℕ). record { limit = h.limit; states = h.states; place = k }) (let e : h.place + 1 + n ≡ h.place + suc n = omega arith in e)
 
@@ -45,11 +45,11 @@ pub same_item : {S : Type 0} (xs ys : List S) (k : ℕ) → take (k + 1) xs ≡ 
 same_item {S} xs ys k e =
     let e' : take (suc k) xs ≡ take (suc k) ys = rw add-one at e in
     sym (front xs k) ∙ ap (λ (zs : List S). slice_get zs k) e' ∙ front ys k where
-  front : (zs : List S) (j : ℕ) → slice_get (take (suc j) zs) j ≡ slice_get zs j
-  front [] zero = refl
-  front [] (suc j) = refl
-  front (z ∷ zs) zero = refl
-  front (z ∷ zs) (suc j) = front zs j
+      front : (zs : List S) (j : ℕ) → slice_get (take (suc j) zs) j ≡ slice_get zs j
+      front [] zero = refl
+      front [] (suc j) = refl
+      front (z ∷ zs) zero = refl
+      front (z ∷ zs) (suc j) = front zs j
 
 pub back-place : {S : Type 0} (h : History S) (ss : List S) → (after_undos (length ss) (after_edits h ss)).place ≡ h.place
 back-place h ss = ap (λ h'. h'.place) (undos-is (length ss) (after_edits h ss)) ∙ omega (arith, place-edits h ss)

@@ -1,5 +1,5 @@
 -- A list of states, a place in it, and how far the place may go.
-use Rattle.std.specs.Prelude.{◌≡◌, ℕ, slice_get, Some, zero, suc, ◌+◌, ◌-◌, ◌<◌, nat_lt, if◌then◌else◌, List, [], ◌∷◌, ◌++◌, length, take, Option, Some, slice_get, IfErr, Result}
+use Rattle.std.specs.Prelude.{◌≡◌, ℕ, slice_get, Some, zero, suc, ◌+◌, ◌-◌, ◌<◌, nat_lt, if◌then◌else◌, List, [], ◌∷◌, ◌++◌, length, take, Some, slice_get}
 
 pub record History (S : Type 0) : Type 0 where
   pub limit : ℕ

@@ -31,7 +31,9 @@ pub struct NumbersState {
 
 impl Model for NumbersState {
     ghost use Rattle.std.specs.Prelude.{ℕ, List, []};
+
     ghost Value = { List ℕ };
+
     ghost view = { λ _. [] };
 }
 
@@ -56,14 +58,21 @@ impl Invertible for Numbers {
     ghost use Rattle.journal_core.specs.Example.{Leads, Refuses};
 
     type Change = Change;
+
     type Back = Vec<u64>;
+
     type Refusal = Refusal;
+
     type State = NumbersState;
 
     ghost state = { λ m. m.items.items };
+
     ghost prior = { λ s b. b.items };
+
     ghost fits = { λ s b. Unit {0} };
+
     ghost leads = { Leads };
+
     ghost refuses = { Refuses };
 
     fn apply(&mut self, alloc: Global, change: &Change) -> Result<Vec<u64>, Refusal> {

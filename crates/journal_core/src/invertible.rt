@@ -6,8 +6,11 @@ use std::alloc::Global;
 /// An object whose accepted changes can be taken back.
 pub trait Invertible {
     type Change;
+
     type Back: Drop;
+
     type Refusal;
+
     type State;
 
     /// What a contract knows of the object.

@@ -65,9 +65,9 @@ impl<M: Invertible> Model for Journal<M> {
     ghost Value = { History M.State };
 
     ghost view = { λ j. record {
-        limit = j.limit;
-        states = states_along M.prior (M.state j.map) j.done.items ++ M.state j.map ∷ reverse (states_along M.prior (M.state j.map) j.undone.items);
-        place = length j.done.items
+      limit = j.limit;
+      states = states_along M.prior (M.state j.map) j.done.items ++ M.state j.map ∷ reverse (states_along M.prior (M.state j.map) j.undone.items);
+      place = length j.done.items;
     } };
 
     ghost invariant = { λ j. IsSound M.prior M.fits (M.state j.map) j.limit j.done.items j.undone.items };
@@ -108,11 +108,7 @@ impl<M: Invertible> Journal<M> {
     }
 
     /// Makes a change, after which nothing can be redone.
-    pub fn edit(
-        &mut self,
-        alloc: Global,
-        change: &M::Change,
-    ) -> Result<(), EditFault<M::Refusal>>
+    pub fn edit(&mut self, alloc: Global, change: &M::Change) -> Result<(), EditFault<M::Refusal>>
         ensures ok { OnOk result (Edits M.leads change.now self.old self.new) }
         ensures full { self.old.place ≡ self.old.limit → result ≡ Err EditFault.Full }
         ensures fault { IfErr result (Explains M.refuses change.now self.old) }

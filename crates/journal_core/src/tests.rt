@@ -50,7 +50,12 @@ fn an_edit_that_changes_nothing_is_a_place(rt: HostRuntime) -> Result<(), Fail> 
 fn a_full_history_is_judged_before_the_map(rt: HostRuntime) -> Result<(), Fail> {
     let alloc = rt.alloc();
     let mut journal = Journal::new(alloc, Numbers::new(alloc), 1);
-    assert!(rt; matches!(journal.edit(alloc, &Change::Push(7)), Err(EditFault::Refused(Refusal::Seven))));
+    assert!(rt;
+        matches!(
+            journal.edit(alloc, &Change::Push(7)),
+            Err(EditFault::Refused(Refusal::Seven))
+        )
+    );
     assert_eq!(rt; journal.undo_len(), 0);
     assert!(rt; journal.edit(alloc, &Change::Push(1)).is_ok());
     assert!(rt; matches!(journal.edit(alloc, &Change::Push(7)), Err(EditFault::Full)));

@@ -1,5 +1,5 @@
 -- One turn of the loop that cuts a text: where the next piece begins, and which words are known then.
-use Rattle.std.proofs.Common.{◌≡◌, ℕ, ◌+◌, ◌-◌, ◌<◌, ◌≤◌, List, [], ◌∷◌, ◌++◌, length, take, take_all, drop, IsUtf8, Result, Ok, Err, refl, sym, ◌∙◌, ap, subst, arith, append-nil}
+use Rattle.std.proofs.Common.{◌≡◌, ℕ, ◌+◌, ◌-◌, ◌<◌, ◌≤◌, List, [], ◌∷◌, ◌++◌, length, take, take_all, drop, IsUtf8, Result, Ok, Err, sym, ◌∙◌, ap, arith, append-nil}
 use Rattle.std.proofs.lemmas.List.{length-drop, drop-drop}
 use Rattle.std.proofs.lemmas.Str.{IsCharBoundary-from_rest, IsUtf8-drop}
 use Rattle.std.specs.Str.{IsCharBoundary}
@@ -9,7 +9,7 @@ use Rattle.rdl_text.specs.declared.fault.FaultKind.{FaultKind}
 use Rattle.rdl_text.specs.declared.token.TokenKind.{TokenKind}
 use Rattle.rdl_text.specs.declared.piece.Piece.{Piece}
 use Rattle.rdl_text.specs.declared.piece.Piece.TheVariants.{Gap, Word as Found}
-use Rattle.rdl_text.proofs.Ends.{Ends, piece_len, piece_ends}
+use Rattle.rdl_text.proofs.Ends.{piece_len, piece_ends}
 use Rattle.rdl_text.proofs.Following.{follow, words-gap, words-word, words-fault, words-end, follow_before}
 
 tail : (b text : List ℕ) (at : ℕ) → b ≡ text → take (length b - at) (drop at b) ≡ drop at text

@@ -1,8 +1,8 @@
 -- Where a piece of a text ends: inside the text, behind its begin, and between two characters.
-use Rattle.std.proofs.Common.{◌≡◌, ◌≢◌, ℕ, zero, suc, ◌+◌, ◌<◌, ◌≤◌, Bool, true, false, cond, not, ◌&&◌, ◌||◌, List, [], ◌∷◌, length, get_or, drop, IsUtf8, Option, Some, None, Result, Ok, Err, refl, sym, ◌∙◌, ap, subst, ◌⊎◌, inl, inr, arith, add-one, add-zero}
-use Rattle.std.proofs.lemmas.Bool.{ne_eqb, cases_lt, and_parts, ltb-true, eqb-true}
+use Rattle.std.proofs.Common.{◌≡◌, ℕ, zero, suc, ◌+◌, ◌<◌, ◌≤◌, Bool, true, false, cond, ◌&&◌, ◌||◌, List, [], ◌∷◌, length, get_or, drop, IsUtf8, Option, Some, None, Result, Ok, Err, refl, sym, ◌∙◌, ap, subst, inl, inr, arith, add-one}
+use Rattle.std.proofs.lemmas.Bool.{cases_lt, and_parts, ltb-true, eqb-true}
 use Rattle.std.proofs.lemmas.Bool.Decides.{nat_tests}
-use Rattle.std.proofs.lemmas.List.{get_or_past, get_or-drop, length-drop}
+use Rattle.std.proofs.lemmas.List.{get_or-drop}
 use Rattle.std.proofs.lemmas.List.Sums.{prefix_len-le-length, prefix_len_passes, prefix_len_stops}
 use Rattle.std.proofs.lemmas.Str.{IsCharBoundary-start, IsCharBoundary-end, IsCharBoundary-before_ascii, IsCharBoundary-after_ascii, IsCharBoundary-from_rest, IsUtf8-drop}
 use Rattle.std.specs.Char.{is_digit, digit_value}
@@ -101,7 +101,7 @@ same_len : (x y : Candidate) → Some x ≡ Some y → x.len ≡ y.len
 unfolding len_or
 same_len x y e = ap len_or e
 
-candidate_found : (n : ℕ) (k : Result TokenKind FaultKind) (x : Candidate) → candidate n k ≡ Some x → (0 < n) × (n ≡ x.len)
+pub candidate_found : (n : ℕ) (k : Result TokenKind FaultKind) (x : Candidate) → candidate n k ≡ Some x → (0 < n) × (n ≡ x.len)
 candidate_found zero k x e = cc
 candidate_found (suc n) k x e = (omega arith, same_len (record { len = suc n; kind = k }) x (sym (candidate_some (suc n) k (omega arith)) ∙ e))
 
@@ -141,7 +141,7 @@ verilog_ends s x u e =
     candidate_ends s _ (width_len s + 3 + run (is_digit_rest (verilog_base s)) (width_len s + 3) s) _ x (λ h. verilog_run s u (and_parts _ _ h).1) e
 
 -- the place of a closing quote has one
-mapped : (o : Option ℕ) (n : ℕ) → option_map (λ m. m + 1) o ≡ Some n → (m : ℕ) × (o ≡ Some m) × (n ≡ m + 1)
+pub mapped : (o : Option ℕ) (n : ℕ) → option_map (λ m. m + 1) o ≡ Some n → (m : ℕ) × (o ≡ Some m) × (n ≡ m + 1)
 mapped None n e = cc
 mapped (Some m) n e = (m, refl, cc)
 
@@ -158,7 +158,7 @@ closing_at true (c ∷ cs) n e =
 closing_at false (c ∷ cs) n e =
     closing_step (nat_eq c 34) c cs (closing (nat_eq c 92) cs) n (λ q. eqb-true c 34 q) (λ m f. closing_at (nat_eq c 92) cs m f) e
 
-quoted_some : (b : Bool) (o : Option ℕ) (n : ℕ) → cond b (quoted_len o) 0 ≡ n → 0 < n → (m : ℕ) × (o ≡ Some m) × (n ≡ m + 2)
+pub quoted_some : (b : Bool) (o : Option ℕ) (n : ℕ) → cond b (quoted_len o) 0 ≡ n → 0 < n → (m : ℕ) × (o ≡ Some m) × (n ≡ m + 2)
 quoted_some true (Some m) n e h = (m, refl, sym e)
 quoted_some true None n e h = absurd (omega (arith, e))
 quoted_some false o n e h = absurd (omega (arith, e))
@@ -207,7 +207,7 @@ mark_ends s x u e =
 
 -- words
 
-longer_from : (P : Candidate → Type 0) (a b : Option Candidate) (x : Candidate) → (a ≡ Some x → P x) → (b ≡ Some x → P x) → longer a b ≡ Some x → P x
+pub longer_from : (P : Candidate → Type 0) (a b : Option Candidate) (x : Candidate) → (a ≡ Some x → P x) → (b ≡ Some x → P x) → longer a b ≡ Some x → P x
 longer_from P None b x f g e = g e
 longer_from P (Some a) None x f g e = f e
 longer_from P (Some a) (Some b) x f g e = go (nat_lt a.len b.len) e
@@ -296,7 +296,7 @@ comment_ends s p u e = go (comment_end (drop 2 s)) refl e
         let same : n + 3 + 1 ≡ piece_len p = omega (arith, same_piece (Gap (n + 4)) p f) in
         subst (Ends s) same (byte_ends s (n + 3) u (omega (arith, place)) (omega (arith, place)))
 
-chosen : (b : Bool) (x y z : Result Piece FaultKind) (P : Type 0) → (b ≡ true → x ≡ z → P) → (b ≡ false → y ≡ z → P) → cond b x y ≡ z → P
+pub chosen : (b : Bool) (x y z : Result Piece FaultKind) (P : Type 0) → (b ≡ true → x ≡ z → P) → (b ≡ false → y ≡ z → P) → cond b x y ≡ z → P
 chosen true x y z P f g e = f refl e
 chosen false x y z P f g e = g refl e
 

@@ -1,7 +1,7 @@
 -- Words, and what follows them: one piece of a text after another.
-use Rattle.std.proofs.Common.{◌≡◌, ℕ, zero, suc, ◌+◌, ◌-◌, ◌<◌, ◌≤◌, List, [], ◌∷◌, ◌++◌, length, take, drop, Result, Ok, Err, refl, sym, ◌∙◌, ap, append_assoc, arith}
+use Rattle.std.proofs.Common.{◌≡◌, ℕ, zero, suc, ◌+◌, ◌-◌, ◌≤◌, List, [], ◌∷◌, ◌++◌, length, take, drop, Result, Ok, Err, refl, sym, ◌∙◌, ap, append_assoc, arith}
 use Rattle.rdl_text.specs.Word.{Word, word}
-use Rattle.rdl_text.specs.Words.{words, words_from, piece, before}
+use Rattle.rdl_text.specs.Words.{words_from, piece, before}
 use Rattle.rdl_text.specs.declared.fault.FaultKind.{FaultKind}
 use Rattle.rdl_text.specs.declared.fault.TextFault.{TextFault}
 use Rattle.rdl_text.specs.declared.token.TokenKind.{TokenKind}

@@ -2,7 +2,10 @@ pub mod Cutting
 pub mod Ends
 pub mod Examples
 pub mod Following
+pub mod Joining
 pub mod Lists
 pub mod Longest
 pub mod Numbers
+pub mod Spanning
+pub mod Spellings
 pub mod Steps

@@ -1,10 +1,9 @@
 -- At most one row but for numbers has a word that begins with a given byte, so the longest word is of that row.
-use Rattle.std.proofs.Common.{◌≡◌, ◌≢◌, ℕ, ◌+◌, ◌<◌, ◌≤◌, Bool, true, false, cond, List, [], ◌∷◌, length, Option, Some, None, refl, sym, ◌∙◌, ap, subst, arith}
+use Rattle.std.proofs.Common.{◌≡◌, ◌≢◌, ℕ, ◌≤◌, Bool, true, false, List, [], ◌∷◌, Option, Some, None, refl, sym, arith}
 use Rattle.std.proofs.lemmas.Bool.{ne_eqb, ltb-true}
 use Rattle.std.proofs.lemmas.Bool.Decides.{nat_tests}
 use Rattle.std.proofs.lemmas.Str.Parse.{digit_from_value}
 use Rattle.std.specs.Char.{is_digit}
-use Rattle.std.specs.Prelude.{nat_eq}
 use Rattle.rdl_text.specs.Name.{is_letter}
 use Rattle.rdl_text.specs.Rows.{byte, identifier_len, decimal_len, hexadecimal_len, width_len, verilog_len, string_len, short_mark, long_mark}
 use Rattle.rdl_text.specs.Words.{identifier, decimal, hexadecimal, verilog, string, mark, longer, longest}

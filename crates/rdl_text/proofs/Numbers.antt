@@ -1,13 +1,13 @@
 -- What digits are worth, one more at a time, and numbers that have too many bits.
-use Rattle.std.proofs.Common.{◌≡◌, ◌≢◌, ℕ, ◌+◌, ◌*◌, ◌^◌, ◌<◌, ◌≤◌, Bool, not, List, [], ◌∷◌, length, get_or, drop, Option, Some, None, refl, ◌∙◌, arith}
+use Rattle.std.proofs.Common.{◌≡◌, ◌≢◌, ℕ, ◌+◌, ◌*◌, ◌^◌, ◌<◌, ◌≤◌, Bool, not, List, [], ◌∷◌, length, get_or, drop, Some, None, refl, ◌∙◌, arith}
 use Rattle.std.proofs.Math.Nat.{mul-le-mul_left, le_refl, le_trans}
 use Rattle.std.proofs.lemmas.Bool.{ne_eqb}
 use Rattle.std.proofs.lemmas.Bool.Decides.{nat_tests}
 use Rattle.std.proofs.lemmas.List.{at_drop_more}
 use Rattle.std.specs.Char.{digit_value}
 use Rattle.std.specs.List.{filter}
-use Rattle.std.specs.Str.Parse.{digits_value, digits_value_after}
-use Rattle.rdl_text.specs.Number.{is_underscore, value, in_bits}
+use Rattle.std.specs.Str.Parse.{digits_value_after}
+use Rattle.rdl_text.specs.Number.{number_bits, is_underscore, value, in_bits}
 
 abbrev pub counts : ℕ → Bool
 counts c = not (is_underscore c)
@@ -30,11 +30,11 @@ pub value_after-digit : (base v i : ℕ) (ds : List ℕ) → i < length ds → g
     → value_after base v (drop i ds) ≡ value_after base (v * base + digit_value (get_or ds i 0)) (drop (i + 1) ds)
 value_after-digit base v i ds h ne = at_drop_more (value_after base v) ds i 0 h ∙ rw (ne_eqb (get_or ds i 0) 95 ne) refl
 
-pub too_large : (v : ℕ) → in_bits v ≡ None → 2 ^ 64 ≤ v
+pub too_large : (v : ℕ) → in_bits v ≡ None → 2 ^ number_bits ≤ v
 too_large v e = grind (arith, nat_tests)
 
-pub in_bits_none : (v : ℕ) → 2 ^ 64 ≤ v → in_bits v ≡ None
+pub in_bits_none : (v : ℕ) → 2 ^ number_bits ≤ v → in_bits v ≡ None
 in_bits_none v h = grind (arith, nat_tests)
 
-pub in_bits_some : (v : ℕ) → v < 2 ^ 64 → in_bits v ≡ Some v
+pub in_bits_some : (v : ℕ) → v < 2 ^ number_bits → in_bits v ≡ Some v
 in_bits_some v h = grind (arith, nat_tests)

@@ -1,6 +1,6 @@
 -- The numbers of the faults of a text, and the fault that isn't the text's.
 -- Own.
-use Rattle.std.specs.Prelude.{ℕ, Result, Err, ◌≡◌, ◌⊎◌, List}
+use Rattle.std.specs.Prelude.{ℕ}
 use Rattle.rdl_text.specs.declared.fault.FaultKind.{FaultKind}
 use Rattle.rdl_text.specs.declared.fault.FaultKind.TheVariants.{BadCharacter, UnendedComment, UnendedString, NumberTooLarge, ValueTooWide, WidthOutOfRange, IdentifierTooLong, Memory}
 use Rattle.rdl_text.specs.declared.fault.TextFault.{TextFault}

@@ -1,9 +1,12 @@
 pub mod Classes
 pub mod Fault
+pub mod Joined
 pub mod Name
 pub mod Number
 pub mod Place
 pub mod Raw
 pub mod Rows
+pub mod Spans
+pub mod Spelling
 pub mod Word
 pub mod Words

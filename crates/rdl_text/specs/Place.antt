@@ -1,6 +1,6 @@
 -- The line and the column of a byte of a text, both counted from 1, and columns in bytes.
 -- Own.
-use Rattle.std.specs.Prelude.{ℕ, ◌+◌, Bool, not, nat_eq, List, take, reverse}
+use Rattle.std.specs.Prelude.{ℕ, ◌+◌, not, nat_eq, List, take, reverse}
 use Rattle.std.specs.List.{prefix_len, count_by}
 
 -- how many line feeds stand before it

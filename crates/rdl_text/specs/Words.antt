@@ -1,10 +1,9 @@
 -- The words of a text, or its first fault: past blanks and comments, the longest word that begins at each place.
 -- SystemRDL 2.0, lexical conventions; own: the faults, the limits, and that the width of a Verilog number is judged before its value.
-use Rattle.std.specs.Prelude.{ℕ, zero, suc, ◌+◌, ◌-◌, ◌^◌, Bool, true, false, not, ◌&&◌, ◌||◌, nat_eq, nat_lt, if◌then◌else◌, List, [], ◌∷◌, take, drop, slice_range, Option, Some, None, Result, Ok, Err}
-use Rattle.std.specs.List.{prefix_len}
+use Rattle.std.specs.Prelude.{ℕ, zero, suc, ◌+◌, ◌-◌, ◌^◌, Bool, not, ◌&&◌, ◌||◌, nat_eq, nat_lt, if◌then◌else◌, List, [], ◌∷◌, take, drop, slice_range, Option, Some, None, Result, Ok, Err}
 use Rattle.std.specs.Option.{option_map}
 use Rattle.rdl_text.specs.Number.{value, number_bits}
-use Rattle.rdl_text.specs.Rows.{byte, run, is_digit_rest, identifier_len, decimal_len, hexadecimal_len, width_len, verilog_base, verilog_len, string_len, short_mark, long_mark}
+use Rattle.rdl_text.specs.Rows.{byte, run, identifier_len, decimal_len, hexadecimal_len, width_len, verilog_base, verilog_len, string_len, short_mark, long_mark}
 use Rattle.rdl_text.specs.Word.{Word, word}
 use Rattle.rdl_text.specs.declared.fault.FaultKind.{FaultKind}
 use Rattle.rdl_text.specs.declared.fault.FaultKind.TheVariants.{BadCharacter, UnendedComment, UnendedString, NumberTooLarge, ValueTooWide, WidthOutOfRange, IdentifierTooLong}

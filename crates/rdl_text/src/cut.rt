@@ -1,6 +1,7 @@
 //! A text cut into words.
 ghost use Rattle.std.specs.Prelude.{◌≡◌, ◌≤◌, ◌<◌, ◌+◌, ◌⊎◌, length, IfSome, IfOk, IfErr, Err, Ok, drop};
 ghost use Rattle.rdl_text.specs.Fault.{out_of_memory};
+ghost use Rattle.rdl_text.specs.Spans.{AreSpans};
 ghost use Rattle.rdl_text.specs.Words as spec;
 
 use crate::bytes::{Class, byte_at, is_blank, run_len};
@@ -69,6 +70,8 @@ fn piece_at(bytes: &[u8]) -> Result<Piece, FaultKind>
 pub fn tokens<'a>(alloc: Global, text: &'a str) -> Result<Tokens<'a>, TextFault>
     // They are all its words.
     ensures words { IfOk result (λ ts. spec.words text.now ≡ Ok ts) }
+    // They stand in it one behind another.
+    ensures spans { IfOk result (λ ts. AreSpans 0 text.now ts) }
     // A fault is its first one, if it isn't for memory.
     ensures fault { IfErr result (λ f. (f ≡ out_of_memory) ⊎ (spec.words text.now ≡ Err f)) }
 {

@@ -50,6 +50,15 @@ pub struct TextFault {
     pub offset: usize,
 }
 
+impl TextFault {
+    /// The number that messages name it by.
+    pub fn number(&self) -> u8
+        ensures { result ≡ fault_number self.now.kind }
+    {
+        self.kind.number()
+    }
+}
+
 impl From<AllocError> for TextFault {
     ghost from_gives = { λ _ f. f ≡ out_of_memory };
 

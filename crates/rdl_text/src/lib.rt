@@ -4,6 +4,7 @@
 mod bytes;
 mod cut;
 pub mod fault;
+pub mod laws;
 pub mod list;
 pub mod name;
 mod number;
@@ -11,6 +12,8 @@ mod piece;
 mod places;
 pub mod raw;
 mod rows;
+#[cfg(test)]
+mod tests;
 pub mod token;
 
 pub use cut::tokens;

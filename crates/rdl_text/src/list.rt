@@ -30,7 +30,7 @@ impl<'a> Tokens<'a> {
     pub fn len(&self) -> usize
         ensures { result ≡ length self.now }
     {
-        self.tokens.len()
+        self.as_slice().len()
     }
 
     pub fn is_empty(&self) -> bool

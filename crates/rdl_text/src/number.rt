@@ -1,6 +1,6 @@
 //! The values of numbers.
 ghost use Rattle.std.specs.Prelude.{◌≡◌, ℕ, ◌+◌, ◌*◌, ◌^◌, ◌≤◌, ◌<◌, nat_lt, Option, Some, None};
-ghost use Rattle.rdl_text.specs.Number.{value, in_bits};
+ghost use Rattle.rdl_text.specs.Number.{value, in_bits, number_bits};
 ghost use Rattle.rdl_text.specs.Words.{number, sized};
 
 use crate::bytes::digit_value;
@@ -43,7 +43,7 @@ pub(crate) fn number(value: Option<Number>) -> Result<TokenKind, FaultKind>
 
 /// Whether a number has no more bits than this.
 fn fits(value: Number, width: Number) -> bool
-    requires { width ≤ 64 }
+    requires { width ≤ number_bits }
     ensures { result ≡ nat_lt value (2 ^ width) }
 {
     width >= Number::BITS as Number || value < (1 << width)

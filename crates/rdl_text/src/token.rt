@@ -1,5 +1,7 @@
 //! One word of a text.
-ghost use Rattle.std.specs.Prelude.{◌≡◌, List};
+ghost use Rattle.std.specs.Prelude.{◌≡◌, ◌≢◌, ℕ, List, IfSome, IfNone};
+ghost use Rattle.rdl_text.specs.Spelling.{IsSpelled, IsQuoted};
+ghost use Rattle.rdl_text.specs.declared.token.TokenKind.{TokenKind};
 ghost use Rattle.rdl_text.specs.Word.{word};
 
 use std::marker::Model;
@@ -48,10 +50,15 @@ impl<'a> Model for Token<'a> {
     ghost Value = { Word };
 
     ghost view = { λ t. record { kind = t.kind; start = t.start; source = t.source.now } };
+
+    ghost use Rattle.rdl_text.specs.Spelling.{IsSpelled};
+
+    ghost invariant = { λ t. IsSpelled t.kind t.source.now };
 }
 
 impl<'a> Token<'a> {
     pub(crate) fn new(kind: TokenKind, source: &'a str, start: usize) -> Token<'a>
+        requires { IsSpelled kind source.now }
         ensures { result ≡ word kind start source.now }
     {
         Token {
@@ -78,4 +85,30 @@ impl<'a> Token<'a> {
     {
         self.start
     }
+
+    /// How each word of its kind is spelled. It does nothing when it runs.
+    pub fn is_spelled(&self)
+        ensures { IsSpelled self.now.kind self.now.source }
+    {
+        let _kind = self.kind;
+    }
+
+    /// What stands between the quotes of a string.
+    pub fn raw(&self) -> Option<&'a str>
+        ensures some { IfSome result (λ raw. IsQuoted self.now.source raw.now) }
+        ensures none { IfNone result (self.now.kind ≢ TokenKind.Text) }
+    {
+        match self.kind {
+            TokenKind::Text => Some(unquoted(self.source)),
+            _ => None,
+        }
+    }
+}
+
+/// What stands between two quotes.
+fn unquoted(source: &str) -> &str
+    requires { (inside : List ℕ) × IsQuoted source.now inside }
+    ensures { IsQuoted source.now result.now }
+{
+    &source[1..source.len() - 1]
 }

@@ -44,9 +44,9 @@ ran_from limit first script refuses status before last now m m' r r' h h' e s se
     at = at;
     rdl = refl;
     header = refl;
-    status = s
+    status = s;
   };
-  holds = record { messages = served.2; rdl = rdl; header = header; answer = refl }
+  holds = record { messages = served.2; rdl = rdl; header = header; answer = refl };
 }
 
 -- the map was refused
@@ -60,5 +60,5 @@ refused_run option limit map script map_bytes script_bytes message m m' r h p q 
   script_given = q;
   out = record { messages = message; rdl = []; header = []; status = MapRefused };
   is_output = inl (record { refused = refused; rdl = refl; header = refl; status = refl });
-  holds = record { messages = wrote; rdl = Appends-nil r; header = Appends-nil h; answer = refl }
+  holds = record { messages = wrote; rdl = Appends-nil r; header = Appends-nil h; answer = refl };
 }

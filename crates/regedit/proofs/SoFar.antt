@@ -21,7 +21,7 @@ messages-more : (n : ℕ) (rs : List Reply) (r : Reply) → messages_from n (rs 
 messages-more n [] r = ap (λ m. reply_text m r ∷ []) (let e : n ≡ n + 0 = omega arith in e)
 messages-more n (x ∷ rs) r =
     ap (λ (ms : List (List ℕ)). reply_text n x ∷ ms) (messages-more (n + 1) rs r
-      ∙ ap (λ m. messages_from (n + 1) rs ++ reply_text m r ∷ []) (let e : n + 1 + length rs ≡ n + length (x ∷ rs) = omega arith in e))
+    ∙ ap (λ m. messages_from (n + 1) rs ++ reply_text m r ∷ []) (let e : n + 1 + length rs ≡ n + length (x ∷ rs) = omega arith in e))
 
 or_assoc : (a b c : Bool) → (a || (b || c)) ≡ ((a || b) || c)
 or_assoc true b c = refl
@@ -51,7 +51,7 @@ nothing_yet old script before h = record {
   served = record { replies = []; ran = refl; text_is = refl; refuses_is = refl };
   lines = refl;
   count = refl;
-  wrote = h
+  wrote = h;
 }
 
 pub one_more : (old mid new : History') (script bytes line text : List ℕ) (left : Option (List ℕ)) (number : ℕ) (a b c : Option (List ℕ)) (refuses refuses' : Bool)
@@ -60,11 +60,11 @@ pub one_more : (old mid new : History') (script bytes line text : List ℕ) (lef
 one_more old mid new script bytes line text left number a b c refuses refuses' h cut said wrote =
     let rs = h.served.replies in
     let messages : concat (messages_from 1 (rs ++ said.reply ∷ [])) ≡ h.text ++ text =
-      ap concat (messages-more 1 rs said.reply) ∙ concat-append (messages_from 1 rs) (reply_text (1 + length rs) said.reply ∷ [])
-      ∙ ap (λ (t : List ℕ). concat (messages_from 1 rs) ++ t) (append-nil (reply_text (1 + length rs) said.reply))
-      ∙ ap (λ (t : List ℕ). t ++ reply_text (1 + length rs) said.reply) (sym h.served.text_is)
-      ∙ ap (λ n. h.text ++ reply_text n said.reply) (let e : 1 + length rs ≡ number + 1 = omega (arith, h.count) in e)
-      ∙ ap (λ (t : List ℕ). h.text ++ t) (sym said.text_is) in
+    ap concat (messages-more 1 rs said.reply) ∙ concat-append (messages_from 1 rs) (reply_text (1 + length rs) said.reply ∷ [])
+    ∙ ap (λ (t : List ℕ). concat (messages_from 1 rs) ++ t) (append-nil (reply_text (1 + length rs) said.reply))
+    ∙ ap (λ (t : List ℕ). t ++ reply_text (1 + length rs) said.reply) (sym h.served.text_is)
+    ∙ ap (λ n. h.text ++ reply_text n said.reply) (let e : 1 + length rs ≡ number + 1 = omega (arith, h.count) in e)
+    ∙ ap (λ (t : List ℕ). h.text ++ t) (sym said.text_is) in
     record {
       done = h.done ++ line ∷ [];
       text = h.text ++ text;
@@ -72,9 +72,9 @@ one_more old mid new script bytes line text left number a b c refuses refuses' h
         replies = rs ++ said.reply ∷ [];
         ran = Run-more old mid new h.done rs line said.reply h.served.ran said.answers;
         text_is = sym messages;
-        refuses_is = ap (λ x. x || refuses') h.served.refuses_is ∙ ap (λ x. list_any is_refused rs || x) said.refuses_is ∙ sym (any-more rs said.reply)
+        refuses_is = ap (λ x. x || refuses') h.served.refuses_is ∙ ap (λ x. list_any is_refused rs || x) said.refuses_is ∙ sym (any-more rs said.reply);
       };
       lines = h.lines ∙ ap (λ (ls : List (List ℕ)). h.done ++ ls) cut ∙ sym (append_assoc h.done (line ∷ []) (lines_left left));
       count = omega (arith, h.count, length-append rs (said.reply ∷ []));
-      wrote = Appends-trans a b c h.text text h.wrote wrote
+      wrote = Appends-trans a b c h.text text h.wrote wrote;
     }

@@ -16,7 +16,7 @@ pub record State : Type 0 where
 abbrev pub edited : State → Edit → State
 edited s e = record {
   top = record { name = s.top.name; registers = s.top.registers ++ e.register ∷ [] };
-  option = s.option
+  option = s.option;
 }
 
 -- accepted where it has no fault

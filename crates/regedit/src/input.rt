@@ -9,11 +9,7 @@ use std::alloc::Global;
 use std::io::{ErrorKind, Read};
 
 /// All the bytes of a reader. It makes at most `limit + 1_001` reads.
-pub fn read_whole<R: Read>(
-    alloc: Global,
-    reader: &mut R,
-    limit: usize,
-) -> Result<Vec<u8>, RunFault>
+pub fn read_whole<R: Read>(alloc: Global, reader: &mut R, limit: usize) -> Result<Vec<u8>, RunFault>
     requires { limit < 2 ^ 32 }
     ensures bytes { IfOk result (λ bytes. Gives (R.remaining reader.old) bytes.items) }
     ensures end { OnOk result (IsAtEnd (R.remaining reader.new)) }

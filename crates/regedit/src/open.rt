@@ -36,12 +36,7 @@ fn start_of(words: &Tokens<'_>, number: usize) -> usize
     }
 }
 
-fn line_at(
-    alloc: Global,
-    bytes: &[u8],
-    offset: usize,
-    what: &str,
-) -> Result<String, AllocError>
+fn line_at(alloc: Global, bytes: &[u8], offset: usize, what: &str) -> Result<String, AllocError>
     ensures { IfOk result (λ text. string_bytes text ≡ line_at bytes.now offset what.now) }
 {
     map_line(alloc, byte_place(bytes, offset), what)

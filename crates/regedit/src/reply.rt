@@ -2,7 +2,17 @@
 ghost use Rattle.std.specs.Prelude.{◌≡◌, ◌++◌, ◌+◌, ◌<◌, ◌^◌, string_bytes, IfOk, OnOk};
 ghost use Rattle.regedit.specs.Answers.{is_refused};
 ghost use Rattle.regedit.specs.Messages.{
-    words_fault_text, text_fault_text, fault_text, address_text, command_fault_text, refusal_text, add_column, text_refusal_text, line_refusal_text, reply_text, map_line
+  words_fault_text,
+  text_fault_text,
+  fault_text,
+  address_text,
+  command_fault_text,
+  refusal_text,
+  add_column,
+  text_refusal_text,
+  line_refusal_text,
+  reply_text,
+  map_line,
 };
 
 use crate::flat::edit::Refusal;
@@ -182,11 +192,7 @@ pub fn reply_text(alloc: Global, number: usize, reply: Reply) -> Result<String, 
 }
 
 /// The message of a map that is refused.
-pub fn map_line(
-    alloc: Global,
-    place: (usize, usize),
-    what: &str,
-) -> Result<String, AllocError>
+pub fn map_line(alloc: Global, place: (usize, usize), what: &str) -> Result<String, AllocError>
     ensures { IfOk result (λ text. string_bytes text ≡ map_line place.0 place.1 what.now) }
 {
     let mut text = String::new(alloc);

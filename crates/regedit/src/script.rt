@@ -3,7 +3,21 @@ ghost use Rattle.std.specs.Prelude.{◌≡◌, ◌≤◌, not, reverse, length, 
 ghost use Rattle.std.specs.List.{prefix_len};
 ghost use Rattle.std.specs.Str.{is_utf8};
 ghost use Rattle.regedit.specs.Commands.{
-    is_blank, is_space, is_part, trimmed, first_word, behind_word, name_in, target_in, add_to, added, asked, alone, is_silent, command_in, command_of
+  is_blank,
+  is_space,
+  is_part,
+  trimmed,
+  first_word,
+  behind_word,
+  name_in,
+  target_in,
+  add_to,
+  added,
+  asked,
+  alone,
+  is_silent,
+  command_in,
+  command_of,
 };
 ghost use Rattle.regedit.specs.Seen.{seen};
 
@@ -59,7 +73,11 @@ fn blanks_behind(bytes: &[u8]) -> usize
     ensures count { result ≡ prefix_len is_blank (reverse bytes.now) }
     ensures within { result ≤ length bytes.now }
 {
-    bytes.iter().rev().take_while(|byte| is_blank(**byte)).count()
+    bytes
+        .iter()
+        .rev()
+        .take_while(|byte| is_blank(**byte))
+        .count()
 }
 
 fn spaces_before(bytes: &[u8]) -> usize

@@ -107,14 +107,21 @@ impl Invertible for EditedMap {
     ghost use Rattle.regedit.specs.FlatStep.{Leads, Refuses};
 
     type Change = Edit;
+
     type Back = EditedMap;
+
     type Refusal = Refusal;
+
     type State = EditedMap;
 
     ghost state = { λ m. m };
+
     ghost prior = { λ s back. back };
+
     ghost fits = { λ s back. Unit {0} };
+
     ghost leads = { Leads };
+
     ghost refuses = { Refuses };
 
     fn apply(&mut self, alloc: Global, edit: &Edit) -> Result<EditedMap, Refusal> {

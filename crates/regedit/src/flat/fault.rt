@@ -4,7 +4,18 @@ ghost use Rattle.std.specs.Option.{option_copied, option_map_or};
 ghost use Rattle.regedit.specs.FlatMap.{map_items, map_weight, field_weight, register_weight, register_items};
 ghost use Rattle.regedit.specs.FlatRows.{width};
 ghost use Rattle.regedit.specs.FlatFault.{
-    has_field, has_register, field_fault, fields_fault, register_fault, registers_fault, bits_fault, fields_bits_fault, registers_bits_fault, is_within, has_top, first_fault
+  has_field,
+  has_register,
+  field_fault,
+  fields_fault,
+  register_fault,
+  registers_fault,
+  bits_fault,
+  fields_bits_fault,
+  registers_bits_fault,
+  is_within,
+  has_top,
+  first_fault,
 };
 
 use crate::flat::map::{AddressMap, Field, Register};
@@ -163,7 +174,9 @@ fn fields_weight(fields: &[Field]) -> u64
 {
     let mut sum = 0u64;
     'fields: for field in fields {
-        sum = sum.saturating_add(field.name.len() as u64).saturating_add(1);
+        sum = sum
+            .saturating_add(field.name.len() as u64)
+            .saturating_add(1);
     }
     sum
 }

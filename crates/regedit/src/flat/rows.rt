@@ -4,7 +4,18 @@ ghost use Rattle.std.specs.Fmt.{decimal};
 ghost use Rattle.std.specs.List.{flat_map};
 ghost use Rattle.regedit.specs.FlatBits.{HasRoom};
 ghost use Rattle.regedit.specs.FlatRows.{
-    width, join, hexadecimal, line_of, reset_column, field_row, register_row, map_row, field_rows, register_rows, end_of, list_text
+  width,
+  join,
+  hexadecimal,
+  line_of,
+  reset_column,
+  field_row,
+  register_row,
+  map_row,
+  field_rows,
+  register_rows,
+  end_of,
+  list_text,
 };
 
 use crate::flat::map::{AddressMap, Field, Register};

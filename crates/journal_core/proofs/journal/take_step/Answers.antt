@@ -1,6 +1,5 @@
-use Rattle.std.proofs.Common.{rules, ◌≡◌, ℕ, ◌+◌, ◌-◌, ◌<◌, ◌≤◌, List, [], ◌∷◌, ◌++◌, length, refl, sym, ap, ◌∙◌, subst, arith, Some, slice_get}
-use Rattle.std.proofs.lemmas.Result.{on_ok_weaker}
-use Rattle.journal_core.specs.Along.{FitAlong, Steps, states_along, back_to}
+use Rattle.std.proofs.Common.{rules, ◌≡◌, [], ◌∷◌, ◌++◌, sym, subst}
+use Rattle.journal_core.specs.Along.{FitAlong}
 use Rattle.journal_core.proofs.Stacks.{FitAlong-last, FitAlong-push}
 use Rattle.journal_core.proofs.journal.take_step.Goals as goal
 
@@ -22,4 +21,4 @@ returns-in-Ok-clause-to_fits g c =
     let m = g.M.Invertible in
     let items : c.push.new.self.items ≡ c.args.to.now.items ++ c.in-Ok.forward ∷ [] = search rules in
     subst (FitAlong m.prior m.fits (m.state c.revert.new.self)) (sym items)
-      (FitAlong-push m.prior m.fits _ _ _ c.in-Ok.ensures.fits (subst (λ s. FitAlong m.prior m.fits s c.args.to.now.items) (sym c.in-Ok.ensures.back) c.requires.to_fit))
+    (FitAlong-push m.prior m.fits _ _ _ c.in-Ok.ensures.fits (subst (λ s. FitAlong m.prior m.fits s c.args.to.now.items) (sym c.in-Ok.ensures.back) c.requires.to_fit))

@@ -1,4 +1,3 @@
-use Rattle.std.proofs.Common.{◌≡◌}
 use Rattle.journal_core.proofs.Runs.{on-again}
 use Rattle.journal_core.proofs.laws.redos_lead_on.Goals as goal
 

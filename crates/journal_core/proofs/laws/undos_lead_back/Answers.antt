@@ -1,4 +1,3 @@
-use Rattle.std.proofs.Common.{◌≡◌}
 use Rattle.journal_core.proofs.Runs.{back-place, back-kept, same_item}
 use Rattle.journal_core.proofs.laws.undos_lead_back.Goals as goal
 

@@ -1,9 +1,8 @@
 -- The end of the digits, and a number that has too many bits whatever follows.
 use Rattle.std.proofs.Common.{◌≡◌, ℕ, ◌+◌, ◌*◌, ◌^◌, ◌≤◌, get_or, drop, length, None, ◌∙◌, sym, ap, arith, refl}
-use Rattle.std.proofs.lemmas.List.{at_drop_more}
 use Rattle.std.specs.Char.{digit_value}
 use Rattle.std.proofs.Math.ListN.{drop_of_length-le}
-use Rattle.rdl_text.specs.Number.{value, in_bits}
+use Rattle.rdl_text.specs.Number.{number_bits, value, in_bits}
 use Rattle.rdl_text.proofs.Numbers.{value_after, value_is, le-value_after, value_after-digit, too_large, in_bits_none, in_bits_some, counts}
 use Rattle.std.specs.List.{filter}
 use Rattle.rdl_text.proofs.number.value.Goals as goal
@@ -28,5 +27,5 @@ returns-in_err-value c =
     let worth : value base ds ≡ value_after base next (drop (i + 1) ds) =
     value_is base ds ∙ (sym c.digits.invariant.1 ∙ value_after-digit base v i ds c.digits-test.true c.if-byte-ne95.true) in
     let none : in_bits next ≡ None = ap (λ (d : ℕ). in_bits (v * base + d)) (sym c.digit_value.ensures.value) ∙ sym c.in_err-value.ensures in
-    let large : 2 ^ 64 ≤ value base ds = rw worth (omega (arith, too_large next none, le-value_after base next (filter counts (drop (i + 1) ds)) c.requires)) in
+    let large : 2 ^ number_bits ≤ value base ds = rw worth (omega (arith, too_large next none, le-value_after base next (filter counts (drop (i + 1) ds)) c.requires)) in
     rw c.from_residual.ensures (sym (in_bits_none _ large))

@@ -1,5 +1,5 @@
 -- One byte of a string, in each of the two states.
-use Rattle.std.proofs.Common.{◌≡◌, ℕ, ◌+◌, ◌<◌, Bool, true, false, List, ◌∷◌, length, drop, get_or, nat_eq, Option, Some, None, refl, arith, ◌∙◌, sym, ap}
+use Rattle.std.proofs.Common.{◌≡◌, ℕ, ◌+◌, ◌<◌, true, false, List, length, drop, get_or, nat_eq, Option, Some, None, refl, arith, ◌∙◌, sym, ap}
 use Rattle.std.proofs.lemmas.Bool.{ne_eqb}
 use Rattle.std.specs.Option.{option_map}
 use Rattle.rdl_text.specs.Rows.{closing}

@@ -1,5 +1,5 @@
 -- The row that the first byte chooses has the longest word.
-use Rattle.std.proofs.Common.{◌≡◌, ◌≢◌, ℕ, true, false, sym, ◌∙◌, ap}
+use Rattle.std.proofs.Common.{◌≡◌, ℕ, true, false, sym, ◌∙◌, ap}
 use Rattle.std.specs.Char.{is_digit}
 use Rattle.rdl_text.specs.Name.{is_letter}
 use Rattle.rdl_text.specs.Rows.{byte}

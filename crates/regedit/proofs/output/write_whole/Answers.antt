@@ -10,7 +10,7 @@ loop-at-preserved-in-Ok g c =
     let contents = g.W.Write.contents in
     record {
       wrote = subst (Appends (contents c.args.writer.now) (contents c.write.new.self)) (written_more c.args.bytes.now c.loop-at.at c.in-Ok.n)
-        (Appends-trans _ (contents c.loop-at.writer) _ _ _ c.loop-at.invariant.wrote c.in-Ok.ensures.bytes);
+          (Appends-trans _ (contents c.loop-at.writer) _ _ _ c.loop-at.invariant.wrote c.in-Ok.ensures.bytes);
       inside = search rules;
       few = c.loop-at.invariant.few;
     }

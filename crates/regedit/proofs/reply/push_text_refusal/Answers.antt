@@ -10,7 +10,7 @@ returns c =
     let what : c.text_fault_text.result.now ≡ text_fault_text c.args.kind = c.text_fault_text.ensures in
     let column : c.add_column.result ≡ add_column c.args.offset = c.add_column.ensures in
     pieces_4 _ _ _ _ _ _ _ _ _
-      c.in_ok-push_str.ensures.bytes
-      (c.in_ok-push_str-2.ensures.bytes ∙ ap (λ (t : List ℕ). string_bytes c.push_str.new.self ++ t) what)
-      c.in_ok-push_str-3.ensures.bytes
-      (c.in_ok-push_decimal.ensures ∙ ap (λ n. string_bytes c.push_str-3.new.self ++ decimal n) column)
+    c.in_ok-push_str.ensures.bytes
+    (c.in_ok-push_str-2.ensures.bytes ∙ ap (λ (t : List ℕ). string_bytes c.push_str.new.self ++ t) what)
+    c.in_ok-push_str-3.ensures.bytes
+    (c.in_ok-push_decimal.ensures ∙ ap (λ n. string_bytes c.push_str-3.new.self ++ decimal n) column)

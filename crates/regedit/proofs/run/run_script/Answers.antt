@@ -11,15 +11,15 @@ returns-then-refused g c =
     let contents = g.R.Write.contents in
     let text : c.as_bytes.result.now ≡ map_text (Some c.map.result.now.top) = c.as_bytes.ensures.value ∙ c.in-Ok.ensures in
     let rdl : Appends (contents c.args.rdl.now) (contents c.write_whole.new.writer) (map_text (Some c.map.result.now.top)) =
-      subst (Appends (contents c.args.rdl.now) (contents c.write_whole.new.writer)) text c.in_ok-write_whole.ensures.ok in
+    subst (Appends (contents c.args.rdl.now) (contents c.write_whole.new.writer)) text c.in_ok-write_whole.ensures.ok in
     ran_from c.args.history c.args.map c.args.script.now c.in_ok-refused.refused _ c.new-journal.result c.serve_all.new.journal c.map.result.now _ _ _ _ _ _
-      c.new-journal.ensures (sym (ap (λ b. if b then LineRefused else Accepted) c.if-refused.true)) c.in_ok-refused.ensures.served c.map.ensures rdl c.in_ok-write_whole-2.ensures.ok
+    c.new-journal.ensures (sym (ap (λ b. if b then LineRefused else Accepted) c.if-refused.true)) c.in_ok-refused.ensures.served c.map.ensures rdl c.in_ok-write_whole-2.ensures.ok
 
 pub returns : goal.returns
 returns g c =
     let contents = g.R.Write.contents in
     let text : c.as_bytes.result.now ≡ map_text (Some c.map.result.now.top) = c.as_bytes.ensures.value ∙ c.in-Ok.ensures in
     let rdl : Appends (contents c.args.rdl.now) (contents c.write_whole.new.writer) (map_text (Some c.map.result.now.top)) =
-      subst (Appends (contents c.args.rdl.now) (contents c.write_whole.new.writer)) text c.in_ok-write_whole.ensures.ok in
+    subst (Appends (contents c.args.rdl.now) (contents c.write_whole.new.writer)) text c.in_ok-write_whole.ensures.ok in
     ran_from c.args.history c.args.map c.args.script.now c.in_ok-refused.refused _ c.new-journal.result c.serve_all.new.journal c.map.result.now _ _ _ _ _ _
-      c.new-journal.ensures (sym (ap (λ b. if b then LineRefused else Accepted) c.if-refused.false)) c.in_ok-refused.ensures.served c.map.ensures rdl c.in_ok-write_whole-2.ensures.ok
+    c.new-journal.ensures (sym (ap (λ b. if b then LineRefused else Accepted) c.if-refused.false)) c.in_ok-refused.ensures.served c.map.ensures rdl c.in_ok-write_whole-2.ensures.ok

@@ -1,8 +1,7 @@
-use Rattle.std.proofs.Common.{rules, ◌≡◌, ℕ, ◌+◌, ◌-◌, ◌<◌, ◌≤◌, List, [], ◌∷◌, ◌++◌, length, refl, sym, ap, ◌∙◌, subst, arith, Some, slice_get}
-use Rattle.std.proofs.lemmas.Result.{on_ok_weaker}
+use Rattle.std.proofs.Common.{rules, ◌≡◌, [], ◌∷◌, ◌++◌, sym, ap, ◌∙◌, subst}
 use mathlib.Core.List.{reverse}
-use Rattle.journal_core.specs.Along.{FitAlong, IsSound, Steps, states_along, back_to}
-use Rattle.journal_core.specs.History.{IsAt, Edits, Refuses, after_undo, after_redo, after_edit}
+use Rattle.journal_core.specs.Along.{FitAlong, states_along}
+use Rattle.journal_core.specs.History.{IsAt, after_edit}
 use Rattle.journal_core.proofs.Stacks.{edited, FitAlong-push, slice_get_at, length-states}
 use Rattle.journal_core.proofs.journal.Journal.edit.Goals as goal
 
@@ -14,7 +13,7 @@ invariant_of-self-in-Ok g c =
     record {
       within = search rules;
       done_fit = subst (FitAlong m.prior m.fits (m.state c.apply.new.self)) (sym items)
-        (FitAlong-push m.prior m.fits _ _ _ c.in-Ok.ensures.fits (subst (λ s. FitAlong m.prior m.fits s j.done.items) (sym c.in-Ok.ensures.back) c.self.invariant.done_fit));
+          (FitAlong-push m.prior m.fits _ _ _ c.in-Ok.ensures.fits (subst (λ s. FitAlong m.prior m.fits s j.done.items) (sym c.in-Ok.ensures.back) c.self.invariant.done_fit));
       undone_fit = subst (FitAlong m.prior m.fits (m.state c.apply.new.self)) (sym c.clear.ensures.items) tt;
     }
 
@@ -28,10 +27,10 @@ returns-in-Ok-clause-ok g c =
       from = now;
       to = m.state c.apply.new.self;
       stood = subst (λ h. IsAt h now) c.self.view_is
-        (slice_get_at (states_along m.prior now j.done.items) (reverse (states_along m.prior now j.undone.items)) now _ (length-states m.prior now j.done.items));
+          (slice_get_at (states_along m.prior now j.done.items) (reverse (states_along m.prior now j.undone.items)) now _ (length-states m.prior now j.done.items));
       led = c.in-Ok.ensures.leads;
       edited = edited m.prior now (m.state c.apply.new.self) _ j.done.items c.push.new.self.items j.undone.items c.clear.new.self.items _ items c.clear.ensures.items c.in-Ok.ensures.back
-        ∙ ap (λ h. after_edit h (m.state c.apply.new.self)) c.self.view_is;
+          ∙ ap (λ h. after_edit h (m.state c.apply.new.self)) c.self.view_is;
     }
 
 pub returns-in-Err-clause-fault : goal.returns-in-Err-clause-fault
@@ -42,6 +41,6 @@ returns-in-Err-clause-fault g c =
     record {
       at = now;
       stood = subst (λ h. IsAt h now) c.self.view_is
-        (slice_get_at (states_along m.prior now j.done.items) (reverse (states_along m.prior now j.undone.items)) now _ (length-states m.prior now j.done.items));
+          (slice_get_at (states_along m.prior now j.done.items) (reverse (states_along m.prior now j.undone.items)) now _ (length-states m.prior now j.done.items));
       refused = c.in-Err.ensures.refused;
     }

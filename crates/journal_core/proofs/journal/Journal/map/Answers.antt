@@ -1,8 +1,7 @@
-use Rattle.std.proofs.Common.{rules, ◌≡◌, ℕ, ◌+◌, ◌-◌, ◌<◌, ◌≤◌, List, [], ◌∷◌, ◌++◌, length, refl, sym, ap, ◌∙◌, subst, arith, Some, slice_get}
-use Rattle.std.proofs.lemmas.Result.{on_ok_weaker}
+use Rattle.std.proofs.Common.{subst}
 use mathlib.Core.List.{reverse}
-use Rattle.journal_core.specs.Along.{FitAlong, IsSound, Steps, states_along, back_to}
-use Rattle.journal_core.specs.History.{IsAt, Edits, Refuses, after_undo, after_redo, after_edit}
+use Rattle.journal_core.specs.Along.{states_along}
+use Rattle.journal_core.specs.History.{IsAt}
 use Rattle.journal_core.proofs.Stacks.{slice_get_at, length-states}
 use Rattle.journal_core.proofs.journal.Journal.map.Goals as goal
 
@@ -12,4 +11,4 @@ returns g c =
     let j = c.self.inside in
     let now = m.state j.map in
     subst (λ h. IsAt h now) c.self.view_is
-      (slice_get_at (states_along m.prior now j.done.items) (reverse (states_along m.prior now j.undone.items)) now _ (length-states m.prior now j.done.items))
+    (slice_get_at (states_along m.prior now j.done.items) (reverse (states_along m.prior now j.undone.items)) now _ (length-states m.prior now j.done.items))

@@ -1,8 +1,6 @@
-use Rattle.std.proofs.Common.{rules, ◌≡◌, ℕ, ◌+◌, ◌-◌, ◌<◌, ◌≤◌, List, [], ◌∷◌, ◌++◌, length, refl, sym, ap, ◌∙◌, subst, arith, Some, slice_get}
+use Rattle.std.proofs.Common.{◌≡◌, ◌+◌, length, ap, ◌∙◌, subst, arith}
 use Rattle.std.proofs.lemmas.Result.{on_ok_weaker}
-use mathlib.Core.List.{reverse}
-use Rattle.journal_core.specs.Along.{FitAlong, IsSound, Steps, states_along, back_to}
-use Rattle.journal_core.specs.History.{IsAt, Edits, Refuses, after_undo, after_redo, after_edit}
+use Rattle.journal_core.specs.History.{after_redo}
 use Rattle.journal_core.proofs.Stacks.{redone, length-states-all}
 use Rattle.journal_core.proofs.journal.Journal.redo.Goals as goal
 
@@ -14,5 +12,5 @@ returns-clause-nothing g c =
     let m = g.M.Invertible in
     let j = c.self.inside in
     let len : length c.args.self.now.states ≡ c.args.self.now.place + (length j.undone.items + 1) =
-      subst (λ h. length h.states ≡ h.place + (length j.undone.items + 1)) c.self.view_is (length-states-all m.prior (m.state j.map) j.done.items j.undone.items) in
+    subst (λ h. length h.states ≡ h.place + (length j.undone.items + 1)) c.self.view_is (length-states-all m.prior (m.state j.map) j.done.items j.undone.items) in
     (λ e. c.take_step.ensures.nothing.0 (omega (arith, len, e)), λ e. let none : length j.undone.items ≡ 0 = c.take_step.ensures.nothing.1 e in omega (arith, len, none))

@@ -1,8 +1,6 @@
-use Rattle.std.proofs.Common.{rules, ◌≡◌, ℕ, ◌+◌, ◌-◌, ◌<◌, ◌≤◌, List, [], ◌∷◌, ◌++◌, length, refl, sym, ap, ◌∙◌, subst, arith, Some, slice_get}
-use Rattle.std.proofs.lemmas.Result.{on_ok_weaker}
+use Rattle.std.proofs.Common.{rules, ◌≡◌, ◌+◌, ◌∷◌, ◌++◌, length, subst, arith}
 use mathlib.Core.List.{reverse}
-use Rattle.journal_core.specs.Along.{FitAlong, IsSound, Steps, states_along, back_to}
-use Rattle.journal_core.specs.History.{IsAt, Edits, Refuses, after_undo, after_redo, after_edit}
+use Rattle.journal_core.specs.Along.{states_along}
 use Rattle.journal_core.proofs.Stacks.{length-states-all}
 use Rattle.journal_core.proofs.journal.Journal.redo_len.Goals as goal
 
@@ -12,5 +10,5 @@ returns g c =
     let j = c.self.inside in
     let len : c.len.result ≡ length j.undone.items = search rules in
     subst (λ h. h.place + c.len.result + 1 ≡ length h.states) c.self.view_is
-      (let e : length j.done.items + c.len.result + 1 ≡ length (states_along m.prior (m.state j.map) j.done.items ++ m.state j.map ∷ reverse (states_along m.prior (m.state j.map) j.undone.items)) =
-        omega (arith, len, length-states-all m.prior (m.state j.map) j.done.items j.undone.items) in e)
+    (let e : length j.done.items + c.len.result + 1 ≡ length (states_along m.prior (m.state j.map) j.done.items ++ m.state j.map ∷ reverse (states_along m.prior (m.state j.map) j.undone.items)) =
+    omega (arith, len, length-states-all m.prior (m.state j.map) j.done.items j.undone.items) in e)

@@ -1,0 +1,6 @@
+pub mod Changes
+pub mod Components
+pub mod Rests
+pub mod Rounds
+pub mod Steps
+pub mod Ways

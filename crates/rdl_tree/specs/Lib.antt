@@ -1,0 +1,15 @@
+pub mod Address
+pub mod AddressText
+pub mod Codes
+pub mod Component
+pub mod Edit
+pub mod Falls
+pub mod Fault
+pub mod Find
+pub mod ItemWeight
+pub mod Items
+pub mod Part
+pub mod Shell
+pub mod View
+pub mod Weight
+pub mod Word

@@ -1,0 +1,56 @@
+-- The parts of an item that can be replaced where it stands.
+-- own: SystemRDL 2.0 has no edits.
+use Rattle.std.specs.Prelude.{ℕ, Bool, true, false, List, Option, Some, None, option_map, slice_get, slice_set}
+use Rattle.rdl_tree.specs.Items.{Items}
+use Rattle.rdl_tree.specs.View.{items_of, list_of}
+use Rattle.rdl_tree.specs.declared.part.Part.{Part}
+use Rattle.rdl_tree.specs.declared.part.Part.TheVariants as part
+use Rattle.rdl_tree.specs.declared.description.Item.{Item}
+use Rattle.rdl_tree.specs.declared.description.Item.TheVariants.{Define, Instance, Own, Default, Dynamic}
+use Rattle.rdl_tree.specs.declared.description.Of.TheVariants.{Named}
+
+-- the item has a part of this one's sort
+abbrev pub has_part : Part → Item → Bool
+has_part (part.Shell new) (Instance s o) = true
+has_part (part.Value new) (Own p v) = true
+has_part (part.Value new) (Default p v) = true
+has_part (part.Value new) (Dynamic t p v) = true
+has_part (part.Target new) (Dynamic t p v) = true
+has_part (part.Type new) (Instance s (Named t)) = true
+has_part (part.Name new) (Define n c) = true
+has_part new x = false
+
+-- the item with this part in the place of its own; one that has no such part stays
+abbrev pub with_part : Part → Item → Item
+with_part (part.Shell new) (Instance s o) = Instance new o
+with_part (part.Value new) (Own p v) = Own p new
+with_part (part.Value new) (Default p v) = Default p new
+with_part (part.Value new) (Dynamic t p v) = Dynamic t p new
+with_part (part.Target new) (Dynamic t p v) = Dynamic new p v
+with_part (part.Type new) (Instance s (Named t)) = Instance s (Named new)
+with_part (part.Name new) (Define n c) = Define new c
+with_part new x = x
+
+-- the item's own part of this one's sort; where it has none, this one
+abbrev pub part_of : Part → Item → Part
+part_of (part.Shell new) (Instance s o) = part.Shell s
+part_of (part.Value new) (Own p v) = part.Value v
+part_of (part.Value new) (Default p v) = part.Value v
+part_of (part.Value new) (Dynamic t p v) = part.Value v
+part_of (part.Target new) (Dynamic t p v) = part.Target t
+part_of (part.Type new) (Instance s (Named t)) = part.Type t
+part_of (part.Name new) (Define n c) = part.Name n
+part_of new x = new
+
+-- the items, with another in the place of the one of this number, if there is one
+abbrev pub put_at : ℕ → Option Item → List Item → List Item
+put_at number None xs = xs
+put_at number (Some x) xs = slice_set xs number x
+
+-- the items with the part in the place of the one of the item of this number
+abbrev pub with_part_at : ℕ → Part → Items → Items
+with_part_at number new b = items_of (put_at number (option_map (with_part new) (slice_get (list_of b) number)) (list_of b))
+
+-- the part of the item of this number
+abbrev pub part_at : ℕ → Part → Items → Option Part
+part_at number new b = option_map (part_of new) (slice_get (list_of b) number)

@@ -1,0 +1,62 @@
+//! Changes of a body's own items.
+ghost use Rattle.std.specs.Prelude.{◌≡◌, ◌<◌, ◌≤◌, ◌++◌, ◌∷◌, [], length, is_ok, if◌then◌else◌, IfErr, Some, slice_get};
+ghost use Rattle.rdl_tree.specs.View.{list_of, items_of};
+ghost use Rattle.rdl_tree.specs.Edit.{insert_item, remove_item, shift_item, replace_item};
+
+use crate::description::{Body, Item};
+use std::alloc::AllocFailed;
+use std::mem;
+
+impl Body {
+    /// Puts the item behind all others.
+    #[tactic(auto, using(crate::proofs::Rounds::views))]
+    pub fn push(&mut self, item: Item) -> Result<(), AllocFailed<Item>>
+        ensures after { self.new ≡ (if is_ok result then items_of (list_of self.old ++ item ∷ []) else self.old) }
+        ensures value_returned { IfErr result (λ refused. refused.value ≡ item) }
+    {
+        self.items.push(item)
+    }
+
+    /// Puts the item where it has this number.
+    #[tactic(auto, using(crate::proofs::Rounds::views))]
+    pub fn insert(&mut self, number: usize, item: Item) -> Result<(), AllocFailed<Item>>
+        requires { number ≤ length (list_of self.old) }
+        ensures after { self.new ≡ (if is_ok result then insert_item number item self.old else self.old) }
+        ensures value_returned { IfErr result (λ refused. refused.value ≡ item) }
+    {
+        self.items.insert(number, item)
+    }
+
+    #[tactic(auto, using(crate::proofs::Rounds::views))]
+    pub fn remove(&mut self, number: usize) -> Item
+        requires { number < length (list_of self.old) }
+        ensures after { self.new ≡ remove_item number self.old }
+        ensures value { slice_get (list_of self.old) number ≡ Some result }
+    {
+        self.items.remove(number)
+    }
+
+    /// Takes the item out and puts it in again where it has the number `to`. This takes no memory.
+    #[tactic(auto, using(crate::proofs::Rounds::views))]
+    pub fn shift(&mut self, from: usize, to: usize)
+        requires from_an_item { from < length (list_of self.old) }
+        requires to_an_item { to < length (list_of self.old) }
+        ensures { self.new ≡ shift_item from to self.old }
+    {
+        let item = self.items.remove(from);
+        match self.items.insert(to, item) {
+            Ok(()) => {}
+            Err(_) => unreachable!(),
+        }
+    }
+
+    /// Puts the item in the place of another, which comes back.
+    #[tactic(auto, using(crate::proofs::Rounds::views))]
+    pub fn replace(&mut self, number: usize, item: Item) -> Item
+        requires { number < length (list_of self.old) }
+        ensures after { self.new ≡ replace_item number item self.old }
+        ensures value { slice_get (list_of self.old) number ≡ Some result }
+    {
+        mem::replace(&mut self.items[number], item)
+    }
+}

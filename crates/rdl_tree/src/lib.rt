@@ -1,0 +1,19 @@
+//! Descriptions of register maps: the tree of items that a text of SystemRDL spells.
+#![tactic(auto)]
+
+pub mod address;
+pub mod copy;
+pub mod description;
+pub mod dims;
+pub mod edit;
+pub mod fault;
+pub mod find;
+pub mod part;
+pub mod path;
+pub mod reach;
+pub mod shell;
+pub mod target;
+#[cfg(test)]
+mod tests;
+pub mod value;
+pub mod weight;

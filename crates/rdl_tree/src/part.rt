@@ -1,0 +1,66 @@
+//! The parts of an item that can be replaced where it stands.
+ghost use Rattle.std.specs.Prelude.{◌≡◌, ◌<◌, IsTrue, IsSomeAnd, length, Some, slice_get};
+ghost use Rattle.rdl_tree.specs.Part.{has_part, with_part, part_of, with_part_at, part_at};
+ghost use Rattle.rdl_tree.specs.View.{list_of};
+
+use crate::description::{Body, Item, Of};
+use crate::shell::Shell;
+use crate::target::Target;
+use crate::value::Value;
+use rdl_text::name::Name;
+use std::mem;
+
+/// A part of an item.
+#[derive(Debug, Drop)]
+pub enum Part {
+    /// The shell of an instance.
+    Shell(Shell),
+    /// The value of an assignment.
+    Value(Value),
+    /// The target of a dynamic assignment.
+    Target(Target),
+    /// The name of the type of an instance.
+    Type(Name),
+    /// The name of a definition.
+    Name(Name),
+}
+
+impl Item {
+    /// Puts the part in the place of the item's own, which comes back.
+    pub fn exchange(&mut self, part: Part) -> Part
+        requires { IsTrue (has_part part self.old) }
+        ensures after { self.new ≡ with_part part self.old }
+        ensures value { result ≡ part_of part self.old }
+    {
+        match (self, part) {
+            (Item::Instance(shell, _), Part::Shell(new)) => {
+                Part::Shell(mem::replace(shell, new))
+            }
+            (Item::Instance(_, Of::Named(name)), Part::Type(new)) => {
+                Part::Type(mem::replace(name, new))
+            }
+            (Item::Define(name, _), Part::Name(new)) => Part::Name(mem::replace(name, new)),
+            (Item::Own(_, value), Part::Value(new)) => Part::Value(mem::replace(value, new)),
+            (Item::Default(_, value), Part::Value(new)) => Part::Value(mem::replace(value, new)),
+            (Item::Dynamic(_, _, value), Part::Value(new)) => {
+                Part::Value(mem::replace(value, new))
+            }
+            (Item::Dynamic(target, _, _), Part::Target(new)) => {
+                Part::Target(mem::replace(target, new))
+            }
+            _ => unreachable!(),
+        }
+    }
+}
+
+impl Body {
+    /// Puts the part in the place of the one of the item with this number, which comes back.
+    #[tactic(auto, using(crate::proofs::Rounds::views))]
+    pub fn exchange(&mut self, number: usize, part: Part) -> Part
+        requires { IsSomeAnd (slice_get (list_of self.old) number) (λ item. IsTrue (has_part part item)) }
+        ensures after { self.new ≡ with_part_at number part self.old }
+        ensures value { Some result ≡ part_at number part self.old }
+    {
+        self.items[number].exchange(part)
+    }
+}
