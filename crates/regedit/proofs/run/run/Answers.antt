@@ -17,4 +17,4 @@ returns-in-Err-Refused g c =
     let wrote : Appends (contents c.args.messages.now) (contents c.write_whole.new.writer) (string_bytes c.in-Err-Refused.message) =
     subst (λ m. Appends (contents c.args.messages.now) (contents c.write_whole.new.writer) (string_bytes m)) c.in-Err-Refused.message-is
     (subst (Appends (contents c.args.messages.now) (contents c.write_whole.new.writer)) c.as_bytes.ensures.value c.in_ok-write_whole-in-Err-Refused.ensures.ok) in
-    refused_run c.args.options.now.top c.args.options.now.history _ _ _ _ _ _ _ _ _ c.in_ok-map_bytes.ensures.bytes c.in_ok-script_bytes.ensures.bytes refused wrote
+    record { ran = refused_run c.args.options.now.top c.args.options.now.history _ _ _ _ _ _ _ _ _ c.in_ok-map_bytes.ensures.bytes c.in_ok-script_bytes.ensures.bytes refused wrote }
