@@ -1,6 +1,7 @@
 //! An editor of register maps.
 #![tactic(auto)]
 
+mod command;
 mod flat;
 mod input;
 mod open;
@@ -12,5 +13,29 @@ mod run;
 mod script;
 mod serve;
 mod status;
+#[cfg(test)]
+mod tests;
 
-fn main(_rt: HostRuntime) {}
+use crate::command::{command, refuse_words};
+use std::alloc::Global;
+use std::process::ExitCode;
+use std::{env, io};
+
+fn run_words(rt: &HostRuntime, alloc: Global) -> io::Result<u8> {
+    let owned: Vec<String> = env::args(rt)?.skip(1).collect(alloc)?;
+    let words: Vec<&str> = owned.iter().map(|word| word.as_str()).collect(alloc)?;
+    Ok(command(
+        rt,
+        alloc,
+        words.as_slice(),
+        &mut rt.stdout(),
+        &mut rt.stderr(),
+    ))
+}
+
+fn main(rt: HostRuntime) -> ExitCode {
+    ExitCode::from(match run_words(&rt, rt.alloc()) {
+        Ok(status) => status,
+        Err(error) => refuse_words(&error, &mut rt.stderr()),
+    })
+}

@@ -1,0 +1,94 @@
+//! Tests of the whole program, over readers and writers in memory and over files.
+use crate::run::{Options, run};
+use crate::status::{RunFault, Status};
+use std::alloc::Global;
+use std::io::{Read, Write};
+use std::str;
+use std::test::Fail;
+
+mod faults;
+mod files;
+mod history;
+mod limits;
+mod lines;
+mod maps;
+mod mission;
+
+const MAP: &str = "addrmap top { reg { field {} f[8] = 0x5; } a; };";
+
+/// What a run writes.
+#[derive(Debug, Drop)]
+struct Written {
+    status: Status,
+    rdl: Vec<u8>,
+    header: Vec<u8>,
+    messages: Vec<u8>,
+}
+
+impl Written {
+    fn rdl(&self) -> Result<&str, Fail> {
+        Ok(str::from_utf8(self.rdl.as_slice())?)
+    }
+
+    fn messages(&self) -> Result<&str, Fail> {
+        Ok(str::from_utf8(self.messages.as_slice())?)
+    }
+}
+
+fn run_with<M: Read, S: Read, E: Write>(
+    alloc: Global,
+    map: &mut M,
+    script: &mut S,
+    messages: &mut E,
+) -> Result<Status, RunFault> {
+    let options = Options {
+        top: None,
+        history: 10_000,
+    };
+    let mut rdl: Vec<u8> = Vec::new(alloc);
+    let mut header: Vec<u8> = Vec::new(alloc);
+    run(
+        alloc,
+        map,
+        script,
+        &options,
+        &mut rdl,
+        &mut header,
+        messages,
+    )
+}
+
+fn write_with(
+    alloc: Global,
+    mut map: &[u8],
+    mut script: &[u8],
+    history: u32,
+) -> Result<Written, RunFault> {
+    let options = Options { top: None, history };
+    let mut rdl = Vec::new(alloc);
+    let mut header = Vec::new(alloc);
+    let mut messages = Vec::new(alloc);
+    let status = run(
+        alloc,
+        &mut map,
+        &mut script,
+        &options,
+        &mut rdl,
+        &mut header,
+        &mut messages,
+    )?;
+    Ok(Written {
+        status,
+        rdl,
+        header,
+        messages,
+    })
+}
+
+fn write_bytes(alloc: Global, map: &[u8], script: &[u8]) -> Result<Written, RunFault> {
+    write_with(alloc, map, script, 10_000)
+}
+
+fn write(alloc: Global, map: &str, script: &str) -> Result<Written, RunFault> {
+    write_bytes(alloc, map.as_bytes(), script.as_bytes())
+}

@@ -1,0 +1,106 @@
+//! What stands at a limit, and past it.
+use super::{MAP, write};
+use crate::status::Status;
+use std::alloc::{AllocError, Global};
+use std::test::Fail;
+
+fn named(alloc: Global, len: usize) -> Result<String, AllocError> {
+    let mut name = String::new(alloc);
+    for _ in 0..len {
+        name.push_str("n")?;
+    }
+    Ok(name)
+}
+
+#[test]
+fn of_the_length_of_names(rt: HostRuntime) -> Result<(), Fail> {
+    let name = named(rt.alloc(), 255)?;
+    let map = format!(in rt.alloc(); "addrmap {name} {{}};")?;
+    let want = format!(in rt.alloc(); "addrmap {name} {{\n}};\n")?;
+    let written = write(rt.alloc(), map.as_str(), "")?;
+    assert_eq!(rt; written.status, Status::Accepted);
+    assert_eq!(rt; written.rdl()?, want.as_str());
+    let map = format!(in rt.alloc(); "addrmap n{name} {{}};")?;
+    let written = write(rt.alloc(), map.as_str(), "")?;
+    assert_eq!(rt; written.messages()?, "map:1:9: S7 identifier too long\n");
+    let script = format!(in rt.alloc(); "add /$top last reg {{}} n{name};")?;
+    let written = write(rt.alloc(), MAP, script.as_str())?;
+    let want = "script:1: C4 text refused: S7 identifier too long at column 8\n";
+    assert_eq!(rt; written.messages()?, want);
+    let script = format!(in rt.alloc(); "add /$n{name} last reg {{}} b;")?;
+    let written = write(rt.alloc(), MAP, script.as_str())?;
+    assert_eq!(rt; written.messages()?, "script:1: C2 bad operands\n");
+    Ok(())
+}
+
+// A register has 32 bits, and a reset those of its field.
+#[test]
+fn of_bits(rt: HostRuntime) -> Result<(), Fail> {
+    let maps = [
+        "addrmap top { reg { field {} f[32] = 4294967295; } a; };",
+        "addrmap top { reg { field {} f[31] = 0x7FFF_FFFF; field {} g = 1; } a; };",
+    ];
+    for map in &maps {
+        let written = write(rt.alloc(), map, "")?;
+        assert_eq!(rt; written.status, Status::Accepted, "at {map}");
+    }
+    let map = "addrmap top { reg { field {} f[32] = 4294967296; } a; };";
+    let written = write(rt.alloc(), map, "")?;
+    assert_eq!(rt; written.messages()?, "map:1:30: E23 reset too wide\n");
+    let map = "addrmap top { reg { field {} f = 18446744073709551615; } a; };";
+    let written = write(rt.alloc(), map, "")?;
+    assert_eq!(rt; written.messages()?, "map:1:30: E23 reset too wide\n");
+    Ok(())
+}
+
+// With the last statement the map has one more item than a description may have.
+#[test]
+fn of_the_items_of_a_text(rt: HostRuntime) -> Result<(), Fail> {
+    let mut map = String::from_str(rt.alloc(), "addrmap top {")?;
+    for _ in 0..65_537 {
+        map.push_str("reg{}a;")?;
+    }
+    let written = write(rt.alloc(), map.as_str(), "")?;
+    let want = "map:1:458772: S12 description too large\n";
+    assert_eq!(rt; written.status, Status::MapRefused);
+    assert_eq!(rt; written.messages()?, want);
+    Ok(())
+}
+
+fn full_map(alloc: Global) -> Result<String, AllocError> {
+    let mut map = String::from_str(alloc, "addrmap top {")?;
+    for i in 0..1_985 {
+        map.push_str("reg {")?;
+        for j in 0..32 {
+            write!(map, "field {{}} f{j};")?;
+        }
+        write!(map, "}} r{i};")?;
+    }
+    map.push_str("};")?;
+    Ok(map)
+}
+
+fn last_register(alloc: Global, fields: u32) -> Result<String, AllocError> {
+    let mut line = String::from_str(alloc, "add /$top last reg {")?;
+    for j in 0..fields {
+        write!(line, "field {{}} f{j};")?;
+    }
+    line.push_str("} last_one;\n")?;
+    Ok(line)
+}
+
+// The map has 1 + 1,985 x 33 = 65,506 of at most 65,536 items.
+#[test]
+fn of_the_items_of_a_map(rt: HostRuntime) -> Result<(), Fail> {
+    let map = full_map(rt.alloc())?;
+    let script = last_register(rt.alloc(), 29)?;
+    let written = write(rt.alloc(), map.as_str(), script.as_str())?;
+    assert_eq!(rt; written.messages()?, "");
+    assert_eq!(rt; written.status, Status::Accepted);
+    let script = last_register(rt.alloc(), 30)?;
+    let written = write(rt.alloc(), map.as_str(), script.as_str())?;
+    let want =
+        "script:1: X9 the edited map has a fault: E25 description too large at item -\n";
+    assert_eq!(rt; written.messages()?, want);
+    Ok(())
+}

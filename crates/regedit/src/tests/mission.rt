@@ -1,0 +1,77 @@
+//! The run that the README shows.
+use super::{MAP, write};
+use crate::status::Status;
+use std::test::Fail;
+
+const SCRIPT: &str = "add /$top last reg { field {} g; } b;\nundo\nredo\nlist\n";
+
+const MESSAGES: &str = "0x0 addrmap top size 0x8
+0x0 reg top.a size 0x4
+[7:0] field top.a.f reset 0x5
+0x4 reg top.b size 0x4
+[0:0] field top.b.g
+";
+
+const WRITTEN: &str = "addrmap top {
+    reg {
+        field {
+        } f[8] = 0x5;
+    } a;
+    reg {
+        field {
+        } g;
+    } b;
+};
+";
+
+const UNEDITED: &str = "addrmap top {
+    reg {
+        field {
+        } f[8] = 0x5;
+    } a;
+};
+";
+
+#[test]
+fn adds_a_register(rt: HostRuntime) -> Result<(), Fail> {
+    let written = write(rt.alloc(), MAP, SCRIPT)?;
+    assert_eq!(rt; written.status, Status::Accepted);
+    assert_eq!(rt; written.messages()?, MESSAGES);
+    assert_eq!(rt; written.rdl()?, WRITTEN);
+    assert!(rt; written.header.is_empty());
+    Ok(())
+}
+
+#[test]
+fn undoes_an_edit(rt: HostRuntime) -> Result<(), Fail> {
+    let script = "add /$top last reg { field {} g; } b;\nundo\n";
+    let written = write(rt.alloc(), MAP, script)?;
+    assert_eq!(rt; written.status, Status::Accepted);
+    assert_eq!(rt; written.messages()?, "");
+    assert_eq!(rt; written.rdl()?, UNEDITED);
+    Ok(())
+}
+
+#[test]
+fn writes_an_empty_address_map(rt: HostRuntime) -> Result<(), Fail> {
+    let written = write(rt.alloc(), "addrmap top {};", "")?;
+    assert_eq!(rt; written.status, Status::Accepted);
+    assert_eq!(rt; written.messages()?, "");
+    assert_eq!(rt; written.rdl()?, "addrmap top {\n};\n");
+    assert!(rt; written.header.is_empty());
+    Ok(())
+}
+
+// That memory is left is no fact of a contract.
+#[test]
+fn edit_always_out_of_memory(rt: HostRuntime) -> Result<(), Fail> {
+    let written = write(rt.alloc(), MAP, "add /$top last reg {} b;\n")?;
+    assert_eq!(rt; written.status, Status::Accepted);
+    Ok(())
+}
+
+// That a reader can be read is no fact of a contract.
+#[test]
+fn run_always_read_fault(rt: HostRuntime) {
+    assert!(rt; write(rt.alloc(), MAP, SCRIPT).is_ok());
+}
