@@ -99,8 +99,7 @@ fn of_the_items_of_a_map(rt: HostRuntime) -> Result<(), Fail> {
     assert_eq!(rt; written.status, Status::Accepted);
     let script = last_register(rt.alloc(), 30)?;
     let written = write(rt.alloc(), map.as_str(), script.as_str())?;
-    let want =
-        "script:1: X9 the edited map has a fault: E25 description too large at item -\n";
+    let want = "script:1: X9 the edited map has a fault: E25 description too large at item -\n";
     assert_eq!(rt; written.messages()?, want);
     Ok(())
 }

@@ -3,13 +3,14 @@ use Rattle.std.specs.Option.{option_copied}
 use Rattle.std.specs.Io.KnownBytes.{Appends}
 use Rattle.regedit.specs.Opening.{RefusesToOpen}
 use Rattle.regedit.specs.OpeningFaults.{IfRefusedToOpen}
+use Rattle.regedit.specs.declared.open.OpenFault.TheVariants.{Refused}
 use Rattle.regedit.proofs.RunLemmas.{refused_run}
 use Rattle.regedit.proofs.run.run.Goals as goal
 
 pub returns-in-Err-Refused : goal.returns-in-Err-Refused
 returns-in-Err-Refused g c =
     let contents = g.E.Write.contents in
-    let refusal : IfRefusedToOpen _ (RefusesToOpen (option_copied c.as_ref.result) c.as_slice.result.now) =
+    let refusal : IfRefusedToOpen (Refused c.in-Err-Refused.message) (RefusesToOpen (option_copied c.as_ref.result) c.as_slice.result.now) =
     subst (λ f. IfRefusedToOpen f (RefusesToOpen (option_copied c.as_ref.result) c.as_slice.result.now)) c.in-Err-Refused.field-0-is c.in-Err-Refused.ensures.refused in
     let refused : RefusesToOpen c.args.options.now.top c.in_ok-map_bytes.map_bytes.items (string_bytes c.in-Err-Refused.message) =
     subst (λ o. RefusesToOpen o c.in_ok-map_bytes.map_bytes.items (string_bytes c.in-Err-Refused.message)) c.as_ref.ensures.value
