@@ -1,5 +1,6 @@
 //! Readers and writers that fail.
 use super::{MAP, run_with};
+use crate::input::read_whole;
 use crate::status::{RunFault, Status};
 use std::io;
 use std::io::{ErrorKind, Read, Write};
@@ -95,21 +96,13 @@ fn reads_that_are_interrupted(rt: HostRuntime) {
     }
 }
 
-// The greatest input has bytes 0, which begin no word.
+// At a small limit, since the inputs' own makes for a slow test.
 #[test]
-fn inputs_that_are_too_long(rt: HostRuntime) -> Result<(), Fail> {
-    let cases = [
-        (67_108_864, Ok(Status::MapRefused)),
-        (67_108_865, Err(RunFault::TooLong)),
-    ];
-    for (len, want) in &cases {
-        let mut map = Zeros(*len);
-        let mut script = NOTHING;
-        let mut messages: Vec<u8> = Vec::new(rt.alloc());
-        let ended = run_with(rt.alloc(), &mut map, &mut script, &mut messages);
-        assert_eq!(rt; ended, *want, "at {len}");
-    }
-    Ok(())
+fn inputs_that_are_too_long(rt: HostRuntime) {
+    let least = read_whole(rt.alloc(), &mut Zeros(10_000), 10_000);
+    assert_eq!(rt; least.map(|bytes| bytes.len()), Ok(10_000));
+    let more = read_whole(rt.alloc(), &mut Zeros(10_001), 10_000);
+    assert_eq!(rt; more.map(|bytes| bytes.len()), Err(RunFault::TooLong));
 }
 
 #[test]
