@@ -1,4 +1,5 @@
 pub mod Accepted
+pub mod CommandLine
 pub mod FlatExact
 pub mod FlatNamed
 pub mod FlatOutcomes

@@ -1,11 +1,9 @@
 //! Readers and writers that fail.
 use super::{MAP, run_with};
+use crate::input::read_whole;
 use crate::status::{RunFault, Status};
 use std::io;
 use std::io::{ErrorKind, Read, Write};
-use std::test::Fail;
-
-const NOTHING: &[u8] = b"";
 
 /// A reader that is interrupted so often, and then fails or hands out its bytes.
 #[derive(Drop)]
@@ -63,69 +61,56 @@ impl Write for Narrow {
     }
 }
 
-fn with_reader<R: Read>(rt: &HostRuntime, reader: &mut R) -> Result<Status, RunFault> {
+fn run_interrupted(rt: &HostRuntime, times: u32, fails: bool) -> Result<Status, RunFault> {
     let mut map = MAP.as_bytes();
+    let mut script = Interrupted {
+        times,
+        fails,
+        rest: b"undo",
+    };
     let mut messages: Vec<u8> = Vec::new(rt.alloc());
-    run_with(rt.alloc(), &mut map, reader, &mut messages)
+    run_with(rt.alloc(), &mut map, &mut script, &mut messages)
 }
 
 #[test]
 fn reads_that_fail(rt: HostRuntime) {
-    let mut script = Interrupted {
-        times: 0,
-        fails: true,
-        rest: NOTHING,
-    };
-    assert_eq!(rt; with_reader(&rt, &mut script), Err(RunFault::Read));
+    assert_eq!(rt; run_interrupted(&rt, 0, true), Err(RunFault::Read));
 }
 
 #[test]
 fn reads_that_are_interrupted(rt: HostRuntime) {
-    let cases = [
-        (1_000, Ok(Status::LineRefused)),
-        (1_001, Err(RunFault::Interrupted)),
-    ];
-    for (times, want) in &cases {
-        let mut script = Interrupted {
-            times: *times,
-            fails: false,
-            rest: b"undo",
-        };
-        assert_eq!(rt; with_reader(&rt, &mut script), *want, "at {times}");
+    assert_eq!(rt; run_interrupted(&rt, 1_000, false), Ok(Status::LineRefused));
+    assert_eq!(rt;
+        run_interrupted(&rt, 1_001, false),
+        Err(RunFault::Interrupted)
+    );
+}
+
+fn read_zeros(rt: &HostRuntime, len: usize) -> Result<usize, RunFault> {
+    match read_whole(rt.alloc(), &mut Zeros(len), 10_000) {
+        Ok(bytes) => Ok(bytes.len()),
+        Err(fault) => Err(fault),
     }
 }
 
-// The greatest input has bytes 0, which begin no word.
+// At a small limit, since the inputs' own makes for a slow test.
 #[test]
-fn inputs_that_are_too_long(rt: HostRuntime) -> Result<(), Fail> {
-    let cases = [
-        (67_108_864, Ok(Status::MapRefused)),
-        (67_108_865, Err(RunFault::TooLong)),
-    ];
-    for (len, want) in &cases {
-        let mut map = Zeros(*len);
-        let mut script = NOTHING;
-        let mut messages: Vec<u8> = Vec::new(rt.alloc());
-        let ended = run_with(rt.alloc(), &mut map, &mut script, &mut messages);
-        assert_eq!(rt; ended, *want, "at {len}");
-    }
-    Ok(())
+fn inputs_that_are_too_long(rt: HostRuntime) {
+    assert_eq!(rt; read_zeros(&rt, 10_000), Ok(10_000));
+    assert_eq!(rt; read_zeros(&rt, 10_001), Err(RunFault::TooLong));
 }
 
+fn undo_into(rt: &HostRuntime, room: usize, fails: bool) -> Result<Status, RunFault> {
+    let mut map = MAP.as_bytes();
+    let mut script = b"undo".as_slice();
+    let mut messages = Narrow { room, fails };
+    run_with(rt.alloc(), &mut map, &mut script, &mut messages)
+}
+
+// The message is `script:1: J2 nothing to undo` and a line feed, 29 bytes.
 #[test]
 fn writes_that_fail(rt: HostRuntime) {
-    let want = "script:1: J2 nothing to undo\n".len();
-    for fails in [false, true] {
-        let cases = [
-            (want - 1, Err(RunFault::Write)),
-            (want, Ok(Status::LineRefused)),
-        ];
-        for (room, want) in &cases {
-            let mut map = MAP.as_bytes();
-            let mut script: &[u8] = b"undo";
-            let mut messages = Narrow { room: *room, fails };
-            let ended = run_with(rt.alloc(), &mut map, &mut script, &mut messages);
-            assert_eq!(rt; ended, *want, "at {room}");
-        }
-    }
+    assert_eq!(rt; undo_into(&rt, 28, true), Err(RunFault::Write));
+    assert_eq!(rt; undo_into(&rt, 28, false), Err(RunFault::Write));
+    assert_eq!(rt; undo_into(&rt, 29, true), Ok(Status::LineRefused));
 }

@@ -79,7 +79,7 @@ impl Said {
     }
 }
 
-fn said(rt: &HostRuntime, words: &[&str]) -> Said {
+fn run_words(rt: &HostRuntime, words: &[&str]) -> Said {
     let mut messages = Vec::new(rt.alloc());
     let mut errors = Vec::new(rt.alloc());
     let status = command(rt, rt.alloc(), words, &mut messages, &mut errors);
@@ -99,7 +99,7 @@ fn run_in(rt: &HostRuntime, folder: &Folder) -> Said {
         "--header",
         folder.header.as_str(),
     ];
-    said(rt, &words)
+    run_words(rt, &words)
 }
 
 #[test]
@@ -196,7 +196,7 @@ fn may_be_the_map_itself(rt: HostRuntime) -> Result<(), Fail> {
         "--header",
         folder.header.as_str(),
     ];
-    assert_eq!(rt; said(&rt, &words).status, 0);
+    assert_eq!(rt; run_words(&rt, &words).status, 0);
     let rdl = fs::read_to_string(&rt, folder.map.as_str())?;
     assert_eq!(rt; rdl.as_str(), WRITTEN);
     folder.remove(&rt)
@@ -214,7 +214,7 @@ fn are_untouched_by_other_words(rt: HostRuntime) -> Result<(), Fail> {
         &["map", "script", "--rdl", "out", "--header", "out", "more"],
     ];
     for words in cases {
-        let said = said(&rt, words);
+        let said = run_words(&rt, words);
         assert_eq!(rt; said.status, 5, "at {words:?}");
         assert_eq!(rt; said.errors()?, "regedit: bad command line\n");
         assert_eq!(rt; said.messages()?, "");

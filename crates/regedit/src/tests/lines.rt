@@ -87,6 +87,10 @@ const REFUSED: [(&str, &str); 32] = [
     ("\tundo \u{b}\u{c}", "J2 nothing to undo"),
 ];
 
+fn refused() -> &'static [(&'static str, &'static str)] {
+    &REFUSED
+}
+
 fn refusal(alloc: Global, what: &str) -> Result<String, Fail> {
     Ok(format!(in alloc; "script:1: {what}\n")?)
 }
@@ -94,7 +98,7 @@ fn refusal(alloc: Global, what: &str) -> Result<String, Fail> {
 #[test]
 fn are_refused_with_a_message(rt: HostRuntime) -> Result<(), Fail> {
     let unedited = write(rt.alloc(), MAP, "")?;
-    for (line, what) in &REFUSED {
+    for (line, what) in refused() {
         let written = write(rt.alloc(), MAP, line)?;
         let want = refusal(rt.alloc(), what)?;
         assert_eq!(rt; written.status, Status::LineRefused, "at {line}");

@@ -58,9 +58,13 @@ const REFUSED: [(&str, &str); 19] = [
     ),
 ];
 
+fn refused() -> &'static [(&'static str, &'static str)] {
+    &REFUSED
+}
+
 #[test]
 fn are_refused_at_a_place(rt: HostRuntime) -> Result<(), Fail> {
-    for (map, want) in &REFUSED {
+    for (map, want) in refused() {
         let written = write(rt.alloc(), map, "list\n")?;
         assert_eq!(rt; written.status, Status::MapRefused, "at {map}");
         assert_eq!(rt; written.messages()?, *want, "at {map}");
