@@ -49,8 +49,7 @@ fn paths_of<'a>(words: &[&'a str]) -> Option<Paths<'a>>
 {
     match words {
         [map, script, rdl_option, rdl, header_option, header]
-            if *rdl_option == "--rdl" && *header_option == "--header" =>
-        {
+            if *rdl_option == "--rdl" && *header_option == "--header" => {
             Some(Paths {
                 map,
                 script,

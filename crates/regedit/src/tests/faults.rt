@@ -80,7 +80,10 @@ fn reads_that_fail(rt: HostRuntime) {
 #[test]
 fn reads_that_are_interrupted(rt: HostRuntime) {
     assert_eq!(rt; run_interrupted(&rt, 1_000, false), Ok(Status::LineRefused));
-    assert_eq!(rt; run_interrupted(&rt, 1_001, false), Err(RunFault::Interrupted));
+    assert_eq!(rt;
+        run_interrupted(&rt, 1_001, false),
+        Err(RunFault::Interrupted)
+    );
 }
 
 fn read_zeros(rt: &HostRuntime, len: usize) -> Result<usize, RunFault> {

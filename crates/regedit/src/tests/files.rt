@@ -40,8 +40,7 @@ impl Folder {
     fn new(rt: &HostRuntime, test: &str) -> Result<Folder, Fail> {
         let above = env::temp_dir(rt)?;
         let number = process::id(rt.process());
-        let path =
-            format!(in rt.alloc(); "{}/regedit-{test}-{number}", above.as_path().display())?;
+        let path = format!(in rt.alloc(); "{}/regedit-{test}-{number}", above.as_path().display())?;
         fs::create_dir(rt, path.as_str())?;
         Ok(Folder {
             map: below(rt, path.as_str(), "map.rdl")?,

@@ -138,7 +138,11 @@ fn are_numbered_from_one(rt: HostRuntime) -> Result<(), Fail> {
 
 #[test]
 fn are_parted_by_spaces_and_tabs(rt: HostRuntime) -> Result<(), Fail> {
-    let written = write(rt.alloc(), MAP, "\tadd \t/$top\tlast  reg\t{}\tb;\t\r\nlist")?;
+    let written = write(
+        rt.alloc(),
+        MAP,
+        "\tadd \t/$top\tlast  reg\t{}\tb;\t\r\nlist",
+    )?;
     let want = "0x0 addrmap top size 0x8
 0x0 reg top.a size 0x4
 [7:0] field top.a.f reset 0x5
