@@ -1,11 +1,10 @@
 -- What is known of a map without a fault.
-use Rattle.std.proofs.Common.{◌≡◌, ℕ, zero, suc, ◌+◌, ◌≤◌, ◌<◌, Bool, true, false, not, List, [], ◌∷◌, length, Option, None, Some, refl, sym, ap, ◌∙◌, subst, arith, sum_by, All, slice_index_or}
-use Rattle.std.specs.Prelude.{nat_le, nat_lt, ◌&&◌, if◌then◌else◌}
+use Rattle.std.proofs.Common.{◌≡◌, ℕ, ◌+◌, ◌≤◌, Bool, true, false, not, List, [], ◌∷◌, length, Option, None, Some, refl, arith, sum_by, All}
+use Rattle.std.specs.Prelude.{nat_le, ◌&&◌}
 use Rattle.std.specs.Option.{option_or}
 use Rattle.std.proofs.lemmas.Bool.{leb-true}
 use Rattle.std.proofs.lemmas.List.Elements.{All-cons}
 use Rattle.std.proofs.lemmas.List.Sums.{sum_by-cons}
-use Rattle.regedit.specs.declared.flat.fault.Fault.{Fault}
 use Rattle.regedit.specs.declared.flat.fault.FaultKind.{FaultKind}
 use Rattle.regedit.specs.declared.flat.fault.ItemAddress.{ItemAddress}
 use Rattle.regedit.specs.declared.flat.fault.FaultKind.TheVariants as kinds

@@ -1,5 +1,5 @@
 -- Six words, and any others, against the words of a command line.
-use Rattle.std.proofs.Common.{◌≡◌, ℕ, ◌+◌, ◌<◌, ◌≤◌, ◌==◌, ◌&&◌, Bool, true, false, List, [], ◌∷◌, length, map, codes, refl, sym, ap, ◌∙◌, subst, arith, rules, slice_index_or, Bor}
+use Rattle.std.proofs.Common.{◌≡◌, ℕ, ◌<◌, ◌≤◌, ◌==◌, ◌&&◌, true, false, List, [], ◌∷◌, length, map, codes, refl, ap, ◌∙◌, arith, slice_index_or, Bor}
 use Rattle.std.specs.Cmp.Lexicographic.{pointwise}
 use Rattle.regedit.specs.CommandLine.{command_line, is_command_line}
 

@@ -1,5 +1,5 @@
 -- Where a text isn't read.
-use Rattle.std.proofs.Common.{◌≡◌, ◌⊎◌, inl, inr, ℕ, List, length, Result, Ok, Err, refl, sym, ap, ◌∙◌, subst, IsUtf8}
+use Rattle.std.proofs.Common.{◌≡◌, ◌⊎◌, inl, inr, ℕ, List, length, Err, refl, sym, subst, IsUtf8}
 use Rattle.rdl_text.specs.Word.{Word}
 use Rattle.rdl_text.specs.Words.{words}
 use Rattle.rdl_text.specs.Fault.{out_of_memory}
@@ -10,9 +10,8 @@ use Rattle.regedit.specs.declared.flat.reader.ReadFault.{ReadFault}
 use Rattle.regedit.specs.declared.flat.reader.ReadFault.TheVariants as faults
 use Rattle.regedit.specs.declared.reading.ReadingFault.{ReadingFault}
 use Rattle.regedit.specs.declared.reading.ReadingFault.TheVariants.{Refused, Memory}
-use Rattle.regedit.specs.declared.reading.TextFaultKind.{TextFaultKind}
 use Rattle.regedit.specs.declared.reading.TextFaultKind.TheVariants.{Words, Unexpected, End, TooLarge}
-use Rattle.regedit.specs.Readings.{HasWords, HasFault, SpellsNone, RefusesWords, RefusesText}
+use Rattle.regedit.specs.Readings.{HasWords, RefusesWords, RefusesText}
 use Rattle.regedit.specs.ReadingFaults.{IfRefused, words_fault, words_fault_of, reading_fault}
 
 -- what has no words isn't read

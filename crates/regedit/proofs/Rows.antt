@@ -1,5 +1,5 @@
 -- Registers stand one behind the other, four bytes each.
-use Rattle.std.proofs.Common.{◌≡◌, ℕ, ◌+◌, ◌*◌, ◌/◌, List, [], ◌∷◌, length, refl, sym, ap, ◌∙◌, arith}
+use Rattle.std.proofs.Common.{◌≡◌, ℕ, ◌+◌, ◌*◌, List, [], ◌∷◌, length, ap, ◌∙◌, arith}
 use Rattle.regedit.specs.FlatMap.{Reg}
 use Rattle.regedit.specs.FlatRows.{next_start, end_of}
 

@@ -1,5 +1,5 @@
 -- From the parts of a run to the whole.
-use Rattle.std.proofs.Common.{◌≡◌, ◌⊎◌, inl, inr, ℕ, Bool, List, [], ◌∷◌, Option, Some, refl, sym, ap, ◌∙◌, subst}
+use Rattle.std.proofs.Common.{◌≡◌, inl, inr, ℕ, Bool, List, [], Option, Some, refl, subst}
 use Rattle.std.specs.Prelude.{if◌then◌else◌}
 use Rattle.std.specs.Io.KnownBytes.{Appends}
 use Rattle.std.proofs.KnownBytes.{Appends-nil}
@@ -14,7 +14,7 @@ use Rattle.regedit.specs.FlatText.{map_text}
 use Rattle.regedit.specs.Known.{Gives}
 use Rattle.regedit.specs.Opening.{fault_line, RefusesToOpen}
 use Rattle.regedit.specs.OpeningFaults.{IfRefusedToOpen}
-use Rattle.regedit.specs.Output.{Output, Outputs, one_map, RanFrom, Ran}
+use Rattle.regedit.specs.Output.{one_map, RanFrom, Ran}
 use Rattle.regedit.specs.Readings.{HasWords, ReadsMap}
 use Rattle.regedit.specs.declared.flat.fault.Fault.{Fault}
 use Rattle.regedit.specs.declared.open.OpenFault.{OpenFault}

@@ -1,6 +1,6 @@
 -- Which registers have room for their fields.
-use Rattle.std.specs.Prelude.{◌≤◌, All, sum_by, Option, None, Some, ⊤}
-use Rattle.regedit.specs.FlatMap.{Reg, Top}
+use Rattle.std.specs.Prelude.{◌≤◌, sum_by}
+use Rattle.regedit.specs.FlatMap.{Reg}
 use Rattle.regedit.specs.FlatRows.{width}
 
 -- all the fields together have at most so many bits as a register

@@ -4,7 +4,7 @@ use Rattle.regedit.specs.declared.flat.edit.Edit.{Edit}
 use Rattle.regedit.specs.declared.flat.edit.Refusal.{Refusal}
 use Rattle.regedit.specs.declared.flat.edit.Refusal.TheVariants.{NoSuchPath, NameTaken, Faulty, Memory}
 use Rattle.regedit.specs.declared.flat.fault.Fault.{Fault}
-use Rattle.regedit.specs.FlatMap.{Reg, Top}
+use Rattle.regedit.specs.FlatMap.{Top}
 use Rattle.regedit.specs.FlatFault.{same_name, has_register, first_fault}
 
 -- a map, and the name that the option asks of its top

@@ -1,5 +1,5 @@
 -- The texts of messages. Own.
-use Rattle.std.specs.Prelude.{ℕ, ◌+◌, ◌-◌, ◌^◌, min, List, [], ◌∷◌, ◌++◌, codes, string_bytes}
+use Rattle.std.specs.Prelude.{ℕ, ◌+◌, ◌-◌, ◌^◌, min, List, [], ◌++◌, codes, string_bytes}
 use Rattle.std.specs.Fmt.{decimal}
 use Rattle.rdl_text.specs.Place.{line, column}
 use Rattle.rdl_text.specs.declared.fault.FaultKind.{FaultKind as WordsFault}
@@ -7,7 +7,6 @@ use Rattle.rdl_text.specs.declared.fault.FaultKind.TheVariants as words
 use Rattle.regedit.specs.FlatRows.{newline}
 use Rattle.regedit.specs.declared.flat.edit.Refusal.{Refusal}
 use Rattle.regedit.specs.declared.flat.edit.Refusal.TheVariants as refusals
-use Rattle.regedit.specs.declared.flat.fault.Fault.{Fault}
 use Rattle.regedit.specs.declared.flat.fault.FaultKind.{FaultKind}
 use Rattle.regedit.specs.declared.flat.fault.FaultKind.TheVariants as kinds
 use Rattle.regedit.specs.declared.flat.fault.ItemAddress.{ItemAddress}

@@ -1,7 +1,7 @@
 -- The output of a run: messages, both files and the status, from the bytes of the map and of the script. Own.
 use Rattle.std.specs.Prelude.{◌≡◌, ◌⊎◌, ℕ, Bool, List, [], ◌∷◌, Option, Some, if◌then◌else◌}
 use Rattle.std.specs.Io.KnownBytes.{Appends}
-use Rattle.journal_core.specs.History.{History, IsAt}
+use Rattle.journal_core.specs.History.{IsAt}
 use Rattle.regedit.specs.Answers.{History', Serves}
 use Rattle.regedit.specs.Commands.{lines_of}
 use Rattle.regedit.specs.FlatStep.{State}

@@ -1,6 +1,6 @@
 -- What reading the bytes of a map, or of a register, answers. SystemRDL 2.0, lexical conventions; the faults are own.
 -- Which of S9 and S12 stands where is left open, and shown by tests.
-use Rattle.std.specs.Prelude.{◌≡◌, ◌⊎◌, ℕ, List, length, Option, Some, Ok, Err, IsUtf8}
+use Rattle.std.specs.Prelude.{◌≡◌, ◌⊎◌, ℕ, List, length, Option, Ok, Err, IsUtf8}
 use Rattle.std.specs.Str.Lossy.{utf8_valid_len}
 use Rattle.rdl_text.specs.Word.{Word}
 use Rattle.rdl_text.specs.Words.{words}

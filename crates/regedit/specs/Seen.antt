@@ -1,5 +1,4 @@
 -- A command as the code holds it, seen as what a line asks for.
-use Rattle.std.specs.Prelude.{ℕ, List}
 use Rattle.regedit.specs.Commands.{Command, nothing, undo, redo, list, add, refused}
 use Rattle.regedit.specs.declared.script.Request.{Request}
 use Rattle.regedit.specs.declared.script.Request.TheVariants as requests

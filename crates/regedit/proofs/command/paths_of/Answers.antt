@@ -1,7 +1,5 @@
-use Rattle.std.proofs.Common.{rules, ◌≡◌, ◌↔◌, map, false, true, IfSome, IsNone, ℕ, ◌<◌, ◌≤◌, length, Bool, List, [], ◌∷◌, slice_index_or, Bor, codes, ◌==◌}
-use Rattle.std.specs.Cmp.Lexicographic.{pointwise}
-use Rattle.regedit.specs.CommandLine.{command_line, is_command_line}
-use Rattle.regedit.proofs.CommandLine.{word, right_words, wrong_first, wrong_second, too_few, too_many}
+use Rattle.std.proofs.Common.{rules}
+use Rattle.regedit.proofs.CommandLine.{right_words, wrong_first, wrong_second, too_few, too_many}
 use Rattle.regedit.proofs.command.paths_of.Goals.{in_default-via-then-words-lt6, in_default-via-in-len6+then-eq+else-eq-2, in_default-via-in-len6+else-eq, in_default-via-else-words-lt6+else-words-lt7}
 use Rattle.regedit.proofs.command.paths_of.Goals as goal
 

@@ -1,5 +1,5 @@
-use Rattle.std.proofs.Common.{◌≡◌, ◌≢◌, ℕ, ◌+◌, ◌-◌, ◌^◌, ◌<◌, ◌≤◌, List, [], ◌∷◌, ◌++◌, length, take, Ok, Err, IsErr, IfOk, IfErr, OnOk, OnErr, IfSome, IsErrOf, IsOkUnless, Some, ◌*◌}
-use Rattle.std.specs.Io.KnownBytes.{Appends, Consumes, Keeps, IsAtEnd}
+use Rattle.std.proofs.Common.{◌+◌, ◌≤◌, length}
+use Rattle.std.specs.Io.KnownBytes.{Consumes}
 use Rattle.regedit.proofs.input.read_whole.Given as goal
 
 abbrev pub invariant-loop-turn : goal.invariant-loop-turn

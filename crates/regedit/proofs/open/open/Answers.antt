@@ -1,4 +1,4 @@
-use Rattle.std.proofs.Common.{◌≡◌, sym}
+use Rattle.std.proofs.Common.{sym}
 use Rattle.std.specs.Option.{option_copied}
 use Rattle.regedit.proofs.RunLemmas.{refused_to_open}
 use Rattle.regedit.proofs.open.open.Goals as goal

@@ -1,4 +1,4 @@
-use Rattle.std.proofs.Common.{◌≡◌, List, ℕ, Option, string_bytes, sym, ap, ◌∙◌, subst}
+use Rattle.std.proofs.Common.{string_bytes, subst}
 use Rattle.std.specs.Option.{option_copied}
 use Rattle.std.specs.Io.KnownBytes.{Appends}
 use Rattle.regedit.specs.Opening.{RefusesToOpen}

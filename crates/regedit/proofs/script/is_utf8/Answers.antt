@@ -1,4 +1,4 @@
-use Rattle.std.proofs.Common.{◌≡◌, sym}
+use Rattle.std.proofs.Common.{sym}
 use Rattle.std.proofs.lemmas.Str.{is_utf8-from_IsUtf8}
 use Rattle.regedit.proofs.ItemNames.{is_utf8-false}
 use Rattle.regedit.proofs.script.is_utf8.Goals as goal

@@ -1,7 +1,6 @@
-use Rattle.std.proofs.Common.{◌≡◌, List, ℕ, false, true, Some, sym, ap, ◌∙◌, subst, rules}
+use Rattle.std.proofs.Common.{◌≡◌, false, true, Some, sym, ap, ◌∙◌, subst, rules}
 use Rattle.rdl_text.specs.Name.{IsName}
 use Rattle.regedit.specs.Reserved.{is_reserved}
-use Rattle.regedit.specs.Commands.{name_in}
 use Rattle.regedit.proofs.ItemNames.{name_in-not_utf8, name_in-reserved, name_in-not_name, name_in-name}
 use Rattle.regedit.proofs.script.name_in.Goals as goal
 

@@ -1,4 +1,3 @@
-use Rattle.std.proofs.Common.{◌≡◌}
 use Rattle.regedit.proofs.ScriptLines.{cut-more, cut-last}
 use Rattle.regedit.proofs.serve.split_line.Goals as goal
 

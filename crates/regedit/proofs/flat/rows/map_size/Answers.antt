@@ -1,5 +1,4 @@
-use Rattle.std.proofs.Common.{◌≡◌, ◌+◌, ◌*◌, length, sym, ◌∙◌, arith}
-use Rattle.regedit.specs.FlatRows.{end_of}
+use Rattle.std.proofs.Common.{arith}
 use Rattle.regedit.proofs.Rows.{end_of-border}
 use Rattle.regedit.proofs.flat.rows.map_size.Goals as goal
 

@@ -1,4 +1,4 @@
-use Rattle.std.proofs.Common.{◌≡◌, ◌++◌, ◌*◌, ◌≤◌, drop, string_bytes}
+use Rattle.std.proofs.Common.{◌≡◌, ◌++◌, ◌*◌, drop, string_bytes}
 use Rattle.std.specs.List.{flat_map}
 use Rattle.regedit.specs.FlatRows.{line_of, register_rows}
 use Rattle.regedit.proofs.flat.rows.push_registers.Given as goal

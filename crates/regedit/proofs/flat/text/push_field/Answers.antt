@@ -1,4 +1,3 @@
-use Rattle.std.proofs.Common.{◌≡◌, ◌++◌}
 use Rattle.regedit.specs.FlatText.{field_text}
 use Rattle.regedit.proofs.Pieces.{pieces_4}
 use Rattle.regedit.proofs.flat.text.push_field.Goals as goal
