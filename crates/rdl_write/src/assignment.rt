@@ -1,0 +1,53 @@
+//! Property assignments as they are written.
+ghost use Rattle.std.specs.Prelude.{◌≡◌, ◌++◌, string_bytes, OnOk};
+ghost use Rattle.rdl_write.specs.Texts.{value_text, assignment_text, target_text, boolean_text};
+
+use crate::number::push_decimal;
+use rdl_text::name::Name;
+use rdl_tree::target::Target;
+use rdl_tree::value::Value;
+use std::alloc::AllocError;
+
+fn boolean_text(answer: bool) -> &'static str
+    ensures { result.now ≡ boolean_text answer }
+{
+    if answer { "true" } else { "false" }
+}
+
+#[tactic(auto, unfolding(crate::specs::Texts::value_text))]
+fn push_value(text: &mut String, value: &Value) -> Result<(), AllocError>
+    ensures { OnOk result (string_bytes text.new ≡ string_bytes text.old ++ value_text value.now) }
+{
+    match value {
+        Value::Number(number) => push_decimal(text, *number),
+        Value::Text(raw) => write!(text, "\"{}\"", raw.as_str()),
+        Value::Bool(answer) => text.push_str(boolean_text(*answer)),
+        Value::Word(word) => text.push_str(word.text()),
+    }
+}
+
+/// Appends `property = value`.
+#[tactic(auto, unfolding(crate::specs::Texts::assignment_text))]
+pub fn push_assignment(text: &mut String, property: &Name, value: &Value) -> Result<(), AllocError>
+    ensures { OnOk result (string_bytes text.new ≡ string_bytes text.old ++ assignment_text property.now value.now) }
+{
+    write!(text, "{property} = ")?;
+    push_value(text, value)?;
+    Ok(())
+}
+
+/// Appends the names of a target, with dots between them.
+pub fn push_target(text: &mut String, target: &Target) -> Result<(), AllocError>
+    ensures { OnOk result (string_bytes text.new ≡ string_bytes text.old ++ target_text target.now) }
+{
+    match target.names() {
+        [] => Ok(()),
+        [first, others @ ..] => {
+            text.push_str(first.as_str())?;
+            'names: for name in others {
+                write!(text, ".{name}")?;
+            }
+            Ok(())
+        }
+    }
+}

@@ -1,0 +1,10 @@
+//! The texts that are written of a register map.
+#![tactic(auto)]
+
+mod assignment;
+mod instance;
+mod map;
+mod number;
+
+pub use map::rdl;
+pub use number::{push_decimal, push_hexadecimal};

@@ -1,0 +1,178 @@
+//! The map's writer.
+ghost use Rattle.std.specs.Prelude.{◌≡◌, ◌++◌, ℕ, List, string_bytes, IfOk, OnOk};
+ghost use Rattle.rdl_tree.specs.Items.{define, anonymous, named, own, default, dynamic};
+ghost use Rattle.rdl_tree.specs.declared.shell.Kind.{Kind as SomeKind};
+ghost use Rattle.rdl_write.specs.MapText.{deeper, statement_line, open_line, close_line, body_text, map_text};
+ghost use Rattle.rdl_write.specs.ItemText.{item_text};
+
+use crate::assignment::{push_assignment, push_target};
+use crate::instance::{kind_text, outside_text, push_shell};
+use rdl_text::name::Name;
+use rdl_tree::description::{Body, Description, Item, Of};
+use rdl_tree::shell::{Kind, Shell};
+use rdl_tree::target::Target;
+use rdl_tree::value::Value;
+use std::alloc::{AllocError, Global};
+
+fn deeper(alloc: Global, indent: &str) -> Result<String, AllocError>
+    ensures { IfOk result (λ text. string_bytes text ≡ deeper indent.now) }
+{
+    let mut text = String::from_str(alloc, indent)?;
+    text.push_str("    ")?;
+    Ok(text)
+}
+
+#[tactic(auto, unfolding(crate::specs::MapText::statement_line))]
+fn push_named(text: &mut String, indent: &str, shell: &Shell, of: &Name) -> Result<(), AllocError>
+    ensures { OnOk result (string_bytes text.new ≡ string_bytes text.old ++ statement_line indent.now (named shell.now of.now)) }
+{
+    write!(text, "{indent}{}{of} ", outside_text(shell.outside))?;
+    push_shell(text, shell)?;
+    text.push_str(";\n")?;
+    Ok(())
+}
+
+#[tactic(auto, unfolding(crate::specs::MapText::statement_line))]
+fn push_own(
+    text: &mut String,
+    indent: &str,
+    property: &Name,
+    value: &Value,
+) -> Result<(), AllocError>
+    ensures { OnOk result (string_bytes text.new ≡ string_bytes text.old ++ statement_line indent.now (own property.now value.now)) }
+{
+    text.push_str(indent)?;
+    push_assignment(text, property, value)?;
+    text.push_str(";\n")?;
+    Ok(())
+}
+
+#[tactic(auto, unfolding(crate::specs::MapText::statement_line))]
+fn push_default(
+    text: &mut String,
+    indent: &str,
+    property: &Name,
+    value: &Value,
+) -> Result<(), AllocError>
+    ensures { OnOk result (string_bytes text.new ≡ string_bytes text.old ++ statement_line indent.now (default property.now value.now)) }
+{
+    write!(text, "{indent}default ")?;
+    push_assignment(text, property, value)?;
+    text.push_str(";\n")?;
+    Ok(())
+}
+
+#[tactic(auto, unfolding(crate::specs::MapText::statement_line))]
+fn push_dynamic(
+    text: &mut String,
+    indent: &str,
+    target: &Target,
+    property: &Name,
+    value: &Value,
+) -> Result<(), AllocError>
+    ensures { OnOk result (string_bytes text.new ≡ string_bytes text.old ++ statement_line indent.now (dynamic target.now property.now value.now)) }
+{
+    text.push_str(indent)?;
+    push_target(text, target)?;
+    text.push_str("->")?;
+    push_assignment(text, property, value)?;
+    text.push_str(";\n")?;
+    Ok(())
+}
+
+#[tactic(auto, unfolding(crate::specs::MapText::open_line))]
+fn open_definition(
+    text: &mut String,
+    indent: &str,
+    name: &Name,
+    kind: Kind,
+) -> Result<(), AllocError>
+    ensures { OnOk result (string_bytes text.new ≡ string_bytes text.old ++ open_line indent.now (define name.now kind)) }
+{
+    write!(text, "{indent}{} {name} {{\n", kind_text(kind))
+}
+
+#[tactic(auto, unfolding(crate::specs::MapText::open_line))]
+fn open_instance(
+    text: &mut String,
+    indent: &str,
+    shell: &Shell,
+    kind: Kind,
+) -> Result<(), AllocError>
+    ensures { OnOk result (string_bytes text.new ≡ string_bytes text.old ++ open_line indent.now (anonymous shell.now kind)) }
+{
+    write!(
+        text,
+        "{indent}{}{} {{\n",
+        outside_text(shell.outside),
+        kind_text(kind)
+    )
+}
+
+#[tactic(auto, unfolding(crate::specs::MapText::close_line))]
+fn close_definition(text: &mut String, indent: &str) -> Result<(), AllocError>
+    ensures { (name : List ℕ) (k : SomeKind) → OnOk result (string_bytes text.new ≡ string_bytes text.old ++ close_line indent.now (define name k)) }
+{
+    write!(text, "{indent}}};\n")
+}
+
+#[tactic(auto, unfolding(crate::specs::MapText::close_line))]
+fn close_instance(text: &mut String, indent: &str, shell: &Shell) -> Result<(), AllocError>
+    ensures { (k : SomeKind) → OnOk result (string_bytes text.new ≡ string_bytes text.old ++ close_line indent.now (anonymous shell.now k)) }
+{
+    write!(text, "{indent}}} ")?;
+    push_shell(text, shell)?;
+    text.push_str(";\n")?;
+    Ok(())
+}
+
+#[cycle(write)]
+fn push_inner(alloc: Global, text: &mut String, indent: &str, body: &Body) -> Result<(), AllocError>
+    ensures { OnOk result (string_bytes text.new ≡ string_bytes text.old ++ body_text (deeper indent.now) body.now) }
+{
+    let indent = deeper(alloc, indent)?;
+    push_body(alloc, text, indent.as_str(), body)
+}
+
+#[cycle(write)]
+fn push_item(alloc: Global, text: &mut String, indent: &str, item: &Item) -> Result<(), AllocError>
+    ensures { OnOk result (string_bytes text.new ≡ string_bytes text.old ++ item_text indent.now item.now) }
+{
+    match item {
+        Item::Define(name, component) => {
+            open_definition(text, indent, name, component.kind)?;
+            push_inner(alloc, text, indent, &component.body)?;
+            close_definition(text, indent)
+        }
+        Item::Instance(shell, Of::Anonymous(component)) => {
+            open_instance(text, indent, shell, component.kind)?;
+            push_inner(alloc, text, indent, &component.body)?;
+            close_instance(text, indent, shell)
+        }
+        Item::Instance(shell, Of::Named(name)) => push_named(text, indent, shell, name),
+        Item::Own(property, value) => push_own(text, indent, property, value),
+        Item::Default(property, value) => push_default(text, indent, property, value),
+        Item::Dynamic(target, property, value) => {
+            push_dynamic(text, indent, target, property, value)
+        }
+    }
+}
+
+#[cycle(write)]
+fn push_body(alloc: Global, text: &mut String, indent: &str, body: &Body) -> Result<(), AllocError>
+    ensures { OnOk result (string_bytes text.new ≡ string_bytes text.old ++ body_text indent.now body.now) }
+{
+    'items: for item in body.as_slice() {
+        push_item(alloc, text, indent, item)?;
+    }
+    Ok(())
+}
+
+/// The text of a description: one item a line, four spaces a level.
+pub fn rdl(alloc: Global, description: &Description) -> Result<String, AllocError>
+    ensures { IfOk result (λ text. string_bytes text ≡ map_text description.now.items) }
+{
+    let mut text = String::new(alloc);
+    push_body(alloc, &mut text, "", &description.items)?;
+    Ok(text)
+}
