@@ -1,0 +1,7 @@
+//! Layouts and faults of flat maps: one address map of registers, each with its fields.
+#![tactic(auto)]
+
+pub mod fault;
+pub mod forms;
+pub mod map;
+pub mod rows;
