@@ -2,6 +2,6 @@
 #![tactic(auto)]
 
 pub mod fault;
-pub mod forms;
-pub mod map;
+mod forms;
+mod map;
 pub mod rows;

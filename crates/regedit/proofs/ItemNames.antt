@@ -8,8 +8,8 @@ use Rattle.std.proofs.lemmas.Bool.{le-leb, leb-true}
 use Rattle.std.proofs.lemmas.Str.{IsUtf8-from_ascii, IsUtf8-from_is_utf8}
 use Rattle.std.proofs.lemmas.Str.Ascii.{IsAscii-cons, IsAscii-nil}
 use Rattle.rdl_text.specs.Name.{IsName, is_letter, is_rest, is_identifier}
-use Rattle.regedit.specs.Reserved.{is_reserved}
-use Rattle.regedit.specs.Commands.{is_item_name, name_in}
+use Rattle.rdl_parse.specs.Class.{class}
+use Rattle.regedit.specs.Commands.{is_free, is_item_name, name_in}
 
 le-true : (a b : ℕ) → nat_le a b ≡ true → a ≤ b
 le-true a b h = leb-true a b h
@@ -42,28 +42,28 @@ no_item_name bytes h = elim (is_item_name bytes) as (λ b. (b ≡ true → ⊥) 
 
 pub name_in-not_utf8 : (bytes : List ℕ) → (IsUtf8 bytes → ⊥) → name_in bytes ≡ None
 name_in-not_utf8 bytes h = no_item_name bytes (λ e.
-    let identifier = both (is_identifier bytes) (not (is_reserved bytes)) (both (nat_le (length bytes) 255) (is_identifier bytes && not (is_reserved bytes)) e).1 in
+    let identifier = both (is_identifier bytes) (is_free (class bytes)) (both (nat_le (length bytes) 255) (is_identifier bytes && is_free (class bytes)) e).1 in
     h (IsUtf8-from_ascii bytes (identifier_ascii bytes identifier.0)))
 
-pub name_in-reserved : (bytes : List ℕ) → is_reserved bytes ≡ true → name_in bytes ≡ None
+pub name_in-reserved : (bytes : List ℕ) → is_free (class bytes) ≡ false → name_in bytes ≡ None
 name_in-reserved bytes r = no_item_name bytes (λ e.
-    let unreserved = (both (is_identifier bytes) (not (is_reserved bytes)) (both (nat_le (length bytes) 255) (is_identifier bytes && not (is_reserved bytes)) e).1).1 in
-    let clash : not true ≡ true = ap not (sym r) ∙ unreserved in cc)
+    let unreserved = (both (is_identifier bytes) (is_free (class bytes)) (both (nat_le (length bytes) 255) (is_identifier bytes && is_free (class bytes)) e).1).1 in
+    absurd (cc))
 
 pub name_in-not_name : (bytes : List ℕ) → (IsName bytes → ⊥) → name_in bytes ≡ None
 name_in-not_name bytes h = no_item_name bytes (λ e.
-    let short = both (nat_le (length bytes) 255) (is_identifier bytes && not (is_reserved bytes)) e in
-    let identifier = both (is_identifier bytes) (not (is_reserved bytes)) short.1 in
+    let short = both (nat_le (length bytes) 255) (is_identifier bytes && is_free (class bytes)) e in
+    let identifier = both (is_identifier bytes) (is_free (class bytes)) short.1 in
     h (record { short = le-true (length bytes) 255 short.0; identifier = identifier.0 }))
 
-pub name_in-name : (bytes : List ℕ) → IsName bytes → is_reserved bytes ≡ false → name_in bytes ≡ Some bytes
+pub name_in-name : (bytes : List ℕ) → IsName bytes → is_free (class bytes) ≡ true → name_in bytes ≡ Some bytes
 unfolding name_in
 name_in-name bytes n r =
     let short : nat_le (length bytes) 255 ≡ true = le-leb (length bytes) 255 n.short in
     let identifier : is_identifier bytes ≡ true = n.identifier in
-    ap (λ b. if b && (is_identifier bytes && not (is_reserved bytes)) then Some bytes else None) short
-    ∙ ap (λ b. if b && not (is_reserved bytes) then Some bytes else None) identifier
-    ∙ ap (λ b. if not b then Some bytes else None) r
+    ap (λ b. if b && (is_identifier bytes && is_free (class bytes)) then Some bytes else None) short
+    ∙ ap (λ b. if b && is_free (class bytes) then Some bytes else None) identifier
+    ∙ ap (λ b. if b then Some bytes else None) r
 
 pub is_utf8-false : (bytes : List ℕ) → (IsUtf8 bytes → ⊥) → is_utf8 bytes ≡ false
 is_utf8-false bytes h = elim (is_utf8 bytes) as (λ b. (b ≡ true → IsUtf8 bytes) → b ≡ false) [ true ↦ λ k. absurd (h (k refl)) | false ↦ λ k. refl ] (IsUtf8-from_is_utf8 bytes)

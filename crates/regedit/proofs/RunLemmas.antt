@@ -7,16 +7,16 @@ use Rattle.journal_core.specs.History.{IsAt}
 use Rattle.rdl_text.specs.Word.{Word}
 use Rattle.regedit.specs.Answers.{History', Serves}
 use Rattle.regedit.specs.Commands.{lines_of}
-use Rattle.regedit.specs.FlatFault.{first_fault}
-use Rattle.regedit.specs.FlatMap.{Top}
-use Rattle.regedit.specs.FlatStep.{State}
-use Rattle.regedit.specs.FlatText.{map_text}
+use Rattle.rdl_edit.specs.Step.{State}
+use Rattle.rdl_flat.specs.FlatFault.{map_fault}
+use Rattle.rdl_flat.specs.declared.fault.MapFault.{MapFault}
+use Rattle.rdl_tree.specs.Items.{Items}
+use Rattle.rdl_write.specs.MapText.{map_text}
 use Rattle.regedit.specs.Known.{Gives}
 use Rattle.regedit.specs.Opening.{fault_line, RefusesToOpen}
 use Rattle.regedit.specs.OpeningFaults.{IfRefusedToOpen}
 use Rattle.regedit.specs.Output.{one_map, RanFrom, Ran}
 use Rattle.regedit.specs.Readings.{HasWords, ReadsMap}
-use Rattle.regedit.specs.declared.flat.fault.Fault.{Fault}
 use Rattle.regedit.specs.declared.open.OpenFault.{OpenFault}
 use Rattle.regedit.specs.declared.open.OpenFault.TheVariants.{Refused, Memory}
 use Rattle.regedit.specs.declared.status.Status.{Status}
@@ -32,10 +32,10 @@ refused_to_open option bytes m fault read first Memory h = tt
 pub ran_from : (limit : ℕ) (first : State) (script : List ℕ) (refuses : Bool) (status : Status) (before last : History') (now : State) (m m' r r' h h' : Option (List ℕ))
     → before ≡ one_map limit first → status ≡ (if refuses then LineRefused else Accepted)
     → (text : List ℕ) × Serves before (lines_of script) text refuses last × Appends m m' text
-    → IsAt last now → Appends r r' (map_text (Some now.top)) → Appends h h' []
+    → IsAt last now → Appends r r' (map_text now.description) → Appends h h' []
     → RanFrom limit first script (record { messages = m; rdl = r; header = h }) (record { messages = m'; rdl = r'; header = h' }) status
 ran_from limit first script refuses status before last now m m' r r' h h' e s served at rdl header = record {
-  out = record { messages = served.0; rdl = map_text (Some now.top); header = []; status = status };
+  out = record { messages = served.0; rdl = map_text now.description; header = []; status = status };
   runs = record {
     last = last;
     refuses = refuses;

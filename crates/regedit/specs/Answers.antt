@@ -1,55 +1,56 @@
 -- What each line of a script does to the history, and the run of a whole script. Own.
-use Rattle.std.specs.Prelude.{◌≡◌, ◌≢◌, ℕ, ◌+◌, Bool, true, false, List, [], ◌∷◌, length, string_bytes, Some}
+use Rattle.std.specs.Prelude.{◌≡◌, ◌≢◌, ℕ, ◌+◌, Bool, true, false, List, [], ◌∷◌, length, string_bytes}
 use Rattle.std.specs.List.{list_any}
 use Rattle.journal_core.specs.History.{History, IsAt, Edits, after_undo, after_redo}
 use Rattle.regedit.specs.Commands.{Command, nothing, undo, redo, list, add, refused, command_of}
-use Rattle.regedit.specs.FlatMap.{Reg}
-use Rattle.regedit.specs.FlatRows.{list_text}
-use Rattle.regedit.specs.FlatStep.{State, Leads, step}
+use Rattle.rdl_edit.specs.Step.{State, Leads}
+use Rattle.rdl_edit.specs.Step as edits
+use Rattle.rdl_edit.specs.declared.edit.Edit.{Edit}
+use Rattle.rdl_edit.specs.declared.edit.Refusal.{Refusal}
+use Rattle.rdl_edit.specs.declared.edit.Refusal.TheVariants.{Memory}
+use Rattle.rdl_flat.specs.FlatRows.{list_lines}
+use Rattle.rdl_tree.specs.View.{items_of}
+use Rattle.rdl_tree.specs.declared.description.Item.{Item}
 use Rattle.regedit.specs.Known.{concat}
 use Rattle.regedit.specs.Messages.{reply_text}
-use Rattle.regedit.specs.Readings.{ReadsRegister, RefusesRegister}
-use Rattle.regedit.specs.declared.flat.edit.Edit.{Edit}
-use Rattle.regedit.specs.declared.flat.edit.Refusal.{Refusal}
-use Rattle.regedit.specs.declared.flat.edit.Refusal.TheVariants.{Memory}
+use Rattle.regedit.specs.Readings.{ReadsItems, RefusesItems}
 use Rattle.regedit.specs.declared.reply.LineRefusal.TheVariants.{Command as OfCommand, Text, Edit as OfEdit, HistoryFull, NothingToUndo, NothingToRedo}
 use Rattle.regedit.specs.declared.reply.Reply.{Reply}
 use Rattle.regedit.specs.declared.reply.Reply.TheVariants.{Done, Listed, Refused}
 use Rattle.journal_core.specs.History as history
-use Rattle.regedit.specs.FlatStep as flat
 
 abbrev pub History' : Type 0
 History' = History State
 
-abbrev pub edit : List ℕ → Reg → Edit
-edit target r = record { target = target; register = r }
+abbrev pub edit : List ℕ → List Item → Edit
+edit target items = record { target = target; items = items_of items }
 
 -- the text was read and the edit made; what could be redone is dropped
 pub record Added (old : History') (target text : List ℕ) (new : History') : Type 0 where
-  pub register : Reg
-  pub read : ReadsRegister text register
+  pub items : List Item
+  pub read : ReadsItems text items
   pub room : old.place ≢ old.limit
-  pub made : Edits Leads (edit target register) old new
+  pub made : Edits Leads (edit target items) old new
 
 -- the text was read, and the edit is refused at the place, not for want of memory
 pub record NotAdded (old : History') (target text : List ℕ) (refusal : Refusal) : Type 0 where
-  pub register : Reg
-  pub read : ReadsRegister text register
+  pub items : List Item
+  pub read : ReadsItems text items
   pub room : old.place ≢ old.limit
-  pub refused : history.Refuses flat.Refuses (edit target register) old refusal
+  pub refused : history.Refuses edits.Refuses (edit target items) old refusal
   pub real : refusal ≢ Memory
 
 -- the text was read, and the history is full
 pub record Full (old : History') (text : List ℕ) : Type 0 where
-  pub register : Reg
-  pub read : ReadsRegister text register
+  pub items : List Item
+  pub read : ReadsItems text items
   pub full : old.place ≡ old.limit
 
 -- the rows at the place
 pub record Lists (old : History') (text : List ℕ) : Type 0 where
   pub now : State
   pub at : IsAt old now
-  pub rows : text ≡ list_text (Some now.top)
+  pub rows : text ≡ list_lines now.description
 
 -- one line: a command, its reply, and the history before and after it; whatever is refused moves nothing
 abbrev pub Answers : History' → Command → Reply → History' → Type 0
@@ -60,7 +61,7 @@ Answers old redo Done new = (old.place + 1 ≢ length old.states) × (new ≡ af
 Answers old redo (Refused NothingToRedo) new = (old.place + 1 ≡ length old.states) × (new ≡ old)
 Answers old list (Listed text) new = Lists old (string_bytes text) × (new ≡ old)
 Answers old (add target text) Done new = Added old target text new
-Answers old (add target text) (Refused (Text kind offset)) new = RefusesRegister text kind offset × (new ≡ old)
+Answers old (add target text) (Refused (Text kind offset)) new = RefusesItems text kind offset × (new ≡ old)
 Answers old (add target text) (Refused HistoryFull) new = Full old text × (new ≡ old)
 Answers old (add target text) (Refused (OfEdit refusal)) new = NotAdded old target text refusal × (new ≡ old)
 Answers old (refused fault) (Refused (OfCommand given)) new = (given ≡ fault) × (new ≡ old)

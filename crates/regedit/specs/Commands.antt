@@ -3,8 +3,9 @@ use Rattle.std.specs.Prelude.{ℕ, ◌-◌, Bool, true, not, ◌&&◌, ◌||◌,
 use Rattle.std.specs.List.{prefix_len}
 use Rattle.std.specs.Str.{is_utf8}
 use Rattle.rdl_text.specs.Name.{is_identifier}
-use Rattle.regedit.specs.FlatFault.{same_name}
-use Rattle.regedit.specs.Reserved.{is_reserved}
+use Rattle.rdl_parse.specs.Class.{class}
+use Rattle.rdl_parse.specs.declared.class.Class.{Class}
+use Rattle.rdl_parse.specs.declared.class.Class.TheVariants as classes
 use Rattle.regedit.specs.declared.script.CommandFault.{CommandFault}
 use Rattle.regedit.specs.declared.script.CommandFault.TheVariants.{Unknown, BadOperands, NotUtf8}
 
@@ -60,9 +61,13 @@ pub data Command : Type 0 where
   add : (target text : List ℕ) → Command
   refused : CommandFault → Command
 
+abbrev pub is_free : Class → Bool
+is_free classes.Name = true
+is_free _ = false
+
 -- an identifier of at most 255 bytes that isn't reserved
 abbrev pub is_item_name : List ℕ → Bool
-is_item_name bytes = nat_le (length bytes) 255 && (is_identifier bytes && not (is_reserved bytes))
+is_item_name bytes = nat_le (length bytes) 255 && (is_identifier bytes && is_free (class bytes))
 
 unfoldable pub name_in : List ℕ → Option (List ℕ)
 name_in bytes = if is_item_name bytes then Some bytes else None
@@ -86,16 +91,16 @@ add_to (Some target) text = add target text
 unfoldable pub added : List ℕ → Command
 added operands =
     let behind = behind_word operands in
-    if same_name (first_word behind) (codes "last") && not (is_empty (behind_word behind))
+    if bytes_eq (first_word behind) (codes "last") && not (is_empty (behind_word behind))
     then add_to (target_in (first_word operands)) (behind_word behind)
     else refused BadOperands
 
 unfoldable pub asked : (word operands : List ℕ) → Command
 asked word operands =
-    if same_name word (codes "undo") then alone undo operands
-    else if same_name word (codes "redo") then alone redo operands
-    else if same_name word (codes "list") then alone list operands
-    else if same_name word (codes "add") then added operands
+    if bytes_eq word (codes "undo") then alone undo operands
+    else if bytes_eq word (codes "redo") then alone redo operands
+    else if bytes_eq word (codes "list") then alone list operands
+    else if bytes_eq word (codes "add") then added operands
     else refused Unknown
 
 -- a blank line and a line that begins with `#` ask for nothing

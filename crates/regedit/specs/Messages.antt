@@ -4,13 +4,14 @@ use Rattle.std.specs.Fmt.{decimal}
 use Rattle.rdl_text.specs.Place.{line, column}
 use Rattle.rdl_text.specs.declared.fault.FaultKind.{FaultKind as WordsFault}
 use Rattle.rdl_text.specs.declared.fault.FaultKind.TheVariants as words
-use Rattle.regedit.specs.FlatRows.{newline}
-use Rattle.regedit.specs.declared.flat.edit.Refusal.{Refusal}
-use Rattle.regedit.specs.declared.flat.edit.Refusal.TheVariants as refusals
-use Rattle.regedit.specs.declared.flat.fault.FaultKind.{FaultKind}
-use Rattle.regedit.specs.declared.flat.fault.FaultKind.TheVariants as kinds
-use Rattle.regedit.specs.declared.flat.fault.ItemAddress.{ItemAddress}
-use Rattle.regedit.specs.declared.flat.fault.ItemAddress.TheVariants as at
+use Rattle.rdl_edit.specs.declared.edit.Refusal.{Refusal}
+use Rattle.rdl_edit.specs.declared.edit.Refusal.TheVariants as refusals
+use Rattle.rdl_flat.specs.declared.fault.MapFault.{MapFault}
+use Rattle.rdl_flat.specs.declared.fault.MapFault.TheVariants.{NotSupported, Found}
+use Rattle.rdl_tree.specs.AddressText.{address_text}
+use Rattle.rdl_tree.specs.declared.fault.FaultKind.{FaultKind}
+use Rattle.rdl_tree.specs.declared.fault.FaultKind.TheVariants as kinds
+use Rattle.rdl_write.specs.Texts.{newline}
 use Rattle.regedit.specs.declared.reading.TextFaultKind.{TextFaultKind}
 use Rattle.regedit.specs.declared.reading.TextFaultKind.TheVariants as texts
 use Rattle.regedit.specs.declared.reply.LineRefusal.{LineRefusal}
@@ -37,19 +38,42 @@ text_fault_text texts.Unexpected = codes "S9 unexpected word"
 text_fault_text texts.End = codes "S10 unexpected end"
 text_fault_text texts.TooLarge = codes "S12 description too large"
 
+-- want of memory ends the run, and has no message
 unfoldable pub fault_text : FaultKind → List ℕ
 fault_text kinds.NameTwice = codes "E1 name twice"
+fault_text kinds.UnknownType = codes "E2 unknown type"
+fault_text kinds.KindNotAllowed = codes "E3 kind not allowed here"
+fault_text kinds.UnknownProperty = codes "E4 unknown property"
+fault_text kinds.NotOfKind = codes "E5 property not of this kind"
+fault_text kinds.WrongValue = codes "E6 wrong value"
+fault_text kinds.AssignedTwice = codes "E7 assigned twice"
+fault_text kinds.Exclusive = codes "E8 exclusive properties"
+fault_text kinds.NoSuchTarget = codes "E9 no such target before it"
+fault_text kinds.NotDynamic = codes "E10 property not dynamic"
+fault_text kinds.PartNotAllowed = codes "E11 part not allowed here"
 fault_text kinds.OutOfRange = codes "E12 number out of range"
 fault_text kinds.NoTop = codes "E13 no top"
-fault_text kinds.PastRegister = codes "E21 field past register"
+fault_text kinds.TooManyLevels = codes "E14 over 16 levels"
+fault_text kinds.TooManyRows = codes "E15 over 65536 rows"
+fault_text kinds.EmptyComponent = codes "E16 empty component"
+fault_text kinds.MapTooLarge = codes "E17 map too large"
+fault_text kinds.AccessTooWide = codes "E18 accesswidth above regwidth"
+fault_text kinds.StrideTooSmall = codes "E19 stride below size"
+fault_text kinds.AddressOverlap = codes "E20 address overlap"
+fault_text kinds.FieldPastRegister = codes "E21 field past register"
+fault_text kinds.FieldOverlap = codes "E22 field overlap"
 fault_text kinds.ResetTooWide = codes "E23 reset too wide"
-fault_text kinds.TooLarge = codes "E25 description too large"
+fault_text kinds.Memory = []
+fault_text kinds.DescriptionTooLarge = codes "E25 description too large"
 
--- item numbers parted by dots, or a dash for the root
-unfoldable pub address_text : ItemAddress → List ℕ
-address_text at.Root = codes "-"
-address_text (at.Register i) = codes "0." ++ decimal i
-address_text (at.Field i j) = codes "0." ++ decimal i ++ codes "." ++ decimal j
+-- a fault of a map, and the item at which it stands
+unfoldable pub map_fault_text : MapFault → List ℕ
+map_fault_text (NotSupported at) = codes "E0 not yet supported"
+map_fault_text (Found fault) = fault_text fault.kind
+
+abbrev pub fault_address : MapFault → List ℕ
+fault_address (NotSupported at) = at
+fault_address (Found fault) = fault.address
 
 unfoldable pub command_fault_text : CommandFault → List ℕ
 command_fault_text commands.Unknown = codes "C1 unknown command"
@@ -60,7 +84,7 @@ unfoldable pub refusal_text : Refusal → List ℕ
 refusal_text refusals.NoSuchPath = codes "X1 no such path: P1 no such name"
 refusal_text refusals.NameTaken = codes "X3 name taken"
 refusal_text (refusals.Faulty fault) =
-    codes "X9 the edited map has a fault: " ++ fault_text fault.kind ++ codes " at item " ++ address_text fault.at
+    codes "X9 the edited map has a fault: " ++ map_fault_text fault ++ codes " at item " ++ address_text (fault_address fault)
 refusal_text refusals.Memory = []
 
 -- the text of an `add` has no line feed, so its columns are its bytes, from 1; no text reaches the greatest number

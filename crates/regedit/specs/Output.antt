@@ -4,8 +4,8 @@ use Rattle.std.specs.Io.KnownBytes.{Appends}
 use Rattle.journal_core.specs.History.{IsAt}
 use Rattle.regedit.specs.Answers.{History', Serves}
 use Rattle.regedit.specs.Commands.{lines_of}
-use Rattle.regedit.specs.FlatStep.{State}
-use Rattle.regedit.specs.FlatText.{map_text}
+use Rattle.rdl_edit.specs.Step.{State}
+use Rattle.rdl_write.specs.MapText.{map_text}
 use Rattle.regedit.specs.Known.{Gives}
 use Rattle.regedit.specs.Opening.{Opens, RefusesToOpen}
 use Rattle.regedit.specs.declared.status.Status.{Status}
@@ -35,7 +35,7 @@ pub record Runs (limit : ℕ) (first : State) (script : List ℕ) (out : Output)
   pub serves : Serves (one_map limit first) (lines_of script) out.messages refuses last
   pub now : State
   pub at : IsAt last now
-  pub rdl : out.rdl ≡ map_text (Some now.top)
+  pub rdl : out.rdl ≡ map_text now.description
   pub header : out.header ≡ []
   pub status : out.status ≡ (if refuses then LineRefused else Accepted)
 

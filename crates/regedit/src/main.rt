@@ -2,13 +2,11 @@
 #![tactic(auto)]
 
 mod command;
-mod flat;
 mod input;
 mod open;
 mod output;
 mod reading;
 mod reply;
-mod reserved;
 mod run;
 mod script;
 mod serve;

@@ -5,7 +5,8 @@ ghost use Rattle.regedit.specs.Messages.{
   words_fault_text,
   text_fault_text,
   fault_text,
-  address_text,
+  map_fault_text,
+  fault_address,
   command_fault_text,
   refusal_text,
   add_column,
@@ -15,12 +16,14 @@ ghost use Rattle.regedit.specs.Messages.{
   map_line,
 };
 
-use crate::flat::edit::Refusal;
-use crate::flat::fault::{FaultKind, ItemAddress};
-use crate::flat::rows::push_decimal;
 use crate::reading::TextFaultKind;
 use crate::script::CommandFault;
+use rdl_edit::edit::Refusal;
+use rdl_flat::fault::MapFault;
 use rdl_text::fault::FaultKind as WordsFault;
+use rdl_tree::address::Address;
+use rdl_tree::fault::FaultKind;
+use rdl_write::push_decimal;
 use std::alloc::{AllocError, Global};
 
 /// Why a line is refused.
@@ -86,16 +89,56 @@ pub fn text_fault_text(kind: TextFaultKind) -> &'static str
 }
 
 #[tactic(auto, unfolding(crate::specs::Messages::fault_text))]
-pub fn fault_text(kind: FaultKind) -> &'static str
+fn fault_text(kind: FaultKind) -> &'static str
     ensures { result.now ≡ fault_text kind }
 {
     match kind {
         FaultKind::NameTwice => "E1 name twice",
+        FaultKind::UnknownType => "E2 unknown type",
+        FaultKind::KindNotAllowed => "E3 kind not allowed here",
+        FaultKind::UnknownProperty => "E4 unknown property",
+        FaultKind::NotOfKind => "E5 property not of this kind",
+        FaultKind::WrongValue => "E6 wrong value",
+        FaultKind::AssignedTwice => "E7 assigned twice",
+        FaultKind::Exclusive => "E8 exclusive properties",
+        FaultKind::NoSuchTarget => "E9 no such target before it",
+        FaultKind::NotDynamic => "E10 property not dynamic",
+        FaultKind::PartNotAllowed => "E11 part not allowed here",
         FaultKind::OutOfRange => "E12 number out of range",
         FaultKind::NoTop => "E13 no top",
-        FaultKind::PastRegister => "E21 field past register",
+        FaultKind::TooManyLevels => "E14 over 16 levels",
+        FaultKind::TooManyRows => "E15 over 65536 rows",
+        FaultKind::EmptyComponent => "E16 empty component",
+        FaultKind::MapTooLarge => "E17 map too large",
+        FaultKind::AccessTooWide => "E18 accesswidth above regwidth",
+        FaultKind::StrideTooSmall => "E19 stride below size",
+        FaultKind::AddressOverlap => "E20 address overlap",
+        FaultKind::FieldPastRegister => "E21 field past register",
+        FaultKind::FieldOverlap => "E22 field overlap",
         FaultKind::ResetTooWide => "E23 reset too wide",
-        FaultKind::TooLarge => "E25 description too large",
+        FaultKind::Memory => "",
+        FaultKind::DescriptionTooLarge => "E25 description too large",
+    }
+}
+
+/// The text of a fault of a map.
+#[tactic(auto, unfolding(crate::specs::Messages::map_fault_text))]
+pub fn map_fault_text(fault: &MapFault) -> &'static str
+    ensures { result.now ≡ map_fault_text fault.now }
+{
+    match fault {
+        MapFault::NotSupported(_) => "E0 not yet supported",
+        MapFault::Found(found) => fault_text(found.kind),
+    }
+}
+
+/// The item at which a fault of a map stands.
+pub fn fault_address(fault: &MapFault) -> &Address
+    ensures { result.now ≡ fault_address fault.now }
+{
+    match fault {
+        MapFault::NotSupported(address) => address,
+        MapFault::Found(found) => &found.address,
     }
 }
 
@@ -110,17 +153,6 @@ fn command_fault_text(fault: CommandFault) -> &'static str
     }
 }
 
-#[tactic(auto, unfolding(crate::specs::Messages::address_text))]
-fn push_address(text: &mut String, address: ItemAddress) -> Result<(), AllocError>
-    ensures { OnOk result (string_bytes text.new ≡ string_bytes text.old ++ address_text address) }
-{
-    match address {
-        ItemAddress::Root => text.push_str("-"),
-        ItemAddress::Register(i) => write!(text, "0.{i}"),
-        ItemAddress::Field(i, j) => write!(text, "0.{i}.{j}"),
-    }
-}
-
 #[tactic(auto, unfolding(crate::specs::Messages::refusal_text))]
 fn push_refusal(text: &mut String, refusal: &Refusal) -> Result<(), AllocError>
     ensures { OnOk result (string_bytes text.new ≡ string_bytes text.old ++ refusal_text refusal.now) }
@@ -130,9 +162,8 @@ fn push_refusal(text: &mut String, refusal: &Refusal) -> Result<(), AllocError>
         Refusal::NameTaken => text.push_str("X3 name taken"),
         Refusal::Faulty(fault) => {
             text.push_str("X9 the edited map has a fault: ")?;
-            text.push_str(fault_text(fault.kind))?;
-            text.push_str(" at item ")?;
-            push_address(text, fault.at)
+            text.push_str(map_fault_text(fault))?;
+            write!(text, " at item {}", fault_address(fault))
         }
         Refusal::Memory => Ok(()),
     }

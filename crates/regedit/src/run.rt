@@ -2,14 +2,15 @@
 ghost use Rattle.std.specs.Prelude.{◌^◌, ◌<◌, length, IfOk};
 ghost use Rattle.regedit.specs.Output.{Ran, RanFrom};
 
-use crate::flat::edit::EditedMap;
 use crate::input::read_whole;
 use crate::open::{OpenFault, open};
 use crate::output::write_whole;
 use crate::serve::serve_all;
 use crate::status::{RunFault, Status};
 use journal_core::journal::Journal;
+use rdl_edit::map::Map;
 use rdl_text::name::Name;
+use rdl_write::rdl;
 use std::alloc::Global;
 use std::io::{Read, Write};
 
@@ -28,7 +29,7 @@ const MOST_BYTES: usize = 67_108_864;
 /// Runs a script from a map, and writes the map that it leads to. The header is empty for now.
 fn run_script<R: Write, H: Write, E: Write>(
     alloc: Global,
-    map: EditedMap,
+    map: Map,
     history: u32,
     script: &[u8],
     rdl: &mut R,
@@ -42,7 +43,7 @@ fn run_script<R: Write, H: Write, E: Write>(
 {
     let mut journal = Journal::new(alloc, map, history);
     let refused = serve_all(alloc, &mut journal, script, messages)?;
-    let Ok(text) = journal.map().map_text(alloc) else {
+    let Ok(text) = rdl(alloc, journal.map().description()) else {
         return Err(RunFault::Memory);
     };
     write_whole(rdl, &mut 0, text.as_bytes())?;

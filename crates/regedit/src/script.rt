@@ -9,6 +9,7 @@ ghost use Rattle.regedit.specs.Commands.{
   trimmed,
   first_word,
   behind_word,
+  is_free,
   name_in,
   target_in,
   add_to,
@@ -21,8 +22,8 @@ ghost use Rattle.regedit.specs.Commands.{
 };
 ghost use Rattle.regedit.specs.Seen.{seen};
 
-use crate::reserved::is_reserved;
 use crate::status::RunFault;
+use rdl_parse::class::Class;
 use rdl_text::name::{Name, NameFault};
 use std::alloc::Global;
 use std::str;
@@ -45,7 +46,7 @@ pub enum Request<'a> {
     Undo,
     Redo,
     List,
-    /// A register's text, for the address map of that name.
+    /// A statement's text, for the definition of that name.
     Add(Name, &'a [u8]),
     Refused(CommandFault),
 }
@@ -117,6 +118,12 @@ fn behind_word(bytes: &[u8]) -> &[u8]
     &behind[spaces_before(behind)..]
 }
 
+fn is_free(class: Class) -> bool
+    ensures { result ≡ is_free class }
+{
+    matches!(class, Class::Name)
+}
+
 fn name_in(alloc: Global, bytes: &[u8]) -> Result<Option<Name>, RunFault>
     ensures name { IfOk result (λ name. name ≡ name_in bytes.now) }
     ensures fault { IsOkUnless result RunFault.Memory }
@@ -124,7 +131,7 @@ fn name_in(alloc: Global, bytes: &[u8]) -> Result<Option<Name>, RunFault>
     let Ok(text) = str::from_utf8(bytes) else {
         return Ok(None);
     };
-    if is_reserved(text) {
+    if !is_free(Class::of(text)) {
         return Ok(None);
     }
     match Name::new(alloc, text) {

@@ -8,35 +8,37 @@ ghost use Rattle.regedit.specs.Commands.{add, undo, redo, lines_of, lines_left};
 ghost use Rattle.regedit.specs.ScriptLines.{is_in_line, left_len};
 ghost use Rattle.regedit.specs.Seen.{seen};
 
-use crate::flat::edit::{Edit, EditedMap, Refusal};
 use crate::output::write_whole;
-use crate::reading::{ReadingFault, register_of};
+use crate::reading::{ReadingFault, items_of};
 use crate::reply::{LineRefusal, Reply, reply_text};
 use crate::script::{Request, request_of};
 use crate::status::RunFault;
 use journal_core::fault::{EditFault, StepFault};
 use journal_core::journal::Journal;
+use rdl_edit::edit::{Edit, Refusal};
+use rdl_edit::map::Map;
 use rdl_text::name::Name;
+use rdl_tree::description::Body;
 use std::alloc::Global;
 use std::io::Write;
 
 fn add(
     alloc: Global,
-    journal: &mut Journal<EditedMap>,
+    journal: &mut Journal<Map>,
     target: Name,
     text: &[u8],
 ) -> Result<Reply, RunFault>
     ensures answers { IfOk result (λ reply. Answers journal.old (add target text.now) reply journal.new) }
     ensures fault { IsOkUnless result RunFault.Memory }
 {
-    let register = match register_of(alloc, text) {
-        Ok(register) => register,
+    let items = match items_of(alloc, text) {
+        Ok(items) => Body::from_vec(items),
         Err(ReadingFault::Refused(kind, at)) => {
             return Ok(Reply::Refused(LineRefusal::Text(kind, at)));
         }
         Err(ReadingFault::Memory) => return Err(RunFault::Memory),
     };
-    let edit = Edit { target, register };
+    let edit = Edit { target, items };
     match journal.edit(alloc, &edit) {
         Ok(()) => Ok(Reply::Done),
         Err(EditFault::Full) => Ok(Reply::Refused(LineRefusal::HistoryFull)),
@@ -46,7 +48,7 @@ fn add(
     }
 }
 
-fn undo(alloc: Global, journal: &mut Journal<EditedMap>) -> Result<Reply, RunFault>
+fn undo(alloc: Global, journal: &mut Journal<Map>) -> Result<Reply, RunFault>
     ensures answers { IfOk result (λ reply. Answers journal.old undo reply journal.new) }
     ensures fault { IsOkUnless result RunFault.Memory }
 {
@@ -57,7 +59,7 @@ fn undo(alloc: Global, journal: &mut Journal<EditedMap>) -> Result<Reply, RunFau
     }
 }
 
-fn redo(alloc: Global, journal: &mut Journal<EditedMap>) -> Result<Reply, RunFault>
+fn redo(alloc: Global, journal: &mut Journal<Map>) -> Result<Reply, RunFault>
     ensures answers { IfOk result (λ reply. Answers journal.old redo reply journal.new) }
     ensures fault { IsOkUnless result RunFault.Memory }
 {
@@ -71,7 +73,7 @@ fn redo(alloc: Global, journal: &mut Journal<EditedMap>) -> Result<Reply, RunFau
 /// Does what a line asks for.
 pub fn serve(
     alloc: Global,
-    journal: &mut Journal<EditedMap>,
+    journal: &mut Journal<Map>,
     request: Request<'_>,
 ) -> Result<Reply, RunFault>
     ensures answers { IfOk result (λ reply. Answers journal.old (seen request.entry) reply journal.new) }
@@ -113,7 +115,7 @@ fn split_line(bytes: &[u8]) -> (&[u8], Option<&[u8]>)
 /// One line's message, and whether it is refused.
 fn serve_line(
     alloc: Global,
-    journal: &mut Journal<EditedMap>,
+    journal: &mut Journal<Map>,
     number: usize,
     line: &[u8],
 ) -> Result<(String, bool), RunFault>
@@ -139,7 +141,7 @@ fn serve_line(
 /// refused.
 pub fn serve_all<E: Write>(
     alloc: Global,
-    journal: &mut Journal<EditedMap>,
+    journal: &mut Journal<Map>,
     script: &[u8],
     messages: &mut E,
 ) -> Result<bool, RunFault>

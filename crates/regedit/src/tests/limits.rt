@@ -66,3 +66,22 @@ fn of_the_items_of_a_text(rt: HostRuntime) -> Result<(), Fail> {
     assert_eq!(rt; written.messages()?, want);
     Ok(())
 }
+
+fn nested(alloc: Global, levels: usize) -> Result<String, AllocError> {
+    let mut map = String::new(alloc);
+    for _ in 0..levels {
+        map.push_str("addrmap a{")?;
+    }
+    Ok(map)
+}
+
+#[test]
+fn of_nesting(rt: HostRuntime) -> Result<(), Fail> {
+    let map = nested(rt.alloc(), 17)?;
+    let written = write(rt.alloc(), map.as_str(), "")?;
+    assert_eq!(rt; written.messages()?, "map:1:170: S11 nesting over 16\n");
+    let map = nested(rt.alloc(), 16)?;
+    let written = write(rt.alloc(), map.as_str(), "")?;
+    assert_eq!(rt; written.messages()?, "map:1:161: S10 unexpected end\n");
+    Ok(())
+}

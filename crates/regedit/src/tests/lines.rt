@@ -4,7 +4,7 @@ use crate::status::Status;
 use std::alloc::Global;
 use std::test::Fail;
 
-const REFUSED: [(&str, &str); 32] = [
+const REFUSED: [(&str, &str); 36] = [
     ("frob", "C1 unknown command"),
     ("frob /$top", "C1 unknown command"),
     ("Undo", "C1 unknown command"),
@@ -42,8 +42,12 @@ const REFUSED: [(&str, &str); 32] = [
         "C4 text refused: S6 Verilog width out of range at column 1",
     ),
     (
-        "add /$top last field {} f;",
-        "C4 text refused: S9 unexpected word at column 1",
+        "add /$top last reg } b;",
+        "C4 text refused: S9 unexpected word at column 5",
+    ),
+    (
+        "add /$top last // nothing",
+        "C4 text refused: S10 unexpected end at column 11",
     ),
     (
         "add /$top last reg {} b; x",
@@ -62,6 +66,12 @@ const REFUSED: [(&str, &str); 32] = [
         "X1 no such path: P1 no such name",
     ),
     ("add /$top last reg {} a;", "X3 name taken"),
+    ("add /$top last reg {} b, b;", "X3 name taken"),
+    ("add /$top last regfile { reg top {}; } b;", "X3 name taken"),
+    (
+        "add /$top last field {} f;",
+        "X9 the edited map has a fault: E0 not yet supported at item 0.1",
+    ),
     (
         "add /$top last reg { field {} g; field {} g; } b;",
         "X9 the edited map has a fault: E1 name twice at item 0.1.1",

@@ -1,26 +1,27 @@
 use Rattle.std.proofs.Common.{◌≡◌, false, true, Some, sym, ap, ◌∙◌, subst, rules}
 use Rattle.rdl_text.specs.Name.{IsName}
-use Rattle.regedit.specs.Reserved.{is_reserved}
+use Rattle.rdl_parse.specs.Class.{class}
+use Rattle.regedit.specs.Commands.{is_free}
 use Rattle.regedit.proofs.ItemNames.{name_in-not_utf8, name_in-reserved, name_in-not_name, name_in-name}
 use Rattle.regedit.proofs.script.name_in.Goals as goal
 
 pub returns-in_default-clause-name : goal.returns-in_default-clause-name
 returns-in_default-clause-name c = sym (name_in-not_utf8 c.args.bytes.now c.in_default.ensures.cases.0)
 
-pub returns-then-is_reserved-clause-name : goal.returns-then-is_reserved-clause-name
-returns-then-is_reserved-clause-name c =
+pub returns-then-is_free-clause-name : goal.returns-then-is_free-clause-name
+returns-then-is_free-clause-name c =
     let text : c.in-Ok.text.now ≡ c.args.bytes.now = c.in-Ok.ensures.cases.0 in
-    let reserved : is_reserved c.in-Ok.text.now ≡ true = search rules in
-    sym (name_in-reserved c.args.bytes.now (subst (λ t. is_reserved t ≡ true) text reserved))
+    let reserved : is_free (class c.in-Ok.text.now) ≡ false = search rules in
+    sym (name_in-reserved c.args.bytes.now (subst (λ t. is_free (class t) ≡ false) text reserved))
 
 pub returns-in-Ok-new-clause-name : goal.returns-in-Ok-new-clause-name
 returns-in-Ok-new-clause-name c =
     let text : c.in-Ok.text.now ≡ c.args.bytes.now = c.in-Ok.ensures.cases.0 in
-    let unreserved : is_reserved c.in-Ok.text.now ≡ false = search rules in
+    let free : is_free (class c.in-Ok.text.now) ≡ true = search rules in
     let named : c.in-Ok-new.name ≡ c.in-Ok.text.now = c.in-Ok-new.ensures.ok in
     let is_name : IsName c.in-Ok-new.name = c.in-Ok-new.ensures.is_name in
     ap Some (named ∙ text)
-    ∙ sym (name_in-name c.args.bytes.now (subst IsName (named ∙ text) is_name) (subst (λ t. is_reserved t ≡ false) text unreserved))
+    ∙ sym (name_in-name c.args.bytes.now (subst IsName (named ∙ text) is_name) (subst (λ t. is_free (class t) ≡ true) text free))
 
 pub returns-in-Err-NotSuch-clause-name : goal.returns-in-Err-NotSuch-clause-name
 returns-in-Err-NotSuch-clause-name c =
