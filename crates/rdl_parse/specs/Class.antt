@@ -1,18 +1,16 @@
--- What a word is to the grammar.
+-- What an identifier is to the grammar.
 -- SystemRDL 2.0, keywords and reserved words; the list is own, and `r` and `w` are names too.
 use Rattle.std.specs.Prelude.{ℕ, Bool, true, false, ◌||◌, if◌then◌else◌, List, codes, bytes_eq}
-use Rattle.rdl_text.specs.declared.token.TokenKind.{TokenKind}
-use Rattle.rdl_text.specs.declared.token.TokenKind.TheVariants as words
 use Rattle.rdl_tree.specs.declared.shell.Kind.TheVariants.{Addrmap, Regfile, Reg, Field}
 use Rattle.rdl_tree.specs.declared.shell.Outside.TheVariants.{External, Internal}
 use Rattle.rdl_tree.specs.declared.value.Word.TheVariants as value
 use Rattle.rdl_parse.specs.declared.class.Property.TheVariants as properties
 use Rattle.rdl_parse.specs.declared.class.Class.{Class}
-use Rattle.rdl_parse.specs.declared.class.Class.TheVariants.{Kind, Outside, Default, Truth, Property, Word, Reserved, Name, Number, Text, Mark}
+use Rattle.rdl_parse.specs.declared.class.Class.TheVariants.{Kind, Outside, Default, Truth, Property, Word, Reserved, Name}
 
 -- every reserved word; any other identifier is a name
-unfoldable pub identifier_class : List ℕ → Class
-identifier_class n =
+unfoldable pub class : List ℕ → Class
+class n =
     if bytes_eq n (codes "addrmap") then Kind Addrmap
     else if bytes_eq n (codes "regfile") then Kind Regfile
     else if bytes_eq n (codes "reg") then Kind Reg
@@ -46,9 +44,3 @@ identifier_class n =
     else if bytes_eq n (codes "fullalign") then Word value.Fullalign
     else if bytes_eq n (codes "mem") || bytes_eq n (codes "signal") || bytes_eq n (codes "enum") || bytes_eq n (codes "struct") || bytes_eq n (codes "constraint") || bytes_eq n (codes "property") || bytes_eq n (codes "alias") || bytes_eq n (codes "abstract") || bytes_eq n (codes "encode") then Reserved
     else Name
-
-abbrev pub class : TokenKind → List ℕ → Class
-class words.Identifier source = identifier_class source
-class (words.Number n) source = Number n
-class words.Text source = Text
-class (words.Mark m) source = Mark m

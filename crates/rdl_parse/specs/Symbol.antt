@@ -3,6 +3,8 @@
 use Rattle.std.specs.Prelude.{ℕ, ◌-◌, Bool, List, length, take, drop, map, codes}
 use Rattle.rdl_text.specs.Word.{Word}
 use Rattle.rdl_text.specs.declared.token.Mark.{Mark}
+use Rattle.rdl_text.specs.declared.token.TokenKind.{TokenKind}
+use Rattle.rdl_text.specs.declared.token.TokenKind.TheVariants as kinds
 use Rattle.rdl_tree.specs.declared.shell.Kind.{Kind}
 use Rattle.rdl_tree.specs.declared.shell.Outside.{Outside}
 use Rattle.rdl_tree.specs.declared.value.Word.{Word as ValueWord}
@@ -33,22 +35,26 @@ pub data Symbol : Type 0 where
 abbrev pub inside : List ℕ → List ℕ
 inside source = take (length source - 2) (drop 1 source)
 
--- a word of a class that is spelled so
-abbrev pub symbol_by : Class → List ℕ → Symbol
-symbol_by (classes.Kind k) source = kind k
-symbol_by (classes.Outside o) source = outside o
-symbol_by classes.Default source = default
-symbol_by (classes.Truth b) source = truth b
-symbol_by (classes.Property p) source = property p
-symbol_by (classes.Word w) source = word w
-symbol_by classes.Reserved source = reserved
-symbol_by classes.Name source = name source
-symbol_by (classes.Number n) source = number n
-symbol_by classes.Text source = text (inside source)
-symbol_by (classes.Mark m) source = mark m
+-- an identifier of a class that is spelled so
+abbrev pub class_symbol : Class → List ℕ → Symbol
+class_symbol (classes.Kind k) source = kind k
+class_symbol (classes.Outside o) source = outside o
+class_symbol classes.Default source = default
+class_symbol (classes.Truth b) source = truth b
+class_symbol (classes.Property p) source = property p
+class_symbol (classes.Word w) source = word w
+class_symbol classes.Reserved source = reserved
+class_symbol classes.Name source = name source
+
+-- a word of a kind that is spelled so
+abbrev pub symbol_by : TokenKind → List ℕ → Symbol
+symbol_by kinds.Identifier source = class_symbol (class source) source
+symbol_by (kinds.Number n) source = number n
+symbol_by kinds.Text source = text (inside source)
+symbol_by (kinds.Mark m) source = mark m
 
 abbrev pub symbol : Word → Symbol
-symbol w = symbol_by (class w.kind w.source) w.source
+symbol w = symbol_by w.kind w.source
 
 abbrev pub symbols : List Word → List Symbol
 symbols ws = map symbol ws

@@ -4,4 +4,7 @@
 pub mod class;
 pub mod fault;
 pub mod found;
-pub mod room;
+mod inst;
+mod reader;
+mod room;
+mod word;
