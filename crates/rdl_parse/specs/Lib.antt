@@ -1,0 +1,5 @@
+pub mod Class
+pub mod Symbol
+pub mod Finds
+pub mod Spelling
+pub mod Reading

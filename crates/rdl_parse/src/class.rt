@@ -1,0 +1,102 @@
+//! What the grammar sees of a word.
+ghost use Rattle.std.specs.Prelude.{◌≡◌};
+ghost use Rattle.rdl_parse.specs.Class as spec;
+
+use rdl_text::token::{Mark, Number, Token, TokenKind};
+use rdl_tree::shell::{Kind, Outside};
+use rdl_tree::value::Word;
+
+/// A reserved word that is a property.
+#[derive(Clone, Copy, Debug, PartialEq, Eq)]
+pub enum Property {
+    Sw,
+    Hw,
+    Rclr,
+    Rset,
+    Woset,
+    Woclr,
+}
+
+/// What a word is to the grammar. A name and a string have their bytes in the text.
+#[derive(Clone, Copy, Debug, PartialEq, Eq)]
+pub enum Class {
+    Kind(Kind),
+    /// `external` or `internal`.
+    Outside(Outside),
+    /// `default`.
+    Default,
+    /// `true` or `false`.
+    Truth(bool),
+    Property(Property),
+    /// A word that is a value and nothing else.
+    Word(Word),
+    /// A reserved word with no use in this profile.
+    Reserved,
+    /// An identifier that isn't reserved.
+    Name,
+    Number(Number),
+    Text,
+    Mark(Mark),
+}
+
+#[tactic(auto, unfolding(crate::specs::Class::identifier_class))]
+fn identifier_class(word: &str) -> Class
+    ensures { result ≡ spec.identifier_class word.now }
+{
+    match word {
+        "addrmap" => Class::Kind(Kind::Addrmap),
+        "regfile" => Class::Kind(Kind::Regfile),
+        "reg" => Class::Kind(Kind::Reg),
+        "field" => Class::Kind(Kind::Field),
+        "external" => Class::Outside(Outside::External),
+        "internal" => Class::Outside(Outside::Internal),
+        "default" => Class::Default,
+        "true" => Class::Truth(true),
+        "false" => Class::Truth(false),
+        "sw" => Class::Property(Property::Sw),
+        "hw" => Class::Property(Property::Hw),
+        "rclr" => Class::Property(Property::Rclr),
+        "rset" => Class::Property(Property::Rset),
+        "woset" => Class::Property(Property::Woset),
+        "woclr" => Class::Property(Property::Woclr),
+        "rw" => Class::Word(Word::Rw),
+        "wr" => Class::Word(Word::Wr),
+        "rw1" => Class::Word(Word::Rw1),
+        "w1" => Class::Word(Word::W1),
+        "na" => Class::Word(Word::Na),
+        "ruser" => Class::Word(Word::Ruser),
+        "wot" => Class::Word(Word::Wot),
+        "wzs" => Class::Word(Word::Wzs),
+        "wzc" => Class::Word(Word::Wzc),
+        "wzt" => Class::Word(Word::Wzt),
+        "wclr" => Class::Word(Word::Wclr),
+        "wset" => Class::Word(Word::Wset),
+        "wuser" => Class::Word(Word::Wuser),
+        "compact" => Class::Word(Word::Compact),
+        "regalign" => Class::Word(Word::Regalign),
+        "fullalign" => Class::Word(Word::Fullalign),
+        "mem"
+        | "signal"
+        | "enum"
+        | "struct"
+        | "constraint"
+        | "property"
+        | "alias"
+        | "abstract"
+        | "encode" => Class::Reserved,
+        _ => Class::Name,
+    }
+}
+
+impl Class {
+    pub fn of(word: &Token<'_>) -> Class
+        ensures { result ≡ spec.class word.now.kind word.now.source }
+    {
+        match word.kind() {
+            TokenKind::Identifier => identifier_class(word.source()),
+            TokenKind::Number(number) => Class::Number(number),
+            TokenKind::Text => Class::Text,
+            TokenKind::Mark(mark) => Class::Mark(mark),
+        }
+    }
+}
