@@ -1,0 +1,4 @@
+pub mod Outcome
+pub mod Turns
+pub mod Passing
+pub mod WordRead

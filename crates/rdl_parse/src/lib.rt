@@ -4,4 +4,5 @@
 pub mod class;
 pub mod fault;
 pub mod found;
+pub mod laws;
 pub mod room;
