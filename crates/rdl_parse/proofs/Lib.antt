@@ -1,1 +1,5 @@
 pub mod Words
+pub mod Outcome
+pub mod Turns
+pub mod Passing
+pub mod WordRead

@@ -3,3 +3,4 @@ pub mod Symbol
 pub mod Finds
 pub mod Spelling
 pub mod Reading
+pub mod Stands

@@ -7,6 +7,7 @@ use Rattle.rdl_text.specs.contracts.token.Mark.{the_type}
 use Rattle.rdl_text.specs.declared.token.Mark.{Mark}
 use Rattle.rdl_text.specs.declared.token.Mark.TheVariants.{OpenBrace, CloseBrace, OpenBracket, CloseBracket, Colon, Semicolon, Comma, Dot, Equals, At, PlusEquals, PercentEquals, Arrow}
 use Rattle.rdl_tree.specs.Items.{Items}
+use Rattle.rdl_tree.specs.Limits.{max_count, max_weight}
 use Rattle.rdl_tree.specs.View.{items_of}
 use Rattle.rdl_tree.specs.declared.description.Description.{Description}
 use Rattle.rdl_tree.specs.declared.description.Item.{Item}
@@ -368,7 +369,7 @@ end_at [] = Ok tt
 end_at ws = wrong ws
 
 abbrev pub limit : Room
-limit = record { items = 65536; weight = 8388608 }
+limit = record { items = max_count; weight = max_weight }
 
 -- all of the words, where so many braces may be opened and there is so much room
 unfoldable pub text_at : ℕ → Room → List Symbol → Result Block Fault

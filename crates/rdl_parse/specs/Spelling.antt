@@ -1,12 +1,11 @@
 -- Which words spell which description.
 -- SystemRDL 2.0, component definitions and instances, property assignments; the profile, the places and the limits are own.
-use Rattle.std.specs.Prelude.{◌≡◌, ◌≤◌, ℕ, suc, max, true, List, [], ◌∷◌, ◌++◌, length, map, codes, Option, Some, None}
+use Rattle.std.specs.Prelude.{◌≡◌, ℕ, List, [], ◌∷◌, ◌++◌, length, map, codes, Option, Some, None}
 use Rattle.rdl_text.specs.Word.{Word}
 use Rattle.rdl_text.specs.declared.token.Mark.{Mark}
 use Rattle.rdl_text.specs.declared.token.Mark.TheVariants.{OpenBrace, CloseBrace, OpenBracket, CloseBracket, Colon, Semicolon, Comma, Dot, Equals, At, PlusEquals, PercentEquals, Arrow}
-use Rattle.rdl_tree.specs.Items.{Items, no_items, plain, holder, count}
+use Rattle.rdl_tree.specs.Items.{Items}
 use Rattle.rdl_tree.specs.View.{items_of}
-use Rattle.rdl_tree.specs.Weight.{weight}
 use Rattle.rdl_tree.specs.declared.description.Component.{Component}
 use Rattle.rdl_tree.specs.declared.description.Item.{Item}
 use Rattle.rdl_tree.specs.declared.description.Item.TheVariants.{Define, Instance, Own, Default, Dynamic}
@@ -260,14 +259,3 @@ Spells ws d at = (t : Statements) × (ws ≡ words t []) × (d ≡ items_of (ite
 -- the words are exactly one statement, which stands for these items
 abbrev pub SpellsItems : List Symbol → List Item → Type 0
 SpellsItems ws xs = (s : Statement) × (ws ≡ statement_words s []) × (xs ≡ statement_items s)
-
--- how many braces stand round the innermost
-abbrev pub depth : Items → ℕ
-depth no_items = 0
-depth (plain p rest) = depth rest
-depth (holder h body rest) = max (suc (depth body)) (depth rest)
-
-pub record Within (d : Items) : Type 0 where
-  pub deep : depth d ≤ 16
-  pub many : count d ≤ 65536
-  pub large : weight d ≤ 8388608

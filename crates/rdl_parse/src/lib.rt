@@ -5,6 +5,7 @@ pub mod class;
 pub mod fault;
 pub mod found;
 mod inst;
+pub mod laws;
 mod reader;
-mod room;
+pub mod room;
 mod word;
