@@ -3,3 +3,5 @@ pub mod Outcome
 pub mod Turns
 pub mod Passing
 pub mod WordRead
+pub mod Gathering
+pub mod Rounds

@@ -3,4 +3,5 @@ pub mod Symbol
 pub mod Finds
 pub mod Spelling
 pub mod Reading
+pub mod Gathering
 pub mod Stands

@@ -4,8 +4,10 @@
 pub mod class;
 pub mod fault;
 pub mod found;
+pub mod gathered;
 mod inst;
 pub mod laws;
 mod reader;
 pub mod room;
+mod statement;
 mod word;

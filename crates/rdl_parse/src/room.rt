@@ -4,5 +4,11 @@
 #[derive(Clone, Copy, Debug)]
 pub struct Room {
     pub items: usize,
-    pub weight: u64,
+    pub weight: u32,
 }
+
+/// The room of a whole text.
+pub(crate) const WHOLE: Room = Room {
+    items: 65_536,
+    weight: 8_388_608,
+};

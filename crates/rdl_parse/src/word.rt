@@ -3,6 +3,7 @@ ghost use Rattle.std.specs.Prelude.{◌≡◌, IfSome, IfOk, IfErr, option_map};
 ghost use Rattle.std.specs.Option.{option_copied};
 ghost use Rattle.rdl_text.specs.Name.{IsName};
 ghost use Rattle.rdl_parse.specs.Class.{class};
+ghost use Rattle.rdl_parse.specs.Gathering.{outside_by};
 ghost use Rattle.rdl_parse.specs.Reading as spec;
 ghost use Rattle.rdl_parse.specs.Symbol.{symbol, class_symbol, inside, property_text};
 ghost use Rattle.rdl_text.specs.Raw.{IsRaw};
@@ -15,6 +16,7 @@ use crate::fault::Stop;
 use rdl_text::name::{Name, NameFault};
 use rdl_text::raw::Raw;
 use rdl_text::token::{Mark, Number, Token, TokenKind};
+use rdl_tree::shell::Outside;
 use rdl_tree::value::{Value, Word};
 use std::alloc::Global;
 
@@ -46,6 +48,19 @@ pub(crate) fn name_of<'a>(word: &Token<'a>) -> Option<&'a str>
     match word.kind() {
         TokenKind::Identifier => match Class::of(word.source()) {
             Class::Name => Some(word.source()),
+            _ => None,
+        },
+        TokenKind::Number(_) | TokenKind::Text | TokenKind::Mark(_) => None,
+    }
+}
+
+/// What `external` and `internal` say.
+pub(crate) fn outside_of(word: &Token<'_>) -> Option<Outside>
+    ensures { result ≡ outside_by (symbol word.now) }
+{
+    match word.kind() {
+        TokenKind::Identifier => match Class::of(word.source()) {
+            Class::Outside(outside) => Some(outside),
             _ => None,
         },
         TokenKind::Number(_) | TokenKind::Text | TokenKind::Mark(_) => None,
