@@ -2,3 +2,4 @@ pub mod Outcome
 pub mod Turns
 pub mod Passing
 pub mod WordRead
+pub mod Forms
