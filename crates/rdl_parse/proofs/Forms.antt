@@ -89,7 +89,7 @@ insts-counted : (o : Outside) (of : Of) (inner : List Spot) (i : Inst) (is : Lis
 insts-counted o of inner i is ws h = others-counted o of inner (i ∷ is) (mark Semicolon ∷ ws) h
 
 mutual
-  statement-counted : (st : Statement) (ws : List Symbol) → length (statement_spots st ws) ≡ count (items_of (statement_items st))
+  pub statement-counted : (st : Statement) (ws : List Symbol) → length (statement_spots st ws) ≡ count (items_of (statement_items st))
   statement-counted (define k n body) ws = omega (arith, counted body (mark CloseBrace ∷ mark Semicolon ∷ ws))
   statement-counted (define_with o k n body i is) ws =
       let vs = mark CloseBrace ∷ outside_words (at_late o) (insts_words i is ws) in

@@ -3,3 +3,4 @@ pub mod Turns
 pub mod Passing
 pub mod WordRead
 pub mod Forms
+pub mod TextRead
