@@ -4,3 +4,4 @@ pub mod Passing
 pub mod WordRead
 pub mod Forms
 pub mod TextRead
+pub mod WordAgain
