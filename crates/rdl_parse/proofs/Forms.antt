@@ -75,7 +75,7 @@ fits-both room f h k = both (nat_le (length f.spots) room.items) (nat_le (weight
 
 -- ---- Each item has a spot.
 
-count-append : (xs ys : List Item) → count (items_of (xs ++ ys)) ≡ count (items_of xs) + count (items_of ys)
+pub count-append : (xs ys : List Item) → count (items_of (xs ++ ys)) ≡ count (items_of xs) + count (items_of ys)
 count-append xs ys = omega (arith, count-items_of (xs ++ ys), count-items_of xs, count-items_of ys, sum_by-append item_count xs ys)
 
 others-counted : (o : Outside) (of : Of) (inner : List Spot) (is : List Inst) (ws : List Symbol) → ((i : Inst) → item_count (instance o of i) ≡ suc (length inner)) → length (others_spots inner is ws) ≡ count (items_of (map (instance o of) is))

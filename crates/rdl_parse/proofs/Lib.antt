@@ -5,3 +5,5 @@ pub mod WordRead
 pub mod Forms
 pub mod TextRead
 pub mod WordAgain
+pub mod TextAgain
+pub mod Exact

@@ -53,9 +53,9 @@ more-reads levels o of inner xs ws =
     }))
 
 pub record IsNext (o : Outside) (of : Of) (inner : List Spot) (xs : Finds) (ws : List Symbol) (ys : Finds) (rest : List Symbol) : Type 0 where
-  inst : Inst
-  finds_are : ys ≡ joined xs (one_finds o of inner inst rest)
-  words_are : ws ≡ others_words (inst ∷ []) rest
+  pub inst : Inst
+  pub finds_are : ys ≡ joined xs (one_finds o of inner inst rest)
+  pub words_are : ws ≡ others_words (inst ∷ []) rest
 
 pub next-reads : (levels : ℕ) (o : Outside) (of : Of) (inner : List Spot) (xs : Finds) (ws : List Symbol) → Outcome (λ x. IsNext o of inner xs ws x.0 x.1) (Stands levels ws) (next_at o of inner xs ws)
 unfolding next_at
@@ -73,13 +73,14 @@ next-turning : (levels : ℕ) (o : Outside) (of : Of) (inner : List Spot) → Tu
 next-turning levels o of inner = record {
   none = λ xs ws. record { insts = []; finds_are = joined-nothing xs; words_are = refl };
   one = λ xs ws. but (next-reads levels o of inner xs ws)
-    (λ x p. (
-      (λ z q. record {
-        insts = p.inst ∷ q.insts;
-        finds_are = q.finds_are ∙ ap (λ ys. joined ys (others_finds o of inner q.insts z.1)) (p.finds_are ∙ ap (λ vs. joined xs (one_finds o of inner p.inst vs)) q.words_are) ∙ joined-assoc xs (one_finds o of inner p.inst (others_words q.insts z.1)) (others_finds o of inner q.insts z.1);
-        words_are = p.words_are ∙ ap (others_words (p.inst ∷ [])) q.words_are;
-      }),
-      shift levels ws x.1 (passes-from p.words_are (others-pass (p.inst ∷ []) x.1))));
+      (λ x p. (
+        (λ z q. record {
+          insts = p.inst ∷ q.insts;
+          finds_are = q.finds_are ∙ ap (λ ys. joined ys (others_finds o of inner q.insts z.1)) (p.finds_are ∙ ap (λ vs. joined xs (one_finds o of inner p.inst vs)) q.words_are) ∙ joined-assoc xs (one_finds o of inner p.inst (others_words q.insts z.1)) (others_finds o of inner q.insts z.1);
+          words_are = p.words_are ∙ ap (others_words (p.inst ∷ [])) q.words_are;
+        }),
+        shift levels ws x.1 (passes-from p.words_are (others-pass (p.inst ∷ []) x.1)),
+      ));
 }
 
 -- what was found fits the room, and this is the room that it leaves
@@ -373,7 +374,7 @@ more-statements levels s ws x vs z us p q =
       light = omega (arith, sum_by-append item_weight (statement_items p.statement) (items q.text), q.light);
     }
 
-one-follows : (levels : ℕ) (inner : Inner) → InnerReads levels inner → (s : Finished) (ws : List Symbol)
+pub one-follows : (levels : ℕ) (inner : Inner) → InnerReads levels inner → (s : Finished) (ws : List Symbol)
     → Outcome (λ x. (y : Finished) × IsStatement levels s.1 ws y x.1 × (x.0 ≡ (joined s.0 y.0, y.1))) (Stands levels ws) (following_one_at inner s ws)
 unfolding following_one_at
 one-follows levels inner h s ws = then (statement-reads levels inner h s.1 ws) (λ x p. gives _ (x.0, p, refl))
@@ -382,9 +383,10 @@ statement-turning : (levels : ℕ) (inner : Inner) → InnerReads levels inner �
 statement-turning levels inner h = record {
   none = no-statements levels;
   one = λ s ws. but (one-follows levels inner h s ws)
-    (λ x p. (
-      (λ z q. more-statements levels s ws p.0 x.1 z.0 z.1 p.1 (subst (λ y. AreStatements levels y x.1 z.0 z.1) p.2 q)),
-      shift levels ws x.1 (passes-from p.1.words_are (statement-passes p.1.statement x.1))));
+      (λ x p. (
+        (λ z q. more-statements levels s ws p.0 x.1 z.0 z.1 p.1 (subst (λ y. AreStatements levels y x.1 z.0 z.1) p.2 q)),
+        shift levels ws x.1 (passes-from p.1.words_are (statement-passes p.1.statement x.1)),
+      ));
 }
 
 statements-read : (levels : ℕ) (inner : Inner) → InnerReads levels inner → (room : Room) (ws : List Symbol)

@@ -167,9 +167,10 @@ size-turning : (levels : ℕ) → Turning AreSizes (Stands levels) size_at
 size-turning levels = record {
   none = λ ns ws. record { more = []; sizes_are = sym (append-nil ns); words_are = refl };
   one = λ ns ws. but (size-reads levels ns ws)
-    (λ x p. (
-      (λ z q. record { more = p.0 ∷ q.more; sizes_are = q.sizes_are ∙ ap (λ ks. ks ++ q.more) p.1 ∙ append_assoc ns (p.0 ∷ []) q.more; words_are = p.2 ∙ ap (sizes_words (p.0 ∷ [])) q.words_are }),
-      shift levels ws x.1 (passes-from p.2 (sizes-pass (p.0 ∷ []) x.1))));
+      (λ x p. (
+        (λ z q. record { more = p.0 ∷ q.more; sizes_are = q.sizes_are ∙ ap (λ ks. ks ++ q.more) p.1 ∙ append_assoc ns (p.0 ∷ []) q.more; words_are = p.2 ∙ ap (sizes_words (p.0 ∷ [])) q.words_are }),
+        shift levels ws x.1 (passes-from p.2 (sizes-pass (p.0 ∷ []) x.1)),
+      ));
 }
 
 abbrev pub bracketed : Brackets → Bracketed
@@ -250,9 +251,10 @@ dot-turning : (levels : ℕ) → Turning AreDots (Stands levels) dot_at
 dot-turning levels = record {
   none = λ t ws. record { others = []; names_are = sym (append-nil t); words_are = refl };
   one = λ t ws. but (dot-reads levels t ws)
-    (λ x p. (
-      (λ z q. record { others = p.0 ∷ q.others; names_are = q.names_are ∙ ap (λ ks. ks ++ q.others) p.1 ∙ append_assoc t (p.0 ∷ []) q.others; words_are = p.2 ∙ ap (dots_words (p.0 ∷ [])) q.words_are }),
-      shift levels ws x.1 (passes-from p.2 (dots-pass (p.0 ∷ []) x.1))));
+      (λ x p. (
+        (λ z q. record { others = p.0 ∷ q.others; names_are = q.names_are ∙ ap (λ ks. ks ++ q.others) p.1 ∙ append_assoc t (p.0 ∷ []) q.others; words_are = p.2 ∙ ap (dots_words (p.0 ∷ [])) q.words_are }),
+        shift levels ws x.1 (passes-from p.2 (dots-pass (p.0 ∷ []) x.1)),
+      ));
 }
 
 pub dots-read : (levels : ℕ) (t : List (List ℕ)) (ws : List Symbol) → Outcome (λ x. AreDots t ws x.0 x.1) (Stands levels ws) (dots_at t ws)
