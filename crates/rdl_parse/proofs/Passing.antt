@@ -113,6 +113,9 @@ prop-plain : (p : Prop) → Plain (prop_symbol p)
 prop-plain (free n) = tt
 prop-plain (reserved p) = tt
 
+pub prop-passes : (p : Prop) (ws : List Symbol) → Passes (prop_symbol p ∷ ws) ws
+prop-passes p ws = passes-word _ (prop-plain p) passes-none
+
 pub value-plain : (v : Value) → Plain (value_symbol v)
 value-plain (values.Number n) = tt
 value-plain (values.Text t) = tt

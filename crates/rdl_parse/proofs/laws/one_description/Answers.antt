@@ -1,6 +1,5 @@
-use Rattle.rdl_parse.proofs.Turns.{repeated-next}
-use Rattle.rdl_parse.proofs.WordRead.{inst-reads}
+use Rattle.rdl_parse.proofs.Exact.{one-spelled}
 use Rattle.rdl_parse.proofs.laws.one_description.Goals as goal
 
 pub returns : goal.returns
-returns c = ?
+returns c = one-spelled
