@@ -1,31 +1,13 @@
 -- What one turn of each loop does.
 use Rattle.std.proofs.Common.{◌≡◌, ℕ, zero, suc, ◌+◌, ◌<◌, ◌≤◌, Bool, true, false, List, [], ◌∷◌, length, Result, Ok, Err, refl, ap, sym, ◌∙◌, arith}
 use Rattle.rdl_text.specs.Word.{Word}
-use Rattle.rdl_text.specs.declared.token.Mark.TheVariants.{OpenBracket, Dot}
 use Rattle.rdl_parse.specs.Symbol.{Symbol, symbols}
-use Rattle.rdl_parse.specs.Spelling.{sizes_words, dots_words}
-use Rattle.rdl_parse.specs.Reading.{◌>>=◌, Fails, begins, repeated, size_at, dot_at}
+use Rattle.rdl_parse.specs.Reading.{◌>>=◌, Fails, repeated}
 use Rattle.rdl_parse.specs.declared.fault.Fault.{Fault}
 use Rattle.rdl_parse.specs.declared.fault.Stop.{Stop}
 use Rattle.rdl_parse.specs.declared.fault.Stop.TheVariants as stops
-use Rattle.rdl_parse.proofs.Outcome.{outcome-ok}
 use Rattle.rdl_parse.proofs.Turns.{Step, Shortens, repeated-on, repeated-next, repeated-done}
-use Rattle.rdl_parse.proofs.WordRead.{size-reads, dot-reads}
 use Rattle.rdl_parse.proofs.Words.{length_symbols}
-
-pub size-shortens : Shortens (begins OpenBracket) size_at
-unfolding begins
-size-shortens = record {
-  ends = refl;
-  shorter = λ s ws x e. let p = outcome-ok x e (size-reads 0 s ws) in omega (arith, ap length p.2);
-}
-
-pub dot-shortens : Shortens (begins Dot) dot_at
-unfolding begins
-dot-shortens = record {
-  ends = refl;
-  shorter = λ s ws x e. let p = outcome-ok x e (dot-reads 0 s ws) in omega (arith, ap length p.2);
-}
 
 -- the words behind a turn
 pub takes : {S : Type 0} (on : List Symbol → Bool) (step : Step S) → Shortens on step → (s : S) (ws vs : List Word) (t : S) → step s (symbols ws) ≡ Ok (t, symbols vs) → length vs < length ws

@@ -39,7 +39,7 @@ more-again : (o : Outside) (of : Of) (inner : List Spot) (found : Finds) (i : In
 unfolding more_at
 more-again o of inner found i ws h = bind-ok _ _ (inst-again o i ws h)
 
-next-shortens : (o : Outside) (of : Of) (inner : List Spot) → Shortens (begins Comma) (next_at o of inner)
+pub next-shortens : (o : Outside) (of : Of) (inner : List Spot) → Shortens (begins Comma) (next_at o of inner)
 unfolding begins
 next-shortens o of inner = record {
   ends = refl;
@@ -199,7 +199,7 @@ starts (dynamic n ns p v) ws = refl
 
 -- ---- Bodies.
 
-one-shortens : (levels : ℕ) → Shortens goes_on (following_one_at (body_at levels))
+pub one-shortens : (levels : ℕ) → Shortens goes_on (following_one_at (body_at levels))
 unfolding goes_on
 one-shortens levels = record {
   ends = refl;

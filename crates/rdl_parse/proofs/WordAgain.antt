@@ -64,7 +64,7 @@ prop-again (reserved p) ws = refl
 
 -- ---- Brackets.
 
-size-shortens : Shortens (begins OpenBracket) size_at
+pub size-shortens : Shortens (begins OpenBracket) size_at
 unfolding begins
 size-shortens = record {
   ends = refl;
@@ -132,7 +132,7 @@ inst-again o i ws b =
 
 -- ---- Targets.
 
-dot-shortens : Shortens (begins Dot) dot_at
+pub dot-shortens : Shortens (begins Dot) dot_at
 unfolding begins
 dot-shortens = record {
   ends = refl;

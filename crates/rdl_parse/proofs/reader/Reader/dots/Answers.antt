@@ -3,7 +3,8 @@ use Rattle.std.proofs.Common.{◌≡◌, true, false}
 use Rattle.rdl_text.specs.declared.token.Mark.TheVariants.{Dot}
 use Rattle.rdl_parse.specs.Reading.{begins, dot_at}
 use Rattle.rdl_parse.specs.Symbol.{symbols}
-use Rattle.rdl_parse.proofs.Rounds.{dot-shortens, takes, repeated-fails, repeated-goes, repeated-ends}
+use Rattle.rdl_parse.proofs.WordAgain.{dot-shortens}
+use Rattle.rdl_parse.proofs.Rounds.{takes, repeated-fails, repeated-goes, repeated-ends}
 use Rattle.rdl_parse.proofs.reader.Reader.dots.Goals as goal
 
 pub dots-smaller : goal.dots-smaller

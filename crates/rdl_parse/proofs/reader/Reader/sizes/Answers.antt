@@ -3,7 +3,8 @@ use Rattle.std.proofs.Common.{◌≡◌, true, false}
 use Rattle.rdl_text.specs.declared.token.Mark.TheVariants.{OpenBracket}
 use Rattle.rdl_parse.specs.Reading.{begins, size_at}
 use Rattle.rdl_parse.specs.Symbol.{symbols}
-use Rattle.rdl_parse.proofs.Rounds.{size-shortens, takes, repeated-fails, repeated-goes, repeated-ends}
+use Rattle.rdl_parse.proofs.WordAgain.{size-shortens}
+use Rattle.rdl_parse.proofs.Rounds.{takes, repeated-fails, repeated-goes, repeated-ends}
 use Rattle.rdl_parse.proofs.reader.Reader.sizes.Goals as goal
 
 pub sizes-smaller : goal.sizes-smaller
