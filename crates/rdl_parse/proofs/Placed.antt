@@ -1,7 +1,8 @@
--- There is a spot for an address exactly where the description has an item.
+-- There is a place for an address exactly where the description has an item.
 use Rattle.std.proofs.Common.{◌≡◌, ℕ, zero, suc, ◌+◌, Bool, true, false, List, [], ◌∷◌, ◌++◌, length, map, take, drop, Option, Some, None, refl, ap, sym, ◌∙◌, subst, arith, append_assoc}
 use Rattle.std.specs.Prelude.{slice_get, option_and_then}
 use Rattle.std.specs.Option.{is_some}
+use Rattle.std.proofs.lemmas.List.{length-map, map-append}
 use Rattle.std.proofs.Math.Seq.{drop-append_seam, take-append_seam}
 use Rattle.rdl_text.specs.declared.token.Mark.TheVariants.{Semicolon, CloseBrace}
 use Rattle.rdl_tree.specs.Items.{Items, no_items, plain, holder}
@@ -15,15 +16,26 @@ use Rattle.rdl_tree.specs.declared.description.Of.{Of}
 use Rattle.rdl_tree.specs.declared.description.Of.TheVariants.{Named, Anonymous}
 use Rattle.rdl_parse.specs.declared.found.Spot.{Spot}
 use Rattle.rdl_parse.specs.Finds.{spot}
-use Rattle.rdl_parse.specs.Places.{from_item, inside_first, from_address, first_spot, spot_at}
-use Rattle.rdl_parse.specs.Symbol.{Symbol, mark}
+use Rattle.rdl_parse.specs.declared.places.Place.{Place}
+use Rattle.rdl_text.specs.Word.{Word}
+use Rattle.rdl_parse.specs.Places.{place_of, from_item, inside_first, from_address, first_start, start_at}
+use Rattle.rdl_parse.specs.Symbol.{Symbol, mark, symbols}
 use Rattle.rdl_parse.specs.Spelling.{Inst, Statement, define, define_with, anonymous, named, own, default, dynamic, Statements, none, one, inst_words, others_words, insts_words, outside_words, at_late, prop_text, value_of, statement_words, words, instance, instances, out_of, said, component, statement_items, items, others_spots, insts_spots, statement_spots, spots, Spells}
 
--- the spots are those of these items: as many behind each as its body has
+-- these are those of the items: as many behind each as its body has
+abbrev pub Lies : {A : Type 0} → (A → ℕ) → Items → List A → Type 0
+Lies inside no_items ss = ss ≡ []
+Lies {A} inside (plain p rest) ss = (s : A) × (others : List A) × (ss ≡ s ∷ others) × (inside s ≡ 0) × Lies inside rest others
+Lies {A} inside (holder h body rest) ss = (s : A) × (inner : List A) × (others : List A) × (ss ≡ s ∷ inner ++ others) × (inside s ≡ length inner) × Lies inside body inner × Lies inside rest others
+
+abbrev spot_inside : Spot → ℕ
+spot_inside s = s.inside
+
+abbrev place_inside : Place → ℕ
+place_inside p = p.inside
+
 abbrev pub Fits : Items → List Spot → Type 0
-Fits no_items ss = ss ≡ []
-Fits (plain p rest) ss = (s : Spot) × (others : List Spot) × (ss ≡ s ∷ others) × (s.inside ≡ 0) × Fits rest others
-Fits (holder h body rest) ss = (s : Spot) × (inner : List Spot) × (others : List Spot) × (ss ≡ s ∷ inner ++ others) × (s.inside ≡ length inner) × Fits body inner × Fits rest others
+Fits d ss = Lies spot_inside d ss
 
 -- these are inside the item
 abbrev pub Inside : Item → List Spot → Type 0
@@ -78,6 +90,9 @@ mutual
 
 -- ---- The walk.
 
+abbrev At : Items → List Place → Type 0
+At d ss = Lies place_inside d ss
+
 -- the items of a body from the i-th on
 abbrev items_from : ℕ → Items → Items
 items_from i no_items = no_items
@@ -86,18 +101,18 @@ items_from zero (holder h body rest) = holder h body rest
 items_from (suc i) (plain p rest) = items_from i rest
 items_from (suc i) (holder h body rest) = items_from i rest
 
-from-zero : (ss : List Spot) → from_item 0 ss ≡ ss
+from-zero : (ss : List Place) → from_item 0 ss ≡ ss
 from-zero [] = refl
 from-zero (s ∷ ss) = refl
 
-fits-from : (i : ℕ) (d : Items) (ss : List Spot) → Fits d ss → Fits (items_from i d) (from_item i ss)
+fits-from : (i : ℕ) (d : Items) (ss : List Place) → At d ss → At (items_from i d) (from_item i ss)
 fits-from i no_items ss h = ap (from_item i) h
-fits-from zero (plain p rest) ss h = subst (Fits (plain p rest)) (sym (from-zero ss)) h
-fits-from zero (holder k body rest) ss h = subst (Fits (holder k body rest)) (sym (from-zero ss)) h
+fits-from zero (plain p rest) ss h = subst (At (plain p rest)) (sym (from-zero ss)) h
+fits-from zero (holder k body rest) ss h = subst (At (holder k body rest)) (sym (from-zero ss)) h
 fits-from (suc i) (plain p rest) ss h =
-    subst (Fits (items_from i rest)) (sym (ap (from_item (suc i)) h.2 ∙ ap (λ n. from_item i (drop n h.1)) h.3)) (fits-from i rest h.1 h.4)
+    subst (At (items_from i rest)) (sym (ap (from_item (suc i)) h.2 ∙ ap (λ n. from_item i (drop n h.1)) h.3)) (fits-from i rest h.1 h.4)
 fits-from (suc i) (holder k body rest) ss h =
-    subst (Fits (items_from i rest)) (sym (ap (from_item (suc i)) h.3 ∙ ap (λ n. from_item i (drop n (h.1 ++ h.2))) h.4 ∙ ap (from_item i) (drop-append_seam h.1 h.2))) (fits-from i rest h.2 h.6)
+    subst (At (items_from i rest)) (sym (ap (from_item (suc i)) h.3 ∙ ap (λ n. from_item i (drop n (h.1 ++ h.2))) h.4 ∙ ap (from_item i) (drop-append_seam h.1 h.2))) (fits-from i rest h.2 h.6)
 
 inner-from : (i : ℕ) (d : Items) → inner i d ≡ inner 0 (items_from i d)
 inner-from i no_items = refl
@@ -119,19 +134,19 @@ some-from zero (holder h body rest) = refl
 some-from (suc i) (plain p rest) = some-from i rest
 some-from (suc i) (holder h body rest) = some-from i rest
 
-fits-more : (d : Items) (ss : List Spot) → Fits d ss → is_some (first_spot ss) ≡ is_more d
-fits-more no_items ss h = ap (λ us. is_some (first_spot us)) h
-fits-more (plain p rest) ss h = ap (λ us. is_some (first_spot us)) h.2
-fits-more (holder k body rest) ss h = ap (λ us. is_some (first_spot us)) h.3
+fits-more : (d : Items) (ss : List Place) → At d ss → is_some (first_start ss) ≡ is_more d
+fits-more no_items ss h = ap (λ us. is_some (first_start us)) h
+fits-more (plain p rest) ss h = ap (λ us. is_some (first_start us)) h.2
+fits-more (holder k body rest) ss h = ap (λ us. is_some (first_start us)) h.3
 
 abbrev or_empty : Option Items → Items
 or_empty None = no_items
 or_empty (Some b) = b
 
-fits-inside : (d : Items) (ss : List Spot) → Fits d ss → Fits (or_empty (inner 0 d)) (inside_first ss)
+fits-inside : (d : Items) (ss : List Place) → At d ss → At (or_empty (inner 0 d)) (inside_first ss)
 fits-inside no_items ss h = ap inside_first h
 fits-inside (plain p rest) ss h = ap inside_first h.2 ∙ ap (λ n. take n h.1) h.3
-fits-inside (holder k body rest) ss h = subst (Fits body) (sym (ap inside_first h.3 ∙ ap (λ n. take n (h.1 ++ h.2)) h.4 ∙ take-append_seam h.1 h.2)) h.5
+fits-inside (holder k body rest) ss h = subst (At body) (sym (ap inside_first h.3 ∙ ap (λ n. take n (h.1 ++ h.2)) h.4 ∙ take-append_seam h.1 h.2)) h.5
 
 item-none : (j : ℕ) (path : List ℕ) → is_some (item_at (j ∷ path) no_items) ≡ false
 item-none zero [] = refl
@@ -142,20 +157,35 @@ through : (j : ℕ) (path : List ℕ) (o : Option Items) → is_some (item_at (j
 through j path None = item-none j path
 through j path (Some b) = refl
 
-walk-finds : (i : ℕ) (path : List ℕ) (d : Items) (ss : List Spot) → Fits d ss → is_some (first_spot (from_address i path ss)) ≡ is_some (item_at (i ∷ path) d)
+walk-finds : (i : ℕ) (path : List ℕ) (d : Items) (ss : List Place) → At d ss → is_some (first_start (from_address i path ss)) ≡ is_some (item_at (i ∷ path) d)
 walk-finds i [] d ss h = fits-more (items_from i d) (from_item i ss) (fits-from i d ss h) ∙ sym (some-from i d)
 walk-finds i (j ∷ path) d ss h =
     walk-finds j path (or_empty (inner 0 (items_from i d))) (inside_first (from_item i ss)) (fits-inside (items_from i d) (from_item i ss) (fits-from i d ss h))
     ∙ ap (λ o. is_some (item_at (j ∷ path) (or_empty o))) (sym (inner-from i d))
     ∙ through j path (inner i d)
 
-pub fits-found : (path : List ℕ) (d : Items) (ss : List Spot) → Fits d ss → is_some (spot_at path ss) ≡ is_some (item_at path d)
+pub fits-found : (path : List ℕ) (d : Items) (ss : List Place) → At d ss → is_some (start_at path ss) ≡ is_some (item_at path d)
 fits-found [] d ss h = refl
 fits-found (i ∷ path) d ss h = walk-finds i path d ss h
+
+-- ---- The places of spots.
 
 pub spots-fit : (ws : List Symbol) (d : Items) (at : List Spot) → Spells ws d at → Fits d at
 spots-fit ws d at s = subst (λ e. Fits e at) (sym s.2) (subst (Fits (items_of (items s.0))) (sym s.3) (spelled-fit s.0 []))
 
--- there is a spot exactly where the description has an item
-pub spot-found : (ws : List Symbol) (d : Items) (at : List Spot) → Spells ws d at → (path : List ℕ) → is_some (spot_at path at) ≡ is_some (item_at path d)
-spot-found ws d at s path = fits-found path d at (spots-fit ws d at s)
+places-fit : (ws : List Word) (d : Items) (ss : List Spot) → Fits d ss → At d (map (place_of ws) ss)
+places-fit ws no_items ss h = ap (map (place_of ws)) h
+places-fit ws (plain p rest) ss h = (place_of ws h.0, map (place_of ws) h.1, ap (map (place_of ws)) h.2, h.3, places-fit ws rest h.1 h.4)
+places-fit ws (holder k body rest) ss h = (
+  place_of ws h.0,
+  map (place_of ws) h.1,
+  map (place_of ws) h.2,
+  ap (map (place_of ws)) h.3 ∙ ap (λ us. place_of ws h.0 ∷ us) (map-append (place_of ws) h.1 h.2),
+  h.4 ∙ sym (length-map h.1 (place_of ws)),
+  places-fit ws body h.1 h.5,
+  places-fit ws rest h.2 h.6,
+)
+
+-- there is a place exactly where the description has an item
+pub start-found : (ws : List Word) (d : Items) (at : List Spot) → Spells (symbols ws) d at → (path : List ℕ) → is_some (start_at path (map (place_of ws) at)) ≡ is_some (item_at path d)
+start-found ws d at s path = fits-found path d (map (place_of ws) at) (places-fit ws d at (spots-fit (symbols ws) d at s))
