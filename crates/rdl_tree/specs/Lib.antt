@@ -2,12 +2,15 @@ pub mod Address
 pub mod AddressText
 pub mod Codes
 pub mod Component
+pub mod Depth
 pub mod Edit
 pub mod Falls
 pub mod Fault
 pub mod Find
+pub mod ItemAt
 pub mod ItemWeight
 pub mod Items
+pub mod Limits
 pub mod Part
 pub mod Shell
 pub mod View

@@ -3,6 +3,8 @@
 
 pub mod address;
 pub mod copy;
+pub mod count;
+pub mod depth;
 pub mod description;
 pub mod dims;
 pub mod edit;

@@ -188,6 +188,15 @@ fn weighs(rt: HostRuntime) -> Result<(), Fail> {
     Ok(())
 }
 
+// T, bits, sw, top, all, desc, regwidth and all.bits->swmod; sw stands between two pairs of braces.
+#[test]
+fn counts_items_and_levels(rt: HostRuntime) -> Result<(), Fail> {
+    let map = every_form(rt.alloc())?;
+    assert_eq!(rt; map.count(), 8);
+    assert_eq!(rt; map.depth(), 2);
+    Ok(())
+}
+
 #[test]
 fn copies(rt: HostRuntime) -> Result<(), Fail> {
     let alloc = rt.alloc();

@@ -1,0 +1,14 @@
+pub mod Words
+pub mod Outcome
+pub mod Turns
+pub mod Passing
+pub mod WordRead
+pub mod Forms
+pub mod TextRead
+pub mod WordAgain
+pub mod TextAgain
+pub mod Exact
+pub mod Gathering
+pub mod Rounds
+pub mod Placed
+pub mod Answered

@@ -1,0 +1,51 @@
+-- What is kept of a statement's items while its words are read: nothing once they pass the room.
+-- Own.
+use Rattle.std.specs.Prelude.{ℕ, ◌+◌, if◌then◌else◌, List, [], ◌∷◌, length, Option, Some, None, Result, Ok, Err}
+use Rattle.rdl_text.specs.declared.token.Mark.TheVariants.{Semicolon}
+use Rattle.rdl_tree.specs.declared.description.Item.TheVariants.{Instance}
+use Rattle.rdl_tree.specs.declared.description.Of.{Of}
+use Rattle.rdl_tree.specs.declared.shell.Outside.{Outside}
+use Rattle.rdl_parse.specs.Finds.{Finds, seen, single, joined, fits, less}
+use Rattle.rdl_parse.specs.Reading.{◌>>=◌, Finished, mark_at, inst_at}
+use Rattle.rdl_parse.specs.Symbol.{Symbol, name, outside}
+use Rattle.rdl_parse.specs.declared.fault.Fault.{Fault}
+use Rattle.rdl_parse.specs.declared.fault.Fault.TheVariants.{TooLarge}
+use Rattle.rdl_parse.specs.declared.found.Spot.{Spot}
+use Rattle.rdl_parse.specs.declared.gathered.Gathered.{Gathered}
+use Rattle.rdl_parse.specs.declared.room.Room.{Room}
+
+abbrev pub finished : Gathered → Finished
+finished g = (seen g.found, g.room)
+
+-- these, and the room that they leave, if they fit
+abbrev pub held : Room → Finds → Option Finished
+held room f = if fits room f then Some (f, less room f) else None
+
+-- these, and one more
+abbrev pub gather : Option Finished → Finds → Option Finished
+gather None x = None
+gather (Some k) x = if fits k.1 x then Some (joined k.0 x, less k.1 x) else None
+
+unfoldable pub gathered_at : Outside → Of → List Spot → Option Finished → List Symbol → Result (Option Finished × List Symbol) Fault
+gathered_at o of inner k ws = do
+  i ← inst_at o ws
+  Ok (gather k (single (Instance i.0 of) (length ws) inner), i.1)
+
+abbrev pub ended : Option Finished → List Symbol → Result (Finished × List Symbol) Fault
+ended (Some f) rest = Ok (f, rest)
+ended None rest = Err (TooLarge (length rest + 1))
+
+unfoldable pub ended_at : Option Finished → List Symbol → Result (Finished × List Symbol) Fault
+ended_at k ws = do
+  rest ← mark_at Semicolon ws
+  ended k rest
+
+-- a name, if one stands here
+unfoldable pub optional_name_at : List Symbol → Result (Option (List ℕ) × List Symbol) Fault
+optional_name_at (name n ∷ ws) = Ok (Some n, ws)
+optional_name_at ws = Ok (None, ws)
+
+-- `external` or `internal`
+abbrev pub outside_by : Symbol → Option Outside
+outside_by (outside o) = Some o
+outside_by w = None

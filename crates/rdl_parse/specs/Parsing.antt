@@ -1,0 +1,120 @@
+-- What reading a text answers: what it spells within the limits, or its first fault.
+-- Own; which of S9 to S12 stands, and where S9 stands, is as in Reading.
+use Rattle.std.specs.Prelude.{◌≡◌, ◌≤◌, ◌<◌, ◌+◌, ℕ, List, [], ◌∷◌, ◌++◌, length, Ok, Err}
+use Rattle.rdl_text.specs.Word.{Word}
+use Rattle.rdl_text.specs.Words.{words}
+use Rattle.rdl_text.specs.declared.token.Mark.{Mark}
+use Rattle.rdl_text.specs.declared.token.Mark.TheVariants.{OpenBrace, Semicolon}
+use Rattle.rdl_tree.specs.Items.{Items}
+use Rattle.rdl_tree.specs.View.{items_of}
+use Rattle.rdl_tree.specs.Limits.{IsWithinLimits}
+use Rattle.rdl_tree.specs.declared.description.Item.{Item}
+use Rattle.rdl_parse.specs.declared.found.Spot.{Spot}
+use Rattle.rdl_parse.specs.declared.fault.Fault.TheVariants as faults
+use Rattle.rdl_parse.specs.declared.fault.Stop.{Stop}
+use Rattle.rdl_parse.specs.declared.fault.Stop.TheVariants as stops
+use Rattle.rdl_parse.specs.declared.parse.ParseFault.{ParseFault}
+use Rattle.rdl_parse.specs.declared.parse.ParseFaultKind.{ParseFaultKind}
+use Rattle.rdl_parse.specs.declared.parse.ParseFaultKind.TheVariants.{TextTooLong, Words, UnexpectedWord, UnexpectedEnd, TooDeep, TooLarge}
+use Rattle.rdl_text.specs.declared.fault.FaultKind.{FaultKind}
+use Rattle.rdl_text.specs.declared.fault.FaultKind.TheVariants.{Memory}
+use Rattle.rdl_parse.specs.Places.{Located, located, start_of}
+use Rattle.rdl_parse.specs.Spelling.{Spells, SpellsItems}
+use Rattle.rdl_parse.specs.Stands.{opens, closes}
+use Rattle.rdl_parse.specs.Symbol.{Symbol, symbol, symbols, mark}
+
+-- the most bytes that a text may have
+abbrev pub max_length : ℕ
+max_length = 67108864
+
+-- the text isn't too long, and these are its words
+pub record HasWords (text : List ℕ) (ws : List Word) : Type 0 where
+  pub short : length text ≤ max_length
+  pub cut : words text ≡ Ok ws
+
+-- the text spells the description, whose items have these places
+pub record SpellsText (text : List ℕ) (d : Items) (p : Located) : Type 0 where
+  pub ws : List Word
+  pub spots : List Spot
+  pub has_words : HasWords text ws
+  pub spelled : Spells (symbols ws) d spots
+  pub places_are : p ≡ located text ws spots
+
+-- the text is exactly one statement, which stands for these items
+pub record SpellsItemText (text : List ℕ) (xs : List Item) : Type 0 where
+  pub ws : List Word
+  pub has_words : HasWords text ws
+  pub spelled : SpellsItems (symbols ws) xs
+
+-- ---- Faults.
+
+abbrev pub out_of_memory : ParseFault
+out_of_memory = record { kind = Words Memory; offset = 0 }
+
+abbrev pub too_long : ParseFault
+too_long = record { kind = TextTooLong; offset = 0 }
+
+-- the words spell nothing within the limits
+abbrev pub SpellsNone : {X : Type 0} → (List Symbol → X → Type 0) → (X → Type 0) → List Word → Type 0
+SpellsNone {X} spells within ws = (x : X) → spells (symbols ws) x → within x → ⊥
+
+-- at one of the words
+pub record IsAtWord (ws : List Word) (offset : ℕ) : Type 0 where
+  pub before : List Word
+  pub word : Word
+  pub after : List Word
+  pub parts : ws ≡ before ++ word ∷ after
+  pub offset_is : offset ≡ word.start
+
+-- at a brace with sixteen open before it
+pub record IsAtDeepBrace (ws : List Word) (offset : ℕ) : Type 0 where
+  pub at : IsAtWord ws offset
+  pub brace : symbol at.word ≡ mark OpenBrace
+  pub opened : opens (symbols at.before) ≡ closes (symbols at.before) + 16
+
+-- at a semicolon
+pub record IsAtSemicolon (ws : List Word) (offset : ℕ) : Type 0 where
+  pub at : IsAtWord ws offset
+  pub semicolon : symbol at.word ≡ mark Semicolon
+
+-- the text has words that spell nothing within the limits, and the fault stands so
+pub record HasStatementFault {X : Type 0} (spells : List Symbol → X → Type 0) (within : X → Type 0) (stands : List Word → ℕ → Type 0) (text : List ℕ) (offset : ℕ) : Type 0 where
+  pub ws : List Word
+  pub has_words : HasWords text ws
+  pub none : SpellsNone spells within ws
+  pub stands_so : stands ws offset
+
+-- the text isn't too long, and its words have this first fault
+pub record HasWordFault (text : List ℕ) (kind : FaultKind) (offset : ℕ) : Type 0 where
+  pub short : length text ≤ max_length
+  pub fault : words text ≡ Err (record { kind = kind; offset = offset })
+
+-- the fault is the text's, by what is to be spelled and the limits of it
+abbrev pub RefusesBy : {X : Type 0} → (List Symbol → X → Type 0) → (X → Type 0) → List ℕ → ParseFaultKind → ℕ → Type 0
+RefusesBy spells within text TextTooLong offset = (max_length < length text) × (offset ≡ 0)
+RefusesBy spells within text (Words kind) offset = HasWordFault text kind offset
+RefusesBy spells within text UnexpectedWord offset = HasStatementFault spells within IsAtWord text offset
+RefusesBy spells within text UnexpectedEnd offset = HasStatementFault spells within (λ ws at. at ≡ length text) text offset
+RefusesBy spells within text TooDeep offset = HasStatementFault spells within IsAtDeepBrace text offset
+RefusesBy spells within text TooLarge offset = HasStatementFault spells within IsAtSemicolon text offset
+
+-- the words spell the description
+abbrev pub SpellsSomewhere : List Symbol → Items → Type 0
+SpellsSomewhere ws d = (at : List Spot) × Spells ws d at
+
+-- the text is no description within the limits, and this is its fault
+abbrev pub Refuses : List ℕ → ParseFault → Type 0
+Refuses text f = RefusesBy SpellsSomewhere IsWithinLimits text f.kind f.offset
+
+-- the text is no statement within the limits, and this is its fault
+abbrev pub RefusesItem : List ℕ → ParseFault → Type 0
+RefusesItem text f = RefusesBy SpellsItems (λ xs. IsWithinLimits (items_of xs)) text f.kind f.offset
+
+-- ---- A fault by how many words are left, as one of the text with these words and this length.
+
+abbrev pub fault_of : List Word → ℕ → Stop → ParseFault
+fault_of ws end stops.Memory = out_of_memory
+fault_of ws end (stops.Fault (faults.Unexpected left)) = record { kind = UnexpectedWord; offset = start_of ws left }
+fault_of ws end (stops.Fault faults.End) = record { kind = UnexpectedEnd; offset = end }
+fault_of ws end (stops.Fault (faults.TooDeep left)) = record { kind = TooDeep; offset = start_of ws left }
+fault_of ws end (stops.Fault (faults.TooLarge left)) = record { kind = TooLarge; offset = start_of ws left }

@@ -1,0 +1,51 @@
+//! Items, and where the word of each stands.
+ghost use Rattle.std.specs.Prelude.{◌≡◌, List, [], OnOk};
+ghost use Rattle.rdl_parse.specs.Finds.{seen, nothing, single, joined};
+
+use rdl_tree::description::Item;
+use std::alloc::{AllocError, Global};
+
+/// How many words there are from the item's word on, and how many items are inside it.
+#[derive(Clone, Copy, Debug, PartialEq, Eq)]
+pub struct Spot {
+    pub left: usize,
+    pub inside: usize,
+}
+
+/// Items of a body, and a spot for each of them and of those inside them, in pre-order.
+#[derive(Drop)]
+pub struct Found {
+    pub(crate) items: Vec<Item>,
+    pub(crate) spots: Vec<Spot>,
+}
+
+impl Found {
+    pub fn new(alloc: Global) -> Found
+        ensures { seen result ≡ nothing }
+    {
+        Found {
+            items: Vec::new(alloc),
+            spots: Vec::new(alloc),
+        }
+    }
+
+    pub fn push(&mut self, item: Item, left: usize, inner: &[Spot]) -> Result<(), AllocError>
+        ensures { OnOk result (seen self.new ≡ joined (seen self.old) (single item left inner.now)) }
+    {
+        self.items.push(item)?;
+        self.spots.push(Spot {
+            left,
+            inside: inner.len(),
+        })?;
+        self.spots.extend_from_slice(inner)?;
+        Ok(())
+    }
+
+    pub fn append(&mut self, other: &mut Found) -> Result<(), AllocError>
+        ensures { OnOk result (seen self.new ≡ joined (seen self.old) (seen other.old)) }
+    {
+        self.items.append(&mut other.items)?;
+        self.spots.append(&mut other.spots)?;
+        Ok(())
+    }
+}

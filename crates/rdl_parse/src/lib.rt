@@ -1,0 +1,16 @@
+//! Reading descriptions: from a text of SystemRDL to the tree that it spells, with the place of each item.
+#![tactic(auto)]
+
+pub mod class;
+pub mod fault;
+pub mod found;
+pub mod gathered;
+mod inst;
+pub mod laws;
+pub mod parse;
+pub mod places;
+mod reader;
+pub mod room;
+mod statement;
+mod text;
+mod word;

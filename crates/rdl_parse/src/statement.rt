@@ -1,0 +1,258 @@
+//! Statements without a body of their own, and the ends of all.
+ghost use Rattle.rdl_parse.specs.Finds.{seen, single, nothing};
+ghost use Rattle.rdl_parse.specs.Gathering.{finished, gathered_at, ended_at, optional_name_at};
+ghost use Rattle.rdl_parse.specs.Reading as spec;
+ghost use Rattle.rdl_parse.specs.Reading.{Gives};
+ghost use Rattle.rdl_parse.specs.Symbol.{symbols};
+ghost use Rattle.std.specs.Prelude.{◌≡◌, [], Ok, option_map};
+
+use crate::fault::{Fault, Stop};
+use crate::found::{Found, Spot};
+use crate::gathered::Gathered;
+use crate::reader::Reader;
+use crate::room::Room;
+use crate::word::{name_of, new_name, outside_of};
+use rdl_text::name::Name;
+use rdl_text::token::Mark;
+use rdl_tree::description::{Item, Of};
+use rdl_tree::shell::Outside;
+use rdl_tree::target::Target;
+use std::alloc::Global;
+
+impl<'t, 'a> Reader<'t, 'a> {
+    /// The `;` behind these items.
+    #[tactic(auto, unfolding(crate::specs::Gathering::ended_at), using(crate::proofs::Words::length_symbols))]
+    fn end_statement(&mut self, kept: Option<Gathered>) -> Result<Gathered, Stop>
+        ensures { Gives (λ g. (finished g, symbols self.new.rest.now)) result (ended_at (option_map finished kept) (symbols self.old.rest.now)) }
+    {
+        self.mark(Mark::Semicolon)?;
+        match kept {
+            Some(gathered) => Ok(gathered),
+            None => Err(Stop::Fault(Fault::TooLarge(self.rest.len() + 1))),
+        }
+    }
+
+    #[tactic(auto, using(crate::proofs::Gathering::finish_ended))]
+    pub(crate) fn finish(&mut self, room: Room, found: Found) -> Result<Gathered, Stop>
+        ensures { Gives (λ g. (finished g, symbols self.new.rest.now)) result (spec.finish_at room (seen found) (symbols self.old.rest.now)) }
+    {
+        self.end_statement(Gathered::new(room, found))
+    }
+
+    /// A statement of one item, which has nothing inside it.
+    fn finish_item(
+        &mut self,
+        alloc: Global,
+        room: Room,
+        item: Item,
+        left: usize,
+    ) -> Result<Gathered, Stop>
+        ensures { Gives (λ g. (finished g, symbols self.new.rest.now)) result (spec.finish_at room (single item left []) (symbols self.old.rest.now)) }
+    {
+        let mut found = Found::new(alloc);
+        found.push(item, left, &[])?;
+        self.finish(room, found)
+    }
+
+    #[tactic(auto, unfolding(crate::specs::Gathering::gathered_at), using(crate::proofs::Words::length_symbols))]
+    fn more(
+        &mut self,
+        alloc: Global,
+        outside: Outside,
+        of: &Of,
+        inner: &[Spot],
+        kept: Option<Gathered>,
+    ) -> Result<Option<Gathered>, Stop>
+        ensures { Gives (λ k. (option_map finished k, symbols self.new.rest.now)) result (gathered_at outside of.now inner.now (option_map finished kept) (symbols self.old.rest.now)) }
+    {
+        let left = self.rest.len();
+        let shell = self.inst(alloc, outside)?;
+        match kept {
+            Some(gathered) => Ok(gathered.with_instance(alloc, shell, of, left, inner)?),
+            None => Ok(None),
+        }
+    }
+
+    /// The instances of a statement, behind these items, and its `;`.
+    pub(crate) fn insts(
+        &mut self,
+        alloc: Global,
+        room: Room,
+        outside: Outside,
+        of: &Of,
+        inner: &[Spot],
+        found: Found,
+    ) -> Result<Gathered, Stop>
+        ensures { Gives (λ g. (finished g, symbols self.new.rest.now)) result (spec.insts_at room outside of.now inner.now (seen found) (symbols self.old.rest.now)) }
+    {
+        let mut kept = self.more(alloc, outside, of, inner, Gathered::new(room, found))?;
+        'commas: while self.begins(Mark::Comma) {
+            self.mark(Mark::Comma)?;
+            kept = self.more(alloc, outside, of, inner, kept)?;
+        }
+        self.end_statement(kept)
+    }
+
+    /// What stands behind the property of an assignment to the component itself.
+    #[tactic(auto, unfolding(crate::specs::Reading::own_at))]
+    pub(crate) fn own(
+        &mut self,
+        alloc: Global,
+        room: Room,
+        left: usize,
+        property: Name,
+    ) -> Result<Gathered, Stop>
+        ensures { Gives (λ g. (finished g, symbols self.new.rest.now)) result (spec.own_at room left property (symbols self.old.rest.now)) }
+    {
+        let value = self.value(alloc)?;
+        self.finish_item(alloc, room, Item::Own(property, value), left)
+    }
+
+    /// What stands behind `default`.
+    #[tactic(auto, unfolding(crate::specs::Reading::default_at))]
+    pub(crate) fn default(
+        &mut self,
+        alloc: Global,
+        room: Room,
+        left: usize,
+    ) -> Result<Gathered, Stop>
+        ensures { Gives (λ g. (finished g, symbols self.new.rest.now)) result (spec.default_at room left (symbols self.old.rest.now)) }
+    {
+        let property = self.prop(alloc)?;
+        let value = self.value(alloc)?;
+        self.finish_item(alloc, room, Item::Default(property, value), left)
+    }
+
+    /// One more `.NAME`.
+    #[tactic(auto, unfolding(crate::specs::Reading::dot_at))]
+    fn dot(&mut self, alloc: Global, names: &mut Vec<Name>) -> Result<(), Stop>
+        ensures { Gives (λ _. (names.new.items, symbols self.new.rest.now)) result (spec.dot_at names.old.items (symbols self.old.rest.now)) }
+    {
+        self.mark(Mark::Dot)?;
+        let name = self.name(alloc)?;
+        names.push(name)?;
+        Ok(())
+    }
+
+    fn dots(&mut self, alloc: Global, names: &mut Vec<Name>) -> Result<(), Stop>
+        ensures { Gives (λ _. (names.new.items, symbols self.new.rest.now)) result (spec.dots_at names.old.items (symbols self.old.rest.now)) }
+    {
+        'dots: while self.begins(Mark::Dot) {
+            self.dot(alloc, names)?;
+        }
+        Ok(())
+    }
+
+    /// What stands behind the first name of a target.
+    #[tactic(auto, unfolding(crate::specs::Reading::dynamic_at))]
+    fn dynamic(
+        &mut self,
+        alloc: Global,
+        room: Room,
+        left: usize,
+        first: Name,
+    ) -> Result<Gathered, Stop>
+        ensures { Gives (λ g. (finished g, symbols self.new.rest.now)) result (spec.dynamic_at room left first (symbols self.old.rest.now)) }
+    {
+        let mut names = Vec::new(alloc);
+        names.push(first)?;
+        self.dots(alloc, &mut names)?;
+        self.mark(Mark::Arrow)?;
+        let property = self.prop(alloc)?;
+        let value = self.value(alloc)?;
+        let target = Target::from_vec(names);
+        self.finish_item(alloc, room, Item::Dynamic(target, property, value), left)
+    }
+
+    /// What stands behind a name at the front of a statement.
+    #[tactic(auto, unfolding(crate::specs::Reading::named_at))]
+    pub(crate) fn named(
+        &mut self,
+        alloc: Global,
+        room: Room,
+        left: usize,
+        name: Name,
+    ) -> Result<Gathered, Stop>
+        ensures { Gives (λ g. (finished g, symbols self.new.rest.now)) result (spec.named_at room left name (symbols self.old.rest.now)) }
+    {
+        if self.begins(Mark::Dot) || self.begins(Mark::Arrow) {
+            return self.dynamic(alloc, room, left, name);
+        }
+        if self.begins(Mark::Equals) || self.begins(Mark::Semicolon) {
+            return self.own(alloc, room, left, name);
+        }
+        let of = Of::Named(name);
+        self.insts(alloc, room, Outside::Unsaid, &of, &[], Found::new(alloc))
+    }
+
+    /// `external` or `internal` before the first instance, if none stands at the front.
+    #[tactic(auto, unfolding(crate::specs::Reading::late_at))]
+    fn late(&mut self, front: Option<Outside>) -> Outside
+        ensures { spec.late_at front (symbols self.old.rest.now) ≡ Ok (result, symbols self.new.rest.now) }
+    {
+        if let Some(outside) = front {
+            return outside;
+        }
+        let [word, rest @ ..] = self.rest else {
+            return Outside::Unsaid;
+        };
+        match outside_of(word) {
+            Some(outside) => {
+                self.rest = rest;
+                outside
+            }
+            None => Outside::Unsaid,
+        }
+    }
+
+    #[tactic(auto, unfolding(crate::specs::Reading::late_insts_at))]
+    pub(crate) fn late_insts(
+        &mut self,
+        alloc: Global,
+        room: Room,
+        front: Option<Outside>,
+        of: &Of,
+        inner: &[Spot],
+        found: Found,
+    ) -> Result<Gathered, Stop>
+        ensures { Gives (λ g. (finished g, symbols self.new.rest.now)) result (spec.late_insts_at room front of.now inner.now (seen found) (symbols self.old.rest.now)) }
+    {
+        let outside = self.late(front);
+        self.insts(alloc, room, outside, of, inner, found)
+    }
+
+    /// What stands behind a body with a name.
+    #[tactic(auto, unfolding(crate::specs::Reading::defined_at))]
+    pub(crate) fn defined(
+        &mut self,
+        alloc: Global,
+        room: Room,
+        front: Option<Outside>,
+        of: &Of,
+        found: Found,
+    ) -> Result<Gathered, Stop>
+        ensures { Gives (λ g. (finished g, symbols self.new.rest.now)) result (spec.defined_at room front of.now (seen found) (symbols self.old.rest.now)) }
+    {
+        if front.is_none() && self.begins(Mark::Semicolon) {
+            return self.finish(room, found);
+        }
+        self.late_insts(alloc, room, front, of, &[], found)
+    }
+
+    /// A name, if one stands here.
+    #[tactic(auto, unfolding(crate::specs::Gathering::optional_name_at))]
+    pub(crate) fn optional_name(&mut self, alloc: Global) -> Result<Option<Name>, Stop>
+        ensures { Gives (λ n. (n, symbols self.new.rest.now)) result (optional_name_at (symbols self.old.rest.now)) }
+    {
+        let [word, rest @ ..] = self.rest else {
+            return Ok(None);
+        };
+        match name_of(word) {
+            Some(name) => {
+                self.rest = rest;
+                Ok(Some(new_name(alloc, name)?))
+            }
+            None => Ok(None),
+        }
+    }
+}

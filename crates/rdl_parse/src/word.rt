@@ -1,0 +1,187 @@
+//! What one word may be.
+ghost use Rattle.std.specs.Prelude.{◌≡◌, IfSome, IfOk, IfErr, option_map};
+ghost use Rattle.std.specs.Option.{option_copied};
+ghost use Rattle.rdl_text.specs.Name.{IsName};
+ghost use Rattle.rdl_parse.specs.Class.{class};
+ghost use Rattle.rdl_parse.specs.Gathering.{outside_by};
+ghost use Rattle.rdl_parse.specs.Reading as spec;
+ghost use Rattle.rdl_parse.specs.Symbol.{symbol, class_symbol, inside, property_text};
+ghost use Rattle.rdl_text.specs.Raw.{IsRaw};
+ghost use Rattle.rdl_text.specs.declared.token.TokenKind.{TokenKind};
+ghost use Rattle.rdl_tree.specs.declared.value.Value.{Value};
+ghost use Rattle.rdl_parse.specs.declared.fault.Stop.{Stop};
+
+use crate::class::{Class, Property};
+use crate::fault::Stop;
+use rdl_text::name::{Name, NameFault};
+use rdl_text::raw::Raw;
+use rdl_text::token::{Mark, Number, Token, TokenKind};
+use rdl_tree::shell::Outside;
+use rdl_tree::value::{Value, Word};
+use std::alloc::Global;
+
+#[tactic(auto, using(crate::proofs::Words::identifier_no_mark))]
+pub(crate) fn is_mark(word: &Token<'_>, mark: Mark) -> bool
+    ensures { result ≡ spec.is_mark mark (symbol word.now) }
+{
+    match word.kind() {
+        TokenKind::Mark(own) => own == mark,
+        TokenKind::Identifier | TokenKind::Number(_) | TokenKind::Text => false,
+    }
+}
+
+#[tactic(auto, using(crate::proofs::Words::identifier_no_number))]
+pub(crate) fn number_of(word: &Token<'_>) -> Option<Number>
+    ensures { result ≡ spec.number_by (symbol word.now) }
+{
+    match word.kind() {
+        TokenKind::Number(number) => Some(number),
+        TokenKind::Identifier | TokenKind::Text | TokenKind::Mark(_) => None,
+    }
+}
+
+pub(crate) fn name_of<'a>(word: &Token<'a>) -> Option<&'a str>
+    ensures value { option_copied result ≡ spec.name_by (symbol word.now) }
+    ensures is_name { IfSome result (λ name. IsName name.now) }
+{
+    word.is_spelled();
+    match word.kind() {
+        TokenKind::Identifier => match Class::of(word.source()) {
+            Class::Name => Some(word.source()),
+            _ => None,
+        },
+        TokenKind::Number(_) | TokenKind::Text | TokenKind::Mark(_) => None,
+    }
+}
+
+/// What `external` and `internal` say.
+pub(crate) fn outside_of(word: &Token<'_>) -> Option<Outside>
+    ensures { result ≡ outside_by (symbol word.now) }
+{
+    match word.kind() {
+        TokenKind::Identifier => match Class::of(word.source()) {
+            Class::Outside(outside) => Some(outside),
+            _ => None,
+        },
+        TokenKind::Number(_) | TokenKind::Text | TokenKind::Mark(_) => None,
+    }
+}
+
+/// The name of the property that a word is.
+pub(crate) fn prop_of<'a>(word: &Token<'a>) -> Option<&'a str>
+    ensures value { option_copied result ≡ spec.prop_by (symbol word.now) }
+    ensures is_name { IfSome result (λ name. IsName name.now) }
+{
+    word.is_spelled();
+    match word.kind() {
+        TokenKind::Identifier => match Class::of(word.source()) {
+            Class::Name => Some(word.source()),
+            Class::Property(property) => Some(property_name(property)),
+            _ => None,
+        },
+        TokenKind::Number(_) | TokenKind::Text | TokenKind::Mark(_) => None,
+    }
+}
+
+#[tactic(auto, using(crate::proofs::Words::property_is_name))]
+fn property_name(property: Property) -> &'static str
+    ensures value { result.now ≡ property_text property }
+    ensures is_name { IsName result.now }
+{
+    property.text()
+}
+
+/// The name that is spelled so.
+pub(crate) fn new_name(alloc: Global, text: &str) -> Result<Name, Stop>
+    requires { IsName text.now }
+    ensures ok { IfOk result (λ name. name ≡ text.now) }
+    ensures memory { IfErr result (λ stop. stop ≡ Stop.Memory) }
+{
+    match Name::new(alloc, text) {
+        Ok(name) => Ok(name),
+        Err(NameFault::Memory) => Err(Stop::Memory),
+        Err(NameFault::NotSuch) => unreachable!(),
+    }
+}
+
+/// The inside of the string that is spelled so.
+pub(crate) fn new_raw(alloc: Global, text: &str) -> Result<Raw, Stop>
+    requires { IsRaw text.now }
+    ensures ok { IfOk result (λ raw. raw ≡ text.now) }
+    ensures memory { IfErr result (λ stop. stop ≡ Stop.Memory) }
+{
+    match Raw::new(alloc, text) {
+        Ok(raw) => Ok(raw),
+        Err(NameFault::Memory) => Err(Stop::Memory),
+        Err(NameFault::NotSuch) => unreachable!(),
+    }
+}
+
+fn name_value(name: &str) -> Option<Word>
+    ensures { option_map Value.Word result ≡ spec.name_value name.now }
+{
+    match name {
+        "r" => Some(Word::R),
+        "w" => Some(Word::W),
+        _ => None,
+    }
+}
+
+fn property_value(property: Property) -> Option<Word>
+    ensures { option_map Value.Word result ≡ spec.property_value property }
+{
+    match property {
+        Property::Sw | Property::Hw => None,
+        Property::Rclr => Some(Word::Rclr),
+        Property::Rset => Some(Word::Rset),
+        Property::Woset => Some(Word::Woset),
+        Property::Woclr => Some(Word::Woclr),
+    }
+}
+
+fn word_value(word: Word) -> Option<Word>
+    ensures { option_map Value.Word result ≡ spec.word_value word }
+{
+    match word {
+        Word::R | Word::W | Word::Rclr | Word::Rset | Word::Woset | Word::Woclr => None,
+        _ => Some(word),
+    }
+}
+
+/// The string that a word is.
+fn text_value(alloc: Global, word: &Token<'_>) -> Result<Value, Stop>
+    requires { word.now.kind ≡ TokenKind.Text }
+    ensures ok { IfOk result (λ value. value ≡ Value.Text (inside word.now.source)) }
+    ensures memory { IfErr result (λ stop. stop ≡ Stop.Memory) }
+{
+    match word.raw() {
+        Some(text) => Ok(Value::Text(new_raw(alloc, text)?)),
+        None => unreachable!(),
+    }
+}
+
+/// The value that an identifier is.
+fn identifier_value(identifier: &str) -> Option<Value>
+    ensures { result ≡ spec.value_by (class_symbol (class identifier.now) identifier.now) }
+{
+    match Class::of(identifier) {
+        Class::Truth(truth) => Some(Value::Bool(truth)),
+        Class::Name => Some(Value::Word(name_value(identifier)?)),
+        Class::Property(property) => Some(Value::Word(property_value(property)?)),
+        Class::Word(word) => Some(Value::Word(word_value(word)?)),
+        Class::Kind(_) | Class::Outside(_) | Class::Default | Class::Reserved => None,
+    }
+}
+
+/// The value that a word is.
+pub(crate) fn value_of(alloc: Global, word: &Token<'_>) -> Result<Option<Value>, Stop>
+    ensures ok { IfOk result (λ value. value ≡ spec.value_by (symbol word.now)) }
+    ensures memory { IfErr result (λ stop. stop ≡ Stop.Memory) }
+{
+    match word.kind() {
+        TokenKind::Identifier => Ok(identifier_value(word.source())),
+        TokenKind::Number(number) => Ok(Some(Value::Number(number))),
+        TokenKind::Text => Ok(Some(text_value(alloc, word)?)),
+        TokenKind::Mark(_) => Ok(None),
+    }
+}
