@@ -1,15 +1,7 @@
-pub mod Accepted
 pub mod CommandLine
-pub mod FlatExact
-pub mod FlatNamed
-pub mod FlatOutcomes
-pub mod FlatSound
-pub mod FlatTurns
-pub mod FlatWhole
 pub mod ItemNames
+pub mod Opened
 pub mod Pieces
-pub mod ReadingLemmas
-pub mod Rows
 pub mod RunLemmas
 pub mod ScriptLines
 pub mod SoFar

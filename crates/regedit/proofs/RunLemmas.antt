@@ -4,29 +4,15 @@ use Rattle.std.specs.Prelude.{if◌then◌else◌}
 use Rattle.std.specs.Io.KnownBytes.{Appends}
 use Rattle.std.proofs.KnownBytes.{Appends-nil}
 use Rattle.journal_core.specs.History.{IsAt}
-use Rattle.rdl_text.specs.Word.{Word}
 use Rattle.regedit.specs.Answers.{History', Serves}
 use Rattle.regedit.specs.Commands.{lines_of}
 use Rattle.rdl_edit.specs.Step.{State}
-use Rattle.rdl_flat.specs.FlatFault.{map_fault}
-use Rattle.rdl_flat.specs.declared.fault.MapFault.{MapFault}
-use Rattle.rdl_tree.specs.Items.{Items}
 use Rattle.rdl_write.specs.MapText.{map_text}
 use Rattle.regedit.specs.Known.{Gives}
-use Rattle.regedit.specs.Opening.{fault_line, RefusesToOpen}
-use Rattle.regedit.specs.OpeningFaults.{IfRefusedToOpen}
+use Rattle.regedit.specs.Opening.{RefusesToOpen}
 use Rattle.regedit.specs.Output.{one_map, RanFrom, Ran}
-use Rattle.regedit.specs.Readings.{HasWords, ReadsMap}
-use Rattle.regedit.specs.declared.open.OpenFault.{OpenFault}
-use Rattle.regedit.specs.declared.open.OpenFault.TheVariants.{Refused, Memory}
 use Rattle.regedit.specs.declared.status.Status.{Status}
 use Rattle.regedit.specs.declared.status.Status.TheVariants.{Accepted, LineRefused, MapRefused}
-
--- a map that is read and has a fault
-pub refused_to_open : (option : Option (List ℕ)) (bytes : List ℕ) (m : Option Top) (fault : Fault) → ReadsMap bytes m → first_fault option m ≡ Some fault → (r : OpenFault)
-    → IfRefusedToOpen r (λ text. (ws : List Word) → HasWords bytes ws → text ≡ fault_line bytes ws m fault.kind fault.at) → IfRefusedToOpen r (RefusesToOpen option bytes)
-refused_to_open option bytes m fault read first (Refused text) h = inr (record { m = m; read = read; fault = fault; first = first; is = h read.ws read.has_words })
-refused_to_open option bytes m fault read first Memory h = tt
 
 -- the script was run, and both files written
 pub ran_from : (limit : ℕ) (first : State) (script : List ℕ) (refuses : Bool) (status : Status) (before last : History') (now : State) (m m' r r' h h' : Option (List ℕ))

@@ -1,5 +1,5 @@
 -- The commands of a script: its lines, and what each asks for. Own.
-use Rattle.std.specs.Prelude.{ℕ, ◌-◌, Bool, true, not, ◌&&◌, ◌||◌, nat_eq, nat_lt, nat_le, if◌then◌else◌, List, [], ◌∷◌, take, drop, reverse, length, slice_index, Option, None, Some, codes}
+use Rattle.std.specs.Prelude.{ℕ, ◌-◌, Bool, true, not, ◌&&◌, ◌||◌, nat_eq, nat_lt, nat_le, if◌then◌else◌, List, [], ◌∷◌, take, drop, reverse, length, slice_index, Option, None, Some, codes, bytes_eq, false}
 use Rattle.std.specs.List.{prefix_len}
 use Rattle.std.specs.Str.{is_utf8}
 use Rattle.rdl_text.specs.Name.{is_identifier}

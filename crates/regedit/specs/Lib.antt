@@ -1,16 +1,6 @@
 pub mod Answers
 pub mod CommandLine
 pub mod Commands
-pub mod FlatBits
-pub mod FlatFault
-pub mod FlatFaults
-pub mod FlatMap
-pub mod FlatPlaces
-pub mod FlatReading
-pub mod FlatRows
-pub mod FlatSpelling
-pub mod FlatStep
-pub mod FlatText
 pub mod Known
 pub mod Messages
 pub mod Opening
@@ -18,6 +8,5 @@ pub mod OpeningFaults
 pub mod Output
 pub mod ReadingFaults
 pub mod Readings
-pub mod Reserved
 pub mod ScriptLines
 pub mod Seen

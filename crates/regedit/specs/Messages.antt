@@ -6,14 +6,15 @@ use Rattle.rdl_text.specs.declared.fault.FaultKind.{FaultKind as WordsFault}
 use Rattle.rdl_text.specs.declared.fault.FaultKind.TheVariants as words
 use Rattle.rdl_edit.specs.declared.edit.Refusal.{Refusal}
 use Rattle.rdl_edit.specs.declared.edit.Refusal.TheVariants as refusals
+use Rattle.rdl_parse.specs.declared.parse.ParseFault.{ParseFault}
+use Rattle.rdl_parse.specs.declared.parse.ParseFaultKind.{ParseFaultKind}
+use Rattle.rdl_parse.specs.declared.parse.ParseFaultKind.TheVariants as texts
 use Rattle.rdl_flat.specs.declared.fault.MapFault.{MapFault}
 use Rattle.rdl_flat.specs.declared.fault.MapFault.TheVariants.{NotSupported, Found}
 use Rattle.rdl_tree.specs.AddressText.{address_text}
 use Rattle.rdl_tree.specs.declared.fault.FaultKind.{FaultKind}
 use Rattle.rdl_tree.specs.declared.fault.FaultKind.TheVariants as kinds
 use Rattle.rdl_write.specs.Texts.{newline}
-use Rattle.regedit.specs.declared.reading.TextFaultKind.{TextFaultKind}
-use Rattle.regedit.specs.declared.reading.TextFaultKind.TheVariants as texts
 use Rattle.regedit.specs.declared.reply.LineRefusal.{LineRefusal}
 use Rattle.regedit.specs.declared.reply.LineRefusal.TheVariants as lines
 use Rattle.regedit.specs.declared.reply.Reply.{Reply}
@@ -32,11 +33,13 @@ words_fault_text words.WidthOutOfRange = codes "S6 Verilog width out of range"
 words_fault_text words.IdentifierTooLong = codes "S7 identifier too long"
 words_fault_text words.Memory = []
 
-unfoldable pub text_fault_text : TextFaultKind → List ℕ
-text_fault_text (texts.Words fault) = words_fault_text fault
-text_fault_text texts.Unexpected = codes "S9 unexpected word"
-text_fault_text texts.End = codes "S10 unexpected end"
-text_fault_text texts.TooLarge = codes "S12 description too large"
+unfoldable pub parse_fault_text : ParseFaultKind → List ℕ
+parse_fault_text (texts.Words fault) = words_fault_text fault
+parse_fault_text texts.UnexpectedWord = codes "S9 unexpected word"
+parse_fault_text texts.UnexpectedEnd = codes "S10 unexpected end"
+parse_fault_text texts.TooDeep = codes "S11 nesting over 16"
+parse_fault_text texts.TooLarge = codes "S12 description too large"
+parse_fault_text texts.TextTooLong = codes "S13 text too long"
 
 -- want of memory ends the run, and has no message
 unfoldable pub fault_text : FaultKind → List ℕ
@@ -91,13 +94,13 @@ refusal_text refusals.Memory = []
 abbrev pub add_column : ℕ → ℕ
 add_column offset = min (offset + 1) (2 ^ 64 - 1)
 
-unfoldable pub text_refusal_text : TextFaultKind → (offset : ℕ) → List ℕ
-text_refusal_text kind offset =
-    codes "C4 text refused: " ++ text_fault_text kind ++ codes " at column " ++ decimal (add_column offset)
+unfoldable pub text_refusal_text : ParseFault → List ℕ
+text_refusal_text fault =
+    codes "C4 text refused: " ++ parse_fault_text fault.kind ++ codes " at column " ++ decimal (add_column fault.offset)
 
 unfoldable pub line_refusal_text : LineRefusal → List ℕ
 line_refusal_text (lines.Command fault) = command_fault_text fault
-line_refusal_text (lines.Text kind offset) = text_refusal_text kind offset
+line_refusal_text (lines.Text fault) = text_refusal_text fault
 line_refusal_text (lines.Edit refusal) = refusal_text refusal
 line_refusal_text lines.HistoryFull = codes "J1 history full"
 line_refusal_text lines.NothingToUndo = codes "J2 nothing to undo"

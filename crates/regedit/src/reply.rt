@@ -3,7 +3,7 @@ ghost use Rattle.std.specs.Prelude.{◌≡◌, ◌++◌, ◌+◌, ◌<◌, ◌^�
 ghost use Rattle.regedit.specs.Answers.{is_refused};
 ghost use Rattle.regedit.specs.Messages.{
   words_fault_text,
-  text_fault_text,
+  parse_fault_text,
   fault_text,
   map_fault_text,
   fault_address,
@@ -16,10 +16,10 @@ ghost use Rattle.regedit.specs.Messages.{
   map_line,
 };
 
-use crate::reading::TextFaultKind;
 use crate::script::CommandFault;
 use rdl_edit::edit::Refusal;
 use rdl_flat::fault::MapFault;
+use rdl_parse::parse::{ParseFault, ParseFaultKind};
 use rdl_text::fault::FaultKind as WordsFault;
 use rdl_tree::address::Address;
 use rdl_tree::fault::FaultKind;
@@ -31,8 +31,8 @@ use std::alloc::{AllocError, Global};
 pub enum LineRefusal {
     /// C1 to C3.
     Command(CommandFault),
-    /// C4: the text of an `add` has this fault, at this byte.
-    Text(TextFaultKind, usize),
+    /// C4: the text of an `add` has this fault.
+    Text(ParseFault),
     /// The map refuses the edit.
     Edit(Refusal),
     /// J1.
@@ -76,15 +76,18 @@ fn words_fault_text(fault: WordsFault) -> &'static str
     }
 }
 
-#[tactic(auto, unfolding(crate::specs::Messages::text_fault_text))]
-pub fn text_fault_text(kind: TextFaultKind) -> &'static str
-    ensures { result.now ≡ text_fault_text kind }
+/// The text of a fault of a text.
+#[tactic(auto, unfolding(crate::specs::Messages::parse_fault_text))]
+pub fn parse_fault_text(kind: ParseFaultKind) -> &'static str
+    ensures { result.now ≡ parse_fault_text kind }
 {
     match kind {
-        TextFaultKind::Words(fault) => words_fault_text(fault),
-        TextFaultKind::Unexpected => "S9 unexpected word",
-        TextFaultKind::End => "S10 unexpected end",
-        TextFaultKind::TooLarge => "S12 description too large",
+        ParseFaultKind::Words(fault) => words_fault_text(fault),
+        ParseFaultKind::UnexpectedWord => "S9 unexpected word",
+        ParseFaultKind::UnexpectedEnd => "S10 unexpected end",
+        ParseFaultKind::TooDeep => "S11 nesting over 16",
+        ParseFaultKind::TooLarge => "S12 description too large",
+        ParseFaultKind::TextTooLong => "S13 text too long",
     }
 }
 
@@ -176,17 +179,13 @@ fn add_column(offset: usize) -> usize
 }
 
 #[tactic(auto, unfolding(crate::specs::Messages::text_refusal_text))]
-fn push_text_refusal(
-    text: &mut String,
-    kind: TextFaultKind,
-    offset: usize,
-) -> Result<(), AllocError>
-    ensures { OnOk result (string_bytes text.new ≡ string_bytes text.old ++ text_refusal_text kind offset) }
+fn push_text_refusal(text: &mut String, fault: ParseFault) -> Result<(), AllocError>
+    ensures { OnOk result (string_bytes text.new ≡ string_bytes text.old ++ text_refusal_text fault) }
 {
     text.push_str("C4 text refused: ")?;
-    text.push_str(text_fault_text(kind))?;
+    text.push_str(parse_fault_text(fault.kind))?;
     text.push_str(" at column ")?;
-    push_decimal(text, add_column(offset) as u64)?;
+    push_decimal(text, add_column(fault.offset) as u64)?;
     Ok(())
 }
 
@@ -196,7 +195,7 @@ fn push_line_refusal(text: &mut String, refusal: &LineRefusal) -> Result<(), All
 {
     match refusal {
         LineRefusal::Command(fault) => text.push_str(command_fault_text(*fault)),
-        LineRefusal::Text(kind, offset) => push_text_refusal(text, *kind, *offset),
+        LineRefusal::Text(fault) => push_text_refusal(text, *fault),
         LineRefusal::Edit(refusal) => push_refusal(text, refusal),
         LineRefusal::HistoryFull => text.push_str("J1 history full"),
         LineRefusal::NothingToUndo => text.push_str("J2 nothing to undo"),

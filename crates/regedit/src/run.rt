@@ -10,7 +10,6 @@ use crate::status::{RunFault, Status};
 use journal_core::journal::Journal;
 use rdl_edit::map::Map;
 use rdl_text::name::Name;
-use rdl_write::rdl;
 use std::alloc::Global;
 use std::io::{Read, Write};
 
@@ -43,7 +42,7 @@ fn run_script<R: Write, H: Write, E: Write>(
 {
     let mut journal = Journal::new(alloc, map, history);
     let refused = serve_all(alloc, &mut journal, script, messages)?;
-    let Ok(text) = rdl(alloc, journal.map().description()) else {
+    let Ok(text) = rdl_write::rdl(alloc, journal.map().description()) else {
         return Err(RunFault::Memory);
     };
     write_whole(rdl, &mut 0, text.as_bytes())?;

@@ -33,8 +33,8 @@ fn add(
 {
     let items = match items_of(alloc, text) {
         Ok(items) => Body::from_vec(items),
-        Err(ReadingFault::Refused(kind, at)) => {
-            return Ok(Reply::Refused(LineRefusal::Text(kind, at)));
+        Err(ReadingFault::Refused(fault)) => {
+            return Ok(Reply::Refused(LineRefusal::Text(fault)));
         }
         Err(ReadingFault::Memory) => return Err(RunFault::Memory),
     };

@@ -1,8 +1,7 @@
-use Rattle.std.proofs.Common.{sym}
 use Rattle.std.specs.Option.{option_copied}
-use Rattle.regedit.proofs.RunLemmas.{refused_to_open}
+use Rattle.regedit.proofs.Opened.{opened}
 use Rattle.regedit.proofs.open.open.Goals as goal
 
-pub returns-in-Some-clause-refused : goal.returns-in-Some-clause-refused
-returns-in-Some-clause-refused c =
-    refused_to_open (option_copied c.args.name) c.args.bytes.now c.in-Ok.map.top c.in-Some.fault c.in-Ok.ensures.read (sym c.in-Some.ensures) c.refused_map.result c.refused_map.ensures
+pub returns-in-Ok-open-clause-opens : goal.returns-in-Ok-open-clause-opens
+returns-in-Ok-open-clause-opens c =
+    opened (option_copied c.args.name) _ c.args.bytes.now _ _ c.in-Ok-open.map c.in-Ok.ensures.read c.in-Ok-open.ensures.ok c.in-Ok-open.ensures.accepted c.in_ok-copied.ensures

@@ -8,8 +8,8 @@ use Rattle.regedit.proofs.script.name_in.Goals as goal
 pub returns-in_default-clause-name : goal.returns-in_default-clause-name
 returns-in_default-clause-name c = sym (name_in-not_utf8 c.args.bytes.now c.in_default.ensures.cases.0)
 
-pub returns-then-is_free-clause-name : goal.returns-then-is_free-clause-name
-returns-then-is_free-clause-name c =
+pub returns-then-not-is_free-clause-name : goal.returns-then-not-is_free-clause-name
+returns-then-not-is_free-clause-name c =
     let text : c.in-Ok.text.now ≡ c.args.bytes.now = c.in-Ok.ensures.cases.0 in
     let reserved : is_free (class c.in-Ok.text.now) ≡ false = search rules in
     sym (name_in-reserved c.args.bytes.now (subst (λ t. is_free (class t) ≡ false) text reserved))
