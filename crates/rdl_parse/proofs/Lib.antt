@@ -10,3 +10,4 @@ pub mod TextAgain
 pub mod Exact
 pub mod Gathering
 pub mod Rounds
+pub mod Bodies
