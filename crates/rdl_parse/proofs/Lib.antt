@@ -11,3 +11,4 @@ pub mod Exact
 pub mod Gathering
 pub mod Rounds
 pub mod Bodies
+pub mod Placed

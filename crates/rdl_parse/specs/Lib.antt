@@ -5,3 +5,4 @@ pub mod Spelling
 pub mod Reading
 pub mod Gathering
 pub mod Stands
+pub mod Places

@@ -8,6 +8,7 @@ pub mod found;
 pub mod gathered;
 mod inst;
 pub mod laws;
+pub mod places;
 mod reader;
 pub mod room;
 mod statement;

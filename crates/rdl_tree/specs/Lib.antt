@@ -7,6 +7,7 @@ pub mod Edit
 pub mod Falls
 pub mod Fault
 pub mod Find
+pub mod ItemAt
 pub mod ItemWeight
 pub mod Items
 pub mod Limits
