@@ -6,3 +6,4 @@ pub mod Reading
 pub mod Gathering
 pub mod Stands
 pub mod Places
+pub mod Faults
