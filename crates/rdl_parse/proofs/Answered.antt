@@ -17,15 +17,16 @@ use Rattle.rdl_parse.specs.declared.fault.Fault.{Fault}
 use Rattle.rdl_parse.specs.declared.fault.Fault.TheVariants as faults
 use Rattle.rdl_parse.specs.declared.fault.Stop.{Stop}
 use Rattle.rdl_parse.specs.declared.fault.Stop.TheVariants as stops
-use Rattle.rdl_parse.specs.declared.parse.ParseFault.{ParseFault}
-use Rattle.rdl_parse.specs.declared.parse.ParseFaultKind.{ParseFaultKind}
-use Rattle.rdl_parse.specs.declared.parse.ParseFaultKind.TheVariants.{TextTooLong, Words, UnexpectedWord, UnexpectedEnd, TooDeep, TooLarge}
+use Rattle.rdl_parse.specs.declared.fault.ParseFault.{ParseFault}
+use Rattle.rdl_parse.specs.declared.fault.ParseFaultKind.{ParseFaultKind}
+use Rattle.rdl_parse.specs.declared.fault.ParseFaultKind.TheVariants.{TooLong, Words, UnexpectedWord, UnexpectedEnd, TooDeep, TooLarge}
 use Rattle.rdl_parse.specs.Symbol.{Symbol, symbol, symbols, mark}
 use Rattle.rdl_parse.specs.Spelling.{Spells, SpellsItems}
 use Rattle.rdl_parse.specs.Reading.{Block, Fails, limit, text_at, items_at}
 use Rattle.rdl_parse.specs.Stands.{Stands, opens, closes}
 use Rattle.rdl_parse.specs.Places.{Located, located, start_of}
-use Rattle.rdl_parse.specs.Parsing.{max_length, HasWords, SpellsText, SpellsItemText, out_of_memory, too_long, SpellsNone, IsAtWord, HasStatementFault, HasWordFault, RefusesBy, SpellsSomewhere, Refuses, RefusesItem, fault_of}
+use Rattle.rdl_parse.specs.Parsing.{HasWords, SpellsText, SpellsItemText, SpellsNone, IsAtWord, HasStatementFault, HasWordFault, RefusesBy, SpellsSomewhere, Refuses, RefusesItem}
+use Rattle.rdl_parse.specs.Faults.{max_text, out_of_memory, too_long, stop_fault}
 use Rattle.rdl_parse.proofs.Exact.{read-found, read-only, read-none, read-stands, item-found, item-only, item-none, item-stands, one-spelled, one-statement}
 
 -- ---- A word of the text from a symbol.
@@ -73,7 +74,7 @@ at-word ws before after s left l p = record { before = p.front; word = p.word; a
 -- ---- Faults.
 
 abbrev pub WordsFail : List ℕ → ParseFault → Type 0
-WordsFail text f = (f ≡ out_of_memory) ⊎ (((f ≡ too_long) × (max_length < length text)) ⊎ ((kind : FaultKind) × (f.kind ≡ Words kind) × HasWordFault text kind f.offset))
+WordsFail text f = (f ≡ out_of_memory) ⊎ (((f ≡ too_long) × (max_text < length text)) ⊎ ((kind : FaultKind) × (f.kind ≡ Words kind) × HasWordFault text kind f.offset))
 
 pub words-refused : {X : Type 0} (spells : List Symbol → X → Type 0) (within : X → Type 0) (text : List ℕ) (f : ParseFault) → WordsFail text f → (f ≡ out_of_memory) ⊎ RefusesBy spells within text f.kind f.offset
 words-refused spells within text f (inl e) = inl e
@@ -95,7 +96,7 @@ fails-at (stops.Fault g) read h f k = let same : g ≡ f = cc in h ∙ ap (λ e.
 
 stop-refused : {X : Type 0} (spells : List Symbol → X → Type 0) (within : X → Type 0) (text : List ℕ) (ws : List Word) (e : Stop) → HasWords text ws
     → ((f : Fault) → e ≡ stops.Fault f → SpellsNone spells within ws × Stands 16 (symbols ws) f)
-    → (fault_of ws (length text) e ≡ out_of_memory) ⊎ RefusesBy spells within text (fault_of ws (length text) e).kind (fault_of ws (length text) e).offset
+    → (stop_fault text ws e ≡ out_of_memory) ⊎ RefusesBy spells within text (stop_fault text ws e).kind (stop_fault text ws e).offset
 stop-refused spells within text ws stops.Memory w h = inl refl
 stop-refused spells within text ws (stops.Fault (faults.Unexpected left)) w h =
     let p = h (faults.Unexpected left) refl in
@@ -143,20 +144,20 @@ text-only text ws b p w e l d q s i =
 text-none : (ws : List Word) (f : Fault) → text_at 16 limit (symbols ws) ≡ Err f → SpellsNone SpellsSomewhere IsWithinLimits ws
 text-none ws f e d s i = read-none (symbols ws) f e d s.0 s.1 i
 
-pub text-refused : (text : List ℕ) (ws : List Word) (e : Stop) → HasWords text ws → Fails e (text_at 16 limit (symbols ws)) → (fault_of ws (length text) e ≡ out_of_memory) ⊎ Refuses text (fault_of ws (length text) e)
+pub text-refused : (text : List ℕ) (ws : List Word) (e : Stop) → HasWords text ws → Fails e (text_at 16 limit (symbols ws)) → (stop_fault text ws e ≡ out_of_memory) ⊎ Refuses text (stop_fault text ws e)
 text-refused text ws e w h =
     stop-refused SpellsSomewhere IsWithinLimits text ws e w
     (λ f k. let read : text_at 16 limit (symbols ws) ≡ Err f = fails-at e (text_at 16 limit (symbols ws)) h f k in (text-none ws f read, read-stands (symbols ws) f read))
 
-text-stopped : (ws : List Word) (d : Items) (at : List Spot) (end : ℕ) (e : Stop) → Fails e (text_at 16 limit (symbols ws)) → Spells (symbols ws) d at → IsWithinLimits d → fault_of ws end e ≡ out_of_memory
-text-stopped ws d at end stops.Memory h s i = refl
-text-stopped ws d at end (stops.Fault f) h s i = absurd (read-none (symbols ws) f h d at s i)
+text-stopped : (ws : List Word) (d : Items) (at : List Spot) (text : List ℕ) (e : Stop) → Fails e (text_at 16 limit (symbols ws)) → Spells (symbols ws) d at → IsWithinLimits d → stop_fault text ws e ≡ out_of_memory
+text-stopped ws d at text stops.Memory h s i = refl
+text-stopped ws d at text (stops.Fault f) h s i = absurd (read-none (symbols ws) f h d at s i)
 
-pub text-memory : (text : List ℕ) (ws : List Word) (e : Stop) → HasWords text ws → Fails e (text_at 16 limit (symbols ws)) → (d : Items) (q : Located) → SpellsText text d q → IsWithinLimits d → fault_of ws (length text) e ≡ out_of_memory
+pub text-memory : (text : List ℕ) (ws : List Word) (e : Stop) → HasWords text ws → Fails e (text_at 16 limit (symbols ws)) → (d : Items) (q : Located) → SpellsText text d q → IsWithinLimits d → stop_fault text ws e ≡ out_of_memory
 text-memory text ws e w h d q s i =
     let same : s.ws ≡ ws = same-words text s.ws ws s.has_words w in
     let spelled : Spells (symbols ws) d s.spots = subst (λ us. Spells (symbols us) d s.spots) same s.spelled in
-    text-stopped ws d s.spots (length text) e h spelled i
+    text-stopped ws d s.spots text e h spelled i
 
 pub text-wordless : (text : List ℕ) (f : ParseFault) → WordsFail text f → (d : Items) (q : Located) → SpellsText text d q → f ≡ out_of_memory
 text-wordless text f w d q s = no-words text s.ws f s.has_words w
@@ -175,20 +176,20 @@ statement-only text ws xs w e ys s =
     let spelled : SpellsItems (symbols ws) ys = subst (λ us. SpellsItems (symbols us) ys) same s.spelled in
     one-statement (symbols ws) xs ys r.0 spelled
 
-pub statement-refused : (text : List ℕ) (ws : List Word) (e : Stop) → HasWords text ws → Fails e (items_at 16 limit (symbols ws)) → (fault_of ws (length text) e ≡ out_of_memory) ⊎ RefusesItem text (fault_of ws (length text) e)
+pub statement-refused : (text : List ℕ) (ws : List Word) (e : Stop) → HasWords text ws → Fails e (items_at 16 limit (symbols ws)) → (stop_fault text ws e ≡ out_of_memory) ⊎ RefusesItem text (stop_fault text ws e)
 statement-refused text ws e w h =
     stop-refused SpellsItems (λ xs. IsWithinLimits (items_of xs)) text ws e w
     (λ f k. let read : items_at 16 limit (symbols ws) ≡ Err f = fails-at e (items_at 16 limit (symbols ws)) h f k in ((λ xs s i. item-none (symbols ws) f read xs s i), item-stands (symbols ws) f read))
 
-statement-stopped : (ws : List Word) (xs : List Item) (end : ℕ) (e : Stop) → Fails e (items_at 16 limit (symbols ws)) → SpellsItems (symbols ws) xs → IsWithinLimits (items_of xs) → fault_of ws end e ≡ out_of_memory
-statement-stopped ws xs end stops.Memory h s i = refl
-statement-stopped ws xs end (stops.Fault f) h s i = absurd (item-none (symbols ws) f h xs s i)
+statement-stopped : (ws : List Word) (xs : List Item) (text : List ℕ) (e : Stop) → Fails e (items_at 16 limit (symbols ws)) → SpellsItems (symbols ws) xs → IsWithinLimits (items_of xs) → stop_fault text ws e ≡ out_of_memory
+statement-stopped ws xs text stops.Memory h s i = refl
+statement-stopped ws xs text (stops.Fault f) h s i = absurd (item-none (symbols ws) f h xs s i)
 
-pub statement-memory : (text : List ℕ) (ws : List Word) (e : Stop) → HasWords text ws → Fails e (items_at 16 limit (symbols ws)) → (xs : List Item) → SpellsItemText text xs → IsWithinLimits (items_of xs) → fault_of ws (length text) e ≡ out_of_memory
+pub statement-memory : (text : List ℕ) (ws : List Word) (e : Stop) → HasWords text ws → Fails e (items_at 16 limit (symbols ws)) → (xs : List Item) → SpellsItemText text xs → IsWithinLimits (items_of xs) → stop_fault text ws e ≡ out_of_memory
 statement-memory text ws e w h xs s i =
     let same : s.ws ≡ ws = same-words text s.ws ws s.has_words w in
     let spelled : SpellsItems (symbols ws) xs = subst (λ us. SpellsItems (symbols us) xs) same s.spelled in
-    statement-stopped ws xs (length text) e h spelled i
+    statement-stopped ws xs text e h spelled i
 
 pub statement-wordless : (text : List ℕ) (f : ParseFault) → WordsFail text f → (xs : List Item) → SpellsItemText text xs → f ≡ out_of_memory
 statement-wordless text f w xs s = no-words text s.ws f s.has_words w

@@ -10,5 +10,6 @@ pub mod TextAgain
 pub mod Exact
 pub mod Gathering
 pub mod Rounds
+pub mod Bodies
 pub mod Placed
 pub mod Answered

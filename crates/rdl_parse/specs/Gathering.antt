@@ -2,11 +2,14 @@
 -- Own.
 use Rattle.std.specs.Prelude.{ℕ, ◌+◌, if◌then◌else◌, List, [], ◌∷◌, length, Option, Some, None, Result, Ok, Err}
 use Rattle.rdl_text.specs.declared.token.Mark.TheVariants.{Semicolon}
-use Rattle.rdl_tree.specs.declared.description.Item.TheVariants.{Instance}
+use Rattle.rdl_tree.specs.declared.description.Item.TheVariants.{Define, Instance}
 use Rattle.rdl_tree.specs.declared.description.Of.{Of}
+use Rattle.rdl_tree.specs.declared.description.Of.TheVariants.{Named, Anonymous}
+use Rattle.rdl_tree.specs.declared.shell.Kind.{Kind}
 use Rattle.rdl_tree.specs.declared.shell.Outside.{Outside}
-use Rattle.rdl_parse.specs.Finds.{Finds, seen, single, joined, fits, less}
-use Rattle.rdl_parse.specs.Reading.{◌>>=◌, Finished, mark_at, inst_at}
+use Rattle.rdl_parse.specs.Finds.{Finds, nothing, seen, single, joined, fits, less}
+use Rattle.rdl_parse.specs.Reading.{◌>>=◌, Finished, Inner, mark_at, inst_at, late_insts_at, defined_at}
+use Rattle.rdl_parse.specs.Spelling.{component}
 use Rattle.rdl_parse.specs.Symbol.{Symbol, name, outside}
 use Rattle.rdl_parse.specs.declared.fault.Fault.{Fault}
 use Rattle.rdl_parse.specs.declared.fault.Fault.TheVariants.{TooLarge}
@@ -49,3 +52,14 @@ optional_name_at ws = Ok (None, ws)
 abbrev pub outside_by : Symbol → Option Outside
 outside_by (outside o) = Some o
 outside_by w = None
+
+-- what stands behind KIND and NAME, and behind KIND alone
+abbrev pub definition_at : Inner → Room → Option Outside → ℕ → Kind → List ℕ → List Symbol → Result (Finished × List Symbol) Fault
+definition_at inner room front left k n ws = do
+  b ← inner room ws
+  defined_at room front (Named n) (single (Define n (component k b.0.items)) left b.0.spots) b.1
+
+abbrev pub anonymous_at : Inner → Room → Option Outside → Kind → List Symbol → Result (Finished × List Symbol) Fault
+anonymous_at inner room front k ws = do
+  b ← inner room ws
+  late_insts_at room front (Anonymous (component k b.0.items)) b.0.spots nothing b.1

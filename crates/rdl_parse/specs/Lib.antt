@@ -6,4 +6,5 @@ pub mod Reading
 pub mod Gathering
 pub mod Stands
 pub mod Places
+pub mod Faults
 pub mod Parsing

@@ -10,26 +10,19 @@ use Rattle.rdl_tree.specs.View.{items_of}
 use Rattle.rdl_tree.specs.Limits.{IsWithinLimits}
 use Rattle.rdl_tree.specs.declared.description.Item.{Item}
 use Rattle.rdl_parse.specs.declared.found.Spot.{Spot}
-use Rattle.rdl_parse.specs.declared.fault.Fault.TheVariants as faults
-use Rattle.rdl_parse.specs.declared.fault.Stop.{Stop}
-use Rattle.rdl_parse.specs.declared.fault.Stop.TheVariants as stops
-use Rattle.rdl_parse.specs.declared.parse.ParseFault.{ParseFault}
-use Rattle.rdl_parse.specs.declared.parse.ParseFaultKind.{ParseFaultKind}
-use Rattle.rdl_parse.specs.declared.parse.ParseFaultKind.TheVariants.{TextTooLong, Words, UnexpectedWord, UnexpectedEnd, TooDeep, TooLarge}
+use Rattle.rdl_parse.specs.declared.fault.ParseFault.{ParseFault}
+use Rattle.rdl_parse.specs.declared.fault.ParseFaultKind.{ParseFaultKind}
+use Rattle.rdl_parse.specs.declared.fault.ParseFaultKind.TheVariants.{Words, UnexpectedWord, UnexpectedEnd, TooDeep, TooLarge, TooLong}
 use Rattle.rdl_text.specs.declared.fault.FaultKind.{FaultKind}
-use Rattle.rdl_text.specs.declared.fault.FaultKind.TheVariants.{Memory}
-use Rattle.rdl_parse.specs.Places.{Located, located, start_of}
+use Rattle.rdl_parse.specs.Faults.{max_text}
+use Rattle.rdl_parse.specs.Places.{Located, located}
 use Rattle.rdl_parse.specs.Spelling.{Spells, SpellsItems}
 use Rattle.rdl_parse.specs.Stands.{opens, closes}
 use Rattle.rdl_parse.specs.Symbol.{Symbol, symbol, symbols, mark}
 
--- the most bytes that a text may have
-abbrev pub max_length : ℕ
-max_length = 67108864
-
 -- the text isn't too long, and these are its words
 pub record HasWords (text : List ℕ) (ws : List Word) : Type 0 where
-  pub short : length text ≤ max_length
+  pub short : length text ≤ max_text
   pub cut : words text ≡ Ok ws
 
 -- the text spells the description, whose items have these places
@@ -47,12 +40,6 @@ pub record SpellsItemText (text : List ℕ) (xs : List Item) : Type 0 where
   pub spelled : SpellsItems (symbols ws) xs
 
 -- ---- Faults.
-
-abbrev pub out_of_memory : ParseFault
-out_of_memory = record { kind = Words Memory; offset = 0 }
-
-abbrev pub too_long : ParseFault
-too_long = record { kind = TextTooLong; offset = 0 }
 
 -- the words spell nothing within the limits
 abbrev pub SpellsNone : {X : Type 0} → (List Symbol → X → Type 0) → (X → Type 0) → List Word → Type 0
@@ -86,12 +73,12 @@ pub record HasStatementFault {X : Type 0} (spells : List Symbol → X → Type 0
 
 -- the text isn't too long, and its words have this first fault
 pub record HasWordFault (text : List ℕ) (kind : FaultKind) (offset : ℕ) : Type 0 where
-  pub short : length text ≤ max_length
+  pub short : length text ≤ max_text
   pub fault : words text ≡ Err (record { kind = kind; offset = offset })
 
 -- the fault is the text's, by what is to be spelled and the limits of it
 abbrev pub RefusesBy : {X : Type 0} → (List Symbol → X → Type 0) → (X → Type 0) → List ℕ → ParseFaultKind → ℕ → Type 0
-RefusesBy spells within text TextTooLong offset = (max_length < length text) × (offset ≡ 0)
+RefusesBy spells within text TooLong offset = (max_text < length text) × (offset ≡ 0)
 RefusesBy spells within text (Words kind) offset = HasWordFault text kind offset
 RefusesBy spells within text UnexpectedWord offset = HasStatementFault spells within IsAtWord text offset
 RefusesBy spells within text UnexpectedEnd offset = HasStatementFault spells within (λ ws at. at ≡ length text) text offset
@@ -109,12 +96,3 @@ Refuses text f = RefusesBy SpellsSomewhere IsWithinLimits text f.kind f.offset
 -- the text is no statement within the limits, and this is its fault
 abbrev pub RefusesItem : List ℕ → ParseFault → Type 0
 RefusesItem text f = RefusesBy SpellsItems (λ xs. IsWithinLimits (items_of xs)) text f.kind f.offset
-
--- ---- A fault by how many words are left, as one of the text with these words and this length.
-
-abbrev pub fault_of : List Word → ℕ → Stop → ParseFault
-fault_of ws end stops.Memory = out_of_memory
-fault_of ws end (stops.Fault (faults.Unexpected left)) = record { kind = UnexpectedWord; offset = start_of ws left }
-fault_of ws end (stops.Fault faults.End) = record { kind = UnexpectedEnd; offset = end }
-fault_of ws end (stops.Fault (faults.TooDeep left)) = record { kind = TooDeep; offset = start_of ws left }
-fault_of ws end (stops.Fault (faults.TooLarge left)) = record { kind = TooLarge; offset = start_of ws left }

@@ -1,6 +1,7 @@
 //! Reading descriptions: from a text of SystemRDL to the tree that it spells, with the place of each item.
 #![tactic(auto)]
 
+mod body;
 pub mod class;
 pub mod fault;
 pub mod found;

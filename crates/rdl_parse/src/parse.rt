@@ -1,91 +1,37 @@
 //! A text as a description, or as one statement.
 ghost use Rattle.std.specs.Prelude.{◌≡◌, ◌⊎◌, ◌<◌, ◌≤◌, List, length, IfOk, IfErr, MatchResult, Ok, Err};
-ghost use Rattle.rdl_text.specs.Words.{words};
+ghost use Rattle.rdl_text.specs.declared.fault.FaultKind.{FaultKind};
+ghost use Rattle.rdl_parse.specs.declared.fault.ParseFaultKind.{ParseFaultKind};
 ghost use Rattle.rdl_tree.specs.Items.{Items};
 ghost use Rattle.rdl_tree.specs.View.{items_of};
 ghost use Rattle.rdl_tree.specs.Limits.{IsWithinLimits};
 ghost use Rattle.rdl_tree.specs.declared.description.Item.{Item};
-ghost use Rattle.rdl_parse.specs.Parsing as spec;
-ghost use Rattle.rdl_parse.specs.Parsing.{HasWords, SpellsText, SpellsItemText, HasWordFault, Refuses, RefusesItem, out_of_memory, too_long, max_length};
+ghost use Rattle.rdl_parse.specs.Faults as spec;
+ghost use Rattle.rdl_parse.specs.Faults.{max_text, out_of_memory, too_long};
+ghost use Rattle.rdl_parse.specs.Parsing.{HasWords, SpellsText, SpellsItemText, HasWordFault, Refuses, RefusesItem};
 ghost use Rattle.rdl_parse.specs.Places.{Located};
 
-use crate::fault::{Fault, Stop};
+use crate::fault::{Fault, ParseFault, ParseFaultKind, Stop};
 use crate::places::{Places, start_of};
 use crate::text;
-use rdl_text::fault::{FaultKind, TextFault};
 use rdl_text::list::Tokens;
 use rdl_text::tokens;
 use rdl_tree::description::{Description, Item};
-use std::alloc::{AllocError, Global};
-
-/// What is wrong at a place of a text.
-#[derive(Clone, Copy, Debug, PartialEq, Eq)]
-pub enum ParseFaultKind {
-    /// S1 to S8: the text has no words, or there is no memory.
-    Words(FaultKind),
-    /// S9: a word with which no text goes on.
-    UnexpectedWord,
-    /// S10: the text ends too early.
-    UnexpectedEnd,
-    /// S11: a brace with sixteen open before it.
-    TooDeep,
-    /// S12: a statement after which there are too many items, or too much weight.
-    TooLarge,
-    /// S13: the text has too many bytes.
-    TextTooLong,
-}
-
-/// A fault, and the byte at which its word begins: the text's end for `UnexpectedEnd`, and 0 for `TextTooLong` and for
-/// want of memory.
-#[derive(Clone, Copy, Debug, PartialEq, Eq)]
-pub struct ParseFault {
-    pub kind: ParseFaultKind,
-    pub offset: usize,
-}
-
-impl From<TextFault> for ParseFault {
-    ghost use Rattle.std.specs.Prelude.{◌≡◌};
-    ghost use Rattle.rdl_parse.specs.declared.parse.ParseFaultKind.TheVariants.{Words};
-
-    ghost from_gives = { λ f p. p ≡ record { kind = Words f.kind; offset = f.offset } };
-
-    fn from(fault: TextFault) -> ParseFault {
-        ParseFault {
-            kind: ParseFaultKind::Words(fault.kind),
-            offset: fault.offset,
-        }
-    }
-}
-
-impl From<AllocError> for ParseFault {
-    ghost use Rattle.std.specs.Prelude.{◌≡◌};
-    ghost use Rattle.rdl_parse.specs.Parsing.{out_of_memory};
-
-    ghost from_gives = { λ _ p. p ≡ out_of_memory };
-
-    fn from(_error: AllocError) -> ParseFault {
-        OUT_OF_MEMORY
-    }
-}
+use std::alloc::Global;
 
 /// The most bytes that a text may have.
 pub const MAX_LEN: usize = 67_108_864;
 
-const OUT_OF_MEMORY: ParseFault = ParseFault {
-    kind: ParseFaultKind::Words(FaultKind::Memory),
-    offset: 0,
-};
-
 const TOO_LONG: ParseFault = ParseFault {
-    kind: ParseFaultKind::TextTooLong,
+    kind: ParseFaultKind::TooLong,
     offset: 0,
 };
 
 /// The words of a text that isn't too long.
 fn words_of<'a>(alloc: Global, text: &'a str) -> Result<Tokens<'a>, ParseFault>
     ensures ok { IfOk result (λ ws. HasWords text.now ws) }
-    ensures long { max_length < length text.now → result ≡ Err too_long }
-    ensures err { IfErr result (λ f. (f ≡ out_of_memory) ⊎ ((f ≡ too_long) × (max_length < length text.now)) ⊎ ((kind : FaultKind) × (f.kind ≡ ParseFaultKind.Words kind) × HasWordFault text.now kind f.offset)) }
+    ensures long { max_text < length text.now → result ≡ Err too_long }
+    ensures err { IfErr result (λ f. (f ≡ out_of_memory) ⊎ ((f ≡ too_long) × (max_text < length text.now)) ⊎ ((kind : FaultKind) × (f.kind ≡ ParseFaultKind.Words kind) × HasWordFault text.now kind f.offset)) }
 {
     if text.len() > MAX_LEN {
         return Err(TOO_LONG);
@@ -99,29 +45,20 @@ fn words_of<'a>(alloc: Global, text: &'a str) -> Result<Tokens<'a>, ParseFault>
     }
 }
 
-/// A fault of reading these words of a text, which ends at this byte.
-fn fault_of(words: &Tokens<'_>, end: usize, stop: Stop) -> ParseFault
-    ensures { result ≡ spec.fault_of words.now end stop }
+/// Why reading the words of a text stopped, as a fault of the text.
+fn stop_fault(text: &str, words: &Tokens<'_>, stop: Stop) -> ParseFault
+    ensures { result ≡ spec.stop_fault text.now words.now stop }
 {
-    match stop {
-        Stop::Memory => OUT_OF_MEMORY,
-        Stop::Fault(Fault::Unexpected(left)) => ParseFault {
-            kind: ParseFaultKind::UnexpectedWord,
-            offset: start_of(words, left),
-        },
-        Stop::Fault(Fault::End) => ParseFault {
-            kind: ParseFaultKind::UnexpectedEnd,
-            offset: end,
-        },
-        Stop::Fault(Fault::TooDeep(left)) => ParseFault {
-            kind: ParseFaultKind::TooDeep,
-            offset: start_of(words, left),
-        },
-        Stop::Fault(Fault::TooLarge(left)) => ParseFault {
-            kind: ParseFaultKind::TooLarge,
-            offset: start_of(words, left),
-        },
-    }
+    let (kind, offset) = match stop {
+        Stop::Memory => return ParseFault::MEMORY,
+        Stop::Fault(Fault::End) => (ParseFaultKind::UnexpectedEnd, text.len()),
+        Stop::Fault(Fault::Unexpected(left)) => {
+            (ParseFaultKind::UnexpectedWord, start_of(words, left))
+        }
+        Stop::Fault(Fault::TooDeep(left)) => (ParseFaultKind::TooDeep, start_of(words, left)),
+        Stop::Fault(Fault::TooLarge(left)) => (ParseFaultKind::TooLarge, start_of(words, left)),
+    };
+    ParseFault { kind, offset }
 }
 
 /// The description that the text spells, and the places of its items.
@@ -136,7 +73,7 @@ pub fn parse<'a>(alloc: Global, text: &'a str) -> Result<(Description, Places<'a
     // A fault is the text's, with its place: one of S9 to S12 only where it spells nothing within the limits.
     ensures refused { IfErr result (λ f. (f ≡ out_of_memory) ⊎ Refuses text.now f) }
     // A text that is too long is told so, before anything else.
-    ensures long { max_length < length text.now → result ≡ Err too_long }
+    ensures long { max_text < length text.now → result ≡ Err too_long }
 {
     let words = match words_of(alloc, text) {
         Ok(words) => words,
@@ -145,9 +82,9 @@ pub fn parse<'a>(alloc: Global, text: &'a str) -> Result<(Description, Places<'a
     match text::text(alloc, words.as_slice()) {
         Ok((description, spots)) => match Places::new(alloc, text, &words, spots.as_slice()) {
             Ok(places) => Ok((description, places)),
-            Err(_) => Err(OUT_OF_MEMORY),
+            Err(_) => Err(ParseFault::MEMORY),
         },
-        Err(stop) => Err(fault_of(&words, text.len(), stop)),
+        Err(stop) => Err(stop_fault(text, &words, stop)),
     }
 }
 
@@ -157,7 +94,7 @@ pub fn parse_item(alloc: Global, text: &str) -> Result<Vec<Item>, ParseFault>
     ensures found { IfOk result (λ xs. SpellsItemText text.now xs.items × IsWithinLimits (items_of xs.items)) }
     ensures only { (xs : List Item) → SpellsItemText text.now xs → IsWithinLimits (items_of xs) → MatchResult result (λ ys. ys.items ≡ xs) (λ f. f ≡ out_of_memory) }
     ensures refused { IfErr result (λ f. (f ≡ out_of_memory) ⊎ RefusesItem text.now f) }
-    ensures long { max_length < length text.now → result ≡ Err too_long }
+    ensures long { max_text < length text.now → result ≡ Err too_long }
 {
     let words = match words_of(alloc, text) {
         Ok(words) => words,
@@ -165,6 +102,6 @@ pub fn parse_item(alloc: Global, text: &str) -> Result<Vec<Item>, ParseFault>
     };
     match text::items(alloc, words.as_slice()) {
         Ok(items) => Ok(items),
-        Err(stop) => Err(fault_of(&words, text.len(), stop)),
+        Err(stop) => Err(stop_fault(text, &words, stop)),
     }
 }

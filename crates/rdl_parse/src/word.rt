@@ -84,7 +84,7 @@ pub(crate) fn prop_of<'a>(word: &Token<'a>) -> Option<&'a str>
 }
 
 #[tactic(auto, using(crate::proofs::Words::property_is_name))]
-fn property_name(property: Property) -> &'static str
+pub(crate) fn property_name(property: Property) -> &'static str
     ensures value { result.now ≡ property_text property }
     ensures is_name { IsName result.now }
 {

@@ -2,7 +2,8 @@ use Rattle.std.proofs.Common.{◌≡◌, ◌⊎◌, ap, sym, ◌∙◌, subst, O
 use Rattle.rdl_parse.specs.Symbol.{symbols}
 use Rattle.rdl_parse.specs.Reading.{Fails, limit, text_at, whole}
 use Rattle.rdl_parse.specs.Places.{located}
-use Rattle.rdl_parse.specs.Parsing.{out_of_memory, Refuses}
+use Rattle.rdl_parse.specs.Faults.{out_of_memory}
+use Rattle.rdl_parse.specs.Parsing.{Refuses}
 use Rattle.rdl_parse.proofs.Answered.{text-found, text-only, text-refused, text-memory}
 use Rattle.rdl_parse.proofs.parse.parse.Goals as goal
 
@@ -21,9 +22,9 @@ returns-in-Ok-new-clause-only c =
 pub returns-clause-only : goal.returns-clause-only
 returns-clause-only c =
     let fails : Fails c.in-Err-text.stop (text_at 16 limit (symbols c.in-Ok.words)) = subst (λ ws. Fails c.in-Err-text.stop (text_at 16 limit (symbols ws))) c.as_slice.ensures c.in-Err-text.ensures in
-    λ d p s i. c.fault_of.ensures ∙ text-memory c.args.text.now c.in-Ok.words c.in-Err-text.stop c.in-Ok.ensures.ok fails d p s i
+    λ d p s i. c.stop_fault.ensures ∙ text-memory c.args.text.now c.in-Ok.words c.in-Err-text.stop c.in-Ok.ensures.ok fails d p s i
 
 pub returns-clause-refused : goal.returns-clause-refused
 returns-clause-refused c =
     let fails : Fails c.in-Err-text.stop (text_at 16 limit (symbols c.in-Ok.words)) = subst (λ ws. Fails c.in-Err-text.stop (text_at 16 limit (symbols ws))) c.as_slice.ensures c.in-Err-text.ensures in
-    subst (λ f. (f ≡ out_of_memory) ⊎ Refuses c.args.text.now f) (sym c.fault_of.ensures) (text-refused c.args.text.now c.in-Ok.words c.in-Err-text.stop c.in-Ok.ensures.ok fails)
+    subst (λ f. (f ≡ out_of_memory) ⊎ Refuses c.args.text.now f) (sym c.stop_fault.ensures) (text-refused c.args.text.now c.in-Ok.words c.in-Err-text.stop c.in-Ok.ensures.ok fails)
