@@ -6,9 +6,9 @@ use Rattle.rdl_text.specs.declared.fault.FaultKind.{FaultKind as WordsFault}
 use Rattle.rdl_text.specs.declared.fault.FaultKind.TheVariants as words
 use Rattle.rdl_edit.specs.declared.edit.Refusal.{Refusal}
 use Rattle.rdl_edit.specs.declared.edit.Refusal.TheVariants as refusals
-use Rattle.rdl_parse.specs.declared.parse.ParseFault.{ParseFault}
-use Rattle.rdl_parse.specs.declared.parse.ParseFaultKind.{ParseFaultKind}
-use Rattle.rdl_parse.specs.declared.parse.ParseFaultKind.TheVariants as texts
+use Rattle.rdl_parse.specs.declared.fault.ParseFault.{ParseFault}
+use Rattle.rdl_parse.specs.declared.fault.ParseFaultKind.{ParseFaultKind}
+use Rattle.rdl_parse.specs.declared.fault.ParseFaultKind.TheVariants as texts
 use Rattle.rdl_flat.specs.declared.fault.MapFault.{MapFault}
 use Rattle.rdl_flat.specs.declared.fault.MapFault.TheVariants.{NotSupported, Found}
 use Rattle.rdl_tree.specs.AddressText.{address_text}
@@ -39,7 +39,7 @@ parse_fault_text texts.UnexpectedWord = codes "S9 unexpected word"
 parse_fault_text texts.UnexpectedEnd = codes "S10 unexpected end"
 parse_fault_text texts.TooDeep = codes "S11 nesting over 16"
 parse_fault_text texts.TooLarge = codes "S12 description too large"
-parse_fault_text texts.TextTooLong = codes "S13 text too long"
+parse_fault_text texts.TooLong = codes "S13 text too long"
 
 -- want of memory ends the run, and has no message
 unfoldable pub fault_text : FaultKind → List ℕ

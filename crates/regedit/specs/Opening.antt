@@ -4,7 +4,7 @@ use Rattle.rdl_edit.specs.Step.{State}
 use Rattle.rdl_flat.specs.FlatFault.{map_fault}
 use Rattle.rdl_flat.specs.declared.fault.MapFault.{MapFault}
 use Rattle.rdl_parse.specs.Places.{Located, place_at}
-use Rattle.rdl_parse.specs.declared.parse.ParseFault.{ParseFault}
+use Rattle.rdl_parse.specs.declared.fault.ParseFault.{ParseFault}
 use Rattle.rdl_text.specs.Place.{line, column}
 use Rattle.rdl_tree.specs.Items.{Items}
 use Rattle.regedit.specs.Messages.{map_line, parse_fault_text, map_fault_text, fault_address}

@@ -1,5 +1,5 @@
 -- A fact of the fault of a text, unless memory was wanting. Own.
-use Rattle.rdl_parse.specs.declared.parse.ParseFault.{ParseFault}
+use Rattle.rdl_parse.specs.declared.fault.ParseFault.{ParseFault}
 use Rattle.regedit.specs.declared.reading.ReadingFault.{ReadingFault}
 use Rattle.regedit.specs.declared.reading.ReadingFault.TheVariants.{Refused, Memory}
 

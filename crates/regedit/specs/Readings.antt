@@ -4,8 +4,8 @@ use Rattle.std.specs.Prelude.{◌≡◌, ◌⊎◌, ℕ, List, IsUtf8}
 use Rattle.std.specs.Str.Lossy.{utf8_valid_len}
 use Rattle.rdl_parse.specs.Parsing.{SpellsText, SpellsItemText, Refuses, RefusesItem}
 use Rattle.rdl_parse.specs.Places.{Located}
-use Rattle.rdl_parse.specs.declared.parse.ParseFault.{ParseFault}
-use Rattle.rdl_parse.specs.declared.parse.ParseFaultKind.TheVariants.{Words}
+use Rattle.rdl_parse.specs.declared.fault.ParseFault.{ParseFault}
+use Rattle.rdl_parse.specs.declared.fault.ParseFaultKind.TheVariants.{Words}
 use Rattle.rdl_text.specs.declared.fault.FaultKind.TheVariants.{BadCharacter}
 use Rattle.rdl_tree.specs.Items.{Items}
 use Rattle.rdl_tree.specs.Limits.{IsWithinLimits}

@@ -8,7 +8,7 @@ use crate::reading::{ReadingFault, map_of};
 use crate::reply::{fault_address, map_fault_text, map_line, parse_fault_text};
 use rdl_edit::map::{Map, OpenFault as MapOpenFault};
 use rdl_flat::fault::MapFault;
-use rdl_parse::parse::ParseFault;
+use rdl_parse::fault::ParseFault;
 use rdl_parse::places::Places;
 use rdl_text::byte_place;
 use rdl_text::name::Name;

@@ -1,10 +1,11 @@
 //! From bytes to a description or to the items of one statement.
 ghost use Rattle.std.specs.Prelude.{◌≡◌, ◌≢◌, IfOk, IfErr, IsUtf8};
-ghost use Rattle.rdl_parse.specs.Parsing.{out_of_memory};
+ghost use Rattle.rdl_parse.specs.Faults.{out_of_memory};
 ghost use Rattle.regedit.specs.Readings.{ReadsMap, ReadsItems, IsNoText, RefusesMap, RefusesItems};
 ghost use Rattle.regedit.specs.ReadingFaults.{IfRefused};
 
-use rdl_parse::parse::{ParseFault, ParseFaultKind, parse, parse_item};
+use rdl_parse::fault::{ParseFault, ParseFaultKind};
+use rdl_parse::parse::{parse, parse_item};
 use rdl_parse::places::Places;
 use rdl_text::fault::FaultKind;
 use rdl_tree::description::{Description, Item};

@@ -19,7 +19,7 @@ ghost use Rattle.regedit.specs.Messages.{
 use crate::script::CommandFault;
 use rdl_edit::edit::Refusal;
 use rdl_flat::fault::MapFault;
-use rdl_parse::parse::{ParseFault, ParseFaultKind};
+use rdl_parse::fault::{ParseFault, ParseFaultKind};
 use rdl_text::fault::FaultKind as WordsFault;
 use rdl_tree::address::Address;
 use rdl_tree::fault::FaultKind;
@@ -87,7 +87,7 @@ pub fn parse_fault_text(kind: ParseFaultKind) -> &'static str
         ParseFaultKind::UnexpectedEnd => "S10 unexpected end",
         ParseFaultKind::TooDeep => "S11 nesting over 16",
         ParseFaultKind::TooLarge => "S12 description too large",
-        ParseFaultKind::TextTooLong => "S13 text too long",
+        ParseFaultKind::TooLong => "S13 text too long",
     }
 }
 
