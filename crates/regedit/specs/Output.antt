@@ -1,5 +1,5 @@
 -- The output of a run: messages, both files and the status, from the bytes of the map and of the script. Own.
-use Rattle.std.specs.Prelude.{◌≡◌, ◌⊎◌, ℕ, Bool, List, [], ◌∷◌, Option, Some, if◌then◌else◌}
+use Rattle.std.specs.Prelude.{◌≡◌, ◌⊎◌, ℕ, Bool, List, [], ◌∷◌, Option, if◌then◌else◌}
 use Rattle.std.specs.Io.KnownBytes.{Appends}
 use Rattle.journal_core.specs.History.{IsAt}
 use Rattle.regedit.specs.Answers.{History', Serves}
