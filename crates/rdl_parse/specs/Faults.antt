@@ -19,6 +19,8 @@ use Rattle.rdl_parse.specs.declared.fault.Fault.TheVariants as reading
 use Rattle.rdl_parse.specs.declared.fault.ParseFault.{ParseFault}
 use Rattle.rdl_parse.specs.declared.fault.ParseFaultKind.{ParseFaultKind}
 use Rattle.rdl_parse.specs.declared.fault.ParseFaultKind.TheVariants.{Words, UnexpectedWord, UnexpectedEnd, TooDeep, TooLarge, TooLong}
+use Rattle.rdl_parse.specs.declared.fault.Stop.{Stop}
+use Rattle.rdl_parse.specs.declared.fault.Stop.TheVariants as stops
 use Rattle.rdl_parse.specs.declared.found.Spot.{Spot}
 
 -- how many bytes a text may have
@@ -67,3 +69,8 @@ pub data Refuses (None : List Word → Type 0) (s : List ℕ) (e : ParseFault) :
   is_long : max_text < length s → e ≡ too_long → Refuses None s e
   no_words : length s ≤ max_text → (f : TextFault) → text.words s ≡ Err f → e ≡ words_fault f → Refuses None s e
   not_spelled : length s ≤ max_text → (ws : List Word) → text.words s ≡ Ok ws → None ws → (f : Fault) → Stands 16 (symbols ws) f → e ≡ reading_fault s ws f → Refuses None s e
+
+-- the fault of a text for which reading its words stops
+abbrev pub stop_fault : List ℕ → List Word → Stop → ParseFault
+stop_fault s ws stops.Memory = out_of_memory
+stop_fault s ws (stops.Fault f) = reading_fault s ws f

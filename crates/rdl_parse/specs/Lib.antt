@@ -7,3 +7,4 @@ pub mod Gathering
 pub mod Stands
 pub mod Places
 pub mod Faults
+pub mod Parsing

@@ -114,7 +114,12 @@ impl<'t, 'a> Reader<'t, 'a> {
 
     #[cycle(parse)]
     #[tactic(auto, unfolding(crate::specs::Reading::statement_at), using(crate::proofs::Words::length_symbols))]
-    fn statement(&mut self, alloc: Global, levels: u32, room: Room) -> Result<Gathered, Stop>
+    pub(crate) fn statement(
+        &mut self,
+        alloc: Global,
+        levels: u32,
+        room: Room,
+    ) -> Result<Gathered, Stop>
         ensures { Gives (λ g. (finished g, symbols self.new.rest.now)) result (spec.statement_at (body_at levels) room (symbols self.old.rest.now)) }
     {
         let left = self.rest.len();

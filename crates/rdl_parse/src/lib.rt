@@ -12,4 +12,7 @@ pub mod places;
 mod reader;
 pub mod room;
 mod statement;
+mod text;
 mod word;
+
+pub use text::{MAX_TEXT, parse, parse_item};
