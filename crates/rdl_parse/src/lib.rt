@@ -12,6 +12,8 @@ pub mod places;
 mod reader;
 pub mod room;
 mod statement;
+#[cfg(test)]
+mod tests;
 mod text;
 mod word;
 
