@@ -12,4 +12,4 @@ pub mod Gathering
 pub mod Rounds
 pub mod Bodies
 pub mod Placed
-pub mod Parsing
+pub mod Answered

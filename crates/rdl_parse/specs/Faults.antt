@@ -1,27 +1,18 @@
--- The faults of a text that spells no description, and where each stands.
+-- The faults of a text that spells no description: their numbers, and where each stands.
 -- Own.
-use Rattle.std.specs.Prelude.{◌≡◌, ◌≤◌, ◌<◌, ℕ, nat_lt, if◌then◌else◌, List, length, Result, Ok, Err}
+use Rattle.std.specs.Prelude.{ℕ, List, length}
 use Rattle.rdl_text.specs.Fault.{fault_number}
 use Rattle.rdl_text.specs.Word.{Word}
-use Rattle.rdl_text.specs.Words as text
 use Rattle.rdl_text.specs.declared.fault.FaultKind.TheVariants as words
 use Rattle.rdl_text.specs.declared.fault.TextFault.{TextFault}
-use Rattle.rdl_tree.specs.Items.{Items}
-use Rattle.rdl_tree.specs.Limits.{IsWithinLimits}
-use Rattle.rdl_tree.specs.View.{items_of}
-use Rattle.rdl_tree.specs.declared.description.Item.{Item}
 use Rattle.rdl_parse.specs.Places.{start_of}
-use Rattle.rdl_parse.specs.Spelling.{Spells, SpellsItems}
-use Rattle.rdl_parse.specs.Stands.{Stands}
-use Rattle.rdl_parse.specs.Symbol.{symbols}
 use Rattle.rdl_parse.specs.declared.fault.Fault.{Fault}
 use Rattle.rdl_parse.specs.declared.fault.Fault.TheVariants as reading
+use Rattle.rdl_parse.specs.declared.fault.Stop.{Stop}
+use Rattle.rdl_parse.specs.declared.fault.Stop.TheVariants as stops
 use Rattle.rdl_parse.specs.declared.fault.ParseFault.{ParseFault}
 use Rattle.rdl_parse.specs.declared.fault.ParseFaultKind.{ParseFaultKind}
 use Rattle.rdl_parse.specs.declared.fault.ParseFaultKind.TheVariants.{Words, UnexpectedWord, UnexpectedEnd, TooDeep, TooLarge, TooLong}
-use Rattle.rdl_parse.specs.declared.fault.Stop.{Stop}
-use Rattle.rdl_parse.specs.declared.fault.Stop.TheVariants as stops
-use Rattle.rdl_parse.specs.declared.found.Spot.{Spot}
 
 -- how many bytes a text may have
 abbrev pub max_text : ℕ
@@ -54,23 +45,7 @@ reading_fault s ws reading.End = parse_fault UnexpectedEnd (length s)
 reading_fault s ws (reading.TooDeep left) = parse_fault TooDeep (start_of ws left)
 reading_fault s ws (reading.TooLarge left) = parse_fault TooLarge (start_of ws left)
 
--- ---- What holds where a text is refused for another reason than memory.
-
--- no description within the limits is spelled
-abbrev pub SpellsNone : List Word → Type 0
-SpellsNone ws = (d : Items) (at : List Spot) → Spells (symbols ws) d at → IsWithinLimits d → ⊥
-
--- no statement whose items are within the limits is spelled
-abbrev pub SpellsNoItems : List Word → Type 0
-SpellsNoItems ws = (xs : List Item) → SpellsItems (symbols ws) xs → IsWithinLimits (items_of xs) → ⊥
-
--- the text is too long, or has no words, or its words spell nothing and the fault stands as it must
-pub data Refuses (None : List Word → Type 0) (s : List ℕ) (e : ParseFault) : Type 0 where
-  is_long : max_text < length s → e ≡ too_long → Refuses None s e
-  no_words : length s ≤ max_text → (f : TextFault) → text.words s ≡ Err f → e ≡ words_fault f → Refuses None s e
-  not_spelled : length s ≤ max_text → (ws : List Word) → text.words s ≡ Ok ws → None ws → (f : Fault) → Stands 16 (symbols ws) f → e ≡ reading_fault s ws f → Refuses None s e
-
--- the fault of a text for which reading its words stops
+-- the same of a stop of reading
 abbrev pub stop_fault : List ℕ → List Word → Stop → ParseFault
 stop_fault s ws stops.Memory = out_of_memory
 stop_fault s ws (stops.Fault f) = reading_fault s ws f

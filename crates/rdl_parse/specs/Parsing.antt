@@ -1,66 +1,98 @@
--- What a text is parsed to, and what one statement is.
--- Own.
-use Rattle.std.specs.Prelude.{◌≡◌, ◌≤◌, ◌⊎◌, ℕ, nat_lt, if◌then◌else◌, List, length, Result, Ok, Err, MatchResult}
+-- What reading a text answers: what it spells within the limits, or its first fault.
+-- Own; which of S9 to S12 stands, and where S9 stands, is as in Reading.
+use Rattle.std.specs.Prelude.{◌≡◌, ◌≤◌, ◌<◌, ◌+◌, ℕ, List, [], ◌∷◌, ◌++◌, length, Ok, Err}
 use Rattle.rdl_text.specs.Word.{Word}
-use Rattle.rdl_text.specs.Words as text
-use Rattle.rdl_text.specs.declared.fault.TextFault.{TextFault}
+use Rattle.rdl_text.specs.Words.{words}
+use Rattle.rdl_text.specs.declared.token.Mark.{Mark}
+use Rattle.rdl_text.specs.declared.token.Mark.TheVariants.{OpenBrace, Semicolon}
 use Rattle.rdl_tree.specs.Items.{Items}
-use Rattle.rdl_tree.specs.Limits.{IsWithinLimits}
 use Rattle.rdl_tree.specs.View.{items_of}
+use Rattle.rdl_tree.specs.Limits.{IsWithinLimits}
 use Rattle.rdl_tree.specs.declared.description.Item.{Item}
-use Rattle.rdl_parse.specs.Faults.{max_text, words_fault, too_long, out_of_memory, reading_fault}
-use Rattle.rdl_parse.specs.Places.{Located, located}
-use Rattle.rdl_parse.specs.Reading.{Block, limit, text_at, items_at}
-use Rattle.rdl_parse.specs.Spelling.{Spells, SpellsItems}
-use Rattle.rdl_parse.specs.Symbol.{symbols}
-use Rattle.rdl_parse.specs.declared.fault.Fault.{Fault}
-use Rattle.rdl_parse.specs.declared.fault.ParseFault.{ParseFault}
 use Rattle.rdl_parse.specs.declared.found.Spot.{Spot}
+use Rattle.rdl_parse.specs.declared.fault.ParseFault.{ParseFault}
+use Rattle.rdl_parse.specs.declared.fault.ParseFaultKind.{ParseFaultKind}
+use Rattle.rdl_parse.specs.declared.fault.ParseFaultKind.TheVariants.{Words, UnexpectedWord, UnexpectedEnd, TooDeep, TooLarge, TooLong}
+use Rattle.rdl_text.specs.declared.fault.FaultKind.{FaultKind}
+use Rattle.rdl_parse.specs.Faults.{max_text}
+use Rattle.rdl_parse.specs.Places.{Located, located}
+use Rattle.rdl_parse.specs.Spelling.{Spells, SpellsItems}
+use Rattle.rdl_parse.specs.Stands.{opens, closes}
+use Rattle.rdl_parse.specs.Symbol.{Symbol, symbol, symbols, mark}
 
--- the text's words spell this description, within the limits, and its items stand at these places
-pub record Parses (s : List ℕ) (d : Items) (p : Located) : Type 0 where
-  pub short : length s ≤ max_text
-  pub words : List Word
-  pub words_are : text.words s ≡ Ok words
+-- the text isn't too long, and these are its words
+pub record HasWords (text : List ℕ) (ws : List Word) : Type 0 where
+  pub short : length text ≤ max_text
+  pub cut : words text ≡ Ok ws
+
+-- the text spells the description, whose items have these places
+pub record SpellsText (text : List ℕ) (d : Items) (p : Located) : Type 0 where
+  pub ws : List Word
   pub spots : List Spot
-  pub spelled : Spells (symbols words) d spots
-  pub within : IsWithinLimits d
-  pub places_are : p ≡ located s words spots
+  pub has_words : HasWords text ws
+  pub spelled : Spells (symbols ws) d spots
+  pub places_are : p ≡ located text ws spots
 
--- the text's words are one statement, which stands for these items, within the limits
-pub record ParsesItems (s : List ℕ) (xs : List Item) : Type 0 where
-  pub short : length s ≤ max_text
-  pub words : List Word
-  pub words_are : text.words s ≡ Ok words
-  pub spelled : SpellsItems (symbols words) xs
-  pub within : IsWithinLimits (items_of xs)
+-- the text is exactly one statement, which stands for these items
+pub record SpellsItemText (text : List ℕ) (xs : List Item) : Type 0 where
+  pub ws : List Word
+  pub has_words : HasWords text ws
+  pub spelled : SpellsItems (symbols ws) xs
 
--- ---- The same by reading, with the fault where nothing is spelled.
+-- ---- Faults.
 
--- the words of a text, if it isn't too long, and what comes of them
-abbrev pub of_words : {A : Type 0} → List ℕ → (List Word → Result A ParseFault) → Result (List Word) TextFault → Result A ParseFault
-of_words s f (Ok ws) = f ws
-of_words s f (Err e) = Err (words_fault e)
+-- the words spell nothing within the limits
+abbrev pub SpellsNone : {X : Type 0} → (List Symbol → X → Type 0) → (X → Type 0) → List Word → Type 0
+SpellsNone {X} spells within ws = (x : X) → spells (symbols ws) x → within x → ⊥
 
-abbrev pub of_text : {A : Type 0} → List ℕ → (List Word → Result A ParseFault) → Result A ParseFault
-of_text s f = if nat_lt max_text (length s) then Err too_long else of_words s f (text.words s)
+-- at one of the words
+pub record IsAtWord (ws : List Word) (offset : ℕ) : Type 0 where
+  pub before : List Word
+  pub word : Word
+  pub after : List Word
+  pub parts : ws ≡ before ++ word ∷ after
+  pub offset_is : offset ≡ word.start
 
-abbrev pub placed : {A B : Type 0} → List ℕ → List Word → (A → B) → Result A Fault → Result B ParseFault
-placed s ws f (Ok x) = Ok (f x)
-placed s ws f (Err e) = Err (reading_fault s ws e)
+-- at a brace with sixteen open before it
+pub record IsAtDeepBrace (ws : List Word) (offset : ℕ) : Type 0 where
+  pub at : IsAtWord ws offset
+  pub brace : symbol at.word ≡ mark OpenBrace
+  pub opened : opens (symbols at.before) ≡ closes (symbols at.before) + 16
 
-abbrev pub Parsed : Type 0
-Parsed = Items × Located
+-- at a semicolon
+pub record IsAtSemicolon (ws : List Word) (offset : ℕ) : Type 0 where
+  pub at : IsAtWord ws offset
+  pub semicolon : symbol at.word ≡ mark Semicolon
 
-abbrev pub parsed : List ℕ → List Word → Block → Parsed
-parsed s ws b = (b.items, located s ws b.spots)
+-- the text has words that spell nothing within the limits, and the fault stands so
+pub record HasStatementFault {X : Type 0} (spells : List Symbol → X → Type 0) (within : X → Type 0) (stands : List Word → ℕ → Type 0) (text : List ℕ) (offset : ℕ) : Type 0 where
+  pub ws : List Word
+  pub has_words : HasWords text ws
+  pub none : SpellsNone spells within ws
+  pub stands_so : stands ws offset
 
-abbrev pub parse_reading : List ℕ → Result Parsed ParseFault
-parse_reading s = of_text s (λ ws. placed s ws (parsed s ws) (text_at 16 limit (symbols ws)))
+-- the text isn't too long, and its words have this first fault
+pub record HasWordFault (text : List ℕ) (kind : FaultKind) (offset : ℕ) : Type 0 where
+  pub short : length text ≤ max_text
+  pub fault : words text ≡ Err (record { kind = kind; offset = offset })
 
-abbrev pub items_reading : List ℕ → Result (List Item) ParseFault
-items_reading s = of_text s (λ ws. placed s ws (λ xs. xs) (items_at 16 limit (symbols ws)))
+-- the fault is the text's, by what is to be spelled and the limits of it
+abbrev pub RefusesBy : {X : Type 0} → (List Symbol → X → Type 0) → (X → Type 0) → List ℕ → ParseFaultKind → ℕ → Type 0
+RefusesBy spells within text TooLong offset = (max_text < length text) × (offset ≡ 0)
+RefusesBy spells within text (Words kind) offset = HasWordFault text kind offset
+RefusesBy spells within text UnexpectedWord offset = HasStatementFault spells within IsAtWord text offset
+RefusesBy spells within text UnexpectedEnd offset = HasStatementFault spells within (λ ws at. at ≡ length text) text offset
+RefusesBy spells within text TooDeep offset = HasStatementFault spells within IsAtDeepBrace text offset
+RefusesBy spells within text TooLarge offset = HasStatementFault spells within IsAtSemicolon text offset
 
--- what a function returned, seen by view, is what reading gives, unless memory ran out
-abbrev pub Reads : {X Y : Type 0} → (X → Y) → Result X ParseFault → Result Y ParseFault → Type 0
-Reads view result read = MatchResult result (λ x. read ≡ Ok (view x)) (λ e. (e ≡ out_of_memory) ⊎ (read ≡ Err e))
+-- the words spell the description
+abbrev pub SpellsSomewhere : List Symbol → Items → Type 0
+SpellsSomewhere ws d = (at : List Spot) × Spells ws d at
+
+-- the text is no description within the limits, and this is its fault
+abbrev pub Refuses : List ℕ → ParseFault → Type 0
+Refuses text f = RefusesBy SpellsSomewhere IsWithinLimits text f.kind f.offset
+
+-- the text is no statement within the limits, and this is its fault
+abbrev pub RefusesItem : List ℕ → ParseFault → Type 0
+RefusesItem text f = RefusesBy SpellsItems (λ xs. IsWithinLimits (items_of xs)) text f.kind f.offset

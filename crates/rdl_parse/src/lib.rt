@@ -8,12 +8,11 @@ pub mod found;
 pub mod gathered;
 mod inst;
 pub mod laws;
+pub mod parse;
 pub mod places;
 mod reader;
 pub mod room;
 mod statement;
-#[cfg(test)]
-mod tests;
 mod text;
 mod word;
 
