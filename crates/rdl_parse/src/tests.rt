@@ -1,5 +1,5 @@
 //! Tests of what no clause says: that the calls succeed, and that the definitions say what is meant.
-use crate::text::{parse, parse_item};
+use crate::parse::{parse, parse_item};
 use rdl_text::place;
 use rdl_tree::address::Address;
 use rdl_tree::description::{Description, Item, Of};
@@ -15,7 +15,13 @@ fn refusal(alloc: Global, text: &str) -> Result<(u8, usize), Fail> {
 }
 
 /// A text a number of times, between two others.
-fn repeated(alloc: Global, first: &str, text: &str, count: usize, last: &str) -> Result<String, Fail> {
+fn repeated(
+    alloc: Global,
+    first: &str,
+    text: &str,
+    count: usize,
+    last: &str,
+) -> Result<String, Fail> {
     let mut whole = String::from_str(alloc, first)?;
     for _ in 0..count {
         whole.push_str(text)?;
@@ -79,9 +85,23 @@ fn parts_are_read(rt: HostRuntime) -> Result<(), Fail> {
     let Item::Instance(shell, Of::Anonymous(_)) = item(&description, 4)? else {
         return Err(Fail::from("anonymous"));
     };
-    assert!(rt; matches!(shell.outside, Outside::Internal) && shell.stride == Some(4) && shell.align == Some(2));
-    assert!(rt; matches!(item(&description, 8)?, Item::Default(_, Value::Word(Word::R))));
-    assert!(rt; matches!(item(&description, 11)?, Item::Dynamic(_, _, Value::Bool(true))));
+    assert!(rt;
+        matches!(shell.outside, Outside::Internal)
+            && shell.stride == Some(4)
+            && shell.align == Some(2)
+    );
+    assert!(rt;
+        matches!(
+            item(&description, 8)?,
+            Item::Default(_, Value::Word(Word::R))
+        )
+    );
+    assert!(rt;
+        matches!(
+            item(&description, 11)?,
+            Item::Dynamic(_, _, Value::Bool(true))
+        )
+    );
     Ok(())
 }
 
@@ -142,18 +162,32 @@ fn copies_past_the_limit_are_not_made(rt: HostRuntime) -> Result<(), Fail> {
 #[test]
 fn one_statement_is_an_item(rt: HostRuntime) -> Result<(), Fail> {
     let alloc = rt.alloc();
-    assert_eq!(rt; parse_item(alloc, "reg { field {} f; } a, b;").ok().ok_or("spelled")?.len(), 2);
-    assert!(rt; matches!(parse_item(alloc, "T a; T b;"), Err(fault) if fault.number() == 9 && fault.offset == 5));
-    assert!(rt; matches!(parse_item(alloc, " // none"), Err(fault) if fault.number() == 10 && fault.offset == 8));
+    assert_eq!(rt;
+        parse_item(alloc, "reg { field {} f; } a, b;")
+            .ok()
+            .ok_or("spelled")?
+            .len(),
+        2
+    );
+    assert!(rt;
+        matches!(parse_item(alloc, "T a; T b;"), Err(fault) if fault.number() == 9 && fault.offset == 5)
+    );
+    assert!(rt;
+        matches!(parse_item(alloc, " // none"), Err(fault) if fault.number() == 10 && fault.offset == 8)
+    );
     Ok(())
 }
 
 #[test]
 fn a_copy_equals_what_is_read(rt: HostRuntime) -> Result<(), Fail> {
     let alloc = rt.alloc();
-    let text = "reg T { field {} e; field {} f; }; addrmap top { T u; T v; u.f->reset = 1; T w; v.f->reset = 0; v.e->sw = r; };";
+    let text =
+        "reg T { field {} e; field {} f; }; addrmap top { T u; T v; u.f->reset = 1; T w; v.f->reset = 0; v.e->sw = r; };";
     let (description, _) = parse(alloc, text).ok().ok_or("spelled")?;
     let copy = description.try_copy(alloc)?;
-    assert_eq!(rt; format!(in alloc; "{copy:?}")?, format!(in alloc; "{description:?}")?);
+    assert_eq!(rt;
+        format!(in alloc; "{copy:?}")?,
+        format!(in alloc; "{description:?}")?
+    );
     Ok(())
 }
