@@ -1,5 +1,5 @@
 -- The contracts of `parse` and `parse_item`, from those of their parts.
-use Rattle.std.proofs.Common.{◌≡◌, ◌⊎◌, inl, inr, ⊎_elim, ℕ, zero, suc, ◌+◌, ◌-◌, ◌<◌, ◌≤◌, List, [], ◌∷◌, ◌++◌, length, Option, Some, None, Result, Ok, Err, refl, ap, sym, ◌∙◌, subst, arith}
+use Rattle.std.proofs.Common.{◌≡◌, ◌⊎◌, inl, inr, ⊎_elim, ℕ, zero, suc, ◌+◌, ◌-◌, ◌<◌, ◌≤◌, List, [], ◌∷◌, ◌++◌, length, Option, Some, None, Result, Ok, Err, refl, ap, sym, ◌∙◌, subst, arith, append_assoc}
 use Rattle.std.specs.Prelude.{slice_get}
 use Rattle.std.specs.Option.{option_map_or}
 use Rattle.std.proofs.lemmas.List.{length-append}
@@ -20,10 +20,12 @@ use Rattle.rdl_parse.specs.declared.fault.Stop.TheVariants as stops
 use Rattle.rdl_parse.specs.declared.fault.ParseFault.{ParseFault}
 use Rattle.rdl_parse.specs.declared.fault.ParseFaultKind.{ParseFaultKind}
 use Rattle.rdl_parse.specs.declared.fault.ParseFaultKind.TheVariants.{TooLong, Words, UnexpectedWord, UnexpectedEnd, TooDeep, TooLarge}
-use Rattle.rdl_parse.specs.Symbol.{Symbol, symbol, symbols, mark}
-use Rattle.rdl_parse.specs.Spelling.{Spells, SpellsItems}
+use Rattle.rdl_parse.specs.Symbol.{Symbol, symbol, symbols, kind, mark}
+use Rattle.rdl_parse.specs.Spelling.{Spells, SpellsItems, outside_words, statement_words}
+use Rattle.rdl_parse.specs.Spelling.{words as words_of}
 use Rattle.rdl_parse.specs.Reading.{Block, Fails, limit, text_at, items_at}
-use Rattle.rdl_parse.specs.Stands.{Stands, opens, closes}
+use Rattle.rdl_parse.specs.Stands.{Opened, last, inside, name_words, opened_words, Stands, opens, closes}
+use Rattle.rdl_parse.proofs.Passing.{Passes, passes-then, words-pass, statement-reach, head-passes}
 use Rattle.rdl_parse.specs.Places.{Located, located, start_of}
 use Rattle.rdl_parse.specs.Parsing.{HasWords, SpellsText, SpellsItemText, SpellsNone, IsAtWord, HasStatementFault, HasWordFault, RefusesBy, SpellsSomewhere, Refuses, RefusesItem}
 use Rattle.rdl_parse.specs.Faults.{max_text, out_of_memory, too_long, stop_fault}
@@ -38,7 +40,7 @@ record Split (ws : List Word) (before : List Symbol) (s : Symbol) (after : List 
   parts : ws ≡ front ++ word ∷ back
   front_is : symbols front ≡ before
   word_is : symbol word ≡ s
-  back_is : length back ≡ length after
+  back_is : symbols back ≡ after
 
 length-symbols : (ws : List Word) → length (symbols ws) ≡ length ws
 length-symbols [] = refl
@@ -50,7 +52,7 @@ split [] (b ∷ before) s after e = absurd cc
 split (w ∷ ws) [] s after e =
     let head : symbol w ≡ s = cc in
     let tail : symbols ws ≡ after = cc in
-    record { front = []; word = w; back = ws; parts = refl; front_is = refl; word_is = head; back_is = sym (length-symbols ws) ∙ ap length tail }
+    record { front = []; word = w; back = ws; parts = refl; front_is = refl; word_is = head; back_is = tail }
 split (w ∷ ws) (b ∷ before) s after e =
     let head : symbol w ≡ b = cc in
     let tail : symbols ws ≡ before ++ s ∷ after = cc in
@@ -69,7 +71,27 @@ start-is ws front back w left e l =
     ∙ ap (λ o. option_map_or (λ v. v.start) o 0) (get-behind front back w)
 
 abbrev at-word : (ws : List Word) (before after : List Symbol) (s : Symbol) (left : ℕ) → left ≡ length (s ∷ after) → Split ws before s after → IsAtWord ws (start_of ws left)
-at-word ws before after s left l p = record { before = p.front; word = p.word; after = p.back; parts = p.parts; offset_is = start-is ws p.front p.back p.word left p.parts (omega (arith, p.back_is, l)) }
+at-word ws before after s left l p = record { before = p.front; word = p.word; after = p.back; parts = p.parts; offset_is = start-is ws p.front p.back p.word left p.parts (omega (arith, ap length p.back_is, length-symbols p.back, l)) }
+
+-- ---- Where a text that is open ends.
+
+record Reaches (ws rest : List Symbol) : Type 0 where
+  front : List Symbol
+  parts : ws ≡ front ++ mark Semicolon ∷ rest
+
+reaches-past : (ws vs rest : List Symbol) → Passes ws vs → Reaches vs rest → Reaches ws rest
+reaches-past ws vs rest p r = record { front = p.before ++ r.front; parts = p.parts ∙ ap (λ us. p.before ++ us) r.parts ∙ sym (append_assoc p.before r.front (mark Semicolon ∷ rest)) }
+
+-- the last word of one is a semicolon
+opened-reaches : (t : Opened) (ws : List Symbol) → Reaches (opened_words t ws) ws
+opened-reaches (last done final) ws =
+    let p = statement-reach final ws in
+    reaches-past (words_of done (statement_words final ws)) (statement_words final ws) ws (words-pass done (statement_words final ws)) (record { front = p.before; parts = p.parts })
+opened-reaches (inside done o k n body) ws =
+    let vs = mark OpenBrace ∷ opened_words body ws in
+    let r = opened-reaches body ws in
+    reaches-past (opened_words (inside done o k n body) ws) vs ws (passes-then (words-pass done (outside_words o (kind k ∷ name_words n vs))) (head-passes o k n vs))
+    (record { front = mark OpenBrace ∷ r.front; parts = ap (λ us. mark OpenBrace ∷ us) r.parts })
 
 -- ---- Faults.
 
@@ -95,7 +117,7 @@ fails-at stops.Memory read h f k = absurd cc
 fails-at (stops.Fault g) read h f k = let same : g ≡ f = cc in h ∙ ap (λ e. Err e) same
 
 stop-refused : {X : Type 0} (spells : List Symbol → X → Type 0) (within : X → Type 0) (text : List ℕ) (ws : List Word) (e : Stop) → HasWords text ws
-    → ((f : Fault) → e ≡ stops.Fault f → SpellsNone spells within ws × Stands 16 (symbols ws) f)
+    → ((f : Fault) → e ≡ stops.Fault f → SpellsNone spells within ws × Stands 16 limit (symbols ws) f)
     → (stop_fault text ws e ≡ out_of_memory) ⊎ RefusesBy spells within text (stop_fault text ws e).kind (stop_fault text ws e).offset
 stop-refused spells within text ws stops.Memory w h = inl refl
 stop-refused spells within text ws (stops.Fault (faults.Unexpected left)) w h =
@@ -116,8 +138,21 @@ stop-refused spells within text ws (stops.Fault (faults.TooDeep left)) w h =
     })
 stop-refused spells within text ws (stops.Fault (faults.TooLarge left)) w h =
     let p = h (faults.TooLarge left) refl in
-    let s = split ws p.1.before (mark Semicolon) p.1.after p.1.parts in
-    inr (record { ws = ws; has_words = w; none = p.0; stands_so = record { at = at-word ws p.1.before p.1.after (mark Semicolon) left p.1.left_is s; semicolon = s.word_is } })
+    let r = opened-reaches p.1.opened p.1.after in
+    let s = split ws r.front (mark Semicolon) p.1.after (p.1.words_are ∙ r.parts) in
+    inr (record {
+      ws = ws;
+      has_words = w;
+      none = p.0;
+      stands_so = record {
+        at = at-word ws r.front p.1.after (mark Semicolon) left p.1.left_is s;
+        semicolon = s.word_is;
+        opened = p.1.opened;
+        words_are = p.1.words_are ∙ ap (opened_words p.1.opened) (sym s.back_is);
+        fitted = p.1.fitted;
+        full = p.1.full;
+      };
+    })
 
 words-same : (ws vs : List Word) (q : Result (List Word) TextFault) → q ≡ Ok ws → q ≡ Ok vs → ws ≡ vs
 words-same ws vs q h k = cc

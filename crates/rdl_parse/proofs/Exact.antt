@@ -45,7 +45,7 @@ pub read-none : (ws : List Symbol) (f : Fault) → text_at 16 limit ws ≡ Err f
 read-none ws f e d at s w = no-fault (whole d at) f (text_at 16 limit ws) (read-only ws d at s w) e
 
 -- where the fault stands
-pub read-stands : (ws : List Symbol) (f : Fault) → text_at 16 limit ws ≡ Err f → Stands 16 ws f
+pub read-stands : (ws : List Symbol) (f : Fault) → text_at 16 limit ws ≡ Err f → Stands 16 limit ws f
 read-stands ws f e = outcome-err f e (text-reads 16 limit ws)
 
 -- ---- One statement.
@@ -62,7 +62,7 @@ no-item-fault xs f q h k = cc
 pub item-none : (ws : List Symbol) (f : Fault) → items_at 16 limit ws ≡ Err f → (xs : List Item) → SpellsItems ws xs → IsWithinLimits (items_of xs) → ⊥
 item-none ws f e xs s w = no-item-fault xs f (items_at 16 limit ws) (item-only ws xs s w) e
 
-pub item-stands : (ws : List Symbol) (f : Fault) → items_at 16 limit ws ≡ Err f → Stands 16 ws f
+pub item-stands : (ws : List Symbol) (f : Fault) → items_at 16 limit ws ≡ Err f → Stands 16 limit ws f
 item-stands ws f e = outcome-err f e (items-read 16 limit ws)
 
 -- ---- At most one description.

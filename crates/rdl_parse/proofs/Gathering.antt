@@ -187,11 +187,11 @@ shorter-of x n (Err g) l vs e h = absurd cc
 gathered-smaller : (o : Outside) (of : Of) (inner : List Spot) (k l : Option Finished) (ws vs : List Symbol) → gathered_at o of inner k ws ≡ keeps l vs → length vs ≤ length ws
 unfolding gathered_at
 gathered-smaller o of inner k l ws vs e =
-    shorter-of (λ s. gather k (single (Instance s of) (length ws) inner)) (length ws) (inst_at o ws) l vs e (λ i h. let p = outcome-ok i h (inst-reads 0 o ws) in omega (arith, ap length p.words_are, passes-length (inst-passes p.inst i.1)))
+    shorter-of (λ s. gather k (single (Instance s of) (length ws) inner)) (length ws) (inst_at o ws) l vs e (λ i h. let p = outcome-ok i h (inst-reads o ws) in omega (arith, ap length p.words_are, passes-length (inst-passes p.inst i.1)))
 
 pub gathers-smaller : (o : Outside) (of : Of) (inner : List Spot) (k l : Option Finished) (ws vs us : List Word) → mark_at Comma (symbols ws) ≡ Ok (symbols vs) → gathered_at o of inner k (symbols vs) ≡ keeps l (symbols us) → length us < length ws
 gathers-smaller o of inner k l ws vs us h e =
-    omega (arith, gathered-smaller o of inner k l (symbols vs) (symbols us) e, ap length (outcome-ok (symbols vs) h (mark-reads 0 Comma (symbols ws))), length_symbols ws, length_symbols vs, length_symbols us)
+    omega (arith, gathered-smaller o of inner k l (symbols vs) (symbols us) e, ap length (outcome-ok (symbols vs) h (mark-reads Comma (symbols ws))), length_symbols ws, length_symbols vs, length_symbols us)
 
 -- without a comma the statement ends
 pub gathers-ends : (room : Room) (o : Outside) (of : Of) (inner : List Spot) (k : Option Finished) (ws : List Symbol) (total : Result (Finished × List Symbol) Fault)

@@ -12,7 +12,9 @@ use Rattle.rdl_parse.specs.declared.fault.Fault.TheVariants.{Unexpected, End, To
 use Rattle.rdl_parse.specs.Symbol as symbol
 use Rattle.rdl_parse.specs.Symbol.{Symbol, kind, outside, name, number, mark}
 use Rattle.rdl_parse.specs.Spelling.{Brackets, sizes, range, Inst, Prop, free, reserved, Statement, define, define_with, anonymous, named, own, default, dynamic, Statements, none, one, sizes_words, brackets_words, part_words, inst_words, others_words, insts_words, outside_words, at_front, at_late, prop_symbol, value_symbol, word_symbol, equals_words, assigned_words, dots_words, statement_words, words}
-use Rattle.rdl_parse.specs.Stands.{opens, closes, Stands}
+use Rattle.rdl_parse.specs.declared.room.Room.{Room}
+use Rattle.rdl_tree.specs.declared.shell.Kind.{Kind}
+use Rattle.rdl_parse.specs.Stands.{opens, closes, name_words, inside, IsWord, IsTooDeep, IsTooLarge, Stands}
 use Rattle.rdl_parse.proofs.Outcome.{Outcome, weaker}
 
 -- ws are some words with their braces in pairs, and behind them rest
@@ -163,44 +165,107 @@ statement-passes st ws = passes-then (statement-reach st ws) (passes-word _ tt p
 pub statement-shorter : (st : Statement) (ws : List Symbol) → length ws < length (statement_words st ws)
 statement-shorter st ws = omega (arith, passes-length (statement-reach st ws))
 
+pub name-passes : (n : Option (List ℕ)) (ws : List Symbol) → Passes (name_words n ws) ws
+name-passes None ws = passes-none
+name-passes (Some n) ws = passes-word _ tt passes-none
+
+-- what stands before a brace
+pub head-passes : (o : Option Outside) (k : Kind) (n : Option (List ℕ)) (ws : List Symbol) → Passes (outside_words o (kind k ∷ name_words n ws)) ws
+head-passes o k n ws = passes-then (outside-passes o _) (passes-word _ tt (name-passes n ws))
+
 -- ---- Faults further on.
 
-pub shift : (levels : ℕ) (ws rest : List Symbol) → Passes ws rest → (f : Fault) → Stands levels rest f → Stands levels ws f
-shift levels ws rest p (Unexpected left) h = record {
+-- a fault at a word, or at the end
+abbrev pub Mild : List Symbol → Fault → Type 0
+Mild ws (Unexpected left) = IsWord ws left
+Mild ws End = Unit {0}
+Mild ws (TooDeep left) = ⊥
+Mild ws (TooLarge left) = ⊥
+
+word-along : (ws rest : List Symbol) (left : ℕ) → Passes ws rest → IsWord rest left → IsWord ws left
+word-along ws rest left p h = record {
   before = p.before ++ h.before;
   word = h.word;
   after = h.after;
   parts = p.parts ∙ ap (λ us. p.before ++ us) h.parts ∙ sym (append_assoc p.before h.before (h.word ∷ h.after));
   left_is = h.left_is;
 }
-shift levels ws rest p End h = tt
-shift levels ws rest p (TooDeep left) h = record {
+
+deep-along : (levels : ℕ) (ws rest : List Symbol) (left : ℕ) → Passes ws rest → IsTooDeep levels rest left → IsTooDeep levels ws left
+deep-along levels ws rest left p h = record {
   before = p.before ++ h.before;
   after = h.after;
   parts = p.parts ∙ ap (λ us. p.before ++ us) h.parts ∙ sym (append_assoc p.before h.before (mark OpenBrace ∷ h.after));
   left_is = h.left_is;
   opened = omega (arith, opens-append p.before h.before, closes-append p.before h.before, p.even, h.opened);
 }
-shift levels ws rest p (TooLarge left) h = record {
-  before = p.before ++ h.before;
-  after = h.after;
-  parts = p.parts ∙ ap (λ us. p.before ++ us) h.parts ∙ sym (append_assoc p.before h.before (mark Semicolon ∷ h.after));
-  left_is = h.left_is;
-}
+
+pub mild-along : (ws rest : List Symbol) → Passes ws rest → (f : Fault) → Mild rest f → Mild ws f
+mild-along ws rest p (Unexpected left) h = word-along ws rest left p h
+mild-along ws rest p End h = tt
+mild-along ws rest p (TooDeep left) h = h
+mild-along ws rest p (TooLarge left) h = h
+
+-- a mild fault of the words behind those that were passed
+pub past : {A : Type 0} {P : A → Type 0} {ws rest : List Symbol} {r : Result A Fault} → Passes ws rest → Outcome P (Mild rest) r → Outcome P (Mild ws) r
+past {A} {P} {ws} {rest} p h = weaker h (λ x q. q) (mild-along ws rest p)
+
+mild-stands : (levels : ℕ) (room : Room) (ws rest : List Symbol) → Passes ws rest → (f : Fault) → Mild rest f → Stands levels room ws f
+mild-stands levels room ws rest p (Unexpected left) h = word-along ws rest left p h
+mild-stands levels room ws rest p End h = tt
+mild-stands levels room ws rest p (TooDeep left) h = absurd h
+mild-stands levels room ws rest p (TooLarge left) h = absurd h
+
+pub mildly : {A : Type 0} {P : A → Type 0} {levels : ℕ} {room : Room} {ws rest : List Symbol} {r : Result A Fault} → Passes ws rest → Outcome P (Mild rest) r → Outcome P (Stands levels room ws) r
+mildly {A} {P} {levels} {room} {ws} {rest} p h = weaker h (λ x q. q) (mild-stands levels room ws rest p)
+
+-- a fault behind words that were passed, where one of size is one of them too
+pub along : (levels : ℕ) (room rest_room : Room) (ws rest : List Symbol) → Passes ws rest → ((left : ℕ) → IsTooLarge rest_room rest left → IsTooLarge room ws left) → (f : Fault) → Stands levels rest_room rest f → Stands levels room ws f
+along levels room rest_room ws rest p k (Unexpected left) h = word-along ws rest left p h
+along levels room rest_room ws rest p k End h = tt
+along levels room rest_room ws rest p k (TooDeep left) h = deep-along levels ws rest left p h
+along levels room rest_room ws rest p k (TooLarge left) h = k left h
+
+-- ---- A fault in a body that begins with a brace.
+
+abbrev pub InBody : ℕ → Room → List Symbol → Fault → Type 0
+InBody levels room ws (Unexpected left) = IsWord ws left
+InBody levels room ws End = Unit {0}
+InBody levels room ws (TooDeep left) = IsTooDeep levels ws left
+InBody levels room ws (TooLarge left) = (rest : List Symbol) × (ws ≡ mark OpenBrace ∷ rest) × IsTooLarge room rest left
 
 -- a brace deeper
-pub deeper : (levels : ℕ) (ws rest : List Symbol) → ws ≡ mark OpenBrace ∷ rest → (f : Fault) → Stands levels rest f → Stands (suc levels) ws f
-deeper levels ws rest e (Unexpected left) h = record { before = mark OpenBrace ∷ h.before; word = h.word; after = h.after; parts = e ∙ ap (λ us. mark OpenBrace ∷ us) h.parts; left_is = h.left_is }
-deeper levels ws rest e End h = tt
-deeper levels ws rest e (TooDeep left) h = record {
+pub deeper : (levels : ℕ) (room : Room) (ws rest : List Symbol) → ws ≡ mark OpenBrace ∷ rest → (f : Fault) → Stands levels room rest f → InBody (suc levels) room ws f
+deeper levels room ws rest e (Unexpected left) h = record { before = mark OpenBrace ∷ h.before; word = h.word; after = h.after; parts = e ∙ ap (λ us. mark OpenBrace ∷ us) h.parts; left_is = h.left_is }
+deeper levels room ws rest e End h = tt
+deeper levels room ws rest e (TooDeep left) h = record {
   before = mark OpenBrace ∷ h.before;
   after = h.after;
   parts = e ∙ ap (λ us. mark OpenBrace ∷ us) h.parts;
   left_is = h.left_is;
   opened = omega (arith, h.opened);
 }
-deeper levels ws rest e (TooLarge left) h = record { before = mark OpenBrace ∷ h.before; after = h.after; parts = e ∙ ap (λ us. mark OpenBrace ∷ us) h.parts; left_is = h.left_is }
+deeper levels room ws rest e (TooLarge left) h = (rest, e, h)
 
--- a fault of the words behind those that were passed
-pub past : {A : Type 0} {P : A → Type 0} {levels : ℕ} {ws rest : List Symbol} {r : Result A Fault} → Passes ws rest → Outcome P (Stands levels rest) r → Outcome P (Stands levels ws) r
-past {A} {P} {levels} {ws} {rest} p h = weaker h (λ x q. q) (shift levels ws rest p)
+mild-in_body : (levels : ℕ) (room : Room) (ws rest : List Symbol) → Passes ws rest → (f : Fault) → Mild rest f → InBody levels room ws f
+mild-in_body levels room ws rest p (Unexpected left) h = word-along ws rest left p h
+mild-in_body levels room ws rest p End h = tt
+mild-in_body levels room ws rest p (TooDeep left) h = absurd h
+mild-in_body levels room ws rest p (TooLarge left) h = absurd h
+
+pub mildly-in_body : {A : Type 0} {P : A → Type 0} {levels : ℕ} {room : Room} {ws rest : List Symbol} {r : Result A Fault} → Passes ws rest → Outcome P (Mild rest) r → Outcome P (InBody levels room ws) r
+mildly-in_body {A} {P} {levels} {room} {ws} {rest} p h = weaker h (λ x q. q) (mild-in_body levels room ws rest p)
+
+-- the statement with this body is a body further out
+pub from-body : (levels : ℕ) (room : Room) (o : Option Outside) (k : Kind) (n : Option (List ℕ)) (ws : List Symbol) (f : Fault) → InBody levels room ws f → Stands levels room (outside_words o (kind k ∷ name_words n ws)) f
+from-body levels room o k n ws (Unexpected left) h = word-along _ ws left (head-passes o k n ws) h
+from-body levels room o k n ws End h = tt
+from-body levels room o k n ws (TooDeep left) h = deep-along levels _ ws left (head-passes o k n ws) h
+from-body levels room o k n ws (TooLarge left) h = record {
+  opened = inside none o k n h.2.opened;
+  after = h.2.after;
+  words_are = ap (λ us. outside_words o (kind k ∷ name_words n us)) (h.1 ∙ ap (λ us. mark OpenBrace ∷ us) h.2.words_are);
+  left_is = h.2.left_is;
+  fitted = h.2.fitted;
+  full = h.2.full;
+}

@@ -43,7 +43,7 @@ pub next-shortens : (o : Outside) (of : Of) (inner : List Spot) → Shortens (be
 unfolding begins
 next-shortens o of inner = record {
   ends = refl;
-  shorter = λ xs ws x e. let p = outcome-ok x e (next-reads 0 o of inner xs ws) in omega (arith, ap length p.words_are, passes-length (inst-passes p.inst x.1));
+  shorter = λ xs ws x e. let p = outcome-ok x e (next-reads o of inner xs ws) in omega (arith, ap length p.words_are, passes-length (inst-passes p.inst x.1));
 }
 
 next-again : (o : Outside) (of : Of) (inner : List Spot) (found : Finds) (i : Inst) (ws : List Symbol) → Behind ws → next_at o of inner found (mark Comma ∷ inst_words i ws) ≡ Ok (joined found (one_finds o of inner i ws), ws)
@@ -203,7 +203,7 @@ pub one-shortens : (levels : ℕ) → Shortens goes_on (following_one_at (body_a
 unfolding goes_on
 one-shortens levels = record {
   ends = refl;
-  shorter = λ s ws x e. let p = (outcome-ok x e (one-follows levels (body_at levels) (body-reads levels) s ws)).1 in omega (arith, ap length p.words_are, statement-shorter p.statement x.1);
+  shorter = λ s ws x e. let p = (outcome-ok x e (one-follows levels (body_at levels) (body-reads levels) s ws)).1 in omega (arith, ap length p.form.words_are, statement-shorter p.form.statement x.1);
 }
 
 one-again : (levels : ℕ) (s : Finished) (ws vs : List Symbol) (x : Finished) → statement_at (body_at levels) s.1 ws ≡ Ok (x, vs) → following_one_at (body_at levels) s ws ≡ Ok ((joined s.0 x.0, x.1), vs)

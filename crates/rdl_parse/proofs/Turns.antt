@@ -9,12 +9,12 @@ abbrev pub Step : Type 0 → Type 0
 Step S = S → List Symbol → Result (S × List Symbol) Fault
 
 -- what a run of turns from here does, and where its faults stand
-pub record Turning {S : Type 0} (R : S → List Symbol → S → List Symbol → Type 0) (F : List Symbol → Fault → Type 0) (step : Step S) : Type 0 where
+pub record Turning {S : Type 0} (R : S → List Symbol → S → List Symbol → Type 0) (F : S → List Symbol → Fault → Type 0) (step : Step S) : Type 0 where
   pub none : (s : S) (ws : List Symbol) → R s ws s ws
-  pub one : (s : S) (ws : List Symbol) → Outcome (λ x. ((z : S × List Symbol) → R x.0 x.1 z.0 z.1 → R s ws z.0 z.1) × ((e : Fault) → F x.1 e → F ws e)) (F ws) (step s ws)
+  pub one : (s : S) (ws : List Symbol) → Outcome (λ x. ((z : S × List Symbol) → R x.0 x.1 z.0 z.1 → R s ws z.0 z.1) × ((e : Fault) → F x.0 x.1 e → F s ws e)) (F s ws) (step s ws)
 
-turns-hold : {S : Type 0} (R : S → List Symbol → S → List Symbol → Type 0) (F : List Symbol → Fault → Type 0) (on : List Symbol → Bool) (step : Step S) → Turning R F step
-    → (n : ℕ) (s : S) (ws : List Symbol) → Outcome (λ z. R s ws z.0 z.1) (F ws) (turns on step n s ws)
+turns-hold : {S : Type 0} (R : S → List Symbol → S → List Symbol → Type 0) (F : S → List Symbol → Fault → Type 0) (on : List Symbol → Bool) (step : Step S) → Turning R F step
+    → (n : ℕ) (s : S) (ws : List Symbol) → Outcome (λ z. R s ws z.0 z.1) (F s ws) (turns on step n s ws)
 unfolding turns
 turns-hold R F on step h zero s ws = gives _ (h.none s ws)
 turns-hold R F on step h (suc n) s ws =
@@ -22,8 +22,8 @@ turns-hold R F on step h (suc n) s ws =
     (λ _. then (h.one s ws) (λ x p. weaker (turns-hold R F on step h n x.0 x.1) p.0 p.1))
     (λ _. gives _ (h.none s ws))
 
-pub repeated-holds : {S : Type 0} {R : S → List Symbol → S → List Symbol → Type 0} {F : List Symbol → Fault → Type 0} {step : Step S} (on : List Symbol → Bool) → Turning R F step
-    → (s : S) (ws : List Symbol) → Outcome (λ z. R s ws z.0 z.1) (F ws) (repeated on step s ws)
+pub repeated-holds : {S : Type 0} {R : S → List Symbol → S → List Symbol → Type 0} {F : S → List Symbol → Fault → Type 0} {step : Step S} (on : List Symbol → Bool) → Turning R F step
+    → (s : S) (ws : List Symbol) → Outcome (λ z. R s ws z.0 z.1) (F s ws) (repeated on step s ws)
 unfolding repeated
 repeated-holds on h s ws = turns-hold _ _ on _ h (length ws) s ws
 

@@ -68,7 +68,7 @@ pub size-shortens : Shortens (begins OpenBracket) size_at
 unfolding begins
 size-shortens = record {
   ends = refl;
-  shorter = λ ns ws x e. let p = outcome-ok x e (size-reads 0 ns ws) in omega (arith, ap length p.2);
+  shorter = λ ns ws x e. let p = outcome-ok x e (size-reads ns ws) in omega (arith, ap length p.2);
 }
 
 size-again : (ns : List ℕ) (n : ℕ) (ws : List Symbol) → size_at ns (sizes_words (n ∷ []) ws) ≡ Ok (ns ++ n ∷ [], ws)
@@ -136,7 +136,7 @@ pub dot-shortens : Shortens (begins Dot) dot_at
 unfolding begins
 dot-shortens = record {
   ends = refl;
-  shorter = λ t ws x e. let p = outcome-ok x e (dot-reads 0 t ws) in omega (arith, ap length p.2);
+  shorter = λ t ws x e. let p = outcome-ok x e (dot-reads t ws) in omega (arith, ap length p.2);
 }
 
 dot-again : (t : List (List ℕ)) (n : List ℕ) (ws : List Symbol) → dot_at t (dots_words (n ∷ []) ws) ≡ Ok (t ++ n ∷ [], ws)

@@ -22,54 +22,53 @@ use Rattle.rdl_parse.specs.Symbol as symbol
 use Rattle.rdl_parse.specs.Symbol.{Symbol, kind, outside, name, number, mark, property_text}
 use Rattle.rdl_parse.specs.Reading.{◌>>=◌, fault_at, taken, by, is_mark, begins, mark_at, name_by, number_by, prop_by, name_value, property_value, word_value, value_by, name_at, number_at, prop_at, repeated, turns, size_at, sizes_at, Bracketed, bracketed_at, brackets_at, part_at, shell, inst_at, value_at, dot_at, dots_at}
 use Rattle.rdl_parse.specs.Spelling.{Brackets, sizes, range, Inst, Prop, free, reserved, sizes_words, brackets_words, part_words, inst_words, prop_symbol, value_symbol, word_symbol, equals_words, dots_words, dims_of, range_of, shell_of, prop_text, value_of}
-use Rattle.rdl_parse.specs.Stands.{Stands}
 use Rattle.rdl_parse.proofs.Outcome.{Outcome, then, gives, stops, but, either}
 use Rattle.rdl_parse.proofs.Turns.{Turning, repeated-holds}
-use Rattle.rdl_parse.proofs.Passing.{Plain, Passes, passes-none, passes-word, passes-from, passes-then, sizes-pass, brackets-pass, part-passes, equals-pass, dots-pass, shift, past}
+use Rattle.rdl_parse.proofs.Passing.{Plain, Passes, passes-none, passes-word, passes-from, passes-then, sizes-pass, brackets-pass, part-passes, equals-pass, dots-pass, Mild, mild-along, past}
 
-wrong-stands : (levels : ℕ) (ws : List Symbol) → Stands levels ws (fault_at ws)
-wrong-stands levels [] = tt
-wrong-stands levels (w ∷ ws) = record { before = []; word = w; after = ws; parts = refl; left_is = refl }
+wrong-mild : (ws : List Symbol) → Mild ws (fault_at ws)
+wrong-mild [] = tt
+wrong-mild (w ∷ ws) = record { before = []; word = w; after = ws; parts = refl; left_is = refl }
 
-pub refuses : {A : Type 0} {P : A → Type 0} (levels : ℕ) (ws : List Symbol) → Outcome P (Stands levels ws) (Err (fault_at ws))
-refuses levels ws = stops _ (wrong-stands levels ws)
+pub refuses : {A : Type 0} {P : A → Type 0} (ws : List Symbol) → Outcome P (Mild ws) (Err (fault_at ws))
+refuses ws = stops _ (wrong-mild ws)
 
 -- ---- One word.
 
-taken-reads : {A : Type 0} (levels : ℕ) (o : Option A) (rest ws : List Symbol) → Outcome (λ x. (o ≡ Some x.0) × (rest ≡ x.1)) (Stands levels ws) (taken o rest ws)
-taken-reads levels (Some x) rest ws = gives _ (refl, refl)
-taken-reads levels None rest ws = refuses levels ws
+taken-reads : {A : Type 0} (o : Option A) (rest ws : List Symbol) → Outcome (λ x. (o ≡ Some x.0) × (rest ≡ x.1)) (Mild ws) (taken o rest ws)
+taken-reads (Some x) rest ws = gives _ (refl, refl)
+taken-reads None rest ws = refuses ws
 
-by-reads : {A : Type 0} (levels : ℕ) (p : Symbol → Option A) (ws : List Symbol) → Outcome (λ x. (w : Symbol) × (p w ≡ Some x.0) × (ws ≡ w ∷ x.1)) (Stands levels ws) (by p ws)
+by-reads : {A : Type 0} (p : Symbol → Option A) (ws : List Symbol) → Outcome (λ x. (w : Symbol) × (p w ≡ Some x.0) × (ws ≡ w ∷ x.1)) (Mild ws) (by p ws)
 unfolding by
-by-reads levels p [] = refuses levels []
-by-reads levels p (w ∷ ws) = but (taken-reads levels (p w) ws (w ∷ ws)) (λ x q. (w, q.0, ap (λ vs. w ∷ vs) q.1))
+by-reads p [] = refuses []
+by-reads p (w ∷ ws) = but (taken-reads (p w) ws (w ∷ ws)) (λ x q. (w, q.0, ap (λ vs. w ∷ vs) q.1))
 
 is-mark : (m : Mark) (w : Symbol) → is_mark m w ≡ true → w ≡ mark m
 is-mark m (mark n) e = ap mark (same_true the_type (search rules) n m e)
 is-mark m w e = absurd cc
 
-mark-taken : (levels : ℕ) (m : Mark) (w : Symbol) (ws : List Symbol) → Outcome (λ x. w ∷ ws ≡ mark m ∷ x) (Stands levels (w ∷ ws)) (cond (is_mark m w) (Ok ws) (Err (fault_at (w ∷ ws))))
-mark-taken levels m w ws = either (λ h. gives _ (ap (λ v. v ∷ ws) (is-mark m w h))) (λ _. refuses levels (w ∷ ws))
+mark-taken : (m : Mark) (w : Symbol) (ws : List Symbol) → Outcome (λ x. w ∷ ws ≡ mark m ∷ x) (Mild (w ∷ ws)) (cond (is_mark m w) (Ok ws) (Err (fault_at (w ∷ ws))))
+mark-taken m w ws = either (λ h. gives _ (ap (λ v. v ∷ ws) (is-mark m w h))) (λ _. refuses (w ∷ ws))
 
-pub mark-reads : (levels : ℕ) (m : Mark) (ws : List Symbol) → Outcome (λ x. ws ≡ mark m ∷ x) (Stands levels ws) (mark_at m ws)
+pub mark-reads : (m : Mark) (ws : List Symbol) → Outcome (λ x. ws ≡ mark m ∷ x) (Mild ws) (mark_at m ws)
 unfolding mark_at
-mark-reads levels m [] = refuses levels []
-mark-reads levels m (w ∷ ws) = mark-taken levels m w ws
+mark-reads m [] = refuses []
+mark-reads m (w ∷ ws) = mark-taken m w ws
 
 name-by : (w : Symbol) (n : List ℕ) → name_by w ≡ Some n → w ≡ name n
 name-by (name m) n e = let same : m ≡ n = cc in ap name same
 name-by w n e = absurd cc
 
-pub name-reads : (levels : ℕ) (ws : List Symbol) → Outcome (λ x. ws ≡ name x.0 ∷ x.1) (Stands levels ws) (name_at ws)
-name-reads levels ws = but (by-reads levels name_by ws) (λ x p. p.2 ∙ ap (λ w. w ∷ x.1) (name-by p.0 x.0 p.1))
+pub name-reads : (ws : List Symbol) → Outcome (λ x. ws ≡ name x.0 ∷ x.1) (Mild ws) (name_at ws)
+name-reads ws = but (by-reads name_by ws) (λ x p. p.2 ∙ ap (λ w. w ∷ x.1) (name-by p.0 x.0 p.1))
 
 number-by : (w : Symbol) (n : ℕ) → number_by w ≡ Some n → w ≡ number n
 number-by (number m) n e = let same : m ≡ n = cc in ap number same
 number-by w n e = absurd cc
 
-pub number-reads : (levels : ℕ) (ws : List Symbol) → Outcome (λ x. ws ≡ number x.0 ∷ x.1) (Stands levels ws) (number_at ws)
-number-reads levels ws = but (by-reads levels number_by ws) (λ x p. p.2 ∙ ap (λ w. w ∷ x.1) (number-by p.0 x.0 p.1))
+pub number-reads : (ws : List Symbol) → Outcome (λ x. ws ≡ number x.0 ∷ x.1) (Mild ws) (number_at ws)
+number-reads ws = but (by-reads number_by ws) (λ x p. p.2 ∙ ap (λ w. w ∷ x.1) (number-by p.0 x.0 p.1))
 
 prop-by : (w : Symbol) (n : List ℕ) → prop_by w ≡ Some n → (p : Prop) × (w ≡ prop_symbol p) × (n ≡ prop_text p)
 prop-by (name m) n e = let same : n ≡ m = cc in (free m, refl, same)
@@ -81,9 +80,9 @@ pub record IsProp_at (ws : List Symbol) (n : List ℕ) (rest : List Symbol) : Ty
   pub text_is : n ≡ prop_text prop
   pub words_are : ws ≡ prop_symbol prop ∷ rest
 
-pub prop-reads : (levels : ℕ) (ws : List Symbol) → Outcome (λ x. IsProp_at ws x.0 x.1) (Stands levels ws) (prop_at ws)
-prop-reads levels ws =
-    but (by-reads levels prop_by ws)
+pub prop-reads : (ws : List Symbol) → Outcome (λ x. IsProp_at ws x.0 x.1) (Mild ws) (prop_at ws)
+prop-reads ws =
+    but (by-reads prop_by ws)
     (λ x p. let q = prop-by p.0 x.0 p.1 in record { prop = q.0; text_is = q.2; words_are = p.2 ∙ ap (λ w. w ∷ x.1) q.1 })
 
 -- ---- Values.
@@ -127,25 +126,25 @@ pub record IsValue_at (ws : List Symbol) (v : Value) (rest : List Symbol) : Type
   pub value_is : v ≡ value_of value
   pub words_are : ws ≡ equals_words value rest
 
-pub value-reads : (levels : ℕ) (ws : List Symbol) → Outcome (λ x. IsValue_at ws x.0 x.1) (Stands levels ws) (value_at ws)
+pub value-reads : (ws : List Symbol) → Outcome (λ x. IsValue_at ws x.0 x.1) (Mild ws) (value_at ws)
 unfolding value_at
-value-reads levels ws =
+value-reads ws =
     either {b = begins Equals ws}
-    (λ _. then (mark-reads levels Equals ws)
+    (λ _. then (mark-reads Equals ws)
     (λ a p. past (passes-from p (passes-word _ tt passes-none))
-    (but (by-reads levels value_by a)
+    (but (by-reads value_by a)
     (λ x q. record { value = Some x.0; value_is = refl; words_are = p ∙ ap (λ us. mark Equals ∷ us) (q.2 ∙ ap (λ w. w ∷ x.1) (value-by q.0 x.0 q.1)) }))))
     (λ _. gives _ (record { value = None; value_is = refl; words_are = refl }))
 
 -- ---- Parts of an INST.
 
-pub part-reads : (levels : ℕ) (m : Mark) (ws : List Symbol) → Plain (mark m) → Outcome (λ x. ws ≡ part_words m x.0 x.1) (Stands levels ws) (part_at m ws)
+pub part-reads : (m : Mark) (ws : List Symbol) → Plain (mark m) → Outcome (λ x. ws ≡ part_words m x.0 x.1) (Mild ws) (part_at m ws)
 unfolding part_at
-part-reads levels m ws h =
+part-reads m ws h =
     either {b = begins m ws}
-    (λ _. then (mark-reads levels m ws)
+    (λ _. then (mark-reads m ws)
     (λ a p. past (passes-from p (passes-word _ h passes-none))
-    (then (number-reads levels a) (λ n q. gives _ (p ∙ ap (λ us. mark m ∷ us) q)))))
+    (then (number-reads a) (λ n q. gives _ (p ∙ ap (λ us. mark m ∷ us) q)))))
     (λ _. gives _ refl)
 
 record AreSizes (ns : List ℕ) (ws : List Symbol) (ms : List ℕ) (rest : List Symbol) : Type 0 where
@@ -153,23 +152,23 @@ record AreSizes (ns : List ℕ) (ws : List Symbol) (ms : List ℕ) (rest : List 
   sizes_are : ms ≡ ns ++ more
   words_are : ws ≡ sizes_words more rest
 
-pub size-reads : (levels : ℕ) (ns : List ℕ) (ws : List Symbol) → Outcome (λ x. (n : ℕ) × (x.0 ≡ ns ++ n ∷ []) × (ws ≡ sizes_words (n ∷ []) x.1)) (Stands levels ws) (size_at ns ws)
+pub size-reads : (ns : List ℕ) (ws : List Symbol) → Outcome (λ x. (n : ℕ) × (x.0 ≡ ns ++ n ∷ []) × (ws ≡ sizes_words (n ∷ []) x.1)) (Mild ws) (size_at ns ws)
 unfolding size_at
-size-reads levels ns ws =
-    then (mark-reads levels OpenBracket ws)
+size-reads ns ws =
+    then (mark-reads OpenBracket ws)
     (λ a p. past (passes-from p (passes-word _ tt passes-none))
-    (then (number-reads levels a)
+    (then (number-reads a)
     (λ n q. past (passes-from q (passes-word _ tt passes-none))
-    (but (then (mark-reads levels CloseBracket n.1) (λ b r. gives {P = λ x. (x.0 ≡ ns ++ n.0 ∷ []) × (n.1 ≡ mark CloseBracket ∷ x.1)} (ns ++ n.0 ∷ [], b) (refl, r)))
+    (but (then (mark-reads CloseBracket n.1) (λ b r. gives {P = λ x. (x.0 ≡ ns ++ n.0 ∷ []) × (n.1 ≡ mark CloseBracket ∷ x.1)} (ns ++ n.0 ∷ [], b) (refl, r)))
     (λ x r. (n.0, r.0, p ∙ ap (λ us. mark OpenBracket ∷ us) (q ∙ ap (λ us. number n.0 ∷ us) r.1)))))))
 
-size-turning : (levels : ℕ) → Turning AreSizes (Stands levels) size_at
-size-turning levels = record {
+size-turning : Turning AreSizes (λ s ws. Mild ws) size_at
+size-turning = record {
   none = λ ns ws. record { more = []; sizes_are = sym (append-nil ns); words_are = refl };
-  one = λ ns ws. but (size-reads levels ns ws)
+  one = λ ns ws. but (size-reads ns ws)
       (λ x p. (
         (λ z q. record { more = p.0 ∷ q.more; sizes_are = q.sizes_are ∙ ap (λ ks. ks ++ q.more) p.1 ∙ append_assoc ns (p.0 ∷ []) q.more; words_are = p.2 ∙ ap (sizes_words (p.0 ∷ [])) q.words_are }),
-        shift levels ws x.1 (passes-from p.2 (sizes-pass (p.0 ∷ []) x.1)),
+        mild-along ws x.1 (passes-from p.2 (sizes-pass (p.0 ∷ []) x.1)),
       ));
 }
 
@@ -181,30 +180,30 @@ pub record IsBrackets (ws : List Symbol) (d : Bracketed) (rest : List Symbol) : 
   pub dims_are : d ≡ bracketed brackets
   pub words_are : ws ≡ brackets_words brackets rest
 
-bracketed-reads : (levels : ℕ) (n : ℕ) (ws : List Symbol) → Outcome (λ x. IsBrackets (mark OpenBracket ∷ number n ∷ ws) x.0 x.1) (Stands levels ws) (bracketed_at n ws)
+bracketed-reads : (n : ℕ) (ws : List Symbol) → Outcome (λ x. IsBrackets (mark OpenBracket ∷ number n ∷ ws) x.0 x.1) (Mild ws) (bracketed_at n ws)
 unfolding bracketed_at
-bracketed-reads levels n ws =
+bracketed-reads n ws =
     either {b = begins Colon ws}
-    (λ _. then (mark-reads levels Colon ws)
+    (λ _. then (mark-reads Colon ws)
     (λ a p. past (passes-from p (passes-word _ tt passes-none))
-    (then (number-reads levels a)
+    (then (number-reads a)
     (λ l q. past (passes-from q (passes-word _ tt passes-none))
-    (then (mark-reads levels CloseBracket l.1)
+    (then (mark-reads CloseBracket l.1)
     (λ b r. gives _ (record { brackets = range n l.0; dims_are = refl; words_are = ap (λ us. mark OpenBracket ∷ number n ∷ us) (p ∙ ap (λ us. mark Colon ∷ us) (q ∙ ap (λ us. number l.0 ∷ us) r)) })))))))
-    (λ _. then (mark-reads levels CloseBracket ws)
+    (λ _. then (mark-reads CloseBracket ws)
     (λ a p. past (passes-from p (passes-word _ tt passes-none))
-    (then (repeated-holds (begins OpenBracket) (size-turning levels) (n ∷ []) a)
+    (then (repeated-holds (begins OpenBracket) size-turning (n ∷ []) a)
     (λ ns q. gives _ (record { brackets = sizes (n ∷ q.more); dims_are = ap (λ ms. (ms, None)) q.sizes_are; words_are = ap (λ us. mark OpenBracket ∷ number n ∷ us) (p ∙ ap (λ us. mark CloseBracket ∷ us) q.words_are) })))))
 
-pub brackets-reads : (levels : ℕ) (ws : List Symbol) → Outcome (λ x. IsBrackets ws x.0 x.1) (Stands levels ws) (brackets_at ws)
+pub brackets-reads : (ws : List Symbol) → Outcome (λ x. IsBrackets ws x.0 x.1) (Mild ws) (brackets_at ws)
 unfolding brackets_at
-brackets-reads levels ws =
+brackets-reads ws =
     either {b = begins OpenBracket ws}
-    (λ _. then (mark-reads levels OpenBracket ws)
+    (λ _. then (mark-reads OpenBracket ws)
     (λ a p. past (passes-from p (passes-word _ tt passes-none))
-    (then (number-reads levels a)
+    (then (number-reads a)
     (λ n q. past (passes-from q (passes-word _ tt passes-none))
-    (but (bracketed-reads levels n.0 n.1)
+    (but (bracketed-reads n.0 n.1)
     (λ x r. record { brackets = r.brackets; dims_are = r.dims_are; words_are = p ∙ ap (λ us. mark OpenBracket ∷ us) q ∙ r.words_are }))))))
     (λ _. gives _ (record { brackets = sizes []; dims_are = refl; words_are = refl }))
 
@@ -213,20 +212,20 @@ pub record IsInst (o : Outside) (ws : List Symbol) (s : Shell) (rest : List Symb
   pub shell_is : s ≡ shell_of o inst
   pub words_are : ws ≡ inst_words inst rest
 
-pub inst-reads : (levels : ℕ) (o : Outside) (ws : List Symbol) → Outcome (λ x. IsInst o ws x.0 x.1) (Stands levels ws) (inst_at o ws)
+pub inst-reads : (o : Outside) (ws : List Symbol) → Outcome (λ x. IsInst o ws x.0 x.1) (Mild ws) (inst_at o ws)
 unfolding inst_at
-inst-reads levels o ws =
-    then (name-reads levels ws)
+inst-reads o ws =
+    then (name-reads ws)
     (λ n p. past (passes-from p (passes-word _ tt passes-none))
-    (then (brackets-reads levels n.1)
+    (then (brackets-reads n.1)
     (λ b q. past (passes-from q.words_are (brackets-pass q.brackets b.1))
-    (then (part-reads levels Equals b.1 tt)
+    (then (part-reads Equals b.1 tt)
     (λ r e. past (passes-from e (part-passes Equals r.0 r.1 tt))
-    (then (part-reads levels At r.1 tt)
+    (then (part-reads At r.1 tt)
     (λ a f. past (passes-from f (part-passes At a.0 a.1 tt))
-    (then (part-reads levels PlusEquals a.1 tt)
+    (then (part-reads PlusEquals a.1 tt)
     (λ s g. past (passes-from g (part-passes PlusEquals s.0 s.1 tt))
-    (then (part-reads levels PercentEquals s.1 tt)
+    (then (part-reads PercentEquals s.1 tt)
     (λ l h. gives _ (record {
       inst = record { name = n.0; brackets = q.brackets; reset = r.0; address = a.0; stride = s.0; align = l.0 };
       shell_is = ap (λ ds. shell o n.0 ds r.0 a.0 s.0 l.0) q.dims_are;
@@ -240,22 +239,22 @@ pub record AreDots (t : List (List ℕ)) (ws : List Symbol) (u : List (List ℕ)
   pub names_are : u ≡ t ++ others
   pub words_are : ws ≡ dots_words others rest
 
-pub dot-reads : (levels : ℕ) (t : List (List ℕ)) (ws : List Symbol) → Outcome (λ x. (n : List ℕ) × (x.0 ≡ t ++ n ∷ []) × (ws ≡ dots_words (n ∷ []) x.1)) (Stands levels ws) (dot_at t ws)
+pub dot-reads : (t : List (List ℕ)) (ws : List Symbol) → Outcome (λ x. (n : List ℕ) × (x.0 ≡ t ++ n ∷ []) × (ws ≡ dots_words (n ∷ []) x.1)) (Mild ws) (dot_at t ws)
 unfolding dot_at
-dot-reads levels t ws =
-    then (mark-reads levels Dot ws)
+dot-reads t ws =
+    then (mark-reads Dot ws)
     (λ a p. past (passes-from p (passes-word _ tt passes-none))
-    (then (name-reads levels a) (λ n q. gives _ (n.0, refl, p ∙ ap (λ us. mark Dot ∷ us) q))))
+    (then (name-reads a) (λ n q. gives _ (n.0, refl, p ∙ ap (λ us. mark Dot ∷ us) q))))
 
-dot-turning : (levels : ℕ) → Turning AreDots (Stands levels) dot_at
-dot-turning levels = record {
+dot-turning : Turning AreDots (λ s ws. Mild ws) dot_at
+dot-turning = record {
   none = λ t ws. record { others = []; names_are = sym (append-nil t); words_are = refl };
-  one = λ t ws. but (dot-reads levels t ws)
+  one = λ t ws. but (dot-reads t ws)
       (λ x p. (
         (λ z q. record { others = p.0 ∷ q.others; names_are = q.names_are ∙ ap (λ ks. ks ++ q.others) p.1 ∙ append_assoc t (p.0 ∷ []) q.others; words_are = p.2 ∙ ap (dots_words (p.0 ∷ [])) q.words_are }),
-        shift levels ws x.1 (passes-from p.2 (dots-pass (p.0 ∷ []) x.1)),
+        mild-along ws x.1 (passes-from p.2 (dots-pass (p.0 ∷ []) x.1)),
       ));
 }
 
-pub dots-read : (levels : ℕ) (t : List (List ℕ)) (ws : List Symbol) → Outcome (λ x. AreDots t ws x.0 x.1) (Stands levels ws) (dots_at t ws)
-dots-read levels t ws = repeated-holds (begins Dot) (dot-turning levels) t ws
+pub dots-read : (t : List (List ℕ)) (ws : List Symbol) → Outcome (λ x. AreDots t ws x.0 x.1) (Mild ws) (dots_at t ws)
+dots-read t ws = repeated-holds (begins Dot) dot-turning t ws

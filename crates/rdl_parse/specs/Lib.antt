@@ -8,3 +8,4 @@ pub mod Stands
 pub mod Places
 pub mod Faults
 pub mod Parsing
+pub mod FirstFault

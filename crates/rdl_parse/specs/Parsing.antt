@@ -17,7 +17,8 @@ use Rattle.rdl_text.specs.declared.fault.FaultKind.{FaultKind}
 use Rattle.rdl_parse.specs.Faults.{max_text}
 use Rattle.rdl_parse.specs.Places.{Located, located}
 use Rattle.rdl_parse.specs.Spelling.{Spells, SpellsItems}
-use Rattle.rdl_parse.specs.Stands.{opens, closes}
+use Rattle.rdl_parse.specs.Reading.{limit}
+use Rattle.rdl_parse.specs.Stands.{opens, closes, Opened, opened_words, before_last, with_last, HasRoom}
 use Rattle.rdl_parse.specs.Symbol.{Symbol, symbol, symbols, mark}
 
 -- the text isn't too long, and these are its words
@@ -59,10 +60,14 @@ pub record IsAtDeepBrace (ws : List Word) (offset : ℕ) : Type 0 where
   pub brace : symbol at.word ≡ mark OpenBrace
   pub opened : opens (symbols at.before) ≡ closes (symbols at.before) + 16
 
--- at a semicolon
-pub record IsAtSemicolon (ws : List Word) (offset : ℕ) : Type 0 where
+-- at the semicolon of the first finished statement for which there is no room: with its items the limits are passed, without them they aren't
+pub record IsAtLargeStatement (ws : List Word) (offset : ℕ) : Type 0 where
   pub at : IsAtWord ws offset
   pub semicolon : symbol at.word ≡ mark Semicolon
+  pub opened : Opened
+  pub words_are : symbols ws ≡ opened_words opened (symbols at.after)
+  pub fitted : HasRoom limit (before_last opened)
+  pub full : HasRoom limit (with_last opened) → ⊥
 
 -- the text has words that spell nothing within the limits, and the fault stands so
 pub record HasStatementFault {X : Type 0} (spells : List Symbol → X → Type 0) (within : X → Type 0) (stands : List Word → ℕ → Type 0) (text : List ℕ) (offset : ℕ) : Type 0 where
@@ -83,7 +88,7 @@ RefusesBy spells within text (Words kind) offset = HasWordFault text kind offset
 RefusesBy spells within text UnexpectedWord offset = HasStatementFault spells within IsAtWord text offset
 RefusesBy spells within text UnexpectedEnd offset = HasStatementFault spells within (λ ws at. at ≡ length text) text offset
 RefusesBy spells within text TooDeep offset = HasStatementFault spells within IsAtDeepBrace text offset
-RefusesBy spells within text TooLarge offset = HasStatementFault spells within IsAtSemicolon text offset
+RefusesBy spells within text TooLarge offset = HasStatementFault spells within IsAtLargeStatement text offset
 
 -- the words spell the description
 abbrev pub SpellsSomewhere : List Symbol → Items → Type 0

@@ -13,5 +13,7 @@ pub mod places;
 mod reader;
 pub mod room;
 mod statement;
+#[cfg(test)]
+mod tests;
 mod text;
 mod word;

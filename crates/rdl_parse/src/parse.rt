@@ -9,6 +9,7 @@ ghost use Rattle.rdl_tree.specs.declared.description.Item.{Item};
 ghost use Rattle.rdl_parse.specs.Faults as spec;
 ghost use Rattle.rdl_parse.specs.Faults.{max_text, out_of_memory, too_long};
 ghost use Rattle.rdl_parse.specs.Parsing.{HasWords, SpellsText, SpellsItemText, HasWordFault, Refuses, RefusesItem};
+ghost use Rattle.rdl_parse.specs.FirstFault.{Reads, parse_reading, item_reading};
 ghost use Rattle.rdl_parse.specs.Places.{Located};
 
 use crate::fault::{Fault, ParseFault, ParseFaultKind, Stop};
@@ -74,6 +75,8 @@ pub fn parse<'a>(alloc: Global, text: &'a str) -> Result<(Description, Places<'a
     ensures refused { IfErr result (λ f. (f ≡ out_of_memory) ⊎ Refuses text.now f) }
     // A text that is too long is told so, before anything else.
     ensures long { max_text < length text.now → result ≡ Err too_long }
+    // Which fault it is.
+    ensures exact { Reads (λ x. (x.0.items, x.1)) result (parse_reading text.now) }
 {
     let words = match words_of(alloc, text) {
         Ok(words) => words,
@@ -95,6 +98,7 @@ pub fn parse_item(alloc: Global, text: &str) -> Result<Vec<Item>, ParseFault>
     ensures only { (xs : List Item) → SpellsItemText text.now xs → IsWithinLimits (items_of xs) → MatchResult result (λ ys. ys.items ≡ xs) (λ f. f ≡ out_of_memory) }
     ensures refused { IfErr result (λ f. (f ≡ out_of_memory) ⊎ RefusesItem text.now f) }
     ensures long { max_text < length text.now → result ≡ Err too_long }
+    ensures exact { Reads (λ xs. xs.items) result (item_reading text.now) }
 {
     let words = match words_of(alloc, text) {
         Ok(words) => words,
