@@ -9,6 +9,7 @@ pub mod Find
 pub mod ItemWeight
 pub mod Items
 pub mod Part
+pub mod Properties
 pub mod Shell
 pub mod View
 pub mod Weight
