@@ -2,6 +2,7 @@ pub mod Address
 pub mod AddressText
 pub mod Codes
 pub mod Component
+pub mod Depth
 pub mod Edit
 pub mod Falls
 pub mod Fault

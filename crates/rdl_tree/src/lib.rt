@@ -6,6 +6,7 @@ pub mod copy;
 pub mod description;
 pub mod dims;
 pub mod edit;
+pub mod extent;
 pub mod fault;
 pub mod find;
 pub mod part;

@@ -1,0 +1,4 @@
+pub mod AsFound
+pub mod Holds
+pub mod Searches
+pub mod StandingBefore

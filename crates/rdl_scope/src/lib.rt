@@ -1,0 +1,6 @@
+//! Scopes of a description: the types of references, the instances that targets pass, the values of properties, and
+//! the first fault of the items.
+#![tactic(auto)]
+
+pub mod laws;
+pub mod types;
