@@ -8,7 +8,7 @@ use Rattle.rdl_tree.specs.Address.{inner}
 use Rattle.rdl_tree.specs.declared.description.Item.{Item}
 use Rattle.rdl_tree.specs.declared.description.Item.TheVariants.{Define, Instance, Own, Default, Dynamic}
 use Rattle.rdl_tree.specs.declared.description.Of.TheVariants.{Named, Anonymous}
-use Rattle.rdl_scope.specs.Type.{defines, last_definition, type_at, type_of, item, type_from}
+use Rattle.rdl_scope.specs.Types.{defines, last_definition, type_at, type_of, item, type_from}
 use Rattle.rdl_scope.specs.Walk.{found, below, deeper, is_definition, reference_of}
 
 map-cond : (b : Bool) (i : ℕ) (o : Option ℕ) → option_map suc (cond b (Some i) o) ≡ cond b (Some (suc i)) (option_map suc o)

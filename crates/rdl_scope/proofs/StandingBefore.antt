@@ -5,7 +5,7 @@ use Rattle.std.specs.Option.{option_or}
 use Rattle.rdl_tree.specs.Items.{Items, no_items, plain, holder, Plain, named, own, default, dynamic, Holder, define, anonymous}
 use Rattle.rdl_tree.specs.Address.{inner}
 use Rattle.rdl_tree.specs.declared.value.Value.{Value}
-use Rattle.rdl_scope.specs.Type.{defines, last_definition, type_at}
+use Rattle.rdl_scope.specs.Types.{defines, last_definition, type_at}
 use Rattle.rdl_scope.specs.Value.{last_default, nearest_default, defaulted}
 use Rattle.rdl_scope.specs.Closed.{Made, Standing, lookup, after_plain, after_holder, parts, before, component_in, standing_at, closed, nothing, component, option_else}
 

@@ -13,7 +13,7 @@ use Rattle.rdl_tree.specs.declared.property.Property.TheVariants.{Regwidth, Acce
 use Rattle.rdl_tree.specs.declared.description.Component.{Component}
 use Rattle.rdl_tree.specs.Component.{holder_kind}
 use Rattle.rdl_tree.specs.Address.{inner, body_at}
-use Rattle.rdl_scope.specs.Type.{component_of, component_at}
+use Rattle.rdl_scope.specs.Types.{component_of, component_at}
 use Rattle.rdl_scope.specs.Value.{own_value, nearest_default}
 
 -- a component without its instances: where it is written, its kind, its own assignments and the defaults that reach it

@@ -25,7 +25,7 @@ use Rattle.rdl_tree.specs.declared.fault.Fault.{Fault}
 use Rattle.rdl_tree.specs.declared.description.Component.{Component}
 use Rattle.rdl_tree.specs.declared.description.Item.{Item}
 use Rattle.rdl_tree.specs.declared.description.Item.TheVariants.{Define, Instance, Own, Default, Dynamic}
-use Rattle.rdl_scope.specs.Type.{last_definition, component_of, component_at}
+use Rattle.rdl_scope.specs.Types.{last_definition, component_of, component_at}
 use Rattle.rdl_scope.specs.Target.{instance_before, passes}
 use Rattle.rdl_scope.specs.Value.{owned, defaulted, is_false}
 

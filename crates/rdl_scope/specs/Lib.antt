@@ -1,6 +1,6 @@
 pub mod Closed
 pub mod ItemFaults
 pub mod Target
-pub mod Type
+pub mod Types
 pub mod Value
 pub mod Walk

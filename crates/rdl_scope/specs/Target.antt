@@ -5,7 +5,7 @@ use Rattle.rdl_tree.specs.Items.{Items, no_items, plain, holder, Plain, named, o
 use Rattle.rdl_tree.specs.Address.{body_at}
 use Rattle.rdl_tree.specs.declared.description.Item.{Item}
 use Rattle.rdl_tree.specs.declared.description.Item.TheVariants.{Define, Instance, Own, Default, Dynamic}
-use Rattle.rdl_scope.specs.Type.{item, component_of, items_in}
+use Rattle.rdl_scope.specs.Types.{item, component_of, items_in}
 
 abbrev pub plain_named : List ℕ → Plain → Bool
 plain_named name (named s t) = bytes_eq s.name name

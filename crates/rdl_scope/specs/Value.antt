@@ -17,7 +17,7 @@ use Rattle.rdl_tree.specs.declared.property.Form.TheVariants.{OnlyTrue, Booleans
 use Rattle.rdl_tree.specs.declared.description.Component.{Component}
 use Rattle.rdl_tree.specs.declared.description.Item.{Item}
 use Rattle.rdl_tree.specs.declared.description.Item.TheVariants.{Define, Instance, Own, Default, Dynamic}
-use Rattle.rdl_scope.specs.Type.{item, component_of, component_at, items_in}
+use Rattle.rdl_scope.specs.Types.{item, component_of, component_at, items_in}
 use Rattle.rdl_scope.specs.Target.{passes, body_of}
 
 abbrev pub owned : List ℕ → Plain → Option Value

@@ -7,7 +7,7 @@ use Rattle.rdl_tree.specs.declared.description.Item.{Item}
 use Rattle.rdl_tree.specs.declared.description.Item.TheVariants.{Define, Instance, Own, Default, Dynamic}
 use Rattle.rdl_tree.specs.declared.description.Of.TheVariants.{Named, Anonymous}
 use Rattle.rdl_tree.specs.Address.{inner}
-use Rattle.rdl_scope.specs.Type.{last_definition}
+use Rattle.rdl_scope.specs.Types.{last_definition}
 
 abbrev pub deeper : ℕ → ℕ × ℕ → ℕ × ℕ
 deeper d p = (d + p.0, p.1)

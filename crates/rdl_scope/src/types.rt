@@ -2,10 +2,10 @@
 ghost use Rattle.std.specs.Prelude.{◌≡◌, ℕ, ◌≤◌, ◌<◌, ◌+◌, ◌++◌, ◌∷◌, [], length, take, option_map, IfSome};
 ghost use Rattle.std.specs.Option.{option_or, is_none};
 ghost use Rattle.rdl_tree.specs.View.{list_of};
-ghost use Rattle.rdl_scope.specs.Type.{last_definition, type_at, type_of};
+ghost use Rattle.rdl_scope.specs.Types.{last_definition, type_at, type_of};
 ghost use Rattle.rdl_scope.specs.Walk.{found, is_definition, reference_of};
 ghost use Rattle.std.specs.Prelude.{option_copied, option_and_then};
-ghost use Rattle.rdl_scope.specs.Type.{item};
+ghost use Rattle.rdl_scope.specs.Types.{item};
 
 use rdl_text::name::Name;
 use rdl_tree::address::Address;

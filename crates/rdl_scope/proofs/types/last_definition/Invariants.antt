@@ -1,5 +1,5 @@
 use Rattle.std.proofs.Common.{◌≡◌, ◌<◌, IfSome}
-use Rattle.rdl_scope.specs.Type.{last_definition}
+use Rattle.rdl_scope.specs.Types.{last_definition}
 use Rattle.rdl_scope.proofs.types.last_definition.Given as goal
 
 abbrev pub invariant-loop-i : goal.invariant-loop-i
