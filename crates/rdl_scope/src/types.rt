@@ -2,14 +2,14 @@
 ghost use Rattle.std.specs.Prelude.{◌≡◌, ℕ, ◌≤◌, ◌<◌, ◌+◌, ◌++◌, ◌∷◌, [], length, take, option_map, IfSome};
 ghost use Rattle.std.specs.Option.{option_or, is_none};
 ghost use Rattle.rdl_tree.specs.View.{list_of};
-ghost use Rattle.rdl_scope.specs.Types.{last_definition, type_at, type_of};
+ghost use Rattle.rdl_scope.specs.Types.{last_definition, type_at, type_of, component_of, component_at, items_in};
 ghost use Rattle.rdl_scope.specs.Walk.{found, is_definition, reference_of};
 ghost use Rattle.std.specs.Prelude.{option_copied, option_and_then};
 ghost use Rattle.rdl_scope.specs.Types.{item};
 
 use rdl_text::name::Name;
 use rdl_tree::address::Address;
-use rdl_tree::description::{Body, Description, Item, Of};
+use rdl_tree::description::{Body, Component, Description, Item, Of};
 
 fn defines(item: Option<&Item>, name: &Name) -> bool
     ensures { result ≡ is_definition name.now (option_copied item.entry) }
@@ -77,17 +77,16 @@ pub(crate) fn item_at<'a>(body: &'a Body, path: &[usize]) -> Option<&'a Item>
     }
 }
 
-/// The address that goes along the path to this depth, and ends with the number.
-fn address_of(path: &[usize], depth: usize, number: usize) -> Address
+/// The address that goes along the path to this depth.
+pub(crate) fn prefix(path: &[usize], depth: usize) -> Address
     requires short { length path.now ≤ 17 }
-    requires within { depth < length path.now }
-    ensures { result ≡ take depth path.now ++ number ∷ [] }
+    requires within { depth ≤ length path.now }
+    ensures { result ≡ take depth path.now }
 {
     let mut address = Address::new();
     for i in 0..depth {
         address.push(path[i]);
     }
-    address.push(number);
     address
 }
 
@@ -101,13 +100,54 @@ fn reference(item: Option<&Item>) -> Option<&Name>
     }
 }
 
-/// The definition to which the type reference of a named instance leads.
+/// The definition to which a reference to the name in the item at this address leads.
+#[tactic(auto, using(crate::proofs::Searches::ends))]
+pub(crate) fn type_at(description: &Description, address: &Address, name: &Name) -> Option<Address>
+    ensures { result ≡ type_at address.now description.now.items name.now }
+{
+    let path = address.as_slice();
+    let (depth, number) = found(&description.items, path, name)?;
+    Some(prefix(path, depth).inside(number))
+}
+
+/// The definition to which the type reference of a named instance leads. Another item has none.
 #[tactic(auto, using(crate::proofs::Searches::ends))]
 pub fn type_of(description: &Description, address: &Address) -> Option<Address>
     ensures { result ≡ type_of description.now.items address.now }
 {
-    let path = address.as_slice();
-    let name = reference(item_at(&description.items, path))?;
-    let (depth, number) = found(&description.items, path, name)?;
-    Some(address_of(path, depth, number))
+    let name = reference(item_at(&description.items, address.as_slice()))?;
+    type_at(description, address, name)
+}
+
+/// The item that holds the component of the instance at this address.
+#[tactic(auto, using(crate::proofs::Searches::ends))]
+pub(crate) fn component_of(description: &Description, address: &Address) -> Option<Address>
+    ensures { result ≡ component_of description.now.items address.now }
+{
+    match item_at(&description.items, address.as_slice()) {
+        Some(Item::Instance(_, Of::Named(name))) => type_at(description, address, name),
+        Some(Item::Instance(_, Of::Anonymous(_))) => Some(address.copy()),
+        _ => None,
+    }
+}
+
+/// The component that the item at this address holds.
+pub(crate) fn component_at<'a>(description: &'a Description, address: &Address) -> Option<&'a Component>
+    ensures { option_copied result ≡ component_at description.now.items address.now }
+{
+    match item_at(&description.items, address.as_slice()) {
+        Some(Item::Instance(_, Of::Anonymous(component))) => Some(component),
+        Some(Item::Define(_, component)) => Some(component),
+        _ => None,
+    }
+}
+
+/// How many items the body at this address has.
+pub(crate) fn items_in(description: &Description, address: &Address) -> usize
+    ensures { result ≡ items_in address.now description.now.items }
+{
+    match description.body(address) {
+        Some(body) => body.len(),
+        None => 0,
+    }
 }
