@@ -1,4 +1,5 @@
 pub mod AsFound
+pub mod Assignments
 pub mod Bodies
 pub mod Holds
 pub mod Instances
@@ -6,3 +7,4 @@ pub mod Levels
 pub mod Passing
 pub mod Searches
 pub mod StandingBefore
+pub mod ValueSearches

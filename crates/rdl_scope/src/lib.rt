@@ -5,3 +5,4 @@
 pub mod laws;
 pub mod targets;
 pub mod types;
+pub mod values;

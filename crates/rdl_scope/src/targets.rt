@@ -110,7 +110,13 @@ pub fn through(
         Some(Item::Dynamic(target, _, _)) => match path {
             [] => Ok(None),
             [.., number] => {
-                passes(alloc, description, &body_of(address), *number, target.names())
+                passes(
+                    alloc,
+                    description,
+                    &body_of(address),
+                    *number,
+                    target.names(),
+                )
             }
         },
         _ => Ok(None),

@@ -132,7 +132,10 @@ pub(crate) fn component_of(description: &Description, address: &Address) -> Opti
 }
 
 /// The component that the item at this address holds.
-pub(crate) fn component_at<'a>(description: &'a Description, address: &Address) -> Option<&'a Component>
+pub(crate) fn component_at<'a>(
+    description: &'a Description,
+    address: &Address,
+) -> Option<&'a Component>
     ensures { option_copied result ≡ component_at description.now.items address.now }
 {
     match item_at(&description.items, address.as_slice()) {
