@@ -1,10 +1,12 @@
 pub mod AsFound
-pub mod Assignments
 pub mod Bodies
+pub mod Firsts
 pub mod Holds
 pub mod Instances
 pub mod Levels
+pub mod OuterAssignments
 pub mod Passing
+pub mod Products
 pub mod Searches
 pub mod StandingBefore
 pub mod ValueSearches

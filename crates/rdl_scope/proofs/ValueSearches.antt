@@ -5,8 +5,8 @@ use Rattle.std.specs.Option.{option_or}
 use Rattle.rdl_tree.specs.Items.{Items, no_items, plain, holder, Plain, named, own, default, dynamic, Holder, define, anonymous}
 use Rattle.rdl_tree.specs.View.{list_of, plain_item, holder_item}
 use Rattle.rdl_tree.specs.declared.value.Value.{Value}
-use Rattle.rdl_scope.specs.Value.{owned, defaulted, own_value, last_default, assigns, assigned_in}
-use Rattle.rdl_scope.specs.Walk.{owned_by, defaulted_by, assigned_by}
+use Rattle.rdl_scope.specs.Value.{owned, defaulted, own_value, own_before, last_default}
+use Rattle.rdl_scope.specs.Walk.{owned_by, defaulted_by}
 
 or-assoc : {X : Type 0} (a b c : Option X) → option_or (option_or a b) c ≡ option_or a (option_or b c)
 or-assoc None b c = refl
@@ -15,13 +15,6 @@ or-assoc (Some x) b c = refl
 or-none : {X : Type 0} (a : Option X) → option_or a None ≡ a
 or-none None = refl
 or-none (Some x) = refl
-
--- the own assignment among the first n items
-abbrev pub own_before : List ℕ → ℕ → Items → Option Value
-own_before p zero t = None
-own_before p (suc n) no_items = None
-own_before p (suc n) (plain x rest) = option_or (owned p x) (own_before p n rest)
-own_before p (suc n) (holder h body rest) = own_before p n rest
 
 owned-plain : (p : List ℕ) (x : Plain) → owned_by p (Some (plain_item x)) ≡ owned p x
 owned-plain p (named s t) = refl

@@ -38,6 +38,13 @@ own_value p no_items = None
 own_value p (plain x rest) = option_or (owned p x) (own_value p rest)
 own_value p (holder h body rest) = own_value p rest
 
+-- the same among the first n items
+abbrev pub own_before : List ℕ → ℕ → Items → Option Value
+own_before p zero t = None
+own_before p (suc n) no_items = None
+own_before p (suc n) (plain x rest) = option_or (owned p x) (own_before p n rest)
+own_before p (suc n) (holder h body rest) = own_before p n rest
+
 -- the default of the property among the first n items
 abbrev pub last_default : List ℕ → ℕ → Items → Option Value
 last_default p zero t = None

@@ -2,7 +2,11 @@
 //! the first fault of the items.
 #![tactic(auto)]
 
+mod assignments;
+pub mod faults;
+mod kinds;
 pub mod laws;
+mod shells;
 pub mod targets;
 pub mod types;
 pub mod values;

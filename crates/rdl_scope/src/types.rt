@@ -2,6 +2,7 @@
 ghost use Rattle.std.specs.Prelude.{◌≡◌, ℕ, ◌≤◌, ◌<◌, ◌+◌, ◌++◌, ◌∷◌, [], length, take, option_map, IfSome};
 ghost use Rattle.std.specs.Option.{option_or, is_none};
 ghost use Rattle.rdl_tree.specs.View.{list_of};
+ghost use Rattle.rdl_tree.specs.Component.{own_component};
 ghost use Rattle.rdl_scope.specs.Types.{last_definition, type_at, type_of, component_of, component_at, items_in};
 ghost use Rattle.rdl_scope.specs.Walk.{found, is_definition, reference_of};
 ghost use Rattle.std.specs.Prelude.{option_copied, option_and_then};
@@ -131,6 +132,17 @@ pub(crate) fn component_of(description: &Description, address: &Address) -> Opti
     }
 }
 
+/// The item's own component. An instance of a named type has none.
+pub(crate) fn own_component(item: &Item) -> Option<&Component>
+    ensures { option_copied result ≡ own_component item.now }
+{
+    match item {
+        Item::Instance(_, Of::Anonymous(component)) => Some(component),
+        Item::Define(_, component) => Some(component),
+        _ => None,
+    }
+}
+
 /// The component that the item at this address holds.
 pub(crate) fn component_at<'a>(
     description: &'a Description,
@@ -138,11 +150,7 @@ pub(crate) fn component_at<'a>(
 ) -> Option<&'a Component>
     ensures { option_copied result ≡ component_at description.now.items address.now }
 {
-    match item_at(&description.items, address.as_slice()) {
-        Some(Item::Instance(_, Of::Anonymous(component))) => Some(component),
-        Some(Item::Define(_, component)) => Some(component),
-        _ => None,
-    }
+    own_component(item_at(&description.items, address.as_slice())?)
 }
 
 /// How many items the body at this address has.

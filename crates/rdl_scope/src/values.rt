@@ -6,7 +6,7 @@ ghost use Rattle.rdl_tree.specs.Address.{body_at};
 ghost use Rattle.rdl_tree.specs.Properties.{row};
 ghost use Rattle.rdl_scope.specs.Types.{component_at, item};
 ghost use Rattle.rdl_scope.specs.Target.{passes, body_of};
-ghost use Rattle.rdl_scope.specs.Value.{value_along, own_value, last_default, nearest_default, stated_value, built_in_value, component_value, leads_to, assigned_in, assigned, item_reset, instance_reset, path_value, is_false, shown, path_below, end_of, value_of_kind, is_define, value};
+ghost use Rattle.rdl_scope.specs.Value.{value_along, own_value, own_before, last_default, nearest_default, stated_value, built_in_value, component_value, leads_to, assigned_in, assigned, item_reset, instance_reset, path_value, is_false, shown, path_below, end_of, value_of_kind, is_define, value};
 ghost use Rattle.rdl_scope.specs.Walk.{owned_by, defaulted_by, assigned_by};
 
 use crate::targets::{body_of, passes};
@@ -47,21 +47,29 @@ fn either<'a>(first: Option<&'a Value>, second: Option<&'a Value>) -> Option<&'a
     }
 }
 
-/// The own assignment of the property in a body.
+/// The own assignment of the property among the first `n` items.
 #[tactic(auto, using(crate::proofs::ValueSearches::steps))]
-fn own_value<'a>(body: &'a Body, name: &str) -> Option<&'a Value>
-    ensures { option_copied result ≡ own_value name.now body.now }
+pub(crate) fn own_before<'a>(body: &'a Body, n: usize, name: &str) -> Option<&'a Value>
+    ensures { option_copied result ≡ own_before name.now n body.now }
 {
     let mut first = None;
-    for i in 0..body.len() {
+    for i in 0..n {
         first = either(first, owned(body.item(i), name));
     }
     first
 }
 
+/// The own assignment of the property in a body.
+#[tactic(auto, using(crate::proofs::ValueSearches::steps))]
+fn own_value<'a>(body: &'a Body, name: &str) -> Option<&'a Value>
+    ensures { option_copied result ≡ own_value name.now body.now }
+{
+    own_before(body, body.len(), name)
+}
+
 /// The last default of the property among the first `n` items.
 #[tactic(auto, using(crate::proofs::ValueSearches::steps))]
-fn last_default<'a>(body: &'a Body, n: usize, name: &str) -> Option<&'a Value>
+pub(crate) fn last_default<'a>(body: &'a Body, n: usize, name: &str) -> Option<&'a Value>
     ensures { option_copied result ≡ last_default name.now n body.now }
 {
     let mut last = None;
@@ -175,7 +183,7 @@ fn assigned_by<'a>(
 }
 
 /// What the items of the body at this address assign to the property of the path.
-#[tactic(auto, using(crate::proofs::Assignments::steps))]
+#[tactic(auto, using(crate::proofs::OuterAssignments::steps))]
 fn assigned_in<'a>(
     alloc: Global,
     description: &Description,
@@ -215,7 +223,7 @@ fn assigned_around<'a>(
 }
 
 /// What the outermost dynamic assignment assigns to the property of the path.
-#[tactic(auto, using(crate::proofs::Assignments::steps))]
+#[tactic(auto, using(crate::proofs::OuterAssignments::steps))]
 fn assigned<'a>(
     alloc: Global,
     description: &'a Description,
@@ -247,7 +255,7 @@ fn item_reset(item: Option<&Item>) -> Option<Value>
 }
 
 /// For `reset`, the number behind the `=` of the last instance.
-#[tactic(auto, using(crate::proofs::Assignments::ends))]
+#[tactic(auto, using(crate::proofs::OuterAssignments::ends))]
 fn instance_reset(description: &Description, property: Property, path: &[Address]) -> Option<Value>
     ensures { result ≡ instance_reset description.now.items property path.now }
 {
@@ -343,7 +351,7 @@ fn path_below(
 }
 
 /// The item that holds the component at the end of a path below the component at `top`.
-#[tactic(auto, using(crate::proofs::Assignments::ends))]
+#[tactic(auto, using(crate::proofs::OuterAssignments::ends))]
 fn end_of(description: &Description, top: &Address, path: &[Address]) -> Option<Address>
     ensures { result ≡ end_of description.now.items top.now path.now }
 {

@@ -151,7 +151,7 @@ properties =
     Dontcompare ∷ Donttest ∷ []
 
 -- the property of a name
-abbrev pub property_of : List ℕ → Option Property
+unfoldable pub property_of : List ℕ → Option Property
 property_of name = find (λ p. bytes_eq name (row p).name) properties
 
 abbrev pub on : Property → Kind → Bool

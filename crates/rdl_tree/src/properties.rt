@@ -5,6 +5,7 @@ ghost use Rattle.rdl_tree.specs.Properties.{row, property_of};
 use crate::property::Property;
 
 /// The property of this name.
+#[tactic(auto, unfolding(crate::specs::Properties::property_of))]
 pub fn property(name: &str) -> Option<Property>
     ensures { result ≡ property_of name.now }
 {
