@@ -1,5 +1,6 @@
 pub mod AsFound
 pub mod Bodies
+pub mod Examples
 pub mod Firsts
 pub mod Holds
 pub mod Instances
