@@ -1,6 +1,6 @@
 -- Steps of the search for the first fault.
 use Rattle.std.proofs.Common.{◌≡◌, ℕ, zero, suc, ◌+◌, ◌-◌, ◌*◌, ◌<◌, ◌≤◌, Bool, true, false, List, [], ◌∷◌, ◌++◌, length, drop, get_or, Some, None, Option, refl, ap, sym, ◌∙◌, arith, length-append}
-use Rattle.std.specs.Prelude.{◌||◌, slice_get, option_and_then}
+use Rattle.std.specs.Prelude.{option_and_then}
 use Rattle.std.specs.Option.{option_or}
 use Rattle.rdl_tree.specs.Items.{Items, no_items, plain, holder, Plain, named, own, default, dynamic, Holder, define, anonymous}
 use Rattle.rdl_tree.specs.View.{add, items_of, list_of, plain_item, holder_item}
@@ -15,8 +15,7 @@ use Rattle.rdl_tree.specs.declared.description.Item.TheVariants.{Define, Instanc
 use Rattle.rdl_tree.specs.declared.description.Of.TheVariants.{Named, Anonymous}
 use Rattle.rdl_tree.proofs.Rests.{rest-next, rest-none, rest-all}
 use Rattle.rdl_tree.proofs.Rounds.{items_of-list_of}
-use Rattle.rdl_scope.specs.ItemFaults.{last_of, reaches, reached_before, item_fault, fault_at, first_fault, inside_fault}
-use Rattle.rdl_scope.specs.Walk.{reaches_by}
+use Rattle.rdl_scope.specs.ItemFaults.{last_of, item_fault, fault_at, first_fault, inside_fault}
 
 pub last_of-end : (path : List (List ℕ)) (a : List ℕ) → 0 < length path → last_of path ≡ Some (get_or path (length path - 1) a)
 last_of-end [] a h = absurd (omega arith)
@@ -26,34 +25,6 @@ last_of-end (b ∷ c ∷ path) a h =
     last_of-end (c ∷ path) a (omega arith) ∙ ap (λ n. Some (get_or (b ∷ c ∷ path) n a)) one
 
 pub ruleset lasts = (last_of-end)
-
-or-assoc : (a b c : Bool) → (a || b) || c ≡ a || (b || c)
-or-assoc true b c = refl
-or-assoc false b c = refl
-
-or-false : (a : Bool) → a || false ≡ a
-or-false true = refl
-or-false false = refl
-
-reaches-plain : (t : List (List ℕ)) (name : List ℕ) (p : Plain) → reaches_by t name (Some (plain_item p)) ≡ reaches t name p
-reaches-plain t name (named s u) = refl
-reaches-plain t name (own q v) = refl
-reaches-plain t name (default q v) = refl
-reaches-plain t name (dynamic u q v) = refl
-
-reaches-holder : (t : List (List ℕ)) (name : List ℕ) (h : Holder) (body : Items) → reaches_by t name (Some (holder_item h body)) ≡ false
-reaches-holder t name (define n k) body = refl
-reaches-holder t name (anonymous s k) body = refl
-
-pub reached-suc : (t : List (List ℕ)) (name : List ℕ) (i : ℕ) (body : Items) → reached_before t name (suc i) body ≡ reached_before t name i body || reaches_by t name (slice_get (list_of body) i)
-reached-suc t name zero no_items = refl
-reached-suc t name (suc i) no_items = refl
-reached-suc t name zero (plain p rest) = or-false (reaches t name p) ∙ sym (reaches-plain t name p)
-reached-suc t name zero (holder h body rest) = sym (reaches-holder t name h body)
-reached-suc t name (suc i) (plain p rest) = ap (λ b. reaches t name p || b) (reached-suc t name i rest) ∙ sym (or-assoc (reaches t name p) (reached_before t name i rest) (reaches_by t name (slice_get (list_of rest) i)))
-reached-suc t name (suc i) (holder h body rest) = reached-suc t name i rest
-
-pub ruleset reached = (reached-suc)
 
 first-add : (d : Items) (around : Option Kind) (b : List ℕ) (body : Items) (n : ℕ) (x : Item) (rest : Items)
     → first_fault d around b body n (add x rest) ≡ option_or (fault_at (b ++ n ∷ []) (item_fault d around b body n x)) (option_or (inside_fault d (b ++ n ∷ []) (own_component x)) (first_fault d around b body (suc n) rest))
@@ -122,3 +93,22 @@ pub room_inside : (b a : List ℕ) (i : ℕ) (body : Items) (xs : List Item) (x 
 room_inside b a i body xs x o e h is at holds room c some =
     let held : own_component (get_or (list_of body) i x) ≡ Some c = ap (λ ys. own_component (get_or ys i x)) (sym e) ∙ ap own_component (sym is) ∙ sym holds ∙ some in
     omega (arith, one_longer b a i at, depth-item body i x c (omega (arith, ap length e)) held)
+
+no_some : {X : Type 0} (o : Option X) → ((x : X) → o ≡ Some x → ⊥) → o ≡ None
+no_some None h = refl
+no_some (Some x) h = absurd (h x refl)
+
+-- where an item has no fault, and nothing inside it has one, the first is that of the items after it
+pub none_met : (d : Items) (around : Option Kind) (b : List ℕ) (body : Items) (i : ℕ) (xs : List Item) (x : Item) (a : List ℕ) (k : Option FaultKind) (o inside : Option Fault) (component : Option Component) (whole : Option Fault)
+    → xs ≡ list_of body → i < length xs → x ≡ get_or xs i x → a ≡ b ++ i ∷ [] → k ≡ item_fault d around b body i x → o ≡ fault_at a k → ((f : Fault) → o ≡ Some f → ⊥)
+    → component ≡ own_component x → inside ≡ inside_fault d a component → ((f : Fault) → inside ≡ Some f → ⊥)
+    → whole ≡ first_fault d around b body i (items_of (drop i (list_of body))) → whole ≡ first_fault d around b body (i + 1) (items_of (drop (i + 1) (list_of body)))
+none_met d around b body i xs x a k o inside component whole e h is at kind found none held within clear w =
+    let here : fault_at (b ++ i ∷ []) (item_fault d around b body i (get_or xs i x)) ≡ None =
+    ap (λ y. fault_at (b ++ i ∷ []) (item_fault d around b body i y)) (sym is) ∙ ap (λ z. fault_at (b ++ i ∷ []) z) (sym kind) ∙ ap (λ z. fault_at z k) (sym at) ∙ sym found ∙ no_some o none in
+    let deeper : inside_fault d (b ++ i ∷ []) (own_component (get_or xs i x)) ≡ None =
+    ap (λ y. inside_fault d (b ++ i ∷ []) (own_component y)) (sym is) ∙ ap (λ z. inside_fault d (b ++ i ∷ []) z) (sym held) ∙ ap (λ z. inside_fault d z component) (sym at) ∙ sym within ∙ no_some inside clear in
+    w ∙ ap (λ ys. first_fault d around b body i (items_of (drop i ys))) (sym e) ∙ first-next d around b body i xs x h
+    ∙ ap (λ z. option_or z (option_or (inside_fault d (b ++ i ∷ []) (own_component (get_or xs i x))) (first_fault d around b body (i + 1) (items_of (drop (i + 1) xs))))) here
+    ∙ ap (λ z. option_or z (first_fault d around b body (i + 1) (items_of (drop (i + 1) xs)))) deeper
+    ∙ ap (λ ys. first_fault d around b body (i + 1) (items_of (drop (i + 1) ys))) e

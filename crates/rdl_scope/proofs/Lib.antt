@@ -8,6 +8,7 @@ pub mod Levels
 pub mod OuterAssignments
 pub mod Passing
 pub mod Products
+pub mod Repeats
 pub mod Searches
 pub mod StandingBefore
 pub mod ValueSearches

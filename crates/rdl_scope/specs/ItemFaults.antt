@@ -124,7 +124,7 @@ is_excluded n body p = list_any (λ rival. is_set (own_before (row rival).name n
 
 -- E7: a dynamic assignment of the same target and property stands among the first n items
 abbrev pub reaches : List (List ℕ) → List ℕ → Plain → Bool
-reaches target name (dynamic t p v) = pointwise bytes_eq t target && bytes_eq p name
+reaches target name (dynamic t p v) = bytes_eq p name && pointwise bytes_eq t target
 reaches target name (named s t) = false
 reaches target name (own p v) = false
 reaches target name (default p v) = false

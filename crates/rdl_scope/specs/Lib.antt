@@ -1,5 +1,6 @@
 pub mod Closed
 pub mod ItemFaults
+pub mod Keys
 pub mod Target
 pub mod Types
 pub mod Value

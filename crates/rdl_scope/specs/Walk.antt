@@ -2,7 +2,6 @@
 -- own: no part of what types and values are.
 use Rattle.std.specs.Prelude.{ℕ, suc, ◌+◌, Bool, false, Some, bytes_eq, ◌&&◌, List, [], ◌∷◌, Option, None, option_map, option_and_then, if◌then◌else◌}
 use Rattle.std.specs.Option.{option_or}
-use Rattle.std.specs.Cmp.Lexicographic.{pointwise}
 use Rattle.rdl_tree.specs.Items.{Items}
 use Rattle.rdl_tree.specs.declared.description.Item.{Item}
 use Rattle.rdl_tree.specs.declared.description.Item.TheVariants.{Define, Instance, Own, Default, Dynamic}
@@ -73,11 +72,3 @@ assigned_by d b n p path (Some (Define m c)) = None
 assigned_by d b n p path (Some (Instance s o)) = None
 assigned_by d b n p path (Some (Own q v)) = None
 assigned_by d b n p path (Some (Default q v)) = None
-
-abbrev pub reaches_by : List (List ℕ) → List ℕ → Option Item → Bool
-reaches_by target name None = false
-reaches_by target name (Some (Dynamic t p v)) = pointwise bytes_eq t target && bytes_eq p name
-reaches_by target name (Some (Define n c)) = false
-reaches_by target name (Some (Instance s o)) = false
-reaches_by target name (Some (Own p v)) = false
-reaches_by target name (Some (Default p v)) = false

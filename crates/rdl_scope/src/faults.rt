@@ -7,16 +7,17 @@ ghost use Rattle.rdl_tree.specs.Component.{own_component};
 ghost use Rattle.rdl_tree.specs.Depth.{depth};
 ghost use Rattle.rdl_tree.specs.Properties.{property_of, row};
 ghost use Rattle.rdl_scope.specs.Value.{own_before};
-ghost use Rattle.rdl_scope.specs.ItemFaults.{kind_at, instance_kind, target_kind, is_set, is_excluded, excluded_by, reaches, reached_before, item_fault, fault_at, first_fault, inside_fault, is_too_large, fault_of, out_of_memory};
-ghost use Rattle.rdl_scope.specs.Walk.{reaches_by};
+ghost use Rattle.rdl_scope.specs.ItemFaults.{kind_at, instance_kind, target_kind, is_set, is_excluded, excluded_by, item_fault, fault_at, first_fault, inside_fault, is_too_large, fault_of, out_of_memory};
+ghost use Rattle.rdl_tree.specs.View.{list_of};
+ghost use Rattle.rdl_scope.specs.Keys.{item_key, key_before};
 
 use crate::assignments::{default_fault, dynamic_fault, own_fault, rivals};
+use crate::keys::note;
 use crate::kinds::define_fault;
 use crate::shells::instance_fault;
-use crate::targets::{instance_before, passes};
-use crate::types::{component_at, component_of, last_definition, own_component};
-use crate::values::{is_false, last_default, own_before};
-use rdl_text::name::Name;
+use crate::targets::passes;
+use crate::types::{component_at, component_of, own_component};
+use crate::values::{is_false, own_before};
 use rdl_tree::address::Address;
 use rdl_tree::description::{Body, Component, Description, Item};
 use rdl_tree::fault::{Fault, FaultKind};
@@ -26,6 +27,7 @@ use rdl_tree::shell::Kind;
 use rdl_tree::target::Target;
 use rdl_tree::value::Value;
 use std::alloc::{AllocError, Global};
+use std::collections::HashSet;
 
 fn kind_at(description: &Description, address: &Address) -> Option<Kind>
     ensures { result ≡ kind_at description.now.items address.now }
@@ -89,31 +91,8 @@ fn excluded_by(n: usize, body: &Body, property: Option<Property>) -> bool
     }
 }
 
-fn reaches(item: Option<&Item>, target: &Target, name: &Name) -> bool
-    ensures { result ≡ reaches_by target.now name.now (option_copied item.entry) }
-{
-    match item {
-        Some(Item::Dynamic(other, property, _)) => {
-            other.names() == target.names() && property == name
-        }
-        _ => false,
-    }
-}
-
-/// Whether one of the first `n` items assigns to the same property of the same target.
-#[tactic(auto, using(crate::proofs::Firsts::reached))]
-fn reached_before(target: &Target, name: &Name, n: usize, body: &Body) -> bool
-    ensures { result ≡ reached_before target.now name.now n body.now }
-{
-    let mut there = false;
-    for i in 0..n {
-        there = there || reaches(body.item(i), target, name);
-    }
-    there
-}
-
-/// The fault of item `n` of the body at this address.
-#[tactic(auto, unfolding(crate::specs::ItemFaults::item_fault))]
+/// The fault of item `n` of the body at this address. `twice`: an item before it has its key.
+#[tactic(auto, using(crate::proofs::Repeats::twices), unfolding(crate::specs::ItemFaults::item_fault))]
 fn item_fault(
     alloc: Global,
     description: &Description,
@@ -122,33 +101,26 @@ fn item_fault(
     body: &Body,
     n: usize,
     item: &Item,
+    twice: bool,
 ) -> Result<Option<FaultKind>, AllocError>
     requires levels { depth description.now.items ≤ 16 }
     requires room { length at.now < 17 }
+    requires twice { twice ≡ key_before (item_key item.now) n (list_of body.now) }
     ensures { IfOk result (λ fault. fault ≡ item_fault description.now.items around at.now body.now n item.now) }
 {
     match item {
-        Item::Define(name, component) => {
-            let twice = last_definition(body, n, name).is_some();
-            Ok(define_fault(around, twice, component.kind))
-        }
+        Item::Define(_, component) => Ok(define_fault(around, twice, component.kind)),
         Item::Instance(shell, _) => {
-            let twice = instance_before(body, n, &shell.name).is_some();
             let kind = instance_kind(description, &at.inside(n));
             Ok(instance_fault(around, twice, shell, kind))
         }
         Item::Own(name, value) => {
             let property = property(name.as_str());
-            let twice = own_before(body, n, name.as_str()).is_some();
             let excluded = excluded_by(n, body, property);
             Ok(own_fault(around, twice, excluded, property, value))
         }
-        Item::Default(name, value) => {
-            let twice = last_default(body, n, name.as_str()).is_some();
-            Ok(default_fault(twice, property(name.as_str()), value))
-        }
+        Item::Default(name, value) => Ok(default_fault(twice, property(name.as_str()), value)),
         Item::Dynamic(target, name, value) => {
-            let twice = reached_before(target, name, n, body);
             let kind = target_kind(alloc, description, at, n, target)?;
             Ok(dynamic_fault(twice, property(name.as_str()), value, kind))
         }
@@ -202,9 +174,11 @@ fn first_fault(
     requires room { length at.now + depth body.now ≤ 16 }
     ensures { IfOk result (λ fault. fault ≡ first_fault description.now.items around at.now body.now 0 body.now) }
 {
+    let mut keys = HashSet::new(alloc);
     'items: for (i, item) in body.as_slice().iter().enumerate() {
         let address = at.inside(i);
-        let kind = item_fault(alloc, description, around, at, body, i, item)?;
+        let twice = note(alloc, &mut keys, item)?;
+        let kind = item_fault(alloc, description, around, at, body, i, item, twice)?;
         if let Some(fault) = fault_at(&address, kind) {
             return Ok(Some(fault));
         }
