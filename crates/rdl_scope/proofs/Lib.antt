@@ -4,7 +4,8 @@ pub mod Examples
 pub mod Firsts
 pub mod Holds
 pub mod Instances
-pub mod Levels
+pub mod Levelled
+pub mod Depths
 pub mod OuterAssignments
 pub mod Passing
 pub mod Products

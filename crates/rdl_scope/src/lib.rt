@@ -7,6 +7,8 @@ pub mod faults;
 mod keys;
 mod kinds;
 pub mod laws;
+mod levels;
+mod names;
 mod shells;
 pub mod targets;
 pub mod types;

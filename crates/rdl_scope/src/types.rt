@@ -36,7 +36,7 @@ pub(crate) fn last_definition(body: &Body, n: usize, name: &Name) -> Option<usiz
     last
 }
 
-fn innermost(
+pub(crate) fn innermost(
     depth: usize,
     number: Option<usize>,
     place: Option<(usize, usize)>,

@@ -1,4 +1,4 @@
-use Rattle.rdl_scope.proofs.Levels.{room}
+use Rattle.rdl_scope.proofs.Depths.{room}
 use Rattle.rdl_scope.proofs.targets.instance_in.Goals as goal
 
 pub inside-requires : goal.inside-requires
