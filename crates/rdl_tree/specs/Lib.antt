@@ -12,6 +12,7 @@ pub mod ItemWeight
 pub mod Items
 pub mod Limits
 pub mod Part
+pub mod Properties
 pub mod Shell
 pub mod View
 pub mod Weight

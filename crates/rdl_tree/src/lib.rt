@@ -12,6 +12,8 @@ pub mod fault;
 pub mod find;
 pub mod part;
 pub mod path;
+pub mod properties;
+pub mod property;
 pub mod reach;
 pub mod shell;
 pub mod target;

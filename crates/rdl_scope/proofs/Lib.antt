@@ -1,0 +1,15 @@
+pub mod AsFound
+pub mod Bodies
+pub mod Examples
+pub mod Firsts
+pub mod Holds
+pub mod Instances
+pub mod Levelled
+pub mod Depths
+pub mod OuterAssignments
+pub mod Passing
+pub mod Products
+pub mod Repeats
+pub mod Searches
+pub mod StandingBefore
+pub mod ValueSearches

@@ -1,0 +1,17 @@
+use Rattle.std.proofs.Common.{◌≡◌, length, drop, ◌-◌, ◌*◌, ◌+◌}
+use Rattle.rdl_tree.specs.View.{items_of, list_of}
+use Rattle.rdl_scope.specs.ItemFaults.{first_fault}
+use Rattle.rdl_scope.specs.Keys.{Holds, key_before}
+use Rattle.rdl_scope.proofs.faults.+walk.Given as goal
+
+abbrev pub decreases-first_fault : goal.decreases-first_fault
+decreases-first_fault l = 2 * (17 - length l.at.now)
+
+abbrev pub decreases-inside_fault : goal.decreases-inside_fault
+decreases-inside_fault l = 2 * (17 - length l.address.now) + 1
+
+abbrev pub invariant-first_fault-items : goal.invariant-first_fault-items
+invariant-first_fault-items l = record {
+  first : first_fault l.description.items l.around l.at l.body 0 l.body ≡ first_fault l.description.items l.around l.at l.body l.i (items_of (drop l.i (list_of l.body)));
+  keys : Holds l.keys (λ key. key_before key l.i (list_of l.body));
+}

@@ -1,0 +1,16 @@
+//! What the definitions have in common.
+ghost use Rattle.std.specs.Prelude.{◌≡◌, ℕ, List, ◌∷◌, Some};
+ghost use Rattle.std.specs.Option.{is_some};
+ghost use Rattle.rdl_tree.specs.Items.{Items};
+ghost use Rattle.rdl_tree.specs.Address.{body_at};
+ghost use Rattle.rdl_scope.specs.Value.{component_value};
+ghost use Rattle.rdl_scope.specs.Closed.{Made, component, head_value, IsAsFound};
+
+/// A component with all that it takes from around it is as the searches through whole bodies say: there is one at each
+/// address that has a body; its instances have the components that the search for their types finds; its values are
+/// those of rules 3 to 5. It does nothing when it runs.
+pub fn components_are_as_found()
+    ensures exists { (d : Items) (i : ℕ) (a : List ℕ) → is_some (component d (i ∷ a)) ≡ is_some (body_at (i ∷ a) d) }
+    ensures found { (d : Items) (a : List ℕ) (m : Made) → component d a ≡ Some m → IsAsFound d a m }
+    ensures values { (d : Items) (a : List ℕ) (m : Made) → component d a ≡ Some m → head_value m.head ≡ component_value d a }
+{}

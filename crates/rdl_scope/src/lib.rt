@@ -1,0 +1,15 @@
+//! Scopes of a description: the types of references, the instances that targets pass, the values of properties, and
+//! the first fault of the items.
+#![tactic(auto)]
+
+mod assignments;
+pub mod faults;
+mod keys;
+mod kinds;
+pub mod laws;
+mod levels;
+mod names;
+mod shells;
+pub mod targets;
+pub mod types;
+pub mod values;
