@@ -94,7 +94,7 @@ room_inside b a i body xs x o e h is at holds room c some =
     let held : own_component (get_or (list_of body) i x) ≡ Some c = ap (λ ys. own_component (get_or ys i x)) (sym e) ∙ ap own_component (sym is) ∙ sym holds ∙ some in
     omega (arith, one_longer b a i at, depth-item body i x c (omega (arith, ap length e)) held)
 
-no_some : {X : Type 0} (o : Option X) → ((x : X) → o ≡ Some x → ⊥) → o ≡ None
+pub no_some : {X : Type 0} (o : Option X) → ((x : X) → o ≡ Some x → ⊥) → o ≡ None
 no_some None h = refl
 no_some (Some x) h = absurd (h x refl)
 
@@ -112,3 +112,17 @@ none_met d around b body i xs x a k o inside component whole e h is at kind foun
     ∙ ap (λ z. option_or z (option_or (inside_fault d (b ++ i ∷ []) (own_component (get_or xs i x))) (first_fault d around b body (i + 1) (items_of (drop (i + 1) xs))))) here
     ∙ ap (λ z. option_or z (first_fault d around b body (i + 1) (items_of (drop (i + 1) xs)))) deeper
     ∙ ap (λ ys. first_fault d around b body (i + 1) (items_of (drop (i + 1) ys))) e
+
+-- a fault that is met inside an item is the first, where the item has none
+pub inside_met : (d : Items) (around : Option Kind) (b : List ℕ) (body : Items) (i : ℕ) (xs : List Item) (x : Item) (a : List ℕ) (k : Option FaultKind) (o inside : Option Fault) (component : Option Component) (f : Fault) (whole : Option Fault)
+    → xs ≡ list_of body → i < length xs → x ≡ get_or xs i x → a ≡ b ++ i ∷ [] → k ≡ item_fault d around b body i x → o ≡ fault_at a k → ((f : Fault) → o ≡ Some f → ⊥)
+    → component ≡ own_component x → inside ≡ inside_fault d a component → inside ≡ Some f
+    → whole ≡ first_fault d around b body i (items_of (drop i (list_of body))) → Some f ≡ whole
+inside_met d around b body i xs x a k o inside component f whole e h is at kind found none held within met w =
+    let here : fault_at (b ++ i ∷ []) (item_fault d around b body i (get_or xs i x)) ≡ None =
+    ap (λ y. fault_at (b ++ i ∷ []) (item_fault d around b body i y)) (sym is) ∙ ap (λ z. fault_at (b ++ i ∷ []) z) (sym kind) ∙ ap (λ z. fault_at z k) (sym at) ∙ sym found ∙ no_some o none in
+    let deeper : inside_fault d (b ++ i ∷ []) (own_component (get_or xs i x)) ≡ Some f =
+    ap (λ y. inside_fault d (b ++ i ∷ []) (own_component y)) (sym is) ∙ ap (λ z. inside_fault d (b ++ i ∷ []) z) (sym held) ∙ ap (λ z. inside_fault d z component) (sym at) ∙ sym within ∙ met in
+    sym (w ∙ ap (λ ys. first_fault d around b body i (items_of (drop i ys))) (sym e) ∙ first-next d around b body i xs x h
+    ∙ ap (λ z. option_or z (option_or (inside_fault d (b ++ i ∷ []) (own_component (get_or xs i x))) (first_fault d around b body (i + 1) (items_of (drop (i + 1) xs))))) here
+    ∙ ap (λ z. option_or z (first_fault d around b body (i + 1) (items_of (drop (i + 1) xs)))) deeper)

@@ -1,5 +1,5 @@
 -- What a walk knows of the definitions around an item is what the search through whole bodies finds.
-use Rattle.std.proofs.Common.{◌≡◌, ℕ, zero, suc, ◌+◌, ◌<◌, ◌≤◌, List, [], ◌∷◌, ◌++◌, length, drop, get_or, Some, None, Option, refl, ap, sym, ◌∙◌, arith, option_map, add-one, drop-cons}
+use Rattle.std.proofs.Common.{◌≡◌, ℕ, zero, suc, ◌+◌, ◌<◌, ◌≤◌, cond, List, [], ◌∷◌, ◌++◌, length, drop, get_or, Some, None, Option, refl, ap, sym, ◌∙◌, arith, option_map, add-one, drop-cons}
 use Rattle.std.specs.Prelude.{option_and_then, slice_get}
 use Rattle.std.specs.Option.{option_or}
 use Rattle.std.proofs.lemmas.List.{drop_all}
@@ -13,7 +13,9 @@ use Rattle.rdl_tree.specs.declared.description.Item.TheVariants.{Define, Instanc
 use Rattle.rdl_tree.specs.declared.description.Of.TheVariants.{Named, Anonymous}
 use Rattle.rdl_tree.proofs.Rounds.{inner-slice_get}
 use Rattle.rdl_scope.specs.Types.{last_definition, item}
-use Rattle.rdl_scope.specs.Walk.{found, below}
+use Rattle.rdl_scope.specs.Walk.{found, below, is_definition}
+use Rattle.rdl_scope.proofs.Searches.{last-suc}
+use Rattle.std.proofs.lemmas.Option.{slice_get_read}
 use Rattle.rdl_scope.specs.declared.names.Names.{Names}
 use Rattle.rdl_scope.specs.Scopes.{number_under, level_found, scope_found}
 
@@ -136,3 +138,13 @@ own-inside (Dynamic t p v) c e = cc
 
 pub body-inside : (b : List ℕ) (n : ℕ) (d body : Items) (x : Item) (c : Component) → body_at b d ≡ Some body → slice_get (list_of body) n ≡ Some x → own_component x ≡ Some c → body_at (b ++ n ∷ []) d ≡ Some c.body
 body-inside b n d body x c e got own = body-deeper b n d body e ∙ inner-slice_get n body ∙ ap (option_and_then own_body) got ∙ own-inside x c own
+
+-- the item that a loop is at
+pub item_got : (body : Items) (i : ℕ) (xs : List Item) (x : Item) → xs ≡ list_of body → i < length xs → x ≡ get_or xs i x → slice_get (list_of body) i ≡ Some x
+item_got body i xs x e h is = ap (λ ys. slice_get ys i) (sym e) ∙ slice_get_read xs (length xs) i x refl h is
+
+-- one definition more
+pub definition-next : (q : List ℕ) (i : ℕ) (body : Items) (x : Item) (old new : Option ℕ) → slice_get (list_of body) i ≡ Some x → old ≡ last_definition q i body → new ≡ cond (is_definition q (Some x)) (Some i) old → new ≡ last_definition q (i + 1) body
+definition-next q i body x old new got e h =
+    let j : suc i ≡ i + 1 = omega arith in
+    h ∙ ap (λ o. cond (is_definition q (Some x)) (Some i) o) e ∙ ap (λ o. cond (is_definition q o) (Some i) (last_definition q i body)) (sym got) ∙ sym (last-suc q i body) ∙ ap (λ n. last_definition q n body) j

@@ -1,11 +1,12 @@
 pub mod AsFound
 pub mod Bodies
+pub mod Depths
 pub mod Examples
 pub mod Firsts
 pub mod Holds
+pub mod InstanceKinds
 pub mod Instances
 pub mod Levelled
-pub mod Depths
 pub mod OuterAssignments
 pub mod Passing
 pub mod Products

@@ -1,12 +1,16 @@
 //! The first fault of the items of a description.
-ghost use Rattle.std.specs.Prelude.{◌≡◌, ◌==◌, ◌||◌, ◌&&◌, ℕ, ◌+◌, ◌<◌, ◌≤◌, ◌++◌, ◌∷◌, [], length, List, Option, Some, None, IfOk, IfErr, OnOk, ◌⊎◌, option_copied, option_map, option_and_then, bytes_eq};
+ghost use Rattle.std.specs.Prelude.{◌≡◌, ◌==◌, ◌||◌, ◌&&◌, ℕ, ◌+◌, ◌<◌, ◌≤◌, ◌++◌, ◌∷◌, [], length, List, Option, Some, None, IfOk, IfErr, OnOk, ◌⊎◌, option_copied, option_map, option_and_then, slice_get, bytes_eq};
 ghost use Rattle.std.specs.Option.{option_or, is_some};
 ghost use Rattle.std.specs.List.{list_any};
 ghost use Rattle.rdl_tree.specs.Items.{Items};
 ghost use Rattle.rdl_tree.specs.Component.{own_component};
 ghost use Rattle.rdl_tree.specs.Depth.{depth};
 ghost use Rattle.rdl_tree.specs.Properties.{property_of, row};
+ghost use Rattle.rdl_tree.specs.Address.{body_at};
+ghost use Rattle.rdl_scope.specs.Types.{item, type_at};
 ghost use Rattle.rdl_scope.specs.Value.{own_before};
+ghost use Rattle.rdl_scope.specs.Scopes.{scope_found, level_found};
+ghost use Rattle.rdl_scope.specs.Walk.{found};
 ghost use Rattle.rdl_scope.specs.ItemFaults.{kind_at, instance_kind, target_kind, is_set, is_excluded, excluded_by, item_fault, fault_at, first_fault, inside_fault, is_too_large, fault_of, out_of_memory};
 ghost use Rattle.rdl_tree.specs.View.{list_of};
 ghost use Rattle.rdl_scope.specs.Keys.{item_key, key_before};
@@ -14,12 +18,15 @@ ghost use Rattle.rdl_scope.specs.Keys.{item_key, key_before};
 use crate::assignments::{default_fault, dynamic_fault, own_fault, rivals};
 use crate::keys::note;
 use crate::kinds::define_fault;
+use crate::levels::scope_found;
+use crate::names::Names;
 use crate::shells::instance_fault;
 use crate::targets::passes;
-use crate::types::{component_at, component_of, own_component};
+use crate::types::{component_at, component_of, own_component, prefix};
 use crate::values::{is_false, own_before};
+use rdl_text::name::Name;
 use rdl_tree::address::Address;
-use rdl_tree::description::{Body, Component, Description, Item};
+use rdl_tree::description::{Body, Component, Description, Item, Of};
 use rdl_tree::fault::{Fault, FaultKind};
 use rdl_tree::properties::property;
 use rdl_tree::property::Property;
@@ -42,6 +49,44 @@ fn instance_kind(description: &Description, address: &Address) -> Option<Kind>
     ensures { result ≡ instance_kind description.now.items address.now }
 {
     kind_at(description, &component_of(description, address)?)
+}
+
+/// The kind of the type of this name for the item at this address. The definitions in scope are those of the levels.
+fn named_kind(
+    description: &Description,
+    address: &Address,
+    name: &Name,
+    levels: &[Names],
+    definitions: &Names,
+) -> Option<Kind>
+    requires { (q : List ℕ) → scope_found levels.now definitions.now q ≡ found address.now description.now.items q }
+    ensures { result ≡ option_and_then (kind_at description.now.items) (type_at address.now description.now.items name.now) }
+{
+    let (depth, number) = scope_found(levels, definitions, name.as_str())?;
+    let around = prefix(address.as_slice(), depth);
+    kind_at(description, &around.inside(number))
+}
+
+/// The kind of the component of the instance at this address.
+#[tactic(auto, using(crate::proofs::InstanceKinds::kinds))]
+fn kind_in_scope(
+    description: &Description,
+    address: &Address,
+    instance: &Item,
+    levels: &[Names],
+    definitions: &Names,
+) -> Option<Kind>
+    requires place { item address.now description.now.items ≡ Some instance.now }
+    requires scope { (q : List ℕ) → scope_found levels.now definitions.now q ≡ found address.now description.now.items q }
+    ensures { result ≡ instance_kind description.now.items address.now }
+{
+    match instance {
+        Item::Instance(_, Of::Named(name)) => {
+            named_kind(description, address, name, levels, definitions)
+        }
+        Item::Instance(_, Of::Anonymous(component)) => Some(component.kind),
+        _ => None,
+    }
 }
 
 /// The kind of the component to which a target leads, from the `n`-th item of the body at this address.
@@ -102,16 +147,21 @@ fn item_fault(
     n: usize,
     item: &Item,
     twice: bool,
+    levels: &[Names],
+    definitions: &Names,
 ) -> Result<Option<FaultKind>, AllocError>
-    requires levels { depth description.now.items ≤ 16 }
+    requires nesting { depth description.now.items ≤ 16 }
     requires room { length at.now < 17 }
+    requires here { body_at at.now description.now.items ≡ Some body.now }
+    requires place { slice_get (list_of body.now) n ≡ Some item.now }
     requires twice { twice ≡ key_before (item_key item.now) n (list_of body.now) }
+    requires scope { (q : List ℕ) → scope_found levels.now definitions.now q ≡ found (at.now ++ n ∷ []) description.now.items q }
     ensures { IfOk result (λ fault. fault ≡ item_fault description.now.items around at.now body.now n item.now) }
 {
     match item {
         Item::Define(_, component) => Ok(define_fault(around, twice, component.kind)),
         Item::Instance(shell, _) => {
-            let kind = instance_kind(description, &at.inside(n));
+            let kind = kind_in_scope(description, &at.inside(n), item, levels, definitions);
             Ok(instance_fault(around, twice, shell, kind))
         }
         Item::Own(name, value) => {
@@ -139,53 +189,92 @@ fn fault_at(address: &Address, kind: Option<FaultKind>) -> Option<Fault>
     }
 }
 
-/// The first fault inside the item at this address.
+/// The first fault inside the item at this address. The definitions before it come back, and the levels stay, where
+/// there is none.
 #[cycle(walk)]
-fn inside_fault(
+fn inside_fault<'a>(
     alloc: Global,
     description: &Description,
     address: &Address,
-    component: Option<&Component>,
-) -> Result<Option<Fault>, AllocError>
-    requires levels { depth description.now.items ≤ 16 }
+    component: Option<&'a Component>,
+    levels: &mut Vec<Names<'a>>,
+    definitions: Names<'a>,
+) -> Result<(Option<Fault>, Names<'a>), AllocError>
+    requires nesting { depth description.now.items ≤ 16 }
     requires room { (c : Component) → option_copied component ≡ Some c → length address.now + depth c.body ≤ 16 }
-    ensures { IfOk result (λ fault. fault ≡ inside_fault description.now.items address.now (option_copied component.entry)) }
+    requires here { (c : Component) → option_copied component ≡ Some c → body_at address.now description.now.items ≡ Some c.body }
+    requires count { length levels.old.items + 1 ≡ length address.now }
+    requires scope { (q : List ℕ) → scope_found levels.old.items definitions q ≡ found address.now description.now.items q }
+    ensures fault { IfOk result (λ r. r.0 ≡ inside_fault description.now.items address.now (option_copied component.entry)) }
+    ensures levels { IfOk result (λ r. r.0 ≡ None → levels.new.items ≡ levels.old.items) }
+    ensures definitions { IfOk result (λ r. r.0 ≡ None → r.1 ≡ definitions.entry) }
 {
-    match component {
-        Some(component) => {
-            let kind = Some(component.kind);
-            first_fault(alloc, description, kind, address, &component.body)
-        }
-        None => Ok(None),
+    let Some(component) = component else {
+        return Ok((None, definitions));
+    };
+    levels.push(definitions)?;
+    let kind = Some(component.kind);
+    let fault = first_fault(alloc, description, kind, address, &component.body, levels)?;
+    match levels.pop() {
+        Some(definitions) => Ok((fault, definitions)),
+        None => Ok((fault, Names::new(alloc))),
     }
 }
 
-/// The first fault of the items of the body at this address.
+/// The first fault of the items of the body at this address. Where there is none, the levels stay.
 #[cycle(walk)]
 #[tactic(auto, using(crate::proofs::Firsts::walks))]
-fn first_fault(
+fn first_fault<'a>(
     alloc: Global,
     description: &Description,
     around: Option<Kind>,
     at: &Address,
-    body: &Body,
+    body: &'a Body,
+    levels: &mut Vec<Names<'a>>,
 ) -> Result<Option<Fault>, AllocError>
-    requires levels { depth description.now.items ≤ 16 }
+    requires nesting { depth description.now.items ≤ 16 }
     requires room { length at.now + depth body.now ≤ 16 }
-    ensures { IfOk result (λ fault. fault ≡ first_fault description.now.items around at.now body.now 0 body.now) }
+    requires here { body_at at.now description.now.items ≡ Some body.now }
+    requires count { length levels.old.items ≡ length at.now }
+    requires scope { (q : List ℕ) → level_found 0 levels.old.items q ≡ found at.now description.now.items q }
+    ensures fault { IfOk result (λ fault. fault ≡ first_fault description.now.items around at.now body.now 0 body.now) }
+    ensures levels { IfOk result (λ fault. fault ≡ None → levels.new.items ≡ levels.old.items) }
 {
     let mut keys = HashSet::new(alloc);
+    let mut definitions = Names::new(alloc);
     'items: for (i, item) in body.as_slice().iter().enumerate() {
         let address = at.inside(i);
         let twice = note(alloc, &mut keys, item)?;
-        let kind = item_fault(alloc, description, around, at, body, i, item, twice)?;
+        let scope = levels.as_slice();
+        let kind = item_fault(
+            alloc,
+            description,
+            around,
+            at,
+            body,
+            i,
+            item,
+            twice,
+            scope,
+            &definitions,
+        )?;
         if let Some(fault) = fault_at(&address, kind) {
             return Ok(Some(fault));
         }
-        let inside = inside_fault(alloc, description, &address, own_component(item))?;
+        let component = own_component(item);
+        let (inside, kept) = inside_fault(
+            alloc,
+            description,
+            &address,
+            component,
+            levels,
+            definitions,
+        )?;
         if let Some(fault) = inside {
             return Ok(Some(fault));
         }
+        definitions = kept;
+        definitions.put_definition(item, i)?;
     }
     Ok(None)
 }
@@ -210,7 +299,15 @@ fn judge(alloc: Global, description: &Description) -> Result<Option<Fault>, Allo
             address: root,
         }));
     }
-    first_fault(alloc, description, None, &root, &description.items)
+    let mut levels = Vec::new(alloc);
+    first_fault(
+        alloc,
+        description,
+        None,
+        &root,
+        &description.items,
+        &mut levels,
+    )
 }
 
 /// The first fault of a description: nesting, items or weight over the limits (E25), or that of the first item in

@@ -19,7 +19,11 @@ fn level_found(levels: &[Names], name: &str) -> Option<(usize, usize)>
 }
 
 /// The same, where these are the definitions of the innermost level.
-fn scope_found(levels: &[Names], definitions: &Names, name: &str) -> Option<(usize, usize)>
+pub(crate) fn scope_found(
+    levels: &[Names],
+    definitions: &Names,
+    name: &str,
+) -> Option<(usize, usize)>
     ensures { result ≡ scope_found levels.now definitions.now name.now }
 {
     innermost(

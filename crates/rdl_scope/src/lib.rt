@@ -11,5 +11,7 @@ mod levels;
 mod names;
 mod shells;
 pub mod targets;
+#[cfg(test)]
+mod tests;
 pub mod types;
 pub mod values;
