@@ -4,14 +4,14 @@
 mod body;
 pub mod class;
 pub mod fault;
-pub mod found;
-pub mod gathered;
+mod found;
+mod gathered;
 mod inst;
 pub mod laws;
 pub mod parse;
 pub mod places;
 mod reader;
-pub mod room;
+mod room;
 mod statement;
 #[cfg(test)]
 mod tests;

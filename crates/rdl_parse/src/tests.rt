@@ -178,16 +178,26 @@ fn one_statement_is_an_item(rt: HostRuntime) -> Result<(), Fail> {
     Ok(())
 }
 
+/// How a value prints itself for debugging, which shows all of it.
+fn shown(alloc: Global, item: &Item) -> Result<String, Fail> {
+    Ok(format!(in alloc; "{item:?}")?)
+}
+
+// A map with one type that three instances share.
+const SHARED_TYPE: &str =
+    "reg T { field {} e; field {} f; }; addrmap top { T u; T v; u.f->reset = 1; T w; v.f->reset = 0; v.e->sw = r; };";
+
 #[test]
-fn a_copy_equals_what_is_read(rt: HostRuntime) -> Result<(), Fail> {
+fn copies_equal_what_is_read(rt: HostRuntime) -> Result<(), Fail> {
     let alloc = rt.alloc();
-    let text =
-        "reg T { field {} e; field {} f; }; addrmap top { T u; T v; u.f->reset = 1; T w; v.f->reset = 0; v.e->sw = r; };";
-    let (description, _) = parse(alloc, text).ok().ok_or("spelled")?;
+    let (description, _) = parse(alloc, SHARED_TYPE).ok().ok_or("spelled")?;
     let copy = description.try_copy(alloc)?;
     assert_eq!(rt;
         format!(in alloc; "{copy:?}")?,
         format!(in alloc; "{description:?}")?
     );
+    let top = item(&description, 1)?;
+    let copied = top.try_copy(alloc)?;
+    assert_eq!(rt; shown(alloc, &copied)?, shown(alloc, top)?);
     Ok(())
 }
