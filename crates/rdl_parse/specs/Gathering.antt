@@ -1,6 +1,6 @@
 -- What is kept of a statement's items while its words are read: nothing once they pass the room.
 -- Own.
-use Rattle.std.specs.Prelude.{ℕ, ◌+◌, if◌then◌else◌, List, [], ◌∷◌, length, Option, Some, None, Result, Ok, Err}
+use Rattle.std.specs.Prelude.{ℕ, ◌+◌, if◌then◌else◌, List, ◌∷◌, length, Option, Some, None, Result, Ok, Err}
 use Rattle.rdl_text.specs.declared.token.Mark.TheVariants.{Semicolon}
 use Rattle.rdl_tree.specs.declared.description.Item.TheVariants.{Define, Instance}
 use Rattle.rdl_tree.specs.declared.description.Of.{Of}
