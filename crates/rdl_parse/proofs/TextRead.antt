@@ -374,20 +374,20 @@ more-statements levels s ws x vs z us p q =
 -- ---- A fault of size behind a statement.
 
 abbrev behind_one : Statement → Opened → Opened
-behind_one s (last done final) = last (one s done) final
-behind_one s (inside done o k n body) = inside (one s done) o k n body
+behind_one s (last before final) = last (one s before) final
+behind_one s (inside before o k n body) = inside (one s before) o k n body
 
 behind-words : (s : Statement) (t : Opened) (ws : List Symbol) → statement_words s (opened_words t ws) ≡ opened_words (behind_one s t) ws
-behind-words s (last done final) ws = refl
-behind-words s (inside done o k n body) ws = refl
+behind-words s (last before final) ws = refl
+behind-words s (inside before o k n body) ws = refl
 
 behind-before : (s : Statement) (t : Opened) → before_last (behind_one s t) ≡ statement_items s ++ before_last t
-behind-before s (last done final) = refl
-behind-before s (inside done o k n body) = append_assoc (statement_items s) (items done) (before_last body)
+behind-before s (last before final) = refl
+behind-before s (inside before o k n body) = append_assoc (statement_items s) (items before) (before_last body)
 
 behind-with : (s : Statement) (t : Opened) → with_last (behind_one s t) ≡ statement_items s ++ with_last t
-behind-with s (last done final) = append_assoc (statement_items s) (items done) (statement_items final)
-behind-with s (inside done o k n body) = append_assoc (statement_items s) (items done) (with_last body)
+behind-with s (last before final) = append_assoc (statement_items s) (items before) (statement_items final)
+behind-with s (inside before o k n body) = append_assoc (statement_items s) (items before) (with_last body)
 
 weight-append : (xs ys : List Item) → weight (items_of (xs ++ ys)) ≡ weight (items_of xs) + weight (items_of ys)
 weight-append xs ys = omega (arith, weight-items_of (xs ++ ys), weight-items_of xs, weight-items_of ys, sum_by-append item_weight xs ys)
