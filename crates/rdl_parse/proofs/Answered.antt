@@ -1,5 +1,5 @@
 -- The contracts of `parse` and `parse_item`, from those of their parts.
-use Rattle.std.proofs.Common.{◌≡◌, ◌⊎◌, inl, inr, ⊎_elim, ℕ, zero, suc, ◌+◌, ◌-◌, ◌<◌, ◌≤◌, List, [], ◌∷◌, ◌++◌, length, Option, Some, None, Result, Ok, Err, refl, ap, sym, ◌∙◌, subst, arith, append_assoc}
+use Rattle.std.proofs.Common.{◌≡◌, ◌⊎◌, inl, inr, ℕ, suc, ◌+◌, ◌-◌, ◌<◌, List, [], ◌∷◌, ◌++◌, length, Some, Result, Ok, Err, refl, ap, sym, ◌∙◌, subst, arith, append_assoc}
 use Rattle.std.specs.Prelude.{slice_get}
 use Rattle.std.specs.Option.{option_map_or}
 use Rattle.std.proofs.lemmas.List.{length-append}
@@ -18,8 +18,7 @@ use Rattle.rdl_parse.specs.declared.fault.Fault.TheVariants as faults
 use Rattle.rdl_parse.specs.declared.fault.Stop.{Stop}
 use Rattle.rdl_parse.specs.declared.fault.Stop.TheVariants as stops
 use Rattle.rdl_parse.specs.declared.fault.ParseFault.{ParseFault}
-use Rattle.rdl_parse.specs.declared.fault.ParseFaultKind.{ParseFaultKind}
-use Rattle.rdl_parse.specs.declared.fault.ParseFaultKind.TheVariants.{TooLong, Words, UnexpectedWord, UnexpectedEnd, TooDeep, TooLarge}
+use Rattle.rdl_parse.specs.declared.fault.ParseFaultKind.TheVariants.{Words}
 use Rattle.rdl_parse.specs.Symbol.{Symbol, symbol, symbols, kind, mark}
 use Rattle.rdl_parse.specs.Spelling.{Spells, SpellsItems, outside_words, statement_words}
 use Rattle.rdl_parse.specs.Spelling.{words as words_of}
@@ -27,9 +26,9 @@ use Rattle.rdl_parse.specs.Reading.{Block, Fails, limit, text_at, items_at}
 use Rattle.rdl_parse.specs.Stands.{Opened, last, inside, name_words, opened_words, Stands, opens, closes}
 use Rattle.rdl_parse.proofs.Passing.{Passes, passes-then, words-pass, statement-reach, head-passes}
 use Rattle.rdl_parse.specs.Places.{Located, located, start_of}
-use Rattle.rdl_parse.specs.Parsing.{HasWords, SpellsText, SpellsItemText, SpellsNone, IsAtWord, HasStatementFault, HasWordFault, RefusesBy, SpellsSomewhere, Refuses, RefusesItem}
+use Rattle.rdl_parse.specs.Parsing.{HasWords, SpellsText, SpellsItemText, SpellsNone, IsAtWord, HasWordFault, RefusesBy, SpellsSomewhere, Refuses, RefusesItem}
 use Rattle.rdl_parse.specs.Faults.{max_text, out_of_memory, too_long, stop_fault}
-use Rattle.rdl_parse.proofs.Exact.{read-found, read-only, read-none, read-stands, item-found, item-only, item-none, item-stands, one-spelled, one-statement}
+use Rattle.rdl_parse.proofs.Exact.{read-found, read-none, read-stands, item-found, item-none, item-stands, one-spelled, one-statement}
 
 -- ---- A word of the text from a symbol.
 

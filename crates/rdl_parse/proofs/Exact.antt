@@ -1,16 +1,12 @@
 -- The contracts of `parse` and `parse_item` from what reading gives, and that no words spell two descriptions.
-use Rattle.std.proofs.Common.{◌≡◌, ℕ, ◌≤◌, max, List, length, Result, Ok, Err, IfOk, sym, ap, ◌∙◌, subst, arith}
-use Rattle.std.specs.Global.{Vec}
+use Rattle.std.proofs.Common.{◌≡◌, max, List, Result, Ok, Err, sym, ap, ◌∙◌, arith}
 use Rattle.rdl_tree.specs.Items.{Items, count}
 use Rattle.rdl_tree.specs.View.{items_of}
 use Rattle.rdl_tree.specs.Depth.{depth}
 use Rattle.rdl_tree.specs.Weight.{weight}
 use Rattle.rdl_tree.specs.Limits.{IsWithinLimits}
-use Rattle.rdl_tree.specs.declared.description.Description.{Description}
 use Rattle.rdl_tree.specs.declared.description.Item.{Item}
 use Rattle.rdl_parse.specs.declared.fault.Fault.{Fault}
-use Rattle.rdl_parse.specs.declared.fault.Stop.{Stop}
-use Rattle.rdl_parse.specs.declared.fault.Stop.TheVariants as stops
 use Rattle.rdl_parse.specs.declared.found.Spot.{Spot}
 use Rattle.rdl_parse.specs.declared.room.Room.{Room}
 use Rattle.rdl_parse.specs.Symbol.{Symbol}

@@ -1,13 +1,12 @@
 -- What each form found, as reading keeps it: its items and their spots.
-use Rattle.std.proofs.Common.{◌≡◌, ℕ, zero, suc, ◌+◌, ◌≤◌, max, Bool, true, false, List, [], ◌∷◌, ◌++◌, length, map, Option, Some, None, refl, ap, sym, ◌∙◌, arith, append_assoc}
+use Rattle.std.proofs.Common.{◌≡◌, ℕ, suc, ◌+◌, ◌≤◌, Bool, true, false, List, [], ◌∷◌, ◌++◌, length, map, refl, sym, arith, append_assoc}
 use Rattle.std.specs.Prelude.{◌&&◌, nat_le}
 use Rattle.std.proofs.lemmas.Bool.{leb-true, le-leb}
 use Rattle.std.proofs.lemmas.List.{append-nil, length-append}
 use Rattle.std.proofs.lemmas.List.Sums.{sum_by-append}
-use Rattle.rdl_tree.specs.Items.{Items, no_items, count}
+use Rattle.rdl_tree.specs.Items.{Items, count}
 use Rattle.rdl_tree.specs.View.{items_of}
 use Rattle.rdl_tree.specs.Depth.{depth}
-use Rattle.rdl_tree.specs.ItemWeight.{item_weight}
 use Rattle.rdl_tree.proofs.Sizes.{item_count, count-items_of}
 use Rattle.rdl_tree.specs.declared.shell.Kind.{Kind}
 use Rattle.rdl_tree.specs.declared.shell.Outside.{Outside}
@@ -17,9 +16,9 @@ use Rattle.rdl_tree.specs.declared.description.Of.TheVariants.{Named, Anonymous}
 use Rattle.rdl_text.specs.declared.token.Mark.TheVariants.{Semicolon, CloseBrace}
 use Rattle.rdl_parse.specs.declared.found.Spot.{Spot}
 use Rattle.rdl_parse.specs.declared.room.Room.{Room}
-use Rattle.rdl_parse.specs.Finds.{Finds, nothing, single, joined, weight_of, fits, less}
+use Rattle.rdl_parse.specs.Finds.{Finds, nothing, single, joined, weight_of, fits}
 use Rattle.rdl_parse.specs.Symbol.{Symbol, mark}
-use Rattle.rdl_parse.specs.Spelling.{Inst, Statement, define, define_with, anonymous, named, own, default, dynamic, Statements, none, one, inst_words, others_words, insts_words, outside_words, at_late, words, instance, instances, component, statement_items, items, out_of, said, others_spots, insts_spots, statement_spots, spots}
+use Rattle.rdl_parse.specs.Spelling.{Inst, Statement, define, define_with, anonymous, named, own, default, dynamic, Statements, none, one, inst_words, insts_words, outside_words, at_late, words, instance, instances, component, statement_items, items, out_of, said, others_spots, insts_spots, statement_spots, spots}
 
 abbrev pub one_finds : Outside → Of → List Spot → Inst → List Symbol → Finds
 one_finds o of inner i after = single (instance o of i) (length (inst_words i after)) inner

@@ -1,5 +1,5 @@
 -- What holds of a reading: P of what was read, S of the fault.
-use Rattle.std.proofs.Common.{◌≡◌, Bool, true, false, cond, Result, Ok, Err, refl, sym, ◌∙◌, subst, ap}
+use Rattle.std.proofs.Common.{◌≡◌, Bool, true, false, cond, Result, Ok, Err, refl, subst, ap}
 use Rattle.rdl_parse.specs.declared.fault.Fault.{Fault}
 use Rattle.rdl_parse.specs.Reading.{◌>>=◌}
 

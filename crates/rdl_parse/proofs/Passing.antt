@@ -1,17 +1,16 @@
 -- Words that were passed, with their braces in pairs, and the faults behind them.
-use Rattle.std.proofs.Common.{◌≡◌, ℕ, zero, suc, ◌+◌, ◌<◌, ◌≤◌, List, [], ◌∷◌, ◌++◌, length, Option, Some, None, Result, refl, ap, sym, ◌∙◌, arith, append_assoc}
+use Rattle.std.proofs.Common.{◌≡◌, ℕ, suc, ◌+◌, ◌<◌, ◌≤◌, List, [], ◌∷◌, ◌++◌, length, Option, Some, None, Result, refl, ap, sym, ◌∙◌, arith, append_assoc}
 use Rattle.std.proofs.lemmas.List.{length-append}
 use Rattle.rdl_text.specs.declared.token.Mark.{Mark}
-use Rattle.rdl_text.specs.declared.token.Mark.TheVariants.{OpenBrace, CloseBrace, OpenBracket, CloseBracket, Colon, Semicolon, Comma, Dot, Equals, At, PlusEquals, PercentEquals, Arrow}
+use Rattle.rdl_text.specs.declared.token.Mark.TheVariants.{OpenBrace, CloseBrace, Semicolon, Equals, At, PlusEquals, PercentEquals}
 use Rattle.rdl_tree.specs.declared.shell.Outside.{Outside}
 use Rattle.rdl_tree.specs.declared.value.Value.{Value}
 use Rattle.rdl_tree.specs.declared.value.Value.TheVariants as values
 use Rattle.rdl_tree.specs.declared.value.Word.TheVariants as word
 use Rattle.rdl_parse.specs.declared.fault.Fault.{Fault}
 use Rattle.rdl_parse.specs.declared.fault.Fault.TheVariants.{Unexpected, End, TooDeep, TooLarge}
-use Rattle.rdl_parse.specs.Symbol as symbol
-use Rattle.rdl_parse.specs.Symbol.{Symbol, kind, outside, name, number, mark}
-use Rattle.rdl_parse.specs.Spelling.{Brackets, sizes, range, Inst, Prop, free, reserved, Statement, define, define_with, anonymous, named, own, default, dynamic, Statements, none, one, sizes_words, brackets_words, part_words, inst_words, others_words, insts_words, outside_words, at_front, at_late, prop_symbol, value_symbol, word_symbol, equals_words, assigned_words, dots_words, statement_words, words}
+use Rattle.rdl_parse.specs.Symbol.{Symbol, kind, mark}
+use Rattle.rdl_parse.specs.Spelling.{Brackets, sizes, range, Inst, Prop, free, reserved, Statement, define, define_with, anonymous, named, own, default, dynamic, Statements, none, one, sizes_words, brackets_words, part_words, inst_words, others_words, insts_words, outside_words, at_front, at_late, prop_symbol, value_symbol, equals_words, assigned_words, dots_words, statement_words, words}
 use Rattle.rdl_parse.specs.declared.room.Room.{Room}
 use Rattle.rdl_tree.specs.declared.shell.Kind.{Kind}
 use Rattle.rdl_parse.specs.Stands.{opens, closes, name_words, inside, IsWord, IsTooDeep, IsTooLarge, Stands}

@@ -1,8 +1,8 @@
 -- What one turn of each loop does.
-use Rattle.std.proofs.Common.{◌≡◌, ℕ, zero, suc, ◌+◌, ◌<◌, ◌≤◌, Bool, true, false, List, [], ◌∷◌, length, Result, Ok, Err, refl, ap, sym, ◌∙◌, arith}
+use Rattle.std.proofs.Common.{◌≡◌, ◌<◌, Bool, true, false, List, length, Result, Ok, Err, sym, ◌∙◌, arith}
 use Rattle.rdl_text.specs.Word.{Word}
 use Rattle.rdl_parse.specs.Symbol.{Symbol, symbols}
-use Rattle.rdl_parse.specs.Reading.{◌>>=◌, Fails, repeated}
+use Rattle.rdl_parse.specs.Reading.{Fails, repeated}
 use Rattle.rdl_parse.specs.declared.fault.Fault.{Fault}
 use Rattle.rdl_parse.specs.declared.fault.Stop.{Stop}
 use Rattle.rdl_parse.specs.declared.fault.Stop.TheVariants as stops

@@ -1,9 +1,9 @@
 -- What is spelled within the limits is read.
-use Rattle.std.proofs.Common.{◌≡◌, ℕ, zero, suc, ◌+◌, ◌-◌, ◌<◌, ◌≤◌, max, Bool, true, false, cond, List, [], ◌∷◌, ◌++◌, length, map, Option, Some, None, Result, Ok, Err, refl, ap, sym, ◌∙◌, subst, arith}
+use Rattle.std.proofs.Common.{◌≡◌, ℕ, zero, suc, ◌+◌, ◌≤◌, max, true, false, List, [], ◌∷◌, ◌++◌, length, map, Option, Some, None, Ok, refl, ap, sym, ◌∙◌, arith}
 use Rattle.std.proofs.lemmas.List.{length-append}
 use Rattle.std.proofs.lemmas.List.Sums.{sum_by-cons, sum_by-append}
-use Rattle.rdl_text.specs.declared.token.Mark.TheVariants.{OpenBrace, CloseBrace, Semicolon, Comma, Dot, Equals, Arrow}
-use Rattle.rdl_tree.specs.Items.{Items, no_items, count}
+use Rattle.rdl_text.specs.declared.token.Mark.TheVariants.{OpenBrace, CloseBrace, Semicolon, Comma, Arrow}
+use Rattle.rdl_tree.specs.Items.{Items, count}
 use Rattle.rdl_tree.specs.View.{items_of}
 use Rattle.rdl_tree.specs.Depth.{depth}
 use Rattle.rdl_tree.specs.Weight.{weight}
@@ -14,24 +14,22 @@ use Rattle.rdl_tree.specs.declared.shell.Kind.{Kind}
 use Rattle.rdl_tree.specs.declared.shell.Outside.{Outside}
 use Rattle.rdl_tree.specs.declared.shell.Outside.TheVariants.{Unsaid}
 use Rattle.rdl_tree.specs.declared.description.Item.{Item}
-use Rattle.rdl_tree.specs.declared.description.Item.TheVariants.{Define, Instance, Own, Default, Dynamic}
+use Rattle.rdl_tree.specs.declared.description.Item.TheVariants.{Define}
 use Rattle.rdl_tree.specs.declared.description.Of.{Of}
 use Rattle.rdl_tree.specs.declared.description.Of.TheVariants.{Named, Anonymous}
 use Rattle.rdl_tree.specs.declared.value.Value.{Value}
 use Rattle.rdl_parse.specs.declared.found.Spot.{Spot}
 use Rattle.rdl_parse.specs.declared.room.Room.{Room}
-use Rattle.rdl_parse.specs.declared.fault.Fault.{Fault}
 use Rattle.rdl_parse.specs.Finds.{Finds, nothing, single, joined, weight_of, fits, less}
-use Rattle.rdl_parse.specs.Symbol as symbol
-use Rattle.rdl_parse.specs.Symbol.{Symbol, kind, outside, name, number, mark, property_text}
-use Rattle.rdl_parse.specs.Spelling.{Inst, Out, nowhere, front, late, Prop, free, reserved, Statement, define, define_with, anonymous, named, own, default, dynamic, Statements, none, one, inst_words, others_words, insts_words, outside_words, at_front, at_late, prop_symbol, equals_words, assigned_words, dots_words, statement_words, words, instance, instances, said, out_of, prop_text, value_of, component, statement_items, items, statement_spots, spots, Spells, SpellsItems}
-use Rattle.rdl_parse.specs.Reading.{◌>>=◌, by, begins, mark_at, Finished, finish_at, more_at, next_at, others_at, insts_at, own_at, default_at, dynamic_at, named_at, Block, block, Inner, late_at, late_insts_at, defined_at, component_at, fronted_at, statement_at, goes_on, grown, following_one_at, following_at, statements_at, body_at, end_at, text_at, items_at}
-use Rattle.rdl_parse.proofs.Outcome.{outcome-ok, bind-ok, cond-true, cond-false}
+use Rattle.rdl_parse.specs.Symbol.{Symbol, name, mark}
+use Rattle.rdl_parse.specs.Spelling.{Inst, Out, nowhere, front, late, Prop, free, reserved, Statement, define, define_with, anonymous, named, own, default, dynamic, Statements, none, one, inst_words, others_words, insts_words, outside_words, at_front, at_late, equals_words, assigned_words, dots_words, statement_words, words, instance, instances, out_of, prop_text, component, statement_items, items, spots, Spells, SpellsItems}
+use Rattle.rdl_parse.specs.Reading.{begins, Finished, finish_at, more_at, next_at, others_at, insts_at, own_at, default_at, dynamic_at, named_at, block, late_at, late_insts_at, defined_at, component_at, fronted_at, statement_at, goes_on, following_one_at, following_at, statements_at, body_at, end_at, text_at, items_at}
+use Rattle.rdl_parse.proofs.Outcome.{outcome-ok, bind-ok, cond-true}
 use Rattle.rdl_parse.proofs.Turns.{Shortens, repeated-done, repeated-next}
-use Rattle.rdl_parse.proofs.Passing.{passes-length, inst-passes, others-pass, statement-shorter}
+use Rattle.rdl_parse.proofs.Passing.{passes-length, inst-passes, statement-shorter}
 use Rattle.rdl_parse.proofs.WordAgain.{Behind, others-behind, mark-again, value-again, prop-again, inst-again, dots-again}
-use Rattle.rdl_parse.proofs.TextRead.{next-reads, statement-reads, body-reads, one-follows, Held}
-use Rattle.rdl_parse.proofs.Forms.{one_finds, others_finds, insts_finds, statement_finds, finds, joined-nothing, joined-assoc, fits-both, statement-counted, counted, count-append}
+use Rattle.rdl_parse.proofs.TextRead.{next-reads, body-reads, one-follows, Held}
+use Rattle.rdl_parse.proofs.Forms.{one_finds, others_finds, insts_finds, statement_finds, finds, joined-nothing, joined-assoc, fits-both, statement-counted, count-append}
 
 -- ---- The INSTs of a statement, and its end.
 

@@ -1,9 +1,8 @@
 -- What is read of statements, bodies and texts is spelled and within the limits, and where the faults stand.
-use Rattle.std.proofs.Common.{◌≡◌, ℕ, zero, suc, ◌+◌, ◌-◌, ◌≤◌, Bool, true, false, List, [], ◌∷◌, ◌++◌, length, map, Option, Some, None, Result, Ok, Err, refl, ap, sym, ◌∙◌, subst, arith, append_assoc}
+use Rattle.std.proofs.Common.{◌≡◌, ℕ, zero, suc, ◌+◌, ◌-◌, ◌≤◌, Bool, true, false, List, [], ◌∷◌, ◌++◌, length, Option, Some, None, refl, ap, sym, ◌∙◌, subst, arith, append_assoc}
 use Rattle.std.specs.Prelude.{◌||◌}
 use Rattle.std.proofs.lemmas.List.{length-append}
 use Rattle.std.proofs.lemmas.List.Sums.{sum_by-append}
-use Rattle.rdl_text.specs.declared.token.Mark.{Mark}
 use Rattle.rdl_text.specs.declared.token.Mark.TheVariants.{OpenBrace, CloseBrace, Semicolon, Comma, Dot, Equals, Arrow}
 use Rattle.rdl_tree.specs.Items.{Items, count}
 use Rattle.rdl_tree.specs.View.{items_of}
@@ -21,18 +20,17 @@ use Rattle.rdl_tree.specs.declared.description.Of.{Of}
 use Rattle.rdl_tree.specs.declared.description.Of.TheVariants.{Named, Anonymous}
 use Rattle.rdl_parse.specs.declared.found.Spot.{Spot}
 use Rattle.rdl_parse.specs.declared.room.Room.{Room}
-use Rattle.rdl_parse.specs.declared.fault.Fault.{Fault}
 use Rattle.rdl_parse.specs.declared.fault.Fault.TheVariants.{TooDeep}
 use Rattle.rdl_parse.specs.Finds.{Finds, nothing, single, joined, weight_of, fits, less}
 use Rattle.rdl_parse.specs.Symbol as symbol
 use Rattle.rdl_parse.specs.Symbol.{Symbol, kind, outside, name, number, mark, property_text}
-use Rattle.rdl_parse.specs.Spelling.{Inst, Out, nowhere, front, late, Prop, free, reserved, Statement, define, define_with, anonymous, named, own, default, dynamic, Statements, none, one, inst_words, others_words, insts_words, outside_words, at_front, at_late, prop_symbol, equals_words, assigned_words, dots_words, statement_words, words, instance, instances, said, out_of, prop_text, value_of, component, statement_items, items, statement_spots, spots, Spells, SpellsItems}
-use Rattle.rdl_parse.specs.Reading.{◌>>=◌, begins, Finished, finish_at, more_at, next_at, others_at, insts_at, own_at, default_at, dynamic_at, named_at, Block, block, Inner, late_at, late_insts_at, defined_at, component_at, fronted_at, statement_at, goes_on, grown, following_one_at, following_at, statements_at, body_at, end_at, text_at, items_at}
+use Rattle.rdl_parse.specs.Spelling.{Inst, Out, nowhere, front, late, Prop, free, reserved, Statement, define, define_with, anonymous, named, own, default, dynamic, Statements, none, one, inst_words, others_words, insts_words, outside_words, at_front, at_late, prop_symbol, equals_words, assigned_words, dots_words, statement_words, words, instance, said, out_of, prop_text, component, statement_items, items, statement_spots, spots, Spells, SpellsItems}
+use Rattle.rdl_parse.specs.Reading.{◌>>=◌, begins, Finished, finish_at, more_at, next_at, insts_at, own_at, default_at, dynamic_at, named_at, Block, block, Inner, late_at, late_insts_at, defined_at, component_at, fronted_at, statement_at, goes_on, following_one_at, statements_at, body_at, end_at, text_at, items_at}
 use Rattle.rdl_parse.specs.Stands.{Opened, last, inside, opened_words, before_last, with_last, HasRoom, IsTooLarge, Stands}
 use Rattle.rdl_parse.proofs.Outcome.{Outcome, then, gives, stops, but, weaker, either}
 use Rattle.rdl_parse.proofs.Turns.{Turning, repeated-holds}
-use Rattle.rdl_parse.proofs.Passing.{Passes, passes-none, passes-word, passes-from, passes-then, passes-braces, inst-passes, others-pass, insts-reach, outside-passes, prop-passes, equals-pass, dots-pass, words-pass, statement-reach, statement-passes, head-passes, Mild, mild-along, past, mildly, along, InBody, deeper, mildly-in_body, from-body}
-use Rattle.rdl_parse.proofs.WordRead.{refuses, mark-reads, name-reads, prop-reads, value-reads, inst-reads, dots-read}
+use Rattle.rdl_parse.proofs.Passing.{Passes, passes-none, passes-word, passes-from, passes-then, passes-braces, inst-passes, others-pass, outside-passes, prop-passes, equals-pass, dots-pass, words-pass, statement-passes, head-passes, Mild, mild-along, past, mildly, along, InBody, deeper, mildly-in_body, from-body}
+use Rattle.rdl_parse.proofs.WordRead.{refuses, mark-reads, prop-reads, value-reads, inst-reads, dots-read}
 use Rattle.rdl_parse.proofs.Forms.{one_finds, others_finds, insts_finds, statement_finds, finds, joined-nothing, joined-assoc, depth-named, depth-anonymous, fits-many, fits-light, fits-both, statement-counted, counted, count-append}
 
 -- ---- The INSTs of a statement.
@@ -376,20 +374,20 @@ more-statements levels s ws x vs z us p q =
 -- ---- A fault of size behind a statement.
 
 abbrev behind_one : Statement → Opened → Opened
-behind_one s (last done final) = last (one s done) final
-behind_one s (inside done o k n body) = inside (one s done) o k n body
+behind_one s (last before final) = last (one s before) final
+behind_one s (inside before o k n body) = inside (one s before) o k n body
 
 behind-words : (s : Statement) (t : Opened) (ws : List Symbol) → statement_words s (opened_words t ws) ≡ opened_words (behind_one s t) ws
-behind-words s (last done final) ws = refl
-behind-words s (inside done o k n body) ws = refl
+behind-words s (last before final) ws = refl
+behind-words s (inside before o k n body) ws = refl
 
 behind-before : (s : Statement) (t : Opened) → before_last (behind_one s t) ≡ statement_items s ++ before_last t
-behind-before s (last done final) = refl
-behind-before s (inside done o k n body) = append_assoc (statement_items s) (items done) (before_last body)
+behind-before s (last before final) = refl
+behind-before s (inside before o k n body) = append_assoc (statement_items s) (items before) (before_last body)
 
 behind-with : (s : Statement) (t : Opened) → with_last (behind_one s t) ≡ statement_items s ++ with_last t
-behind-with s (last done final) = append_assoc (statement_items s) (items done) (statement_items final)
-behind-with s (inside done o k n body) = append_assoc (statement_items s) (items done) (with_last body)
+behind-with s (last before final) = append_assoc (statement_items s) (items before) (statement_items final)
+behind-with s (inside before o k n body) = append_assoc (statement_items s) (items before) (with_last body)
 
 weight-append : (xs ys : List Item) → weight (items_of (xs ++ ys)) ≡ weight (items_of xs) + weight (items_of ys)
 weight-append xs ys = omega (arith, weight-items_of (xs ++ ys), weight-items_of xs, weight-items_of ys, sum_by-append item_weight xs ys)

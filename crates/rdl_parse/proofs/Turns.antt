@@ -3,7 +3,7 @@ use Rattle.std.proofs.Common.{◌≡◌, ℕ, zero, suc, ◌<◌, ◌≤◌, Boo
 use Rattle.rdl_parse.specs.Symbol.{Symbol}
 use Rattle.rdl_parse.specs.declared.fault.Fault.{Fault}
 use Rattle.rdl_parse.specs.Reading.{◌>>=◌, turns, repeated}
-use Rattle.rdl_parse.proofs.Outcome.{Outcome, outcome-ok, then, gives, weaker, either, cond-true, cond-false, bind-ok}
+use Rattle.rdl_parse.proofs.Outcome.{Outcome, then, gives, weaker, either, cond-true, cond-false}
 
 abbrev pub Step : Type 0 → Type 0
 Step S = S → List Symbol → Result (S × List Symbol) Fault

@@ -1,5 +1,5 @@
 -- What is spelled by one part is read.
-use Rattle.std.proofs.Common.{◌≡◌, ℕ, zero, suc, ◌+◌, ◌<◌, Bool, true, false, cond, List, [], ◌∷◌, ◌++◌, length, Option, Some, None, Result, Ok, Err, refl, ap, sym, ◌∙◌, arith, append_assoc}
+use Rattle.std.proofs.Common.{◌≡◌, ℕ, true, false, List, [], ◌∷◌, ◌++◌, length, Option, Some, None, Ok, refl, ap, sym, ◌∙◌, arith, append_assoc}
 use Rattle.std.proofs.lemmas.List.{append-nil}
 use Rattle.rdl_text.specs.declared.token.Mark.{Mark}
 use Rattle.rdl_text.specs.declared.token.Mark.TheVariants.{OpenBrace, CloseBrace, OpenBracket, CloseBracket, Colon, Semicolon, Comma, Dot, Equals, At, PlusEquals, PercentEquals, Arrow}
@@ -7,11 +7,8 @@ use Rattle.rdl_tree.specs.declared.shell.Outside.{Outside}
 use Rattle.rdl_tree.specs.declared.value.Value.{Value}
 use Rattle.rdl_tree.specs.declared.value.Value.TheVariants as values
 use Rattle.rdl_tree.specs.declared.value.Word.TheVariants as word
-use Rattle.rdl_parse.specs.declared.fault.Fault.{Fault}
-use Rattle.rdl_parse.specs.declared.class.Property.TheVariants as property
-use Rattle.rdl_parse.specs.Symbol as symbol
-use Rattle.rdl_parse.specs.Symbol.{Symbol, kind, outside, name, number, mark}
-use Rattle.rdl_parse.specs.Reading.{◌>>=◌, taken, by, is_mark, begins, mark_at, value_by, name_at, number_at, prop_at, repeated, size_at, sizes_at, bracketed_at, brackets_at, part_at, inst_at, value_at, dot_at, dots_at}
+use Rattle.rdl_parse.specs.Symbol.{Symbol, number, mark}
+use Rattle.rdl_parse.specs.Reading.{◌>>=◌, taken, by, is_mark, begins, mark_at, value_by, prop_at, size_at, sizes_at, bracketed_at, brackets_at, part_at, inst_at, value_at, dot_at, dots_at}
 use Rattle.rdl_parse.specs.Spelling.{Brackets, sizes, range, Inst, Prop, free, reserved, sizes_words, brackets_words, part_words, inst_words, others_words, prop_symbol, value_symbol, equals_words, dots_words, shell_of, prop_text, value_of}
 use Rattle.rdl_parse.proofs.Outcome.{outcome-ok, bind-ok, cond-true, cond-false}
 use Rattle.rdl_parse.proofs.Turns.{Shortens, repeated-done, repeated-next}

@@ -1,5 +1,5 @@
 -- What is read of one word or one part is spelled.
-use Rattle.std.proofs.Common.{◌≡◌, ℕ, zero, suc, ◌+◌, Bool, true, false, cond, List, [], ◌∷◌, ◌++◌, length, Option, Some, None, Result, Ok, Err, refl, ap, sym, ◌∙◌, append_assoc}
+use Rattle.std.proofs.Common.{◌≡◌, ℕ, Bool, true, false, cond, List, [], ◌∷◌, ◌++◌, Option, Some, None, Ok, Err, refl, ap, sym, ◌∙◌, append_assoc}
 use Rattle.std.proofs.lemmas.List.{append-nil}
 use Rattle.std.proofs.lemmas.Slice.Eq.{bytes_eq-Decides}
 use Rattle.std.specs.Prelude.{codes, bytes_eq}
@@ -7,9 +7,8 @@ use denote.Enum.Bare.{same_true}
 use Rattle.std.proofs.Common.{rules}
 use Rattle.rdl_text.specs.contracts.token.Mark.{the_type}
 use Rattle.rdl_text.specs.declared.token.Mark.{Mark}
-use Rattle.rdl_text.specs.declared.token.Mark.TheVariants.{OpenBrace, CloseBrace, OpenBracket, CloseBracket, Colon, Semicolon, Comma, Dot, Equals, At, PlusEquals, PercentEquals, Arrow}
+use Rattle.rdl_text.specs.declared.token.Mark.TheVariants.{OpenBracket, CloseBracket, Colon, Dot, Equals, At, PlusEquals, PercentEquals}
 use Rattle.rdl_tree.specs.declared.shell.Outside.{Outside}
-use Rattle.rdl_tree.specs.declared.shell.Outside.TheVariants.{Unsaid}
 use Rattle.rdl_tree.specs.declared.shell.Shell.{Shell}
 use Rattle.rdl_tree.specs.declared.value.Value.{Value}
 use Rattle.rdl_tree.specs.declared.value.Value.TheVariants as values
@@ -17,14 +16,13 @@ use Rattle.rdl_tree.specs.declared.value.Word.{Word as ValueWord}
 use Rattle.rdl_tree.specs.declared.value.Word.TheVariants as word
 use Rattle.rdl_parse.specs.declared.class.Property.{Property}
 use Rattle.rdl_parse.specs.declared.class.Property.TheVariants as property
-use Rattle.rdl_parse.specs.declared.fault.Fault.{Fault}
 use Rattle.rdl_parse.specs.Symbol as symbol
 use Rattle.rdl_parse.specs.Symbol.{Symbol, kind, outside, name, number, mark, property_text}
-use Rattle.rdl_parse.specs.Reading.{◌>>=◌, fault_at, taken, by, is_mark, begins, mark_at, name_by, number_by, prop_by, name_value, property_value, word_value, value_by, name_at, number_at, prop_at, repeated, turns, size_at, sizes_at, Bracketed, bracketed_at, brackets_at, part_at, shell, inst_at, value_at, dot_at, dots_at}
-use Rattle.rdl_parse.specs.Spelling.{Brackets, sizes, range, Inst, Prop, free, reserved, sizes_words, brackets_words, part_words, inst_words, prop_symbol, value_symbol, word_symbol, equals_words, dots_words, dims_of, range_of, shell_of, prop_text, value_of}
+use Rattle.rdl_parse.specs.Reading.{fault_at, taken, by, is_mark, begins, mark_at, name_by, number_by, prop_by, name_value, property_value, word_value, value_by, name_at, number_at, prop_at, size_at, Bracketed, bracketed_at, brackets_at, part_at, shell, inst_at, value_at, dot_at, dots_at}
+use Rattle.rdl_parse.specs.Spelling.{Brackets, sizes, range, Inst, Prop, free, reserved, sizes_words, brackets_words, part_words, inst_words, prop_symbol, value_symbol, equals_words, dots_words, dims_of, range_of, shell_of, prop_text, value_of}
 use Rattle.rdl_parse.proofs.Outcome.{Outcome, then, gives, stops, but, either}
 use Rattle.rdl_parse.proofs.Turns.{Turning, repeated-holds}
-use Rattle.rdl_parse.proofs.Passing.{Plain, Passes, passes-none, passes-word, passes-from, passes-then, sizes-pass, brackets-pass, part-passes, equals-pass, dots-pass, Mild, mild-along, past}
+use Rattle.rdl_parse.proofs.Passing.{Plain, passes-none, passes-word, passes-from, sizes-pass, brackets-pass, part-passes, dots-pass, Mild, mild-along, past}
 
 wrong-mild : (ws : List Symbol) → Mild ws (fault_at ws)
 wrong-mild [] = tt

@@ -1,9 +1,9 @@
 -- What words are not.
-use Rattle.std.proofs.Common.{◌≡◌, ℕ, suc, Bool, true, false, cond, List, [], ◌∷◌, length, Option, None, refl, ap, arith}
+use Rattle.std.proofs.Common.{◌≡◌, ℕ, suc, false, List, [], ◌∷◌, length, None, refl, ap, arith}
 use Rattle.rdl_text.specs.declared.token.Mark.{Mark}
 use Rattle.rdl_text.specs.Name.{IsName}
 use Rattle.rdl_text.specs.Word.{Word as Token}
-use Rattle.rdl_parse.specs.Symbol.{Symbol, symbol, class_symbol, symbols, property_text}
+use Rattle.rdl_parse.specs.Symbol.{class_symbol, symbols, property_text}
 use Rattle.rdl_parse.specs.Reading.{is_mark, number_by}
 use Rattle.rdl_parse.specs.declared.class.Class.{Class}
 use Rattle.rdl_parse.specs.declared.class.Class.TheVariants.{Kind, Outside, Default, Truth, Property, Word, Reserved, Name}

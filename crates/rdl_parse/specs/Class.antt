@@ -1,6 +1,6 @@
 -- What an identifier is to the grammar.
 -- SystemRDL 2.0, keywords and reserved words; the list is own, and `r` and `w` are names too.
-use Rattle.std.specs.Prelude.{ℕ, Bool, true, false, ◌||◌, if◌then◌else◌, List, codes, bytes_eq}
+use Rattle.std.specs.Prelude.{ℕ, true, false, ◌||◌, if◌then◌else◌, List, codes, bytes_eq}
 use Rattle.rdl_tree.specs.declared.shell.Kind.TheVariants.{Addrmap, Regfile, Reg, Field}
 use Rattle.rdl_tree.specs.declared.shell.Outside.TheVariants.{External, Internal}
 use Rattle.rdl_tree.specs.declared.value.Word.TheVariants as value

@@ -1,6 +1,6 @@
--- What is kept of a statement's items while its words are read: nothing once they pass the room.
+-- Steps of reading as the code takes them. Of a statement's items it keeps nothing once they pass the room.
 -- Own.
-use Rattle.std.specs.Prelude.{ℕ, ◌+◌, if◌then◌else◌, List, [], ◌∷◌, length, Option, Some, None, Result, Ok, Err}
+use Rattle.std.specs.Prelude.{ℕ, ◌+◌, if◌then◌else◌, List, ◌∷◌, length, Option, Some, None, Result, Ok, Err}
 use Rattle.rdl_text.specs.declared.token.Mark.TheVariants.{Semicolon}
 use Rattle.rdl_tree.specs.declared.description.Item.TheVariants.{Define, Instance}
 use Rattle.rdl_tree.specs.declared.description.Of.{Of}
@@ -17,6 +17,8 @@ use Rattle.rdl_parse.specs.declared.found.Spot.{Spot}
 use Rattle.rdl_parse.specs.declared.gathered.Gathered.{Gathered}
 use Rattle.rdl_parse.specs.declared.room.Room.{Room}
 
+-- ---- What is kept of a statement's items.
+
 abbrev pub finished : Gathered → Finished
 finished g = (seen g.found, g.room)
 
@@ -29,11 +31,13 @@ abbrev pub gather : Option Finished → Finds → Option Finished
 gather None x = None
 gather (Some k) x = if fits k.1 x then Some (joined k.0 x, less k.1 x) else None
 
+-- an INST, and its instance behind what is kept
 unfoldable pub gathered_at : Outside → Of → List Spot → Option Finished → List Symbol → Result (Option Finished × List Symbol) Fault
 gathered_at o of inner k ws = do
   i ← inst_at o ws
   Ok (gather k (single (Instance i.0 of) (length ws) inner), i.1)
 
+-- the `;` of a statement of which this is kept
 abbrev pub ended : Option Finished → List Symbol → Result (Finished × List Symbol) Fault
 ended (Some f) rest = Ok (f, rest)
 ended None rest = Err (TooLarge (length rest + 1))
@@ -42,6 +46,8 @@ unfoldable pub ended_at : Option Finished → List Symbol → Result (Finished �
 ended_at k ws = do
   rest ← mark_at Semicolon ws
   ended k rest
+
+-- ---- What may stand at a place.
 
 -- a name, if one stands here
 unfoldable pub optional_name_at : List Symbol → Result (Option (List ℕ) × List Symbol) Fault
@@ -53,7 +59,8 @@ abbrev pub outside_by : Symbol → Option Outside
 outside_by (outside o) = Some o
 outside_by w = None
 
--- what stands behind KIND and NAME, and behind KIND alone
+-- ---- What stands behind KIND and NAME, and behind KIND alone.
+
 abbrev pub definition_at : Inner → Room → Option Outside → ℕ → Kind → List ℕ → List Symbol → Result (Finished × List Symbol) Fault
 definition_at inner room front left k n ws = do
   b ← inner room ws

@@ -1,9 +1,8 @@
 -- What reading a text answers: what it spells within the limits, or its first fault.
 -- Own; which of S9 to S12 stands, and where S9 stands, is as in Reading.
-use Rattle.std.specs.Prelude.{◌≡◌, ◌≤◌, ◌<◌, ◌+◌, ℕ, List, [], ◌∷◌, ◌++◌, length, Ok, Err}
+use Rattle.std.specs.Prelude.{◌≡◌, ◌≤◌, ◌<◌, ◌+◌, ℕ, List, ◌∷◌, ◌++◌, length, Ok, Err}
 use Rattle.rdl_text.specs.Word.{Word}
 use Rattle.rdl_text.specs.Words.{words}
-use Rattle.rdl_text.specs.declared.token.Mark.{Mark}
 use Rattle.rdl_text.specs.declared.token.Mark.TheVariants.{OpenBrace, Semicolon}
 use Rattle.rdl_tree.specs.Items.{Items}
 use Rattle.rdl_tree.specs.View.{items_of}

@@ -1,7 +1,6 @@
 -- Which words spell which description.
 -- SystemRDL 2.0, component definitions and instances, property assignments; the profile, the places and the limits are own.
 use Rattle.std.specs.Prelude.{◌≡◌, ℕ, true, List, [], ◌∷◌, ◌++◌, length, map, codes, Option, Some, None}
-use Rattle.rdl_text.specs.Word.{Word}
 use Rattle.rdl_text.specs.declared.token.Mark.{Mark}
 use Rattle.rdl_text.specs.declared.token.Mark.TheVariants.{OpenBrace, CloseBrace, OpenBracket, CloseBracket, Colon, Semicolon, Comma, Dot, Equals, At, PlusEquals, PercentEquals, Arrow}
 use Rattle.rdl_tree.specs.Items.{Items}

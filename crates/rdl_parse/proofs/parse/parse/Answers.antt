@@ -1,4 +1,4 @@
-use Rattle.std.proofs.Common.{◌≡◌, ◌⊎◌, ap, sym, ◌∙◌, subst, Ok, length}
+use Rattle.std.proofs.Common.{◌≡◌, ◌⊎◌, ap, sym, ◌∙◌, subst, Ok}
 use Rattle.rdl_parse.specs.Symbol.{symbols}
 use Rattle.rdl_parse.specs.Reading.{Fails, limit, text_at, whole}
 use Rattle.rdl_parse.specs.Places.{located}

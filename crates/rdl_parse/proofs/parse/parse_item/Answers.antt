@@ -1,4 +1,4 @@
-use Rattle.std.proofs.Common.{◌≡◌, ◌⊎◌, ap, sym, ◌∙◌, subst, Ok, length}
+use Rattle.std.proofs.Common.{◌≡◌, ◌⊎◌, ap, sym, ◌∙◌, subst, Ok}
 use Rattle.rdl_parse.specs.Symbol.{symbols}
 use Rattle.rdl_parse.specs.Reading.{Fails, limit, items_at}
 use Rattle.rdl_parse.specs.Faults.{out_of_memory}

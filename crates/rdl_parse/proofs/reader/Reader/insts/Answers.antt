@@ -1,5 +1,5 @@
 use Rattle.std.proofs.lemmas.Result.{err_from_is_err_and}
-use Rattle.std.proofs.Common.{◌≡◌, ◌∙◌, sym, true, false, arith, length, option_map, rules}
+use Rattle.std.proofs.Common.{◌≡◌, true, false, option_map}
 use Rattle.rdl_text.specs.declared.token.Mark.TheVariants.{Comma}
 use Rattle.rdl_parse.specs.Finds.{seen}
 use Rattle.rdl_parse.specs.Gathering.{finished}
