@@ -1,5 +1,5 @@
 -- The kind of the component to which a target leads, by its first name.
-use Rattle.std.proofs.Common.{◌≡◌, ℕ, zero, suc, ◌+◌, ◌-◌, ◌<◌, ◌≤◌, Bool, true, false, cond, List, [], ◌∷◌, ◌++◌, length, take, drop, get_or, Some, None, Option, refl, ap, sym, ◌∙◌, arith, option_map}
+use Rattle.std.proofs.Common.{◌≡◌, ℕ, suc, ◌+◌, ◌<◌, Bool, true, false, cond, List, [], ◌∷◌, ◌++◌, length, Some, None, Option, refl, ap, sym, ◌∙◌, arith, option_map}
 use Rattle.std.specs.Prelude.{option_and_then, slice_get, bytes_eq}
 use Rattle.std.specs.Option.{option_or, is_some}
 use Rattle.std.proofs.lemmas.Slice.Eq.{bytes_eq-Decides}
@@ -11,10 +11,9 @@ use Rattle.rdl_tree.specs.declared.shell.Shell.{Shell}
 use Rattle.rdl_tree.specs.declared.fault.Fault.{Fault}
 use Rattle.rdl_tree.specs.declared.fault.FaultKind.{FaultKind}
 use Rattle.rdl_tree.specs.declared.description.Of.{Of}
-use Rattle.rdl_tree.specs.declared.description.Of.TheVariants.{Named, Anonymous}
 use Rattle.rdl_tree.specs.declared.description.Item.{Item}
 use Rattle.rdl_tree.specs.declared.description.Item.TheVariants.{Define, Instance, Own, Default, Dynamic}
-use Rattle.rdl_scope.specs.Types.{component_of, items_in, held_by, item}
+use Rattle.rdl_scope.specs.Types.{component_of, items_in}
 use Rattle.rdl_scope.specs.Target.{passes, instance_in, instance_before}
 use Rattle.rdl_scope.specs.ItemFaults.{kind_at, instance_kind, target_kind, last_of, item_fault, instance_fault, fault_at}
 use Rattle.rdl_scope.specs.Walk.{is_instance}

@@ -1,9 +1,9 @@
-use Rattle.std.proofs.Common.{ℕ, List, arith, length, ◌+◌, ◌-◌, ◌*◌, ◌<◌, ◌≡◌, ap, sym, ◌∙◌, length-append}
+use Rattle.std.proofs.Common.{arith, length, ◌+◌, ◌-◌, ◌*◌, ◌<◌, ◌≡◌, ap, sym, ◌∙◌, length-append}
 use Rattle.std.specs.Option.{option_copied}
 use Rattle.rdl_tree.specs.Address.{body_at}
 use Rattle.rdl_tree.specs.View.{list_of}
 use Rattle.rdl_scope.specs.Keys.{key_before, texts}
-use Rattle.rdl_scope.specs.Scopes.{number_under, level_found, scope_found, address_under, address_put}
+use Rattle.rdl_scope.specs.Scopes.{number_under, level_found, address_under, address_put}
 use Rattle.rdl_scope.specs.Types.{item, component_of}
 use Rattle.rdl_scope.proofs.TargetKinds.{components-next, no-fault-at}
 use Rattle.rdl_scope.specs.Walk.{found}

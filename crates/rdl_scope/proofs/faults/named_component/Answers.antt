@@ -1,4 +1,4 @@
-use Rattle.std.proofs.Common.{ℕ, List, [], ◌∷◌, ◌++◌, ◌≡◌, ◌<◌, Some, None, ap, sym, ◌∙◌, arith, length, take, length-take}
+use Rattle.std.proofs.Common.{[], ◌∷◌, ◌++◌, ◌≡◌, Some, None, ap, sym, ◌∙◌, arith, length, take, length-take}
 use Rattle.rdl_scope.specs.Walk.{found}
 use Rattle.rdl_scope.specs.Types.{type_at}
 use Rattle.rdl_scope.proofs.InstanceKinds.{found-within, type_scope, no_type_scope}
