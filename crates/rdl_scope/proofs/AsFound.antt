@@ -7,11 +7,9 @@ use Rattle.rdl_tree.specs.View.{list_of, holder_item}
 use Rattle.rdl_tree.specs.Address.{inner, body_at}
 use Rattle.rdl_tree.specs.Component.{holder_kind, own_component}
 use Rattle.rdl_tree.specs.Properties.{row}
-use Rattle.rdl_tree.specs.declared.description.Component.{Component}
 use Rattle.rdl_tree.specs.declared.property.Property.{Property}
 use Rattle.rdl_tree.specs.declared.property.Property.TheVariants.{Accesswidth, Regwidth}
-use Rattle.rdl_tree.specs.declared.value.Value.{Value}
-use Rattle.rdl_scope.specs.Types.{item, held_by, component_at}
+use Rattle.rdl_scope.specs.Types.{item, held_by}
 use Rattle.rdl_scope.specs.Value.{nearest_default, component_value, own_value, stated_value, built_in_value}
 use Rattle.rdl_scope.specs.Closed.{Made, Standing, lookup, after_plain, after_holder, parts, with_made, before, component_in, standing_at, closed, nothing, component, head_value, stated, built_in, instances, found_part, IsAsFound}
 use Rattle.rdl_scope.proofs.StandingBefore.{lookup-component, default-search}

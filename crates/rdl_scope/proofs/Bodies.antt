@@ -1,5 +1,5 @@
 -- The body that holds an item, and the item's number there.
-use Rattle.std.proofs.Common.{◌≡◌, ℕ, zero, suc, ◌+◌, ◌-◌, ◌≤◌, List, [], ◌∷◌, length, take, get_or, refl, ap, ◌∙◌, sym, arith}
+use Rattle.std.proofs.Common.{◌≡◌, ℕ, suc, ◌-◌, List, [], ◌∷◌, length, take, get_or, refl, ap, ◌∙◌, arith}
 use Rattle.rdl_scope.specs.Target.{body_of, number_of}
 
 pub body_of-take : (a : List ℕ) → body_of a ≡ take (length a - 1) a

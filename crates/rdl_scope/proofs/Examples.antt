@@ -8,7 +8,7 @@ use Rattle.rdl_tree.specs.declared.shell.Kind.{Kind}
 use Rattle.rdl_tree.specs.declared.shell.Kind.TheVariants.{Addrmap, Regfile, Reg, Field}
 use Rattle.rdl_tree.specs.declared.value.Value.{Value}
 use Rattle.rdl_tree.specs.declared.value.Value.TheVariants.{Number, Text}
-use Rattle.rdl_tree.specs.declared.fault.FaultKind.TheVariants.{UnknownType, NameTwice}
+use Rattle.rdl_tree.specs.declared.fault.FaultKind.TheVariants.{UnknownType}
 use Rattle.rdl_scope.specs.Types.{type_of}
 use Rattle.rdl_scope.specs.Target.{through}
 use Rattle.rdl_scope.specs.Value.{value}

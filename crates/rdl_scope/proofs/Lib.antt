@@ -13,4 +13,5 @@ pub mod Products
 pub mod Repeats
 pub mod Searches
 pub mod StandingBefore
+pub mod TargetKinds
 pub mod ValueSearches

@@ -1,12 +1,10 @@
 -- Steps of the search for a dynamic assignment.
-use Rattle.std.proofs.Common.{◌≡◌, ℕ, zero, suc, ◌+◌, ◌-◌, ◌<◌, ◌≤◌, Bool, true, false, cond, List, [], ◌∷◌, length, drop, get_or, Some, None, Option, refl, ap, ◌∙◌, sym, arith, add-one, drop-cons}
+use Rattle.std.proofs.Common.{◌≡◌, ℕ, suc, ◌+◌, ◌-◌, ◌<◌, ◌≤◌, List, [], ◌∷◌, length, drop, get_or, Some, None, refl, ap, ◌∙◌, sym, arith, drop-cons}
 use Rattle.std.specs.Prelude.{option_and_then}
 use Rattle.std.specs.Option.{option_or}
-use Rattle.rdl_tree.specs.Items.{Items, no_items}
-use Rattle.rdl_tree.specs.View.{add, items_of, list_of}
+use Rattle.rdl_tree.specs.Items.{Items}
+use Rattle.rdl_tree.specs.View.{add, items_of}
 use Rattle.rdl_tree.specs.Address.{body_at}
-use Rattle.rdl_tree.specs.declared.value.Value.{Value}
-use Rattle.rdl_tree.specs.declared.property.Property.{Property}
 use Rattle.rdl_tree.specs.declared.property.Property.TheVariants.{Reset}
 use Rattle.rdl_tree.specs.declared.description.Item.{Item}
 use Rattle.rdl_tree.specs.declared.description.Item.TheVariants.{Define, Instance, Own, Default, Dynamic}

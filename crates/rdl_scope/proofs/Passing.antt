@@ -1,5 +1,5 @@
 -- Steps along the names of a target.
-use Rattle.std.proofs.Common.{◌≡◌, ℕ, zero, suc, ◌+◌, ◌<◌, ◌≤◌, List, [], ◌∷◌, ◌++◌, length, drop, get_or, Some, None, Option, refl, ap, ◌∙◌, sym, arith, append_assoc, option_map, add-one, drop-cons}
+use Rattle.std.proofs.Common.{◌≡◌, ℕ, ◌+◌, ◌<◌, ◌≤◌, List, [], ◌∷◌, ◌++◌, length, drop, get_or, Some, None, Option, refl, ap, sym, arith, append_assoc, option_map, add-one, drop-cons}
 use Rattle.std.specs.Prelude.{option_and_then}
 use Rattle.rdl_tree.specs.Items.{Items}
 use Rattle.rdl_scope.specs.Types.{component_of, items_in}

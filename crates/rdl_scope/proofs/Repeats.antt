@@ -1,8 +1,7 @@
 -- The items that repeat an earlier one are those with an earlier one's key.
-use Rattle.std.proofs.Common.{◌≡◌, ℕ, zero, suc, ◌+◌, ◌<◌, Bool, true, false, cond, List, [], ◌∷◌, ◌++◌, length, take, get_or, map, Some, None, Option, refl, ap, sym, ◌∙◌, arith, option_map}
+use Rattle.std.proofs.Common.{◌≡◌, ℕ, zero, suc, ◌+◌, ◌<◌, Bool, true, false, cond, List, [], ◌∷◌, length, get_or, map, Some, None, Option, refl, ap, sym, ◌∙◌, option_map}
 use Rattle.std.specs.Prelude.{◌||◌, ◌&&◌, codes, bytes_eq, nat_eq}
 use Rattle.std.specs.Option.{option_or, is_some}
-use Rattle.std.specs.List.{list_any}
 use Rattle.std.specs.Cmp.Lexicographic.{pointwise}
 use Rattle.std.proofs.lemmas.List.Folds.{list_any_more}
 use denote.Ref.{Bor}
@@ -14,7 +13,7 @@ use Rattle.rdl_scope.specs.Target.{instance_before}
 use Rattle.rdl_scope.specs.Value.{own_before, last_default}
 use Rattle.rdl_scope.specs.ItemFaults.{reached_before}
 use Rattle.rdl_tree.specs.declared.value.Value.{Value}
-use Rattle.rdl_scope.specs.Keys.{item_key, has_key, key_before, Key, texts, same_key}
+use Rattle.rdl_scope.specs.Keys.{has_key, key_before, Key, texts, same_key}
 
 -- two keys are equal where their texts are
 pointwise-texts : (x y : List (Bor (List ℕ))) → pointwise (λ a b. pointwise nat_eq a.now b.now) x y ≡ pointwise bytes_eq (map (λ s. s.now) x) (map (λ s. s.now) y)

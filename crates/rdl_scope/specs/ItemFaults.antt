@@ -1,7 +1,7 @@
 -- The first fault of the items of a description.
 -- SystemRDL 2.0, clause 5: names, scopes, definitions, instances, property assignments and defaults; clauses 9 to 13: what a component may hold,
 -- and the numbers of its instances. own: the limits, which faults there are, and their order.
-use Rattle.std.specs.Prelude.{ℕ, zero, suc, ◌*◌, ◌^◌, ◌==◌, ◌&&◌, ◌||◌, not, nat_lt, nat_le, Bool, true, false, List, [], ◌∷◌, ◌++◌, length, Option, Some, None, option_map, option_and_then, bytes_eq}
+use Rattle.std.specs.Prelude.{ℕ, zero, suc, ◌*◌, ◌^◌, ◌&&◌, ◌||◌, not, nat_lt, nat_le, Bool, true, false, List, [], ◌∷◌, ◌++◌, length, Option, Some, None, option_map, option_and_then, bytes_eq}
 use Rattle.std.specs.Option.{option_or, is_some, is_none}
 use Rattle.std.specs.List.{list_any, list_all}
 use Rattle.std.specs.Int.{is_power_of_two}

@@ -7,7 +7,6 @@ use Rattle.std.specs.Cmp.Lexicographic.{pointwise}
 use Rattle.rdl_tree.specs.Items.{Items, no_items, plain, holder, Plain, named, own, default, dynamic}
 use Rattle.rdl_tree.specs.Address.{inner, body_at}
 use Rattle.rdl_tree.specs.Properties.{row, property_of, on}
-use Rattle.rdl_tree.specs.declared.shell.Kind.{Kind}
 use Rattle.rdl_tree.specs.declared.value.Value.{Value}
 use Rattle.rdl_tree.specs.declared.value.Value.TheVariants.{Number, Text, Bool as Boolean, Word}
 use Rattle.rdl_tree.specs.declared.property.Property.{Property}

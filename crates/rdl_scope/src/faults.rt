@@ -7,9 +7,9 @@ ghost use Rattle.rdl_tree.specs.Component.{own_component};
 ghost use Rattle.rdl_tree.specs.Depth.{depth};
 ghost use Rattle.rdl_tree.specs.Properties.{property_of, row};
 ghost use Rattle.rdl_tree.specs.Address.{body_at};
-ghost use Rattle.rdl_scope.specs.Types.{item, type_at};
+ghost use Rattle.rdl_scope.specs.Types.{item, type_at, component_of};
 ghost use Rattle.rdl_scope.specs.Value.{own_before};
-ghost use Rattle.rdl_scope.specs.Scopes.{scope_found, level_found};
+ghost use Rattle.rdl_scope.specs.Scopes.{scope_found, level_found, address_under, address_put, instance_component, kind_below};
 ghost use Rattle.rdl_scope.specs.Walk.{found};
 ghost use Rattle.rdl_scope.specs.ItemFaults.{kind_at, instance_kind, target_kind, is_set, is_excluded, excluded_by, item_fault, fault_at, first_fault, inside_fault, is_too_large, fault_of, out_of_memory};
 ghost use Rattle.rdl_tree.specs.View.{list_of};
@@ -19,10 +19,10 @@ use crate::assignments::{default_fault, dynamic_fault, own_fault, rivals};
 use crate::keys::note;
 use crate::kinds::define_fault;
 use crate::levels::scope_found;
-use crate::names::Names;
+use crate::names::{Components, Names};
 use crate::shells::instance_fault;
 use crate::targets::passes;
-use crate::types::{component_at, component_of, own_component, prefix};
+use crate::types::{component_at, component_of, items_in, own_component, prefix};
 use crate::values::{is_false, own_before};
 use rdl_text::name::Name;
 use rdl_tree::address::Address;
@@ -31,7 +31,6 @@ use rdl_tree::fault::{Fault, FaultKind};
 use rdl_tree::properties::property;
 use rdl_tree::property::Property;
 use rdl_tree::shell::Kind;
-use rdl_tree::target::Target;
 use rdl_tree::value::Value;
 use std::alloc::{AllocError, Global};
 use std::collections::HashSet;
@@ -51,62 +50,114 @@ fn instance_kind(description: &Description, address: &Address) -> Option<Kind>
     kind_at(description, &component_of(description, address)?)
 }
 
-/// The kind of the type of this name for the item at this address. The definitions in scope are those of the levels.
-fn named_kind(
+/// The definition of this name for the item at this address. The definitions in scope are those of the levels.
+fn named_component(
     description: &Description,
     address: &Address,
     name: &Name,
     levels: &[Names],
     definitions: &Names,
-) -> Option<Kind>
+) -> Option<Address>
     requires { (q : List ℕ) → scope_found levels.now definitions.now q ≡ found address.now description.now.items q }
-    ensures { result ≡ option_and_then (kind_at description.now.items) (type_at address.now description.now.items name.now) }
+    ensures { result ≡ type_at address.now description.now.items name.now }
 {
     let (depth, number) = scope_found(levels, definitions, name.as_str())?;
     let around = prefix(address.as_slice(), depth);
-    kind_at(description, &around.inside(number))
+    Some(around.inside(number))
 }
 
-/// The kind of the component of the instance at this address.
+/// Where the component of the instance at this address stands.
 #[tactic(auto, using(crate::proofs::InstanceKinds::kinds))]
-fn kind_in_scope(
+fn component_in_scope(
     description: &Description,
     address: &Address,
     instance: &Item,
     levels: &[Names],
     definitions: &Names,
-) -> Option<Kind>
+) -> Option<Address>
     requires place { item address.now description.now.items ≡ Some instance.now }
     requires scope { (q : List ℕ) → scope_found levels.now definitions.now q ≡ found address.now description.now.items q }
-    ensures { result ≡ instance_kind description.now.items address.now }
+    ensures { result ≡ component_of description.now.items address.now }
 {
     match instance {
         Item::Instance(_, Of::Named(name)) => {
-            named_kind(description, address, name, levels, definitions)
+            named_component(description, address, name, levels, definitions)
         }
-        Item::Instance(_, Of::Anonymous(component)) => Some(component.kind),
+        Item::Instance(_, Of::Anonymous(_)) => Some(address.copy()),
         _ => None,
     }
 }
 
-/// The kind of the component to which a target leads, from the `n`-th item of the body at this address.
+/// The kind of the component to which names lead, the first of them among the first `n` items of the body at this
+/// address.
 #[tactic(auto, using(crate::proofs::Firsts::lasts))]
-fn target_kind(
+fn names_kind(
     alloc: Global,
     description: &Description,
     body: &Address,
     n: usize,
-    target: &Target,
+    names: &[Name],
 ) -> Result<Option<Kind>, AllocError>
     requires { depth description.now.items ≤ 16 }
-    ensures { IfOk result (λ kind. kind ≡ target_kind description.now.items body.now n target.now) }
+    ensures { IfOk result (λ kind. kind ≡ target_kind description.now.items body.now n names.now) }
 {
-    match passes(alloc, description, body, n, target.names())? {
+    match passes(alloc, description, body, n, names)? {
         Some(path) => match path.as_slice() {
             [.., last] => Ok(instance_kind(description, last)),
             [] => Ok(None),
         },
         None => Ok(None),
+    }
+}
+
+/// The kind of the component to which names lead from the component at this address.
+#[tactic(auto, using(crate::proofs::TargetKinds::below))]
+fn kind_below(
+    alloc: Global,
+    description: &Description,
+    component: &Address,
+    names: &[Name],
+) -> Result<Option<Kind>, AllocError>
+    requires { depth description.now.items ≤ 16 }
+    ensures { IfOk result (λ kind. kind ≡ kind_below description.now.items names.now component.now) }
+{
+    if names.is_empty() {
+        return Ok(kind_at(description, component));
+    }
+    let n = items_in(description, component);
+    names_kind(alloc, description, component, n, names)
+}
+
+/// The kind of the component to which a target leads, from the `n`-th item of the body at this address. These are the
+/// components of the instances before it.
+#[tactic(auto, using(crate::proofs::TargetKinds::targets))]
+fn target_kind(
+    alloc: Global,
+    description: &Description,
+    at: &Address,
+    n: usize,
+    names: &[Name],
+    components: &Components,
+) -> Result<Option<Kind>, AllocError>
+    requires nesting { depth description.now.items ≤ 16 }
+    requires components { (q : List ℕ) → address_under components.now q ≡ instance_component description.now.items at.now n q }
+    ensures { IfOk result (λ kind. kind ≡ target_kind description.now.items at.now n names.now) }
+{
+    let Some((first, rest)) = names.split_first() else {
+        return Ok(None);
+    };
+    match components.get(first.as_str()) {
+        Some(component) => kind_below(alloc, description, component, rest),
+        None => Ok(None),
+    }
+}
+
+fn kind_of(description: &Description, held: Option<&Address>) -> Option<Kind>
+    ensures { result ≡ option_and_then (kind_at description.now.items) (option_copied held.entry) }
+{
+    match held {
+        Some(address) => kind_at(description, address),
+        None => None,
     }
 }
 
@@ -147,21 +198,20 @@ fn item_fault(
     n: usize,
     item: &Item,
     twice: bool,
-    levels: &[Names],
-    definitions: &Names,
+    held: Option<&Address>,
+    components: &Components,
 ) -> Result<Option<FaultKind>, AllocError>
     requires nesting { depth description.now.items ≤ 16 }
     requires room { length at.now < 17 }
-    requires here { body_at at.now description.now.items ≡ Some body.now }
-    requires place { slice_get (list_of body.now) n ≡ Some item.now }
     requires twice { twice ≡ key_before (item_key item.now) n (list_of body.now) }
-    requires scope { (q : List ℕ) → scope_found levels.now definitions.now q ≡ found (at.now ++ n ∷ []) description.now.items q }
+    requires held { option_copied held ≡ component_of description.now.items (at.now ++ n ∷ []) }
+    requires components { (q : List ℕ) → address_under components.now q ≡ instance_component description.now.items at.now n q }
     ensures { IfOk result (λ fault. fault ≡ item_fault description.now.items around at.now body.now n item.now) }
 {
     match item {
         Item::Define(_, component) => Ok(define_fault(around, twice, component.kind)),
         Item::Instance(shell, _) => {
-            let kind = kind_in_scope(description, &at.inside(n), item, levels, definitions);
+            let kind = kind_of(description, held);
             Ok(instance_fault(around, twice, shell, kind))
         }
         Item::Own(name, value) => {
@@ -171,7 +221,7 @@ fn item_fault(
         }
         Item::Default(name, value) => Ok(default_fault(twice, property(name.as_str()), value)),
         Item::Dynamic(target, name, value) => {
-            let kind = target_kind(alloc, description, at, n, target)?;
+            let kind = target_kind(alloc, description, at, n, target.names(), components)?;
             Ok(dynamic_fault(twice, property(name.as_str()), value, kind))
         }
     }
@@ -186,6 +236,20 @@ fn fault_at(address: &Address, kind: Option<FaultKind>) -> Option<Fault>
             address: address.copy(),
         }),
         None => None,
+    }
+}
+
+/// Puts the component under the item's name, if there is one.
+fn put_component<'a>(
+    components: &mut Components<'a>,
+    item: &'a Item,
+    held: Option<&Address>,
+) -> Result<(), AllocError>
+    ensures { OnOk result ((q : List ℕ) → address_under components.new q ≡ address_put q item.now (option_copied held.entry) (address_under components.old q)) }
+{
+    match held {
+        Some(address) => components.put_instance(item, address),
+        None => Ok(()),
     }
 }
 
@@ -242,10 +306,12 @@ fn first_fault<'a>(
 {
     let mut keys = HashSet::new(alloc);
     let mut definitions = Names::new(alloc);
+    let mut components = Components::new(alloc);
     'items: for (i, item) in body.as_slice().iter().enumerate() {
         let address = at.inside(i);
         let twice = note(alloc, &mut keys, item)?;
         let scope = levels.as_slice();
+        let held = component_in_scope(description, &address, item, scope, &definitions);
         let kind = item_fault(
             alloc,
             description,
@@ -255,8 +321,8 @@ fn first_fault<'a>(
             i,
             item,
             twice,
-            scope,
-            &definitions,
+            held.as_ref(),
+            &components,
         )?;
         if let Some(fault) = fault_at(&address, kind) {
             return Ok(Some(fault));
@@ -275,6 +341,7 @@ fn first_fault<'a>(
         }
         definitions = kept;
         definitions.put_definition(item, i)?;
+        put_component(&mut components, item, held.as_ref())?;
     }
     Ok(None)
 }

@@ -172,27 +172,25 @@ fn verdict(alloc: Global, description: &Description) -> Result<String, Fail> {
     }
 }
 
-const VERDICTS: [&str; 12] = [
-    "E1 at 1",
-    "E2 at 0.0",
-    "E3 at 0.0",
-    "E4 at 0.0",
-    "E5 at 0.0",
-    "E6 at 0.0",
-    "E7 at 1",
-    "E8 at 0.1",
-    "E9 at 0.0",
-    "E10 at 0.1",
-    "E11 at 0.0",
-    "E12 at 0.0",
+const VERDICTS: [(u8, &str); 12] = [
+    (1, "E1 at 1"),
+    (2, "E2 at 0.0"),
+    (3, "E3 at 0.0"),
+    (4, "E4 at 0.0"),
+    (5, "E5 at 0.0"),
+    (6, "E6 at 0.0"),
+    (7, "E7 at 1"),
+    (8, "E8 at 0.1"),
+    (9, "E9 at 0.0"),
+    (10, "E10 at 0.1"),
+    (11, "E11 at 0.0"),
+    (12, "E12 at 0.0"),
 ];
 
 #[test]
 fn judges_each_fault(rt: HostRuntime) -> Result<(), Fail> {
-    let mut number = 0;
-    for wanted in VERDICTS.iter() {
-        number += 1;
-        let description = description(faulty(rt.alloc(), number)?);
+    for (number, wanted) in VERDICTS.iter() {
+        let description = description(faulty(rt.alloc(), *number)?);
         let found = verdict(rt.alloc(), &description)?;
         assert_eq!(rt; found.as_str(), *wanted);
     }
@@ -237,6 +235,9 @@ fn shown(
     path: &str,
     property: &str,
 ) -> Result<String, Fail> {
+    if description.items.depth() > 16 {
+        return Ok(String::from_str(alloc, "too deep")?);
+    }
     let path = names(alloc, path)?;
     let top = address(&[top]);
     match value(alloc, description, &top, path.as_slice(), property)? {
@@ -270,9 +271,6 @@ fn assigned(alloc: Global, inner: bool, outer: bool) -> Result<Description, Fail
 
 fn reset_of_f(alloc: Global, inner: bool, outer: bool) -> Result<String, Fail> {
     let description = assigned(alloc, inner, outer)?;
-    if description.items.depth() > 16 {
-        return Ok(String::new(alloc));
-    }
     shown(alloc, &description, 0, "g.q.f", "reset")
 }
 
@@ -312,7 +310,6 @@ const NAMES: [(&str, &str); 5] = [
 #[test]
 fn reaches_by_defaults(rt: HostRuntime) -> Result<(), Fail> {
     let description = with_names(rt.alloc())?;
-    assert!(rt; description.items.depth() <= 16);
     for (path, wanted) in NAMES.iter() {
         let found = shown(rt.alloc(), &description, 2, *path, "name")?;
         assert_eq!(rt; found.as_str(), *wanted);
@@ -335,7 +332,6 @@ fn shadowed(alloc: Global) -> Result<Description, Fail> {
 #[test]
 fn shadows_from_a_definition_on(rt: HostRuntime) -> Result<(), Fail> {
     let description = shadowed(rt.alloc())?;
-    assert!(rt; description.items.depth() <= 16);
     let outer = type_of(&description, &address(&[1, 0, 0])).ok_or("no type")?;
     assert_eq!(rt; outer.to_string(rt.alloc())?.as_str(), "0");
     let inner = type_of(&description, &address(&[1, 0, 2])).ok_or("no type")?;

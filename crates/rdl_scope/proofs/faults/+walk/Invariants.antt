@@ -3,7 +3,7 @@ use Rattle.rdl_tree.specs.View.{items_of, list_of}
 use Rattle.rdl_scope.specs.ItemFaults.{first_fault}
 use Rattle.rdl_scope.specs.Keys.{Holds, key_before}
 use Rattle.rdl_scope.specs.Types.{last_definition}
-use Rattle.rdl_scope.specs.Scopes.{number_under}
+use Rattle.rdl_scope.specs.Scopes.{number_under, address_under, instance_component}
 use Rattle.rdl_scope.proofs.faults.+walk.Given as goal
 
 abbrev pub decreases-first_fault : goal.decreases-first_fault
@@ -18,4 +18,5 @@ invariant-first_fault-items l = record {
   keys : Holds l.keys (λ key. key_before key l.i (list_of l.body));
   levels : l.levels.items ≡ l.initial.levels.items;
   definitions : (q : List ℕ) → number_under l.definitions q ≡ last_definition q l.i l.body;
+  components : (q : List ℕ) → address_under l.components q ≡ instance_component l.description.items l.at l.i q;
 }

@@ -1,10 +1,8 @@
-use Rattle.std.proofs.Common.{ℕ, List, [], ◌∷◌, ◌++◌, ◌≡◌, ◌<◌, Some, None, ap, sym, ◌∙◌, arith, length, take, length-take}
-use Rattle.std.specs.Prelude.{option_and_then}
+use Rattle.std.proofs.Common.{[], ◌∷◌, ◌++◌, ◌≡◌, Some, None, ap, sym, ◌∙◌, arith, length, take, length-take}
 use Rattle.rdl_scope.specs.Walk.{found}
 use Rattle.rdl_scope.specs.Types.{type_at}
-use Rattle.rdl_scope.specs.ItemFaults.{kind_at}
-use Rattle.rdl_scope.proofs.InstanceKinds.{found-within, kind_scope, no_kind_scope}
-use Rattle.rdl_scope.proofs.faults.named_kind.Goals as goal
+use Rattle.rdl_scope.proofs.InstanceKinds.{found-within, type_scope, no_type_scope}
+use Rattle.rdl_scope.proofs.faults.named_component.Goals as goal
 
 pub inside-requires : goal.inside-requires
 inside-requires c =
@@ -19,9 +17,9 @@ returns c =
     let w = c.in_ok-depth in
     let q = c.as_str.result.now in
     let f : found c.args.address.now c.args.description.now.items q ≡ Some (w.depth, w.number) = sym (c.requires q) ∙ sym c.scope_found.ensures ∙ w.was in
-    kind_scope c.args.description.now.items c.args.address.now q (w.depth, w.number) c.inside.result c.kind_at.result f
-    (c.inside.ensures ∙ ap (λ path. path ++ w.number ∷ []) (c.prefix-around.ensures ∙ ap (take w.depth) c.as_slice.ensures.value)) c.kind_at.ensures
-    ∙ ap (λ n. option_and_then (kind_at c.args.description.now.items) (type_at c.args.address.now c.args.description.now.items n)) c.as_str.ensures
+    type_scope c.args.description.now.items c.args.address.now q (w.depth, w.number) c.inside.result f
+    (c.inside.ensures ∙ ap (λ path. path ++ w.number ∷ []) (c.prefix-around.ensures ∙ ap (take w.depth) c.as_slice.ensures.value))
+    ∙ ap (λ n. type_at c.args.address.now c.args.description.now.items n) c.as_str.ensures
 
 pub prefix-around-requires-clause-within : goal.prefix-around-requires-clause-within
 prefix-around-requires-clause-within c =
@@ -35,5 +33,4 @@ pub returns-in_err-depth : goal.returns-in_err-depth
 returns-in_err-depth c =
     let q = c.as_str.result.now in
     let f : found c.args.address.now c.args.description.now.items q ≡ None = sym (c.requires q) ∙ sym c.scope_found.ensures ∙ c.in_err-depth.was in
-    c.from_residual.ensures ∙ no_kind_scope c.args.description.now.items c.args.address.now q f
-    ∙ ap (λ n. option_and_then (kind_at c.args.description.now.items) (type_at c.args.address.now c.args.description.now.items n)) c.as_str.ensures
+    c.from_residual.ensures ∙ no_type_scope c.args.description.now.items c.args.address.now q f ∙ ap (λ n. type_at c.args.address.now c.args.description.now.items n) c.as_str.ensures

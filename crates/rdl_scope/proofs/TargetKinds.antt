@@ -1,0 +1,158 @@
+-- The kind of the component to which a target leads, by its first name.
+use Rattle.std.proofs.Common.{◌≡◌, ℕ, suc, ◌+◌, ◌<◌, Bool, true, false, cond, List, [], ◌∷◌, ◌++◌, length, Some, None, Option, refl, ap, sym, ◌∙◌, arith, option_map}
+use Rattle.std.specs.Prelude.{option_and_then, slice_get, bytes_eq}
+use Rattle.std.specs.Option.{option_or, is_some}
+use Rattle.std.proofs.lemmas.Slice.Eq.{bytes_eq-Decides}
+use Rattle.rdl_tree.specs.Items.{Items}
+use Rattle.rdl_tree.specs.View.{list_of}
+use Rattle.rdl_tree.specs.Address.{body_at}
+use Rattle.rdl_tree.specs.declared.shell.Kind.{Kind}
+use Rattle.rdl_tree.specs.declared.shell.Shell.{Shell}
+use Rattle.rdl_tree.specs.declared.fault.Fault.{Fault}
+use Rattle.rdl_tree.specs.declared.fault.FaultKind.{FaultKind}
+use Rattle.rdl_tree.specs.declared.description.Of.{Of}
+use Rattle.rdl_tree.specs.declared.description.Item.{Item}
+use Rattle.rdl_tree.specs.declared.description.Item.TheVariants.{Define, Instance, Own, Default, Dynamic}
+use Rattle.rdl_scope.specs.Types.{component_of, items_in}
+use Rattle.rdl_scope.specs.Target.{passes, instance_in, instance_before}
+use Rattle.rdl_scope.specs.ItemFaults.{kind_at, instance_kind, target_kind, last_of, item_fault, instance_fault, fault_at}
+use Rattle.rdl_scope.specs.Walk.{is_instance}
+use Rattle.rdl_scope.specs.Scopes.{kind_below, instance_component, address_put}
+use Rattle.rdl_scope.proofs.Instances.{instance-suc}
+
+-- a target that is found passes an instance
+passes-some : (d : Items) (c : List ℕ) (n : ℕ) (name : List ℕ) (names : List (List ℕ)) → passes d c n (name ∷ names) ≡ Some [] → ⊥
+passes-some d c n name [] e = into (instance_in d c n name) e
+  where
+    into : (o : Option (List ℕ)) → option_map (λ a. a ∷ []) o ≡ Some [] → ⊥
+    into None h = cc
+    into (Some a) h = cc
+passes-some d c n name (next ∷ names) e = into (instance_in d c n name) e
+  where
+    more : (a : List ℕ) (o : Option (List (List ℕ))) → option_map (λ more. a ∷ more) o ≡ Some [] → ⊥
+    more a None h = cc
+    more a (Some x) h = cc
+
+    into : (o : Option (List ℕ)) → option_and_then (λ a. option_map (λ more. a ∷ more) (option_and_then (λ c. passes d c (items_in c d) (next ∷ names)) (component_of d a))) o ≡ Some [] → ⊥
+    into None h = cc
+    into (Some a) h = more a (option_and_then (λ c. passes d c (items_in c d) (next ∷ names)) (component_of d a)) h
+
+last-more : (d : Items) (a : List ℕ) (o : Option (List (List ℕ))) → (o ≡ Some [] → ⊥)
+    → option_and_then (instance_kind d) (option_and_then last_of (option_map (λ more. a ∷ more) o)) ≡ option_and_then (instance_kind d) (option_and_then last_of o)
+last-more d a None h = refl
+last-more d a (Some []) h = absurd (h refl)
+last-more d a (Some (b ∷ path)) h = refl
+
+-- the first name leads to a component, and the others on from there
+pub target-first : (d : Items) (b : List ℕ) (n : ℕ) (name : List ℕ) (names : List (List ℕ)) → target_kind d b n (name ∷ names) ≡ option_and_then (kind_below d names) (instance_component d b n name)
+target-first d b n name [] = into (instance_in d b n name)
+  where
+    into : (o : Option (List ℕ)) → option_and_then (instance_kind d) (option_and_then last_of (option_map (λ a. a ∷ []) o)) ≡ option_and_then (kind_below d []) (option_and_then (component_of d) o)
+    into None = refl
+    into (Some a) = refl
+target-first d b n name (next ∷ names) = into (instance_in d b n name)
+  where
+    deeper : (a : List ℕ) (o : Option (List ℕ)) → option_and_then (instance_kind d) (option_and_then last_of (option_map (λ more. a ∷ more) (option_and_then (λ c. passes d c (items_in c d) (next ∷ names)) o))) ≡ option_and_then (kind_below d (next ∷ names)) o
+    deeper a None = refl
+    deeper a (Some c) = last-more d a (passes d c (items_in c d) (next ∷ names)) (passes-some d c (items_in c d) next names)
+
+    into : (o : Option (List ℕ)) → option_and_then (instance_kind d) (option_and_then last_of (option_and_then (λ a. option_map (λ more. a ∷ more) (option_and_then (λ c. passes d c (items_in c d) (next ∷ names)) (component_of d a))) o))
+        ≡ option_and_then (kind_below d (next ∷ names)) (option_and_then (component_of d) o)
+    into None = refl
+    into (Some a) = deeper a (component_of d a)
+
+pub target-split : (d : Items) (b : List ℕ) (n : ℕ) (names : List (List ℕ)) (name : List ℕ) (rest : List (List ℕ)) → names ≡ name ∷ rest → target_kind d b n names ≡ option_and_then (kind_below d rest) (instance_component d b n name)
+target-split d b n names name rest e = ap (target_kind d b n) e ∙ target-first d b n name rest
+
+pub below-empty : (d : Items) (names : List (List ℕ)) (c : List ℕ) → names ≡ [] → kind_below d names c ≡ kind_at d c
+below-empty d names c e = ap (λ ns. kind_below d ns c) e
+
+pub below-more : (d : Items) (names : List (List ℕ)) (c : List ℕ) → 0 < length names → kind_below d names c ≡ target_kind d c (items_in c d) names
+below-more d [] c h = absurd (omega arith)
+below-more d (name ∷ names) c h = refl
+
+pub ruleset below = (below-empty, below-more)
+
+pub ruleset targets = (target-split, target-first)
+
+-- an item without a fault: the name of an instance isn't used before, and its type is known
+accepted : (around : Option Kind) (twice : Bool) (s : Shell) (kind : Option Kind) → instance_fault around twice s kind ≡ None → (twice ≡ false) × (is_some kind ≡ true)
+unfolding instance_fault
+accepted around true s None e = cc
+accepted around false s None e = cc
+accepted around true s (Some k) e = cc
+accepted around false s (Some k) e = (refl, refl)
+
+none-of : {X : Type 0} (o : Option X) → is_some o ≡ false → o ≡ None
+none-of None h = refl
+none-of (Some x) h = cc
+
+or-none : {X : Type 0} (o : Option X) → option_or o None ≡ o
+or-none None = refl
+or-none (Some x) = refl
+
+-- what stands under a name, once more
+by-name : (same : Bool) (o : Option ℕ) (n : ℕ) (c : List ℕ) (f : Option ℕ → Option (List ℕ)) → (same ≡ true → o ≡ None) → f (Some n) ≡ Some c → cond same (Some c) (f o) ≡ f (option_or o (cond same (Some n) None))
+by-name true o n c f h e = sym (ap (λ z. f (option_or z (Some n))) (h refl) ∙ e)
+by-name false o n c f h e = ap f (sym (or-none o))
+
+abbrev at_number : Items → List ℕ → Option ℕ → Option (List ℕ)
+at_number d b o = option_and_then (component_of d) (option_map (λ k. b ++ k ∷ []) o)
+
+in-body : (d : Items) (b : List ℕ) (body : Items) (n : ℕ) (q : List ℕ) → body_at b d ≡ Some body → instance_component d b n q ≡ at_number d b (instance_before q n body)
+in-body d b body n q e = ap (λ o. at_number d b (option_and_then (instance_before q n) o)) e
+
+next-number : (d : Items) (b : List ℕ) (body : Items) (n : ℕ) (x : Item) (q : List ℕ) → slice_get (list_of body) n ≡ Some x → at_number d b (instance_before q (n + 1) body) ≡ at_number d b (option_or (instance_before q n body) (cond (is_instance q (Some x)) (Some n) None))
+next-number d b body n x q got =
+    let j : n + 1 ≡ suc n = omega arith in
+    ap (λ m. at_number d b (instance_before q m body)) j ∙ ap (at_number d b) (instance-suc q n body) ∙ ap (λ o. at_number d b (option_or (instance_before q n body) (cond (is_instance q o) (Some n) None))) got
+
+-- an item that is no instance
+no-instance : (d : Items) (b : List ℕ) (body : Items) (n : ℕ) (x : Item) (q : List ℕ) (held old : Option (List ℕ)) → is_instance q (Some x) ≡ false → old ≡ at_number d b (instance_before q n body)
+    → address_put q x held old ≡ at_number d b (option_or (instance_before q n body) (cond (is_instance q (Some x)) (Some n) None))
+no-instance d b body n x q held old h e =
+    kept held ∙ e ∙ ap (at_number d b) (sym (or-none (instance_before q n body))) ∙ ap (λ z. at_number d b (option_or (instance_before q n body) (cond z (Some n) None))) (sym h)
+  where
+    kept : (o : Option (List ℕ)) → address_put q x o old ≡ old
+    kept None = refl
+    kept (Some c) = ap (λ z. cond z (Some c) old) h
+
+none-known : (o : Option Kind) → o ≡ None → is_some o ≡ true → ⊥
+none-known None e h = cc
+none-known (Some k) e h = cc
+
+-- an instance without a fault
+an-instance : (d : Items) (around : Option Kind) (b : List ℕ) (body : Items) (n : ℕ) (s : Shell) (o : Of) (q : List ℕ) (held old : Option (List ℕ)) → instance_fault around (is_some (instance_before s.name n body)) s (instance_kind d (b ++ n ∷ [])) ≡ None
+    → held ≡ component_of d (b ++ n ∷ []) → old ≡ at_number d b (instance_before q n body)
+    → address_put q (Instance s o) held old ≡ at_number d b (option_or (instance_before q n body) (cond (bytes_eq s.name q) (Some n) None))
+an-instance d around b body n s o q None old h e w =
+    let known = (accepted around (is_some (instance_before s.name n body)) s (instance_kind d (b ++ n ∷ [])) h).1 in
+    let none : instance_kind d (b ++ n ∷ []) ≡ None = ap (option_and_then (kind_at d)) (sym e) in
+    absurd (none-known (instance_kind d (b ++ n ∷ [])) none known)
+an-instance d around b body n s o q (Some c) old h e w =
+    let first = (accepted around (is_some (instance_before s.name n body)) s (instance_kind d (b ++ n ∷ [])) h).0 in
+    ap (cond (bytes_eq s.name q) (Some c)) w
+    ∙ by-name (bytes_eq s.name q) (instance_before q n body) n c (at_number d b)
+    (λ t. ap (λ m. instance_before m n body) (sym ((bytes_eq-Decides s.name q).0 t)) ∙ none-of (instance_before s.name n body) first) (sym e)
+
+-- one item more
+pub components-next : (d : Items) (around : Option Kind) (b : List ℕ) (body : Items) (n : ℕ) (x : Item) (q : List ℕ) (held old new : Option (List ℕ)) → body_at b d ≡ Some body → slice_get (list_of body) n ≡ Some x → item_fault d around b body n x ≡ None
+    → held ≡ component_of d (b ++ n ∷ []) → old ≡ instance_component d b n q → new ≡ address_put q x held old → new ≡ instance_component d b (n + 1) q
+unfolding item_fault
+components-next d around b body n x q held old new e got h c w put =
+    put ∙ by-sort x h ∙ sym (next-number d b body n x q got) ∙ sym (in-body d b body (n + 1) q e)
+  where
+    before : old ≡ at_number d b (instance_before q n body)
+    before = w ∙ in-body d b body n q e
+
+    by-sort : (x : Item) → item_fault d around b body n x ≡ None → address_put q x held old ≡ at_number d b (option_or (instance_before q n body) (cond (is_instance q (Some x)) (Some n) None))
+    by-sort (Define m k) h = no-instance d b body n (Define m k) q held old refl before
+    by-sort (Instance s o) h = an-instance d around b body n s o q held old h c before
+    by-sort (Own p v) h = no-instance d b body n (Own p v) q held old refl before
+    by-sort (Default p v) h = no-instance d b body n (Default p v) q held old refl before
+    by-sort (Dynamic t p v) h = no-instance d b body n (Dynamic t p v) q held old refl before
+
+-- no fault at an address is no fault
+pub no-fault-at : (a : List ℕ) (k : Option FaultKind) (o : Option Fault) → o ≡ fault_at a k → o ≡ None → k ≡ None
+no-fault-at a None o e h = refl
+no-fault-at a (Some k) o e h = cc
