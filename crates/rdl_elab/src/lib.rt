@@ -1,0 +1,10 @@
+//! Addresses and bits of a register map.
+#![tactic(auto)]
+
+pub mod bits;
+pub mod laws;
+pub mod layout;
+pub mod place;
+mod round;
+#[cfg(test)]
+mod tests;
