@@ -1,12 +1,19 @@
 -- What an identifier is to the grammar.
 -- SystemRDL 2.0, keywords and reserved words; the list is own, and `r` and `w` are names too.
-use Rattle.std.specs.Prelude.{ℕ, true, false, ◌||◌, if◌then◌else◌, List, codes, bytes_eq}
+use Rattle.std.specs.Prelude.{ℕ, Bool, true, false, ◌||◌, if◌then◌else◌, List, codes, bytes_eq}
 use Rattle.rdl_tree.specs.declared.shell.Kind.TheVariants.{Addrmap, Regfile, Reg, Field}
 use Rattle.rdl_tree.specs.declared.shell.Outside.TheVariants.{External, Internal}
 use Rattle.rdl_tree.specs.declared.value.Word.TheVariants as value
 use Rattle.rdl_parse.specs.declared.class.Property.TheVariants as properties
 use Rattle.rdl_parse.specs.declared.class.Class.{Class}
 use Rattle.rdl_parse.specs.declared.class.Class.TheVariants.{Kind, Outside, Default, Truth, Property, Word, Reserved, Name}
+
+-- the reserved words that have no use in this profile
+unfoldable pub is_unused : List ℕ → Bool
+is_unused n =
+    bytes_eq n (codes "mem") || bytes_eq n (codes "signal") || bytes_eq n (codes "enum") || bytes_eq n (codes "struct")
+    || bytes_eq n (codes "constraint") || bytes_eq n (codes "property") || bytes_eq n (codes "alias")
+    || bytes_eq n (codes "abstract") || bytes_eq n (codes "encode")
 
 -- every reserved word; any other identifier is a name
 unfoldable pub class : List ℕ → Class
@@ -42,5 +49,5 @@ class n =
     else if bytes_eq n (codes "compact") then Word value.Compact
     else if bytes_eq n (codes "regalign") then Word value.Regalign
     else if bytes_eq n (codes "fullalign") then Word value.Fullalign
-    else if bytes_eq n (codes "mem") || bytes_eq n (codes "signal") || bytes_eq n (codes "enum") || bytes_eq n (codes "struct") || bytes_eq n (codes "constraint") || bytes_eq n (codes "property") || bytes_eq n (codes "alias") || bytes_eq n (codes "abstract") || bytes_eq n (codes "encode") then Reserved
+    else if is_unused n then Reserved
     else Name

@@ -1,6 +1,6 @@
 //! What the grammar sees of an identifier.
 ghost use Rattle.std.specs.Prelude.{◌≡◌};
-ghost use Rattle.rdl_parse.specs.Class.{class};
+ghost use Rattle.rdl_parse.specs.Class.{class, is_unused};
 ghost use Rattle.rdl_parse.specs.Symbol.{property_text};
 
 use rdl_tree::shell::{Kind, Outside};
@@ -34,6 +34,18 @@ pub enum Class {
     Reserved,
     /// An identifier that isn't reserved.
     Name,
+}
+
+/// Whether the identifier is a reserved word with no use in this profile.
+#[tactic(auto, unfolding(crate::specs::Class::is_unused))]
+fn is_unused(identifier: &str) -> bool
+    ensures { result ≡ is_unused identifier.now }
+{
+    match identifier {
+        "mem" | "signal" | "enum" | "struct" | "constraint" => true,
+        "property" | "alias" | "abstract" | "encode" => true,
+        _ => false,
+    }
 }
 
 impl Class {
@@ -73,15 +85,7 @@ impl Class {
             "compact" => Class::Word(Word::Compact),
             "regalign" => Class::Word(Word::Regalign),
             "fullalign" => Class::Word(Word::Fullalign),
-            "mem"
-            | "signal"
-            | "enum"
-            | "struct"
-            | "constraint"
-            | "property"
-            | "alias"
-            | "abstract"
-            | "encode" => Class::Reserved,
+            _ if is_unused(identifier) => Class::Reserved,
             _ => Class::Name,
         }
     }

@@ -3,21 +3,8 @@ use Rattle.std.proofs.Common.{◌≡◌, ℕ, zero, suc, ◌+◌, ◌≤◌, ◌
 use Rattle.rdl_tree.specs.Items.{Items, no_items, count}
 use Rattle.rdl_tree.specs.View.{add, items_of, list_of}
 use Rattle.rdl_tree.specs.declared.description.Item.{Item}
-use Rattle.rdl_tree.specs.declared.description.Item.TheVariants.{Define, Instance, Own, Default, Dynamic}
-use Rattle.rdl_tree.specs.declared.description.Of.TheVariants.{Named, Anonymous}
 use Rattle.rdl_tree.proofs.Rounds.{items_of-list_of}
-
--- the items of one item, itself included
-abbrev pub item_count : Item → ℕ
-item_count x = count (add x no_items)
-
-count-add : (x : Item) (rest : Items) → count (add x rest) ≡ item_count x + count rest
-count-add (Define n c) rest = omega arith
-count-add (Instance s (Named t)) rest = omega arith
-count-add (Instance s (Anonymous c)) rest = omega arith
-count-add (Own p v) rest = omega arith
-count-add (Default p v) rest = omega arith
-count-add (Dynamic t p v) rest = omega arith
+use Rattle.rdl_tree.proofs.Sizes.{item_count, count-add}
 
 item_count-items_of : (xs : List Item) (i : ℕ) (x : Item) → i < length xs → item_count (get_or xs i x) ≤ count (items_of xs)
 item_count-items_of [] i x h = absurd (omega (arith, h))

@@ -1,5 +1,6 @@
 use Rattle.std.proofs.Common.{◌*◌, ◌<◌, arith}
-use Rattle.rdl_write.proofs.Counts.{item_count, item_count-item}
+use Rattle.rdl_tree.proofs.Sizes.{item_count}
+use Rattle.rdl_write.proofs.Counts.{item_count-item}
 use Rattle.rdl_edit.proofs.Defined.{defined_done}
 use Rattle.rdl_edit.proofs.names.+defined.Goals as goal
 

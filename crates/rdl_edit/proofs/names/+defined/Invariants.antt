@@ -1,7 +1,7 @@
 use Rattle.std.proofs.Common.{◌≡◌, ◌++◌, ◌+◌, ◌*◌, take, map}
 use Rattle.std.specs.List.{flat_map}
 use Rattle.rdl_tree.specs.Items.{count}
-use Rattle.rdl_write.proofs.Counts.{item_count}
+use Rattle.rdl_tree.proofs.Sizes.{item_count}
 use Rattle.rdl_edit.proofs.Defined.{item_names}
 use Rattle.rdl_edit.proofs.names.+defined.Given as goal
 

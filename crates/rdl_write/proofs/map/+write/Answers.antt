@@ -1,7 +1,8 @@
 use Rattle.std.proofs.Common.{◌≡◌, ◌+◌, ◌*◌, ◌<◌, arith}
 use Rattle.rdl_tree.specs.Items.{count}
 use Rattle.rdl_write.proofs.BodyText.{body_done}
-use Rattle.rdl_write.proofs.Counts.{item_count, item_count-item}
+use Rattle.rdl_tree.proofs.Sizes.{item_count}
+use Rattle.rdl_write.proofs.Counts.{item_count-item}
 use Rattle.rdl_write.proofs.map.+write.Goals as goal
 
 pub push_body-push_item-requires : goal.push_body-push_item-requires

@@ -1,7 +1,7 @@
 use Rattle.std.proofs.Common.{◌≡◌, ◌++◌, ◌+◌, ◌*◌, take, string_bytes}
 use Rattle.std.specs.List.{flat_map}
 use Rattle.rdl_tree.specs.Items.{count}
-use Rattle.rdl_write.proofs.Counts.{item_count}
+use Rattle.rdl_tree.proofs.Sizes.{item_count}
 use Rattle.rdl_write.specs.ItemText.{item_text}
 use Rattle.rdl_write.proofs.map.+write.Given as goal
 
