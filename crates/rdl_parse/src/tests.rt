@@ -105,7 +105,7 @@ fn parts_are_read(rt: HostRuntime) -> Result<(), Fail> {
     Ok(())
 }
 
-const REFUSED: [(&str, u8, usize); 12] = [
+const REFUSED: [(&str, u8, usize); 16] = [
     ("addrmap top { reg { field {} f = 2'h4; } a; };", 5, 34),
     ("reg { field {} f[64] = 18446744073709551616; } a;", 4, 24),
     ("addrmap top { reg {", 10, 20),
@@ -118,6 +118,10 @@ const REFUSED: [(&str, u8, usize); 12] = [
     ("default T a;", 9, 11),
     ("reg reg { } a;", 9, 5),
     ("a = sw;", 9, 5),
+    ("enum e;", 9, 1),
+    ("T external x;", 9, 3),
+    ("T x T y;", 9, 5),
+    ("}", 9, 1),
 ];
 
 #[test]
@@ -125,6 +129,28 @@ fn faults_have_their_places(rt: HostRuntime) -> Result<(), Fail> {
     let alloc = rt.alloc();
     for (text, number, column) in REFUSED {
         assert_eq!(rt; refusal(alloc, text)?, (number, column));
+    }
+    Ok(())
+}
+
+const ACCEPTED: [&str; 10] = [
+    "",
+    "internal field {} f[7:0] %= 2, g;",
+    "reg A {} external x, y; external T z; T y;",
+    "reg r {} w; w w;",
+    "r->sw = w; w = r; a.b.c->woset = woclr;",
+    "T a[1][2][3] = 1 @ 2 += 3 %= 4, b @ 0x10;",
+    "default rclr; default x = true; sw = rw1; hw;",
+    "p = \"a\\\"b\"; q = 8'hFF; addressing = fullalign;",
+    "/* c */ enumx e; // d",
+    "addrmap m { regfile { reg { field { sw = r; } f; } r; } rf[2]; };",
+];
+
+#[test]
+fn texts_of_the_language_are_accepted(rt: HostRuntime) -> Result<(), Fail> {
+    let alloc = rt.alloc();
+    for text in ACCEPTED {
+        assert!(rt; parse(alloc, text).is_ok());
     }
     Ok(())
 }
