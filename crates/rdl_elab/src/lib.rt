@@ -2,6 +2,7 @@
 #![tactic(auto)]
 
 pub mod bits;
+pub mod component;
 pub mod laws;
 pub mod layout;
 pub mod place;
