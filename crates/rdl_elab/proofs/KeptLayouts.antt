@@ -1,5 +1,5 @@
 -- What is kept of the layouts inside a component is enough to know what is kept of its own.
-use Rattle.std.proofs.Common.{◌≡◌, ℕ, zero, suc, ◌+◌, ◌-◌, ◌*◌, ◌/◌, ◌^◌, ◌<◌, ◌≤◌, Bool, true, false, List, [], ◌∷◌, map, Option, Some, None, refl, ap, sym, ◌∙◌, arith, ◌⊎◌, inl, inr}
+use Rattle.std.proofs.Common.{◌≡◌, ℕ, zero, suc, ◌+◌, ◌-◌, ◌*◌, ◌^◌, ◌≤◌, Bool, true, false, List, [], ◌∷◌, map, Option, Some, None, refl, ap, sym, ◌∙◌, arith, ◌⊎◌, inl, inr}
 use Rattle.std.specs.Prelude.{max, unwrap_or}
 use Rattle.std.proofs.Math.Nat.{mul_comm}
 use Rattle.rdl_tree.specs.declared.shell.Kind.{Kind}
@@ -8,13 +8,12 @@ use Rattle.rdl_tree.specs.declared.shell.Shell.{Shell}
 use Rattle.rdl_elab.specs.declared.layout.Mode.{Mode}
 use Rattle.rdl_elab.specs.declared.layout.Mode.TheVariants.{Compact, Regalign, Fullalign}
 use Rattle.rdl_elab.specs.declared.layout.Placement.{Placement}
-use Rattle.rdl_elab.specs.declared.layout.FieldBits.{FieldBits}
 use Rattle.rdl_elab.specs.declared.layout.Member.{Member}
 use Rattle.rdl_elab.specs.declared.layout.LayoutValues.{LayoutValues}
 use Rattle.rdl_elab.specs.declared.layout.Layout.{Layout}
 use Rattle.rdl_elab.specs.declared.layout.Span.{Span}
-use Rattle.rdl_elab.specs.Rounding.{next_multiple, power_up}
-use Rattle.rdl_elab.specs.Size.{bytes_of, stride_of, end_of, greatest_end, greatest_access}
+use Rattle.rdl_elab.specs.Rounding.{power_up}
+use Rattle.rdl_elab.specs.Size.{bytes_of, end_of, greatest_end, greatest_access}
 use Rattle.rdl_elab.specs.Start.{full_alignment, mode_alignment, aligned_start, start_by, start_of, spans_from}
 use Rattle.rdl_elab.specs.Bits.{bits_by, bits_of, bits_from}
 use Rattle.rdl_elab.specs.Layouts.{width_of, placement, field_bits, member, container, laid_out}

@@ -7,3 +7,4 @@ pub mod Members
 pub mod KeptLayouts
 pub mod Overlaps
 pub mod Starts
+pub mod Walking

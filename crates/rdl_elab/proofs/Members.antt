@@ -1,17 +1,12 @@
 -- A layout depends on the kind, the values, and what it takes of each instance and of its component's layout; and these are as the searches say.
-use Rattle.std.proofs.Common.{◌≡◌, ℕ, List, [], ◌∷◌, map, Some, refl, ap, sym, ◌∙◌}
+use Rattle.std.proofs.Common.{◌≡◌, ℕ, List, map, Some, ap, ◌∙◌}
 use Rattle.rdl_tree.specs.Items.{Items}
-use Rattle.rdl_tree.specs.declared.shell.Shell.{Shell}
 use Rattle.rdl_tree.specs.declared.shell.Kind.{Kind}
-use Rattle.rdl_tree.specs.declared.shell.Kind.TheVariants.{Addrmap, Regfile, Reg, Field}
 use Rattle.rdl_scope.specs.Closed.{Parts, Made, component, instances}
 use Rattle.rdl_scope.specs.Value.{component_value}
 use Rattle.rdl_scope.proofs.AsFound.{as_found, value-found}
 use Rattle.rdl_elab.specs.declared.layout.Mode.{Mode}
 use Rattle.rdl_elab.specs.declared.layout.Layout.{Layout}
-use Rattle.rdl_elab.specs.declared.layout.FieldBits.{FieldBits}
-use Rattle.rdl_elab.specs.Size.{bytes_of}
-use Rattle.rdl_elab.specs.Bits.{bits_from}
 use Rattle.rdl_elab.specs.declared.layout.LayoutValues.{LayoutValues}
 use Rattle.rdl_elab.specs.Layouts.{layout_values, values_of, mode_inside, laid_out, layouts, layout, instances_under, member}
 

@@ -3,7 +3,7 @@ ghost use Rattle.std.specs.Prelude.{◌≡◌, ℕ, List, map, Option, Some, Non
 ghost use Rattle.rdl_tree.specs.Items.{Items};
 ghost use Rattle.rdl_tree.specs.declared.shell.Kind.{Kind};
 ghost use Rattle.rdl_tree.specs.declared.shell.Shell.{Shell};
-ghost use Rattle.rdl_scope.specs.Closed.{Made, component, instances};
+ghost use Rattle.rdl_scope.specs.Closed.{Made, Standing, component, instances, parts};
 ghost use Rattle.rdl_scope.specs.Value.{component_value};
 ghost use Rattle.rdl_elab.specs.declared.layout.Mode.{Mode};
 ghost use Rattle.rdl_elab.specs.declared.layout.Placement.{Placement};
@@ -14,6 +14,7 @@ ghost use Rattle.rdl_elab.specs.Rounding.{power_up, IsLeastPower};
 ghost use Rattle.rdl_elab.specs.Start.{start_of, alignments, IsLeast};
 ghost use Rattle.rdl_elab.specs.Layouts.{values_of, layout_values, mode_inside, laid_out, layouts, layout, instances_under, member};
 ghost use Rattle.rdl_elab.specs.Capped.{capped_layout, capped_instance};
+ghost use Rattle.rdl_elab.specs.Kept.{kept_instances, scope_of};
 ghost use Rattle.rdl_elab.specs.Faults.{overlap, SharesANumber};
 
 /// An instance without `@` begins at the least number that is at least the end of the instance before it and a multiple
@@ -32,6 +33,11 @@ pub fn layouts_are_of_members()
 /// What is kept of the layout of a component is made of what is kept of the layouts of its instances' components.
 pub fn kept_layouts_suffice()
     ensures { (k : Kind) (v : LayoutValues) (m : Mode) (xs : List (Shell × Layout)) → capped_layout (laid_out k v m (map member (map capped_instance xs))) ≡ capped_layout (laid_out k v m (map member xs)) }
+{}
+
+/// What is kept of the layouts of a body is found in one walk, in which each type in scope has one layout for each mode.
+pub fn one_walk_finds_kept_layouts()
+    ensures { (st : Standing) (b : List ℕ) (n : ℕ) (m : Mode) (items : Items) → map capped_instance (layouts m (parts st b n items)) ≡ kept_instances (scope_of st) m items }
 {}
 
 /// Two spans overlap exactly where a number lies in both.
