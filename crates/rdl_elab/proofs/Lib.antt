@@ -8,3 +8,5 @@ pub mod KeptLayouts
 pub mod Overlaps
 pub mod Starts
 pub mod Walking
+pub mod Powers
+pub mod WideNumbers

@@ -2,6 +2,7 @@
 -- SystemRDL 2.0: fields (clause 9), registers (10), register files (12), address maps (13).
 -- own: the instances of a register file are placed in the mode of the nearest address map around the register file's instance.
 use Rattle.std.specs.Prelude.{ℕ, Bool, true, false, List, [], ◌∷◌, map, Option, Some, None, unwrap_or}
+use Rattle.std.specs.Int.{is_power_of_two}
 use Rattle.rdl_tree.specs.declared.shell.Kind.{Kind}
 use Rattle.rdl_tree.specs.declared.shell.Kind.TheVariants.{Addrmap, Regfile, Reg, Field}
 use Rattle.rdl_tree.specs.declared.shell.Shell.{Shell}
@@ -28,6 +29,11 @@ abbrev pub number_in : Option Value → Option ℕ
 number_in (Some (Number n)) = Some n
 number_in v = None
 
+-- an alignment; a number that is no power of two, which the property does not take, counts as none
+abbrev pub power_in : Option ℕ → Option ℕ
+power_in None = None
+power_in (Some n) = elim (is_power_of_two n) [ true ↦ Some n | false ↦ None ]
+
 -- a mode of addressing; an address map without a value of another sort has this one
 abbrev pub mode_of : Word → Mode
 mode_of word.Compact = Compact
@@ -43,7 +49,7 @@ abbrev pub layout_values : (Property → Option Value) → LayoutValues
 layout_values value =
     record {
       addressing = mode_in (value Addressing);
-      alignment = number_in (value Alignment);
+      alignment = power_in (number_in (value Alignment));
       regwidth = unwrap_or (number_in (value Regwidth)) 0;
       accesswidth = unwrap_or (number_in (value Accesswidth)) 0;
       fieldwidth = unwrap_or (number_in (value Fieldwidth)) 0;

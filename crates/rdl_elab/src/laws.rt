@@ -3,6 +3,8 @@ ghost use Rattle.std.specs.Prelude.{◌≡◌, ℕ, List, map, Option, Some, Non
 ghost use Rattle.rdl_tree.specs.Items.{Items};
 ghost use Rattle.rdl_tree.specs.declared.shell.Kind.{Kind};
 ghost use Rattle.rdl_tree.specs.declared.shell.Shell.{Shell};
+ghost use Rattle.rdl_tree.specs.declared.property.Property.{Property};
+ghost use Rattle.rdl_tree.specs.declared.value.Value.{Value};
 ghost use Rattle.rdl_scope.specs.Closed.{Made, Standing, component, instances, parts};
 ghost use Rattle.rdl_scope.specs.Value.{component_value};
 ghost use Rattle.rdl_elab.specs.declared.layout.Mode.{Mode};
@@ -13,7 +15,7 @@ ghost use Rattle.rdl_elab.specs.declared.layout.Span.{Span};
 ghost use Rattle.rdl_elab.specs.Rounding.{power_up, IsLeastPower};
 ghost use Rattle.rdl_elab.specs.Start.{start_of, alignments, IsLeast};
 ghost use Rattle.rdl_elab.specs.Layouts.{values_of, layout_values, mode_inside, laid_out, layouts, layout, instances_under, member};
-ghost use Rattle.rdl_elab.specs.Capped.{capped_layout, capped_instance};
+ghost use Rattle.rdl_elab.specs.Capped.{capped_layout, capped_instance, IsAlignment};
 ghost use Rattle.rdl_elab.specs.Kept.{kept_instances, scope_of};
 ghost use Rattle.rdl_elab.specs.Faults.{overlap, SharesANumber};
 
@@ -22,6 +24,11 @@ ghost use Rattle.rdl_elab.specs.Faults.{overlap, SharesANumber};
 pub fn starts_are_least()
     ensures start { (around : Option ℕ) (m : Mode) (end : ℕ) (p : Placement) → p.address ≡ None → IsLeast end (alignments around m p) (start_of around m end p) }
     ensures power { (n : ℕ) → IsLeastPower n (power_up n) }
+{}
+
+/// The `alignment` with which a component is laid out is a power of two.
+pub fn alignments_are_powers()
+    ensures { (value : Property → Option Value) → IsAlignment (layout_values value).alignment }
 {}
 
 /// The layout of a component depends on its kind, on the layout values of its own body, and on what it takes of its

@@ -7,5 +7,6 @@ pub mod laws;
 pub mod layout;
 pub mod place;
 mod round;
+pub mod siblings;
 #[cfg(test)]
 mod tests;
