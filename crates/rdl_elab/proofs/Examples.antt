@@ -1,6 +1,6 @@
 -- Small maps, laid out and judged by computing.
 use Rattle.std.proofs.Common.{◌≡◌, ℕ, List, [], ◌∷◌, map, Some, None, Option, refl}
-use Rattle.std.specs.Prelude.{codes, option_map, Ok, Err, true}
+use Rattle.std.specs.Prelude.{zero, suc, ◌+◌, ◌^◌, codes, option_map, Ok, Err, true}
 use Rattle.std.specs.List.{filter_map}
 use Rattle.rdl_tree.specs.Items.{Items, no_items, plain, holder, named, own, dynamic, define, anonymous}
 use Rattle.rdl_tree.specs.Shell.{bare_shell}
@@ -12,7 +12,7 @@ use Rattle.rdl_tree.specs.declared.value.Value.TheVariants.{Number, Bool as Bool
 use Rattle.rdl_tree.specs.declared.value.Word.{Word}
 use Rattle.rdl_tree.specs.declared.value.Word.TheVariants as word
 use Rattle.rdl_tree.specs.declared.fault.FaultKind.{FaultKind}
-use Rattle.rdl_tree.specs.declared.fault.FaultKind.TheVariants.{NoTop, EmptyComponent, AccessTooWide, StrideTooSmall, AddressOverlap, FieldPastRegister, FieldOverlap, ResetTooWide}
+use Rattle.rdl_tree.specs.declared.fault.FaultKind.TheVariants.{NoTop, TooManyLevels, EmptyComponent, MapTooLarge, AccessTooWide, StrideTooSmall, AddressOverlap, FieldPastRegister, FieldOverlap, ResetTooWide}
 use Rattle.rdl_tree.specs.declared.fault.Fault.{Fault}
 use Rattle.rdl_tree.specs.declared.property.Property.{Property}
 use Rattle.rdl_tree.specs.declared.property.Property.TheVariants.{Addressing, Lsb0, Reset}
@@ -23,7 +23,7 @@ use Rattle.rdl_elab.specs.declared.layout.Span.{Span}
 use Rattle.rdl_elab.specs.declared.layout.Layout.{Layout}
 use Rattle.rdl_elab.specs.Layouts.{layout}
 use Rattle.rdl_elab.specs.Rows.{Place, bytes, bits, Row, rows_of}
-use Rattle.rdl_elab.specs.Faults.{elaborated}
+use Rattle.rdl_elab.specs.Faults.{elaborated, count}
 use lib.Count.{ones}
 
 abbrev held : List ℕ → Kind → Items → Items → Items
@@ -203,3 +203,45 @@ assigned_twice =
 -- top, g, q, f
 pub outermost-reset : option_map (λ c. resets (rows_of assigned_twice (codes "top") c)) (root_type assigned_twice (codes "top")) ≡ Some ([] ∷ [] ∷ [] ∷ (Number 3 ∷ []) ∷ [])
 outermost-reset = refl
+
+-- reg { field {} f; } a[2] += 2 ^ 40;
+pub map-too-large : fault (top (holder (anonymous (record (bare_shell (codes "a")) { dims = 2 ∷ []; stride = Some (2 ^ 40) }) Reg) field_f no_items)) ≡ at MapTooLarge (0 ∷ [])
+unfolding item_fault define_fault instance_fault own_fault wrong_part wrong_part_of_kind wrong_number are_dims rivals property_of
+map-too-large = refl
+
+-- a reg, then so many regfiles, each of an instance of the one before it
+abbrev pub chain : ℕ → Items → Items
+chain zero rest = holder (define (100 ∷ []) Reg) field_f rest
+chain (suc k) rest = chain k (holder (define ((101 + k) ∷ []) Regfile) (plain (named (bare_shell (codes "a")) ((100 + k) ∷ [])) no_items) rest)
+
+abbrev pub chained : ℕ → Items
+chained k = chain k (top (plain (named (bare_shell (codes "a")) ((100 + k) ∷ [])) no_items))
+
+-- top.a. .. .a.f
+pub sixteen-names : fault (chained 13) ≡ None
+unfolding item_fault define_fault instance_fault own_fault wrong_part wrong_part_of_kind wrong_number are_dims rivals property_of
+sixteen-names = refl
+
+pub seventeen-names : fault (chained 14) ≡ at TooManyLevels (15 ∷ [])
+unfolding item_fault define_fault instance_fault own_fault wrong_part wrong_part_of_kind wrong_number are_dims rivals property_of
+seventeen-names = refl
+
+-- the same with three instances in each regfile
+abbrev pub tree : ℕ → Items → Items
+tree zero rest = holder (define (100 ∷ []) Reg) field_f rest
+tree (suc k) rest =
+    let one = λ (name : List ℕ) (more : Items). plain (named (bare_shell name) ((100 + k) ∷ [])) more in
+    tree k (holder (define ((101 + k) ∷ []) Regfile) (one (codes "a") (one (codes "b") (one (codes "c") no_items))) rest)
+
+abbrev pub branched : ℕ → Items
+branched k = tree k (top (plain (named (bare_shell (codes "x")) ((100 + k) ∷ [])) no_items))
+
+-- the rows, and the size of the top
+pub three-levels : option_map (λ c. count c.parts + 1) (root_type (branched 3) (codes "top")) ≡ Some 68
+three-levels = refl
+
+pub nine-levels : option_map (λ c. count c.parts + 1) (root_type (branched 9) (codes "top")) ≡ Some 49208
+nine-levels = refl
+
+pub size-of-three-levels : option_map (λ (l : Layout). l.size) (laid (branched 3)) ≡ Some 0x6C
+size-of-three-levels = refl
