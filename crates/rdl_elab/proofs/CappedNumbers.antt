@@ -82,10 +82,10 @@ power_up-ge n = first_power-ge n 1 n (omega (arith, below_power n))
 abbrev pub Alike : ℕ → ℕ → Type 0
 Alike x y = capped x ≡ capped y
 
-over : (x y : ℕ) → 2 ^ 40 + 1 ≤ x → 2 ^ 40 + 1 ≤ y → Alike x y
+pub over : (x y : ℕ) → 2 ^ 40 + 1 ≤ x → 2 ^ 40 + 1 ≤ y → Alike x y
 over x y h g = omega arith
 
-alike_cases : (x y : ℕ) → Alike x y → (x ≡ y) ⊎ ((2 ^ 40 + 1 ≤ x) × (2 ^ 40 + 1 ≤ y))
+pub alike_cases : (x y : ℕ) → Alike x y → (x ≡ y) ⊎ ((2 ^ 40 + 1 ≤ x) × (2 ^ 40 + 1 ≤ y))
 alike_cases x y h = by_order (cases_lt x (2 ^ 40 + 1))
   where
     by_order : ((x < 2 ^ 40 + 1) ⊎ (2 ^ 40 + 1 ≤ x)) → (x ≡ y) ⊎ ((2 ^ 40 + 1 ≤ x) × (2 ^ 40 + 1 ≤ y))

@@ -1,17 +1,21 @@
 -- Small maps, laid out and judged by computing.
 use Rattle.std.proofs.Common.{◌≡◌, ℕ, List, [], ◌∷◌, map, Some, None, Option, refl}
-use Rattle.std.specs.Prelude.{codes, option_map, Ok, Err}
-use Rattle.rdl_tree.specs.Items.{Items, no_items, plain, holder, named, own, define, anonymous}
+use Rattle.std.specs.Prelude.{zero, suc, ◌+◌, ◌^◌, codes, option_map, Ok, Err, true}
+use Rattle.std.specs.List.{filter_map}
+use Rattle.rdl_tree.specs.Items.{Items, no_items, plain, holder, named, own, dynamic, define, anonymous}
 use Rattle.rdl_tree.specs.Shell.{bare_shell}
 use Rattle.rdl_tree.specs.Properties.{property_of}
 use Rattle.rdl_tree.specs.declared.shell.Kind.{Kind}
 use Rattle.rdl_tree.specs.declared.shell.Kind.TheVariants.{Addrmap, Regfile, Reg, Field}
-use Rattle.rdl_tree.specs.declared.value.Value.TheVariants.{Number, Word as Worded}
+use Rattle.rdl_tree.specs.declared.value.Value.{Value}
+use Rattle.rdl_tree.specs.declared.value.Value.TheVariants.{Number, Bool as Boolean, Word as Worded}
 use Rattle.rdl_tree.specs.declared.value.Word.{Word}
 use Rattle.rdl_tree.specs.declared.value.Word.TheVariants as word
 use Rattle.rdl_tree.specs.declared.fault.FaultKind.{FaultKind}
-use Rattle.rdl_tree.specs.declared.fault.FaultKind.TheVariants.{NoTop, EmptyComponent, AccessTooWide, StrideTooSmall, AddressOverlap, FieldPastRegister, FieldOverlap, ResetTooWide}
+use Rattle.rdl_tree.specs.declared.fault.FaultKind.TheVariants.{NoTop, TooManyLevels, EmptyComponent, MapTooLarge, AccessTooWide, StrideTooSmall, AddressOverlap, FieldPastRegister, FieldOverlap, ResetTooWide}
 use Rattle.rdl_tree.specs.declared.fault.Fault.{Fault}
+use Rattle.rdl_tree.specs.declared.property.Property.{Property}
+use Rattle.rdl_tree.specs.declared.property.Property.TheVariants.{Addressing, Lsb0, Reset}
 use Rattle.rdl_scope.specs.Closed.{root_type}
 use Rattle.rdl_scope.specs.ItemFaults.{item_fault, define_fault, instance_fault, own_fault, wrong_part, wrong_part_of_kind, wrong_number, are_dims, rivals}
 use Rattle.rdl_elab.specs.declared.layout.Mode.TheVariants.{Regalign}
@@ -19,7 +23,8 @@ use Rattle.rdl_elab.specs.declared.layout.Span.{Span}
 use Rattle.rdl_elab.specs.declared.layout.Layout.{Layout}
 use Rattle.rdl_elab.specs.Layouts.{layout}
 use Rattle.rdl_elab.specs.Rows.{Place, bytes, bits, Row, rows_of}
-use Rattle.rdl_elab.specs.Faults.{elaborated}
+use Rattle.rdl_elab.specs.Faults.{elaborated, count}
+use lib.Count.{ones}
 
 abbrev held : List ℕ → Kind → Items → Items → Items
 held name kind body rest = holder (anonymous (bare_shell name) kind) body rest
@@ -76,6 +81,16 @@ regfile-regalign = refl
 
 pub regfile-compact : laid (reg_and_regfile word.Compact) ≡ Some (record { size = 0x10; access = 4; spans = up 0 4 ∷ up 4 0x10 ∷ [] })
 regfile-compact = refl
+
+-- 12 bytes under an alignment of 8 begin at multiples of 24
+abbrev pub aligned_regfiles : Items
+aligned_regfiles =
+    let three = held (codes "x") Reg field_f (held (codes "y") Reg field_f (held (codes "z") Reg field_f no_items)) in
+    top (number (codes "alignment") 8 (held (codes "g") Regfile three (held (codes "h") Regfile three no_items)))
+
+pub h-at-twenty_four : laid aligned_regfiles ≡ Some (record { size = 36; access = 4; spans = up 0 12 ∷ up 24 36 ∷ [] })
+unfolding ones
+h-at-twenty_four = refl
 
 -- the bases of all rows
 abbrev bases : Items → Option (List ℕ)
@@ -162,3 +177,71 @@ reset-too-wide = refl
 pub no-top : fault no_items ≡ at NoTop []
 unfolding item_fault define_fault instance_fault own_fault wrong_part wrong_part_of_kind wrong_number are_dims rivals property_of
 no-top = refl
+
+-- addrmap top {};
+pub one-row : elaborated (top no_items) None
+    ≡ Ok (record { names = codes "top" ∷ []; kind = Addrmap; base = 0; place = bytes 0 0 [] 0; values = (Addressing, Worded word.Regalign) ∷ (Lsb0, Boolean true) ∷ [] } ∷ [])
+unfolding item_fault define_fault
+one-row = refl
+
+-- the resets of the rows of a map
+abbrev of_reset : Property → Value → Option Value
+of_reset Reset v = Some v
+of_reset p v = None
+
+abbrev resets : List Row → List (List Value)
+resets rows = map (λ (r : Row). filter_map (λ (e : Property × Value). of_reset e.0 e.1) r.values) rows
+
+-- addrmap top { regfile { reg { field {} f[8] = 1; } q; q.f->reset = 2; } g; g.q.f->reset = 3; };
+abbrev pub assigned_twice : Items
+assigned_twice =
+    top (held (codes "g") Regfile
+    (held (codes "q") Reg (holder (anonymous (record (bare_shell (codes "f")) { dims = 8 ∷ []; reset = Some 1 }) Field) no_items no_items)
+    (plain (dynamic (codes "q" ∷ codes "f" ∷ []) (codes "reset") (Number 2)) no_items))
+    (plain (dynamic (codes "g" ∷ codes "q" ∷ codes "f" ∷ []) (codes "reset") (Number 3)) no_items))
+
+-- top, g, q, f
+pub outermost-reset : option_map (λ c. resets (rows_of assigned_twice (codes "top") c)) (root_type assigned_twice (codes "top")) ≡ Some ([] ∷ [] ∷ [] ∷ (Number 3 ∷ []) ∷ [])
+outermost-reset = refl
+
+-- reg { field {} f; } a[2] += 2 ^ 40;
+pub map-too-large : fault (top (holder (anonymous (record (bare_shell (codes "a")) { dims = 2 ∷ []; stride = Some (2 ^ 40) }) Reg) field_f no_items)) ≡ at MapTooLarge (0 ∷ [])
+unfolding item_fault define_fault instance_fault own_fault wrong_part wrong_part_of_kind wrong_number are_dims rivals property_of
+map-too-large = refl
+
+-- a reg, then so many regfiles, each of an instance of the one before it
+abbrev pub chain : ℕ → Items → Items
+chain zero rest = holder (define (100 ∷ []) Reg) field_f rest
+chain (suc k) rest = chain k (holder (define ((101 + k) ∷ []) Regfile) (plain (named (bare_shell (codes "a")) ((100 + k) ∷ [])) no_items) rest)
+
+abbrev pub chained : ℕ → Items
+chained k = chain k (top (plain (named (bare_shell (codes "a")) ((100 + k) ∷ [])) no_items))
+
+-- top.a. .. .a.f
+pub sixteen-names : fault (chained 13) ≡ None
+unfolding item_fault define_fault instance_fault own_fault wrong_part wrong_part_of_kind wrong_number are_dims rivals property_of
+sixteen-names = refl
+
+pub seventeen-names : fault (chained 14) ≡ at TooManyLevels (15 ∷ [])
+unfolding item_fault define_fault instance_fault own_fault wrong_part wrong_part_of_kind wrong_number are_dims rivals property_of
+seventeen-names = refl
+
+-- the same with three instances in each regfile
+abbrev pub tree : ℕ → Items → Items
+tree zero rest = holder (define (100 ∷ []) Reg) field_f rest
+tree (suc k) rest =
+    let one = λ (name : List ℕ) (more : Items). plain (named (bare_shell name) ((100 + k) ∷ [])) more in
+    tree k (holder (define ((101 + k) ∷ []) Regfile) (one (codes "a") (one (codes "b") (one (codes "c") no_items))) rest)
+
+abbrev pub branched : ℕ → Items
+branched k = tree k (top (plain (named (bare_shell (codes "x")) ((100 + k) ∷ [])) no_items))
+
+-- the rows, and the size of the top
+pub three-levels : option_map (λ c. count c.parts + 1) (root_type (branched 3) (codes "top")) ≡ Some 68
+three-levels = refl
+
+pub nine-levels : option_map (λ c. count c.parts + 1) (root_type (branched 9) (codes "top")) ≡ Some 49208
+nine-levels = refl
+
+pub size-of-three-levels : option_map (λ (l : Layout). l.size) (laid (branched 3)) ≡ Some 0x6C
+size-of-three-levels = refl

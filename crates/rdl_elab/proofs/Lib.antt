@@ -3,5 +3,10 @@ pub mod Rounding
 pub mod CappedNumbers
 pub mod Placing
 pub mod FieldRuns
-pub mod Seen
+pub mod Members
+pub mod KeptLayouts
+pub mod Overlaps
 pub mod Starts
+pub mod Walking
+pub mod Powers
+pub mod WideNumbers

@@ -1,7 +1,7 @@
 -- The first fault of a map, or its rows.
 -- SystemRDL 2.0: field positions and access (clause 9), register and access width (10), instance addresses (5, 13).
 -- own: the limits, which faults there are, their order, and that siblings may not overlap.
-use Rattle.std.specs.Prelude.{ℕ, suc, ◌+◌, ◌-◌, ◌^◌, ◌&&◌, ◌||◌, not, nat_lt, nat_le, max, Bool, true, false, List, [], ◌∷◌, Option, Some, None, option_and_then, Result, Ok, Err, unwrap_or, bytes_eq, if◌then◌else◌}
+use Rattle.std.specs.Prelude.{ℕ, suc, ◌+◌, ◌-◌, ◌^◌, ◌<◌, ◌≤◌, ◌&&◌, ◌||◌, not, nat_lt, nat_le, max, Bool, true, false, List, [], ◌∷◌, Option, Some, None, option_and_then, Result, Ok, Err, unwrap_or, bytes_eq, if◌then◌else◌}
 use Rattle.std.specs.Option.{option_or}
 use Rattle.std.specs.List.{list_any}
 use Rattle.rdl_tree.specs.Items.{Items, no_items, plain, holder, Holder, define, anonymous}
@@ -61,6 +61,13 @@ first_empty no_parts = None
 first_empty (part at s h inside rest) = option_or (if is_empty h.kind inside then Some at else None) (option_or (first_empty inside) (first_empty rest))
 
 -- E20, E22: a number lies in both
+pub record SharesANumber (a b : Span) : Type 0 where
+  pub number : ℕ
+  pub after_first : a.start ≤ number
+  pub in_first : number < a.end
+  pub after_second : b.start ≤ number
+  pub in_second : number < b.end
+
 abbrev pub overlap : Span → Span → Bool
 overlap a b = nat_lt a.start a.end && nat_lt b.start b.end && nat_lt a.start b.end && nat_lt b.start a.end
 

@@ -6,3 +6,4 @@ pub mod Layouts
 pub mod Capped
 pub mod Rows
 pub mod Faults
+pub mod Kept

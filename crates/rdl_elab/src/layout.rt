@@ -85,3 +85,23 @@ pub struct FieldBits {
     /// Its `[high:low]`, the high bit first.
     pub range: Option<(u64, u64)>,
 }
+
+/// What the layout of a component takes of one of its instances: of a register file, address map or register the
+/// placement, of a field the bits.
+#[derive(Clone, Copy, Debug)]
+pub struct Member {
+    pub placement: Placement,
+    pub bits: FieldBits,
+}
+
+/// The values of a component on which its layout depends.
+#[derive(Clone, Copy, Debug)]
+pub struct LayoutValues {
+    /// How the instances of an address map are aligned.
+    pub addressing: Mode,
+    pub alignment: Option<u64>,
+    /// In bits, as the next two.
+    pub regwidth: u64,
+    pub accesswidth: u64,
+    pub fieldwidth: u64,
+}

@@ -1,7 +1,9 @@
 //! Tests that the calls succeed with ample memory, on registers of known sizes.
 use crate::bits::bits;
-use crate::layout::{FieldBits, Mode, Placement, Span};
+use crate::component::lay_out;
+use crate::layout::{FieldBits, LayoutValues, Member, Mode, Placement, Span};
 use crate::place::place;
+use rdl_tree::shell::Kind;
 use std::test::Fail;
 
 /// So many registers of these bytes, each accessed by four bytes.
@@ -53,5 +55,30 @@ fn goes_on_behind_a_field(rt: HostRuntime) -> Result<(), Fail> {
     ];
     let spans = bits(rt.alloc(), &fields)?;
     assert!(rt; are_starts(spans.as_slice(), &[4, 8]));
+    Ok(())
+}
+
+// a register of 64 bits, accessed by 32, with a field of 8
+#[test]
+fn lays_out_a_register(rt: HostRuntime) -> Result<(), Fail> {
+    let bits = FieldBits {
+        width: 8,
+        range: None,
+    };
+    let field = Member {
+        placement: registers(8, 1),
+        bits,
+    };
+    let values = LayoutValues {
+        addressing: Mode::Regalign,
+        alignment: None,
+        regwidth: 64,
+        accesswidth: 32,
+        fieldwidth: 1,
+    };
+    let layout = lay_out(rt.alloc(), Kind::Reg, values, Mode::Regalign, &[field])?;
+    assert!(rt;
+        layout.size == 8 && layout.access == 4 && are_starts(layout.spans.as_slice(), &[0])
+    );
     Ok(())
 }

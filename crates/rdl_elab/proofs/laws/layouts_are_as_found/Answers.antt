@@ -1,4 +1,4 @@
-use Rattle.rdl_elab.proofs.Seen.{layout-found}
+use Rattle.rdl_elab.proofs.Members.{layout-found}
 use Rattle.rdl_elab.proofs.laws.layouts_are_as_found.Goals as goal
 
 pub returns : goal.returns

@@ -1,0 +1,58 @@
+//! The layout of a component, from its values and the layouts of its instances' components.
+ghost use Rattle.std.specs.Prelude.{◌≡◌, ◌/◌, map, min, IfOk};
+ghost use Rattle.rdl_elab.specs.declared.layout.Member.{Member};
+ghost use Rattle.rdl_elab.specs.Layouts.{laid_out};
+ghost use Rattle.rdl_elab.specs.Capped.{capped_layout, IsAlignment};
+
+use crate::bits::bits;
+use crate::layout::{FieldBits, Layout, LayoutValues, Member, Mode, Placement, Spans};
+use crate::place::place;
+use crate::round::LIMIT;
+use rdl_tree::shell::Kind;
+use std::alloc::{AllocError, Global};
+
+fn placements(alloc: Global, members: &[Member]) -> Result<Vec<Placement>, AllocError>
+    ensures { IfOk result (λ ps. ps.items ≡ map (λ (i : Member). i.placement) members.now) }
+{
+    members.iter().map(|member| member.placement).collect(alloc)
+}
+
+fn field_bits(alloc: Global, members: &[Member]) -> Result<Vec<FieldBits>, AllocError>
+    ensures { IfOk result (λ fs. fs.items ≡ map (λ (i : Member). i.bits) members.now) }
+{
+    members.iter().map(|member| member.bits).collect(alloc)
+}
+
+/// A component of this kind with these values, whose instances stand under this mode. Numbers over 2^40 are kept as
+/// 2^40 + 1.
+pub fn lay_out(
+    alloc: Global,
+    kind: Kind,
+    values: LayoutValues,
+    mode: Mode,
+    members: &[Member],
+) -> Result<Layout, AllocError>
+    requires { IsAlignment values.alignment }
+    ensures { IfOk result (λ l. l ≡ capped_layout (laid_out kind values mode members.now)) }
+{
+    match kind {
+        Kind::Addrmap | Kind::Regfile => {
+            let items = placements(alloc, members)?;
+            place(alloc, values.alignment, mode, items.as_slice())
+        }
+        Kind::Reg => {
+            let fields = field_bits(alloc, members)?;
+            let spans = bits(alloc, fields.as_slice())?;
+            Ok(Layout {
+                size: (values.regwidth / 8).min(LIMIT),
+                access: values.accesswidth / 8,
+                spans,
+            })
+        }
+        Kind::Field => Ok(Layout {
+            size: values.fieldwidth.min(LIMIT),
+            access: 0,
+            spans: Spans::from_vec(Vec::new(alloc)),
+        }),
+    }
+}
