@@ -25,6 +25,7 @@ use Rattle.rdl_elab.specs.Size.{bytes_of, greatest_end, greatest_access}
 use Rattle.rdl_elab.specs.Start.{spans_from}
 use Rattle.rdl_elab.specs.Bits.{bits_from}
 
+-- the number of a value that is one
 abbrev pub number_in : Option Value → Option ℕ
 number_in (Some (Number n)) = Some n
 number_in v = None
@@ -34,7 +35,7 @@ abbrev pub power_in : Option ℕ → Option ℕ
 power_in None = None
 power_in (Some n) = elim (is_power_of_two n) [ true ↦ Some n | false ↦ None ]
 
--- a mode of addressing; an address map without a value of another sort has this one
+-- the mode that a word names; any other, which the property does not take, counts as the built-in value
 abbrev pub mode_of : Word → Mode
 mode_of word.Compact = Compact
 mode_of word.Fullalign = Fullalign
@@ -64,6 +65,7 @@ abbrev pub mode_inside : Kind → LayoutValues → Mode → Mode
 mode_inside Addrmap v m = v.addressing
 mode_inside kind v m = m
 
+-- an instance has dims, be it `[1]`
 abbrev pub is_array : List ℕ → Bool
 is_array [] = false
 is_array (n ∷ ns) = true

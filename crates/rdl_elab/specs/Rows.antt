@@ -37,13 +37,16 @@ pub record Row : Type 0 where
 abbrev pub row_value : Items → List (List ℕ) → Head → Property → Option Value
 row_value d path h p = if on p h.kind then option_map (shown (row p).form) (path_value d path h.at p) else None
 
+-- those that there are, in the order of the table
 abbrev pub row_values : Items → List (List ℕ) → Head → List (Property × Value)
 row_values d path h = filter_map (λ p. option_map (λ v. (p, v)) (row_value d path h p)) properties
 
+-- a field has bits, and any other row bytes
 abbrev pub place_of : Kind → Shell → Span → ℕ → Place
 place_of Field s span size = bits span
 place_of kind s span size = bytes span.start size s.dims (unwrap_or s.stride size)
 
+-- the address of an instance of a component at this base
 abbrev pub base_of : Kind → ℕ → Span → ℕ
 base_of Field base span = base
 base_of kind base span = base + span.start
@@ -57,8 +60,8 @@ pub record Around : Type 0 where
   pub base : ℕ
   pub bits : ℕ
 
--- a row with all by which its faults are judged: its instance item, the path to it, that item's parts, its component, what stands around it, its
--- span, and the span and the software access of each earlier sibling
+-- a row with all by which its faults are judged: its instance item, the path to it, that item's parts, its component, what stands
+-- around it, its span, its size, its software access, and the span and the software access of each earlier sibling
 pub record Judged : Type 0 where
   pub row : Row
   pub at : List ℕ
