@@ -22,7 +22,11 @@ use Rattle.rdl_elab.specs.declared.layout.Mode.TheVariants.{Regalign}
 use Rattle.rdl_elab.specs.declared.layout.Span.{Span}
 use Rattle.rdl_elab.specs.declared.layout.Layout.{Layout}
 use Rattle.rdl_elab.specs.Layouts.{layout}
-use Rattle.rdl_elab.specs.Rows.{Place, bytes, bits, Row, rows_of}
+use Rattle.rdl_elab.specs.declared.row.PropertyValue.{PropertyValue}
+use Rattle.rdl_elab.specs.declared.row.Place.{Place}
+use Rattle.rdl_elab.specs.declared.row.Place.TheVariants.{Bytes, Bits}
+use Rattle.rdl_elab.specs.declared.row.Row.{Row}
+use Rattle.rdl_elab.specs.Rows.{valued, rows_of}
 use Rattle.rdl_elab.specs.Faults.{elaborated, count}
 use lib.Count.{ones}
 
@@ -125,11 +129,15 @@ one_reg fields = top (held (codes "r") Reg fields no_items)
 abbrev ranged : List ℕ → ℕ → ℕ → Items → Items → Items
 ranged name high low body rest = holder (anonymous (record (bare_shell name) { range = Some (high, low) }) Field) body rest
 
+-- one instance of this size, at the start of the component around it
+abbrev pub alone : ℕ → Place
+alone size = Bytes (record { offset = 0; size = size; dims = []; stride = size })
+
 abbrev places : Items → Option (List Place)
 places d = option_map (λ c. map (λ (r : Row). r.place) (rows_of d (codes "top") c)) (root_type d (codes "top"))
 
 pub g-follows-f : places (one_reg (ranged (codes "f") 7 4 no_items (held (codes "g") Field no_items no_items)))
-    ≡ Some (bytes 0 4 [] 4 ∷ bytes 0 4 [] 4 ∷ bits (up 4 8) ∷ bits (up 8 9) ∷ [])
+    ≡ Some (alone 4 ∷ alone 4 ∷ Bits (up 4 8) ∷ Bits (up 8 9) ∷ [])
 g-follows-f = refl
 
 -- p is only read, and q has this access
@@ -180,7 +188,7 @@ no-top = refl
 
 -- addrmap top {};
 pub one-row : elaborated (top no_items) None
-    ≡ Ok (record { names = codes "top" ∷ []; kind = Addrmap; base = 0; place = bytes 0 0 [] 0; values = (Addressing, Worded word.Regalign) ∷ (Lsb0, Boolean true) ∷ [] } ∷ [])
+    ≡ Ok (record { names = codes "top" ∷ []; kind = Addrmap; base = 0; place = alone 0; values = valued Addressing (Worded word.Regalign) ∷ valued Lsb0 (Boolean true) ∷ [] } ∷ [])
 unfolding item_fault define_fault
 one-row = refl
 
@@ -190,7 +198,7 @@ of_reset Reset v = Some v
 of_reset p v = None
 
 abbrev resets : List Row → List (List Value)
-resets rows = map (λ (r : Row). filter_map (λ (e : Property × Value). of_reset e.0 e.1) r.values) rows
+resets rows = map (λ (r : Row). filter_map (λ (e : PropertyValue). of_reset e.property e.value) r.values) rows
 
 -- addrmap top { regfile { reg { field {} f[8] = 1; } q; q.f->reset = 2; } g; g.q.f->reset = 3; };
 abbrev pub assigned_twice : Items

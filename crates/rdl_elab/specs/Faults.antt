@@ -18,7 +18,8 @@ use Rattle.rdl_scope.specs.Closed.{Parts, no_parts, part, Made, component}
 use Rattle.rdl_scope.specs.ItemFaults.{first_of, fault_at, fault_of}
 use Rattle.rdl_elab.specs.declared.layout.Span.{Span}
 use Rattle.rdl_elab.specs.Layouts.{values_of, number_in}
-use Rattle.rdl_elab.specs.Rows.{Row, Judged, row_value, rows_below, rows_of, top_layout}
+use Rattle.rdl_elab.specs.declared.row.Row.{Row}
+use Rattle.rdl_elab.specs.Rows.{Judged, row_value, rows_below, rows_of, top_layout}
 
 -- a definition of an address map, of this name if there is one
 abbrev pub has_name : Option (List ℕ) → List ℕ → Bool

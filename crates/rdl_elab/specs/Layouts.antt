@@ -1,7 +1,7 @@
 -- The layout of a component under a mode: its size, its access, and the spans of its instances.
 -- SystemRDL 2.0: fields (clause 9), registers (10), register files (12), address maps (13).
 -- own: the instances of a register file are placed in the mode of the nearest address map around the register file's instance.
-use Rattle.std.specs.Prelude.{ℕ, Bool, true, false, List, [], ◌∷◌, map, Option, Some, None, unwrap_or}
+use Rattle.std.specs.Prelude.{ℕ, Bool, true, false, List, [], ◌∷◌, map, Option, Some, None, unwrap_or, if◌then◌else◌}
 use Rattle.std.specs.Int.{is_power_of_two}
 use Rattle.rdl_tree.specs.declared.shell.Kind.{Kind}
 use Rattle.rdl_tree.specs.declared.shell.Kind.TheVariants.{Addrmap, Regfile, Reg, Field}
@@ -10,6 +10,8 @@ use Rattle.rdl_tree.specs.declared.value.Value.{Value}
 use Rattle.rdl_tree.specs.declared.value.Value.TheVariants.{Number, Word as Worded}
 use Rattle.rdl_tree.specs.declared.value.Word.{Word}
 use Rattle.rdl_tree.specs.declared.value.Word.TheVariants as word
+use Rattle.rdl_tree.specs.Properties.{has_form}
+use Rattle.rdl_tree.specs.declared.property.Form.TheVariants.{Widths}
 use Rattle.rdl_tree.specs.declared.property.Property.{Property}
 use Rattle.rdl_tree.specs.declared.property.Property.TheVariants.{Addressing, Alignment, Regwidth, Accesswidth, Fieldwidth}
 use Rattle.rdl_scope.specs.Closed.{Head, Parts, no_parts, part, Made, head_value}
@@ -35,6 +37,11 @@ abbrev pub power_in : Option ℕ → Option ℕ
 power_in None = None
 power_in (Some n) = elim (is_power_of_two n) [ true ↦ Some n | false ↦ None ]
 
+-- a width of a register; a number that is none, which the property does not take, counts as 0
+abbrev pub width_in : Option ℕ → ℕ
+width_in None = 0
+width_in (Some n) = if has_form Widths (Number n) then n else 0
+
 -- the mode that a word names; any other, which the property does not take, counts as the built-in value
 abbrev pub mode_of : Word → Mode
 mode_of word.Compact = Compact
@@ -51,8 +58,8 @@ layout_values value =
     record {
       addressing = mode_in (value Addressing);
       alignment = power_in (number_in (value Alignment));
-      regwidth = unwrap_or (number_in (value Regwidth)) 0;
-      accesswidth = unwrap_or (number_in (value Accesswidth)) 0;
+      regwidth = width_in (number_in (value Regwidth));
+      accesswidth = width_in (number_in (value Accesswidth));
       fieldwidth = unwrap_or (number_in (value Fieldwidth)) 0;
     }
 

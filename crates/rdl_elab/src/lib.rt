@@ -3,10 +3,17 @@
 
 pub mod bits;
 pub mod component;
+mod defaults;
+pub mod elaborate;
+mod finished;
 pub mod laws;
 pub mod layout;
 pub mod place;
+mod reaches;
 mod round;
+pub mod row;
 pub mod siblings;
 #[cfg(test)]
 mod tests;
+mod values;
+mod walk;

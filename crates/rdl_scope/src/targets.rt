@@ -53,7 +53,7 @@ fn instance_in(description: &Description, body: &Address, n: usize, name: &Name)
 
 /// The instances that the names pass, the first of them among the first `n` items of the body at this address.
 #[tactic(auto, using(crate::proofs::Passing::steps))]
-pub(crate) fn passes(
+pub fn passes(
     alloc: Global,
     description: &Description,
     body: &Address,

@@ -61,7 +61,7 @@ pub(crate) fn own_before<'a>(body: &'a Body, n: usize, name: &str) -> Option<&'a
 
 /// The own assignment of the property in a body.
 #[tactic(auto, using(crate::proofs::ValueSearches::steps))]
-fn own_value<'a>(body: &'a Body, name: &str) -> Option<&'a Value>
+pub fn own_value<'a>(body: &'a Body, name: &str) -> Option<&'a Value>
     ensures { option_copied result ≡ own_value name.now body.now }
 {
     own_before(body, body.len(), name)
@@ -297,8 +297,8 @@ pub(crate) fn is_false(value: &Value) -> bool
     }
 }
 
-/// The value as a row holds it.
-fn shown(form: Form, value: Value) -> Value
+/// The value as a row holds it: a boolean as `true` or `false`.
+pub fn shown(form: Form, value: Value) -> Value
     ensures { result ≡ shown form value }
 {
     match form {

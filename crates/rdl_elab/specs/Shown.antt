@@ -1,0 +1,17 @@
+-- The values that a component has by itself, as the rows of its instances show them.
+-- SystemRDL 2.0, clause 5, property assignment. own: that a row shows them in the order of the table of properties.
+use Rattle.std.specs.Prelude.{List, Option, None, option_map, if◌then◌else◌}
+use Rattle.std.specs.List.{filter_map}
+use Rattle.rdl_tree.specs.Properties.{row, on, properties}
+use Rattle.rdl_tree.specs.declared.value.Value.{Value}
+use Rattle.rdl_tree.specs.declared.property.Property.{Property}
+use Rattle.rdl_scope.specs.Value.{shown}
+use Rattle.rdl_scope.specs.Closed.{Head, head_value}
+use Rattle.rdl_elab.specs.declared.row.PropertyValue.{PropertyValue}
+use Rattle.rdl_elab.specs.Rows.{valued}
+
+abbrev pub shown_value : Head → Property → Option Value
+shown_value h p = if on p h.kind then option_map (shown (row p).form) (head_value h p) else None
+
+abbrev pub shown_values : Head → List PropertyValue
+shown_values h = filter_map (λ p. option_map (valued p) (shown_value h p)) properties

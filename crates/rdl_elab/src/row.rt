@@ -1,0 +1,153 @@
+//! Rows of a map.
+ghost use Rattle.std.specs.Prelude.{◌≡◌, length, slice_get, option_copied};
+
+use crate::layout::Span;
+use rdl_text::name::Name;
+use rdl_tree::dims::Dims;
+use rdl_tree::property::Property;
+use rdl_tree::shell::Kind;
+use rdl_tree::value::Value;
+use std::marker::Model;
+
+/// The names from the top down to a row, the top's first. A contract sees the list of the names' bytes.
+#[derive(Debug, Drop)]
+pub struct RowPath {
+    names: Vec<Name>,
+}
+
+impl Model for RowPath {
+    ghost use Rattle.std.specs.Prelude.{ℕ, List};
+
+    ghost Value = { List (List ℕ) };
+
+    ghost view = { λ path. path.names.items };
+}
+
+impl RowPath {
+    ghost use Rattle.std.specs.Prelude.{◌≡◌};
+
+    pub(crate) fn from_vec(names: Vec<Name>) -> RowPath
+        ensures { result ≡ names.items }
+    {
+        RowPath { names }
+    }
+
+    pub fn names(&self) -> &[Name]
+        ensures { result.now ≡ self.now }
+    {
+        self.names.as_slice()
+    }
+}
+
+/// A property and its value.
+#[derive(Debug, Drop)]
+pub struct PropertyValue {
+    pub property: Property,
+    pub value: Value,
+}
+
+/// The properties of a row that have a value, in the order of the table of properties. A contract sees the list.
+#[derive(Debug, Drop)]
+pub struct RowValues {
+    items: Vec<PropertyValue>,
+}
+
+impl Model for RowValues {
+    ghost use Rattle.std.specs.Prelude.{List};
+    ghost use Rattle.rdl_elab.specs.declared.row.PropertyValue.{PropertyValue};
+
+    ghost Value = { List PropertyValue };
+
+    ghost view = { λ values. values.items.items };
+}
+
+impl RowValues {
+    ghost use Rattle.std.specs.Prelude.{◌≡◌};
+
+    pub(crate) fn from_vec(items: Vec<PropertyValue>) -> RowValues
+        ensures { result ≡ items.items }
+    {
+        RowValues { items }
+    }
+
+    pub fn as_slice(&self) -> &[PropertyValue]
+        ensures { result.now ≡ self.now }
+    {
+        self.items.as_slice()
+    }
+}
+
+/// Where the bytes of a row lie that is no field.
+#[derive(Debug, Drop)]
+pub struct Extent {
+    /// In bytes, from the base of the component around it to the first element.
+    pub offset: u64,
+    /// Of one element, in bytes.
+    pub size: u64,
+    /// The sizes of an array, the outermost first; none for a single instance.
+    pub dims: Dims,
+    /// The distance of the elements, in bytes.
+    pub stride: u64,
+}
+
+/// Where a row lies.
+#[derive(Debug, Drop)]
+pub enum Place {
+    Bytes(Extent),
+    /// The bits of a field in its register.
+    Bits(Span),
+}
+
+/// One instance path, or the top. An array is one row.
+#[derive(Debug, Drop)]
+pub struct Row {
+    pub names: RowPath,
+    pub kind: Kind,
+    /// The absolute address of the first element, in bytes; a field's is that of its register.
+    pub base: u64,
+    pub place: Place,
+    pub values: RowValues,
+}
+
+/// The rows of a map in pre-order, the top first. A contract sees their list.
+#[derive(Debug, Drop)]
+pub struct Rows {
+    items: Vec<Row>,
+}
+
+impl Model for Rows {
+    ghost use Rattle.std.specs.Prelude.{List};
+    ghost use Rattle.rdl_elab.specs.declared.row.Row.{Row};
+
+    ghost Value = { List Row };
+
+    ghost view = { λ rows. rows.items.items };
+}
+
+impl Rows {
+    ghost use Rattle.std.specs.Prelude.{◌≡◌, length, slice_get, option_copied};
+
+    pub(crate) fn from_vec(items: Vec<Row>) -> Rows
+        ensures { result ≡ items.items }
+    {
+        Rows { items }
+    }
+
+    pub fn as_slice(&self) -> &[Row]
+        ensures { result.now ≡ self.now }
+    {
+        self.items.as_slice()
+    }
+
+    pub fn len(&self) -> usize
+        ensures { result ≡ length self.now }
+    {
+        self.items.len()
+    }
+
+    pub fn get(&self, number: usize) -> Option<&Row>
+        ensures { option_copied result ≡ slice_get self.now number }
+    {
+        self.items.get(number)
+    }
+}
