@@ -12,6 +12,7 @@ pub mod place;
 mod reaches;
 mod round;
 pub mod row;
+mod rows;
 pub mod siblings;
 #[cfg(test)]
 mod tests;

@@ -1,0 +1,227 @@
+//! The rows of a map, level by level, up to the first that has a fault.
+ghost use Rattle.std.specs.Prelude.{◌≡◌, ◌+◌, ◌^◌, ◌-◌, ◌++◌, ◌∷◌, [], min, map, zero, suc, Some, None, IfOk, OnOk, option_copied, slice_get};
+ghost use Rattle.rdl_scope.specs.ItemFaults.{fault_at};
+ghost use Rattle.rdl_elab.specs.Layouts.{mode_inside, number_in};
+ghost use Rattle.rdl_elab.specs.Rows.{place_of};
+ghost use Rattle.rdl_elab.specs.Reaches.{behind, value_under};
+ghost use Rattle.rdl_elab.specs.Finished.{under};
+ghost use Rattle.rdl_elab.specs.KeptRows.{kept_base, kept_values, kept_row, sibling, kept_fault, judged, surroundings_inside, kept_rows, told};
+
+use crate::finished::{Finished, Part};
+use crate::layout::{LayoutValues, Mode, Span};
+use crate::reaches::{Reaching, behind, with_own};
+use crate::row::{Extent, Place, Row, RowPath, RowValues};
+use crate::siblings::{Sibling, Siblings, as_sibling, is_reset_too_wide};
+use crate::values::{own_values, row_values, value_under};
+use rdl_text::name::Name;
+use rdl_tree::address::Address;
+use rdl_tree::fault::{Fault, FaultKind};
+use rdl_tree::property::Property;
+use rdl_tree::shell::{Kind, Shell};
+use rdl_tree::value::Value;
+use std::alloc::{AllocError, Global};
+use std::marker::Model;
+
+/// What stands around the instances of a component. A contract sees `Surroundings`.
+#[derive(Drop)]
+pub(crate) struct Around<'a> {
+    /// The mode in which the instances are placed.
+    pub mode: Mode,
+    pub names: Vec<Name>,
+    /// The address of the component, in bytes.
+    pub base: u64,
+    /// How many bits it has if it is a register.
+    pub bits: u64,
+    pub reaching: Vec<Reaching<'a>>,
+}
+
+impl<'a> Model for Around<'a> {
+    ghost use Rattle.rdl_elab.specs.KeptRows.{Surroundings};
+
+    ghost Value = { Surroundings };
+
+    ghost view = { λ a. record { mode = a.mode; names = a.names.items; base = a.base; bits = a.bits; reaching = a.reaching.items } };
+}
+
+/// The mode of the instances of a component of this kind that stands under a mode.
+pub(crate) fn mode_inside(kind: Kind, values: LayoutValues, mode: Mode) -> Mode
+    ensures { result ≡ mode_inside kind values mode }
+{
+    match kind {
+        Kind::Addrmap => values.addressing,
+        _ => mode,
+    }
+}
+
+fn base(kind: Kind, around: u64, span: Span) -> u64
+    ensures { result ≡ kept_base kind around span }
+{
+    match kind {
+        Kind::Field => around,
+        _ => around.saturating_add(span.start),
+    }
+}
+
+fn extent(alloc: Global, shell: &Shell, span: Span, size: u64) -> Result<Extent, AllocError>
+    ensures { IfOk result (λ e. e ≡ record { offset = span.start; size = size; dims = shell.now.dims; stride = unwrap_or shell.now.stride size }) }
+{
+    Ok(Extent {
+        offset: span.start,
+        size,
+        dims: shell.dims.try_copy(alloc)?,
+        stride: shell.stride.unwrap_or(size),
+    })
+}
+
+fn place(
+    alloc: Global,
+    kind: Kind,
+    shell: &Shell,
+    span: Span,
+    size: u64,
+) -> Result<Place, AllocError>
+    ensures { IfOk result (λ place. place ≡ place_of kind shell.now span size) }
+{
+    match kind {
+        Kind::Field => Ok(Place::Bits(span)),
+        _ => Ok(Place::Bytes(extent(alloc, shell, span, size)?)),
+    }
+}
+
+/// The names with one more behind them.
+fn longer(alloc: Global, names: &[Name], name: &Name) -> Result<RowPath, AllocError>
+    ensures { IfOk result (λ path. path ≡ names.now ++ name.now ∷ []) }
+{
+    let mut copies = copied(alloc, names)?;
+    copies.push(name.try_copy(alloc)?)?;
+    Ok(RowPath::from_vec(copies))
+}
+
+fn copied(alloc: Global, names: &[Name]) -> Result<Vec<Name>, AllocError>
+    ensures { IfOk result (λ copies. copies.items ≡ names.now) }
+{
+    let mut copies = Vec::with_capacity(alloc, names.len())?;
+    for name in names {
+        copies.push(name.try_copy(alloc)?)?;
+    }
+    Ok(copies)
+}
+
+/// The values of the row of an instance with this reset, whose component has these values by itself.
+fn values(
+    alloc: Global,
+    kind: Kind,
+    reset: Option<u64>,
+    reaching: &[Reaching],
+    own: &RowValues,
+) -> Result<RowValues, AllocError>
+    ensures { IfOk result (λ values. values ≡ kept_values kind reset reaching.now own.now) }
+{
+    match (reset, reaching) {
+        (None, []) => own_values(alloc, own),
+        _ => row_values(alloc, kind, reset, reaching, own),
+    }
+}
+
+fn row(
+    alloc: Global,
+    around: &Around,
+    span: Span,
+    part: &Part,
+    component: &Finished,
+    reaching: &[Reaching],
+) -> Result<Row, AllocError>
+    requires { reaching.now ≡ behind part.now.at around.now.reaching }
+    ensures { IfOk result (λ row. row ≡ kept_row around.now span part.now component.now) }
+{
+    let shell = part.shell;
+    let size = component.layouts.under(around.mode).size;
+    Ok(Row {
+        names: longer(alloc, around.names.as_slice(), &shell.name)?,
+        kind: component.kind,
+        base: base(component.kind, around.base, span),
+        place: place(alloc, component.kind, shell, span, size)?,
+        values: values(alloc, component.kind, shell.reset, reaching, &component.shown)?,
+    })
+}
+
+fn is_stride_too_small(shell: &Shell, size: u64) -> bool
+    ensures { result ≡ nat_lt (unwrap_or shell.now.stride size) size }
+{
+    shell.stride.unwrap_or(size) < size
+}
+
+/// The reset among these values.
+fn reset(values: &RowValues) -> Option<u64>
+    ensures { result ≡ number_in (value_under Property.Reset values.now) }
+{
+    match value_under(values.as_slice(), Property::Reset) {
+        Some(Value::Number(number)) => Some(*number),
+        _ => None,
+    }
+}
+
+/// A row as its later siblings see it.
+fn seen(span: Span, values: &RowValues) -> Sibling
+    ensures { result ≡ sibling span values.now }
+{
+    as_sibling(span, value_under(values.as_slice(), Property::Sw))
+}
+
+/// What is wrong with a field, in a register of so many bits.
+fn field_fault(
+    bits: u64,
+    field: Sibling,
+    before: &Siblings,
+    values: &RowValues,
+) -> Option<FaultKind>
+    ensures { (v : LayoutValues) (s : Shell) (size : ℕ) → result ≡ kept_fault Kind.Field v bits s size field before.now values.now }
+{
+    if bits < field.span.end {
+        Some(FaultKind::FieldPastRegister)
+    } else if before.clash(field) {
+        Some(FaultKind::FieldOverlap)
+    } else if is_reset_too_wide(reset(values), field.span) {
+        Some(FaultKind::ResetTooWide)
+    } else {
+        None
+    }
+}
+
+/// What is wrong with the bytes of an instance.
+fn extent_fault(
+    shell: &Shell,
+    size: u64,
+    span: Span,
+    before: &Siblings,
+) -> Option<FaultKind>
+    ensures { result ≡ extent_fault shell.now size span before.now }
+{
+    if is_stride_too_small(shell, size) {
+        Some(FaultKind::StrideTooSmall)
+    } else if before.overlap(span) {
+        Some(FaultKind::AddressOverlap)
+    } else {
+        None
+    }
+}
+
+fn fault_kind(
+    around: &Around,
+    shell: &Shell,
+    component: &Finished,
+    seen: Sibling,
+    before: &Siblings,
+    values: &RowValues,
+) -> Option<FaultKind>
+    ensures { result ≡ kept_fault component.now.kind component.now.values around.now.bits shell.now (under around.now.mode component.now.layouts).size seen before.now values.now }
+{
+    let size = component.layouts.under(around.mode).size;
+    match component.kind {
+        Kind::Field => field_fault(around.bits, seen, before, values),
+        Kind::Reg if component.values.regwidth < component.values.accesswidth => {
+            Some(FaultKind::AccessTooWide)
+        }
+        _ => extent_fault(shell, size, seen.span, before),
+    }
+}
