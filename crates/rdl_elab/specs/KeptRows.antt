@@ -62,8 +62,8 @@ kept_row o span p f =
     }
 
 -- a row as later siblings see it
-abbrev pub sibling : Span → List PropertyValue → Sibling
-sibling span values = record { span = span; is_read_only = is_read_only (value_under Sw values); is_write_only = is_write_only (value_under Sw values) }
+abbrev pub seen : Span → List PropertyValue → Sibling
+seen span values = record { span = span; is_read_only = is_read_only (value_under Sw values); is_write_only = is_write_only (value_under Sw values) }
 
 abbrev pub share : Sibling → Sibling → Bool
 share a b = a.is_read_only && b.is_write_only || a.is_write_only && b.is_read_only
@@ -74,6 +74,10 @@ overlaps_before span before = list_any (λ (b : Sibling). overlap span b.span) b
 abbrev pub clashes_before : Sibling → List Sibling → Bool
 clashes_before a before = list_any (λ (b : Sibling). overlap a.span b.span && not (share a b)) before
 
+-- what is wrong with the bytes of an instance
+abbrev pub extent_fault : Shell → ℕ → Span → List Sibling → Option FaultKind
+extent_fault s size span before = first_of ((nat_lt (unwrap_or s.stride size) size, StrideTooSmall) ∷ (overlaps_before span before, AddressOverlap) ∷ [])
+
 -- what is wrong with a row, the lower number first
 abbrev pub kept_fault : Kind → LayoutValues → ℕ → Shell → ℕ → Sibling → List Sibling → List PropertyValue → Option FaultKind
 kept_fault Field v bits s size a before values =
@@ -83,19 +87,14 @@ kept_fault Field v bits s size a before values =
     ∷ (is_reset_too_wide (number_in (value_under Reset values)) a.span, ResetTooWide)
     ∷ [])
 kept_fault Reg v bits s size a before values =
-    first_of
-    ((nat_lt v.regwidth v.accesswidth, AccessTooWide)
-    ∷ (nat_lt (unwrap_or s.stride size) size, StrideTooSmall)
-    ∷ (overlaps_before a.span before, AddressOverlap)
-    ∷ [])
-kept_fault kind v bits s size a before values =
-    first_of ((nat_lt (unwrap_or s.stride size) size, StrideTooSmall) ∷ (overlaps_before a.span before, AddressOverlap) ∷ [])
+    if nat_lt v.regwidth v.accesswidth then Some AccessTooWide else extent_fault s size a.span before
+kept_fault kind v bits s size a before values = extent_fault s size a.span before
 
 abbrev pub judged : Surroundings → List Sibling → Span → Part → Finished → Row → KeptRow
 judged o before span p f r =
     record {
       row = r;
-      fault = fault_at p.at (kept_fault f.kind f.values o.bits p.shell.now (under o.mode f.layouts).size (sibling span r.values) before r.values);
+      fault = fault_at p.at (kept_fault f.kind f.values o.bits p.shell.now (under o.mode f.layouts).size (seen span r.values) before r.values);
     }
 
 abbrev pub surroundings_inside : Surroundings → Part → Finished → Row → Surroundings
@@ -119,9 +118,9 @@ abbrev pub level_rows : List Finished → (Surroundings → List Span → List P
 level_rows fs below o before spans [] = []
 level_rows fs below o before [] (p ∷ ps) = []
 level_rows fs below o before (span ∷ spans) (p ∷ ps) =
-    elim (slice_get fs p.component)
-    [ None ↦ []
-    | Some f ↦ with_below below o before span p f ++ level_rows fs below o (before ++ sibling span (kept_row o span p f).values ∷ []) spans ps
+    elim (slice_get fs p.component) [
+      | None ↦ []
+      | Some f ↦ with_below below o before span p f ++ level_rows fs below o (before ++ seen span (kept_row o span p f).values ∷ []) spans ps
     ]
 
 -- so many levels of instances

@@ -1,18 +1,18 @@
 //! The rows of a map, level by level, up to the first that has a fault.
-ghost use Rattle.std.specs.Prelude.{◌≡◌, ◌+◌, ◌^◌, ◌-◌, ◌++◌, ◌∷◌, [], min, map, zero, suc, Some, None, IfOk, OnOk, option_copied, slice_get};
+ghost use Rattle.std.specs.Prelude.{◌≡◌, ℕ, ◌+◌, ◌^◌, ◌-◌, ◌++◌, ◌∷◌, [], min, map, nat_lt, unwrap_or, zero, suc, Some, None, IfOk, OnOk, option_copied, slice_get};
 ghost use Rattle.rdl_scope.specs.ItemFaults.{fault_at};
 ghost use Rattle.rdl_elab.specs.Layouts.{mode_inside, number_in};
 ghost use Rattle.rdl_elab.specs.Rows.{place_of};
 ghost use Rattle.rdl_elab.specs.Reaches.{behind, value_under};
 ghost use Rattle.rdl_elab.specs.Finished.{under};
-ghost use Rattle.rdl_elab.specs.KeptRows.{kept_base, kept_values, kept_row, sibling, kept_fault, judged, surroundings_inside, kept_rows, told};
+ghost use Rattle.rdl_elab.specs.KeptRows.{kept_base, kept_values, kept_row, seen, kept_fault, extent_fault, judged, surroundings_inside, level_rows, kept_rows, told_one, told};
 
 use crate::finished::{Finished, Part};
 use crate::layout::{LayoutValues, Mode, Span};
 use crate::reaches::{Reaching, behind, with_own};
 use crate::row::{Extent, Place, Row, RowPath, RowValues};
 use crate::siblings::{Sibling, Siblings, as_sibling, is_reset_too_wide};
-use crate::values::{own_values, row_values, value_under};
+use crate::values::{row_values, value_under};
 use rdl_text::name::Name;
 use rdl_tree::address::Address;
 use rdl_tree::fault::{Fault, FaultKind};
@@ -118,7 +118,7 @@ fn values(
     ensures { IfOk result (λ values. values ≡ kept_values kind reset reaching.now own.now) }
 {
     match (reset, reaching) {
-        (None, []) => own_values(alloc, own),
+        (None, []) => own.try_copy(alloc),
         _ => row_values(alloc, kind, reset, reaching, own),
     }
 }
@@ -141,7 +141,13 @@ fn row(
         kind: component.kind,
         base: base(component.kind, around.base, span),
         place: place(alloc, component.kind, shell, span, size)?,
-        values: values(alloc, component.kind, shell.reset, reaching, &component.shown)?,
+        values: values(
+            alloc,
+            component.kind,
+            shell.reset,
+            reaching,
+            &component.shown,
+        )?,
     })
 }
 
@@ -155,7 +161,7 @@ fn is_stride_too_small(shell: &Shell, size: u64) -> bool
 fn reset(values: &RowValues) -> Option<u64>
     ensures { result ≡ number_in (value_under Property.Reset values.now) }
 {
-    match value_under(values.as_slice(), Property::Reset) {
+    match value_under(Property::Reset, values.as_slice()) {
         Some(Value::Number(number)) => Some(*number),
         _ => None,
     }
@@ -163,9 +169,9 @@ fn reset(values: &RowValues) -> Option<u64>
 
 /// A row as its later siblings see it.
 fn seen(span: Span, values: &RowValues) -> Sibling
-    ensures { result ≡ sibling span values.now }
+    ensures { result ≡ seen span values.now }
 {
-    as_sibling(span, value_under(values.as_slice(), Property::Sw))
+    as_sibling(span, value_under(Property::Sw, values.as_slice()))
 }
 
 /// What is wrong with a field, in a register of so many bits.
@@ -189,12 +195,7 @@ fn field_fault(
 }
 
 /// What is wrong with the bytes of an instance.
-fn extent_fault(
-    shell: &Shell,
-    size: u64,
-    span: Span,
-    before: &Siblings,
-) -> Option<FaultKind>
+fn extent_fault(shell: &Shell, size: u64, span: Span, before: &Siblings) -> Option<FaultKind>
     ensures { result ≡ extent_fault shell.now size span before.now }
 {
     if is_stride_too_small(shell, size) {
@@ -210,18 +211,132 @@ fn fault_kind(
     around: &Around,
     shell: &Shell,
     component: &Finished,
-    seen: Sibling,
+    sibling: Sibling,
     before: &Siblings,
     values: &RowValues,
 ) -> Option<FaultKind>
-    ensures { result ≡ kept_fault component.now.kind component.now.values around.now.bits shell.now (under around.now.mode component.now.layouts).size seen before.now values.now }
+    ensures { result ≡ kept_fault component.now.kind component.now.values around.now.bits shell.now (under around.now.mode component.now.layouts).size sibling before.now values.now }
 {
     let size = component.layouts.under(around.mode).size;
     match component.kind {
-        Kind::Field => field_fault(around.bits, seen, before, values),
+        Kind::Field => field_fault(around.bits, sibling, before, values),
         Kind::Reg if component.values.regwidth < component.values.accesswidth => {
             Some(FaultKind::AccessTooWide)
         }
-        _ => extent_fault(shell, size, seen.span, before),
+        _ => extent_fault(shell, size, sibling.span, before),
     }
+}
+
+/// Judges a row, and puts it behind the others and among the siblings if nothing is wrong with it.
+fn add_row(
+    around: &Around,
+    part: &Part,
+    component: &Finished,
+    span: Span,
+    row: Row,
+    siblings: &mut Siblings,
+    rows: &mut Vec<Row>,
+) -> Result<Option<Fault>, AllocError>
+    ensures told { IfOk result (λ fault. record { fault = fault; rows = rows.new.items } ≡ told rows.old.items (judged around.now siblings.old span part.now component.now row ∷ [])) }
+    ensures siblings { IfOk result (λ fault. fault ≡ None → siblings.new ≡ siblings.old ++ seen span row.values ∷ []) }
+{
+    let sibling = seen(span, &row.values);
+    let fault = fault_kind(
+        around,
+        part.shell,
+        component,
+        sibling,
+        siblings,
+        &row.values,
+    );
+    if let Some(kind) = fault {
+        return Ok(Some(Fault {
+            kind,
+            address: part.at.copy(),
+        }));
+    }
+    siblings.push(sibling)?;
+    rows.push(row)?;
+    Ok(None)
+}
+
+/// What stands around the instances of the component of a row.
+fn inside<'a>(
+    alloc: Global,
+    around: &Around<'a>,
+    part: &Part<'a>,
+    component: &'a Finished<'a>,
+    row: &Row,
+    reaching: &[Reaching<'a>],
+) -> Result<Around<'a>, AllocError>
+    requires { reaching.now ≡ behind part.now.at around.now.reaching }
+    ensures { IfOk result (λ inside. inside ≡ surroundings_inside around.now part.now component.now row.now) }
+{
+    Ok(Around {
+        mode: mode_inside(component.kind, component.values, around.mode),
+        names: copied(alloc, row.names.names())?,
+        base: row.base,
+        bits: component.values.regwidth,
+        reaching: with_own(alloc, reaching, component.assignments.as_slice())?,
+    })
+}
+
+fn span_at(spans: &[Span], number: usize) -> Option<Span>
+    ensures { result ≡ slice_get spans.now number }
+{
+    spans.get(number).copied()
+}
+
+fn component_of<'a>(components: &'a [Finished<'a>], part: &Part) -> Option<&'a Finished<'a>>
+    ensures { option_copied result ≡ slice_get components.now part.now.component }
+{
+    components.get(part.component)
+}
+
+/// Puts the rows of the instances of a component, so many levels deep, behind the others, up to the first that has a
+/// fault.
+pub(crate) fn add_rows<'a>(
+    alloc: Global,
+    components: &'a [Finished<'a>],
+    around: &Around<'a>,
+    spans: &[Span],
+    parts: &'a [Part<'a>],
+    levels: usize,
+    rows: &mut Vec<Row>,
+) -> Result<Option<Fault>, AllocError>
+    ensures { IfOk result (λ fault. record { fault = fault; rows = rows.new.items } ≡ told rows.old.items (kept_rows levels components.now around.now spans.now parts.now)) }
+{
+    if levels == 0 {
+        return Ok(None);
+    }
+    let mut siblings = Siblings::new(alloc);
+    for (i, part) in parts.iter().enumerate() {
+        let Some(span) = span_at(spans, i) else {
+            return Ok(None);
+        };
+        let Some(component) = component_of(components, part) else {
+            return Ok(None);
+        };
+        let reaching = behind(alloc, &part.at, around.reaching.as_slice())?;
+        let row = row(alloc, around, span, part, component, reaching.as_slice())?;
+        let inside = inside(alloc, around, part, component, &row, reaching.as_slice())?;
+        let fault = add_row(around, part, component, span, row, &mut siblings, rows)?;
+        if fault.is_some() {
+            return Ok(fault);
+        }
+        let below = component.layouts.under(around.mode).spans.as_slice();
+        let fault = add_rows(
+            alloc,
+            components,
+            &inside,
+            below,
+            component.parts.as_slice(),
+            levels - 1,
+            rows,
+        )?;
+        if fault.is_some() {
+            return Ok(fault);
+        }
+    }
+    Ok(None)
 }

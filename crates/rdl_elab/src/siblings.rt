@@ -80,9 +80,7 @@ impl Siblings {
         if self.end <= field.span.start {
             return false;
         }
-        self.items
-            .iter()
-            .any(|before| overlap(field.span, before.span) && !share(field, *before))
+        self.items.iter().any(|before| overlap(field.span, before.span) && !share(field, *before))
     }
 }
 

@@ -165,7 +165,9 @@ fn reset_value(property: Property, reset: Option<Number>) -> Option<Value> {
     }
 }
 
-fn value_under(property: Property, own: &[PropertyValue]) -> Option<&Value> {
+pub(crate) fn value_under(property: Property, own: &[PropertyValue]) -> Option<&Value>
+    ensures { option_copied result ≡ value_under property own.now }
+{
     for value in own {
         if value.property.name() == property.name() {
             return Some(&value.value);
