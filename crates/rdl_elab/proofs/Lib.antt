@@ -10,3 +10,4 @@ pub mod Starts
 pub mod Walking
 pub mod Powers
 pub mod WideNumbers
+pub mod DefaultStacks
