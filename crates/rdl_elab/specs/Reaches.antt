@@ -88,5 +88,9 @@ abbrev pub value_along : Kind → Option ℕ → List Reach → List PropertyVal
 value_along k reset rs values p =
     if on p k then option_or (option_map (shown (row p).form) (option_or (reached (row p).name rs) (reset_value p reset))) (value_under p values) else None
 
+-- those that there are of these properties, and of all
+abbrev pub values_among : Kind → Option ℕ → List Reach → List PropertyValue → List Property → List PropertyValue
+values_among k reset rs values = filter_map (λ p. option_map (valued p) (value_along k reset rs values p))
+
 abbrev pub values_along : Kind → Option ℕ → List Reach → List PropertyValue → List PropertyValue
-values_along k reset rs values = filter_map (λ p. option_map (valued p) (value_along k reset rs values p)) properties
+values_along k reset rs values = values_among k reset rs values properties

@@ -15,8 +15,12 @@ use Rattle.rdl_elab.specs.Rows.{valued}
 abbrev pub shown_value : Head → Property → Option Value
 shown_value h p = if on p h.kind then option_map (shown (row p).form) (head_value h p) else None
 
+-- those that there are of these properties, and of all
+abbrev pub shown_among : Head → List Property → List PropertyValue
+shown_among h = filter_map (λ p. option_map (valued p) (shown_value h p))
+
 abbrev pub shown_values : Head → List PropertyValue
-shown_values h = filter_map (λ p. option_map (valued p) (shown_value h p)) properties
+shown_values h = shown_among h properties
 
 -- the same of a component of this kind with this body, which these defaults reach, wherever it is written
 abbrev pub bare : Kind → Items → List (List ℕ × Value) → Head

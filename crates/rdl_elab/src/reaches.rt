@@ -156,11 +156,10 @@ pub(crate) fn with_own<'a>(
 fn copied<'a>(alloc: Global, reaching: &[Reaching<'a>]) -> Result<Vec<Reaching<'a>>, AllocError>
     ensures { IfOk result (λ list. list.items ≡ reaching.now) }
 {
-    let mut list = Vec::new(alloc);
-    for assignment in reaching {
-        list.push(assignment.copy())?;
-    }
-    Ok(list)
+    reaching
+        .iter()
+        .map(|assignment| assignment.copy())
+        .collect(alloc)
 }
 
 /// Those whose targets pass this instance.

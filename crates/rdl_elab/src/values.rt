@@ -7,8 +7,8 @@ ghost use Rattle.rdl_tree.specs.declared.shell.Kind.{Kind};
 ghost use Rattle.rdl_scope.specs.Closed.{Head, stated, built_in, head_value};
 ghost use Rattle.rdl_scope.specs.Value.{shown};
 ghost use Rattle.rdl_elab.specs.Layouts.{layout_values, values_of, number_in, power_in, width_in, mode_in};
-ghost use Rattle.rdl_elab.specs.Shown.{bare, shown_value, shown_values};
-ghost use Rattle.rdl_elab.specs.Reaches.{value_along, values_along, reset_value, value_under};
+ghost use Rattle.rdl_elab.specs.Shown.{bare, shown_value, shown_among, shown_values};
+ghost use Rattle.rdl_elab.specs.Reaches.{value_along, values_among, values_along, reset_value, value_under};
 
 use crate::defaults::Defaults;
 use crate::layout::{LayoutValues, Mode};
@@ -169,18 +169,23 @@ fn shown_value(
     }
 }
 
-fn bare_shown_values(
+/// The values that there are of these properties.
+fn shown_among(
     alloc: Global,
     kind: Kind,
     body: &Body,
     defaults: &Defaults,
+    properties: &[Property],
 ) -> Result<RowValues, AllocError>
-    ensures { IfOk result (λ values. values ≡ shown_values (bare kind body.now defaults.now)) }
+    ensures { IfOk result (λ values. values ≡ shown_among (bare kind body.now defaults.now) properties.now) }
 {
     let mut items = Vec::new(alloc);
-    for property in Property::ALL {
-        if let Some(value) = shown_value(alloc, kind, body, defaults, property)? {
-            items.push(PropertyValue { property, value })?;
+    for property in properties {
+        if let Some(value) = shown_value(alloc, kind, body, defaults, *property)? {
+            items.push(PropertyValue {
+                property: *property,
+                value,
+            })?;
         }
     }
     Ok(RowValues::from_vec(items))
@@ -195,7 +200,7 @@ pub(crate) fn shown_values(
 ) -> Result<RowValues, AllocError>
     ensures { IfOk result (λ values. (h : Head) → h.kind ≡ kind → h.body ≡ body.now → h.defaults ≡ defaults.now → values ≡ shown_values h) }
 {
-    bare_shown_values(alloc, kind, body, defaults)
+    shown_among(alloc, kind, body, defaults, &Property::ALL)
 }
 
 fn reset_value(property: Property, reset: Option<Number>) -> Option<Value>
@@ -241,6 +246,29 @@ fn value_along(
     }
 }
 
+/// The values that there are of these properties of the row of such an instance.
+fn values_among(
+    alloc: Global,
+    kind: Kind,
+    reset: Option<Number>,
+    reaching: &[Reaching],
+    own: &[PropertyValue],
+    properties: &[Property],
+) -> Result<RowValues, AllocError>
+    ensures { IfOk result (λ values. values ≡ values_among kind reset reaching.now own.now properties.now) }
+{
+    let mut items = Vec::new(alloc);
+    for property in properties {
+        if let Some(value) = value_along(alloc, kind, reset, reaching, own, *property)? {
+            items.push(PropertyValue {
+                property: *property,
+                value,
+            })?;
+        }
+    }
+    Ok(RowValues::from_vec(items))
+}
+
 /// The values of the row of an instance with this reset, which these assignments reach, and whose component, of this
 /// kind, has these values by itself.
 ///
@@ -254,11 +282,5 @@ pub(crate) fn row_values(
 ) -> Result<RowValues, AllocError>
     ensures { IfOk result (λ values. values ≡ values_along kind reset reaching.now own.now) }
 {
-    let mut items = Vec::new(alloc);
-    for property in Property::ALL {
-        if let Some(value) = value_along(alloc, kind, reset, reaching, own.as_slice(), property)? {
-            items.push(PropertyValue { property, value })?;
-        }
-    }
-    Ok(RowValues::from_vec(items))
+    values_among(alloc, kind, reset, reaching, own.as_slice(), &Property::ALL)
 }
