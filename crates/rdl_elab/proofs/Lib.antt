@@ -11,3 +11,4 @@ pub mod Walking
 pub mod Powers
 pub mod WideNumbers
 pub mod DefaultStacks
+pub mod ValueLists

@@ -73,11 +73,12 @@ impl<'a> Reaching<'a> {
     }
 
     /// The assignment behind an instance, if its target passes that.
+    #[tactic(auto, using(crate::proofs::ValueLists::steps))]
     fn passed(&self, instance: &Address) -> Option<Reaching<'a>>
         ensures { result ≡ passed instance.now self.now self.now.path }
     {
         match self.path {
-            [next, rest @ ..] if next == instance => Some(Reaching {
+            [next, rest @ ..] if instance == next => Some(Reaching {
                 path: rest,
                 property: self.property,
                 value: self.value,
@@ -163,6 +164,7 @@ fn copied<'a>(alloc: Global, reaching: &[Reaching<'a>]) -> Result<Vec<Reaching<'
 }
 
 /// Those whose targets pass this instance.
+#[tactic(auto, using(crate::proofs::ValueLists::steps))]
 pub(crate) fn behind<'a>(
     alloc: Global,
     instance: &Address,

@@ -170,6 +170,7 @@ fn shown_value(
 }
 
 /// The values that there are of these properties.
+#[tactic(auto, using(crate::proofs::ValueLists::steps))]
 fn shown_among(
     alloc: Global,
     kind: Kind,
@@ -247,6 +248,7 @@ fn value_along(
 }
 
 /// The values that there are of these properties of the row of such an instance.
+#[tactic(auto, using(crate::proofs::ValueLists::steps))]
 fn values_among(
     alloc: Global,
     kind: Kind,
