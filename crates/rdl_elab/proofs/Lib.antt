@@ -12,3 +12,4 @@ pub mod Powers
 pub mod WideNumbers
 pub mod DefaultStacks
 pub mod ValueLists
+pub mod BareHeads
