@@ -12,3 +12,6 @@ pub mod Powers
 pub mod WideNumbers
 pub mod Watermarks
 pub mod Telling
+pub mod DefaultStacks
+pub mod ValueLists
+pub mod BareHeads
