@@ -6,6 +6,7 @@ pub mod component;
 mod defaults;
 pub mod elaborate;
 mod finished;
+mod instances;
 pub mod laws;
 pub mod layout;
 pub mod place;
@@ -15,5 +16,6 @@ pub mod row;
 pub mod siblings;
 #[cfg(test)]
 mod tests;
+mod types;
 mod values;
 mod walk;

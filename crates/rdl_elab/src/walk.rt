@@ -5,8 +5,16 @@ ghost use Rattle.rdl_tree.specs.Depth.{depth};
 ghost use Rattle.rdl_scope.specs.Closed.{Made, component};
 ghost use Rattle.rdl_elab.specs.Finished.{IsFinished};
 
-use crate::finished::Finished;
-use rdl_tree::description::Description;
+use crate::defaults::Defaults;
+use crate::finished::{Finished, Part};
+use crate::instances::{first_empty, layouts, levels, rows};
+use crate::reaches::assignments;
+use crate::types::Types;
+use crate::values::{layout_values, shown_values};
+use rdl_text::name::Name;
+use rdl_tree::address::Address;
+use rdl_tree::description::{Component, Description, Item, Of};
+use rdl_tree::shell::Shell;
 use std::alloc::{AllocError, Global};
 
 /// Components that are laid out, each after those of its instances, and the number of one of them.
@@ -14,6 +22,133 @@ use std::alloc::{AllocError, Global};
 pub(crate) struct Walked<'a> {
     pub components: Vec<Finished<'a>>,
     pub number: usize,
+}
+
+/// The components that are laid out, and what stands before the next item.
+#[derive(Drop)]
+struct Walk<'a> {
+    types: Types<'a>,
+    defaults: Defaults<'a>,
+    components: Vec<Finished<'a>>,
+}
+
+/// All that is kept of a component with these instances, which these defaults reach.
+fn finished<'a>(
+    alloc: Global,
+    description: &'a Description,
+    at: &Address,
+    component: &'a Component,
+    parts: Vec<Part<'a>>,
+    walk: &Walk<'a>,
+) -> Result<Finished<'a>, AllocError> {
+    let kind = component.kind;
+    let body = &component.body;
+    let components = walk.components.as_slice();
+    let values = layout_values(body, &walk.defaults);
+    let shown = shown_values(alloc, kind, body, &walk.defaults)?;
+    let assignments = assignments(alloc, description, at, body)?;
+    let layouts = layouts(alloc, kind, values, parts.as_slice(), components)?;
+    Ok(Finished {
+        at: at.copy(),
+        kind,
+        values,
+        shown,
+        assignments,
+        layouts,
+        levels: levels(parts.as_slice(), components),
+        rows: rows(parts.as_slice(), components),
+        first_empty: first_empty(parts.as_slice(), components),
+        parts,
+    })
+}
+
+/// Lays out the component of the item at this address. What stands before the item stays.
+#[cycle(walk)]
+fn finish<'a>(
+    alloc: Global,
+    description: &'a Description,
+    at: &Address,
+    component: &'a Component,
+    walk: &mut Walk<'a>,
+) -> Result<usize, AllocError> {
+    let types = walk.types.len();
+    let defaults = walk.defaults.len();
+    let parts = walk_items(alloc, description, at, component.body.as_slice(), walk)?;
+    walk.types.truncate(types);
+    walk.defaults.truncate(defaults);
+    let finished = finished(alloc, description, at, component, parts, walk)?;
+    let number = walk.components.len();
+    walk.components.push(finished)?;
+    Ok(number)
+}
+
+/// The instance of a type, if the type stands.
+fn named_part<'a>(at: &Address, shell: &'a Shell, name: &Name, types: &Types) -> Option<Part<'a>> {
+    let component = types.get(name)?;
+    Some(Part {
+        at: at.copy(),
+        shell,
+        component,
+    })
+}
+
+/// Lays out what the item at this address holds, and goes on behind it. The part is that of an instance.
+#[cycle(walk)]
+fn walk_item<'a>(
+    alloc: Global,
+    description: &'a Description,
+    at: &Address,
+    item: &'a Item,
+    walk: &mut Walk<'a>,
+) -> Result<Option<Part<'a>>, AllocError> {
+    match item {
+        Item::Define(name, component) => {
+            let number = finish(alloc, description, at, component, walk)?;
+            walk.types.push(name, number)?;
+            Ok(None)
+        }
+        Item::Instance(shell, Of::Anonymous(component)) => {
+            let component = finish(alloc, description, at, component, walk)?;
+            Ok(Some(Part {
+                at: at.copy(),
+                shell,
+                component,
+            }))
+        }
+        Item::Instance(shell, Of::Named(name)) => Ok(named_part(at, shell, name, &walk.types)),
+        Item::Default(name, value) => {
+            walk.defaults.push(name, value)?;
+            Ok(None)
+        }
+        Item::Own(_, _) | Item::Dynamic(_, _, _) => Ok(None),
+    }
+}
+
+/// Lays out what these first items of the body at this address hold, and goes on behind them. The parts are those of
+/// the instances.
+#[cycle(walk)]
+fn walk_items<'a>(
+    alloc: Global,
+    description: &'a Description,
+    at: &Address,
+    items: &'a [Item],
+    walk: &mut Walk<'a>,
+) -> Result<Vec<Part<'a>>, AllocError> {
+    let mut parts = Vec::new(alloc);
+    for (i, item) in items.iter().enumerate() {
+        if let Some(part) = walk_item(alloc, description, &at.inside(i), item, walk)? {
+            parts.push(part)?;
+        }
+    }
+    Ok(parts)
+}
+
+fn own_component(item: &Item) -> Option<&Component> {
+    match item {
+        Item::Instance(_, Of::Anonymous(component)) => Some(component),
+        Item::Define(_, component) => Some(component),
+        _ => None,
+    }
 }
 
 /// Lays out the component of item `n` of the root body.
@@ -26,5 +161,23 @@ pub(crate) fn lay_out_item<'a>(
     ensures there { IfOk result (λ walked. is_some walked ≡ is_some (component description.now.items (n ∷ []))) }
     ensures finished { IfOk result (λ walked. IfSome walked (λ w. (c : Made) → component description.now.items (n ∷ []) ≡ Some c → IsFinished description.now.items w.components.items w.number c)) }
 {
-    Err(AllocError)
+    let items = description.items.as_slice();
+    if n >= items.len() {
+        return Ok(None);
+    }
+    let Some(component) = own_component(&items[n]) else {
+        return Ok(None);
+    };
+    let mut walk = Walk {
+        types: Types::new(alloc),
+        defaults: Defaults::new(alloc),
+        components: Vec::new(alloc),
+    };
+    let root = Address::new();
+    walk_items(alloc, description, &root, &items[..n], &mut walk)?;
+    let number = finish(alloc, description, &root.inside(n), component, &mut walk)?;
+    Ok(Some(Walked {
+        components: walk.components,
+        number,
+    }))
 }
