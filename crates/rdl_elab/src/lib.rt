@@ -19,3 +19,5 @@ mod tests;
 mod types;
 mod values;
 mod walk;
+#[cfg(test)]
+mod walk_tests;

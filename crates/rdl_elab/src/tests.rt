@@ -1,13 +1,19 @@
-//! Tests that the calls succeed with ample memory, on registers of known sizes.
+//! Tests that the calls succeed with ample memory.
 use crate::bits::bits;
 use crate::component::lay_out;
+use crate::defaults::Defaults;
 use crate::layout::{FieldBits, LayoutValues, Member, Mode, Placement, Span};
 use crate::place::place;
-use crate::walk::lay_out_item;
+use crate::reaches::{assignments, behind, reached, with_own};
+use crate::row::RowValues;
+use crate::values::{layout_values, row_values, shown_values};
 use rdl_text::name::Name;
+use rdl_tree::address::Address;
 use rdl_tree::description::{Body, Component, Description, Item, Of};
-use rdl_tree::dims::Dims;
+use rdl_tree::property::Property;
 use rdl_tree::shell::{Kind, Shell};
+use rdl_tree::target::Target;
+use rdl_tree::value::{Value, Word};
 use std::alloc::Global;
 use std::test::Fail;
 
@@ -88,65 +94,120 @@ fn lays_out_a_register(rt: HostRuntime) -> Result<(), Fail> {
     Ok(())
 }
 
-fn component(kind: Kind, items: Vec<Item>) -> Component {
-    let body = Body::from_vec(items);
-    Component { kind, body }
+fn name(alloc: Global, text: &str) -> Result<Name, Fail> {
+    Ok(Name::new(alloc, text)?)
 }
 
 fn shell(alloc: Global, text: &str) -> Result<Shell, Fail> {
-    Ok(Shell::new(alloc, Name::new(alloc, text)?))
+    Ok(Shell::new(alloc, name(alloc, text)?))
 }
 
-fn held(alloc: Global, text: &str, kind: Kind, items: Vec<Item>) -> Result<Item, Fail> {
-    let of = Of::Anonymous(component(kind, items));
-    Ok(Item::Instance(shell(alloc, text)?, of))
+fn number_at(values: &RowValues, property: Property) -> Option<u64> {
+    for value in values.as_slice() {
+        if value.property == property {
+            return match &value.value {
+                Value::Number(number) => Some(*number),
+                _ => None,
+            };
+        }
+    }
+    None
 }
 
-fn of_r(alloc: Global, shell: Shell) -> Result<Item, Fail> {
-    Ok(Item::Instance(shell, Of::Named(Name::new(alloc, "R")?)))
+// default fieldwidth = 8; default fieldwidth = 4; and without the second
+#[test]
+fn takes_the_nearest_default(rt: HostRuntime) -> Result<(), Fail> {
+    let alloc = rt.alloc();
+    let width = name(alloc, "fieldwidth")?;
+    let values = [Value::Number(8), Value::Number(4)];
+    let body = Body::new(alloc);
+    let mut defaults = Defaults::new(alloc);
+    defaults.push(&width, &values[0])?;
+    defaults.push(&width, &values[1])?;
+    assert!(rt; defaults.len() == 2 && layout_values(&body, &defaults).fieldwidth == 4);
+    defaults.truncate(1);
+    assert!(rt; layout_values(&body, &defaults).fieldwidth == 8);
+    Ok(())
 }
 
-fn define(alloc: Global, text: &str, kind: Kind, items: Vec<Item>) -> Result<Item, Fail> {
-    Ok(Item::Define(Name::new(alloc, text)?, component(kind, items)))
+// regwidth = 16; addressing = compact; and the same of no assignment
+#[test]
+fn reads_the_values_of_a_layout(rt: HostRuntime) -> Result<(), Fail> {
+    let alloc = rt.alloc();
+    let mut items = Vec::new(alloc);
+    items.push(Item::Own(name(alloc, "regwidth")?, Value::Number(16)))?;
+    items.push(Item::Own(name(alloc, "addressing")?, Value::Word(Word::Compact)))?;
+    let body = Body::from_vec(items);
+    let values = layout_values(&body, &Defaults::new(alloc));
+    assert!(rt; values.regwidth == 16 && values.accesswidth == 16);
+    assert!(rt; matches!(values.addressing, Mode::Compact) && values.alignment.is_none());
+    let built_in = layout_values(&Body::new(alloc), &Defaults::new(alloc));
+    assert!(rt; built_in.regwidth == 32 && matches!(built_in.addressing, Mode::Regalign));
+    Ok(())
 }
 
-// reg R { field {} f; }; addrmap top { R a; R b[3]; regfile { R c; } g; regfile {} h; };
-fn nested(alloc: Global) -> Result<Description, Fail> {
-    let f = held(alloc, "f", Kind::Field, Vec::new(alloc))?;
-    let r = define(alloc, "R", Kind::Reg, vec![in alloc; f]?)?;
-    let a = of_r(alloc, shell(alloc, "a")?)?;
-    let mut three = shell(alloc, "b")?;
-    three.dims = Dims::from_vec(vec![in alloc; 3]?);
-    let b = of_r(alloc, three)?;
-    let c = of_r(alloc, shell(alloc, "c")?)?;
-    let g = held(alloc, "g", Kind::Regfile, vec![in alloc; c]?)?;
-    let h = held(alloc, "h", Kind::Regfile, Vec::new(alloc))?;
-    let items = vec![in alloc; a, b, g, h]?;
-    let top = define(alloc, "top", Kind::Addrmap, items)?;
+// a field with reset = 5, whose instance has = 7
+#[test]
+fn shows_a_reset_of_an_instance(rt: HostRuntime) -> Result<(), Fail> {
+    let alloc = rt.alloc();
+    let mut items = Vec::new(alloc);
+    items.push(Item::Own(name(alloc, "reset")?, Value::Number(5)))?;
+    let body = Body::from_vec(items);
+    let own = shown_values(alloc, Kind::Field, &body, &Defaults::new(alloc))?;
+    let count = own.as_slice().len();
+    assert!(rt; count == 26 && number_at(&own, Property::Reset) == Some(5));
+    let row = row_values(alloc, Kind::Field, Some(7), &[], &own)?;
+    assert!(rt; row.as_slice().len() == count && number_at(&row, Property::Reset) == Some(7));
+    let copy = row.try_copy(alloc)?;
+    assert!(rt; copy.as_slice().len() == count && number_at(&copy, Property::Reset) == Some(7));
+    Ok(())
+}
+
+// reg { field {} f; } r; r.f->reset = 9;
+fn assigning(alloc: Global) -> Result<Description, Fail> {
+    let mut fields = Vec::new(alloc);
+    let field = Component {
+        kind: Kind::Field,
+        body: Body::new(alloc),
+    };
+    fields.push(Item::Instance(shell(alloc, "f")?, Of::Anonymous(field)))?;
+    let register = Component {
+        kind: Kind::Reg,
+        body: Body::from_vec(fields),
+    };
+    let mut names = Vec::new(alloc);
+    names.push(name(alloc, "r")?)?;
+    names.push(name(alloc, "f")?)?;
+    let mut items = Vec::new(alloc);
+    items.push(Item::Instance(shell(alloc, "r")?, Of::Anonymous(register)))?;
+    items.push(Item::Dynamic(
+        Target::from_vec(names),
+        name(alloc, "reset")?,
+        Value::Number(9),
+    ))?;
     Ok(Description {
-        items: Body::from_vec(vec![in alloc; r, top]?),
+        items: Body::from_vec(items),
     })
 }
 
 #[test]
-fn lays_out_each_type_once(rt: HostRuntime) -> Result<(), Fail> {
-    let description = nested(rt.alloc())?;
-    let walked = lay_out_item(rt.alloc(), &description, 1)?;
-    let Some(walked) = walked else {
-        return Err(Fail::new("nothing there"));
-    };
-    // R and its field once, the two register files, and top
-    assert_eq!(rt; walked.components.len(), 5);
-    let Some(top) = walked.components.get(walked.number) else {
-        return Err(Fail::new("no top"));
-    };
-    assert_eq!(rt; (top.levels, top.rows), (3, 8));
-    assert!(rt; are_starts(top.layouts.regalign.spans.as_slice(), &[0, 4, 0x10, 0x14]));
-    assert!(rt; top.layouts.compact.size == 0x14);
-    match &top.first_empty {
-        Some(address) => assert_eq!(rt; address.as_slice(), [1, 3].as_slice()),
-        None => assert!(rt; false),
-    }
-    assert!(rt; lay_out_item(rt.alloc(), &description, 2)?.is_none());
+fn reaches_a_field(rt: HostRuntime) -> Result<(), Fail> {
+    let alloc = rt.alloc();
+    let description = assigning(alloc)?;
+    let root = Address::new();
+    let own = assignments(alloc, &description, &root, &description.items)?;
+    let register = root.inside(0);
+    let there = with_own(alloc, &[], own.as_slice())?;
+    let inside = behind(alloc, &register, there.as_slice())?;
+    assert!(rt; own.len() == 1 && inside.len() == 1);
+    assert!(rt; reached("reset", inside.as_slice()).is_none());
+    let at_field = behind(alloc, &register.inside(0), inside.as_slice())?;
+    assert!(rt;
+        matches!(
+            reached("reset", at_field.as_slice()),
+            Some(Value::Number(9))
+        )
+    );
+    assert!(rt; behind(alloc, &register, at_field.as_slice())?.is_empty());
     Ok(())
 }

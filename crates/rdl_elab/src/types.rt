@@ -5,7 +5,7 @@ use std::marker::Model;
 
 /// A type, and the number of its component among the finished ones.
 #[derive(Drop)]
-pub(crate) struct Type<'a> {
+pub(crate) struct TypeEntry<'a> {
     name: &'a Name,
     component: usize,
 }
@@ -14,16 +14,16 @@ pub(crate) struct Type<'a> {
 /// nearest first.
 #[derive(Drop)]
 pub(crate) struct Types<'a> {
-    items: Vec<Type<'a>>,
+    items: Vec<TypeEntry<'a>>,
 }
 
 impl<'a> Model for Types<'a> {
     ghost use Rattle.std.specs.Prelude.{ℕ, List, map, reverse};
-    ghost use Rattle.rdl_elab.specs.declared.types.Type.{Type as Entry};
+    ghost use Rattle.rdl_elab.specs.declared.types.TypeEntry.{TypeEntry};
 
     ghost Value = { List (List ℕ × ℕ) };
 
-    ghost view = { λ s. reverse (map (λ (e : Entry). (e.name.now, e.component)) s.items.items) };
+    ghost view = { λ s. reverse (map (λ (e : TypeEntry). (e.name.now, e.component)) s.items.items) };
 }
 
 impl<'a> Types<'a> {
@@ -47,7 +47,7 @@ impl<'a> Types<'a> {
     pub(crate) fn push(&mut self, name: &'a Name, component: usize) -> Result<(), AllocError>
         ensures { OnOk result (self.new ≡ (name.now, component) ∷ self.old) }
     {
-        self.items.push(Type { name, component })?;
+        self.items.push(TypeEntry { name, component })?;
         Ok(())
     }
 
