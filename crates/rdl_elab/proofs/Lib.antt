@@ -10,3 +10,5 @@ pub mod Starts
 pub mod Walking
 pub mod Powers
 pub mod WideNumbers
+pub mod Counting
+pub mod Insides

@@ -10,3 +10,5 @@ pub mod Kept
 pub mod Shown
 pub mod Reaches
 pub mod Finished
+pub mod Inside
+pub mod Stands

@@ -1,9 +1,12 @@
 //! The walk that lays out components, once for all their instances.
-ghost use Rattle.std.specs.Prelude.{◌≡◌, ◌∷◌, ◌≤◌, [], Some, IfOk, IfSome};
+ghost use Rattle.std.specs.Prelude.{◌≡◌, ℕ, ◌∷◌, ◌+◌, ◌≤◌, [], length, Some, IfOk, IfSome, option_copied};
 ghost use Rattle.std.specs.Option.{is_some};
+ghost use Rattle.rdl_tree.specs.Component.{own_component};
 ghost use Rattle.rdl_tree.specs.Depth.{depth};
-ghost use Rattle.rdl_scope.specs.Closed.{Made, component};
-ghost use Rattle.rdl_elab.specs.Finished.{IsFinished};
+ghost use Rattle.rdl_tree.specs.View.{items_of};
+ghost use Rattle.rdl_scope.specs.Closed.{Made, Parts, Standing, component, head_at, lookup, parts, standing};
+ghost use Rattle.rdl_elab.specs.Finished.{IsFinished, IsKept, AreParts};
+ghost use Rattle.rdl_elab.specs.Stands.{made_at, after_item, item_parts, in_list, LeadsTo, Stands, Grows, IsBehind};
 
 use crate::defaults::Defaults;
 use crate::finished::{Finished, Part};
@@ -40,7 +43,11 @@ fn finished<'a>(
     component: &'a Component,
     parts: Vec<Part<'a>>,
     walk: &Walk<'a>,
-) -> Result<Finished<'a>, AllocError> {
+) -> Result<Finished<'a>, AllocError>
+    requires { depth description.now.items ≤ 16 }
+    ensures kept { IfOk result (λ f. (e : Standing) (inside : Parts) (n : ℕ) → walk.now.defaults ≡ e.defaults → AreParts description.now.items walk.now.components.items n parts.entry.items inside → IsKept description.now.items f (record { head = head_at at.now component.now.kind component.now.body e; parts = inside })) }
+    ensures parts { IfOk result (λ f. f.parts ≡ parts.entry) }
+{
     let kind = component.kind;
     let body = &component.body;
     let components = walk.components.as_slice();
@@ -70,7 +77,14 @@ fn finish<'a>(
     at: &Address,
     component: &'a Component,
     walk: &mut Walk<'a>,
-) -> Result<usize, AllocError> {
+) -> Result<usize, AllocError>
+    requires nesting { depth description.now.items ≤ 16 }
+    requires room { length at.now + depth component.now.body ≤ 16 }
+    ensures made { IfOk result (λ k. (e : Standing) → Stands description.now.items walk.old e → IsFinished description.now.items walk.new.components.items k (made_at e at.now component.now)) }
+    ensures types { IfOk result (λ k. walk.new.types ≡ walk.old.types) }
+    ensures defaults { IfOk result (λ k. walk.new.defaults ≡ walk.old.defaults) }
+    ensures components { IfOk result (λ k. Grows walk.old.components.items walk.new.components.items) }
+{
     let types = walk.types.len();
     let defaults = walk.defaults.len();
     let parts = walk_items(alloc, description, at, component.body.as_slice(), walk)?;
@@ -83,7 +97,9 @@ fn finish<'a>(
 }
 
 /// The instance of a type, if the type stands.
-fn named_part<'a>(at: &Address, shell: &'a Shell, name: &Name, types: &Types) -> Option<Part<'a>> {
+fn named_part<'a>(at: &Address, shell: &'a Shell, name: &Name, types: &Types) -> Option<Part<'a>>
+    ensures { LeadsTo at.now shell.now (lookup name.now types.now) result }
+{
     let component = types.get(name)?;
     Some(Part {
         at: at.copy(),
@@ -100,7 +116,13 @@ fn walk_item<'a>(
     at: &Address,
     item: &'a Item,
     walk: &mut Walk<'a>,
-) -> Result<Option<Part<'a>>, AllocError> {
+) -> Result<Option<Part<'a>>, AllocError>
+    requires nesting { depth description.now.items ≤ 16 }
+    requires room { length at.now + depth (items_of (item.now ∷ [])) ≤ 17 }
+    ensures part { IfOk result (λ p. (e : Standing) → Stands description.now.items walk.old e → AreParts description.now.items walk.new.components.items (length walk.new.components.items) (in_list p) (item_parts e at.now item.now)) }
+    ensures stands { IfOk result (λ p. (e : Standing) → Stands description.now.items walk.old e → Stands description.now.items walk.new (after_item at.now item.now e)) }
+    ensures behind { IfOk result (λ p. IsBehind walk.old walk.new) }
+{
     match item {
         Item::Define(name, component) => {
             let number = finish(alloc, description, at, component, walk)?;
@@ -133,7 +155,13 @@ fn walk_items<'a>(
     at: &Address,
     items: &'a [Item],
     walk: &mut Walk<'a>,
-) -> Result<Vec<Part<'a>>, AllocError> {
+) -> Result<Vec<Part<'a>>, AllocError>
+    requires nesting { depth description.now.items ≤ 16 }
+    requires room { length at.now + depth (items_of items.now) ≤ 16 }
+    ensures parts { IfOk result (λ ps. (e : Standing) → Stands description.now.items walk.old e → AreParts description.now.items walk.new.components.items (length walk.new.components.items) ps.items (parts e at.now 0 (items_of items.now))) }
+    ensures stands { IfOk result (λ ps. (e : Standing) → Stands description.now.items walk.old e → Stands description.now.items walk.new (standing e at.now 0 (items_of items.now))) }
+    ensures behind { IfOk result (λ ps. IsBehind walk.old walk.new) }
+{
     let mut parts = Vec::new(alloc);
     for (i, item) in items.iter().enumerate() {
         if let Some(part) = walk_item(alloc, description, &at.inside(i), item, walk)? {
@@ -143,7 +171,9 @@ fn walk_items<'a>(
     Ok(parts)
 }
 
-fn own_component(item: &Item) -> Option<&Component> {
+fn own_component(item: &Item) -> Option<&Component>
+    ensures { option_copied result ≡ own_component item.now }
+{
     match item {
         Item::Instance(_, Of::Anonymous(component)) => Some(component),
         Item::Define(_, component) => Some(component),
