@@ -15,3 +15,5 @@ pub mod Telling
 pub mod DefaultStacks
 pub mod ValueLists
 pub mod BareHeads
+pub mod Counting
+pub mod Insides

@@ -11,3 +11,5 @@ pub mod Shown
 pub mod Reaches
 pub mod Finished
 pub mod KeptRows
+pub mod Inside
+pub mod Stands

@@ -6,6 +6,7 @@ pub mod component;
 mod defaults;
 pub mod elaborate;
 mod finished;
+mod instances;
 pub mod laws;
 pub mod layout;
 pub mod place;
@@ -16,5 +17,8 @@ mod rows;
 pub mod siblings;
 #[cfg(test)]
 mod tests;
+mod types;
 mod values;
 mod walk;
+#[cfg(test)]
+mod walk_tests;
