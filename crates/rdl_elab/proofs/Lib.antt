@@ -17,3 +17,4 @@ pub mod ValueLists
 pub mod BareHeads
 pub mod Counting
 pub mod Insides
+pub mod Tops

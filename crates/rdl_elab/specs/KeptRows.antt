@@ -1,6 +1,7 @@
 -- The rows of a map and their faults, from what is kept of its components, level by level.
 -- own: SystemRDL 2.0 has no rows. `Rows` and `Faults` say the same of the components themselves.
-use Rattle.std.specs.Prelude.{ℕ, zero, suc, ◌+◌, ◌-◌, ◌^◌, ◌&&◌, ◌||◌, not, nat_lt, min, Bool, true, false, List, [], ◌∷◌, ◌++◌, Option, Some, None, slice_get, unwrap_or, if◌then◌else◌}
+use Rattle.std.specs.Prelude.{ℕ, zero, suc, ◌+◌, ◌-◌, ◌^◌, ◌&&◌, ◌||◌, not, nat_lt, min, Bool, true, false, List, [], ◌∷◌, ◌++◌, Option, Some, None, option_and_then, Result, Ok, Err, slice_get, unwrap_or, if◌then◌else◌}
+use Rattle.std.specs.Option.{option_or}
 use Rattle.std.specs.List.{list_any}
 use Rattle.rdl_tree.specs.declared.shell.Kind.{Kind}
 use Rattle.rdl_tree.specs.declared.shell.Kind.TheVariants.{Addrmap, Regfile, Reg, Field}
@@ -8,14 +9,16 @@ use Rattle.rdl_tree.specs.declared.shell.Shell.{Shell}
 use Rattle.rdl_tree.specs.declared.value.Value.{Value}
 use Rattle.rdl_tree.specs.declared.property.Property.TheVariants.{Reset, Sw}
 use Rattle.rdl_tree.specs.declared.fault.FaultKind.{FaultKind}
-use Rattle.rdl_tree.specs.declared.fault.FaultKind.TheVariants.{AccessTooWide, StrideTooSmall, AddressOverlap, FieldPastRegister, FieldOverlap, ResetTooWide}
+use Rattle.rdl_tree.specs.declared.fault.FaultKind.TheVariants.{TooManyLevels, TooManyRows, EmptyComponent, MapTooLarge, AccessTooWide, StrideTooSmall, AddressOverlap, FieldPastRegister, FieldOverlap, ResetTooWide}
 use Rattle.rdl_tree.specs.declared.fault.Fault.{Fault}
 use Rattle.rdl_scope.specs.ItemFaults.{first_of, fault_at}
 use Rattle.rdl_elab.specs.declared.layout.Mode.{Mode}
+use Rattle.rdl_elab.specs.declared.layout.Mode.TheVariants.{Regalign}
 use Rattle.rdl_elab.specs.declared.layout.Span.{Span}
 use Rattle.rdl_elab.specs.declared.layout.Layout.{Layout}
 use Rattle.rdl_elab.specs.declared.layout.LayoutValues.{LayoutValues}
 use Rattle.rdl_elab.specs.declared.row.PropertyValue.{PropertyValue}
+use Rattle.rdl_elab.specs.declared.row.Place.TheVariants.{Bytes}
 use Rattle.rdl_elab.specs.declared.row.Row.{Row}
 use Rattle.rdl_elab.specs.declared.finished.Part.{Part}
 use Rattle.rdl_elab.specs.declared.finished.Finished.{Finished}
@@ -140,3 +143,29 @@ told_one (Some f) r rows rest = record { fault = Some f; rows = rows }
 abbrev pub told : List Row → List KeptRow → Told
 told rows [] = record { fault = None; rows = rows }
 told rows (k ∷ ks) = told_one k.fault k.row rows (told (rows ++ k.row ∷ []) ks)
+
+-- what is wrong with a map, but for single rows, whose top is this component, defined here
+abbrev pub kept_map_fault : List ℕ → Finished → Option Fault
+kept_map_fault at f =
+    option_or (fault_at at (first_of ((nat_lt 16 (f.levels + 1), TooManyLevels) ∷ (nat_lt 65536 (f.rows + 1), TooManyRows) ∷ [])))
+    (option_or (option_and_then (λ a. fault_at a (Some EmptyComponent)) f.first_empty)
+    (fault_at at (first_of ((nat_lt (2 ^ 40) f.layouts.regalign.size, MapTooLarge) ∷ []))))
+
+abbrev pub kept_top_row : List ℕ → Finished → Row
+kept_top_row name f =
+    let size = f.layouts.regalign.size in
+    record { names = name ∷ []; kind = f.kind; base = 0; place = Bytes (record { offset = 0; size = size; dims = []; stride = size }); values = f.shown }
+
+abbrev pub kept_around_top : List ℕ → Finished → Surroundings
+kept_around_top name f = record { mode = mode_inside f.kind f.values Regalign; names = name ∷ []; base = 0; bits = 0; reaching = f.assignments.items }
+
+abbrev pub told_below : List Finished → List ℕ → Finished → Told
+told_below fs name f = told (kept_top_row name f ∷ []) (kept_rows 16 fs (kept_around_top name f) f.layouts.regalign.spans f.parts.items)
+
+abbrev pub rows_unless : Option Fault → List Row → Result (List Row) Fault
+rows_unless None rows = Ok rows
+rows_unless (Some f) rows = Err f
+
+-- the rows of the map with this top, or its first fault
+abbrev pub kept_rows_or_fault : List Finished → List ℕ → List ℕ → Finished → Result (List Row) Fault
+kept_rows_or_fault fs at name f = rows_unless (option_or (kept_map_fault at f) (told_below fs name f).fault) (told_below fs name f).rows

@@ -13,3 +13,4 @@ pub mod Finished
 pub mod KeptRows
 pub mod Inside
 pub mod Stands
+pub mod Tops

@@ -77,7 +77,7 @@ fn members(
 }
 
 /// The mode of the instances of a component that stands under a mode.
-fn mode_inside(kind: Kind, values: LayoutValues, mode: Mode) -> Mode
+pub(crate) fn mode_inside(kind: Kind, values: LayoutValues, mode: Mode) -> Mode
     ensures { result ≡ mode_inside kind values mode }
 {
     match kind {

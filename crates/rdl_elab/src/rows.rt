@@ -1,14 +1,17 @@
 //! The rows of a map, level by level, up to the first that has a fault.
 ghost use Rattle.std.specs.Prelude.{◌≡◌, ℕ, ◌+◌, ◌^◌, ◌-◌, ◌++◌, ◌∷◌, [], min, map, nat_lt, unwrap_or, zero, suc, Some, None, IfOk, OnOk, option_copied, slice_get};
 ghost use Rattle.rdl_scope.specs.ItemFaults.{fault_at};
-ghost use Rattle.rdl_elab.specs.Layouts.{mode_inside, number_in};
+ghost use Rattle.rdl_elab.specs.Layouts.{number_in};
+ghost use Rattle.rdl_elab.specs.declared.layout.LayoutValues.{LayoutValues};
+ghost use Rattle.rdl_tree.specs.declared.shell.Shell.{Shell};
 ghost use Rattle.rdl_elab.specs.Rows.{place_of};
 ghost use Rattle.rdl_elab.specs.Reaches.{behind, value_under};
 ghost use Rattle.rdl_elab.specs.Finished.{under};
 ghost use Rattle.rdl_elab.specs.KeptRows.{kept_base, kept_values, kept_row, seen, kept_fault, extent_fault, judged, surroundings_inside, level_rows, kept_rows, told_one, told};
 
 use crate::finished::{Finished, Part};
-use crate::layout::{LayoutValues, Mode, Span};
+use crate::instances::mode_inside;
+use crate::layout::{Mode, Span};
 use crate::reaches::{Reaching, behind, with_own};
 use crate::row::{Extent, Place, Row, RowPath, RowValues};
 use crate::siblings::{Sibling, Siblings, as_sibling, is_reset_too_wide};
@@ -41,16 +44,6 @@ impl<'a> Model for Around<'a> {
     ghost Value = { Surroundings };
 
     ghost view = { λ a. record { mode = a.mode; names = a.names.items; base = a.base; bits = a.bits; reaching = a.reaching.items } };
-}
-
-/// The mode of the instances of a component of this kind that stands under a mode.
-pub(crate) fn mode_inside(kind: Kind, values: LayoutValues, mode: Mode) -> Mode
-    ensures { result ≡ mode_inside kind values mode }
-{
-    match kind {
-        Kind::Addrmap => values.addressing,
-        _ => mode,
-    }
 }
 
 fn base(kind: Kind, around: u64, span: Span) -> u64
