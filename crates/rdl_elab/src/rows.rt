@@ -2,12 +2,10 @@
 ghost use Rattle.std.specs.Prelude.{◌≡◌, ℕ, ◌+◌, ◌^◌, ◌-◌, ◌++◌, ◌∷◌, [], min, map, nat_lt, unwrap_or, zero, suc, Some, None, IfOk, OnOk, option_copied, slice_get};
 ghost use Rattle.rdl_scope.specs.ItemFaults.{fault_at};
 ghost use Rattle.rdl_elab.specs.Layouts.{number_in};
-ghost use Rattle.rdl_elab.specs.declared.layout.LayoutValues.{LayoutValues};
-ghost use Rattle.rdl_tree.specs.declared.shell.Shell.{Shell};
 ghost use Rattle.rdl_elab.specs.Rows.{place_of};
 ghost use Rattle.rdl_elab.specs.Reaches.{behind, value_under};
 ghost use Rattle.rdl_elab.specs.Finished.{under};
-ghost use Rattle.rdl_elab.specs.KeptRows.{kept_base, kept_values, kept_row, seen, kept_fault, extent_fault, judged, surroundings_inside, level_rows, kept_rows, told_one, told};
+ghost use Rattle.rdl_elab.specs.KeptRows.{kept_base, kept_values, kept_row, seen, kept_fault, field_fault, extent_fault, judged, surroundings_inside, level_rows, kept_rows, told_one, told};
 
 use crate::finished::{Finished, Part};
 use crate::instances::mode_inside;
@@ -174,7 +172,7 @@ fn field_fault(
     before: &Siblings,
     values: &RowValues,
 ) -> Option<FaultKind>
-    ensures { (v : LayoutValues) (s : Shell) (size : ℕ) → result ≡ kept_fault Kind.Field v bits s size field before.now values.now }
+    ensures { result ≡ field_fault bits field before.now values.now }
 {
     if bits < field.span.end {
         Some(FaultKind::FieldPastRegister)
