@@ -13,3 +13,4 @@ pub mod WideNumbers
 pub mod DefaultStacks
 pub mod ValueLists
 pub mod BareHeads
+pub mod Assignments
