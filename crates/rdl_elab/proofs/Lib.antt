@@ -14,3 +14,5 @@ pub mod DefaultStacks
 pub mod ValueLists
 pub mod BareHeads
 pub mod Assignments
+pub mod Along
+pub mod PartsFound

@@ -10,3 +10,4 @@ pub mod Kept
 pub mod Shown
 pub mod Reaches
 pub mod Finished
+pub mod Found
