@@ -16,3 +16,5 @@ pub mod BareHeads
 pub mod Assignments
 pub mod Along
 pub mod PartsFound
+pub mod Names
+pub mod RowsAlong
