@@ -52,6 +52,7 @@ ends-behind p a path (r ∷ rs) = by r.path (ends-behind p a path rs)
         → ends_at p path (cons_option (if b then Some (record r { path = q }) else None) (behind a rs)) ≡ (if (b && same_path q path) && bytes_eq r.property p then Some r.value else ends_at p (a ∷ path) rs)
     one true q ih = ap (λ o. if same_path q path && bytes_eq r.property p then Some r.value else o) ih
     one false q ih = ih
+
     by : (q : List (List ℕ)) → ends_at p path (behind a rs) ≡ ends_at p (a ∷ path) rs
         → ends_at p path (cons_option (passed a r q) (behind a rs)) ≡ (if same_path q (a ∷ path) && bytes_eq r.property p then Some r.value else ends_at p (a ∷ path) rs)
     by [] ih = ih

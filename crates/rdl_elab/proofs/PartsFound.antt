@@ -71,13 +71,17 @@ found-one d b n rest z of at s h inside more deep next l i skip e = by (componen
         let more_is : more ≡ instances d b (suc n) rest = cc in
         let place : x ≡ h.at = sym f.place ∙ ap (λ (h : Head). h.at) head_is in
         let there : component d h.at ≡ Some (record { head = h; parts = inside }) = ap (component d) (sym place) ∙ c ∙ (λ i. Some (record { head = head_is i; parts = inside_is i })) in
-        let g = as_found d h.at (record { head = h; parts = inside }) there in
-        (record {
-          around = ap body_of (sym at_is) ∙ body_of-item b n;
-          of = of;
-          instance = ap (λ a. item a d) (sym at_is) ∙ i ∙ ap (λ s. Some (Instance s of)) shell_is;
-          component = there;
-        }, deep h.at 0 h.body (lies-body d h.at h.body g.body) g.parts, next b (suc n) rest l more_is)
+        let g = as_found d h.at (record { head = h; parts = inside }) there in (
+          record {
+            around = ap body_of (sym at_is) ∙ body_of-item b n;
+            of = of;
+            instance = ap (λ a. item a d) (sym at_is) ∙ i ∙ ap (λ s. Some (Instance s of)) shell_is;
+            component = there;
+          },
+          deep h.at 0 h.body (lies-body d h.at h.body g.body) g.parts,
+          next b (suc n) rest l more_is,
+        )
+
     by : (o : Option (List ℕ)) → part at s h inside more ≡ with_made (b ++ n ∷ []) z (option_and_then (component d) o) (instances d b (suc n) rest) → ArePartsFound d b (part at s h inside more)
     by None e = skip e
     by (Some x) e = made x (component d x) refl e

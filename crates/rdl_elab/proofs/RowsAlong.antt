@@ -1,6 +1,6 @@
 -- The values of a row, from the assignments that come along its path and from the values of its component.
 use Rattle.std.proofs.Common.{◌≡◌, ℕ, List, [], ◌∷◌, ◌++◌, true, false, Bool, Some, None, Option, refl, ap, ◌∙◌, sym}
-use Rattle.std.specs.Prelude.{bytes_eq, ◌||◌, option_map, option_and_then, if◌then◌else◌}
+use Rattle.std.specs.Prelude.{bytes_eq, ◌||◌, option_map, option_and_then, unwrap_or, if◌then◌else◌}
 use Rattle.std.specs.List.{filter_map, cons_option}
 use Rattle.std.specs.Option.{option_or}
 use Rattle.rdl_tree.specs.Items.{Items}
@@ -14,14 +14,15 @@ use Rattle.rdl_tree.specs.declared.property.Property.TheVariants.{Reset}
 use Rattle.rdl_tree.specs.declared.description.Item.TheVariants.{Instance}
 use Rattle.rdl_tree.specs.declared.description.Of.{Of}
 use Rattle.rdl_scope.specs.Types.{item}
+use Rattle.rdl_scope.specs.Target.{body_of}
 use Rattle.rdl_scope.specs.Value.{shown, assigned, instance_reset, item_reset, component_value, path_value}
 use Rattle.rdl_scope.specs.Closed.{Head, Parts, Made, component, head_value}
 use Rattle.rdl_scope.proofs.AsFound.{as_found, value-found}
 use Rattle.rdl_elab.specs.declared.row.PropertyValue.{PropertyValue}
 use Rattle.rdl_elab.specs.Rows.{valued, row_value, row_values}
 use Rattle.rdl_elab.specs.Shown.{shown_value, shown_values}
-use Rattle.rdl_elab.specs.Reaches.{Reach, along, reached, reset_value, value_under, value_along, values_among, values_along}
-use Rattle.rdl_elab.proofs.Along.{reached-assigned}
+use Rattle.rdl_elab.specs.Reaches.{Reach, reaches, reaches_at, behind, along, reached, reset_value, value_under, value_along, values_among, values_along}
+use Rattle.rdl_elab.proofs.Along.{reached-assigned, along-further}
 use Rattle.rdl_elab.proofs.Names.{names-apart, is_named, all-named}
 
 -- the value of a property in a list of values
@@ -103,3 +104,30 @@ values-row d path at s o h inside i c =
     let one = value-row d path at s o h i (value-found d h.at (record { head = h; parts = inside }) c) in
     let all : (xs : List Property) → values_among h.kind s.reset (along d [] (path ++ at ∷ [])) (shown_values h) xs ≡ filter_map (λ p. option_map (valued p) (row_value d (path ++ at ∷ []) h p)) xs = λ xs j. filter_map (λ p. option_map (valued p) (one p j)) xs in
     all properties
+
+-- the top, whose path is empty
+no-instance : (d : Items) (p : Property) → instance_reset d p [] ≡ None
+no-instance d Reset = refl
+no-instance d p = refl
+
+value-top : (d : Items) (h : Head) → head_value h ≡ component_value d h.at → (p : Property) → shown_value h p ≡ row_value d [] h p
+value-top d h same p =
+    let f = λ (v : Option Value). if on p h.kind then option_map (shown (row p).form) v else None in
+    λ j. f (option_or (sym (no-instance d p) j) (same j p))
+
+pub values-top : (d : Items) (a : List ℕ) (c : Made) → component d a ≡ Some c → shown_values c.head ≡ row_values d [] c.head
+values-top d a c h =
+    let place : a ≡ c.head.at = sym (as_found d a c h).place in
+    let one = value-top d c.head (value-found d a c h ∙ ap (component_value d) place) in
+    let all : (xs : List Property) → filter_map (λ p. option_map (valued p) (shown_value c.head p)) xs ≡ filter_map (λ p. option_map (valued p) (row_value d [] c.head p)) xs = λ xs j. filter_map (λ p. option_map (valued p) (one p j)) xs in
+    all properties
+
+-- the assignments in the body of a component
+pub reaches-body : (d : Items) (a : List ℕ) (c : Made) → component d a ≡ Some c → reaches_at d a ≡ reaches d a 0 c.head.body
+reaches-body d a c h = ap (λ o. unwrap_or (option_map (reaches d a 0) o) []) (as_found d a c h).body
+
+-- one instance of a component further down
+pub along-inside : (d : Items) (path : List (List ℕ)) (at a : List ℕ) (c : Made) → body_of at ≡ a → component d a ≡ Some c → along d [] (path ++ at ∷ []) ≡ behind at (along d [] path ++ reaches d a 0 c.head.body)
+along-inside d path at a c e h =
+    along-further d at path []
+    ∙ ap (λ rs. behind at (along d [] path ++ rs)) (ap (reaches_at d) e ∙ reaches-body d a c h)
