@@ -18,3 +18,8 @@ pub mod BareHeads
 pub mod Counting
 pub mod Insides
 pub mod Tops
+pub mod Assignments
+pub mod Along
+pub mod PartsFound
+pub mod Names
+pub mod RowsAlong
