@@ -13,7 +13,7 @@ use Rattle.rdl_elab.specs.declared.finished.Part.{Part}
 use Rattle.rdl_elab.specs.declared.finished.Finished.{Finished}
 use Rattle.rdl_elab.specs.declared.siblings.Sibling.{Sibling}
 use Rattle.rdl_elab.specs.Finished.{under}
-use Rattle.rdl_elab.specs.KeptRows.{Surroundings, KeptRow, Told, kept_row, seen, judged, surroundings_inside, with_below, level_rows, kept_rows, told_one, told}
+use Rattle.rdl_elab.specs.KeptRows.{Surroundings, KeptRow, Told, kept_row, seen, judged, surroundings_inside, with_below, level_rows, kept_rows, told_one, told, kept_top_row, kept_around_top, told_below, rows_unless}
 
 -- what is told of more rows, behind what is told already
 abbrev told_after : Option Fault → Told → List KeptRow → Told
@@ -162,3 +162,13 @@ module _ (fs : List Finished) (below : Surroundings → List Span → List Part 
           where
             next : (j : ℕ) → j + 1 ≡ suc j
             next j = omega arith
+
+-- the answer of a map, by what is told of the rows below its top
+pub told-answer : (fs : List Finished) (name : List ℕ) (f : Finished) (first : List Row) (o : Surroundings) (fault : Option Fault) (rows : List Row)
+    → first ≡ kept_top_row name f ∷ [] → o ≡ kept_around_top name f
+    → record { fault = fault; rows = rows } ≡ told first (kept_rows 16 fs o f.layouts.regalign.spans f.parts.items)
+    → rows_unless fault rows ≡ rows_unless (told_below fs name f).fault (told_below fs name f).rows
+told-answer fs name f first o fault rows e g h =
+    ap (λ (t : Told). rows_unless t.fault t.rows)
+    (h ∙ ap (λ rs. told rs (kept_rows 16 fs o f.layouts.regalign.spans f.parts.items)) e
+    ∙ ap (λ x. told (kept_top_row name f ∷ []) (kept_rows 16 fs x f.layouts.regalign.spans f.parts.items)) g)

@@ -148,11 +148,15 @@ fn top_row(alloc: Global, name: &Name, top: &Finished) -> Result<Row, AllocError
     })
 }
 
-fn around_top<'a>(
-    alloc: Global,
-    name: &Name,
-    top: &'a Finished<'a>,
-) -> Result<Around<'a>, AllocError>
+fn top_rows(alloc: Global, name: &Name, top: &Finished) -> Result<Vec<Row>, AllocError>
+    ensures { IfOk result (λ rows. rows.items ≡ kept_top_row name.now top.now ∷ []) }
+{
+    let mut rows = Vec::new(alloc);
+    rows.push(top_row(alloc, name, top)?)?;
+    Ok(rows)
+}
+
+fn around_top<'a>(alloc: Global, name: &Name, top: &Finished<'a>) -> Result<Around<'a>, AllocError>
     ensures { IfOk result (λ around. around ≡ kept_around_top name.now top.now) }
 {
     Ok(Around {
@@ -167,14 +171,13 @@ fn around_top<'a>(
 /// The rows of the map whose top is this component, or the fault of the first that has one.
 fn rows_below<'a>(
     alloc: Global,
-    components: &'a [Finished<'a>],
+    components: &[Finished<'a>],
     name: &Name,
-    top: &'a Finished<'a>,
+    top: &Finished<'a>,
 ) -> Result<Result<Rows, Fault>, AllocError>
     ensures { IfOk result (λ answer. answer ≡ rows_unless (told_below components.now name.now top.now).fault (told_below components.now name.now top.now).rows) }
 {
-    let mut rows = Vec::new(alloc);
-    rows.push(top_row(alloc, name, top)?)?;
+    let mut rows = top_rows(alloc, name, top)?;
     let around = around_top(alloc, name, top)?;
     let spans = top.layouts.regalign.spans.as_slice();
     let parts = top.parts.as_slice();
@@ -187,10 +190,10 @@ fn rows_below<'a>(
 /// The rows of the map whose top is this component, defined at this address, or its first fault.
 fn rows_or_fault<'a>(
     alloc: Global,
-    components: &'a [Finished<'a>],
+    components: &[Finished<'a>],
     at: &Address,
     name: &Name,
-    top: &'a Finished<'a>,
+    top: &Finished<'a>,
 ) -> Result<Result<Rows, Fault>, AllocError>
     ensures { IfOk result (λ answer. answer ≡ kept_rows_or_fault components.now at.now name.now top.now) }
 {
@@ -200,7 +203,7 @@ fn rows_or_fault<'a>(
     }
 }
 
-fn finished_at<'a>(components: &'a [Finished<'a>], number: usize) -> Option<&'a Finished<'a>>
+fn finished_at<'c, 'a>(components: &'c [Finished<'a>], number: usize) -> Option<&'c Finished<'a>>
     ensures { option_copied result ≡ slice_get components.now number }
 {
     components.get(number)
@@ -209,7 +212,7 @@ fn finished_at<'a>(components: &'a [Finished<'a>], number: usize) -> Option<&'a 
 /// The same of the component of this number, if there is one.
 fn rows_of<'a>(
     alloc: Global,
-    walked: &'a Walked<'a>,
+    walked: &Walked<'a>,
     at: &Address,
     name: &Name,
 ) -> Result<Result<Rows, Fault>, AllocError>

@@ -12,7 +12,7 @@ ghost use Rattle.rdl_elab.specs.Reaches.{value_along, values_among, values_along
 
 use crate::defaults::Defaults;
 use crate::layout::{LayoutValues, Mode};
-use crate::reaches::{Reaching, reached};
+use crate::reaches::{Assignment, reached};
 use crate::row::{PropertyValue, RowValues};
 use rdl_scope::values::{own_value, shown};
 use rdl_text::token::Number;
@@ -229,7 +229,7 @@ fn value_along(
     alloc: Global,
     kind: Kind,
     reset: Option<Number>,
-    reaching: &[Reaching],
+    reaching: &[Assignment],
     own: &[PropertyValue],
     property: Property,
 ) -> Result<Option<Value>, AllocError>
@@ -253,7 +253,7 @@ fn values_among(
     alloc: Global,
     kind: Kind,
     reset: Option<Number>,
-    reaching: &[Reaching],
+    reaching: &[Assignment],
     own: &[PropertyValue],
     properties: &[Property],
 ) -> Result<RowValues, AllocError>
@@ -279,7 +279,7 @@ pub(crate) fn row_values(
     alloc: Global,
     kind: Kind,
     reset: Option<Number>,
-    reaching: &[Reaching],
+    reaching: &[Assignment],
     own: &RowValues,
 ) -> Result<RowValues, AllocError>
     ensures { IfOk result (λ values. values ≡ values_along kind reset reaching.now own.now) }
