@@ -1,10 +1,10 @@
 -- What comes along a path is what the search through the bodies of the path finds.
-use Rattle.std.proofs.Common.{◌≡◌, ℕ, zero, suc, List, [], ◌∷◌, ◌++◌, Bool, true, false, Some, None, Option, refl, ap, ◌∙◌, sym, append-nil}
+use Rattle.std.proofs.Common.{◌≡◌, ℕ, suc, List, [], ◌∷◌, ◌++◌, Bool, true, false, Some, None, Option, refl, ap, ◌∙◌, sym}
 use Rattle.std.specs.Prelude.{nat_eq, bytes_eq, ◌&&◌, option_and_then, option_map, unwrap_or, if◌then◌else◌}
 use Rattle.std.specs.Option.{option_or}
 use Rattle.std.specs.List.{cons_option}
 use Rattle.std.specs.Cmp.Lexicographic.{pointwise}
-use Rattle.rdl_tree.specs.Items.{Items, no_items, plain, holder, Plain, named, own, default, dynamic}
+use Rattle.rdl_tree.specs.Items.{Items, no_items, plain, holder, named, own, default, dynamic}
 use Rattle.rdl_tree.specs.Address.{body_at}
 use Rattle.rdl_tree.specs.declared.value.Value.{Value}
 use Rattle.rdl_scope.specs.Target.{passes, body_of}

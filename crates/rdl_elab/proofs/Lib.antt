@@ -23,3 +23,4 @@ pub mod Along
 pub mod PartsFound
 pub mod Names
 pub mod RowsAlong
+pub mod Fitting

@@ -1,19 +1,18 @@
 -- The instances of a component are as the searches find them.
-use Rattle.std.proofs.Common.{◌≡◌, ℕ, zero, suc, ◌+◌, List, [], ◌∷◌, ◌++◌, Some, None, Option, refl, ap, ◌∙◌, sym, subst, arith}
+use Rattle.std.proofs.Common.{◌≡◌, ℕ, suc, ◌+◌, List, [], ◌∷◌, ◌++◌, Some, None, Option, refl, ap, ◌∙◌, sym, arith}
 use Rattle.std.specs.Prelude.{option_and_then, slice_get}
-use Rattle.rdl_tree.specs.Items.{Items, no_items, plain, holder, Plain, named, own, default, dynamic, Holder, define, anonymous}
+use Rattle.rdl_tree.specs.Items.{Items, no_items, plain, holder, named, own, default, dynamic, define, anonymous}
 use Rattle.rdl_tree.specs.View.{list_of}
 use Rattle.rdl_tree.specs.Address.{inner, body_at}
 use Rattle.rdl_tree.specs.declared.shell.Shell.{Shell}
-use Rattle.rdl_tree.specs.declared.description.Item.{Item}
 use Rattle.rdl_tree.specs.declared.description.Item.TheVariants.{Instance}
 use Rattle.rdl_tree.specs.declared.description.Of.{Of}
 use Rattle.rdl_tree.specs.declared.description.Of.TheVariants.{Named, Anonymous}
 use Rattle.rdl_scope.specs.Types.{item, component_of}
 use Rattle.rdl_scope.specs.Target.{body_of}
-use Rattle.rdl_scope.specs.Closed.{Head, Parts, no_parts, part, Made, component, instances, with_made, IsAsFound}
+use Rattle.rdl_scope.specs.Closed.{Head, Parts, no_parts, part, Made, component, instances, with_made}
 use Rattle.rdl_scope.proofs.AsFound.{as_found}
-use Rattle.rdl_elab.specs.Found.{IsPartFound, ArePartsFound}
+use Rattle.rdl_elab.specs.Found.{ArePartsFound}
 
 body_of-item : (b : List ℕ) (n : ℕ) → body_of (b ++ n ∷ []) ≡ b
 body_of-item [] n = refl

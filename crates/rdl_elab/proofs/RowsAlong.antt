@@ -5,17 +5,15 @@ use Rattle.std.specs.List.{filter_map, cons_option}
 use Rattle.std.specs.Option.{option_or}
 use Rattle.rdl_tree.specs.Items.{Items}
 use Rattle.rdl_tree.specs.Properties.{row, on, properties}
-use Rattle.rdl_tree.specs.declared.shell.Kind.{Kind}
 use Rattle.rdl_tree.specs.declared.shell.Shell.{Shell}
 use Rattle.rdl_tree.specs.declared.value.Value.{Value}
-use Rattle.rdl_tree.specs.declared.value.Value.TheVariants.{Number}
 use Rattle.rdl_tree.specs.declared.property.Property.{Property}
 use Rattle.rdl_tree.specs.declared.property.Property.TheVariants.{Reset}
 use Rattle.rdl_tree.specs.declared.description.Item.TheVariants.{Instance}
 use Rattle.rdl_tree.specs.declared.description.Of.{Of}
 use Rattle.rdl_scope.specs.Types.{item}
 use Rattle.rdl_scope.specs.Target.{body_of}
-use Rattle.rdl_scope.specs.Value.{shown, assigned, instance_reset, item_reset, component_value, path_value}
+use Rattle.rdl_scope.specs.Value.{shown, instance_reset, item_reset, component_value}
 use Rattle.rdl_scope.specs.Closed.{Head, Parts, Made, component, head_value}
 use Rattle.rdl_scope.proofs.AsFound.{as_found, value-found}
 use Rattle.rdl_elab.specs.declared.row.PropertyValue.{PropertyValue}

@@ -1,12 +1,11 @@
 //! The values of components and of rows.
-ghost use Rattle.std.specs.Prelude.{◌≡◌, Some, None, IfOk, option_copied, option_map, option_and_then};
+ghost use Rattle.std.specs.Prelude.{◌≡◌, Some, IfOk, option_copied, option_map, bytes_eq};
 ghost use Rattle.std.specs.Option.{option_or};
-ghost use Rattle.std.specs.List.{filter_map};
 ghost use Rattle.rdl_tree.specs.Properties.{row, properties};
 ghost use Rattle.rdl_tree.specs.declared.shell.Kind.{Kind};
 ghost use Rattle.rdl_scope.specs.Closed.{Head, stated, built_in, head_value};
 ghost use Rattle.rdl_scope.specs.Value.{shown};
-ghost use Rattle.rdl_elab.specs.Layouts.{layout_values, values_of, number_in, power_in, width_in, mode_in};
+ghost use Rattle.rdl_elab.specs.Layouts.{values_of, number_in, power_in, width_in, mode_in};
 ghost use Rattle.rdl_elab.specs.Shown.{bare, shown_value, shown_among, shown_values};
 ghost use Rattle.rdl_elab.specs.Reaches.{value_along, values_among, values_along, reset_value, value_under};
 
@@ -213,11 +212,22 @@ fn reset_value(property: Property, reset: Option<Number>) -> Option<Value>
     }
 }
 
+<<<<<<< HEAD
 pub(crate) fn value_under(property: Property, own: &[PropertyValue]) -> Option<&Value>
+=======
+/// Whether they are the same. No two properties have one name.
+fn same_property(a: Property, b: Property) -> bool
+    ensures { result ≡ bytes_eq (row a).name (row b).name }
+{
+    a == b
+}
+
+fn value_under(property: Property, own: &[PropertyValue]) -> Option<&Value>
+>>>>>>> values
     ensures { option_copied result ≡ value_under property own.now }
 {
     for value in own {
-        if value.property.name() == property.name() {
+        if same_property(value.property, property) {
             return Some(&value.value);
         }
     }
