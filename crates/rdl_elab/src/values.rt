@@ -212,9 +212,6 @@ fn reset_value(property: Property, reset: Option<Number>) -> Option<Value>
     }
 }
 
-<<<<<<< HEAD
-pub(crate) fn value_under(property: Property, own: &[PropertyValue]) -> Option<&Value>
-=======
 /// Whether they are the same. No two properties have one name.
 fn same_property(a: Property, b: Property) -> bool
     ensures { result ≡ bytes_eq (row a).name (row b).name }
@@ -222,8 +219,7 @@ fn same_property(a: Property, b: Property) -> bool
     a == b
 }
 
-fn value_under(property: Property, own: &[PropertyValue]) -> Option<&Value>
->>>>>>> values
+pub(crate) fn value_under(property: Property, own: &[PropertyValue]) -> Option<&Value>
     ensures { option_copied result ≡ value_under property own.now }
 {
     for value in own {
