@@ -1,0 +1,63 @@
+-- The rows and the faults of what is kept are those of the components themselves.
+use Rattle.std.proofs.Common.{◌≡◌, ℕ, zero, suc, ◌+◌, ◌-◌, ◌^◌, ◌≤◌, ◌<◌, Bool, true, false, List, [], ◌∷◌, ◌++◌, map, Option, Some, None, refl, ap, sym, ◌∙◌, subst, arith, ◌⊎◌, inl, inr}
+use Rattle.std.specs.Prelude.{max, min, nat_lt, nat_le, not, ◌&&◌, ◌||◌, unwrap_or, option_map, bytes_eq, if◌then◌else◌}
+use Rattle.std.specs.List.{list_any, filter_map, All}
+use Rattle.std.proofs.lemmas.Bool.{cases_lt, lt-ltb, le-ltb}
+use Rattle.rdl_tree.specs.Items.{Items}
+use Rattle.rdl_tree.specs.Properties.{row, on, properties}
+use Rattle.rdl_tree.specs.declared.shell.Kind.{Kind}
+use Rattle.rdl_tree.specs.declared.shell.Kind.TheVariants.{Addrmap, Regfile, Reg, Field}
+use Rattle.rdl_tree.specs.declared.shell.Shell.{Shell}
+use Rattle.rdl_tree.specs.declared.value.Value.{Value}
+use Rattle.rdl_tree.specs.declared.property.Property.{Property}
+use Rattle.rdl_tree.specs.declared.property.Property.TheVariants.{Sw, Reset}
+use Rattle.rdl_tree.specs.declared.fault.FaultKind.{FaultKind}
+use Rattle.rdl_tree.specs.declared.fault.FaultKind.TheVariants.{AccessTooWide, StrideTooSmall, AddressOverlap, FieldPastRegister, FieldOverlap, ResetTooWide}
+use Rattle.rdl_tree.specs.declared.fault.Fault.{Fault}
+use Rattle.rdl_scope.specs.ItemFaults.{first_of, fault_at}
+use Rattle.rdl_scope.specs.Closed.{Head, Parts, no_parts, part, Made}
+use Rattle.rdl_elab.specs.declared.layout.Mode.{Mode}
+use Rattle.rdl_elab.specs.declared.layout.Span.{Span}
+use Rattle.rdl_elab.specs.declared.layout.Layout.{Layout}
+use Rattle.rdl_elab.specs.declared.row.PropertyValue.{PropertyValue}
+use Rattle.rdl_elab.specs.declared.row.Row.{Row}
+use Rattle.rdl_elab.specs.declared.finished.Part.{Part}
+use Rattle.rdl_elab.specs.declared.finished.Finished.{Finished}
+use Rattle.rdl_elab.specs.declared.siblings.Sibling.{Sibling}
+use Rattle.rdl_elab.specs.Layouts.{values_of, mode_inside, number_in, layout_of, layout}
+use Rattle.rdl_elab.specs.Capped.{capped, capped_span, capped_layout}
+use Rattle.rdl_elab.specs.Shown.{shown_values}
+use Rattle.rdl_elab.specs.Rows.{valued, row_value, row_values, place_of, base_of, Around, Judged, judged_row, inside, rows_in}
+use Rattle.rdl_elab.specs.Faults.{overlap, overlaps_one, is_read_only, is_write_only, may_share, clashes, is_reset_too_wide, reset_of, kind_fault, row_fault, first_row_fault}
+use Rattle.rdl_elab.specs.Finished.{under, IsKept, IsPart, AreParts}
+use Rattle.rdl_elab.specs.KeptRows.{Surroundings, KeptRow, Told, kept_base, kept_values, kept_row, seen, share, overlaps_before, clashes_before, extent_fault, field_fault, kept_fault, judged, surroundings_inside, with_below, level_rows, kept_rows, told_one, told}
+use Rattle.rdl_elab.proofs.Fitting.{FieldsIn, BytesFit, OneFits, Fit}
+
+-- an earlier sibling, whose span is exact
+abbrev pub sibling_of : Span × Option Value → Sibling
+sibling_of b = record { span = b.0; is_read_only = is_read_only b.1; is_write_only = is_write_only b.1 }
+
+capped-small : (n : ℕ) → n ≤ 2 ^ 40 → capped n ≡ n
+capped-small n h = omega arith
+
+span-small : (s : Span) → s.start ≤ s.end → s.end ≤ 2 ^ 40 → capped_span s ≡ s
+span-small s o h = λ i. record { start = capped-small s.start (omega (arith, o, h)) i; end = capped-small s.end h i }
+
+-- the end of a span is past a register in the kept span too
+past-same : (bits : ℕ) (s : Span) → bits ≤ 64 → nat_lt bits (capped_span s).end ≡ nat_lt bits s.end
+past-same bits s h = by_order (cases_lt bits s.end)
+  where
+    by_order : ((bits < s.end) ⊎ (s.end ≤ bits)) → nat_lt bits (capped s.end) ≡ nat_lt bits s.end
+    by_order (inl l) = lt-ltb bits (capped s.end) (omega (arith, l, h)) ∙ sym (lt-ltb bits s.end l)
+    by_order (inr g) = le-ltb bits (capped s.end) (omega (arith, g, h)) ∙ sym (le-ltb bits s.end g)
+
+any-same : {X Y : Type 0} (f : X → Y) (p : Y → Bool) (q : X → Bool) → ((x : X) → p (f x) ≡ q x) → (xs : List X) → list_any p (map f xs) ≡ list_any q xs
+any-same f p q h [] = refl
+any-same f p q h (x ∷ xs) = λ i. h x i || any-same f p q h xs i
+
+overlaps-same : (s : Span) (before : List (Span × Option Value)) → overlaps_before s (map sibling_of before) ≡ overlaps_one s before
+overlaps-same s before = any-same sibling_of (λ (b : Sibling). overlap s b.span) (λ b. overlap s b.0) (λ b. refl) before
+
+clashes-same : (s : Span) (access : Option Value) (before : List (Span × Option Value))
+    → clashes_before (sibling_of (s, access)) (map sibling_of before) ≡ clashes s access before
+clashes-same s access before = any-same sibling_of (λ (b : Sibling). overlap s b.span && not (share (sibling_of (s, access)) b)) (λ b. overlap s b.0 && not (may_share access b.1)) (λ b. refl) before
