@@ -39,7 +39,7 @@ first-named true more (Some v) wanted rest h e = h refl
 first-named false more None wanted rest h e = e
 first-named false more (Some v) wanted rest h e = e
 
-under-among : (f : Property → Option Value) (p : Property) (xs : List Property) → value_under p (filter_map (λ q. option_map (valued q) (f q)) xs) ≡ (if is_named (row p).name xs then f p else None)
+pub under-among : (f : Property → Option Value) (p : Property) (xs : List Property) → value_under p (filter_map (λ q. option_map (valued q) (f q)) xs) ≡ (if is_named (row p).name xs then f p else None)
 under-among f p [] = refl
 under-among f p (q ∷ xs) =
     under-cons p q (f q) (filter_map (λ q. option_map (valued q) (f q)) xs)

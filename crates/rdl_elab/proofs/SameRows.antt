@@ -2,7 +2,7 @@
 use Rattle.std.proofs.Common.{◌≡◌, ℕ, zero, suc, ◌+◌, ◌-◌, ◌^◌, ◌≤◌, ◌<◌, Bool, true, false, List, [], ◌∷◌, ◌++◌, map, Option, Some, None, refl, ap, sym, ◌∙◌, subst, arith, ◌⊎◌, inl, inr}
 use Rattle.std.specs.Prelude.{max, min, nat_lt, nat_le, not, ◌&&◌, ◌||◌, unwrap_or, option_map, bytes_eq, if◌then◌else◌}
 use Rattle.std.specs.List.{list_any, filter_map, All}
-use Rattle.std.proofs.lemmas.Bool.{cases_lt, lt-ltb, le-ltb}
+use Rattle.std.proofs.lemmas.Bool.{cases_lt, lt-ltb, le-ltb, ltb-false}
 use Rattle.rdl_tree.specs.Items.{Items}
 use Rattle.rdl_tree.specs.Properties.{row, on, properties}
 use Rattle.rdl_tree.specs.declared.shell.Kind.{Kind}
@@ -31,6 +31,9 @@ use Rattle.rdl_elab.specs.Rows.{valued, row_value, row_values, place_of, base_of
 use Rattle.rdl_elab.specs.Faults.{overlap, overlaps_one, is_read_only, is_write_only, may_share, clashes, is_reset_too_wide, reset_of, kind_fault, row_fault, first_row_fault}
 use Rattle.rdl_elab.specs.Finished.{under, IsKept, IsPart, AreParts}
 use Rattle.rdl_elab.specs.KeptRows.{Surroundings, KeptRow, Told, kept_base, kept_values, kept_row, seen, share, overlaps_before, clashes_before, extent_fault, field_fault, kept_fault, judged, surroundings_inside, with_below, level_rows, kept_rows, told_one, told}
+use Rattle.rdl_elab.specs.Reaches.{value_under, along, behind, reaches_at}
+use Rattle.rdl_elab.proofs.Names.{all-named}
+use Rattle.rdl_elab.proofs.RowsAlong.{under-among}
 use Rattle.rdl_elab.proofs.Fitting.{FieldsIn, BytesFit, OneFits, Fit}
 
 -- an earlier sibling, whose span is exact
@@ -61,3 +64,58 @@ overlaps-same s before = any-same sibling_of (λ (b : Sibling). overlap s b.span
 clashes-same : (s : Span) (access : Option Value) (before : List (Span × Option Value))
     → clashes_before (sibling_of (s, access)) (map sibling_of before) ≡ clashes s access before
 clashes-same s access before = any-same sibling_of (λ (b : Sibling). overlap s b.span && not (share (sibling_of (s, access)) b)) (λ b. overlap s b.0 && not (may_share access b.1)) (λ b. refl) before
+
+-- the parts of `first_of` one by one
+first-same : (x y : Bool) (k : FaultKind) (xs ys : List (Bool × FaultKind)) → x ≡ y → first_of xs ≡ first_of ys → first_of ((x, k) ∷ xs) ≡ first_of ((y, k) ∷ ys)
+first-same x y k xs ys h g = λ i. if h i then Some k else g i
+
+module _ (d : Items) where
+  -- the values of a row under a property
+  pub value-under : (path : List (List ℕ)) (h : Head) (p : Property) → value_under p (row_values d path h) ≡ row_value d path h p
+  value-under path h p = under-among (row_value d path h) p properties ∙ ap (λ t. if t then row_value d path h p else None) (all-named p)
+
+  seen-same : (path : List (List ℕ)) (h : Head) (span : Span) → seen span (row_values d path h) ≡ sibling_of (span, row_value d path h Sw)
+  seen-same path h span = λ i. record { span = span; is_read_only = is_read_only (value-under path h Sw i); is_write_only = is_write_only (value-under path h Sw i) }
+
+  module _ (a : Around) (before : List (Span × Option Value)) (span : Span) (at : List ℕ) (s : Shell) (h : Head) (within : Parts) where
+    abbrev l : Layout
+    l = layout_of a.mode h within
+
+    abbrev r : Judged
+    r = judged_row d a before span at s h l
+
+    abbrev kept_kind_fault : Kind → Span → ℕ → Option FaultKind
+    kept_kind_fault k sp size = kept_fault k (values_of h) a.bits s size (seen sp r.row.values) (map sibling_of before) r.row.values
+
+    -- exact numbers have the same faults
+    exact-fault : (k : Kind) → kept_kind_fault k span l.size ≡ kind_fault k d r
+    exact-fault Field =
+        first-same (nat_lt a.bits span.end) (nat_lt a.bits span.end) FieldPastRegister _ _ refl
+        (first-same (clashes_before (seen span r.row.values) (map sibling_of before)) (clashes span r.access before) FieldOverlap _ _
+        (ap (λ x. clashes_before x (map sibling_of before)) (seen-same r.path h span) ∙ clashes-same span r.access before)
+        (first-same (is_reset_too_wide (number_in (value_under Reset r.row.values)) span) (is_reset_too_wide (reset_of d r) span) ResetTooWide [] [] (ap (λ v. is_reset_too_wide (number_in v) span) (value-under r.path h Reset)) refl))
+    exact-fault Reg =
+        first-same (nat_lt (values_of h).regwidth (values_of h).accesswidth) (nat_lt (values_of h).regwidth (values_of h).accesswidth) AccessTooWide _ _ refl
+        (first-same (nat_lt (unwrap_or s.stride l.size) l.size) (nat_lt (unwrap_or s.stride l.size) l.size) StrideTooSmall _ _ refl
+        (first-same (overlaps_before span (map sibling_of before)) (overlaps_one span before) AddressOverlap [] [] (overlaps-same span before) refl))
+    exact-fault Regfile =
+        first-same (nat_lt (unwrap_or s.stride l.size) l.size) (nat_lt (unwrap_or s.stride l.size) l.size) StrideTooSmall _ _ refl
+        (first-same (overlaps_before span (map sibling_of before)) (overlaps_one span before) AddressOverlap [] [] (overlaps-same span before) refl)
+    exact-fault Addrmap =
+        first-same (nat_lt (unwrap_or s.stride l.size) l.size) (nat_lt (unwrap_or s.stride l.size) l.size) StrideTooSmall _ _ refl
+        (first-same (overlaps_before span (map sibling_of before)) (overlaps_one span before) AddressOverlap [] [] (overlaps-same span before) refl)
+
+    -- the bytes of a row are kept as they are
+    bytes-exact : BytesFit a.mode a.base span h within → (capped_span span ≡ span) × (capped l.size ≡ l.size)
+    bytes-exact f = (span-small span (omega (arith, f.holds)) (omega (arith, f.room)), capped-small l.size (omega (arith, f.holds, f.room)))
+
+    -- a field that ends in its register too
+    field-exact : a.bits ≤ 64 → span.start ≤ span.end → nat_lt a.bits span.end ≡ false → capped_span span ≡ span
+    field-exact b o e = span-small span o (omega (arith, b, ltb-false a.bits span.end e))
+
+    field-fault : a.bits ≤ 64 → span.start ≤ span.end → kept_kind_fault Field (capped_span span) (capped l.size) ≡ kind_fault Field d r
+    field-fault b o = by_past (nat_lt a.bits span.end) refl
+      where
+        by_past : (t : Bool) → nat_lt a.bits span.end ≡ t → kept_kind_fault Field (capped_span span) (capped l.size) ≡ kind_fault Field d r
+        by_past true e = ?
+        by_past false e = ap (λ sp. kept_kind_fault Field sp l.size) (field-exact b o e) ∙ exact-fault Field
