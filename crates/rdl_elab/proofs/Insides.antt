@@ -1,7 +1,7 @@
 -- What is found by what is kept of the instances' components is what the component has.
 use Rattle.std.proofs.Common.{◌≡◌, ℕ, zero, suc, ◌+◌, ◌-◌, ◌≤◌, ◌<◌, Bool, true, false, List, [], ◌∷◌, map, length, drop, get_or, Option, Some, None, refl, ap, sym, ◌∙◌, arith, add-one, drop-cons, ◌++◌, append_assoc}
 use Rattle.std.specs.Prelude.{max, min, option_map, slice_get, if◌then◌else◌}
-use Rattle.std.specs.Option.{option_or}
+use Rattle.std.specs.Option.{option_or, is_some}
 use Rattle.std.specs.List.{filter_map, cons_option}
 use Rattle.std.proofs.lemmas.List.{drop_all}
 use Rattle.std.proofs.lemmas.Option.{slice_get-get_or, slice_get_past}
@@ -152,3 +152,40 @@ members-none m fs i ps p done after whole h is found g inv =
     kept-next m fs i ps p h ∙ ap (λ (q : Part). cons_option (kept_part m fs q) rest) (sym is)
     ∙ ap (λ o. cons_option (option_map (λ (g : Finished). (p.shell.now, under m g.layouts)) o) rest) found in
     ap (λ xs. xs ++ shown_members rest) g ∙ sym (ap (λ xs. done ++ shown_members xs) one) ∙ inv
+
+-- one more instance for the levels, the rows, and the instances that must not be empty
+module _ (fs : List Finished) (i : ℕ) (ps : List Part) (p : Part) (o : Option Finished) (h : i < length ps) (is : p ≡ get_or ps i p) (found : slice_get fs p.component ≡ o) where
+  pub levels-more : (so_far more whole : ℕ) → min more 16 ≡ min (max so_far (part_levels o)) 16 → min (max so_far (kept_levels fs (drop i ps))) 16 ≡ whole → min (max more (kept_levels fs (drop (i + 1) ps))) 16 ≡ whole
+  levels-more so_far more whole e inv =
+      let r = kept_levels fs (drop (i + 1) ps) in
+      let one : kept_levels fs (drop i ps) ≡ max (part_levels o) r =
+      levels-next fs i ps p h ∙ ap (λ (q : Part). max (part_levels (slice_get fs q.component)) r) (sym is) ∙ ap (λ x. max (part_levels x) r) found in
+      again so_far more (part_levels o) r e ∙ ap (λ x. min (max so_far x) 16) (sym one) ∙ inv
+    where
+      again : (s m x r : ℕ) → min m 16 ≡ min (max s x) 16 → min (max m r) 16 ≡ min (max s (max x r)) 16
+      again s m x r e = omega arith
+
+  pub rows-more : (so_far more whole : ℕ) → min more 65536 ≡ min (so_far + part_rows o) 65536 → min (so_far + kept_rows fs (drop i ps)) 65536 ≡ whole → min (more + kept_rows fs (drop (i + 1) ps)) 65536 ≡ whole
+  rows-more so_far more whole e inv =
+      let r = kept_rows fs (drop (i + 1) ps) in
+      let one : kept_rows fs (drop i ps) ≡ part_rows o + r =
+      rows-next fs i ps p h ∙ ap (λ (q : Part). part_rows (slice_get fs q.component) + r) (sym is) ∙ ap (λ x. part_rows x + r) found in
+      again so_far more (part_rows o) r e ∙ ap (λ x. min (so_far + x) 65536) (sym one) ∙ inv
+    where
+      again : (s m x r : ℕ) → min m 65536 ≡ min (s + x) 65536 → min (m + r) 65536 ≡ min (s + (x + r)) 65536
+      again s m x r e = omega arith
+
+  pub empty-more : (e : Option (List ℕ)) (whole : Option (List ℕ)) → e ≡ part_empty p o → kept_empty fs (drop i ps) ≡ whole → option_or e (kept_empty fs (drop (i + 1) ps)) ≡ whole
+  empty-more e whole g inv =
+      let r = kept_empty fs (drop (i + 1) ps) in
+      let one : kept_empty fs (drop i ps) ≡ option_or (part_empty p o) r =
+      empty-next fs i ps p h ∙ ap (λ (q : Part). option_or (part_empty q (slice_get fs q.component)) r) (sym is) ∙ ap (λ x. option_or (part_empty p x) r) found in
+      ap (λ x. option_or x r) g ∙ sym one ∙ inv
+
+pub or-some : {X : Type 0} (a r w : Option X) → is_some a ≡ true → option_or a r ≡ w → a ≡ w
+or-some None r w h e = cc
+or-some (Some x) r w h e = e
+
+pub or-empty : {X : Type 0} (a r w : Option X) → is_some a ≡ false → option_or a r ≡ w → r ≡ w
+or-empty None r w h e = e
+or-empty (Some x) r w h e = cc

@@ -12,3 +12,4 @@ pub mod Powers
 pub mod WideNumbers
 pub mod Counting
 pub mod Insides
+pub mod Goings
