@@ -13,3 +13,6 @@ pub mod WideNumbers
 pub mod Counting
 pub mod Insides
 pub mod Goings
+pub mod DefaultStacks
+pub mod ValueLists
+pub mod BareHeads

@@ -1,7 +1,7 @@
 //! The dynamic assignments that reach an instance.
-ghost use Rattle.std.specs.Prelude.{◌≡◌, ◌++◌, ◌≤◌, IfOk};
+ghost use Rattle.std.specs.Prelude.{◌≡◌, ◌++◌, ◌≤◌, IfOk, option_copied};
 ghost use Rattle.rdl_tree.specs.Depth.{depth};
-ghost use Rattle.rdl_elab.specs.Reaches.{reaches, behind};
+ghost use Rattle.rdl_elab.specs.Reaches.{reaches, behind, reached, reach_by};
 
 use rdl_scope::targets::passes;
 use rdl_text::name::Name;
@@ -44,8 +44,12 @@ impl<'a> Model for Reaching<'a> {
 }
 
 impl<'a> Assignment<'a> {
+    ghost use Rattle.std.specs.Prelude.{◌≡◌};
+
     /// The assignment before it has passed an instance.
-    fn reaching(&self) -> Reaching {
+    fn reaching(&self) -> Reaching
+        ensures { result ≡ self.now }
+    {
         Reaching {
             path: self.path.as_slice(),
             property: self.property,
@@ -55,7 +59,12 @@ impl<'a> Assignment<'a> {
 }
 
 impl<'a> Reaching<'a> {
-    fn copy(&self) -> Reaching<'a> {
+    ghost use Rattle.std.specs.Prelude.{◌≡◌};
+    ghost use Rattle.rdl_elab.specs.Reaches.{passed, has_ended};
+
+    fn copy(&self) -> Reaching<'a>
+        ensures { result ≡ self.now }
+    {
         Reaching {
             path: self.path,
             property: self.property,
@@ -64,9 +73,12 @@ impl<'a> Reaching<'a> {
     }
 
     /// The assignment behind an instance, if its target passes that.
-    fn passed(&self, instance: &Address) -> Option<Reaching<'a>> {
+    #[tactic(auto, using(crate::proofs::ValueLists::steps))]
+    fn passed(&self, instance: &Address) -> Option<Reaching<'a>>
+        ensures { result ≡ passed instance.now self.now self.now.path }
+    {
         match self.path {
-            [next, rest @ ..] if next == instance => Some(Reaching {
+            [next, rest @ ..] if instance == next => Some(Reaching {
                 path: rest,
                 property: self.property,
                 value: self.value,
@@ -75,7 +87,9 @@ impl<'a> Reaching<'a> {
         }
     }
 
-    fn has_ended(&self) -> bool {
+    fn has_ended(&self) -> bool
+        ensures { result ≡ has_ended self.now.path }
+    {
         self.path.is_empty()
     }
 }
@@ -89,6 +103,7 @@ fn dynamic_assignment<'a>(
     item: &'a Item,
 ) -> Result<Option<Assignment<'a>>, AllocError>
     requires { depth description.now.items ≤ 16 }
+    ensures { IfOk result (λ a. a ≡ reach_by description.now.items at.now n item.now) }
 {
     match item {
         Item::Dynamic(target, property, value) => {
@@ -142,14 +157,14 @@ pub(crate) fn with_own<'a>(
 fn copied<'a>(alloc: Global, reaching: &[Reaching<'a>]) -> Result<Vec<Reaching<'a>>, AllocError>
     ensures { IfOk result (λ list. list.items ≡ reaching.now) }
 {
-    let mut list = Vec::new(alloc);
-    for assignment in reaching {
-        list.push(assignment.copy())?;
-    }
-    Ok(list)
+    reaching
+        .iter()
+        .map(|assignment| assignment.copy())
+        .collect(alloc)
 }
 
 /// Those whose targets pass this instance.
+#[tactic(auto, using(crate::proofs::ValueLists::steps))]
 pub(crate) fn behind<'a>(
     alloc: Global,
     instance: &Address,
@@ -167,7 +182,9 @@ pub(crate) fn behind<'a>(
 }
 
 /// What the first assignment of the property that has passed all its instances assigns.
-pub(crate) fn reached<'a>(name: &str, reaching: &[Reaching<'a>]) -> Option<&'a Value> {
+pub(crate) fn reached<'a>(name: &str, reaching: &[Reaching<'a>]) -> Option<&'a Value>
+    ensures { option_copied result ≡ reached name.now reaching.now }
+{
     for assignment in reaching {
         if assignment.has_ended() && assignment.property.as_str() == name {
             return Some(assignment.value);

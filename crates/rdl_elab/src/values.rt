@@ -1,12 +1,14 @@
 //! The values of components and of rows.
-ghost use Rattle.std.specs.Prelude.{◌≡◌, map, IfOk, option_copied, option_map};
+ghost use Rattle.std.specs.Prelude.{◌≡◌, Some, None, IfOk, option_copied, option_map, option_and_then};
 ghost use Rattle.std.specs.Option.{option_or};
+ghost use Rattle.std.specs.List.{filter_map};
+ghost use Rattle.rdl_tree.specs.Properties.{row, properties};
 ghost use Rattle.rdl_tree.specs.declared.shell.Kind.{Kind};
-ghost use Rattle.rdl_tree.specs.Properties.{row};
-ghost use Rattle.rdl_scope.specs.Closed.{Head};
-ghost use Rattle.rdl_elab.specs.Layouts.{values_of, number_in, power_in, width_in, mode_of, mode_in};
-ghost use Rattle.rdl_elab.specs.Shown.{shown_values};
-ghost use Rattle.rdl_elab.specs.Reaches.{value_along, values_along, reset_value, value_under};
+ghost use Rattle.rdl_scope.specs.Closed.{Head, stated, built_in, head_value};
+ghost use Rattle.rdl_scope.specs.Value.{shown};
+ghost use Rattle.rdl_elab.specs.Layouts.{layout_values, values_of, number_in, power_in, width_in, mode_in};
+ghost use Rattle.rdl_elab.specs.Shown.{bare, shown_value, shown_among, shown_values};
+ghost use Rattle.rdl_elab.specs.Reaches.{value_along, values_among, values_along, reset_value, value_under};
 
 use crate::defaults::Defaults;
 use crate::layout::{LayoutValues, Mode};
@@ -21,42 +23,54 @@ use rdl_tree::value::{Value, Word};
 use std::alloc::{AllocError, Global};
 
 /// The own assignment of the property, or else the nearest default.
-fn stated<'a>(body: &'a Body, defaults: &Defaults<'a>, name: &str) -> Option<&'a Value> {
+fn stated<'a>(body: &'a Body, defaults: &Defaults<'a>, name: &str) -> Option<&'a Value>
+    ensures { option_copied result ≡ stated (bare Kind.Field body.now defaults.now) name.now }
+{
     match own_value(body, name) {
         Some(value) => Some(value),
         None => defaults.get(name),
     }
 }
 
-fn number_in(value: &Value) -> Option<Number> {
+fn number_in(value: &Value) -> Option<Number>
+    ensures { result ≡ number_in (Some value.now) }
+{
     match value {
         Value::Number(number) => Some(*number),
         _ => None,
     }
 }
 
-fn stated_number(body: &Body, defaults: &Defaults, property: Property) -> Option<Number> {
+fn stated_number(body: &Body, defaults: &Defaults, property: Property) -> Option<Number>
+    ensures { result ≡ number_in (option_or (stated (bare Kind.Field body.now defaults.now) (row property).name) (row property).built_in) }
+{
     match stated(body, defaults, property.name()) {
         Some(value) => number_in(value),
         None => number_in(&property.built_in()?),
     }
 }
 
-fn power_in(number: Option<Number>) -> Option<Number> {
+fn power_in(number: Option<Number>) -> Option<Number>
+    ensures { result ≡ power_in number }
+{
     match number {
         Some(n) if n.is_power_of_two() => Some(n),
         _ => None,
     }
 }
 
-fn width_in(number: Option<Number>) -> Number {
+fn width_in(number: Option<Number>) -> Number
+    ensures { result ≡ width_in number }
+{
     match number {
         Some(n) if Form::Widths.has(&Value::Number(n)) => n,
         _ => 0,
     }
 }
 
-fn mode_in(value: Option<&Value>) -> Mode {
+fn mode_in(value: Option<&Value>) -> Mode
+    ensures { result ≡ mode_in (option_copied value.entry) }
+{
     match value {
         Some(Value::Word(Word::Compact)) => Mode::Compact,
         Some(Value::Word(Word::Fullalign)) => Mode::Fullalign,
@@ -64,9 +78,8 @@ fn mode_in(value: Option<&Value>) -> Mode {
     }
 }
 
-/// The values on which the layout of a component with this body depends, where these defaults reach it.
-pub(crate) fn layout_values(body: &Body, defaults: &Defaults) -> LayoutValues
-    ensures { (h : Head) → h.body ≡ body.now → h.defaults ≡ defaults.now → result ≡ values_of h }
+fn bare_layout_values(body: &Body, defaults: &Defaults) -> LayoutValues
+    ensures { result ≡ values_of (bare Kind.Field body.now defaults.now) }
 {
     let regwidth = stated_number(body, defaults, Property::Regwidth);
     let accesswidth = match stated(body, defaults, Property::Accesswidth.name()) {
@@ -82,20 +95,30 @@ pub(crate) fn layout_values(body: &Body, defaults: &Defaults) -> LayoutValues
     }
 }
 
-fn copied(alloc: Global, value: Option<&Value>) -> Result<Option<Value>, AllocError> {
+/// The values on which the layout of a component with this body depends, where these defaults reach it.
+pub(crate) fn layout_values(body: &Body, defaults: &Defaults) -> LayoutValues
+    ensures { (h : Head) → h.body ≡ body.now → h.defaults ≡ defaults.now → result ≡ values_of h }
+{
+    bare_layout_values(body, defaults)
+}
+
+fn copied(alloc: Global, value: Option<&Value>) -> Result<Option<Value>, AllocError>
+    ensures { IfOk result (λ v. v ≡ option_copied value.entry) }
+{
     match value {
         Some(value) => Ok(Some(value.try_copy(alloc)?)),
         None => Ok(None),
     }
 }
 
-/// What `or_else` is for a value that has to be copied.
 fn built_in(
     alloc: Global,
     body: &Body,
     defaults: &Defaults,
     property: Property,
-) -> Result<Option<Value>, AllocError> {
+) -> Result<Option<Value>, AllocError>
+    ensures { IfOk result (λ v. v ≡ built_in (bare Kind.Field body.now defaults.now) property) }
+{
     match property {
         Property::Accesswidth => match stated(body, defaults, Property::Regwidth.name()) {
             Some(value) => Ok(Some(value.try_copy(alloc)?)),
@@ -111,14 +134,18 @@ fn component_value(
     body: &Body,
     defaults: &Defaults,
     property: Property,
-) -> Result<Option<Value>, AllocError> {
+) -> Result<Option<Value>, AllocError>
+    ensures { IfOk result (λ v. v ≡ head_value (bare Kind.Field body.now defaults.now) property) }
+{
     match stated(body, defaults, property.name()) {
         Some(value) => Ok(Some(value.try_copy(alloc)?)),
         None => built_in(alloc, body, defaults, property),
     }
 }
 
-fn shown_option(form: Form, value: Option<Value>) -> Option<Value> {
+fn shown_option(form: Form, value: Option<Value>) -> Option<Value>
+    ensures { result ≡ option_map (shown form) value }
+{
     match value {
         Some(value) => Some(shown(form, value)),
         None => None,
@@ -131,13 +158,38 @@ fn shown_value(
     body: &Body,
     defaults: &Defaults,
     property: Property,
-) -> Result<Option<Value>, AllocError> {
+) -> Result<Option<Value>, AllocError>
+    ensures { IfOk result (λ v. v ≡ shown_value (bare kind body.now defaults.now) property) }
+{
     if property.on(kind) {
         let value = component_value(alloc, body, defaults, property)?;
         Ok(shown_option(property.form(), value))
     } else {
         Ok(None)
     }
+}
+
+/// The values that there are of these properties.
+#[tactic(auto, using(crate::proofs::ValueLists::steps))]
+fn shown_among(
+    alloc: Global,
+    kind: Kind,
+    body: &Body,
+    defaults: &Defaults,
+    properties: &[Property],
+) -> Result<RowValues, AllocError>
+    ensures { IfOk result (λ values. values ≡ shown_among (bare kind body.now defaults.now) properties.now) }
+{
+    let mut items = Vec::new(alloc);
+    for property in properties {
+        if let Some(value) = shown_value(alloc, kind, body, defaults, *property)? {
+            items.push(PropertyValue {
+                property: *property,
+                value,
+            })?;
+        }
+    }
+    Ok(RowValues::from_vec(items))
 }
 
 /// The values of a component of this kind with this body, where these defaults reach it.
@@ -149,23 +201,21 @@ pub(crate) fn shown_values(
 ) -> Result<RowValues, AllocError>
     ensures { IfOk result (λ values. (h : Head) → h.kind ≡ kind → h.body ≡ body.now → h.defaults ≡ defaults.now → values ≡ shown_values h) }
 {
-    let mut items = Vec::new(alloc);
-    for property in Property::ALL {
-        if let Some(value) = shown_value(alloc, kind, body, defaults, property)? {
-            items.push(PropertyValue { property, value })?;
-        }
-    }
-    Ok(RowValues::from_vec(items))
+    shown_among(alloc, kind, body, defaults, &Property::ALL)
 }
 
-fn reset_value(property: Property, reset: Option<Number>) -> Option<Value> {
+fn reset_value(property: Property, reset: Option<Number>) -> Option<Value>
+    ensures { result ≡ reset_value property reset }
+{
     match (property, reset) {
         (Property::Reset, Some(number)) => Some(Value::Number(number)),
         _ => None,
     }
 }
 
-fn value_under(property: Property, own: &[PropertyValue]) -> Option<&Value> {
+fn value_under(property: Property, own: &[PropertyValue]) -> Option<&Value>
+    ensures { option_copied result ≡ value_under property own.now }
+{
     for value in own {
         if value.property.name() == property.name() {
             return Some(&value.value);
@@ -182,7 +232,9 @@ fn value_along(
     reaching: &[Reaching],
     own: &[PropertyValue],
     property: Property,
-) -> Result<Option<Value>, AllocError> {
+) -> Result<Option<Value>, AllocError>
+    ensures { IfOk result (λ v. v ≡ value_along kind reset reaching.now own.now property) }
+{
     if !property.on(kind) {
         return Ok(None);
     }
@@ -193,6 +245,30 @@ fn value_along(
         Some(value) => Ok(Some(shown(property.form(), value))),
         None => copied(alloc, value_under(property, own)),
     }
+}
+
+/// The values that there are of these properties of the row of such an instance.
+#[tactic(auto, using(crate::proofs::ValueLists::steps))]
+fn values_among(
+    alloc: Global,
+    kind: Kind,
+    reset: Option<Number>,
+    reaching: &[Reaching],
+    own: &[PropertyValue],
+    properties: &[Property],
+) -> Result<RowValues, AllocError>
+    ensures { IfOk result (λ values. values ≡ values_among kind reset reaching.now own.now properties.now) }
+{
+    let mut items = Vec::new(alloc);
+    for property in properties {
+        if let Some(value) = value_along(alloc, kind, reset, reaching, own, *property)? {
+            items.push(PropertyValue {
+                property: *property,
+                value,
+            })?;
+        }
+    }
+    Ok(RowValues::from_vec(items))
 }
 
 /// The values of the row of an instance with this reset, which these assignments reach, and whose component, of this
@@ -208,11 +284,5 @@ pub(crate) fn row_values(
 ) -> Result<RowValues, AllocError>
     ensures { IfOk result (λ values. values ≡ values_along kind reset reaching.now own.now) }
 {
-    let mut items = Vec::new(alloc);
-    for property in Property::ALL {
-        if let Some(value) = value_along(alloc, kind, reset, reaching, own.as_slice(), property)? {
-            items.push(PropertyValue { property, value })?;
-        }
-    }
-    Ok(RowValues::from_vec(items))
+    values_among(alloc, kind, reset, reaching, own.as_slice(), &Property::ALL)
 }
