@@ -13,9 +13,12 @@ use Rattle.rdl_tree.specs.declared.shell.Shell.{Shell}
 use Rattle.rdl_scope.specs.Closed.{Head, Parts, no_parts, part, Made}
 use Rattle.rdl_elab.specs.declared.layout.Mode.{Mode}
 use Rattle.rdl_elab.specs.declared.layout.Layout.{Layout}
+use Rattle.rdl_elab.specs.declared.layout.LayoutValues.{LayoutValues}
+use Rattle.rdl_elab.specs.declared.finished.Layouts.{Layouts}
+use Rattle.rdl_elab.proofs.KeptLayouts.{kept-laid_out}
 use Rattle.rdl_elab.specs.declared.finished.Part.{Part}
 use Rattle.rdl_elab.specs.declared.finished.Finished.{Finished}
-use Rattle.rdl_elab.specs.Layouts.{layouts, layout, member}
+use Rattle.rdl_elab.specs.Layouts.{values_of, mode_inside, laid_out, layouts, layout, member}
 use Rattle.rdl_elab.specs.Capped.{capped_layout, capped_instance}
 use Rattle.rdl_elab.specs.Faults.{levels, count, is_empty, first_empty}
 use Rattle.rdl_elab.specs.Finished.{under, IsPart, AreParts}
@@ -189,3 +192,13 @@ or-some (Some x) r w h e = e
 pub or-empty : {X : Type 0} (a r w : Option X) → is_some a ≡ false → option_or a r ≡ w → r ≡ w
 or-empty None r w h e = e
 or-empty (Some x) r w h e = cc
+
+pub layouts-are : (d : Items) (fs : List Finished) (n : ℕ) (ps : List Part) (inside : Parts) (h : Head) (v : LayoutValues) (ls : Layouts) → v ≡ values_of h → AreParts d fs n ps inside
+    → ((m : Mode) → under m ls ≡ capped_layout (laid_out h.kind v (mode_inside h.kind v m) (map member (kept_parts (mode_inside h.kind v m) fs ps))))
+    → (m : Mode) → under m ls ≡ capped_layout (layout m (record { head = h; parts = inside }))
+layouts-are d fs n ps inside h v ls e a g m =
+    let w = values_of h in
+    let k = mode_inside h.kind w m in
+    g m ∙ ap (λ (v : LayoutValues). capped_layout (laid_out h.kind v (mode_inside h.kind v m) (map member (kept_parts (mode_inside h.kind v m) fs ps)))) e
+    ∙ ap (λ xs. capped_layout (laid_out h.kind w k (map member xs))) (parts-kept d fs k n ps inside a)
+    ∙ kept-laid_out h.kind w k (layouts k inside)

@@ -13,6 +13,7 @@ pub mod WideNumbers
 pub mod Counting
 pub mod Insides
 pub mod Goings
+pub mod Roots
 pub mod DefaultStacks
 pub mod ValueLists
 pub mod BareHeads

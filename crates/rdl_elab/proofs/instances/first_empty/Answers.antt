@@ -18,11 +18,11 @@ loop-part-preserved c =
     let fs = c.args.components.now in
     let p = c.part-item.result in
     elim c.match-get.branch [
-      in-Some+else-is_some w ↦
-        let f = w.in-Some.finished.now in
-        let at = w.in-Some.ensures.lookup in
-        or-empty w.empty_part-empty.result _ _ (sym w.is_some.ensures ∙ w.if-is_some.false)
-        (empty-more fs c.loop-part.part-index c.args.parts.now p (Some f) c.loop-part-test.true c.part-item.is (found-read fs p.component f at.3.0 at.1) w.empty_part-empty.result _ w.empty_part-empty.ensures c.loop-part.invariant)
-    | in_default w ↦
-        empty-more fs c.loop-part.part-index c.args.parts.now p None c.loop-part-test.true c.part-item.is (slice_get_past fs p.component w.in_default.ensures.lookup.3) None _ refl c.loop-part.invariant
+      | in-Some+else-is_some w ↦
+          let f = w.in-Some.finished.now in
+          let at = w.in-Some.ensures.lookup in
+          or-empty w.empty_part-empty.result _ _ (sym w.is_some.ensures ∙ w.if-is_some.false)
+          (empty-more fs c.loop-part.part-index c.args.parts.now p (Some f) c.loop-part-test.true c.part-item.is (found-read fs p.component f at.3.0 at.1) w.empty_part-empty.result _ w.empty_part-empty.ensures c.loop-part.invariant)
+      | in_default w ↦
+          empty-more fs c.loop-part.part-index c.args.parts.now p None c.loop-part-test.true c.part-item.is (slice_get_past fs p.component w.in_default.ensures.lookup.3) None _ refl c.loop-part.invariant
     ]

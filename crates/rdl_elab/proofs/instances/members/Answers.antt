@@ -11,12 +11,12 @@ loop-part-preserved c =
     let fs = c.args.components.now in
     let p = c.part-item.result in
     elim c.match-get.branch [
-      in-Some+in_ok-push w ↦
-        let f = w.in-Some.finished.now in
-        let at = w.in-Some.ensures.lookup in
-        members-some c.args.mode fs c.loop-part.part-index c.args.parts.now p f w.member.result c.loop-part.members.items c.match-get.members.items _ c.loop-part-test.true c.part-item.is
-        (found-read fs p.component f at.3.0 at.1) (w.member.ensures ∙ ap (λ l. counted_member (member (p.shell.now, l))) w.under.ensures) (ap (λ v. v.items) w.members-is ∙ w.in_ok-push.ensures.items) c.loop-part.invariant
-    | in_default w ↦
-        members-none c.args.mode fs c.loop-part.part-index c.args.parts.now p c.loop-part.members.items c.match-get.members.items _ c.loop-part-test.true c.part-item.is
-        (slice_get_past fs p.component w.in_default.ensures.lookup.3) (ap (λ v. v.items) w.members-is) c.loop-part.invariant
+      | in-Some+in_ok-push w ↦
+          let f = w.in-Some.finished.now in
+          let at = w.in-Some.ensures.lookup in
+          members-some c.args.mode fs c.loop-part.part-index c.args.parts.now p f w.member.result c.loop-part.members.items c.match-get.members.items _ c.loop-part-test.true c.part-item.is
+          (found-read fs p.component f at.3.0 at.1) (w.member.ensures ∙ ap (λ l. counted_member (member (p.shell.now, l))) w.under.ensures) (ap (λ v. v.items) w.members-is ∙ w.in_ok-push.ensures.items) c.loop-part.invariant
+      | in_default w ↦
+          members-none c.args.mode fs c.loop-part.part-index c.args.parts.now p c.loop-part.members.items c.match-get.members.items _ c.loop-part-test.true c.part-item.is
+          (slice_get_past fs p.component w.in_default.ensures.lookup.3) (ap (λ v. v.items) w.members-is) c.loop-part.invariant
     ]
