@@ -1,5 +1,4 @@
-use Rattle.std.proofs.Common.{Some, None, arith, ◌≡◌, ◌+◌}
-use Rattle.std.specs.Prelude.{min, max}
+use Rattle.std.proofs.Common.{Some, None, arith}
 use Rattle.std.proofs.lemmas.Option.{slice_get_past}
 use Rattle.rdl_elab.proofs.Insides.{found-read, levels-more}
 use Rattle.rdl_elab.proofs.instances.levels.Goals as goal

@@ -1,4 +1,4 @@
-use Rattle.std.proofs.Common.{◌≡◌, ◌-◌, ◌≤◌, List, length, take, drop, map, reverse, ℕ, ap, ◌∙◌, sym, subst}
+use Rattle.std.proofs.Common.{◌≡◌, ◌-◌, ◌≤◌, List, length, drop, map, reverse, ℕ, ap, ◌∙◌, sym, subst}
 use Rattle.rdl_elab.specs.declared.types.TypeEntry.{TypeEntry}
 use Rattle.rdl_elab.proofs.DefaultStacks.{stack-shorter}
 use Rattle.rdl_elab.proofs.types.Types.truncate.Goals as goal
