@@ -17,3 +17,8 @@ pub mod Roots
 pub mod DefaultStacks
 pub mod ValueLists
 pub mod BareHeads
+pub mod Assignments
+pub mod Along
+pub mod PartsFound
+pub mod Names
+pub mod RowsAlong

@@ -12,3 +12,4 @@ pub mod Reaches
 pub mod Finished
 pub mod Inside
 pub mod Stands
+pub mod Found

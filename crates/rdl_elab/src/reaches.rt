@@ -78,7 +78,7 @@ impl<'a> Reaching<'a> {
         ensures { result ≡ passed instance.now self.now self.now.path }
     {
         match self.path {
-            [next, rest @ ..] if instance == next => Some(Reaching {
+            [next, rest @ ..] if next == instance => Some(Reaching {
                 path: rest,
                 property: self.property,
                 value: self.value,
@@ -121,6 +121,7 @@ fn dynamic_assignment<'a>(
 }
 
 /// The dynamic assignments of the body at this address whose targets are there.
+#[tactic(auto, using(crate::proofs::Assignments::steps))]
 pub(crate) fn assignments<'a>(
     alloc: Global,
     description: &'a Description,

@@ -9,7 +9,7 @@ pub returns : goal.returns
 returns c =
     let same = ap (λ (own : List PropertyValue). values_among c.args.kind c.args.reset c.args.reaching.now own properties) c.as_slice.ensures in
     IfOk-weaker c.values_among.result
-      (λ values. values ≡ values_among c.args.kind c.args.reset c.args.reaching.now c.as_slice.result.now properties)
-      (λ values. values ≡ values_along c.args.kind c.args.reset c.args.reaching.now c.args.own.now)
-      (λ values e. e ∙ same)
-      c.values_among.ensures
+    (λ values. values ≡ values_among c.args.kind c.args.reset c.args.reaching.now c.as_slice.result.now properties)
+    (λ values. values ≡ values_along c.args.kind c.args.reset c.args.reaching.now c.args.own.now)
+    (λ values e. e ∙ same)
+    c.values_among.ensures
