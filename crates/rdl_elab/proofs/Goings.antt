@@ -1,10 +1,10 @@
 -- A walk goes on, and what it has kept stays.
-use Rattle.std.proofs.Common.{◌≡◌, ℕ, zero, suc, ◌+◌, ◌-◌, ◌≤◌, ◌<◌, List, [], ◌∷◌, ◌++◌, length, take, drop, get_or, Bool, true, false, Option, Some, None, refl, ap, sym, subst, ◌∙◌, arith, append_assoc, length-append}
-use Rattle.std.specs.Prelude.{max, slice_get, bytes_eq, if◌then◌else◌}
+use Rattle.std.proofs.Common.{◌≡◌, ℕ, zero, suc, ◌+◌, ◌-◌, ◌≤◌, ◌<◌, List, [], ◌∷◌, ◌++◌, length, take, drop, get_or, Bool, true, false, Option, Some, None, refl, ap, sym, subst, ◌∙◌, arith, length-append}
+use Rattle.std.specs.Prelude.{slice_get, bytes_eq, if◌then◌else◌}
 use Rattle.std.proofs.Math.Seq.{drop-nil}
 use Rattle.std.proofs.lemmas.List.{take_more, length-take}
-use Rattle.std.proofs.lemmas.Option.{slice_get_within, slice_get-get_or, slice_get_read}
-use Rattle.rdl_tree.specs.Items.{Items, no_items, plain, holder}
+use Rattle.std.proofs.lemmas.Option.{slice_get_within, slice_get-get_or}
+use Rattle.rdl_tree.specs.Items.{Items, no_items}
 use Rattle.rdl_tree.specs.Component.{own_component}
 use Rattle.rdl_tree.specs.Depth.{depth}
 use Rattle.rdl_tree.proofs.Rounds.{items_of-list_of}
@@ -14,11 +14,11 @@ use Rattle.rdl_tree.specs.declared.description.Item.{Item}
 use Rattle.rdl_tree.specs.declared.description.Item.TheVariants.{Define, Instance, Own, Default, Dynamic}
 use Rattle.rdl_tree.specs.declared.description.Of.TheVariants.{Named, Anonymous}
 use Rattle.rdl_tree.specs.declared.description.Component.{Component}
-use Rattle.rdl_scope.specs.Closed.{Head, Parts, no_parts, part, Made, Standing, lookup, with_type, with_default, with_made, head_at, parts, standing, nothing}
+use Rattle.rdl_scope.specs.Closed.{Parts, no_parts, part, Made, Standing, lookup, with_made, head_at, parts, standing, nothing}
 use Rattle.rdl_elab.specs.declared.finished.Finished.{Finished}
 use Rattle.rdl_elab.specs.declared.finished.Part.{Part}
 use Rattle.rdl_elab.specs.declared.walk.Walk.{Walk}
-use Rattle.rdl_elab.specs.Finished.{IsKept, IsPart, AreParts, IsFinished}
+use Rattle.rdl_elab.specs.Finished.{IsKept, AreParts, IsFinished}
 use Rattle.rdl_elab.specs.Stands.{made_at, after_item, item_parts, LeadsTo, in_list, AreTypes, Stands, Grows, IsLonger, IsBehind}
 
 -- finished components stay where they are
@@ -98,15 +98,6 @@ longer-on xs ys zs g h = record {
   where
     count : (x y z : ℕ) → x ≤ y → y ≤ z → z - x ≡ z - y + (y - x)
     count x y z g h = omega arith
-
-pub longer-push : {X : Type 0} (xs ys : List X) (x : X) → ys ≡ x ∷ xs → IsLonger xs ys
-longer-push xs ys x e = record {
-  more = omega (arith, ap length e);
-  same = ap (λ n. drop n ys) (count (length xs) (length ys) (ap length e)) ∙ ap (drop 1) e;
-}
-  where
-    count : (n m : ℕ) → m ≡ suc n → m - n ≡ 1
-    count n m e = omega arith
 
 pub append_nil : {X : Type 0} (xs : List X) → xs ++ [] ≡ xs
 append_nil [] = refl
@@ -328,9 +319,6 @@ module _ (d : Items) where
         subst (λ ps. AreParts d new (length new) ps (parts e at 0 (items_of (take (i + 1) xs)))) (sym same)
         (subst (AreParts d new (length new) (done ++ in_list r)) (sym here)
         (parts-then d new (length new) done (in_list r) (parts e at 0 (items_of (take i xs))) (item_parts (standing e at 0 (items_of (take i xs))) below x) before_too one))
-
-pub behind-same : (w : Walk) → IsBehind w w
-behind-same w = record { types = longer-same w.types; defaults = longer-same w.defaults; components = grows-same w.components.items }
 
 pub behind-on : (a b c : Walk) → IsBehind a b → IsBehind b c → IsBehind a c
 behind-on a b c g h = record {

@@ -1,7 +1,6 @@
 //! The walk that lays out components, once for all their instances.
-ghost use Rattle.std.specs.Prelude.{◌≡◌, ℕ, ◌∷◌, ◌+◌, ◌≤◌, [], length, Some, IfOk, IfSome, option_copied};
+ghost use Rattle.std.specs.Prelude.{◌≡◌, ℕ, ◌∷◌, ◌+◌, ◌≤◌, [], length, Some, IfOk, IfSome};
 ghost use Rattle.std.specs.Option.{is_some};
-ghost use Rattle.rdl_tree.specs.Component.{own_component};
 ghost use Rattle.rdl_tree.specs.Depth.{depth};
 ghost use Rattle.rdl_tree.specs.declared.description.Item.TheVariants.{Instance};
 ghost use Rattle.rdl_tree.specs.View.{items_of};
@@ -15,6 +14,7 @@ use crate::instances::{first_empty, layouts, levels, rows};
 use crate::reaches::assignments;
 use crate::types::Types;
 use crate::values::{layout_values, shown_values};
+use rdl_scope::types::own_component;
 use rdl_text::name::Name;
 use rdl_tree::address::Address;
 use rdl_tree::description::{Component, Description, Item, Of};
@@ -196,16 +196,6 @@ fn walk_items<'a>(
         }
     }
     Ok(parts)
-}
-
-fn own_component(item: &Item) -> Option<&Component>
-    ensures { option_copied result ≡ own_component item.now }
-{
-    match item {
-        Item::Instance(_, Of::Anonymous(component)) => Some(component),
-        Item::Define(_, component) => Some(component),
-        _ => None,
-    }
 }
 
 /// Lays out the component of item `n` of the root body.

@@ -1,14 +1,13 @@
-use Rattle.std.proofs.Common.{◌≡◌, ℕ, ◌∷◌, ◌+◌, ◌-◌, ◌*◌, ◌<◌, ◌≤◌, List, [], length, take, drop, ◌++◌, refl, ap, sym, subst, ◌∙◌, arith, length-append}
-use Rattle.rdl_tree.specs.Depth.{depth}
+use Rattle.std.proofs.Common.{◌≡◌, ◌∷◌, ◌+◌, ◌-◌, ◌*◌, ◌<◌, List, [], length, take, drop, ◌++◌, refl, ap, sym, subst, ◌∙◌, arith, length-append}
 use Rattle.rdl_tree.specs.View.{items_of}
 use Rattle.rdl_tree.specs.declared.description.Item.{Item}
 use Rattle.rdl_tree.specs.declared.description.Of.{Of}
-use Rattle.rdl_tree.specs.declared.description.Item.TheVariants.{Define, Instance}
-use Rattle.rdl_scope.specs.Closed.{Standing, Parts, lookup, parts, standing}
+use Rattle.rdl_tree.specs.declared.description.Item.TheVariants.{Instance}
+use Rattle.rdl_scope.specs.Closed.{parts, standing}
 use Rattle.rdl_elab.specs.declared.finished.Part.{Part}
 use Rattle.rdl_elab.specs.declared.walk.Walk.{Walk}
-use Rattle.rdl_elab.specs.Finished.{IsFinished, IsKept, AreParts}
-use Rattle.rdl_elab.specs.Stands.{made_at, after_item, item_parts, in_list, Stands, Grows, IsBehind}
+use Rattle.rdl_elab.specs.Finished.{AreParts}
+use Rattle.rdl_elab.specs.Stands.{made_at, after_item, item_parts, in_list, Stands}
 use Rattle.rdl_elab.proofs.Goings.{append_nil, grows-on, grows-push, item-room, body-room, stands-grow, stands-define, finished-part, named-part, made-last, stands-next, parts-next, behind-on}
 use Rattle.rdl_elab.proofs.walk.+walk.Goals as goal
 use Rattle.rdl_elab.proofs.walk.+walk.Goals.{walk_items-in-Some+in_ok-push, walk_items-in_default}

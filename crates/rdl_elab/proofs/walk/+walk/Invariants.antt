@@ -1,4 +1,4 @@
-use Rattle.std.proofs.Common.{ℕ, ◌+◌, ◌-◌, ◌*◌, length, take}
+use Rattle.std.proofs.Common.{◌+◌, ◌-◌, ◌*◌, length, take}
 use Rattle.rdl_tree.specs.View.{items_of}
 use Rattle.rdl_scope.specs.Closed.{Standing, parts, standing}
 use Rattle.rdl_elab.specs.Finished.{AreParts}
