@@ -12,11 +12,13 @@ pub mod Powers
 pub mod WideNumbers
 pub mod Watermarks
 pub mod Telling
+pub mod Counting
+pub mod Insides
+pub mod Goings
+pub mod Roots
 pub mod DefaultStacks
 pub mod ValueLists
 pub mod BareHeads
-pub mod Counting
-pub mod Insides
 pub mod Tops
 pub mod Assignments
 pub mod Along

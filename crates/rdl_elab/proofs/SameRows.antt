@@ -67,7 +67,7 @@ clashes-same s access before = any-same sibling_of (λ (b : Sibling). overlap s 
 
 -- the parts of `first_of` one by one
 first-same : (x y : Bool) (k : FaultKind) (xs ys : List (Bool × FaultKind)) → x ≡ y → first_of xs ≡ first_of ys → first_of ((x, k) ∷ xs) ≡ first_of ((y, k) ∷ ys)
-first-same x y k xs ys h g = λ i. if h i then Some k else g i
+first-same x y k xs ys h g = λ i. elim (h i) [ true ↦ Some k | false ↦ g i ]
 
 module _ (d : Items) where
   -- the values of a row under a property
