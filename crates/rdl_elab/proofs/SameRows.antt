@@ -65,9 +65,12 @@ clashes-same : (s : Span) (access : Option Value) (before : List (Span × Option
     → clashes_before (sibling_of (s, access)) (map sibling_of before) ≡ clashes s access before
 clashes-same s access before = any-same sibling_of (λ (b : Sibling). overlap s b.span && not (share (sibling_of (s, access)) b)) (λ b. overlap s b.0 && not (may_share access b.1)) (λ b. refl) before
 
--- the parts of `first_of` one by one
-first-same : (x y : Bool) (k : FaultKind) (xs ys : List (Bool × FaultKind)) → x ≡ y → first_of xs ≡ first_of ys → first_of ((x, k) ∷ xs) ≡ first_of ((y, k) ∷ ys)
-first-same x y k xs ys h g = λ i. elim (h i) [ true ↦ Some k | false ↦ g i ]
+some-none : {X : Type 0} {x : X} → Some x ≡ None → ⊥
+some-none e = cc
+
+if-first : (t : Bool) (k : FaultKind) (x : Option FaultKind) (xs : List (Bool × FaultKind)) → x ≡ first_of xs → (if t then Some k else x) ≡ first_of ((t, k) ∷ xs)
+if-first true k x xs h = refl
+if-first false k x xs h = h
 
 module _ (d : Items) where
   -- the values of a row under a property
@@ -88,22 +91,22 @@ module _ (d : Items) where
     kept_kind_fault k sp size = kept_fault k (values_of h) a.bits s size (seen sp r.row.values) (map sibling_of before) r.row.values
 
     -- exact numbers have the same faults
+    clash-same : clashes_before (seen span r.row.values) (map sibling_of before) ≡ clashes span r.access before
+    clash-same = ap (λ x. clashes_before x (map sibling_of before)) (seen-same r.path h span) ∙ clashes-same span r.access before
+
+    reset-same : is_reset_too_wide (number_in (value_under Reset r.row.values)) span ≡ is_reset_too_wide (reset_of d r) span
+    reset-same = ap (λ v. is_reset_too_wide (number_in v) span) (value-under r.path h Reset)
+
+    extent-same : extent_fault s l.size span (map sibling_of before) ≡ first_of ((nat_lt (unwrap_or s.stride l.size) l.size, StrideTooSmall) ∷ (overlaps_one span before, AddressOverlap) ∷ [])
+    extent-same = λ i. first_of ((nat_lt (unwrap_or s.stride l.size) l.size, StrideTooSmall) ∷ (overlaps-same span before i, AddressOverlap) ∷ [])
+
     exact-fault : (k : Kind) → kept_kind_fault k span l.size ≡ kind_fault k d r
-    exact-fault Field =
-        first-same (nat_lt a.bits span.end) (nat_lt a.bits span.end) FieldPastRegister _ _ refl
-        (first-same (clashes_before (seen span r.row.values) (map sibling_of before)) (clashes span r.access before) FieldOverlap _ _
-        (ap (λ x. clashes_before x (map sibling_of before)) (seen-same r.path h span) ∙ clashes-same span r.access before)
-        (first-same (is_reset_too_wide (number_in (value_under Reset r.row.values)) span) (is_reset_too_wide (reset_of d r) span) ResetTooWide [] [] (ap (λ v. is_reset_too_wide (number_in v) span) (value-under r.path h Reset)) refl))
+    exact-fault Field = λ i. first_of ((nat_lt a.bits span.end, FieldPastRegister) ∷ (clash-same i, FieldOverlap) ∷ (reset-same i, ResetTooWide) ∷ [])
     exact-fault Reg =
-        first-same (nat_lt (values_of h).regwidth (values_of h).accesswidth) (nat_lt (values_of h).regwidth (values_of h).accesswidth) AccessTooWide _ _ refl
-        (first-same (nat_lt (unwrap_or s.stride l.size) l.size) (nat_lt (unwrap_or s.stride l.size) l.size) StrideTooSmall _ _ refl
-        (first-same (overlaps_before span (map sibling_of before)) (overlaps_one span before) AddressOverlap [] [] (overlaps-same span before) refl))
-    exact-fault Regfile =
-        first-same (nat_lt (unwrap_or s.stride l.size) l.size) (nat_lt (unwrap_or s.stride l.size) l.size) StrideTooSmall _ _ refl
-        (first-same (overlaps_before span (map sibling_of before)) (overlaps_one span before) AddressOverlap [] [] (overlaps-same span before) refl)
-    exact-fault Addrmap =
-        first-same (nat_lt (unwrap_or s.stride l.size) l.size) (nat_lt (unwrap_or s.stride l.size) l.size) StrideTooSmall _ _ refl
-        (first-same (overlaps_before span (map sibling_of before)) (overlaps_one span before) AddressOverlap [] [] (overlaps-same span before) refl)
+        if-first (nat_lt (values_of h).regwidth (values_of h).accesswidth) AccessTooWide (extent_fault s l.size span (map sibling_of before))
+        ((nat_lt (unwrap_or s.stride l.size) l.size, StrideTooSmall) ∷ (overlaps_one span before, AddressOverlap) ∷ []) extent-same
+    exact-fault Regfile = extent-same
+    exact-fault Addrmap = extent-same
 
     -- the bytes of a row are kept as they are
     bytes-exact : BytesFit a.mode a.base span h within → (capped_span span ≡ span) × (capped l.size ≡ l.size)
@@ -113,9 +116,57 @@ module _ (d : Items) where
     field-exact : a.bits ≤ 64 → span.start ≤ span.end → nat_lt a.bits span.end ≡ false → capped_span span ≡ span
     field-exact b o e = span-small span o (omega (arith, b, ltb-false a.bits span.end e))
 
+    abbrev kept_rest : List (Bool × FaultKind)
+    kept_rest =
+        (clashes_before (seen (capped_span span) r.row.values) (map sibling_of before), FieldOverlap)
+        ∷ (is_reset_too_wide (number_in (value_under Reset r.row.values)) (capped_span span), ResetTooWide)
+        ∷ []
+
+    abbrev rest : List (Bool × FaultKind)
+    rest = (clashes span r.access before, FieldOverlap) ∷ (is_reset_too_wide (reset_of d r) span, ResetTooWide) ∷ []
+
     field-fault : a.bits ≤ 64 → span.start ≤ span.end → kept_kind_fault Field (capped_span span) (capped l.size) ≡ kind_fault Field d r
     field-fault b o = by_past (nat_lt a.bits span.end) refl
       where
         by_past : (t : Bool) → nat_lt a.bits span.end ≡ t → kept_kind_fault Field (capped_span span) (capped l.size) ≡ kind_fault Field d r
-        by_past true e = ?
+        by_past true e =
+            ap (λ t. first_of ((t, FieldPastRegister) ∷ kept_rest)) (past-same a.bits span b ∙ e) ∙ sym (ap (λ t. first_of ((t, FieldPastRegister) ∷ rest)) e)
         by_past false e = ap (λ sp. kept_kind_fault Field sp l.size) (field-exact b o e) ∙ exact-fault Field
+
+    bytes-fault : (k : Kind) → BytesFit a.mode a.base span h within → kept_kind_fault k (capped_span span) (capped l.size) ≡ kind_fault k d r
+    bytes-fault k f = (λ i. kept_kind_fault k ((bytes-exact f).0 i) ((bytes-exact f).1 i)) ∙ exact-fault k
+
+    -- the faults of a row
+    pub fault-same : a.bits ≤ 64 → OneFits a.mode a.base span h within → kept_kind_fault h.kind (capped_span span) (capped l.size) ≡ kind_fault h.kind d r
+    fault-same b f = by_kind f.bytes
+      where
+        by_kind : ((h.kind ≡ Field) ⊎ BytesFit a.mode a.base span h within) → kept_kind_fault h.kind (capped_span span) (capped l.size) ≡ kind_fault h.kind d r
+        by_kind (inl e) = ap (λ k. kept_kind_fault k (capped_span span) (capped l.size)) e ∙ field-fault b f.ordered ∙ ap (λ k. kind_fault k d r) (sym e)
+        by_kind (inr g) = bytes-fault h.kind g
+
+    -- without a fault the span is exact
+    pub span-exact : a.bits ≤ 64 → OneFits a.mode a.base span h within → kind_fault h.kind d r ≡ None → capped_span span ≡ span
+    span-exact b f n = by_kind f.bytes
+      where
+        by_past : (t : Bool) → nat_lt a.bits span.end ≡ t → kind_fault Field d r ≡ None → capped_span span ≡ span
+        by_past true e m = absurd (some-none (sym (ap (λ t. first_of ((t, FieldPastRegister) ∷ rest)) e) ∙ m))
+        by_past false e m = field-exact b f.ordered e
+
+        by_kind : ((h.kind ≡ Field) ⊎ BytesFit a.mode a.base span h within) → capped_span span ≡ span
+        by_kind (inl e) = by_past (nat_lt a.bits span.end) refl (sym (ap (λ k. kind_fault k d r) e) ∙ n)
+        by_kind (inr g) = (bytes-exact g).0
+
+    -- where the span is exact, so is the row's place
+    place-same : capped_span span ≡ span → ((h.kind ≡ Field) ⊎ BytesFit a.mode a.base span h within) → place_of h.kind s (capped_span span) (capped l.size) ≡ place_of h.kind s span l.size
+    place-same e (inl f) = ap (λ k. place_of k s (capped_span span) (capped l.size)) f ∙ ap (λ sp. place_of Field s sp l.size) e ∙ ap (λ k. place_of k s span l.size) (sym f)
+    place-same e (inr g) = λ i. place_of h.kind s (e i) ((bytes-exact g).1 i)
+
+    base-kind : (k : Kind) → BytesFit a.mode a.base span h within → kept_base k a.base span ≡ base_of k a.base span
+    base-kind Field g = refl
+    base-kind Addrmap g = omega (arith, g.holds, g.room)
+    base-kind Regfile g = omega (arith, g.holds, g.room)
+    base-kind Reg g = omega (arith, g.holds, g.room)
+
+    base-same : capped_span span ≡ span → ((h.kind ≡ Field) ⊎ BytesFit a.mode a.base span h within) → kept_base h.kind a.base (capped_span span) ≡ base_of h.kind a.base span
+    base-same e (inl f) = ap (λ k. kept_base k a.base (capped_span span)) f ∙ ap (λ k. base_of k a.base span) (sym f)
+    base-same e (inr g) = ap (kept_base h.kind a.base) e ∙ base-kind h.kind g
