@@ -27,3 +27,4 @@ pub mod Names
 pub mod RowsAlong
 pub mod Fitting
 pub mod SameRows
+pub mod SameLevels
