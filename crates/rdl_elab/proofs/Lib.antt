@@ -24,3 +24,4 @@ pub mod PartsFound
 pub mod Names
 pub mod RowsAlong
 pub mod Fitting
+pub mod FieldsInside
