@@ -28,3 +28,4 @@ pub mod RowsAlong
 pub mod Fitting
 pub mod SameRows
 pub mod SameLevels
+pub mod FieldsInside

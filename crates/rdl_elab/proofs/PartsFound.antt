@@ -29,7 +29,7 @@ lies-next d b n t rest more l i = let e : suc n + i ≡ n + suc i = omega arith 
 lies-first : (d : Items) (b : List ℕ) (n : ℕ) (t : Items) → Lies d b n t → item (b ++ n ∷ []) d ≡ slice_get (list_of t) 0
 lies-first d b n t l = let e : n ≡ n + 0 = omega arith in ap (λ k. item (b ++ k ∷ []) d) e ∙ l 0
 
-item-here : (b : List ℕ) (d body : Items) (k : ℕ) → body_at b d ≡ Some body → item (b ++ k ∷ []) d ≡ slice_get (list_of body) k
+pub item-here : (b : List ℕ) (d body : Items) (k : ℕ) → body_at b d ≡ Some body → item (b ++ k ∷ []) d ≡ slice_get (list_of body) k
 item-here [] d body k h = let same : d ≡ body = cc in ap (λ t. slice_get (list_of t) k) same
 item-here (j ∷ []) d body k h = into (λ t. item-here [] t body k) (inner j d) refl h
   where
@@ -57,11 +57,11 @@ found-one : (d : Items) (b : List ℕ) (n : ℕ) (rest : Items) (z : Shell) (of 
     → (part at s h inside more ≡ instances d b (suc n) rest → ArePartsFound d b (part at s h inside more))
     → part at s h inside more ≡ with_made (b ++ n ∷ []) z (option_and_then (component d) (component_of d (b ++ n ∷ []))) (instances d b (suc n) rest)
     → ArePartsFound d b (part at s h inside more)
-found-one d b n rest z of at s h inside more deep next l i skip e = by (component_of d (b ++ n ∷ [])) e
+found-one d b n rest z of at s h inside more deep next l i skip e = by (component_of d (b ++ n ∷ [])) refl e
   where
-    made : (x : List ℕ) (o : Option Made) → component d x ≡ o → part at s h inside more ≡ with_made (b ++ n ∷ []) z o (instances d b (suc n) rest) → ArePartsFound d b (part at s h inside more)
-    made x None c e = skip e
-    made x (Some m) c e =
+    made : (x : List ℕ) → component_of d (b ++ n ∷ []) ≡ Some x → (o : Option Made) → component d x ≡ o → part at s h inside more ≡ with_made (b ++ n ∷ []) z o (instances d b (suc n) rest) → ArePartsFound d b (part at s h inside more)
+    made x leads None c e = skip e
+    made x leads (Some m) c e =
         let f = as_found d x m c in
         let at_is : b ++ n ∷ [] ≡ at = cc in
         let shell_is : z ≡ s = cc in
@@ -75,15 +75,16 @@ found-one d b n rest z of at s h inside more deep next l i skip e = by (componen
             around = ap body_of (sym at_is) ∙ body_of-item b n;
             of = of;
             instance = ap (λ a. item a d) (sym at_is) ∙ i ∙ ap (λ s. Some (Instance s of)) shell_is;
+            is = ap (component_of d) (sym at_is) ∙ leads ∙ ap Some place;
             component = there;
           },
           deep h.at 0 h.body (lies-body d h.at h.body g.body) g.parts,
           next b (suc n) rest l more_is,
         )
 
-    by : (o : Option (List ℕ)) → part at s h inside more ≡ with_made (b ++ n ∷ []) z (option_and_then (component d) o) (instances d b (suc n) rest) → ArePartsFound d b (part at s h inside more)
-    by None e = skip e
-    by (Some x) e = made x (component d x) refl e
+    by : (o : Option (List ℕ)) → component_of d (b ++ n ∷ []) ≡ o → part at s h inside more ≡ with_made (b ++ n ∷ []) z (option_and_then (component d) o) (instances d b (suc n) rest) → ArePartsFound d b (part at s h inside more)
+    by None leads e = skip e
+    by (Some x) leads e = made x leads (component d x) refl e
 
 found-among : (d : Items) (at : List ℕ) (s : Shell) (h : Head) (inside more : Parts) → Finds d inside → Finds d more
     → (t : Items) (b : List ℕ) (n : ℕ) → Lies d b n t → part at s h inside more ≡ instances d b n t → ArePartsFound d b (part at s h inside more)

@@ -1,5 +1,8 @@
 -- Level by level, what is told of what is kept is what there is to tell of the components themselves.
 use Rattle.std.proofs.Common.{◌≡◌, ℕ, zero, suc, ◌+◌, ◌-◌, ◌^◌, ◌≤◌, ◌<◌, Bool, true, false, List, [], ◌∷◌, ◌++◌, map, Option, Some, None, refl, ap, sym, ◌∙◌, subst, arith, ◌⊎◌, inl, inr}
+use Rattle.std.specs.Option.{option_or}
+use Rattle.std.proofs.lemmas.List.{append_assoc, append-nil}
+use Rattle.rdl_elab.proofs.SameRows.{some-none}
 use Rattle.std.specs.Prelude.{max, min, slice_get, ◌||◌, ◌==◌, if◌then◌else◌}
 use Rattle.rdl_tree.specs.Items.{Items}
 use Rattle.rdl_tree.specs.Properties.{has_form}
@@ -50,7 +53,7 @@ judged-append : (d : Items) (rows : List Row) (rs ss : List Judged) → told_jud
 judged-append d rows [] ss = refl
 judged-append d rows (r ∷ rs) ss = by_fault (judged-append d (rows ++ r.row ∷ []) rs ss) (row_fault d r)
   where
-    abbrev then : Told
+    then : Told
     then = told_judged d (rows ++ r.row ∷ []) rs
 
     by_fault : told_judged d (rows ++ r.row ∷ []) (rs ++ ss) ≡ judged_after d then.fault then ss → (o : Option Fault)

@@ -65,7 +65,7 @@ clashes-same : (s : Span) (access : Option Value) (before : List (Span × Option
     → clashes_before (sibling_of (s, access)) (map sibling_of before) ≡ clashes s access before
 clashes-same s access before = any-same sibling_of (λ (b : Sibling). overlap s b.span && not (share (sibling_of (s, access)) b)) (λ b. overlap s b.0 && not (may_share access b.1)) (λ b. refl) before
 
-some-none : {X : Type 0} {x : X} → Some x ≡ None → ⊥
+pub some-none : {X : Type 0} {x : X} → Some x ≡ None → ⊥
 some-none e = cc
 
 if-first : (t : Bool) (k : FaultKind) (x : Option FaultKind) (xs : List (Bool × FaultKind)) → x ≡ first_of xs → (if t then Some k else x) ≡ first_of ((t, k) ∷ xs)

@@ -5,7 +5,7 @@ use Rattle.rdl_tree.specs.Items.{Items}
 use Rattle.rdl_tree.specs.declared.shell.Shell.{Shell}
 use Rattle.rdl_tree.specs.declared.description.Item.TheVariants.{Instance}
 use Rattle.rdl_tree.specs.declared.description.Of.{Of}
-use Rattle.rdl_scope.specs.Types.{item}
+use Rattle.rdl_scope.specs.Types.{item, component_of}
 use Rattle.rdl_scope.specs.Target.{body_of}
 use Rattle.rdl_scope.specs.Closed.{Head, Parts, no_parts, part, component}
 
@@ -14,6 +14,7 @@ pub record IsPartFound (d : Items) (b at : List ℕ) (s : Shell) (h : Head) (ins
   pub around : body_of at ≡ b
   pub of : Of
   pub instance : item at d ≡ Some (Instance s of)
+  pub is : component_of d at ≡ Some h.at
   pub component : component d h.at ≡ Some (record { head = h; parts = inside })
 
 -- the instances of the body at b, those of their components, and so on
