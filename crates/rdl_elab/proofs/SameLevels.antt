@@ -4,6 +4,7 @@ use Rattle.std.specs.Option.{option_or}
 use Rattle.std.proofs.lemmas.List.{append_assoc, append-nil}
 use Rattle.rdl_elab.proofs.SameRows.{some-none}
 use Rattle.std.specs.Prelude.{max, min, slice_get, ◌||◌, ◌==◌, if◌then◌else◌}
+use Rattle.std.proofs.lemmas.Bool.{or_cases, eqb-true}
 use Rattle.rdl_tree.specs.Items.{Items}
 use Rattle.rdl_tree.specs.Properties.{has_form}
 use Rattle.rdl_tree.specs.declared.property.Form.TheVariants.{Widths}
@@ -37,7 +38,8 @@ use Rattle.rdl_elab.specs.Reaches.{Reach, values_along, along, behind, reaches, 
 use Rattle.rdl_elab.specs.KeptRows.{Surroundings, KeptRow, Told, kept_base, kept_values, kept_row, seen, kept_fault, judged, surroundings_inside, with_below, level_rows, kept_rows, told_one, told}
 use Rattle.rdl_elab.proofs.Along.{along-further}
 use Rattle.rdl_elab.proofs.RowsAlong.{values-row, values-alone, reaches-body}
-use Rattle.rdl_elab.proofs.Fitting.{FieldsIn, BytesFit, OneFits, Fit}
+use Rattle.rdl_elab.proofs.Telling.{told_after, told-append, one-component}
+use Rattle.rdl_elab.proofs.Fitting.{FieldsIn, BytesFit, OneFits, Fit, fits-inside}
 use Rattle.rdl_elab.proofs.SameRows.{sibling_of, seen-same, fault-same, span-exact, place-same, base-same}
 
 -- the rows up to the first that has a fault, and that fault
@@ -53,11 +55,11 @@ judged-append : (d : Items) (rows : List Row) (rs ss : List Judged) → told_jud
 judged-append d rows [] ss = refl
 judged-append d rows (r ∷ rs) ss = by_fault (judged-append d (rows ++ r.row ∷ []) rs ss) (row_fault d r)
   where
-    then : Told
-    then = told_judged d (rows ++ r.row ∷ []) rs
+    later : Told
+    later = told_judged d (rows ++ r.row ∷ []) rs
 
-    by_fault : told_judged d (rows ++ r.row ∷ []) (rs ++ ss) ≡ judged_after d then.fault then ss → (o : Option Fault)
-        → told_one o r.row rows (told_judged d (rows ++ r.row ∷ []) (rs ++ ss)) ≡ judged_after d (told_one o r.row rows then).fault (told_one o r.row rows then) ss
+    by_fault : told_judged d (rows ++ r.row ∷ []) (rs ++ ss) ≡ judged_after d later.fault later ss → (o : Option Fault)
+        → told_one o r.row rows (told_judged d (rows ++ r.row ∷ []) (rs ++ ss)) ≡ judged_after d (told_one o r.row rows later).fault (told_one o r.row rows later) ss
     by_fault h None = h
     by_fault h (Some f) = refl
 
@@ -73,19 +75,35 @@ judged-fault d rows (r ∷ rs) = by_fault (judged-fault d (rows ++ r.row ∷ [])
 
 pub judged-rows : (d : Items) (rows : List Row) (rs : List Judged) → first_row_fault d rs ≡ None → (told_judged d rows rs).rows ≡ rows ++ map (λ (r : Judged). r.row) rs
 judged-rows d rows [] h = sym (append-nil rows)
-judged-rows d rows (r ∷ rs) h = by_fault (row_fault d r) h
+judged-rows d rows (r ∷ rs) h = by_fault (judged-rows d (rows ++ r.row ∷ []) rs) (row_fault d r) h
   where
-    by_fault : (o : Option Fault) → option_or o (first_row_fault d rs) ≡ None → (told_one o r.row rows (told_judged d (rows ++ r.row ∷ []) rs)).rows ≡ rows ++ r.row ∷ map (λ (r : Judged). r.row) rs
-    by_fault None g = ?
-    by_fault (Some f) g = absurd (some-none g)
+    by_fault : (first_row_fault d rs ≡ None → (told_judged d (rows ++ r.row ∷ []) rs).rows ≡ (rows ++ r.row ∷ []) ++ map (λ (r : Judged). r.row) rs) → (o : Option Fault)
+        → option_or o (first_row_fault d rs) ≡ None → (told_one o r.row rows (told_judged d (rows ++ r.row ∷ []) rs)).rows ≡ rows ++ r.row ∷ map (λ (r : Judged). r.row) rs
+    by_fault k None g = k g ∙ append_assoc rows (r.row ∷ []) (map (λ (r : Judged). r.row) rs)
+    by_fault k (Some f) g = absurd (some-none g)
 
 -- a width is one of four
 width-small : (o : Option ℕ) → width_in o ≤ 64
 width-small None = omega arith
 width-small (Some n) = by_test (has_form Widths (Number n)) refl
   where
+    one : (k : ℕ) → k ≤ 64 → (n == k) ≡ true → n ≤ 64
+    one k h e = omega (arith, h, eqb-true n k e)
+
+    two : ((n == 8) ≡ true) ⊎ ((n == 16) ≡ true) → n ≤ 64
+    two (inl e) = one 8 (omega arith) e
+    two (inr e) = one 16 (omega arith) e
+
+    three : ((n == 8 || n == 16) ≡ true) ⊎ ((n == 32) ≡ true) → n ≤ 64
+    three (inl e) = two (or_cases (n == 8) (n == 16) e)
+    three (inr e) = one 32 (omega arith) e
+
+    four : ((n == 8 || n == 16 || n == 32) ≡ true) ⊎ ((n == 64) ≡ true) → n ≤ 64
+    four (inl e) = three (or_cases (n == 8 || n == 16) (n == 32) e)
+    four (inr e) = one 64 (omega arith) e
+
     by_test : (t : Bool) → has_form Widths (Number n) ≡ t → (if t then n else 0) ≤ 64
-    by_test true e = ?
+    by_test true e = four (or_cases (n == 8 || n == 16 || n == 32) (n == 64) e)
     by_test false e = omega arith
 
 pub bits-small : (h : Head) → (values_of h).regwidth ≤ 64
@@ -133,3 +151,39 @@ module _ (d : Items) (fs : List Finished) where
     kept-fault =
         (λ i. fault_at (place i) (kept_fault (k.kind i) (k.values i) a.bits (shell i) (size-is i) (seen (capped_span span) (values-is i)) (map sibling_of before) (values-is i)))
         ∙ ap (fault_at at) (fault-same d a before span at s h within small fits)
+
+    fault-none : row_fault d r ≡ None → kind_fault h.kind d r ≡ None
+    fault-none = without (kind_fault h.kind d r)
+      where
+        without : (x : Option FaultKind) → fault_at at x ≡ None → x ≡ None
+        without None e = refl
+        without (Some g) e = absurd (some-none e)
+
+    exact : row_fault d r ≡ None → capped_span span ≡ span
+    exact e = span-exact d a before span at s h within small fits (fault-none e)
+
+    row-is : capped_span span ≡ span → r' ≡ r.row
+    row-is e = λ i.
+        record {
+          names = a.names ++ ((ap (λ (x : Shell). x.name) shell) i) ∷ [];
+          kind = k.kind i;
+          base = ((λ j. kept_base (k.kind j) a.base (capped_span span)) ∙ base-same d a before span at s h within e fits.bytes) i;
+          place = ((λ j. place_of (k.kind j) (shell j) (capped_span span) (size-is j)) ∙ place-same d a before span at s h within e fits.bytes) i;
+          values = values-is i;
+        }
+
+    inside-is : capped_span span ≡ span → surroundings_inside o p f r' ≡ around_of h.at (inside r)
+    inside-is e = λ i.
+        record {
+          mode = mode_inside (k.kind i) (k.values i) a.mode;
+          names = (row-is e i).names;
+          base = (row-is e i).base;
+          bits = (k.values i).regwidth;
+          reaching = reaching-is i ++ (k.assignments ∙ sym (reaches-body d h.at (record { head = h; parts = within }) found.component)) i;
+        }
+
+    seen-is : capped_span span ≡ span → seen (capped_span span) r'.values ≡ sibling_of (span, r.access)
+    seen-is e = (λ i. seen (e i) (values-is i)) ∙ seen-same d r.path h span
+
+    spans-is : (under a.mode f.layouts).spans ≡ map capped_span l.spans
+    spans-is = ap (λ (x : Layout). x.spans) (k.layouts a.mode)

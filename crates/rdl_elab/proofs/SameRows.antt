@@ -77,7 +77,7 @@ module _ (d : Items) where
   pub value-under : (path : List (List ℕ)) (h : Head) (p : Property) → value_under p (row_values d path h) ≡ row_value d path h p
   value-under path h p = under-among (row_value d path h) p properties ∙ ap (λ t. if t then row_value d path h p else None) (all-named p)
 
-  seen-same : (path : List (List ℕ)) (h : Head) (span : Span) → seen span (row_values d path h) ≡ sibling_of (span, row_value d path h Sw)
+  pub seen-same : (path : List (List ℕ)) (h : Head) (span : Span) → seen span (row_values d path h) ≡ sibling_of (span, row_value d path h Sw)
   seen-same path h span = λ i. record { span = span; is_read_only = is_read_only (value-under path h Sw i); is_write_only = is_write_only (value-under path h Sw i) }
 
   module _ (a : Around) (before : List (Span × Option Value)) (span : Span) (at : List ℕ) (s : Shell) (h : Head) (within : Parts) where
@@ -157,7 +157,7 @@ module _ (d : Items) where
         by_kind (inr g) = (bytes-exact g).0
 
     -- where the span is exact, so is the row's place
-    place-same : capped_span span ≡ span → ((h.kind ≡ Field) ⊎ BytesFit a.mode a.base span h within) → place_of h.kind s (capped_span span) (capped l.size) ≡ place_of h.kind s span l.size
+    pub place-same : capped_span span ≡ span → ((h.kind ≡ Field) ⊎ BytesFit a.mode a.base span h within) → place_of h.kind s (capped_span span) (capped l.size) ≡ place_of h.kind s span l.size
     place-same e (inl f) = ap (λ k. place_of k s (capped_span span) (capped l.size)) f ∙ ap (λ sp. place_of Field s sp l.size) e ∙ ap (λ k. place_of k s span l.size) (sym f)
     place-same e (inr g) = λ i. place_of h.kind s (e i) ((bytes-exact g).1 i)
 
@@ -167,6 +167,6 @@ module _ (d : Items) where
     base-kind Regfile g = omega (arith, g.holds, g.room)
     base-kind Reg g = omega (arith, g.holds, g.room)
 
-    base-same : capped_span span ≡ span → ((h.kind ≡ Field) ⊎ BytesFit a.mode a.base span h within) → kept_base h.kind a.base (capped_span span) ≡ base_of h.kind a.base span
+    pub base-same : capped_span span ≡ span → ((h.kind ≡ Field) ⊎ BytesFit a.mode a.base span h within) → kept_base h.kind a.base (capped_span span) ≡ base_of h.kind a.base span
     base-same e (inl f) = ap (λ k. kept_base k a.base (capped_span span)) f ∙ ap (λ k. base_of k a.base span) (sym f)
     base-same e (inr g) = ap (kept_base h.kind a.base) e ∙ base-kind h.kind g
