@@ -187,3 +187,127 @@ module _ (d : Items) (fs : List Finished) where
 
     spans-is : (under a.mode f.layouts).spans ≡ map capped_span l.spans
     spans-is = ap (λ (x : Layout). x.spans) (k.layouts a.mode)
+
+  abbrev LevelSame : ℕ → Parts → Type 0
+  LevelSame n P = (b : List ℕ) (a : Around) (m : Kind) (before : List (Span × Option Value)) (spans : List Span) (ps : List Part) (bound : ℕ) (rows : List Row)
+      → AreParts d fs bound ps P → ArePartsFound d b P → FieldsIn m P → Fit a.mode a.base spans P → a.bits ≤ 64 → levels P ≤ suc n
+      → told rows (level_rows fs (λ inside ss qs. kept_rows n fs inside ss qs) (around_of b a) (map sibling_of before) (map capped_span spans) ps) ≡ told_judged d rows (rows_in d a before spans P)
+
+  -- the same for so many levels
+  pub levels-same : (n : ℕ) (P : Parts) → ((k : ℕ) → LevelSame k P) → (b : List ℕ) (a : Around) (m : Kind) (spans : List Span) (ps : List Part) (bound : ℕ) (rows : List Row)
+      → AreParts d fs bound ps P → ArePartsFound d b P → FieldsIn m P → Fit a.mode a.base spans P → a.bits ≤ 64 → levels P ≤ n
+      → told rows (kept_rows n fs (around_of b a) (map capped_span spans) ps) ≡ told_judged d rows (rows_in d a [] spans P)
+  levels-same zero no_parts same b a m spans ps bound rows parts found fields fit small deep = refl
+  levels-same zero (part at s h within rest) same b a m spans ps bound rows parts found fields fit small deep = absurd (none (levels within) (levels rest) deep)
+    where
+      none : (x y : ℕ) → max (x + 1) y ≤ 0 → ⊥
+      none x y h = omega (arith, h)
+  levels-same (suc k) P same b a m spans ps bound rows parts found fields fit small deep = same k b a m [] spans ps bound rows parts found fields fit small deep
+
+  told-both : (t u : Told) (ks : List KeptRow) (rs : List Judged) → t ≡ u → ((rows : List Row) → told rows ks ≡ told_judged d rows rs) → told_after t.fault t ks ≡ judged_after d u.fault u rs
+  told-both t u ks rs e h = ap (λ (x : Told). told_after x.fault x ks) e ∙ by_fault u.fault
+    where
+      by_fault : (o : Option Fault) → told_after o u ks ≡ judged_after d o u rs
+      by_fault None = h u.rows
+      by_fault (Some f) = refl
+
+  map-more : (xs : List (Span × Option Value)) (x : Span × Option Value) → map sibling_of xs ++ sibling_of x ∷ [] ≡ map sibling_of (xs ++ x ∷ [])
+  map-more [] x = refl
+  map-more (y ∷ xs) x = ap (λ ys. sibling_of y ∷ ys) (map-more xs x)
+
+  base-below : (k : Kind) (base : ℕ) (span : Span) → base_of k base span ≤ base + span.start
+  base-below Field base span = omega arith
+  base-below Addrmap base span = omega arith
+  base-below Regfile base span = omega arith
+  base-below Reg base span = omega arith
+
+  -- an instance with all below it, and those behind it
+  module _ (n : ℕ) (b : List ℕ) (a : Around) (m : Kind) (before : List (Span × Option Value)) (span : Span) (spans : List Span) (at : List ℕ) (s : Shell) (h : Head) (within rest : Parts)
+      (p : Part) (ps : List Part) (bound : ℕ)
+      (q : IsPart d fs bound p at s (record { head = h; parts = within }) (λ f. AreParts d fs p.component f.parts.items within))
+      (found : IsPartFound d b at s h within) (small : a.bits ≤ 64) (fits : OneFits a.mode a.base span h within)
+      (same-within : (k : ℕ) → LevelSame k within) (same-rest : LevelSame n rest)
+      (found-within : ArePartsFound d h.at within) (fields : FieldsIn h.kind within) (deep : levels within ≤ n)
+      (parts-rest : AreParts d fs bound ps rest) (found-rest : ArePartsFound d b rest) (fields-rest : FieldsIn m rest) (fit-rest : Fit a.mode a.base spans rest) (deep-rest : levels rest ≤ suc n) where
+    abbrev below : Surroundings → List Span → List Part → List KeptRow
+    below inside ss qs = kept_rows n fs inside ss qs
+
+    abbrev f : Finished
+    f = q.finished
+
+    abbrev size : Layout
+    size = layout_of a.mode h within
+
+    abbrev judged_here : Judged
+    judged_here = judged_row d a before span at s h size
+
+    abbrev row' : Row
+    row' = kept_row (around_of b a) (capped_span span) p f
+
+    abbrev inner : List KeptRow
+    inner = below (surroundings_inside (around_of b a) p f row') (under a.mode f.layouts).spans f.parts.items
+
+    abbrev more : List KeptRow
+    more = level_rows fs below (around_of b a) (map sibling_of before ++ seen (capped_span span) row'.values ∷ []) (map capped_span spans) ps
+
+    abbrev inner_judged : List Judged
+    inner_judged = rows_in d (inside judged_here) [] size.spans within
+
+    abbrev more_judged : List Judged
+    more_judged = rows_in d a (before ++ (span, judged_here.access) ∷ []) spans rest
+
+    room : (h.kind ≡ Field) ⊎ BytesFit a.mode a.base span h within → (h.kind ≡ Field) ⊎ (base_of h.kind a.base span + size.size ≤ 2 ^ 40)
+    room (inl e) = inl e
+    room (inr g) = inr (omega (arith, base-below h.kind a.base span, g.holds, g.room))
+
+    inner-same : (rows : List Row) → capped_span span ≡ span → told (rows ++ row' ∷ []) inner ≡ told_judged d (rows ++ judged_here.row ∷ []) inner_judged
+    inner-same rows e =
+        (λ i. told (rows ++ row-is b a before span at s h within p f q.place q.shell q.kept found small fits e i ∷ []) (kept_rows n fs (inside-is b a before span at s h within p f q.place q.shell q.kept found small fits e i) (spans-is b a before span at s h within p f q.place q.shell q.kept found small fits i) f.parts.items))
+        ∙ levels-same n within same-within h.at (inside judged_here) h.kind size.spans f.parts.items p.component (rows ++ judged_here.row ∷ []) q.inside found-within fields
+        (fits-inside a.mode judged_here.row.base h within fields (room fits.bytes)) (bits-small h) deep
+
+    more-same : capped_span span ≡ span → (rows : List Row) → told rows more ≡ told_judged d rows more_judged
+    more-same e rows =
+        ap (λ bs. told rows (level_rows fs below (around_of b a) bs (map capped_span spans) ps))
+        (ap (λ x. map sibling_of before ++ x ∷ []) (seen-is b a before span at s h within p f q.place q.shell q.kept found small fits e) ∙ map-more before (span, judged_here.access))
+        ∙ same-rest b a m (before ++ (span, judged_here.access) ∷ []) spans ps bound rows parts-rest found-rest fields-rest fit-rest small deep-rest
+
+    go-on : (rows : List Row) → capped_span span ≡ span → told (rows ++ row' ∷ []) (inner ++ more) ≡ told_judged d (rows ++ judged_here.row ∷ []) (inner_judged ++ more_judged)
+    go-on rows e =
+        told-append (rows ++ row' ∷ []) inner more
+        ∙ told-both (told (rows ++ row' ∷ []) inner) (told_judged d (rows ++ judged_here.row ∷ []) inner_judged) more more_judged (inner-same rows e) (more-same e)
+        ∙ sym (judged-append d (rows ++ judged_here.row ∷ []) inner_judged more_judged)
+
+    abbrev kept_here : KeptRow
+    kept_here = judged (around_of b a) (map sibling_of before) (capped_span span) p f row'
+
+    by-fault : (rows : List Row) (x : Option Fault) → row_fault d judged_here ≡ x
+        → told_one kept_here.fault row' rows (told (rows ++ row' ∷ []) (inner ++ more)) ≡ told_one (row_fault d judged_here) judged_here.row rows (told_judged d (rows ++ judged_here.row ∷ []) (inner_judged ++ more_judged))
+    by-fault rows None e =
+        ap (λ y. told_one y row' rows (told (rows ++ row' ∷ []) (inner ++ more))) (kept-fault b a before span at s h within p f q.place q.shell q.kept found small fits ∙ e)
+        ∙ go-on rows (exact b a before span at s h within p f q.place q.shell q.kept found small fits e)
+        ∙ sym (ap (λ y. told_one y judged_here.row rows (told_judged d (rows ++ judged_here.row ∷ []) (inner_judged ++ more_judged))) e)
+    by-fault rows (Some g) e =
+        ap (λ y. told_one y row' rows (told (rows ++ row' ∷ []) (inner ++ more))) (kept-fault b a before span at s h within p f q.place q.shell q.kept found small fits ∙ e)
+        ∙ sym (ap (λ y. told_one y judged_here.row rows (told_judged d (rows ++ judged_here.row ∷ []) (inner_judged ++ more_judged))) e)
+
+    one-same : (rows : List Row) → told rows (level_rows fs below (around_of b a) (map sibling_of before) (capped_span span ∷ map capped_span spans) (p ∷ ps))
+        ≡ told_judged d rows (rows_in d a before (span ∷ spans) (part at s h within rest))
+    one-same rows =
+        ap (told rows) (one-component fs below (around_of b a) (map sibling_of before) (capped_span span) (map capped_span spans) p ps f q.there)
+        ∙ by-fault rows (row_fault d judged_here) refl
+
+  pub level-same : (P : Parts) (n : ℕ) → LevelSame n P
+  level-same no_parts n b a m before spans [] bound rows parts found fields fit small deep = refl
+  level-same no_parts n b a m before spans (p ∷ ps) bound rows parts found fields fit small deep = absurd parts
+  level-same (part at s h within rest) n b a m before spans [] bound rows parts found fields fit small deep = absurd parts
+  level-same (part at s h within rest) n b a m before [] (p ∷ ps) bound rows parts found fields fit small deep = refl
+  level-same (part at s h within rest) n b a m before (span ∷ spans) (p ∷ ps) bound rows parts found fields fit small deep =
+      one-same n b a m before span spans at s h within rest p ps bound parts.0 found.0 small fit.0 (λ k. level-same within k) (level-same rest n)
+      found.1 fields.1 (inner-deep (levels within) (levels rest) n deep) parts.1 found.2 fields.2 fit.1 (rest-deep (levels within) (levels rest) n deep) rows
+    where
+      inner-deep : (x y k : ℕ) → max (x + 1) y ≤ suc k → x ≤ k
+      inner-deep x y k h = omega (arith, h)
+
+      rest-deep : (x y k : ℕ) → max (x + 1) y ≤ suc k → y ≤ suc k
+      rest-deep x y k h = omega (arith, h)
