@@ -29,3 +29,4 @@ pub mod Fitting
 pub mod SameRows
 pub mod SameLevels
 pub mod FieldsInside
+pub mod KeptAnswers

@@ -1,7 +1,7 @@
 -- Level by level, what is told of what is kept is what there is to tell of the components themselves.
 use Rattle.std.proofs.Common.{◌≡◌, ℕ, zero, suc, ◌+◌, ◌-◌, ◌^◌, ◌≤◌, ◌<◌, Bool, true, false, List, [], ◌∷◌, ◌++◌, map, Option, Some, None, refl, ap, sym, ◌∙◌, subst, arith, ◌⊎◌, inl, inr}
 use Rattle.std.specs.Option.{option_or}
-use Rattle.std.proofs.lemmas.List.{append_assoc, append-nil}
+use Rattle.std.proofs.lemmas.List.{append_assoc, append-nil, map-append}
 use Rattle.rdl_elab.proofs.SameRows.{some-none}
 use Rattle.std.specs.Prelude.{max, min, slice_get, ◌||◌, ◌==◌, if◌then◌else◌}
 use Rattle.std.proofs.lemmas.Bool.{or_cases, eqb-true}
@@ -117,7 +117,7 @@ kept-along h (Some n) rs = refl
 
 module _ (d : Items) (fs : List Finished) where
   -- what stands around the instances of the component at b, by what is kept
-  abbrev around_of : List ℕ → Around → Surroundings
+  abbrev pub around_of : List ℕ → Around → Surroundings
   around_of b a = record { mode = a.mode; names = a.names; base = a.base; bits = a.bits; reaching = along d [] a.path ++ reaches_at d b }
 
   module _ (b : List ℕ) (a : Around) (before : List (Span × Option Value)) (span : Span) (at : List ℕ) (s : Shell) (h : Head) (within : Parts) (p : Part) (f : Finished)
@@ -211,10 +211,6 @@ module _ (d : Items) (fs : List Finished) where
       by_fault None = h u.rows
       by_fault (Some f) = refl
 
-  map-more : (xs : List (Span × Option Value)) (x : Span × Option Value) → map sibling_of xs ++ sibling_of x ∷ [] ≡ map sibling_of (xs ++ x ∷ [])
-  map-more [] x = refl
-  map-more (y ∷ xs) x = ap (λ ys. sibling_of y ∷ ys) (map-more xs x)
-
   base-below : (k : Kind) (base : ℕ) (span : Span) → base_of k base span ≤ base + span.start
   base-below Field base span = omega arith
   base-below Addrmap base span = omega arith
@@ -269,7 +265,7 @@ module _ (d : Items) (fs : List Finished) where
     more-same : capped_span span ≡ span → (rows : List Row) → told rows more ≡ told_judged d rows more_judged
     more-same e rows =
         ap (λ bs. told rows (level_rows fs below (around_of b a) bs (map capped_span spans) ps))
-        (ap (λ x. map sibling_of before ++ x ∷ []) (seen-is b a before span at s h within p f q.place q.shell q.kept found small fits e) ∙ map-more before (span, judged_here.access))
+        (ap (λ x. map sibling_of before ++ x ∷ []) (seen-is b a before span at s h within p f q.place q.shell q.kept found small fits e) ∙ sym (map-append sibling_of before ((span, judged_here.access) ∷ [])))
         ∙ same-rest b a m (before ++ (span, judged_here.access) ∷ []) spans ps bound rows parts-rest found-rest fields-rest fit-rest small deep-rest
 
     go-on : (rows : List Row) → capped_span span ≡ span → told (rows ++ row' ∷ []) (inner ++ more) ≡ told_judged d (rows ++ judged_here.row ∷ []) (inner_judged ++ more_judged)

@@ -3,7 +3,7 @@ ghost use Rattle.std.specs.Prelude.{◌≡◌, ℕ, ◌⊎◌, ◌∷◌, ◌≤
 ghost use Rattle.std.specs.Option.{option_or};
 ghost use Rattle.rdl_tree.specs.Depth.{depth};
 ghost use Rattle.rdl_scope.specs.Closed.{component};
-ghost use Rattle.rdl_scope.specs.ItemFaults.{fault_at, out_of_memory};
+ghost use Rattle.rdl_scope.specs.ItemFaults.{fault_at, fault_of, out_of_memory};
 ghost use Rattle.rdl_elab.specs.Faults.{has_name, top_from, elaborated, under_top};
 ghost use Rattle.rdl_elab.specs.Tops.{top_at};
 ghost use Rattle.rdl_tree.specs.View.{items_of};
@@ -232,7 +232,8 @@ fn under_top(
     number: usize,
     name: &Name,
 ) -> Result<Result<Rows, Fault>, AllocError>
-    requires { depth description.now.items ≤ 16 }
+    requires nesting { depth description.now.items ≤ 16 }
+    requires faultless { fault_of description.now.items ≡ None }
     ensures { IfOk result (λ answer. answer ≡ under_top description.now.items (number ∷ []) name.now (component description.now.items (number ∷ []))) }
 {
     let at = Address::new().inside(number);

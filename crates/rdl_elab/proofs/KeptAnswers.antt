@@ -1,0 +1,197 @@
+-- The answer by what is kept of the components is the answer by the definitions.
+use Rattle.std.proofs.Common.{◌≡◌, ℕ, zero, suc, ◌+◌, ◌^◌, ◌≤◌, ◌<◌, Bool, true, false, List, [], ◌∷◌, ◌++◌, map, Option, Some, None, Result, Ok, Err, refl, ap, sym, ◌∙◌, arith, ◌⊎◌, inl, inr}
+use Rattle.std.specs.Prelude.{min, nat_lt, slice_get, option_and_then, if◌then◌else◌}
+use Rattle.std.specs.Option.{option_or, is_some}
+use Rattle.std.specs.Prelude.{IfOk, IfErr}
+use Rattle.std.proofs.lemmas.Bool.{cases_lt, lt-ltb, le-ltb, ltb-false}
+use Rattle.rdl_tree.specs.Items.{Items}
+use Rattle.rdl_tree.specs.View.{items_of, list_of}
+use Rattle.rdl_tree.proofs.Rounds.{items_of-list_of}
+use Rattle.rdl_tree.specs.declared.description.Item.{Item}
+use Rattle.rdl_tree.specs.declared.fault.Fault.{Fault}
+use Rattle.rdl_tree.specs.declared.fault.FaultKind.{FaultKind}
+use Rattle.rdl_tree.specs.declared.fault.FaultKind.TheVariants.{TooManyLevels, TooManyRows, EmptyComponent, MapTooLarge}
+use Rattle.rdl_scope.specs.ItemFaults.{first_of, fault_at, fault_of}
+use Rattle.rdl_scope.specs.Closed.{Made, component}
+use Rattle.rdl_elab.specs.declared.layout.Mode.TheVariants.{Regalign}
+use Rattle.rdl_elab.specs.declared.layout.Span.{Span}
+use Rattle.rdl_elab.specs.declared.layout.Layout.{Layout}
+use Rattle.rdl_elab.specs.declared.row.Place.TheVariants.{Bytes}
+use Rattle.rdl_elab.specs.declared.row.Row.{Row}
+use Rattle.rdl_elab.specs.declared.finished.Finished.{Finished}
+use Rattle.rdl_elab.specs.Layouts.{mode_inside, layout}
+use Rattle.rdl_elab.specs.Capped.{capped, capped_span}
+use Rattle.rdl_elab.specs.Rows.{Judged, around_top, rows_below, rows_of, top_layout, top_row}
+use Rattle.rdl_elab.specs.Faults.{levels, count, first_empty, first_row_fault, fault_of_top, rows_or, under_top, top_from, with_top, unless_fault, elaborated}
+use Rattle.rdl_elab.specs.Finished.{under, IsKept, IsFinished}
+use Rattle.rdl_elab.specs.Reaches.{reaches, reaches_at}
+use Rattle.rdl_elab.specs.KeptRows.{Told, told, kept_rows, kept_map_fault, kept_top_row, kept_around_top, told_below, rows_unless, fault_or, kept_rows_or_fault, kept_answer}
+use Rattle.rdl_scope.proofs.AsFound.{as_found}
+use Rattle.rdl_elab.proofs.RowsAlong.{values-top, reaches-body}
+use Rattle.rdl_elab.proofs.PartsFound.{parts-found}
+use Rattle.rdl_elab.proofs.FieldsInside.{registers-hold-fields}
+use Rattle.rdl_elab.proofs.Fitting.{FieldsIn, fits-inside}
+use Rattle.rdl_elab.proofs.SameRows.{some-none}
+use Rattle.rdl_elab.proofs.SameLevels.{told_judged, judged-fault, judged-rows, around_of, levels-same, level-same}
+
+limit-same : (limit n cut : ℕ) → limit < cut → nat_lt limit (min n cut) ≡ nat_lt limit n
+limit-same limit n cut h = by_order (cases_lt limit n)
+  where
+    by_order : ((limit < n) ⊎ (n ≤ limit)) → nat_lt limit (min n cut) ≡ nat_lt limit n
+    by_order (inl l) = lt-ltb limit (min n cut) (omega (arith, l, h)) ∙ sym (lt-ltb limit n l)
+    by_order (inr g) = le-ltb limit (min n cut) (omega (arith, g, h)) ∙ sym (le-ltb limit n g)
+
+next-same : (limit n : ℕ) → nat_lt limit (min n limit + 1) ≡ nat_lt limit (n + 1)
+next-same limit n = by_order (cases_lt limit (n + 1))
+  where
+    by_order : ((limit < n + 1) ⊎ (n + 1 ≤ limit)) → nat_lt limit (min n limit + 1) ≡ nat_lt limit (n + 1)
+    by_order (inl l) = lt-ltb limit (min n limit + 1) (omega (arith, l)) ∙ sym (lt-ltb limit (n + 1) l)
+    by_order (inr g) = le-ltb limit (min n limit + 1) (omega (arith, g)) ∙ sym (le-ltb limit (n + 1) g)
+
+rows-after : (rows : List Row) (a b c r : Option Fault) → rows_or rows (option_or a (option_or b (option_or c r))) ≡ fault_or (option_or a (option_or b c)) (rows_or rows r)
+rows-after rows None None None r = refl
+rows-after rows None None (Some f) r = refl
+rows-after rows None (Some f) c r = refl
+rows-after rows (Some f) b c r = refl
+
+or-first : (a b : Option Fault) → option_or a b ≡ None → a ≡ None
+or-first None b h = refl
+or-first (Some f) b h = absurd (some-none h)
+
+or-second : (a b : Option Fault) → option_or a b ≡ None → b ≡ None
+or-second None b h = h
+or-second (Some f) b h = absurd (some-none h)
+
+none-at : (at : List ℕ) (o : Option FaultKind) → fault_at at o ≡ None → o ≡ None
+none-at at None h = refl
+none-at at (Some f) h = absurd (some-none h)
+
+none-first : (t : Bool) (k : FaultKind) (ks : List (Bool × FaultKind)) → first_of ((t, k) ∷ ks) ≡ None → t ≡ false
+none-first true k ks h = absurd (some-none h)
+none-first false k ks h = refl
+
+module _ (d : Items) (n : ℕ) (name : List ℕ) (c : Made) (fs : List Finished) (number : ℕ) (none : fault_of d ≡ None) (made : component d (n ∷ []) ≡ Some c) (q : IsFinished d fs number c) where
+  abbrev at : List ℕ
+  at = n ∷ []
+
+  abbrev f : Finished
+  f = q.finished
+
+  abbrev of_levels : Option Fault
+  of_levels = fault_at at (first_of ((nat_lt 16 (levels c.parts + 1), TooManyLevels) ∷ (nat_lt 65536 (count c.parts + 1), TooManyRows) ∷ []))
+
+  abbrev of_empty : Option Fault
+  of_empty = option_and_then (λ a. fault_at a (Some EmptyComponent)) (first_empty c.parts)
+
+  abbrev of_size : Option Fault
+  of_size = fault_at at (first_of ((nat_lt (2 ^ 40) (top_layout c).size, MapTooLarge) ∷ []))
+
+  abbrev of_map : Option Fault
+  of_map = option_or of_levels (option_or of_empty of_size)
+
+  size-is : f.layouts.regalign.size ≡ capped (top_layout c).size
+  size-is = ap (λ (x : Layout). x.size) (q.kept.layouts Regalign)
+
+  levels-is : nat_lt 16 (f.levels + 1) ≡ nat_lt 16 (levels c.parts + 1)
+  levels-is = ap (λ x. nat_lt 16 (x + 1)) q.kept.levels ∙ next-same 16 (levels c.parts)
+
+  rows-is : nat_lt 65536 (f.rows + 1) ≡ nat_lt 65536 (count c.parts + 1)
+  rows-is = ap (λ x. nat_lt 65536 (x + 1)) q.kept.rows ∙ next-same 65536 (count c.parts)
+
+  large-is : nat_lt (2 ^ 40) f.layouts.regalign.size ≡ nat_lt (2 ^ 40) (top_layout c).size
+  large-is = ap (nat_lt (2 ^ 40)) size-is ∙ limit-same (2 ^ 40) (top_layout c).size (2 ^ 40 + 1) (omega arith)
+
+  map-is : kept_map_fault at f ≡ of_map
+  map-is = λ i.
+      option_or (fault_at at (first_of ((levels-is i, TooManyLevels) ∷ (rows-is i, TooManyRows) ∷ [])))
+      (option_or (option_and_then (λ a. fault_at a (Some EmptyComponent)) (q.kept.first_empty i))
+      (fault_at at (first_of ((large-is i, MapTooLarge) ∷ []))))
+
+  module _ (clear : of_map ≡ None) where
+    few-levels : levels c.parts ≤ 16
+    few-levels = omega (arith, ltb-false 16 (levels c.parts + 1) (none-first (nat_lt 16 (levels c.parts + 1)) TooManyLevels ((nat_lt 65536 (count c.parts + 1), TooManyRows) ∷ []) (none-at at _ (or-first of_levels _ clear))))
+
+    small : (top_layout c).size ≤ 2 ^ 40
+    small = ltb-false (2 ^ 40) (top_layout c).size (none-first (nat_lt (2 ^ 40) (top_layout c).size) MapTooLarge [] (none-at at _ (or-second of_empty of_size (or-second of_levels _ clear))))
+
+    size-exact : f.layouts.regalign.size ≡ (top_layout c).size
+    size-exact = size-is ∙ exactly (top_layout c).size small
+      where
+        exactly : (x : ℕ) → x ≤ 2 ^ 40 → capped x ≡ x
+        exactly x h = omega (arith, h)
+
+    row-is : kept_top_row name f ≡ top_row d name c
+    row-is = λ i.
+        record {
+          names = name ∷ [];
+          kind = q.kept.kind i;
+          base = 0;
+          place = Bytes (record { offset = 0; size = size-exact i; dims = []; stride = size-exact i });
+          values = (q.kept.shown ∙ values-top d at c made) i;
+        }
+
+    reaching-is : f.assignments.items ≡ reaches_at d at
+    reaching-is = q.kept.assignments ∙ ap (λ b. reaches d b 0 c.head.body) (as_found d at c made).place ∙ sym (reaches-body d at c made)
+
+    around-is : kept_around_top name f ≡ around_of d fs at (around_top name c)
+    around-is = λ i. record { mode = mode_inside (q.kept.kind i) (q.kept.values i) Regalign; names = name ∷ []; base = 0; bits = 0; reaching = reaching-is i }
+
+    fields : FieldsIn c.head.kind c.parts
+    fields = registers-hold-fields d at c none made
+
+    below-is : told_below fs name f ≡ told_judged d (top_row d name c ∷ []) (rows_below d name c)
+    below-is =
+        (λ i. told (row-is i ∷ []) (kept_rows 16 fs (around-is i) (ap (λ (x : Layout). x.spans) (q.kept.layouts Regalign) i) f.parts.items))
+        ∙ levels-same d fs 16 c.parts (λ k. level-same d fs c.parts k) at (around_top name c) c.head.kind (top_layout c).spans f.parts.items number (top_row d name c ∷ []) q.parts (parts-found d at c made) fields
+        (fits-inside Regalign 0 c.head c.parts fields (inr (omega (arith, small)))) (omega arith) few-levels
+
+    answer-is : rows_unless (told_below fs name f).fault (told_below fs name f).rows ≡ rows_or (rows_of d name c) (first_row_fault d (rows_below d name c))
+    answer-is = ap (λ (t : Told). rows_unless t.fault t.rows) below-is ∙ ap (λ x. rows_unless x all.rows) (judged-fault d (top_row d name c ∷ []) (rows_below d name c)) ∙ by_fault (first_row_fault d (rows_below d name c)) refl
+      where
+        all : Told
+        all = told_judged d (top_row d name c ∷ []) (rows_below d name c)
+
+        by_fault : (x : Option Fault) → first_row_fault d (rows_below d name c) ≡ x → rows_unless x all.rows ≡ rows_or (rows_of d name c) x
+        by_fault None e = ap Ok (judged-rows d (top_row d name c ∷ []) (rows_below d name c) e)
+        by_fault (Some g) e = refl
+
+  kept-is : kept_rows_or_fault fs at name f ≡ rows_or (rows_of d name c) (fault_of_top d at name c)
+  kept-is =
+      ap (λ x. fault_or x (rows_unless (told_below fs name f).fault (told_below fs name f).rows)) map-is
+      ∙ by_fault of_map refl
+      ∙ sym (rows-after (rows_of d name c) of_levels of_empty of_size (first_row_fault d (rows_below d name c)))
+    where
+      by_fault : (x : Option Fault) → of_map ≡ x
+          → fault_or x (rows_unless (told_below fs name f).fault (told_below fs name f).rows) ≡ fault_or x (rows_or (rows_of d name c) (first_row_fault d (rows_below d name c)))
+      by_fault None e = answer-is e
+      by_fault (Some g) e = refl
+
+  pub answer-kept : kept_answer fs at name (slice_get fs number) ≡ under_top d at name (component d at)
+  answer-kept = ap (kept_answer fs at name) q.there ∙ kept-is ∙ sym (ap (under_top d at name) made)
+
+-- the same of what a walk found
+pub answer-walked : (d : Items) (n : ℕ) (at name : List ℕ) (fs : List Finished) (number : ℕ) → fault_of d ≡ None → at ≡ n ∷ [] → is_some (component d (n ∷ [])) ≡ true
+    → ((c : Made) → component d (n ∷ []) ≡ Some c → IsFinished d fs number c)
+    → kept_answer fs at name (slice_get fs number) ≡ under_top d (n ∷ []) name (component d (n ∷ []))
+answer-walked d n at name fs number none place there finished = ap (λ a. kept_answer fs a name (slice_get fs number)) place ∙ by_component (component d (n ∷ [])) refl
+  where
+    by_component : (o : Option Made) → component d (n ∷ []) ≡ o → kept_answer fs (n ∷ []) name (slice_get fs number) ≡ under_top d (n ∷ []) name (component d (n ∷ []))
+    by_component None e = absurd (apart (sym (ap is_some e) ∙ there))
+      where
+        apart : false ≡ true → ⊥
+        apart h = cc
+    by_component (Some c) e = answer-kept d n name c fs number none e (finished c e)
+
+-- a description whose items have no fault is judged under its top
+pub judged-under : (d : Items) (wanted : Option (List ℕ)) (xs : List Item) (top : Option (ℕ × List ℕ)) → fault_of d ≡ None → xs ≡ list_of d → top ≡ top_from wanted 0 (items_of xs)
+    → elaborated d wanted ≡ with_top d top
+judged-under d wanted xs top none same e =
+    ap (unless_fault d wanted) none ∙ ap (λ t. with_top d (top_from wanted 0 t)) (sym (items_of-list_of d) ∙ ap items_of (sym same)) ∙ ap (with_top d) (sym e)
+
+pub if-rows : (result answer : Result (List Row) Fault) → result ≡ answer → IfOk answer (λ rows. result ≡ Ok rows)
+if-rows result (Ok rows) e = e
+if-rows result (Err f) e = tt
+
+pub if-fault : (P : Fault → Type 0) (result answer : Result (List Row) Fault) → result ≡ answer → IfErr answer (λ f. (result ≡ Err f) ⊎ P f)
+if-fault P result (Ok rows) e = tt
+if-fault P result (Err f) e = inl e
