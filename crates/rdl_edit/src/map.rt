@@ -6,7 +6,7 @@ ghost use Rattle.rdl_scope.specs.ItemFaults.{out_of_memory};
 ghost use Rattle.rdl_tree.specs.Address.{inner, map_body};
 ghost use Rattle.rdl_tree.specs.Items.{no_items};
 ghost use Rattle.rdl_tree.specs.View.{items_of, list_of};
-ghost use Rattle.rdl_edit.specs.Step.{State, is_component, target_at, extended, taken, edited, step};
+ghost use Rattle.rdl_edit.specs.Step.{State, HasRows, is_component, target_at, extended, taken, edited, step};
 
 use crate::edit::{Edit, Refusal, is_memory};
 use crate::names::{definition_taken, instance_taken};
@@ -62,6 +62,7 @@ impl Map {
     /// Takes the description, and drops it where it has a fault.
     pub fn open(alloc: Global, description: Description, name: Option<Name>) -> Result<Map, Fault>
         ensures ok { IfOk result (λ m. m ≡ record { description = description.items; option = name }) }
+        ensures accepted { IfOk result (λ _. HasRows (record { description = description.items; option = name })) }
         ensures refused { IfErr result (λ fault. (elaborated description.items name ≡ Err fault) ⊎ (fault ≡ out_of_memory)) }
     {
         match elaborate(alloc, &description, text_of(name.as_ref())) {
