@@ -39,7 +39,7 @@ times_alike (suc n) s t h = by_cases (alike_cases s t h)
     by_cases (inl e) = ap (λ x. capped (x * suc n)) e
     by_cases (inr g) = over (s * suc n) (t * suc n) (omega (arith, next s, g.0)) (omega (arith, next t, g.1))
 
-power_alike : (x y : ℕ) → Alike x y → Alike (power_up x) (power_up y)
+pub power_alike : (x y : ℕ) → Alike x y → Alike (power_up x) (power_up y)
 power_alike x y h = by_cases (alike_cases x y h)
   where
     by_cases : ((x ≡ y) ⊎ ((2 ^ 40 + 1 ≤ x) × (2 ^ 40 + 1 ≤ y))) → Alike (power_up x) (power_up y)
@@ -55,7 +55,7 @@ mode_alike Compact p s h = refl
 mode_alike Regalign p s h = h
 mode_alike Fullalign p s h = full_alike p.is_array p.elements s p.size h
 
-max_alike : (x y : ℕ) → Alike x y → Alike (max 1 x) (max 1 y)
+pub max_alike : (x y : ℕ) → Alike x y → Alike (max 1 x) (max 1 y)
 max_alike x y h = omega arith
 
 start_alike : (all : Option ℕ) (m : Mode) (e f s : ℕ) (p : Placement) → Alike e f → Alike s p.size → Alike (start_of all m e (sized s p)) (start_of all m f p)
@@ -86,7 +86,7 @@ end_alike x y s p h g = further ((p.elements - 1) * unwrap_or p.stride s) ((p.el
 abbrev kept_size : Placement → Placement
 kept_size p = sized (capped p.size) p
 
-twice_capped : (x : ℕ) → Alike (capped x) x
+pub twice_capped : (x : ℕ) → Alike (capped x) x
 twice_capped x = omega arith
 
 kept-spans : (all : Option ℕ) (m : Mode) (e f : ℕ) (ps : List Placement) → Alike e f → map capped_span (spans_from all m e (map kept_size ps)) ≡ map capped_span (spans_from all m f ps)

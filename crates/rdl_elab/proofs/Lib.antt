@@ -10,3 +10,11 @@ pub mod Starts
 pub mod Walking
 pub mod Powers
 pub mod WideNumbers
+pub mod Watermarks
+pub mod Telling
+pub mod DefaultStacks
+pub mod ValueLists
+pub mod BareHeads
+pub mod Counting
+pub mod Insides
+pub mod Tops

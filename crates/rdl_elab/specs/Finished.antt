@@ -44,7 +44,7 @@ pub record IsPart (d : Items) (fs : List Finished) (n : ℕ) (p : Part) (at : Li
   pub inside : Inside finished
 
 -- the instances of a component, each with what is kept of its component
-pub AreParts : Items → List Finished → ℕ → List Part → Parts → Type 0
+abbrev pub AreParts : Items → List Finished → ℕ → List Part → Parts → Type 0
 AreParts d fs n [] no_parts = Unit {0}
 AreParts d fs n (p ∷ ps) no_parts = ⊥
 AreParts d fs n [] (part at s h inside rest) = ⊥

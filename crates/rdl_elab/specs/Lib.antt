@@ -10,3 +10,7 @@ pub mod Kept
 pub mod Shown
 pub mod Reaches
 pub mod Finished
+pub mod KeptRows
+pub mod Inside
+pub mod Stands
+pub mod Tops

@@ -7,6 +7,8 @@ use Rattle.std.specs.List.{filter_map}
 use Rattle.std.specs.Cmp.Lexicographic.{pointwise}
 use Rattle.rdl_tree.specs.Items.{Items, no_items, plain, holder, Plain, named, own, default, dynamic}
 use Rattle.rdl_tree.specs.Address.{body_at}
+use Rattle.rdl_tree.specs.declared.description.Item.{Item}
+use Rattle.rdl_tree.specs.declared.description.Item.TheVariants.{Define, Instance, Own, Default, Dynamic}
 use Rattle.rdl_tree.specs.Properties.{row, on, properties}
 use Rattle.rdl_tree.specs.declared.shell.Kind.{Kind}
 use Rattle.rdl_tree.specs.declared.value.Value.{Value}
@@ -39,6 +41,14 @@ abbrev pub reaches : Items → List ℕ → ℕ → Items → List Reach
 reaches d b n no_items = []
 reaches d b n (plain x rest) = plain_reach d b n x (reaches d b (suc n) rest)
 reaches d b n (holder h body rest) = reaches d b (suc n) rest
+
+-- the assignment that item n of the body at b is, if its target is there
+abbrev pub reach_by : Items → List ℕ → ℕ → Item → Option Reach
+reach_by d b n (Dynamic t p v) = option_map (λ path. record { path = path; property = p; value = v }) (passes d b n t)
+reach_by d b n (Define m c) = None
+reach_by d b n (Instance s o) = None
+reach_by d b n (Own p v) = None
+reach_by d b n (Default p v) = None
 
 abbrev pub reaches_at : Items → List ℕ → List Reach
 reaches_at d b = unwrap_or (option_map (reaches d b 0) (body_at b d)) []
@@ -78,5 +88,9 @@ abbrev pub value_along : Kind → Option ℕ → List Reach → List PropertyVal
 value_along k reset rs values p =
     if on p k then option_or (option_map (shown (row p).form) (option_or (reached (row p).name rs) (reset_value p reset))) (value_under p values) else None
 
+-- those that there are of these properties, and of all
+abbrev pub values_among : Kind → Option ℕ → List Reach → List PropertyValue → List Property → List PropertyValue
+values_among k reset rs values = filter_map (λ p. option_map (valued p) (value_along k reset rs values p))
+
 abbrev pub values_along : Kind → Option ℕ → List Reach → List PropertyValue → List PropertyValue
-values_along k reset rs values = filter_map (λ p. option_map (valued p) (value_along k reset rs values p)) properties
+values_along k reset rs values = values_among k reset rs values properties

@@ -1,13 +1,212 @@
 //! The rows of a map, or its first fault.
-ghost use Rattle.std.specs.Prelude.{◌≡◌, ◌⊎◌, Ok, Err, IfOk, IfErr, option_copied};
-ghost use Rattle.rdl_scope.specs.ItemFaults.{out_of_memory};
-ghost use Rattle.rdl_elab.specs.Faults.{elaborated};
+ghost use Rattle.std.specs.Prelude.{◌≡◌, ℕ, ◌⊎◌, ◌∷◌, ◌≤◌, [], nat_lt, Ok, Err, Some, None, IfOk, IfErr, option_copied, option_map, slice_get, drop};
+ghost use Rattle.std.specs.Option.{option_or};
+ghost use Rattle.rdl_tree.specs.Depth.{depth};
+ghost use Rattle.rdl_scope.specs.Closed.{component};
+ghost use Rattle.rdl_scope.specs.ItemFaults.{fault_at, out_of_memory};
+ghost use Rattle.rdl_elab.specs.Faults.{has_name, top_from, elaborated, under_top};
+ghost use Rattle.rdl_elab.specs.Tops.{top_at};
+ghost use Rattle.rdl_tree.specs.View.{items_of};
+ghost use Rattle.rdl_elab.specs.KeptRows.{kept_map_fault, kept_top_row, kept_around_top, kept_rows_or_fault};
 
-use crate::row::Rows;
+use crate::finished::Finished;
+use crate::instances::mode_inside;
+use crate::layout::Mode;
+use crate::reaches::with_own;
+use crate::row::{Extent, Place, Row, RowPath, Rows};
+use crate::rows::{Around, add_rows};
+use crate::walk::{Walked, lay_out_item};
+use rdl_scope::faults::check;
+use rdl_text::name::Name;
 use rdl_tree::address::Address;
-use rdl_tree::description::Description;
+use rdl_tree::description::{Description, Item};
+use rdl_tree::dims::Dims;
 use rdl_tree::fault::{Fault, FaultKind};
-use std::alloc::Global;
+use rdl_tree::shell::Kind;
+use std::alloc::{AllocError, Global};
+use std::marker::Model;
+
+/// The most bytes that a map may have.
+const MAX_SIZE: u64 = 1 << 40;
+
+fn no_top() -> Fault
+    ensures { result ≡ record { kind = FaultKind.NoTop; address = [] } }
+{
+    Fault {
+        kind: FaultKind::NoTop,
+        address: Address::new(),
+    }
+}
+
+fn fault_at(address: &Address, kind: FaultKind) -> Fault
+    ensures { result ≡ record { kind = kind; address = address.now } }
+{
+    Fault {
+        kind,
+        address: address.copy(),
+    }
+}
+
+/// A definition of an address map among the items of the root. A contract sees its number and its name.
+#[derive(Drop)]
+struct Top<'a> {
+    number: usize,
+    name: &'a Name,
+}
+
+impl<'a> Model for Top<'a> {
+    ghost use Rattle.std.specs.Prelude.{ℕ, List};
+
+    ghost Value = { ℕ × List ℕ };
+
+    ghost view = { λ t. (t.number, t.name.now) };
+}
+
+fn has_name(wanted: Option<&str>, name: &Name) -> bool
+    ensures { result ≡ has_name (option_copied wanted.entry) name.now }
+{
+    match wanted {
+        Some(text) => name.as_str() == text,
+        None => true,
+    }
+}
+
+/// Item `number` of the root, if it may be the top.
+fn top_at<'a>(number: usize, item: &'a Item, wanted: Option<&str>) -> Option<Top<'a>>
+    ensures { result ≡ top_at (option_copied wanted.entry) number item.now }
+{
+    match item {
+        Item::Define(name, component)
+            if component.kind == Kind::Addrmap && has_name(wanted, name) => {
+            Some(Top { number, name })
+        }
+        _ => None,
+    }
+}
+
+/// The later of the two, if it is there.
+fn later<'a>(first: Option<Top<'a>>, second: Option<Top<'a>>) -> Option<Top<'a>>
+    ensures { result ≡ option_or second.entry first.entry }
+{
+    match second {
+        Some(top) => Some(top),
+        None => first,
+    }
+}
+
+/// The top: the last of them.
+fn last_top<'a>(items: &'a [Item], wanted: Option<&str>) -> Option<Top<'a>>
+    ensures { result ≡ top_from (option_copied wanted.entry) 0 (items_of items.now) }
+{
+    let mut last = None;
+    'items: for (i, item) in items.iter().enumerate() {
+        last = later(last, top_at(i, item, wanted));
+    }
+    last
+}
+
+/// What is wrong with a map, but for single rows, whose top is this component.
+fn map_fault(at: &Address, top: &Finished) -> Option<Fault>
+    ensures { result ≡ kept_map_fault at.now top.now }
+{
+    if top.levels >= 16 {
+        return Some(fault_at(at, FaultKind::TooManyLevels));
+    }
+    if top.rows >= 65_536 {
+        return Some(fault_at(at, FaultKind::TooManyRows));
+    }
+    match &top.first_empty {
+        Some(first) => Some(fault_at(first, FaultKind::EmptyComponent)),
+        None if top.layouts.regalign.size > MAX_SIZE => Some(fault_at(at, FaultKind::MapTooLarge)),
+        None => None,
+    }
+}
+
+fn one_name(alloc: Global, name: &Name) -> Result<Vec<Name>, AllocError>
+    ensures { IfOk result (λ names. names.items ≡ name.now ∷ []) }
+{
+    let mut names = Vec::new(alloc);
+    names.push(name.try_copy(alloc)?)?;
+    Ok(names)
+}
+
+fn top_row(alloc: Global, name: &Name, top: &Finished) -> Result<Row, AllocError>
+    ensures { IfOk result (λ row. row ≡ kept_top_row name.now top.now) }
+{
+    let size = top.layouts.regalign.size;
+    Ok(Row {
+        names: RowPath::from_vec(one_name(alloc, name)?),
+        kind: top.kind,
+        base: 0,
+        place: Place::Bytes(Extent {
+            offset: 0,
+            size,
+            dims: Dims::new(alloc),
+            stride: size,
+        }),
+        values: top.shown.try_copy(alloc)?,
+    })
+}
+
+fn around_top<'a>(
+    alloc: Global,
+    name: &Name,
+    top: &'a Finished<'a>,
+) -> Result<Around<'a>, AllocError>
+    ensures { IfOk result (λ around. around ≡ kept_around_top name.now top.now) }
+{
+    Ok(Around {
+        mode: mode_inside(top.kind, top.values, Mode::Regalign),
+        names: one_name(alloc, name)?,
+        base: 0,
+        bits: 0,
+        reaching: with_own(alloc, &[], top.assignments.as_slice())?,
+    })
+}
+
+/// The rows of the map whose top is this component, defined at this address, or its first fault.
+fn rows_or_fault<'a>(
+    alloc: Global,
+    components: &'a [Finished<'a>],
+    at: &Address,
+    name: &Name,
+    top: &'a Finished<'a>,
+) -> Result<Result<Rows, Fault>, AllocError>
+    ensures { IfOk result (λ answer. answer ≡ kept_rows_or_fault components.now at.now name.now top.now) }
+{
+    if let Some(fault) = map_fault(at, top) {
+        return Ok(Err(fault));
+    }
+    let mut rows = Vec::new(alloc);
+    rows.push(top_row(alloc, name, top)?)?;
+    let around = around_top(alloc, name, top)?;
+    let spans = top.layouts.regalign.spans.as_slice();
+    let parts = top.parts.as_slice();
+    match add_rows(alloc, components, &around, spans, parts, 16, &mut rows)? {
+        Some(fault) => Ok(Err(fault)),
+        None => Ok(Ok(Rows::from_vec(rows))),
+    }
+}
+
+/// The same of the map whose top is item `number` of the root.
+fn under_top(
+    alloc: Global,
+    description: &Description,
+    number: usize,
+    name: &Name,
+) -> Result<Result<Rows, Fault>, AllocError>
+    requires { depth description.now.items ≤ 16 }
+    ensures { IfOk result (λ answer. answer ≡ under_top description.now.items (number ∷ []) name.now (component description.now.items (number ∷ []))) }
+{
+    let Some(walked) = lay_out_item(alloc, description, number)? else {
+        return Ok(Err(no_top()));
+    };
+    let components = walked.components.as_slice();
+    match components.get(walked.number) {
+        Some(top) => rows_or_fault(alloc, components, &Address::new().inside(number), name, top),
+        None => Ok(Err(no_top())),
+    }
+}
 
 /// The rows of the map whose top is the last definition of an address map among the items of the root, of this name
 /// if there is one.
@@ -18,8 +217,15 @@ pub fn elaborate(alloc: Global, description: &Description, top: Option<&str>) ->
     ensures ok { IfOk result (λ rows. elaborated description.now.items (option_copied top.entry) ≡ Ok rows) }
     ensures err { IfErr result (λ fault. (elaborated description.now.items (option_copied top.entry) ≡ Err fault) ⊎ (fault ≡ out_of_memory)) }
 {
-    Err(Fault {
-        kind: FaultKind::Memory,
-        address: Address::new(),
-    })
+    check(alloc, description)?;
+    let Some(top) = last_top(description.items.as_slice(), top) else {
+        return Err(no_top());
+    };
+    match under_top(alloc, description, top.number, top.name) {
+        Ok(answer) => answer,
+        Err(_) => Err(Fault {
+            kind: FaultKind::Memory,
+            address: Address::new(),
+        }),
+    }
 }

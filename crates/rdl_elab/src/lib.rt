@@ -6,14 +6,19 @@ pub mod component;
 mod defaults;
 pub mod elaborate;
 mod finished;
+mod instances;
 pub mod laws;
 pub mod layout;
 pub mod place;
 mod reaches;
 mod round;
 pub mod row;
+mod rows;
 pub mod siblings;
 #[cfg(test)]
 mod tests;
+mod types;
 mod values;
 mod walk;
+#[cfg(test)]
+mod walk_tests;

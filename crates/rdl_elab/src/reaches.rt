@@ -1,11 +1,12 @@
 //! The dynamic assignments that reach an instance.
-ghost use Rattle.std.specs.Prelude.{◌≡◌, ◌++◌, ◌≤◌, IfOk};
+ghost use Rattle.std.specs.Prelude.{◌≡◌, ◌++◌, ◌≤◌, IfOk, option_copied};
 ghost use Rattle.rdl_tree.specs.Depth.{depth};
-ghost use Rattle.rdl_elab.specs.Reaches.{reaches, behind};
+ghost use Rattle.rdl_elab.specs.Reaches.{reaches, behind, reached, reach_by};
 
+use rdl_scope::targets::passes;
 use rdl_text::name::Name;
 use rdl_tree::address::Address;
-use rdl_tree::description::{Body, Description};
+use rdl_tree::description::{Body, Description, Item};
 use rdl_tree::value::Value;
 use std::alloc::{AllocError, Global};
 use std::marker::Model;
@@ -42,6 +43,83 @@ impl<'a> Model for Reaching<'a> {
     ghost view = { λ r. record { path = r.path.now; property = r.property.now; value = r.value.now } };
 }
 
+impl<'a> Assignment<'a> {
+    ghost use Rattle.std.specs.Prelude.{◌≡◌};
+
+    /// The assignment before it has passed an instance.
+    fn reaching(&self) -> Reaching
+        ensures { result ≡ self.now }
+    {
+        Reaching {
+            path: self.path.as_slice(),
+            property: self.property,
+            value: self.value,
+        }
+    }
+}
+
+impl<'a> Reaching<'a> {
+    ghost use Rattle.std.specs.Prelude.{◌≡◌};
+    ghost use Rattle.rdl_elab.specs.Reaches.{passed, has_ended};
+
+    fn copy(&self) -> Reaching<'a>
+        ensures { result ≡ self.now }
+    {
+        Reaching {
+            path: self.path,
+            property: self.property,
+            value: self.value,
+        }
+    }
+
+    /// The assignment behind an instance, if its target passes that.
+    #[tactic(auto, using(crate::proofs::ValueLists::steps))]
+    fn passed(&self, instance: &Address) -> Option<Reaching<'a>>
+        ensures { result ≡ passed instance.now self.now self.now.path }
+    {
+        match self.path {
+            [next, rest @ ..] if instance == next => Some(Reaching {
+                path: rest,
+                property: self.property,
+                value: self.value,
+            }),
+            _ => None,
+        }
+    }
+
+    fn has_ended(&self) -> bool
+        ensures { result ≡ has_ended self.now.path }
+    {
+        self.path.is_empty()
+    }
+}
+
+/// What item `n` of the body at this address assigns, if its target is there.
+fn dynamic_assignment<'a>(
+    alloc: Global,
+    description: &'a Description,
+    at: &Address,
+    n: usize,
+    item: &'a Item,
+) -> Result<Option<Assignment<'a>>, AllocError>
+    requires { depth description.now.items ≤ 16 }
+    ensures { IfOk result (λ a. a ≡ reach_by description.now.items at.now n item.now) }
+{
+    match item {
+        Item::Dynamic(target, property, value) => {
+            match passes(alloc, description, at, n, target.names())? {
+                Some(path) => Ok(Some(Assignment {
+                    path,
+                    property,
+                    value,
+                })),
+                None => Ok(None),
+            }
+        }
+        _ => Ok(None),
+    }
+}
+
 /// The dynamic assignments of the body at this address whose targets are there.
 pub(crate) fn assignments<'a>(
     alloc: Global,
@@ -52,7 +130,13 @@ pub(crate) fn assignments<'a>(
     requires { depth description.now.items ≤ 16 }
     ensures { IfOk result (λ list. list.items ≡ reaches description.now.items at.now 0 body.now) }
 {
-    Err(AllocError)
+    let mut list = Vec::new(alloc);
+    'items: for (i, item) in body.as_slice().iter().enumerate() {
+        if let Some(assignment) = dynamic_assignment(alloc, description, at, i, item)? {
+            list.push(assignment)?;
+        }
+    }
+    Ok(list)
 }
 
 /// The assignments that have come this far and those of the component that stands here.
@@ -63,10 +147,24 @@ pub(crate) fn with_own<'a>(
 ) -> Result<Vec<Reaching<'a>>, AllocError>
     ensures { IfOk result (λ list. list.items ≡ reaching.now ++ own.now) }
 {
-    Err(AllocError)
+    let mut list = copied(alloc, reaching)?;
+    for assignment in own {
+        list.push(assignment.reaching())?;
+    }
+    Ok(list)
+}
+
+fn copied<'a>(alloc: Global, reaching: &[Reaching<'a>]) -> Result<Vec<Reaching<'a>>, AllocError>
+    ensures { IfOk result (λ list. list.items ≡ reaching.now) }
+{
+    reaching
+        .iter()
+        .map(|assignment| assignment.copy())
+        .collect(alloc)
 }
 
 /// Those whose targets pass this instance.
+#[tactic(auto, using(crate::proofs::ValueLists::steps))]
 pub(crate) fn behind<'a>(
     alloc: Global,
     instance: &Address,
@@ -74,5 +172,23 @@ pub(crate) fn behind<'a>(
 ) -> Result<Vec<Reaching<'a>>, AllocError>
     ensures { IfOk result (λ list. list.items ≡ behind instance.now reaching.now) }
 {
-    Err(AllocError)
+    let mut list = Vec::new(alloc);
+    for assignment in reaching {
+        if let Some(passed) = assignment.passed(instance) {
+            list.push(passed)?;
+        }
+    }
+    Ok(list)
+}
+
+/// What the first assignment of the property that has passed all its instances assigns.
+pub(crate) fn reached<'a>(name: &str, reaching: &[Reaching<'a>]) -> Option<&'a Value>
+    ensures { option_copied result ≡ reached name.now reaching.now }
+{
+    for assignment in reaching {
+        if assignment.has_ended() && assignment.property.as_str() == name {
+            return Some(assignment.value);
+        }
+    }
+    None
 }

@@ -7,6 +7,7 @@ use rdl_tree::dims::Dims;
 use rdl_tree::property::Property;
 use rdl_tree::shell::Kind;
 use rdl_tree::value::Value;
+use std::alloc::{AllocError, Global};
 use std::marker::Model;
 
 /// The names from the top down to a row, the top's first. A contract sees the list of the names' bytes.
@@ -46,6 +47,19 @@ pub struct PropertyValue {
     pub value: Value,
 }
 
+impl PropertyValue {
+    ghost use Rattle.std.specs.Prelude.{◌≡◌, IfOk};
+
+    pub(crate) fn try_copy(&self, alloc: Global) -> Result<PropertyValue, AllocError>
+        ensures { IfOk result (λ value. value ≡ self.now) }
+    {
+        Ok(PropertyValue {
+            property: self.property,
+            value: self.value.try_copy(alloc)?,
+        })
+    }
+}
+
 /// The properties of a row that have a value, in the order of the table of properties. A contract sees the list.
 #[derive(Debug, Drop)]
 pub struct RowValues {
@@ -62,7 +76,7 @@ impl Model for RowValues {
 }
 
 impl RowValues {
-    ghost use Rattle.std.specs.Prelude.{◌≡◌};
+    ghost use Rattle.std.specs.Prelude.{◌≡◌, IfOk};
 
     pub fn from_vec(items: Vec<PropertyValue>) -> RowValues
         ensures { result ≡ items.items }
@@ -74,6 +88,16 @@ impl RowValues {
         ensures { result.now ≡ self.now }
     {
         self.items.as_slice()
+    }
+
+    pub(crate) fn try_copy(&self, alloc: Global) -> Result<RowValues, AllocError>
+        ensures { IfOk result (λ values. values ≡ self.now) }
+    {
+        let mut items = Vec::new(alloc);
+        for value in &self.items {
+            items.push(value.try_copy(alloc)?)?;
+        }
+        Ok(RowValues { items })
     }
 }
 

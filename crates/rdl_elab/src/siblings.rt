@@ -1,9 +1,88 @@
 //! Siblings that overlap, and resets that are too wide.
 ghost use Rattle.std.specs.Prelude.{◌≡◌, ◌^◌, nat_le, option_copied};
 ghost use Rattle.rdl_elab.specs.Faults.{overlap, is_read_only, is_write_only, may_share, is_reset_too_wide};
+ghost use Rattle.rdl_elab.specs.KeptRows.{share};
 
 use crate::layout::Span;
 use rdl_tree::value::{Value, Word};
+use std::alloc::{AllocError, Global};
+use std::marker::Model;
+
+/// A row as its later siblings see it: where it lies in the component around it, and whether software only reads it
+/// or only writes it.
+#[derive(Clone, Copy, Debug)]
+pub(crate) struct Sibling {
+    pub span: Span,
+    pub is_read_only: bool,
+    pub is_write_only: bool,
+}
+
+fn share(first: Sibling, second: Sibling) -> bool
+    ensures { result ≡ share first second }
+{
+    first.is_read_only && second.is_write_only || first.is_write_only && second.is_read_only
+}
+
+/// The earlier siblings of a row. A contract sees their list.
+#[derive(Drop)]
+pub(crate) struct Siblings {
+    items: Vec<Sibling>,
+    /// The greatest end of their spans: what begins there or later overlaps none of them.
+    end: u64,
+}
+
+impl Model for Siblings {
+    ghost use Rattle.std.specs.Prelude.{List, All, ◌≤◌};
+    ghost use Rattle.rdl_elab.specs.declared.siblings.Sibling.{Sibling};
+
+    ghost Value = { List Sibling };
+
+    ghost view = { λ s. s.items.items };
+
+    ghost invariant = { λ s. All (λ (b : Sibling). b.span.end ≤ s.end) s.items.items };
+}
+
+impl Siblings {
+    ghost use Rattle.std.specs.Prelude.{◌≡◌, [], ◌∷◌, ◌++◌, OnOk};
+    ghost use Rattle.rdl_elab.specs.KeptRows.{overlaps_before, clashes_before};
+
+    pub(crate) fn new(alloc: Global) -> Siblings
+        ensures { result ≡ [] }
+    {
+        Siblings {
+            items: Vec::new(alloc),
+            end: 0,
+        }
+    }
+
+    pub(crate) fn push(&mut self, sibling: Sibling) -> Result<(), AllocError>
+        ensures { OnOk result (self.new ≡ self.old ++ sibling ∷ []) }
+    {
+        self.items.push(sibling)?;
+        self.end = self.end.max(sibling.span.end);
+        Ok(())
+    }
+
+    /// Whether one of them has a number of the span.
+    pub(crate) fn overlap(&self, span: Span) -> bool
+        ensures { result ≡ overlaps_before span self.now }
+    {
+        if self.end <= span.start {
+            return false;
+        }
+        self.items.iter().any(|before| overlap(span, before.span))
+    }
+
+    /// Whether one of them has a bit of the field that the two may not share.
+    pub(crate) fn clash(&self, field: Sibling) -> bool
+        ensures { result ≡ clashes_before field self.now }
+    {
+        if self.end <= field.span.start {
+            return false;
+        }
+        self.items.iter().any(|before| overlap(field.span, before.span) && !share(field, *before))
+    }
+}
 
 /// Whether a number lies in both spans.
 pub fn overlap(first: Span, second: Span) -> bool
@@ -49,6 +128,17 @@ fn is_wider(number: u64, width: u64) -> bool
         return false;
     }
     1 << width <= number
+}
+
+/// A row as its later siblings see it, by its span and its value of `sw`.
+pub(crate) fn as_sibling(span: Span, access: Option<&Value>) -> Sibling
+    ensures { result ≡ record { span = span; is_read_only = is_read_only (option_copied access.entry); is_write_only = is_write_only (option_copied access.entry) } }
+{
+    Sibling {
+        span,
+        is_read_only: is_read_only(access),
+        is_write_only: is_write_only(access),
+    }
 }
 
 /// Whether a field's reset has more bits than the field.

@@ -1,30 +1,195 @@
 //! The values of components and of rows.
-ghost use Rattle.std.specs.Prelude.{◌≡◌, map, IfOk};
+ghost use Rattle.std.specs.Prelude.{◌≡◌, Some, None, IfOk, option_copied, option_map, option_and_then};
+ghost use Rattle.std.specs.Option.{option_or};
+ghost use Rattle.std.specs.List.{filter_map};
+ghost use Rattle.rdl_tree.specs.Properties.{row, properties};
 ghost use Rattle.rdl_tree.specs.declared.shell.Kind.{Kind};
-ghost use Rattle.rdl_scope.specs.Closed.{Head};
-ghost use Rattle.rdl_elab.specs.Layouts.{values_of};
-ghost use Rattle.rdl_elab.specs.Shown.{shown_values};
-ghost use Rattle.rdl_elab.specs.Reaches.{values_along};
+ghost use Rattle.rdl_scope.specs.Closed.{Head, stated, built_in, head_value};
+ghost use Rattle.rdl_scope.specs.Value.{shown};
+ghost use Rattle.rdl_elab.specs.Layouts.{layout_values, values_of, number_in, power_in, width_in, mode_in};
+ghost use Rattle.rdl_elab.specs.Shown.{bare, shown_value, shown_among, shown_values};
+ghost use Rattle.rdl_elab.specs.Reaches.{value_along, values_among, values_along, reset_value, value_under};
 
 use crate::defaults::Defaults;
 use crate::layout::{LayoutValues, Mode};
-use crate::reaches::Reaching;
-use crate::row::RowValues;
+use crate::reaches::{Reaching, reached};
+use crate::row::{PropertyValue, RowValues};
+use rdl_scope::values::{own_value, shown};
+use rdl_text::token::Number;
 use rdl_tree::description::Body;
+use rdl_tree::property::{Form, Property};
 use rdl_tree::shell::Kind;
+use rdl_tree::value::{Value, Word};
 use std::alloc::{AllocError, Global};
+
+/// The own assignment of the property, or else the nearest default.
+fn stated<'a>(body: &'a Body, defaults: &Defaults<'a>, name: &str) -> Option<&'a Value>
+    ensures { option_copied result ≡ stated (bare Kind.Field body.now defaults.now) name.now }
+{
+    match own_value(body, name) {
+        Some(value) => Some(value),
+        None => defaults.get(name),
+    }
+}
+
+fn number_in(value: &Value) -> Option<Number>
+    ensures { result ≡ number_in (Some value.now) }
+{
+    match value {
+        Value::Number(number) => Some(*number),
+        _ => None,
+    }
+}
+
+fn stated_number(body: &Body, defaults: &Defaults, property: Property) -> Option<Number>
+    ensures { result ≡ number_in (option_or (stated (bare Kind.Field body.now defaults.now) (row property).name) (row property).built_in) }
+{
+    match stated(body, defaults, property.name()) {
+        Some(value) => number_in(value),
+        None => number_in(&property.built_in()?),
+    }
+}
+
+fn power_in(number: Option<Number>) -> Option<Number>
+    ensures { result ≡ power_in number }
+{
+    match number {
+        Some(n) if n.is_power_of_two() => Some(n),
+        _ => None,
+    }
+}
+
+fn width_in(number: Option<Number>) -> Number
+    ensures { result ≡ width_in number }
+{
+    match number {
+        Some(n) if Form::Widths.has(&Value::Number(n)) => n,
+        _ => 0,
+    }
+}
+
+fn mode_in(value: Option<&Value>) -> Mode
+    ensures { result ≡ mode_in (option_copied value.entry) }
+{
+    match value {
+        Some(Value::Word(Word::Compact)) => Mode::Compact,
+        Some(Value::Word(Word::Fullalign)) => Mode::Fullalign,
+        _ => Mode::Regalign,
+    }
+}
+
+fn bare_layout_values(body: &Body, defaults: &Defaults) -> LayoutValues
+    ensures { result ≡ values_of (bare Kind.Field body.now defaults.now) }
+{
+    let regwidth = stated_number(body, defaults, Property::Regwidth);
+    let accesswidth = match stated(body, defaults, Property::Accesswidth.name()) {
+        Some(value) => number_in(value),
+        None => regwidth,
+    };
+    LayoutValues {
+        addressing: mode_in(stated(body, defaults, Property::Addressing.name())),
+        alignment: power_in(stated_number(body, defaults, Property::Alignment)),
+        regwidth: width_in(regwidth),
+        accesswidth: width_in(accesswidth),
+        fieldwidth: stated_number(body, defaults, Property::Fieldwidth).unwrap_or(0),
+    }
+}
 
 /// The values on which the layout of a component with this body depends, where these defaults reach it.
 pub(crate) fn layout_values(body: &Body, defaults: &Defaults) -> LayoutValues
     ensures { (h : Head) → h.body ≡ body.now → h.defaults ≡ defaults.now → result ≡ values_of h }
 {
-    LayoutValues {
-        addressing: Mode::Regalign,
-        alignment: None,
-        regwidth: 0,
-        accesswidth: 0,
-        fieldwidth: 0,
+    bare_layout_values(body, defaults)
+}
+
+fn copied(alloc: Global, value: Option<&Value>) -> Result<Option<Value>, AllocError>
+    ensures { IfOk result (λ v. v ≡ option_copied value.entry) }
+{
+    match value {
+        Some(value) => Ok(Some(value.try_copy(alloc)?)),
+        None => Ok(None),
     }
+}
+
+fn built_in(
+    alloc: Global,
+    body: &Body,
+    defaults: &Defaults,
+    property: Property,
+) -> Result<Option<Value>, AllocError>
+    ensures { IfOk result (λ v. v ≡ built_in (bare Kind.Field body.now defaults.now) property) }
+{
+    match property {
+        Property::Accesswidth => match stated(body, defaults, Property::Regwidth.name()) {
+            Some(value) => Ok(Some(value.try_copy(alloc)?)),
+            None => Ok(Property::Regwidth.built_in()),
+        },
+        _ => Ok(property.built_in()),
+    }
+}
+
+/// The value of a property of a component with this body, where these defaults reach it.
+fn component_value(
+    alloc: Global,
+    body: &Body,
+    defaults: &Defaults,
+    property: Property,
+) -> Result<Option<Value>, AllocError>
+    ensures { IfOk result (λ v. v ≡ head_value (bare Kind.Field body.now defaults.now) property) }
+{
+    match stated(body, defaults, property.name()) {
+        Some(value) => Ok(Some(value.try_copy(alloc)?)),
+        None => built_in(alloc, body, defaults, property),
+    }
+}
+
+fn shown_option(form: Form, value: Option<Value>) -> Option<Value>
+    ensures { result ≡ option_map (shown form) value }
+{
+    match value {
+        Some(value) => Some(shown(form, value)),
+        None => None,
+    }
+}
+
+fn shown_value(
+    alloc: Global,
+    kind: Kind,
+    body: &Body,
+    defaults: &Defaults,
+    property: Property,
+) -> Result<Option<Value>, AllocError>
+    ensures { IfOk result (λ v. v ≡ shown_value (bare kind body.now defaults.now) property) }
+{
+    if property.on(kind) {
+        let value = component_value(alloc, body, defaults, property)?;
+        Ok(shown_option(property.form(), value))
+    } else {
+        Ok(None)
+    }
+}
+
+/// The values that there are of these properties.
+#[tactic(auto, using(crate::proofs::ValueLists::steps))]
+fn shown_among(
+    alloc: Global,
+    kind: Kind,
+    body: &Body,
+    defaults: &Defaults,
+    properties: &[Property],
+) -> Result<RowValues, AllocError>
+    ensures { IfOk result (λ values. values ≡ shown_among (bare kind body.now defaults.now) properties.now) }
+{
+    let mut items = Vec::new(alloc);
+    for property in properties {
+        if let Some(value) = shown_value(alloc, kind, body, defaults, *property)? {
+            items.push(PropertyValue {
+                property: *property,
+                value,
+            })?;
+        }
+    }
+    Ok(RowValues::from_vec(items))
 }
 
 /// The values of a component of this kind with this body, where these defaults reach it.
@@ -36,19 +201,88 @@ pub(crate) fn shown_values(
 ) -> Result<RowValues, AllocError>
     ensures { IfOk result (λ values. (h : Head) → h.kind ≡ kind → h.body ≡ body.now → h.defaults ≡ defaults.now → values ≡ shown_values h) }
 {
-    Err(AllocError)
+    shown_among(alloc, kind, body, defaults, &Property::ALL)
+}
+
+fn reset_value(property: Property, reset: Option<Number>) -> Option<Value>
+    ensures { result ≡ reset_value property reset }
+{
+    match (property, reset) {
+        (Property::Reset, Some(number)) => Some(Value::Number(number)),
+        _ => None,
+    }
+}
+
+pub(crate) fn value_under(property: Property, own: &[PropertyValue]) -> Option<&Value>
+    ensures { option_copied result ≡ value_under property own.now }
+{
+    for value in own {
+        if value.property.name() == property.name() {
+            return Some(&value.value);
+        }
+    }
+    None
+}
+
+/// The value of a property of the row of such an instance.
+fn value_along(
+    alloc: Global,
+    kind: Kind,
+    reset: Option<Number>,
+    reaching: &[Reaching],
+    own: &[PropertyValue],
+    property: Property,
+) -> Result<Option<Value>, AllocError>
+    ensures { IfOk result (λ v. v ≡ value_along kind reset reaching.now own.now property) }
+{
+    if !property.on(kind) {
+        return Ok(None);
+    }
+    if let Some(value) = reached(property.name(), reaching) {
+        return Ok(Some(shown(property.form(), value.try_copy(alloc)?)));
+    }
+    match reset_value(property, reset) {
+        Some(value) => Ok(Some(shown(property.form(), value))),
+        None => copied(alloc, value_under(property, own)),
+    }
+}
+
+/// The values that there are of these properties of the row of such an instance.
+#[tactic(auto, using(crate::proofs::ValueLists::steps))]
+fn values_among(
+    alloc: Global,
+    kind: Kind,
+    reset: Option<Number>,
+    reaching: &[Reaching],
+    own: &[PropertyValue],
+    properties: &[Property],
+) -> Result<RowValues, AllocError>
+    ensures { IfOk result (λ values. values ≡ values_among kind reset reaching.now own.now properties.now) }
+{
+    let mut items = Vec::new(alloc);
+    for property in properties {
+        if let Some(value) = value_along(alloc, kind, reset, reaching, own, *property)? {
+            items.push(PropertyValue {
+                property: *property,
+                value,
+            })?;
+        }
+    }
+    Ok(RowValues::from_vec(items))
 }
 
 /// The values of the row of an instance with this reset, which these assignments reach, and whose component, of this
 /// kind, has these values by itself.
+///
+/// Where there is no reset and no assignment, they are those of the component, and `RowValues::try_copy` is quicker.
 pub(crate) fn row_values(
     alloc: Global,
     kind: Kind,
-    reset: Option<u64>,
+    reset: Option<Number>,
     reaching: &[Reaching],
     own: &RowValues,
 ) -> Result<RowValues, AllocError>
     ensures { IfOk result (λ values. values ≡ values_along kind reset reaching.now own.now) }
 {
-    Err(AllocError)
+    values_among(alloc, kind, reset, reaching, own.as_slice(), &Property::ALL)
 }

@@ -1,12 +1,23 @@
 //! The walk that lays out components, once for all their instances.
-ghost use Rattle.std.specs.Prelude.{◌≡◌, ◌∷◌, ◌≤◌, [], Some, IfOk, IfSome};
+ghost use Rattle.std.specs.Prelude.{◌≡◌, ℕ, ◌∷◌, ◌+◌, ◌≤◌, [], length, Some, IfOk, IfSome, option_copied};
 ghost use Rattle.std.specs.Option.{is_some};
+ghost use Rattle.rdl_tree.specs.Component.{own_component};
 ghost use Rattle.rdl_tree.specs.Depth.{depth};
-ghost use Rattle.rdl_scope.specs.Closed.{Made, component};
-ghost use Rattle.rdl_elab.specs.Finished.{IsFinished};
+ghost use Rattle.rdl_tree.specs.View.{items_of};
+ghost use Rattle.rdl_scope.specs.Closed.{Made, Parts, Standing, component, head_at, lookup, parts, standing};
+ghost use Rattle.rdl_elab.specs.Finished.{IsFinished, IsKept, AreParts};
+ghost use Rattle.rdl_elab.specs.Stands.{made_at, after_item, item_parts, in_list, LeadsTo, Stands, Grows, IsBehind};
 
-use crate::finished::Finished;
-use rdl_tree::description::Description;
+use crate::defaults::Defaults;
+use crate::finished::{Finished, Part};
+use crate::instances::{first_empty, layouts, levels, rows};
+use crate::reaches::assignments;
+use crate::types::Types;
+use crate::values::{layout_values, shown_values};
+use rdl_text::name::Name;
+use rdl_tree::address::Address;
+use rdl_tree::description::{Component, Description, Item, Of};
+use rdl_tree::shell::Shell;
 use std::alloc::{AllocError, Global};
 
 /// Components that are laid out, each after those of its instances, and the number of one of them.
@@ -14,6 +25,160 @@ use std::alloc::{AllocError, Global};
 pub(crate) struct Walked<'a> {
     pub components: Vec<Finished<'a>>,
     pub number: usize,
+}
+
+/// The components that are laid out, and what stands before the next item.
+#[derive(Drop)]
+struct Walk<'a> {
+    types: Types<'a>,
+    defaults: Defaults<'a>,
+    components: Vec<Finished<'a>>,
+}
+
+/// All that is kept of a component with these instances, which these defaults reach.
+fn finished<'a>(
+    alloc: Global,
+    description: &'a Description,
+    at: &Address,
+    component: &'a Component,
+    parts: Vec<Part<'a>>,
+    walk: &Walk<'a>,
+) -> Result<Finished<'a>, AllocError>
+    requires { depth description.now.items ≤ 16 }
+    ensures kept { IfOk result (λ f. (e : Standing) (inside : Parts) (n : ℕ) → walk.now.defaults ≡ e.defaults → AreParts description.now.items walk.now.components.items n parts.entry.items inside → IsKept description.now.items f (record { head = head_at at.now component.now.kind component.now.body e; parts = inside })) }
+    ensures parts { IfOk result (λ f. f.parts ≡ parts.entry) }
+{
+    let kind = component.kind;
+    let body = &component.body;
+    let components = walk.components.as_slice();
+    let values = layout_values(body, &walk.defaults);
+    let shown = shown_values(alloc, kind, body, &walk.defaults)?;
+    let assignments = assignments(alloc, description, at, body)?;
+    let layouts = layouts(alloc, kind, values, parts.as_slice(), components)?;
+    Ok(Finished {
+        at: at.copy(),
+        kind,
+        values,
+        shown,
+        assignments,
+        layouts,
+        levels: levels(parts.as_slice(), components),
+        rows: rows(parts.as_slice(), components),
+        first_empty: first_empty(parts.as_slice(), components),
+        parts,
+    })
+}
+
+/// Lays out the component of the item at this address. What stands before the item stays.
+#[cycle(walk)]
+fn finish<'a>(
+    alloc: Global,
+    description: &'a Description,
+    at: &Address,
+    component: &'a Component,
+    walk: &mut Walk<'a>,
+) -> Result<usize, AllocError>
+    requires nesting { depth description.now.items ≤ 16 }
+    requires room { length at.now + depth component.now.body ≤ 16 }
+    ensures made { IfOk result (λ k. (e : Standing) → Stands description.now.items walk.old e → IsFinished description.now.items walk.new.components.items k (made_at e at.now component.now)) }
+    ensures types { IfOk result (λ k. walk.new.types ≡ walk.old.types) }
+    ensures defaults { IfOk result (λ k. walk.new.defaults ≡ walk.old.defaults) }
+    ensures components { IfOk result (λ k. Grows walk.old.components.items walk.new.components.items) }
+{
+    let types = walk.types.len();
+    let defaults = walk.defaults.len();
+    let parts = walk_items(alloc, description, at, component.body.as_slice(), walk)?;
+    walk.types.truncate(types);
+    walk.defaults.truncate(defaults);
+    let finished = finished(alloc, description, at, component, parts, walk)?;
+    let number = walk.components.len();
+    walk.components.push(finished)?;
+    Ok(number)
+}
+
+/// The instance of a type, if the type stands.
+fn named_part<'a>(at: &Address, shell: &'a Shell, name: &Name, types: &Types) -> Option<Part<'a>>
+    ensures { LeadsTo at.now shell.now (lookup name.now types.now) result }
+{
+    let component = types.get(name)?;
+    Some(Part {
+        at: at.copy(),
+        shell,
+        component,
+    })
+}
+
+/// Lays out what the item at this address holds, and goes on behind it. The part is that of an instance.
+#[cycle(walk)]
+fn walk_item<'a>(
+    alloc: Global,
+    description: &'a Description,
+    at: &Address,
+    item: &'a Item,
+    walk: &mut Walk<'a>,
+) -> Result<Option<Part<'a>>, AllocError>
+    requires nesting { depth description.now.items ≤ 16 }
+    requires room { length at.now + depth (items_of (item.now ∷ [])) ≤ 17 }
+    ensures part { IfOk result (λ p. (e : Standing) → Stands description.now.items walk.old e → AreParts description.now.items walk.new.components.items (length walk.new.components.items) (in_list p) (item_parts e at.now item.now)) }
+    ensures stands { IfOk result (λ p. (e : Standing) → Stands description.now.items walk.old e → Stands description.now.items walk.new (after_item at.now item.now e)) }
+    ensures behind { IfOk result (λ p. IsBehind walk.old walk.new) }
+{
+    match item {
+        Item::Define(name, component) => {
+            let number = finish(alloc, description, at, component, walk)?;
+            walk.types.push(name, number)?;
+            Ok(None)
+        }
+        Item::Instance(shell, Of::Anonymous(component)) => {
+            let component = finish(alloc, description, at, component, walk)?;
+            Ok(Some(Part {
+                at: at.copy(),
+                shell,
+                component,
+            }))
+        }
+        Item::Instance(shell, Of::Named(name)) => Ok(named_part(at, shell, name, &walk.types)),
+        Item::Default(name, value) => {
+            walk.defaults.push(name, value)?;
+            Ok(None)
+        }
+        Item::Own(_, _) | Item::Dynamic(_, _, _) => Ok(None),
+    }
+}
+
+/// Lays out what these first items of the body at this address hold, and goes on behind them. The parts are those of
+/// the instances.
+#[cycle(walk)]
+fn walk_items<'a>(
+    alloc: Global,
+    description: &'a Description,
+    at: &Address,
+    items: &'a [Item],
+    walk: &mut Walk<'a>,
+) -> Result<Vec<Part<'a>>, AllocError>
+    requires nesting { depth description.now.items ≤ 16 }
+    requires room { length at.now + depth (items_of items.now) ≤ 16 }
+    ensures parts { IfOk result (λ ps. (e : Standing) → Stands description.now.items walk.old e → AreParts description.now.items walk.new.components.items (length walk.new.components.items) ps.items (parts e at.now 0 (items_of items.now))) }
+    ensures stands { IfOk result (λ ps. (e : Standing) → Stands description.now.items walk.old e → Stands description.now.items walk.new (standing e at.now 0 (items_of items.now))) }
+    ensures behind { IfOk result (λ ps. IsBehind walk.old walk.new) }
+{
+    let mut parts = Vec::new(alloc);
+    for (i, item) in items.iter().enumerate() {
+        if let Some(part) = walk_item(alloc, description, &at.inside(i), item, walk)? {
+            parts.push(part)?;
+        }
+    }
+    Ok(parts)
+}
+
+fn own_component(item: &Item) -> Option<&Component>
+    ensures { option_copied result ≡ own_component item.now }
+{
+    match item {
+        Item::Instance(_, Of::Anonymous(component)) => Some(component),
+        Item::Define(_, component) => Some(component),
+        _ => None,
+    }
 }
 
 /// Lays out the component of item `n` of the root body.
@@ -26,5 +191,23 @@ pub(crate) fn lay_out_item<'a>(
     ensures there { IfOk result (λ walked. is_some walked ≡ is_some (component description.now.items (n ∷ []))) }
     ensures finished { IfOk result (λ walked. IfSome walked (λ w. (c : Made) → component description.now.items (n ∷ []) ≡ Some c → IsFinished description.now.items w.components.items w.number c)) }
 {
-    Err(AllocError)
+    let items = description.items.as_slice();
+    if n >= items.len() {
+        return Ok(None);
+    }
+    let Some(component) = own_component(&items[n]) else {
+        return Ok(None);
+    };
+    let mut walk = Walk {
+        types: Types::new(alloc),
+        defaults: Defaults::new(alloc),
+        components: Vec::new(alloc),
+    };
+    let root = Address::new();
+    walk_items(alloc, description, &root, &items[..n], &mut walk)?;
+    let number = finish(alloc, description, &root.inside(n), component, &mut walk)?;
+    Ok(Some(Walked {
+        components: walk.components,
+        number,
+    }))
 }

@@ -9,7 +9,7 @@ mod kinds;
 pub mod laws;
 mod levels;
 mod names;
-mod shells;
+pub mod shells;
 pub mod targets;
 #[cfg(test)]
 mod tests;

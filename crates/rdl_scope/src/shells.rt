@@ -46,8 +46,9 @@ fn wrong_part(kind: Kind, shell: &Shell) -> bool
         || dims > 4
 }
 
+/// How many elements an array of these sizes has, at most 2^64 - 1.
 #[tactic(auto, using(crate::proofs::Products::steps))]
-fn product(sizes: &[Number]) -> Number
+pub fn product(sizes: &[Number]) -> Number
     ensures { result ≡ min (product sizes.now) (2 ^ 64 - 1) }
 {
     let mut elements: Number = 1;

@@ -1,0 +1,154 @@
+-- What is found by what is kept of the instances' components is what the component has.
+use Rattle.std.proofs.Common.{◌≡◌, ℕ, zero, suc, ◌+◌, ◌-◌, ◌≤◌, ◌<◌, Bool, true, false, List, [], ◌∷◌, map, length, drop, get_or, Option, Some, None, refl, ap, sym, ◌∙◌, arith, add-one, drop-cons, ◌++◌, append_assoc}
+use Rattle.std.specs.Prelude.{max, min, option_map, slice_get, if◌then◌else◌}
+use Rattle.std.specs.Option.{option_or}
+use Rattle.std.specs.List.{filter_map, cons_option}
+use Rattle.std.proofs.lemmas.List.{drop_all}
+use Rattle.std.proofs.lemmas.Option.{slice_get-get_or, slice_get_past}
+use Rattle.rdl_elab.specs.declared.layout.Member.{Member}
+use Rattle.rdl_tree.specs.Items.{Items}
+use Rattle.rdl_tree.specs.declared.shell.Kind.{Kind}
+use Rattle.rdl_tree.specs.declared.shell.Kind.TheVariants.{Addrmap, Regfile, Reg, Field}
+use Rattle.rdl_tree.specs.declared.shell.Shell.{Shell}
+use Rattle.rdl_scope.specs.Closed.{Head, Parts, no_parts, part, Made}
+use Rattle.rdl_elab.specs.declared.layout.Mode.{Mode}
+use Rattle.rdl_elab.specs.declared.layout.Layout.{Layout}
+use Rattle.rdl_elab.specs.declared.finished.Part.{Part}
+use Rattle.rdl_elab.specs.declared.finished.Finished.{Finished}
+use Rattle.rdl_elab.specs.Layouts.{layouts, layout, member}
+use Rattle.rdl_elab.specs.Capped.{capped_layout, capped_instance}
+use Rattle.rdl_elab.specs.Faults.{levels, count, is_empty, first_empty}
+use Rattle.rdl_elab.specs.Finished.{under, IsPart, AreParts}
+use Rattle.rdl_elab.specs.Inside.{counted_member, kept_part, kept_parts, part_levels, kept_levels, part_rows, kept_rows, lacks_parts, part_empty, kept_empty}
+
+pub or-assoc : {X : Type 0} (a b c : Option X) → option_or (option_or a b) c ≡ option_or a (option_or b c)
+or-assoc None b c = refl
+or-assoc (Some x) b c = refl
+
+pub or-none : {X : Type 0} (a : Option X) → option_or a None ≡ a
+or-none None = refl
+or-none (Some x) = refl
+
+module _ (d : Items) (fs : List Finished) where
+  abbrev Inside : (p : Part) (inside : Parts) → Finished → Type 0
+  Inside p inside f = AreParts d fs p.component f.parts.items inside
+
+  one-kept : (m : Mode) (n : ℕ) (p : Part) (at : List ℕ) (s : Shell) (h : Head) (inside : Parts) → IsPart d fs n p at s (record { head = h; parts = inside }) (Inside p inside) → kept_part m fs p ≡ Some (capped_instance (s, layout m (record { head = h; parts = inside })))
+  one-kept m n p at s h inside x =
+      ap (option_map (λ (f : Finished). (p.shell.now, under m f.layouts))) x.there
+      ∙ ap (λ t. Some (t, under m x.finished.layouts)) x.shell
+      ∙ ap (λ l. Some (s, l)) (x.kept.layouts m)
+
+  pub parts-kept : (m : Mode) (n : ℕ) (ps : List Part) (inside : Parts) → AreParts d fs n ps inside → kept_parts m fs ps ≡ map capped_instance (layouts m inside)
+  parts-kept m n [] no_parts h = refl
+  parts-kept m n (p ∷ ps) no_parts h = absurd h
+  parts-kept m n [] (part at s k inside rest) h = absurd h
+  parts-kept m n (p ∷ ps) (part at s k inside rest) h =
+      ap (λ o. cons_option o (kept_parts m fs ps)) (one-kept m n p at s k inside h.0)
+      ∙ ap (λ xs. capped_instance (s, layout m (record { head = k; parts = inside })) ∷ xs) (parts-kept m n ps rest h.1)
+
+  pub levels-kept : (n : ℕ) (ps : List Part) (inside : Parts) → AreParts d fs n ps inside → min (kept_levels fs ps) 16 ≡ min (levels inside) 16
+  levels-kept n [] no_parts h = refl
+  levels-kept n (p ∷ ps) no_parts h = absurd h
+  levels-kept n [] (part at s k inside rest) h = absurd h
+  levels-kept n (p ∷ ps) (part at s k inside rest) h =
+      more (levels inside) (levels rest) h.0.finished.levels (part_levels (slice_get fs p.component)) (kept_levels fs ps) h.0.kept.levels (ap part_levels h.0.there) (levels-kept n ps rest h.1)
+    where
+      more : (a b f x y : ℕ) → f ≡ min a 16 → x ≡ f + 1 → min y 16 ≡ min b 16 → min (max x y) 16 ≡ min (max (a + 1) b) 16
+      more a b f x y e g ih = omega arith
+
+  pub rows-kept : (n : ℕ) (ps : List Part) (inside : Parts) → AreParts d fs n ps inside → min (kept_rows fs ps) 65536 ≡ min (count inside) 65536
+  rows-kept n [] no_parts h = refl
+  rows-kept n (p ∷ ps) no_parts h = absurd h
+  rows-kept n [] (part at s k inside rest) h = absurd h
+  rows-kept n (p ∷ ps) (part at s k inside rest) h =
+      more (count inside) (count rest) h.0.finished.rows (part_rows (slice_get fs p.component)) (kept_rows fs ps) h.0.kept.rows (ap part_rows h.0.there) (rows-kept n ps rest h.1)
+    where
+      more : (a b f x y : ℕ) → f ≡ min a 65536 → x ≡ f + 1 → min y 65536 ≡ min b 65536 → min (x + y) 65536 ≡ min (a + 1 + b) 65536
+      more a b f x y e g ih = omega arith
+
+  lacks-empty : (n : ℕ) (k : Kind) (ps : List Part) (inside : Parts) → AreParts d fs n ps inside → lacks_parts k ps ≡ is_empty k inside
+  lacks-empty n Addrmap [] no_parts h = refl
+  lacks-empty n Regfile [] no_parts h = refl
+  lacks-empty n Reg [] no_parts h = refl
+  lacks-empty n Field [] no_parts h = refl
+  lacks-empty n k (p ∷ ps) no_parts h = absurd h
+  lacks-empty n k [] (part at s g inside rest) h = absurd h
+  lacks-empty n Addrmap (p ∷ ps) (part at s g inside rest) h = refl
+  lacks-empty n Regfile (p ∷ ps) (part at s g inside rest) h = refl
+  lacks-empty n Reg (p ∷ ps) (part at s g inside rest) h = refl
+  lacks-empty n Field (p ∷ ps) (part at s g inside rest) h = refl
+
+  one-empty : (n : ℕ) (p : Part) (at : List ℕ) (s : Shell) (h : Head) (inside : Parts) → (x : IsPart d fs n p at s (record { head = h; parts = inside }) (Inside p inside))
+      → part_empty p (slice_get fs p.component) ≡ option_or (if is_empty h.kind inside then Some at else None) (first_empty inside)
+  one-empty n p at s h inside x =
+      let f = x.finished in
+      ap (part_empty p) x.there
+      ∙ ap (λ b. option_or (if b then Some p.at else None) f.first_empty) (ap (λ k. lacks_parts k f.parts.items) x.kept.kind ∙ lacks-empty p.component h.kind f.parts.items inside x.inside)
+      ∙ ap (λ a. option_or (if is_empty h.kind inside then Some a else None) f.first_empty) x.place
+      ∙ ap (λ o. option_or (if is_empty h.kind inside then Some at else None) o) x.kept.first_empty
+
+  pub empty-kept : (n : ℕ) (ps : List Part) (inside : Parts) → AreParts d fs n ps inside → kept_empty fs ps ≡ first_empty inside
+  empty-kept n [] no_parts h = refl
+  empty-kept n (p ∷ ps) no_parts h = absurd h
+  empty-kept n [] (part at s k inside rest) h = absurd h
+  empty-kept n (p ∷ ps) (part at s k inside rest) h =
+      ap (λ o. option_or o (kept_empty fs ps)) (one-empty n p at s k inside h.0)
+      ∙ ap (option_or (option_or (if is_empty k.kind inside then Some at else None) (first_empty inside))) (empty-kept n ps rest h.1)
+      ∙ or-assoc (if is_empty k.kind inside then Some at else None) (first_empty inside) (first_empty rest)
+
+-- steps of the loops over the instances
+next : (i : ℕ) (ps : List Part) (p : Part) → i < length ps → drop i ps ≡ get_or ps i p ∷ drop (i + 1) ps
+next i ps p h = rw add-one (drop-cons ps i p h)
+
+pub kept-next : (m : Mode) (fs : List Finished) (i : ℕ) (ps : List Part) (p : Part) → i < length ps → kept_parts m fs (drop i ps) ≡ cons_option (kept_part m fs (get_or ps i p)) (kept_parts m fs (drop (i + 1) ps))
+kept-next m fs i ps p h = ap (kept_parts m fs) (next i ps p h)
+
+pub kept-none : (m : Mode) (fs : List Finished) (i : ℕ) (ps : List Part) → length ps ≤ i → kept_parts m fs (drop i ps) ≡ []
+kept-none m fs i ps h = ap (kept_parts m fs) (drop_all i ps h)
+
+pub levels-next : (fs : List Finished) (i : ℕ) (ps : List Part) (p : Part) → i < length ps → kept_levels fs (drop i ps) ≡ max (part_levels (slice_get fs (get_or ps i p).component)) (kept_levels fs (drop (i + 1) ps))
+levels-next fs i ps p h = ap (kept_levels fs) (next i ps p h)
+
+pub levels-none : (fs : List Finished) (i : ℕ) (ps : List Part) → length ps ≤ i → kept_levels fs (drop i ps) ≡ 0
+levels-none fs i ps h = ap (kept_levels fs) (drop_all i ps h)
+
+pub rows-next : (fs : List Finished) (i : ℕ) (ps : List Part) (p : Part) → i < length ps → kept_rows fs (drop i ps) ≡ part_rows (slice_get fs (get_or ps i p).component) + kept_rows fs (drop (i + 1) ps)
+rows-next fs i ps p h = ap (kept_rows fs) (next i ps p h)
+
+pub rows-none : (fs : List Finished) (i : ℕ) (ps : List Part) → length ps ≤ i → kept_rows fs (drop i ps) ≡ 0
+rows-none fs i ps h = ap (kept_rows fs) (drop_all i ps h)
+
+pub empty-next : (fs : List Finished) (i : ℕ) (ps : List Part) (p : Part) → i < length ps → kept_empty fs (drop i ps) ≡ option_or (part_empty (get_or ps i p) (slice_get fs (get_or ps i p).component)) (kept_empty fs (drop (i + 1) ps))
+empty-next fs i ps p h = ap (kept_empty fs) (next i ps p h)
+
+pub empty-none : (fs : List Finished) (i : ℕ) (ps : List Part) → length ps ≤ i → kept_empty fs (drop i ps) ≡ None
+empty-none fs i ps h = ap (kept_empty fs) (drop_all i ps h)
+
+pub ruleset steps = (kept-next, kept-none, levels-next, levels-none, rows-next, rows-none, empty-next, empty-none)
+
+pub found-read : (fs : List Finished) (k : ℕ) (f : Finished) → k < length fs → f ≡ get_or fs k f → slice_get fs k ≡ Some f
+found-read fs k f h e = slice_get-get_or fs k f h ∙ ap Some (sym e)
+
+abbrev shown_members : List (Shell × Layout) → List Member
+shown_members xs = map counted_member (map member xs)
+
+-- one more instance, with its component and without one
+pub members-some : (m : Mode) (fs : List Finished) (i : ℕ) (ps : List Part) (p : Part) (f : Finished) (x : Member) (done after whole : List Member) → i < length ps → p ≡ get_or ps i p → slice_get fs p.component ≡ Some f
+    → x ≡ counted_member (member (p.shell.now, under m f.layouts)) → after ≡ done ++ x ∷ [] → done ++ shown_members (kept_parts m fs (drop i ps)) ≡ whole → after ++ shown_members (kept_parts m fs (drop (i + 1) ps)) ≡ whole
+members-some m fs i ps p f x done after whole h is found e g inv =
+    let rest = kept_parts m fs (drop (i + 1) ps) in
+    let one : kept_parts m fs (drop i ps) ≡ (p.shell.now, under m f.layouts) ∷ rest =
+    kept-next m fs i ps p h ∙ ap (λ (q : Part). cons_option (kept_part m fs q) rest) (sym is)
+    ∙ ap (λ o. cons_option (option_map (λ (g : Finished). (p.shell.now, under m g.layouts)) o) rest) found in
+    ap (λ xs. xs ++ shown_members rest) g ∙ append_assoc done (x ∷ []) (shown_members rest) ∙ ap (λ y. done ++ y ∷ shown_members rest) e
+    ∙ sym (ap (λ xs. done ++ shown_members xs) one) ∙ inv
+
+pub members-none : (m : Mode) (fs : List Finished) (i : ℕ) (ps : List Part) (p : Part) (done after whole : List Member) → i < length ps → p ≡ get_or ps i p → slice_get fs p.component ≡ None
+    → after ≡ done → done ++ shown_members (kept_parts m fs (drop i ps)) ≡ whole → after ++ shown_members (kept_parts m fs (drop (i + 1) ps)) ≡ whole
+members-none m fs i ps p done after whole h is found g inv =
+    let rest = kept_parts m fs (drop (i + 1) ps) in
+    let one : kept_parts m fs (drop i ps) ≡ rest =
+    kept-next m fs i ps p h ∙ ap (λ (q : Part). cons_option (kept_part m fs q) rest) (sym is)
+    ∙ ap (λ o. cons_option (option_map (λ (g : Finished). (p.shell.now, under m g.layouts)) o) rest) found in
+    ap (λ xs. xs ++ shown_members rest) g ∙ sym (ap (λ xs. done ++ shown_members xs) one) ∙ inv

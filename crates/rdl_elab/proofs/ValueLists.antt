@@ -1,0 +1,61 @@
+-- Steps along the properties whose values are listed, and along assignments.
+use Rattle.std.proofs.Common.{◌≡◌, ℕ, suc, ◌+◌, ◌<◌, ◌≤◌, List, [], ◌∷◌, ◌++◌, length, take, drop, get_or, true, false, Some, None, Option, refl, ap, ◌∙◌, arith, add-one, option_map, append-nil}
+use Rattle.std.specs.List.{filter_map, cons_option}
+use Rattle.std.specs.Prelude.{nat_eq}
+use Rattle.std.specs.Cmp.Lexicographic.{pointwise}
+use Rattle.std.proofs.Math.Seq.{take-suc}
+use Rattle.std.proofs.lemmas.List.Elements.{filter_map-append}
+use Rattle.rdl_tree.specs.Items.{Items}
+use Rattle.rdl_tree.specs.declared.shell.Kind.{Kind}
+use Rattle.rdl_tree.specs.declared.property.Property.{Property}
+use Rattle.rdl_tree.specs.declared.value.Value.{Value}
+use Rattle.rdl_scope.specs.Closed.{Head, head_value, built_in}
+use Rattle.rdl_elab.specs.declared.row.PropertyValue.{PropertyValue}
+use Rattle.rdl_elab.specs.Rows.{valued}
+use Rattle.rdl_elab.specs.Shown.{bare, shown_value, shown_among}
+use Rattle.rdl_elab.specs.Reaches.{Reach, value_along, values_among, passed, behind}
+
+-- with one item more
+found-next : {X Y : Type 0} (h : X → Option Y) (i : ℕ) (xs : List X) (x : X) → i < length xs → filter_map h (take (i + 1) xs) ≡ filter_map h (take i xs) ++ cons_option (h (get_or xs i x)) []
+found-next h i xs x l =
+    ap (λ n. filter_map h (take n xs)) (add-one i)
+    ∙ ap (filter_map h) (take-suc xs i x l)
+    ∙ filter_map-append h (take i xs) (get_or xs i x ∷ [])
+
+found-some : {X Y : Type 0} (h : X → Option Y) (i : ℕ) (xs : List X) (x : X) (y : Y) → i < length xs → h (get_or xs i x) ≡ Some y → filter_map h (take (i + 1) xs) ≡ filter_map h (take i xs) ++ y ∷ []
+found-some h i xs x y l e = found-next h i xs x l ∙ ap (λ o. filter_map h (take i xs) ++ cons_option o []) e
+
+found-none : {X Y : Type 0} (h : X → Option Y) (i : ℕ) (xs : List X) (x : X) → i < length xs → h (get_or xs i x) ≡ None → filter_map h (take (i + 1) xs) ≡ filter_map h (take i xs)
+found-none h i xs x l e = found-next h i xs x l ∙ ap (λ o. filter_map h (take i xs) ++ cons_option o []) e ∙ append-nil (filter_map h (take i xs))
+
+pub shown-some : (k : Kind) (b : Items) (ds : List (List ℕ × Value)) (i : ℕ) (xs : List Property) (x : Property) (v : Value) → i < length xs → shown_value (bare k b ds) (get_or xs i x) ≡ Some v
+    → shown_among (bare k b ds) (take (i + 1) xs) ≡ shown_among (bare k b ds) (take i xs) ++ valued (get_or xs i x) v ∷ []
+shown-some k b ds i xs x v l e = found-some (λ p. option_map (valued p) (shown_value (bare k b ds) p)) i xs x (valued (get_or xs i x) v) l (ap (option_map (valued (get_or xs i x))) e)
+
+pub shown-none : (k : Kind) (b : Items) (ds : List (List ℕ × Value)) (i : ℕ) (xs : List Property) (x : Property) → i < length xs → shown_value (bare k b ds) (get_or xs i x) ≡ None
+    → shown_among (bare k b ds) (take (i + 1) xs) ≡ shown_among (bare k b ds) (take i xs)
+shown-none k b ds i xs x l e = found-none (λ p. option_map (valued p) (shown_value (bare k b ds) p)) i xs x l (ap (option_map (valued (get_or xs i x))) e)
+
+pub along-some : (k : Kind) (reset : Option ℕ) (rs : List Reach) (values : List PropertyValue) (i : ℕ) (xs : List Property) (x : Property) (v : Value) → i < length xs → value_along k reset rs values (get_or xs i x) ≡ Some v
+    → values_among k reset rs values (take (i + 1) xs) ≡ values_among k reset rs values (take i xs) ++ valued (get_or xs i x) v ∷ []
+along-some k reset rs values i xs x v l e = found-some (λ p. option_map (valued p) (value_along k reset rs values p)) i xs x (valued (get_or xs i x) v) l (ap (option_map (valued (get_or xs i x))) e)
+
+pub along-none : (k : Kind) (reset : Option ℕ) (rs : List Reach) (values : List PropertyValue) (i : ℕ) (xs : List Property) (x : Property) → i < length xs → value_along k reset rs values (get_or xs i x) ≡ None
+    → values_among k reset rs values (take (i + 1) xs) ≡ values_among k reset rs values (take i xs)
+along-none k reset rs values i xs x l e = found-none (λ p. option_map (valued p) (value_along k reset rs values p)) i xs x l (ap (option_map (valued (get_or xs i x))) e)
+
+pub behind-some : (a : List ℕ) (i : ℕ) (rs : List Reach) (r q : Reach) → i < length rs → passed a (get_or rs i r) (get_or rs i r).path ≡ Some q → behind a (take (i + 1) rs) ≡ behind a (take i rs) ++ q ∷ []
+behind-some a i rs r q l e = found-some (λ (r : Reach). passed a r r.path) i rs r q l e
+
+pub behind-none : (a : List ℕ) (i : ℕ) (rs : List Reach) (r : Reach) → i < length rs → passed a (get_or rs i r) (get_or rs i r).path ≡ None → behind a (take (i + 1) rs) ≡ behind a (take i rs)
+behind-none a i rs r l e = found-none (λ (r : Reach). passed a r r.path) i rs r l e
+
+pub passed-one : (a : List ℕ) (r : Reach) (ps : List (List ℕ)) (x : List ℕ) → 1 ≤ length ps → pointwise nat_eq a (get_or ps 0 x) ≡ true → passed a r ps ≡ Some (record r { path = drop 1 ps })
+passed-one a r [] x l e = absurd (omega arith)
+passed-one a r (p ∷ ps) x l e = rw e refl
+
+pub passed-none : (a : List ℕ) (r : Reach) (ps : List (List ℕ)) (x : List ℕ) → 1 ≤ length ps → pointwise nat_eq a (get_or ps 0 x) ≡ false → passed a r ps ≡ None
+passed-none a r [] x l e = absurd (omega arith)
+passed-none a r (p ∷ ps) x l e = rw e refl
+
+pub ruleset steps = (shown-some, shown-none, along-some, along-none, behind-some, behind-none, passed-one, passed-none)

@@ -1,0 +1,202 @@
+//! What a component takes of its instances, of whose components all is kept.
+ghost use Rattle.std.specs.Prelude.{◌≡◌, min, map, IfOk, Some, option_copied};
+ghost use Rattle.std.specs.Option.{option_or};
+ghost use Rattle.rdl_elab.specs.declared.layout.Mode.{Mode};
+ghost use Rattle.rdl_elab.specs.Layouts.{placement, field_bits, member, mode_inside, laid_out};
+ghost use Rattle.rdl_elab.specs.Capped.{capped_layout, IsAlignment};
+ghost use Rattle.rdl_elab.specs.Finished.{under};
+ghost use Rattle.rdl_elab.specs.Inside.{counted, counted_member, kept_parts, kept_levels, kept_rows, lacks_parts, part_empty, kept_empty};
+
+use crate::component::lay_out;
+use crate::finished::{Finished, Layouts, Part};
+use crate::layout::{FieldBits, Layout, LayoutValues, Member, Mode, Placement};
+use rdl_scope::shells::product;
+use rdl_tree::address::Address;
+use rdl_tree::shell::{Kind, Shell};
+use std::alloc::{AllocError, Global};
+
+/// The most names of a path below a component that are told apart.
+const MAX_LEVELS: usize = 16;
+
+/// The most rows below a component that are told apart.
+const MAX_ROWS: usize = 65_536;
+
+fn placement(shell: &Shell, layout: &Layout) -> Placement
+    ensures { result ≡ counted (placement (shell.now, layout.now)) }
+{
+    let dims = shell.dims.as_slice();
+    Placement {
+        size: layout.size,
+        access: layout.access,
+        elements: product(dims),
+        is_array: !dims.is_empty(),
+        address: shell.address,
+        stride: shell.stride,
+        align: shell.align,
+    }
+}
+
+fn field_bits(shell: &Shell, layout: &Layout) -> FieldBits
+    ensures { result ≡ field_bits (shell.now, layout.now) }
+{
+    let width = match shell.dims.as_slice() {
+        [] => layout.size,
+        [width, ..] => *width,
+    };
+    FieldBits {
+        width,
+        range: shell.range,
+    }
+}
+
+fn member(shell: &Shell, layout: &Layout) -> Member
+    ensures { result ≡ counted_member (member (shell.now, layout.now)) }
+{
+    Member {
+        placement: placement(shell, layout),
+        bits: field_bits(shell, layout),
+    }
+}
+
+#[tactic(auto, using(crate::proofs::Insides::steps))]
+fn members(
+    alloc: Global,
+    mode: Mode,
+    parts: &[Part],
+    components: &[Finished],
+) -> Result<Vec<Member>, AllocError>
+    ensures { IfOk result (λ ms. ms.items ≡ map counted_member (map member (kept_parts mode components.now parts.now))) }
+{
+    let mut members = Vec::new(alloc);
+    for part in parts {
+        if let Some(finished) = components.get(part.component) {
+            members.push(member(part.shell, finished.layouts.under(mode)))?;
+        }
+    }
+    Ok(members)
+}
+
+/// The mode of the instances of a component that stands under a mode.
+pub(crate) fn mode_inside(kind: Kind, values: LayoutValues, mode: Mode) -> Mode
+    ensures { result ≡ mode_inside kind values mode }
+{
+    match kind {
+        Kind::Addrmap => values.addressing,
+        Kind::Regfile | Kind::Reg | Kind::Field => mode,
+    }
+}
+
+#[tactic(auto, using(crate::proofs::Counting::counts))]
+fn layout(
+    alloc: Global,
+    kind: Kind,
+    values: LayoutValues,
+    mode: Mode,
+    parts: &[Part],
+    components: &[Finished],
+) -> Result<Layout, AllocError>
+    requires { IsAlignment values.alignment }
+    ensures { IfOk result (λ l. let n = mode_inside kind values mode in l ≡ capped_layout (laid_out kind values n (map member (kept_parts n components.now parts.now)))) }
+{
+    let inside = mode_inside(kind, values, mode);
+    let members = members(alloc, inside, parts, components)?;
+    lay_out(alloc, kind, values, inside, members.as_slice())
+}
+
+/// The layouts of a component of this kind with these values and these instances.
+pub(crate) fn layouts(
+    alloc: Global,
+    kind: Kind,
+    values: LayoutValues,
+    parts: &[Part],
+    components: &[Finished],
+) -> Result<Layouts, AllocError>
+    requires { IsAlignment values.alignment }
+    ensures { IfOk result (λ ls. (m : Mode) → let n = mode_inside kind values m in under m ls ≡ capped_layout (laid_out kind values n (map member (kept_parts n components.now parts.now)))) }
+{
+    let compact = layout(alloc, kind, values, Mode::Compact, parts, components)?;
+    let regalign = layout(alloc, kind, values, Mode::Regalign, parts, components)?;
+    let fullalign = layout(alloc, kind, values, Mode::Fullalign, parts, components)?;
+    Ok(Layouts {
+        compact,
+        regalign,
+        fullalign,
+    })
+}
+
+/// The names of the longest path below a component with these instances, at most 16.
+#[tactic(auto, using(crate::proofs::Insides::steps))]
+pub(crate) fn levels(parts: &[Part], components: &[Finished]) -> usize
+    ensures { result ≡ min (kept_levels components.now parts.now) 16 }
+{
+    let mut levels = 0usize;
+    for part in parts {
+        if let Some(finished) = components.get(part.component) {
+            levels = levels
+                .max(finished.levels.saturating_add(1))
+                .min(MAX_LEVELS);
+        }
+    }
+    levels
+}
+
+/// The rows below a component with these instances, at most 65,536.
+#[tactic(auto, using(crate::proofs::Insides::steps))]
+pub(crate) fn rows(parts: &[Part], components: &[Finished]) -> usize
+    ensures { result ≡ min (kept_rows components.now parts.now) 65536 }
+{
+    let mut rows = 0usize;
+    for part in parts {
+        if let Some(finished) = components.get(part.component) {
+            let more = finished.rows.saturating_add(1);
+            rows = rows.saturating_add(more).min(MAX_ROWS);
+        }
+    }
+    rows
+}
+
+fn is_empty(kind: Kind, parts: &[Part]) -> bool
+    ensures { result ≡ lacks_parts kind parts.now }
+{
+    match kind {
+        Kind::Addrmap | Kind::Regfile => parts.is_empty(),
+        Kind::Reg | Kind::Field => false,
+    }
+}
+
+fn copied(address: Option<&Address>) -> Option<Address>
+    ensures { result ≡ option_copied address.entry }
+{
+    match address {
+        Some(address) => Some(address.copy()),
+        None => None,
+    }
+}
+
+/// The instance, if its component is a register file or address map without instances, or the first such instance below
+/// it.
+fn empty_part(part: &Part, finished: &Finished) -> Option<Address>
+    ensures { result ≡ part_empty part.now (Some finished.now) }
+{
+    if is_empty(finished.kind, finished.parts.as_slice()) {
+        Some(part.at.copy())
+    } else {
+        copied(finished.first_empty.as_ref())
+    }
+}
+
+/// The first of these instances, or below them, of a register file or address map without instances.
+#[tactic(auto, using(crate::proofs::Insides::steps))]
+pub(crate) fn first_empty(parts: &[Part], components: &[Finished]) -> Option<Address>
+    ensures { result ≡ kept_empty components.now parts.now }
+{
+    for part in parts {
+        if let Some(finished) = components.get(part.component) {
+            let empty = empty_part(part, finished);
+            if empty.is_some() {
+                return empty;
+            }
+        }
+    }
+    None
+}

@@ -1,0 +1,335 @@
+//! The rows of a map, level by level, up to the first that has a fault.
+ghost use Rattle.std.specs.Prelude.{◌≡◌, ℕ, ◌+◌, ◌^◌, ◌-◌, ◌++◌, ◌∷◌, [], min, map, nat_lt, unwrap_or, zero, suc, Some, None, IfOk, OnOk, option_copied, slice_get};
+ghost use Rattle.rdl_scope.specs.ItemFaults.{fault_at};
+ghost use Rattle.rdl_elab.specs.Layouts.{number_in};
+ghost use Rattle.rdl_elab.specs.declared.layout.LayoutValues.{LayoutValues};
+ghost use Rattle.rdl_tree.specs.declared.shell.Shell.{Shell};
+ghost use Rattle.rdl_elab.specs.Rows.{place_of};
+ghost use Rattle.rdl_elab.specs.Reaches.{behind, value_under};
+ghost use Rattle.rdl_elab.specs.Finished.{under};
+ghost use Rattle.rdl_elab.specs.KeptRows.{kept_base, kept_values, kept_row, seen, kept_fault, extent_fault, judged, surroundings_inside, level_rows, kept_rows, told_one, told};
+
+use crate::finished::{Finished, Part};
+use crate::instances::mode_inside;
+use crate::layout::{Mode, Span};
+use crate::reaches::{Reaching, behind, with_own};
+use crate::row::{Extent, Place, Row, RowPath, RowValues};
+use crate::siblings::{Sibling, Siblings, as_sibling, is_reset_too_wide};
+use crate::values::{row_values, value_under};
+use rdl_text::name::Name;
+use rdl_tree::address::Address;
+use rdl_tree::fault::{Fault, FaultKind};
+use rdl_tree::property::Property;
+use rdl_tree::shell::{Kind, Shell};
+use rdl_tree::value::Value;
+use std::alloc::{AllocError, Global};
+use std::marker::Model;
+
+/// What stands around the instances of a component. A contract sees `Surroundings`.
+#[derive(Drop)]
+pub(crate) struct Around<'a> {
+    /// The mode in which the instances are placed.
+    pub mode: Mode,
+    pub names: Vec<Name>,
+    /// The address of the component, in bytes.
+    pub base: u64,
+    /// How many bits it has if it is a register.
+    pub bits: u64,
+    pub reaching: Vec<Reaching<'a>>,
+}
+
+impl<'a> Model for Around<'a> {
+    ghost use Rattle.rdl_elab.specs.KeptRows.{Surroundings};
+
+    ghost Value = { Surroundings };
+
+    ghost view = { λ a. record { mode = a.mode; names = a.names.items; base = a.base; bits = a.bits; reaching = a.reaching.items } };
+}
+
+fn base(kind: Kind, around: u64, span: Span) -> u64
+    ensures { result ≡ kept_base kind around span }
+{
+    match kind {
+        Kind::Field => around,
+        _ => around.saturating_add(span.start),
+    }
+}
+
+fn extent(alloc: Global, shell: &Shell, span: Span, size: u64) -> Result<Extent, AllocError>
+    ensures { IfOk result (λ e. e ≡ record { offset = span.start; size = size; dims = shell.now.dims; stride = unwrap_or shell.now.stride size }) }
+{
+    Ok(Extent {
+        offset: span.start,
+        size,
+        dims: shell.dims.try_copy(alloc)?,
+        stride: shell.stride.unwrap_or(size),
+    })
+}
+
+fn place(
+    alloc: Global,
+    kind: Kind,
+    shell: &Shell,
+    span: Span,
+    size: u64,
+) -> Result<Place, AllocError>
+    ensures { IfOk result (λ place. place ≡ place_of kind shell.now span size) }
+{
+    match kind {
+        Kind::Field => Ok(Place::Bits(span)),
+        _ => Ok(Place::Bytes(extent(alloc, shell, span, size)?)),
+    }
+}
+
+/// The names with one more behind them.
+fn longer(alloc: Global, names: &[Name], name: &Name) -> Result<RowPath, AllocError>
+    ensures { IfOk result (λ path. path ≡ names.now ++ name.now ∷ []) }
+{
+    let mut copies = copied(alloc, names)?;
+    copies.push(name.try_copy(alloc)?)?;
+    Ok(RowPath::from_vec(copies))
+}
+
+fn copied(alloc: Global, names: &[Name]) -> Result<Vec<Name>, AllocError>
+    ensures { IfOk result (λ copies. copies.items ≡ names.now) }
+{
+    let mut copies = Vec::with_capacity(alloc, names.len())?;
+    for name in names {
+        copies.push(name.try_copy(alloc)?)?;
+    }
+    Ok(copies)
+}
+
+/// The values of the row of an instance with this reset, whose component has these values by itself.
+fn values(
+    alloc: Global,
+    kind: Kind,
+    reset: Option<u64>,
+    reaching: &[Reaching],
+    own: &RowValues,
+) -> Result<RowValues, AllocError>
+    ensures { IfOk result (λ values. values ≡ kept_values kind reset reaching.now own.now) }
+{
+    match (reset, reaching) {
+        (None, []) => own.try_copy(alloc),
+        _ => row_values(alloc, kind, reset, reaching, own),
+    }
+}
+
+fn row(
+    alloc: Global,
+    around: &Around,
+    span: Span,
+    part: &Part,
+    component: &Finished,
+    reaching: &[Reaching],
+) -> Result<Row, AllocError>
+    requires { reaching.now ≡ behind part.now.at around.now.reaching }
+    ensures { IfOk result (λ row. row ≡ kept_row around.now span part.now component.now) }
+{
+    let shell = part.shell;
+    let size = component.layouts.under(around.mode).size;
+    Ok(Row {
+        names: longer(alloc, around.names.as_slice(), &shell.name)?,
+        kind: component.kind,
+        base: base(component.kind, around.base, span),
+        place: place(alloc, component.kind, shell, span, size)?,
+        values: values(
+            alloc,
+            component.kind,
+            shell.reset,
+            reaching,
+            &component.shown,
+        )?,
+    })
+}
+
+fn is_stride_too_small(shell: &Shell, size: u64) -> bool
+    ensures { result ≡ nat_lt (unwrap_or shell.now.stride size) size }
+{
+    shell.stride.unwrap_or(size) < size
+}
+
+/// The reset among these values.
+fn reset(values: &RowValues) -> Option<u64>
+    ensures { result ≡ number_in (value_under Property.Reset values.now) }
+{
+    match value_under(Property::Reset, values.as_slice()) {
+        Some(Value::Number(number)) => Some(*number),
+        _ => None,
+    }
+}
+
+/// A row as its later siblings see it.
+fn seen(span: Span, values: &RowValues) -> Sibling
+    ensures { result ≡ seen span values.now }
+{
+    as_sibling(span, value_under(Property::Sw, values.as_slice()))
+}
+
+/// What is wrong with a field, in a register of so many bits.
+fn field_fault(
+    bits: u64,
+    field: Sibling,
+    before: &Siblings,
+    values: &RowValues,
+) -> Option<FaultKind>
+    ensures { (v : LayoutValues) (s : Shell) (size : ℕ) → result ≡ kept_fault Kind.Field v bits s size field before.now values.now }
+{
+    if bits < field.span.end {
+        Some(FaultKind::FieldPastRegister)
+    } else if before.clash(field) {
+        Some(FaultKind::FieldOverlap)
+    } else if is_reset_too_wide(reset(values), field.span) {
+        Some(FaultKind::ResetTooWide)
+    } else {
+        None
+    }
+}
+
+/// What is wrong with the bytes of an instance.
+fn extent_fault(shell: &Shell, size: u64, span: Span, before: &Siblings) -> Option<FaultKind>
+    ensures { result ≡ extent_fault shell.now size span before.now }
+{
+    if is_stride_too_small(shell, size) {
+        Some(FaultKind::StrideTooSmall)
+    } else if before.overlap(span) {
+        Some(FaultKind::AddressOverlap)
+    } else {
+        None
+    }
+}
+
+fn fault_kind(
+    around: &Around,
+    shell: &Shell,
+    component: &Finished,
+    sibling: Sibling,
+    before: &Siblings,
+    values: &RowValues,
+) -> Option<FaultKind>
+    ensures { result ≡ kept_fault component.now.kind component.now.values around.now.bits shell.now (under around.now.mode component.now.layouts).size sibling before.now values.now }
+{
+    let size = component.layouts.under(around.mode).size;
+    match component.kind {
+        Kind::Field => field_fault(around.bits, sibling, before, values),
+        Kind::Reg if component.values.regwidth < component.values.accesswidth => {
+            Some(FaultKind::AccessTooWide)
+        }
+        _ => extent_fault(shell, size, sibling.span, before),
+    }
+}
+
+/// Judges a row, and puts it behind the others and among the siblings if nothing is wrong with it.
+fn add_row(
+    around: &Around,
+    part: &Part,
+    component: &Finished,
+    span: Span,
+    row: Row,
+    siblings: &mut Siblings,
+    rows: &mut Vec<Row>,
+) -> Result<Option<Fault>, AllocError>
+    ensures told { IfOk result (λ fault. record { fault = fault; rows = rows.new.items } ≡ told rows.old.items (judged around.now siblings.old span part.now component.now row ∷ [])) }
+    ensures siblings { IfOk result (λ fault. fault ≡ None → siblings.new ≡ siblings.old ++ seen span row.values ∷ []) }
+{
+    let sibling = seen(span, &row.values);
+    let fault = fault_kind(
+        around,
+        part.shell,
+        component,
+        sibling,
+        siblings,
+        &row.values,
+    );
+    if let Some(kind) = fault {
+        return Ok(Some(Fault {
+            kind,
+            address: part.at.copy(),
+        }));
+    }
+    siblings.push(sibling)?;
+    rows.push(row)?;
+    Ok(None)
+}
+
+/// What stands around the instances of the component of a row.
+fn inside<'a>(
+    alloc: Global,
+    around: &Around<'a>,
+    part: &Part<'a>,
+    component: &'a Finished<'a>,
+    row: &Row,
+    reaching: &[Reaching<'a>],
+) -> Result<Around<'a>, AllocError>
+    requires { reaching.now ≡ behind part.now.at around.now.reaching }
+    ensures { IfOk result (λ inside. inside ≡ surroundings_inside around.now part.now component.now row.now) }
+{
+    Ok(Around {
+        mode: mode_inside(component.kind, component.values, around.mode),
+        names: copied(alloc, row.names.names())?,
+        base: row.base,
+        bits: component.values.regwidth,
+        reaching: with_own(alloc, reaching, component.assignments.as_slice())?,
+    })
+}
+
+fn span_at(spans: &[Span], number: usize) -> Option<Span>
+    ensures { result ≡ slice_get spans.now number }
+{
+    spans.get(number).copied()
+}
+
+fn component_of<'a>(components: &'a [Finished<'a>], part: &Part) -> Option<&'a Finished<'a>>
+    ensures { option_copied result ≡ slice_get components.now part.now.component }
+{
+    components.get(part.component)
+}
+
+/// Puts the rows of the instances of a component, so many levels deep, behind the others, up to the first that has a
+/// fault.
+pub(crate) fn add_rows<'a>(
+    alloc: Global,
+    components: &'a [Finished<'a>],
+    around: &Around<'a>,
+    spans: &[Span],
+    parts: &'a [Part<'a>],
+    levels: usize,
+    rows: &mut Vec<Row>,
+) -> Result<Option<Fault>, AllocError>
+    ensures { IfOk result (λ fault. record { fault = fault; rows = rows.new.items } ≡ told rows.old.items (kept_rows levels components.now around.now spans.now parts.now)) }
+{
+    if levels == 0 {
+        return Ok(None);
+    }
+    let mut siblings = Siblings::new(alloc);
+    for (i, part) in parts.iter().enumerate() {
+        let Some(span) = span_at(spans, i) else {
+            return Ok(None);
+        };
+        let Some(component) = component_of(components, part) else {
+            return Ok(None);
+        };
+        let reaching = behind(alloc, &part.at, around.reaching.as_slice())?;
+        let row = row(alloc, around, span, part, component, reaching.as_slice())?;
+        let inside = inside(alloc, around, part, component, &row, reaching.as_slice())?;
+        let fault = add_row(around, part, component, span, row, &mut siblings, rows)?;
+        if fault.is_some() {
+            return Ok(fault);
+        }
+        let below = component.layouts.under(around.mode).spans.as_slice();
+        let fault = add_rows(
+            alloc,
+            components,
+            &inside,
+            below,
+            component.parts.as_slice(),
+            levels - 1,
+            rows,
+        )?;
+        if fault.is_some() {
+            return Ok(fault);
+        }
+    }
+    Ok(None)
+}
