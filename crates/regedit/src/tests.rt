@@ -8,6 +8,7 @@ use std::str;
 use std::test::Fail;
 
 mod edits;
+mod examples;
 mod faults;
 mod files;
 mod history;
@@ -88,12 +89,7 @@ fn write_by(
     })
 }
 
-fn write_with(
-    alloc: Global,
-    map: &[u8],
-    script: &[u8],
-    history: u32,
-) -> Result<Written, RunFault> {
+fn write_with(alloc: Global, map: &[u8], script: &[u8], history: u32) -> Result<Written, RunFault> {
     let options = Options { top: None, history };
     write_by(alloc, map, script, &options)
 }
@@ -104,12 +100,7 @@ fn write_top(alloc: Global, map: &str, script: &str, top: &str) -> Result<Writte
         top: Some(Name::new(alloc, top)?),
         history: 10_000,
     };
-    Ok(write_by(
-        alloc,
-        map.as_bytes(),
-        script.as_bytes(),
-        &options,
-    )?)
+    Ok(write_by(alloc, map.as_bytes(), script.as_bytes(), &options)?)
 }
 
 fn write_bytes(alloc: Global, map: &[u8], script: &[u8]) -> Result<Written, RunFault> {

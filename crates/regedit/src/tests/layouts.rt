@@ -290,7 +290,11 @@ fn may_have_many_rows(rt: HostRuntime) -> Result<(), Fail> {
     let text = written.messages()?;
     assert_eq!(rt; text.bytes().filter(|byte| *byte == b'\n').count(), 49_208);
     assert!(rt; text.starts_with("0x0 addrmap top size 0x1338C\n0x0 regfile top.x size 0x1338C\n"));
-    assert!(rt; text.ends_with("0x13388 reg top.x.c.c.c.c.c.c.c.c.c size 0x4\n[0:0] field top.x.c.c.c.c.c.c.c.c.c.f\n"));
+    assert!(rt;
+        text.ends_with(
+            "0x13388 reg top.x.c.c.c.c.c.c.c.c.c size 0x4\n[0:0] field top.x.c.c.c.c.c.c.c.c.c.f\n"
+        )
+    );
     Ok(())
 }
 
@@ -299,7 +303,10 @@ fn may_have_many_rows(rt: HostRuntime) -> Result<(), Fail> {
 fn begin_with_the_top_that_is_asked(rt: HostRuntime) -> Result<(), Fail> {
     let map = "addrmap a { reg {} r; }; addrmap b {};";
     let written = write_top(rt.alloc(), map, "list", "a")?;
-    assert_eq!(rt; written.messages()?, "0x0 addrmap a size 0x4\n0x0 reg a.r size 0x4\n");
+    assert_eq!(rt;
+        written.messages()?,
+        "0x0 addrmap a size 0x4\n0x0 reg a.r size 0x4\n"
+    );
     let written = write_top(rt.alloc(), map, "list", "r")?;
     assert_eq!(rt; written.status, Status::MapRefused);
     assert_eq!(rt; written.messages()?, "map:1:1: E13 no top\n");

@@ -8,10 +8,7 @@ const OF_ITEMS: [(&str, &str); 19] = [
         "addrmap top { reg {} a; reg {} a; regfile {} b; };",
         "map:1:32: E1 name twice\n",
     ),
-    (
-        "addrmap top { R a; };",
-        "map:1:17: E2 unknown type\n",
-    ),
+    ("addrmap top { R a; };", "map:1:17: E2 unknown type\n"),
     (
         "addrmap top { R a; reg R {}; };",
         "map:1:17: E2 unknown type\n",
@@ -83,10 +80,7 @@ const OF_ITEMS: [(&str, &str); 19] = [
 ];
 
 const OF_LAYOUTS: [(&str, &str); 19] = [
-    (
-        "reg R { field {} f; };",
-        "map:1:1: E13 no top\n",
-    ),
+    ("reg R { field {} f; };", "map:1:1: E13 no top\n"),
     (
         "reg R { field {} f; };\nregfile A1 { R a; };\nregfile A2 { A1 a; };\nregfile A3 { A2 a; };\nregfile A4 { A3 a; };\nregfile A5 { A4 a; };\nregfile A6 { A5 a; };\nregfile A7 { A6 a; };\nregfile A8 { A7 a; };\nregfile A9 { A8 a; };\nregfile A10 { A9 a; };\nregfile A11 { A10 a; };\nregfile A12 { A11 a; };\nregfile A13 { A12 a; };\nregfile A14 { A13 a; };\naddrmap top { A14 a; };",
         "map:16:1: E14 over 16 levels\n",
@@ -164,10 +158,7 @@ const OF_LAYOUTS: [(&str, &str); 19] = [
 // Maps with two faults, where the one of these is answered.
 const OF_TWO: [(&str, &str); 18] = [
     // an item of a map without a top
-    (
-        "reg R { nosuch = 1; };",
-        "map:1:9: E4 unknown property\n",
-    ),
+    ("reg R { nosuch = 1; };", "map:1:9: E4 unknown property\n"),
     // an item that is never used, before a row
     (
         "addrmap top { reg {} a; reg {} b @ 0; }; reg U { field {} f[0]; };",
