@@ -1,5 +1,5 @@
 -- The values of a component depend on its kind, its body and the defaults that reach it.
-use Rattle.std.proofs.Common.{◌≡◌, ℕ, List, Some, None, Option, refl, ap, ◌∙◌, sym, option_map}
+use Rattle.std.proofs.Common.{◌≡◌, ℕ, List, None, refl, ap, ◌∙◌, sym, option_map}
 use Rattle.std.specs.Prelude.{if◌then◌else◌}
 use Rattle.std.specs.List.{filter_map}
 use Rattle.std.specs.Option.{option_or}
@@ -10,8 +10,7 @@ use Rattle.rdl_tree.specs.declared.property.Property.{Property}
 use Rattle.rdl_tree.specs.declared.property.Property.TheVariants.{Accesswidth}
 use Rattle.rdl_tree.specs.declared.value.Value.{Value}
 use Rattle.rdl_scope.specs.Value.{shown}
-use Rattle.rdl_scope.specs.Closed.{Head, stated, built_in, head_value}
-use Rattle.rdl_elab.specs.declared.row.PropertyValue.{PropertyValue}
+use Rattle.rdl_scope.specs.Closed.{Head, stated, built_in}
 use Rattle.rdl_elab.specs.Rows.{valued}
 use Rattle.rdl_elab.specs.Shown.{bare, shown_value, shown_among, shown_values}
 

@@ -1,7 +1,6 @@
 -- Elements are counted up to a limit, and what is kept of a layout is the same.
 use Rattle.std.proofs.Common.{◌≡◌, ℕ, zero, suc, ◌+◌, ◌-◌, ◌*◌, ◌^◌, ◌≤◌, ◌<◌, Bool, true, false, List, [], ◌∷◌, map, Option, Some, None, refl, ap, sym, ◌∙◌, arith, ◌⊎◌, inl, inr}
 use Rattle.std.specs.Prelude.{max, min, unwrap_or}
-use Rattle.std.proofs.Math.Nat.{mul_comm}
 use Rattle.std.proofs.lemmas.Bool.{cases_lt}
 use Rattle.rdl_tree.specs.declared.shell.Kind.{Kind}
 use Rattle.rdl_tree.specs.declared.shell.Kind.TheVariants.{Addrmap, Regfile, Reg, Field}
@@ -10,9 +9,6 @@ use Rattle.rdl_elab.specs.declared.layout.Mode.TheVariants.{Compact, Regalign, F
 use Rattle.rdl_elab.specs.declared.layout.Placement.{Placement}
 use Rattle.rdl_elab.specs.declared.layout.Member.{Member}
 use Rattle.rdl_elab.specs.declared.layout.LayoutValues.{LayoutValues}
-use Rattle.rdl_elab.specs.declared.layout.Layout.{Layout}
-use Rattle.rdl_elab.specs.declared.layout.Span.{Span}
-use Rattle.rdl_elab.specs.Rounding.{power_up}
 use Rattle.rdl_elab.specs.Size.{bytes_of, end_of, greatest_end, greatest_access}
 use Rattle.rdl_elab.specs.Start.{full_alignment, mode_alignment, aligned_start, start_by, start_of, spans_from}
 use Rattle.rdl_elab.specs.Bits.{bits_from}

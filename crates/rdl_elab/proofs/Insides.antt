@@ -1,21 +1,24 @@
 -- What is found by what is kept of the instances' components is what the component has.
-use Rattle.std.proofs.Common.{◌≡◌, ℕ, zero, suc, ◌+◌, ◌-◌, ◌≤◌, ◌<◌, Bool, true, false, List, [], ◌∷◌, map, length, drop, get_or, Option, Some, None, refl, ap, sym, ◌∙◌, arith, add-one, drop-cons, ◌++◌, append_assoc}
+use Rattle.std.proofs.Common.{◌≡◌, ℕ, ◌+◌, ◌≤◌, ◌<◌, true, false, List, [], ◌∷◌, map, length, drop, get_or, Option, Some, None, refl, ap, sym, ◌∙◌, arith, add-one, drop-cons, ◌++◌, append_assoc}
 use Rattle.std.specs.Prelude.{max, min, option_map, slice_get, if◌then◌else◌}
-use Rattle.std.specs.Option.{option_or}
-use Rattle.std.specs.List.{filter_map, cons_option}
+use Rattle.std.specs.Option.{option_or, is_some}
+use Rattle.std.specs.List.{cons_option}
 use Rattle.std.proofs.lemmas.List.{drop_all}
-use Rattle.std.proofs.lemmas.Option.{slice_get-get_or, slice_get_past}
+use Rattle.std.proofs.lemmas.Option.{slice_get-get_or}
 use Rattle.rdl_elab.specs.declared.layout.Member.{Member}
 use Rattle.rdl_tree.specs.Items.{Items}
 use Rattle.rdl_tree.specs.declared.shell.Kind.{Kind}
 use Rattle.rdl_tree.specs.declared.shell.Kind.TheVariants.{Addrmap, Regfile, Reg, Field}
 use Rattle.rdl_tree.specs.declared.shell.Shell.{Shell}
-use Rattle.rdl_scope.specs.Closed.{Head, Parts, no_parts, part, Made}
+use Rattle.rdl_scope.specs.Closed.{Head, Parts, no_parts, part}
 use Rattle.rdl_elab.specs.declared.layout.Mode.{Mode}
 use Rattle.rdl_elab.specs.declared.layout.Layout.{Layout}
+use Rattle.rdl_elab.specs.declared.layout.LayoutValues.{LayoutValues}
+use Rattle.rdl_elab.specs.declared.finished.Layouts.{Layouts}
+use Rattle.rdl_elab.proofs.KeptLayouts.{kept-laid_out}
 use Rattle.rdl_elab.specs.declared.finished.Part.{Part}
 use Rattle.rdl_elab.specs.declared.finished.Finished.{Finished}
-use Rattle.rdl_elab.specs.Layouts.{layouts, layout, member}
+use Rattle.rdl_elab.specs.Layouts.{values_of, mode_inside, laid_out, layouts, layout, member}
 use Rattle.rdl_elab.specs.Capped.{capped_layout, capped_instance}
 use Rattle.rdl_elab.specs.Faults.{levels, count, is_empty, first_empty}
 use Rattle.rdl_elab.specs.Finished.{under, IsPart, AreParts}
@@ -24,10 +27,6 @@ use Rattle.rdl_elab.specs.Inside.{counted_member, kept_part, kept_parts, part_le
 pub or-assoc : {X : Type 0} (a b c : Option X) → option_or (option_or a b) c ≡ option_or a (option_or b c)
 or-assoc None b c = refl
 or-assoc (Some x) b c = refl
-
-pub or-none : {X : Type 0} (a : Option X) → option_or a None ≡ a
-or-none None = refl
-or-none (Some x) = refl
 
 module _ (d : Items) (fs : List Finished) where
   abbrev Inside : (p : Part) (inside : Parts) → Finished → Type 0
@@ -152,3 +151,50 @@ members-none m fs i ps p done after whole h is found g inv =
     kept-next m fs i ps p h ∙ ap (λ (q : Part). cons_option (kept_part m fs q) rest) (sym is)
     ∙ ap (λ o. cons_option (option_map (λ (g : Finished). (p.shell.now, under m g.layouts)) o) rest) found in
     ap (λ xs. xs ++ shown_members rest) g ∙ sym (ap (λ xs. done ++ shown_members xs) one) ∙ inv
+
+-- one more instance for the levels, the rows, and the instances that must not be empty
+module _ (fs : List Finished) (i : ℕ) (ps : List Part) (p : Part) (o : Option Finished) (h : i < length ps) (is : p ≡ get_or ps i p) (found : slice_get fs p.component ≡ o) where
+  pub levels-more : (so_far more whole : ℕ) → min more 16 ≡ min (max so_far (part_levels o)) 16 → min (max so_far (kept_levels fs (drop i ps))) 16 ≡ whole → min (max more (kept_levels fs (drop (i + 1) ps))) 16 ≡ whole
+  levels-more so_far more whole e inv =
+      let r = kept_levels fs (drop (i + 1) ps) in
+      let one : kept_levels fs (drop i ps) ≡ max (part_levels o) r =
+      levels-next fs i ps p h ∙ ap (λ (q : Part). max (part_levels (slice_get fs q.component)) r) (sym is) ∙ ap (λ x. max (part_levels x) r) found in
+      again so_far more (part_levels o) r e ∙ ap (λ x. min (max so_far x) 16) (sym one) ∙ inv
+    where
+      again : (s m x r : ℕ) → min m 16 ≡ min (max s x) 16 → min (max m r) 16 ≡ min (max s (max x r)) 16
+      again s m x r e = omega arith
+
+  pub rows-more : (so_far more whole : ℕ) → min more 65536 ≡ min (so_far + part_rows o) 65536 → min (so_far + kept_rows fs (drop i ps)) 65536 ≡ whole → min (more + kept_rows fs (drop (i + 1) ps)) 65536 ≡ whole
+  rows-more so_far more whole e inv =
+      let r = kept_rows fs (drop (i + 1) ps) in
+      let one : kept_rows fs (drop i ps) ≡ part_rows o + r =
+      rows-next fs i ps p h ∙ ap (λ (q : Part). part_rows (slice_get fs q.component) + r) (sym is) ∙ ap (λ x. part_rows x + r) found in
+      again so_far more (part_rows o) r e ∙ ap (λ x. min (so_far + x) 65536) (sym one) ∙ inv
+    where
+      again : (s m x r : ℕ) → min m 65536 ≡ min (s + x) 65536 → min (m + r) 65536 ≡ min (s + (x + r)) 65536
+      again s m x r e = omega arith
+
+  pub empty-more : (e : Option (List ℕ)) (whole : Option (List ℕ)) → e ≡ part_empty p o → kept_empty fs (drop i ps) ≡ whole → option_or e (kept_empty fs (drop (i + 1) ps)) ≡ whole
+  empty-more e whole g inv =
+      let r = kept_empty fs (drop (i + 1) ps) in
+      let one : kept_empty fs (drop i ps) ≡ option_or (part_empty p o) r =
+      empty-next fs i ps p h ∙ ap (λ (q : Part). option_or (part_empty q (slice_get fs q.component)) r) (sym is) ∙ ap (λ x. option_or (part_empty p x) r) found in
+      ap (λ x. option_or x r) g ∙ sym one ∙ inv
+
+pub or-some : {X : Type 0} (a r w : Option X) → is_some a ≡ true → option_or a r ≡ w → a ≡ w
+or-some None r w h e = cc
+or-some (Some x) r w h e = e
+
+pub or-empty : {X : Type 0} (a r w : Option X) → is_some a ≡ false → option_or a r ≡ w → r ≡ w
+or-empty None r w h e = e
+or-empty (Some x) r w h e = cc
+
+pub layouts-are : (d : Items) (fs : List Finished) (n : ℕ) (ps : List Part) (inside : Parts) (h : Head) (v : LayoutValues) (ls : Layouts) → v ≡ values_of h → AreParts d fs n ps inside
+    → ((m : Mode) → under m ls ≡ capped_layout (laid_out h.kind v (mode_inside h.kind v m) (map member (kept_parts (mode_inside h.kind v m) fs ps))))
+    → (m : Mode) → under m ls ≡ capped_layout (layout m (record { head = h; parts = inside }))
+layouts-are d fs n ps inside h v ls e a g m =
+    let w = values_of h in
+    let k = mode_inside h.kind w m in
+    g m ∙ ap (λ (v : LayoutValues). capped_layout (laid_out h.kind v (mode_inside h.kind v m) (map member (kept_parts (mode_inside h.kind v m) fs ps)))) e
+    ∙ ap (λ xs. capped_layout (laid_out h.kind w k (map member xs))) (parts-kept d fs k n ps inside a)
+    ∙ kept-laid_out h.kind w k (layouts k inside)

@@ -13,14 +13,14 @@ use Rattle.rdl_elab.specs.declared.finished.Part.{Part}
 use Rattle.rdl_elab.specs.declared.finished.Finished.{Finished}
 use Rattle.rdl_elab.specs.declared.siblings.Sibling.{Sibling}
 use Rattle.rdl_elab.specs.Finished.{under}
-use Rattle.rdl_elab.specs.KeptRows.{Surroundings, KeptRow, Told, kept_row, seen, judged, surroundings_inside, with_below, level_rows, kept_rows, told_one, told}
+use Rattle.rdl_elab.specs.KeptRows.{Surroundings, KeptRow, Told, kept_row, seen, judged, surroundings_inside, with_below, level_rows, kept_rows, told_one, told, kept_top_row, kept_around_top, told_below, rows_unless}
 
 -- what is told of more rows, behind what is told already
-abbrev told_after : Option Fault → Told → List KeptRow → Told
+abbrev pub told_after : Option Fault → Told → List KeptRow → Told
 told_after None t ks = told t.rows ks
 told_after (Some f) t ks = t
 
-told-append : (rows : List Row) (ks ls : List KeptRow) → told rows (ks ++ ls) ≡ told_after (told rows ks).fault (told rows ks) ls
+pub told-append : (rows : List Row) (ks ls : List KeptRow) → told rows (ks ++ ls) ≡ told_after (told rows ks).fault (told rows ks) ls
 told-append rows [] ls = refl
 told-append rows (k ∷ ks) ls = by_fault (told-append (rows ++ k.row ∷ []) ks ls) k.fault
   where
@@ -77,7 +77,7 @@ module _ (fs : List Finished) (below : Surroundings → List Span → List Part 
         | Some f ↦ with_below below o before span p f ++ level_rows fs below o (before ++ seen span (kept_row o span p f).values ∷ []) spans ps
       ]) h
 
-  one-component : (before : List Sibling) (span : Span) (spans : List Span) (p : Part) (ps : List Part) (f : Finished) → slice_get fs p.component ≡ Some f
+  pub one-component : (before : List Sibling) (span : Span) (spans : List Span) (p : Part) (ps : List Part) (f : Finished) → slice_get fs p.component ≡ Some f
       → level_rows fs below o before (span ∷ spans) (p ∷ ps) ≡ with_below below o before span p f ++ level_rows fs below o (before ++ seen span (kept_row o span p f).values ∷ []) spans ps
   one-component before span spans p ps f h =
       ap (λ found. elim found [
@@ -162,3 +162,13 @@ module _ (fs : List Finished) (below : Surroundings → List Span → List Part 
           where
             next : (j : ℕ) → j + 1 ≡ suc j
             next j = omega arith
+
+-- the answer of a map, by what is told of the rows below its top
+pub told-answer : (fs : List Finished) (name : List ℕ) (f : Finished) (first : List Row) (o : Surroundings) (fault : Option Fault) (rows : List Row)
+    → first ≡ kept_top_row name f ∷ [] → o ≡ kept_around_top name f
+    → record { fault = fault; rows = rows } ≡ told first (kept_rows 16 fs o f.layouts.regalign.spans f.parts.items)
+    → rows_unless fault rows ≡ rows_unless (told_below fs name f).fault (told_below fs name f).rows
+told-answer fs name f first o fault rows e g h =
+    ap (λ (t : Told). rows_unless t.fault t.rows)
+    (h ∙ ap (λ rs. told rs (kept_rows 16 fs o f.layouts.regalign.spans f.parts.items)) e
+    ∙ ap (λ x. told (kept_top_row name f ∷ []) (kept_rows 16 fs x f.layouts.regalign.spans f.parts.items)) g)

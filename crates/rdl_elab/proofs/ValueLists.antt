@@ -1,5 +1,5 @@
 -- Steps along the properties whose values are listed, and along assignments.
-use Rattle.std.proofs.Common.{◌≡◌, ℕ, suc, ◌+◌, ◌<◌, ◌≤◌, List, [], ◌∷◌, ◌++◌, length, take, drop, get_or, true, false, Some, None, Option, refl, ap, ◌∙◌, arith, add-one, option_map, append-nil}
+use Rattle.std.proofs.Common.{◌≡◌, ℕ, ◌+◌, ◌<◌, ◌≤◌, List, [], ◌∷◌, ◌++◌, length, take, drop, get_or, true, false, Some, None, Option, refl, ap, ◌∙◌, arith, add-one, option_map, append-nil}
 use Rattle.std.specs.List.{filter_map, cons_option}
 use Rattle.std.specs.Prelude.{nat_eq}
 use Rattle.std.specs.Cmp.Lexicographic.{pointwise}
@@ -9,7 +9,6 @@ use Rattle.rdl_tree.specs.Items.{Items}
 use Rattle.rdl_tree.specs.declared.shell.Kind.{Kind}
 use Rattle.rdl_tree.specs.declared.property.Property.{Property}
 use Rattle.rdl_tree.specs.declared.value.Value.{Value}
-use Rattle.rdl_scope.specs.Closed.{Head, head_value, built_in}
 use Rattle.rdl_elab.specs.declared.row.PropertyValue.{PropertyValue}
 use Rattle.rdl_elab.specs.Rows.{valued}
 use Rattle.rdl_elab.specs.Shown.{bare, shown_value, shown_among}
@@ -50,11 +49,11 @@ behind-some a i rs r q l e = found-some (λ (r : Reach). passed a r r.path) i rs
 pub behind-none : (a : List ℕ) (i : ℕ) (rs : List Reach) (r : Reach) → i < length rs → passed a (get_or rs i r) (get_or rs i r).path ≡ None → behind a (take (i + 1) rs) ≡ behind a (take i rs)
 behind-none a i rs r l e = found-none (λ (r : Reach). passed a r r.path) i rs r l e
 
-pub passed-one : (a : List ℕ) (r : Reach) (ps : List (List ℕ)) (x : List ℕ) → 1 ≤ length ps → pointwise nat_eq a (get_or ps 0 x) ≡ true → passed a r ps ≡ Some (record r { path = drop 1 ps })
+pub passed-one : (a : List ℕ) (r : Reach) (ps : List (List ℕ)) (x : List ℕ) → 1 ≤ length ps → pointwise nat_eq (get_or ps 0 x) a ≡ true → passed a r ps ≡ Some (record r { path = drop 1 ps })
 passed-one a r [] x l e = absurd (omega arith)
 passed-one a r (p ∷ ps) x l e = rw e refl
 
-pub passed-none : (a : List ℕ) (r : Reach) (ps : List (List ℕ)) (x : List ℕ) → 1 ≤ length ps → pointwise nat_eq a (get_or ps 0 x) ≡ false → passed a r ps ≡ None
+pub passed-none : (a : List ℕ) (r : Reach) (ps : List (List ℕ)) (x : List ℕ) → 1 ≤ length ps → pointwise nat_eq (get_or ps 0 x) a ≡ false → passed a r ps ≡ None
 passed-none a r [] x l e = absurd (omega arith)
 passed-none a r (p ∷ ps) x l e = rw e refl
 

@@ -1,9 +1,9 @@
 -- What is kept of a component, once for all its instances, and that it is that of the component.
 -- own: SystemRDL 2.0 speaks of definitions and instances; a map whose instances multiply from level to level costs what its text costs.
-use Rattle.std.specs.Prelude.{◌≡◌, ℕ, ◌<◌, List, [], ◌∷◌, Option, Some, min, slice_get}
+use Rattle.std.specs.Prelude.{◌≡◌, ℕ, ◌<◌, List, [], ◌∷◌, Some, min, slice_get}
 use Rattle.rdl_tree.specs.Items.{Items}
 use Rattle.rdl_tree.specs.declared.shell.Shell.{Shell}
-use Rattle.rdl_scope.specs.Closed.{Head, Parts, no_parts, part, Made}
+use Rattle.rdl_scope.specs.Closed.{Parts, no_parts, part, Made}
 use Rattle.rdl_elab.specs.declared.layout.Mode.{Mode}
 use Rattle.rdl_elab.specs.declared.layout.Mode.TheVariants.{Compact, Regalign, Fullalign}
 use Rattle.rdl_elab.specs.declared.layout.Layout.{Layout}

@@ -9,7 +9,7 @@ use Rattle.rdl_tree.specs.declared.shell.Shell.{Shell}
 use Rattle.rdl_tree.specs.declared.value.Value.{Value}
 use Rattle.rdl_tree.specs.declared.property.Property.TheVariants.{Reset, Sw}
 use Rattle.rdl_tree.specs.declared.fault.FaultKind.{FaultKind}
-use Rattle.rdl_tree.specs.declared.fault.FaultKind.TheVariants.{TooManyLevels, TooManyRows, EmptyComponent, MapTooLarge, AccessTooWide, StrideTooSmall, AddressOverlap, FieldPastRegister, FieldOverlap, ResetTooWide}
+use Rattle.rdl_tree.specs.declared.fault.FaultKind.TheVariants.{NoTop, TooManyLevels, TooManyRows, EmptyComponent, MapTooLarge, AccessTooWide, StrideTooSmall, AddressOverlap, FieldPastRegister, FieldOverlap, ResetTooWide}
 use Rattle.rdl_tree.specs.declared.fault.Fault.{Fault}
 use Rattle.rdl_scope.specs.ItemFaults.{first_of, fault_at}
 use Rattle.rdl_elab.specs.declared.layout.Mode.{Mode}
@@ -81,14 +81,18 @@ clashes_before a before = list_any (λ (b : Sibling). overlap a.span b.span && n
 abbrev pub extent_fault : Shell → ℕ → Span → List Sibling → Option FaultKind
 extent_fault s size span before = first_of ((nat_lt (unwrap_or s.stride size) size, StrideTooSmall) ∷ (overlaps_before span before, AddressOverlap) ∷ [])
 
--- what is wrong with a row, the lower number first
-abbrev pub kept_fault : Kind → LayoutValues → ℕ → Shell → ℕ → Sibling → List Sibling → List PropertyValue → Option FaultKind
-kept_fault Field v bits s size a before values =
+-- what is wrong with a field in a register of so many bits
+abbrev pub field_fault : ℕ → Sibling → List Sibling → List PropertyValue → Option FaultKind
+field_fault bits a before values =
     first_of
     ((nat_lt bits a.span.end, FieldPastRegister)
     ∷ (clashes_before a before, FieldOverlap)
     ∷ (is_reset_too_wide (number_in (value_under Reset values)) a.span, ResetTooWide)
     ∷ [])
+
+-- what is wrong with a row, the lower number first
+abbrev pub kept_fault : Kind → LayoutValues → ℕ → Shell → ℕ → Sibling → List Sibling → List PropertyValue → Option FaultKind
+kept_fault Field v bits s size a before values = field_fault bits a before values
 kept_fault Reg v bits s size a before values =
     if nat_lt v.regwidth v.accesswidth then Some AccessTooWide else extent_fault s size a.span before
 kept_fault kind v bits s size a before values = extent_fault s size a.span before
@@ -166,6 +170,14 @@ abbrev pub rows_unless : Option Fault → List Row → Result (List Row) Fault
 rows_unless None rows = Ok rows
 rows_unless (Some f) rows = Err f
 
+abbrev pub fault_or : Option Fault → Result (List Row) Fault → Result (List Row) Fault
+fault_or None answer = answer
+fault_or (Some f) answer = Err f
+
 -- the rows of the map with this top, or its first fault
 abbrev pub kept_rows_or_fault : List Finished → List ℕ → List ℕ → Finished → Result (List Row) Fault
-kept_rows_or_fault fs at name f = rows_unless (option_or (kept_map_fault at f) (told_below fs name f).fault) (told_below fs name f).rows
+kept_rows_or_fault fs at name f = fault_or (kept_map_fault at f) (rows_unless (told_below fs name f).fault (told_below fs name f).rows)
+
+abbrev pub kept_answer : List Finished → List ℕ → List ℕ → Option Finished → Result (List Row) Fault
+kept_answer fs at name None = Err (record { kind = NoTop; address = [] })
+kept_answer fs at name (Some f) = kept_rows_or_fault fs at name f

@@ -14,3 +14,4 @@ pub mod KeptRows
 pub mod Inside
 pub mod Stands
 pub mod Tops
+pub mod Found

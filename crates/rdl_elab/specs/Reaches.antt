@@ -56,7 +56,7 @@ reaches_at d b = unwrap_or (option_map (reaches d b 0) (body_at b d)) []
 -- an assignment behind an instance, if its target passes that
 abbrev pub passed : List ℕ → Reach → List (List ℕ) → Option Reach
 passed a r [] = None
-passed a r (b ∷ path) = if pointwise nat_eq a b then Some (record r { path = path }) else None
+passed a r (b ∷ path) = if pointwise nat_eq b a then Some (record r { path = path }) else None
 
 abbrev pub behind : List ℕ → List Reach → List Reach
 behind a rs = filter_map (λ (r : Reach). passed a r r.path) rs

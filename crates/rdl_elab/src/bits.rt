@@ -14,7 +14,7 @@ fn bits_of(next: u64, field: FieldBits) -> Span
     match field.range {
         Some((high, low)) => Span {
             start: low.min(LIMIT),
-            end: high.saturating_add(1).min(LIMIT),
+            end: high.saturating_add(1).max(low).min(LIMIT),
         },
         None => Span {
             start: next.min(LIMIT),

@@ -7,7 +7,7 @@ ghost use Rattle.rdl_scope.specs.ItemFaults.{fault_at, out_of_memory};
 ghost use Rattle.rdl_elab.specs.Faults.{has_name, top_from, elaborated, under_top};
 ghost use Rattle.rdl_elab.specs.Tops.{top_at};
 ghost use Rattle.rdl_tree.specs.View.{items_of};
-ghost use Rattle.rdl_elab.specs.KeptRows.{kept_map_fault, kept_top_row, kept_around_top, kept_rows_or_fault};
+ghost use Rattle.rdl_elab.specs.KeptRows.{kept_map_fault, kept_top_row, kept_around_top, told_below, rows_unless, kept_rows_or_fault, kept_answer};
 
 use crate::finished::Finished;
 use crate::instances::mode_inside;
@@ -148,11 +148,15 @@ fn top_row(alloc: Global, name: &Name, top: &Finished) -> Result<Row, AllocError
     })
 }
 
-fn around_top<'a>(
-    alloc: Global,
-    name: &Name,
-    top: &'a Finished<'a>,
-) -> Result<Around<'a>, AllocError>
+fn top_rows(alloc: Global, name: &Name, top: &Finished) -> Result<Vec<Row>, AllocError>
+    ensures { IfOk result (λ rows. rows.items ≡ kept_top_row name.now top.now ∷ []) }
+{
+    let mut rows = Vec::new(alloc);
+    rows.push(top_row(alloc, name, top)?)?;
+    Ok(rows)
+}
+
+fn around_top<'a>(alloc: Global, name: &Name, top: &Finished<'a>) -> Result<Around<'a>, AllocError>
     ensures { IfOk result (λ around. around ≡ kept_around_top name.now top.now) }
 {
     Ok(Around {
@@ -164,27 +168,60 @@ fn around_top<'a>(
     })
 }
 
-/// The rows of the map whose top is this component, defined at this address, or its first fault.
-fn rows_or_fault<'a>(
+/// The rows of the map whose top is this component, or the fault of the first that has one.
+fn rows_below<'a>(
     alloc: Global,
-    components: &'a [Finished<'a>],
-    at: &Address,
+    components: &[Finished<'a>],
     name: &Name,
-    top: &'a Finished<'a>,
+    top: &Finished<'a>,
 ) -> Result<Result<Rows, Fault>, AllocError>
-    ensures { IfOk result (λ answer. answer ≡ kept_rows_or_fault components.now at.now name.now top.now) }
+    ensures { IfOk result (λ answer. answer ≡ rows_unless (told_below components.now name.now top.now).fault (told_below components.now name.now top.now).rows) }
 {
-    if let Some(fault) = map_fault(at, top) {
-        return Ok(Err(fault));
-    }
-    let mut rows = Vec::new(alloc);
-    rows.push(top_row(alloc, name, top)?)?;
+    let mut rows = top_rows(alloc, name, top)?;
     let around = around_top(alloc, name, top)?;
     let spans = top.layouts.regalign.spans.as_slice();
     let parts = top.parts.as_slice();
     match add_rows(alloc, components, &around, spans, parts, 16, &mut rows)? {
         Some(fault) => Ok(Err(fault)),
         None => Ok(Ok(Rows::from_vec(rows))),
+    }
+}
+
+/// The rows of the map whose top is this component, defined at this address, or its first fault.
+fn rows_or_fault<'a>(
+    alloc: Global,
+    components: &[Finished<'a>],
+    at: &Address,
+    name: &Name,
+    top: &Finished<'a>,
+) -> Result<Result<Rows, Fault>, AllocError>
+    ensures { IfOk result (λ answer. answer ≡ kept_rows_or_fault components.now at.now name.now top.now) }
+{
+    match map_fault(at, top) {
+        Some(fault) => Ok(Err(fault)),
+        None => rows_below(alloc, components, name, top),
+    }
+}
+
+fn finished_at<'c, 'a>(components: &'c [Finished<'a>], number: usize) -> Option<&'c Finished<'a>>
+    ensures { option_copied result ≡ slice_get components.now number }
+{
+    components.get(number)
+}
+
+/// The same of the component of this number, if there is one.
+fn rows_of<'a>(
+    alloc: Global,
+    walked: &Walked<'a>,
+    at: &Address,
+    name: &Name,
+) -> Result<Result<Rows, Fault>, AllocError>
+    ensures { IfOk result (λ answer. answer ≡ kept_answer walked.now.components.items at.now name.now (slice_get walked.now.components.items walked.now.number)) }
+{
+    let components = walked.components.as_slice();
+    match finished_at(components, walked.number) {
+        Some(top) => rows_or_fault(alloc, components, at, name, top),
+        None => Ok(Err(no_top())),
     }
 }
 
@@ -198,12 +235,9 @@ fn under_top(
     requires { depth description.now.items ≤ 16 }
     ensures { IfOk result (λ answer. answer ≡ under_top description.now.items (number ∷ []) name.now (component description.now.items (number ∷ []))) }
 {
-    let Some(walked) = lay_out_item(alloc, description, number)? else {
-        return Ok(Err(no_top()));
-    };
-    let components = walked.components.as_slice();
-    match components.get(walked.number) {
-        Some(top) => rows_or_fault(alloc, components, &Address::new().inside(number), name, top),
+    let at = Address::new().inside(number);
+    match lay_out_item(alloc, description, number)? {
+        Some(walked) => rows_of(alloc, &walked, &at, name),
         None => Ok(Err(no_top())),
     }
 }

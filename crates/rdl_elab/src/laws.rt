@@ -1,12 +1,16 @@
 //! What the definitions have in common. Each function here is a law: it does nothing when it runs.
-ghost use Rattle.std.specs.Prelude.{◌≡◌, ℕ, List, map, Option, Some, None, true};
+ghost use Rattle.std.specs.Prelude.{◌≡◌, ◌++◌, ◌∷◌, [], ℕ, List, map, Option, Some, None, true};
 ghost use Rattle.rdl_tree.specs.Items.{Items};
 ghost use Rattle.rdl_tree.specs.declared.shell.Kind.{Kind};
 ghost use Rattle.rdl_tree.specs.declared.shell.Shell.{Shell};
 ghost use Rattle.rdl_tree.specs.declared.property.Property.{Property};
 ghost use Rattle.rdl_tree.specs.declared.value.Value.{Value};
-ghost use Rattle.rdl_scope.specs.Closed.{Made, Standing, component, instances, parts};
-ghost use Rattle.rdl_scope.specs.Value.{component_value};
+ghost use Rattle.rdl_tree.specs.declared.description.Of.{Of};
+ghost use Rattle.rdl_tree.specs.declared.description.Item.TheVariants.{Instance};
+ghost use Rattle.rdl_scope.specs.Closed.{Head, Parts, Made, Standing, component, instances, parts};
+ghost use Rattle.rdl_scope.specs.Types.{item};
+ghost use Rattle.rdl_scope.specs.Target.{body_of};
+ghost use Rattle.rdl_scope.specs.Value.{assigned, component_value};
 ghost use Rattle.rdl_elab.specs.declared.layout.Mode.{Mode};
 ghost use Rattle.rdl_elab.specs.declared.layout.Placement.{Placement};
 ghost use Rattle.rdl_elab.specs.declared.layout.Layout.{Layout};
@@ -17,6 +21,10 @@ ghost use Rattle.rdl_elab.specs.Start.{start_of, alignments, IsLeast};
 ghost use Rattle.rdl_elab.specs.Layouts.{values_of, layout_values, mode_inside, laid_out, layouts, layout, instances_under, member};
 ghost use Rattle.rdl_elab.specs.Capped.{capped_layout, capped_instance, IsAlignment};
 ghost use Rattle.rdl_elab.specs.Kept.{kept_instances, scope_of};
+ghost use Rattle.rdl_elab.specs.Rows.{row_values};
+ghost use Rattle.rdl_elab.specs.Shown.{shown_values};
+ghost use Rattle.rdl_elab.specs.Reaches.{reaches, reaches_at, behind, along, reached, values_along};
+ghost use Rattle.rdl_elab.specs.Found.{ArePartsFound};
 ghost use Rattle.rdl_elab.specs.Faults.{overlap, SharesANumber};
 
 /// An instance without `@` begins at the least number that is at least the end of the instance before it and a multiple
@@ -56,4 +64,25 @@ pub fn overlaps_share_a_number()
 /// The layout of a component is that of the values and of the instances that the searches through whole bodies find.
 pub fn layouts_are_as_found()
     ensures { (d : Items) (a : List ℕ) (c : Made) (m : Mode) → component d a ≡ Some c → let v = layout_values (component_value d a) in let n = mode_inside c.head.kind v m in layout m c ≡ laid_out c.head.kind v n (map member (layouts n (instances d a 0 c.head.body))) }
+{}
+
+/// The instances of a component are as the searches through whole bodies find them, all the way down; and its body has
+/// the dynamic assignments of the body at its address.
+pub fn instances_are_as_found()
+    ensures parts { (d : Items) (a : List ℕ) (c : Made) → component d a ≡ Some c → ArePartsFound d a c.parts }
+    ensures assignments { (d : Items) (a : List ℕ) (c : Made) → component d a ≡ Some c → reaches_at d a ≡ reaches d a 0 c.head.body }
+{}
+
+/// What comes along a path, one instance after the other, is what the search through the bodies of the path finds.
+pub fn assignments_come_along()
+    ensures reached { (d : Items) (p : List ℕ) (path : List (List ℕ)) → reached p (along d [] path) ≡ assigned d p path }
+    ensures further { (d : Items) (path : List (List ℕ)) (at a : List ℕ) (c : Made) → body_of at ≡ a → component d a ≡ Some c → along d [] (path ++ at ∷ []) ≡ behind at (along d [] path ++ reaches d a 0 c.head.body) }
+{}
+
+/// The values of a row are made of those that its component has by itself, of the reset of its instance, and of the
+/// assignments that come along its path. Where there is neither, and for the top, they are those of the component.
+pub fn values_are_along()
+    ensures row { (d : Items) (path : List (List ℕ)) (at : List ℕ) (s : Shell) (o : Of) (h : Head) (inside : Parts) → item at d ≡ Some (Instance s o) → component d h.at ≡ Some (record { head = h; parts = inside }) → values_along h.kind s.reset (along d [] (path ++ at ∷ [])) (shown_values h) ≡ row_values d (path ++ at ∷ []) h }
+    ensures alone { (h : Head) → values_along h.kind None [] (shown_values h) ≡ shown_values h }
+    ensures top { (d : Items) (a : List ℕ) (c : Made) → component d a ≡ Some c → shown_values c.head ≡ row_values d [] c.head }
 {}

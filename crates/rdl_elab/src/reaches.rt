@@ -1,5 +1,5 @@
 //! The dynamic assignments that reach an instance.
-ghost use Rattle.std.specs.Prelude.{◌≡◌, ◌++◌, ◌≤◌, IfOk, option_copied};
+ghost use Rattle.std.specs.Prelude.{◌≡◌, ◌++◌, ◌≤◌, IfOk, OnOk, option_copied};
 ghost use Rattle.rdl_tree.specs.Depth.{depth};
 ghost use Rattle.rdl_elab.specs.Reaches.{reaches, behind, reached, reach_by};
 
@@ -11,7 +11,7 @@ use rdl_tree::value::Value;
 use std::alloc::{AllocError, Global};
 use std::marker::Model;
 
-/// A dynamic assignment, and the instances that its target passes.
+/// A dynamic assignment, and the instances that its target has yet to pass.
 #[derive(Drop)]
 pub(crate) struct Assignment<'a> {
     path: Vec<Address>,
@@ -27,63 +27,42 @@ impl<'a> Model for Assignment<'a> {
     ghost view = { λ a. record { path = a.path.items; property = a.property.now; value = a.value.now } };
 }
 
-/// A dynamic assignment on its way down, and the instances that its target has yet to pass.
-#[derive(Drop)]
-pub(crate) struct Reaching<'a> {
-    path: &'a [Address],
-    property: &'a Name,
-    value: &'a Value,
-}
-
-impl<'a> Model for Reaching<'a> {
-    ghost use Rattle.rdl_elab.specs.Reaches.{Reach};
-
-    ghost Value = { Reach };
-
-    ghost view = { λ r. record { path = r.path.now; property = r.property.now; value = r.value.now } };
+fn copied(alloc: Global, path: &[Address]) -> Result<Vec<Address>, AllocError>
+    ensures { IfOk result (λ copy. copy.items ≡ path.now) }
+{
+    path.iter().map(|address| address.copy()).collect(alloc)
 }
 
 impl<'a> Assignment<'a> {
-    ghost use Rattle.std.specs.Prelude.{◌≡◌};
-
-    /// The assignment before it has passed an instance.
-    fn reaching(&self) -> Reaching
-        ensures { result ≡ self.now }
-    {
-        Reaching {
-            path: self.path.as_slice(),
-            property: self.property,
-            value: self.value,
-        }
-    }
-}
-
-impl<'a> Reaching<'a> {
-    ghost use Rattle.std.specs.Prelude.{◌≡◌};
+    ghost use Rattle.std.specs.Prelude.{◌≡◌, IfOk, OnOk};
     ghost use Rattle.rdl_elab.specs.Reaches.{passed, has_ended};
 
-    fn copy(&self) -> Reaching<'a>
-        ensures { result ≡ self.now }
+    fn try_copy(&self, alloc: Global) -> Result<Assignment<'a>, AllocError>
+        ensures { IfOk result (λ copy. copy ≡ self.now) }
     {
-        Reaching {
-            path: self.path,
+        Ok(Assignment {
+            path: copied(alloc, self.path.as_slice())?,
             property: self.property,
             value: self.value,
-        }
+        })
     }
 
     /// The assignment behind an instance, if its target passes that.
     #[tactic(auto, using(crate::proofs::ValueLists::steps))]
-    fn passed(&self, instance: &Address) -> Option<Reaching<'a>>
-        ensures { result ≡ passed instance.now self.now self.now.path }
+    fn passed(
+        &self,
+        alloc: Global,
+        instance: &Address,
+    ) -> Result<Option<Assignment<'a>>, AllocError>
+        ensures { IfOk result (λ behind. behind ≡ passed instance.now self.now self.now.path) }
     {
-        match self.path {
-            [next, rest @ ..] if instance == next => Some(Reaching {
-                path: rest,
+        match self.path.as_slice() {
+            [next, rest @ ..] if next == instance => Ok(Some(Assignment {
+                path: copied(alloc, rest)?,
                 property: self.property,
                 value: self.value,
-            }),
-            _ => None,
+            })),
+            _ => Ok(None),
         }
     }
 
@@ -121,6 +100,7 @@ fn dynamic_assignment<'a>(
 }
 
 /// The dynamic assignments of the body at this address whose targets are there.
+#[tactic(auto, using(crate::proofs::Assignments::steps))]
 pub(crate) fn assignments<'a>(
     alloc: Global,
     description: &'a Description,
@@ -142,25 +122,28 @@ pub(crate) fn assignments<'a>(
 /// The assignments that have come this far and those of the component that stands here.
 pub(crate) fn with_own<'a>(
     alloc: Global,
-    reaching: &[Reaching<'a>],
-    own: &'a [Assignment],
-) -> Result<Vec<Reaching<'a>>, AllocError>
+    reaching: &[Assignment<'a>],
+    own: &[Assignment<'a>],
+) -> Result<Vec<Assignment<'a>>, AllocError>
     ensures { IfOk result (λ list. list.items ≡ reaching.now ++ own.now) }
 {
-    let mut list = copied(alloc, reaching)?;
-    for assignment in own {
-        list.push(assignment.reaching())?;
-    }
+    let mut list = Vec::new(alloc);
+    add_all(alloc, &mut list, reaching)?;
+    add_all(alloc, &mut list, own)?;
     Ok(list)
 }
 
-fn copied<'a>(alloc: Global, reaching: &[Reaching<'a>]) -> Result<Vec<Reaching<'a>>, AllocError>
-    ensures { IfOk result (λ list. list.items ≡ reaching.now) }
+fn add_all<'a>(
+    alloc: Global,
+    list: &mut Vec<Assignment<'a>>,
+    more: &[Assignment<'a>],
+) -> Result<(), AllocError>
+    ensures { OnOk result (list.new.items ≡ list.old.items ++ more.now) }
 {
-    reaching
-        .iter()
-        .map(|assignment| assignment.copy())
-        .collect(alloc)
+    for assignment in more {
+        list.push(assignment.try_copy(alloc)?)?;
+    }
+    Ok(())
 }
 
 /// Those whose targets pass this instance.
@@ -168,13 +151,13 @@ fn copied<'a>(alloc: Global, reaching: &[Reaching<'a>]) -> Result<Vec<Reaching<'
 pub(crate) fn behind<'a>(
     alloc: Global,
     instance: &Address,
-    reaching: &[Reaching<'a>],
-) -> Result<Vec<Reaching<'a>>, AllocError>
+    reaching: &[Assignment<'a>],
+) -> Result<Vec<Assignment<'a>>, AllocError>
     ensures { IfOk result (λ list. list.items ≡ behind instance.now reaching.now) }
 {
     let mut list = Vec::new(alloc);
     for assignment in reaching {
-        if let Some(passed) = assignment.passed(instance) {
+        if let Some(passed) = assignment.passed(alloc, instance)? {
             list.push(passed)?;
         }
     }
@@ -182,7 +165,7 @@ pub(crate) fn behind<'a>(
 }
 
 /// What the first assignment of the property that has passed all its instances assigns.
-pub(crate) fn reached<'a>(name: &str, reaching: &[Reaching<'a>]) -> Option<&'a Value>
+pub(crate) fn reached<'a>(name: &str, reaching: &[Assignment<'a>]) -> Option<&'a Value>
     ensures { option_copied result ≡ reached name.now reaching.now }
 {
     for assignment in reaching {

@@ -2,17 +2,15 @@
 ghost use Rattle.std.specs.Prelude.{◌≡◌, ℕ, ◌+◌, ◌^◌, ◌-◌, ◌++◌, ◌∷◌, [], min, map, nat_lt, unwrap_or, zero, suc, Some, None, IfOk, OnOk, option_copied, slice_get};
 ghost use Rattle.rdl_scope.specs.ItemFaults.{fault_at};
 ghost use Rattle.rdl_elab.specs.Layouts.{number_in};
-ghost use Rattle.rdl_elab.specs.declared.layout.LayoutValues.{LayoutValues};
-ghost use Rattle.rdl_tree.specs.declared.shell.Shell.{Shell};
 ghost use Rattle.rdl_elab.specs.Rows.{place_of};
 ghost use Rattle.rdl_elab.specs.Reaches.{behind, value_under};
 ghost use Rattle.rdl_elab.specs.Finished.{under};
-ghost use Rattle.rdl_elab.specs.KeptRows.{kept_base, kept_values, kept_row, seen, kept_fault, extent_fault, judged, surroundings_inside, level_rows, kept_rows, told_one, told};
+ghost use Rattle.rdl_elab.specs.KeptRows.{kept_base, kept_values, kept_row, seen, kept_fault, field_fault, extent_fault, judged, surroundings_inside, level_rows, kept_rows, told_one, told};
 
 use crate::finished::{Finished, Part};
 use crate::instances::mode_inside;
 use crate::layout::{Mode, Span};
-use crate::reaches::{Reaching, behind, with_own};
+use crate::reaches::{Assignment, behind, with_own};
 use crate::row::{Extent, Place, Row, RowPath, RowValues};
 use crate::siblings::{Sibling, Siblings, as_sibling, is_reset_too_wide};
 use crate::values::{row_values, value_under};
@@ -35,7 +33,7 @@ pub(crate) struct Around<'a> {
     pub base: u64,
     /// How many bits it has if it is a register.
     pub bits: u64,
-    pub reaching: Vec<Reaching<'a>>,
+    pub reaching: Vec<Assignment<'a>>,
 }
 
 impl<'a> Model for Around<'a> {
@@ -105,7 +103,7 @@ fn values(
     alloc: Global,
     kind: Kind,
     reset: Option<u64>,
-    reaching: &[Reaching],
+    reaching: &[Assignment],
     own: &RowValues,
 ) -> Result<RowValues, AllocError>
     ensures { IfOk result (λ values. values ≡ kept_values kind reset reaching.now own.now) }
@@ -122,7 +120,7 @@ fn row(
     span: Span,
     part: &Part,
     component: &Finished,
-    reaching: &[Reaching],
+    reaching: &[Assignment],
 ) -> Result<Row, AllocError>
     requires { reaching.now ≡ behind part.now.at around.now.reaching }
     ensures { IfOk result (λ row. row ≡ kept_row around.now span part.now component.now) }
@@ -174,7 +172,7 @@ fn field_fault(
     before: &Siblings,
     values: &RowValues,
 ) -> Option<FaultKind>
-    ensures { (v : LayoutValues) (s : Shell) (size : ℕ) → result ≡ kept_fault Kind.Field v bits s size field before.now values.now }
+    ensures { result ≡ field_fault bits field before.now values.now }
 {
     if bits < field.span.end {
         Some(FaultKind::FieldPastRegister)
@@ -258,9 +256,9 @@ fn inside<'a>(
     alloc: Global,
     around: &Around<'a>,
     part: &Part<'a>,
-    component: &'a Finished<'a>,
+    component: &Finished<'a>,
     row: &Row,
-    reaching: &[Reaching<'a>],
+    reaching: &[Assignment<'a>],
 ) -> Result<Around<'a>, AllocError>
     requires { reaching.now ≡ behind part.now.at around.now.reaching }
     ensures { IfOk result (λ inside. inside ≡ surroundings_inside around.now part.now component.now row.now) }
@@ -280,7 +278,7 @@ fn span_at(spans: &[Span], number: usize) -> Option<Span>
     spans.get(number).copied()
 }
 
-fn component_of<'a>(components: &'a [Finished<'a>], part: &Part) -> Option<&'a Finished<'a>>
+fn component_of<'c, 'a>(components: &'c [Finished<'a>], part: &Part) -> Option<&'c Finished<'a>>
     ensures { option_copied result ≡ slice_get components.now part.now.component }
 {
     components.get(part.component)
@@ -290,10 +288,10 @@ fn component_of<'a>(components: &'a [Finished<'a>], part: &Part) -> Option<&'a F
 /// fault.
 pub(crate) fn add_rows<'a>(
     alloc: Global,
-    components: &'a [Finished<'a>],
+    components: &[Finished<'a>],
     around: &Around<'a>,
     spans: &[Span],
-    parts: &'a [Part<'a>],
+    parts: &[Part<'a>],
     levels: usize,
     rows: &mut Vec<Row>,
 ) -> Result<Option<Fault>, AllocError>

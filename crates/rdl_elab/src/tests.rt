@@ -194,6 +194,7 @@ fn assigning(alloc: Global) -> Result<Description, Fail> {
 fn reaches_a_field(rt: HostRuntime) -> Result<(), Fail> {
     let alloc = rt.alloc();
     let description = assigning(alloc)?;
+    assert!(rt; description.items.depth() <= 16);
     let root = Address::new();
     let own = assignments(alloc, &description, &root, &description.items)?;
     let register = root.inside(0);

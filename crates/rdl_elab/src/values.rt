@@ -1,18 +1,17 @@
 //! The values of components and of rows.
-ghost use Rattle.std.specs.Prelude.{◌≡◌, Some, None, IfOk, option_copied, option_map, option_and_then};
+ghost use Rattle.std.specs.Prelude.{◌≡◌, Some, IfOk, option_copied, option_map, bytes_eq};
 ghost use Rattle.std.specs.Option.{option_or};
-ghost use Rattle.std.specs.List.{filter_map};
 ghost use Rattle.rdl_tree.specs.Properties.{row, properties};
 ghost use Rattle.rdl_tree.specs.declared.shell.Kind.{Kind};
 ghost use Rattle.rdl_scope.specs.Closed.{Head, stated, built_in, head_value};
 ghost use Rattle.rdl_scope.specs.Value.{shown};
-ghost use Rattle.rdl_elab.specs.Layouts.{layout_values, values_of, number_in, power_in, width_in, mode_in};
+ghost use Rattle.rdl_elab.specs.Layouts.{values_of, number_in, power_in, width_in, mode_in};
 ghost use Rattle.rdl_elab.specs.Shown.{bare, shown_value, shown_among, shown_values};
 ghost use Rattle.rdl_elab.specs.Reaches.{value_along, values_among, values_along, reset_value, value_under};
 
 use crate::defaults::Defaults;
 use crate::layout::{LayoutValues, Mode};
-use crate::reaches::{Reaching, reached};
+use crate::reaches::{Assignment, reached};
 use crate::row::{PropertyValue, RowValues};
 use rdl_scope::values::{own_value, shown};
 use rdl_text::token::Number;
@@ -213,11 +212,18 @@ fn reset_value(property: Property, reset: Option<Number>) -> Option<Value>
     }
 }
 
+/// Whether they are the same. No two properties have one name.
+fn same_property(a: Property, b: Property) -> bool
+    ensures { result ≡ bytes_eq (row a).name (row b).name }
+{
+    a == b
+}
+
 pub(crate) fn value_under(property: Property, own: &[PropertyValue]) -> Option<&Value>
     ensures { option_copied result ≡ value_under property own.now }
 {
     for value in own {
-        if value.property.name() == property.name() {
+        if same_property(value.property, property) {
             return Some(&value.value);
         }
     }
@@ -229,7 +235,7 @@ fn value_along(
     alloc: Global,
     kind: Kind,
     reset: Option<Number>,
-    reaching: &[Reaching],
+    reaching: &[Assignment],
     own: &[PropertyValue],
     property: Property,
 ) -> Result<Option<Value>, AllocError>
@@ -253,7 +259,7 @@ fn values_among(
     alloc: Global,
     kind: Kind,
     reset: Option<Number>,
-    reaching: &[Reaching],
+    reaching: &[Assignment],
     own: &[PropertyValue],
     properties: &[Property],
 ) -> Result<RowValues, AllocError>
@@ -279,7 +285,7 @@ pub(crate) fn row_values(
     alloc: Global,
     kind: Kind,
     reset: Option<Number>,
-    reaching: &[Reaching],
+    reaching: &[Assignment],
     own: &RowValues,
 ) -> Result<RowValues, AllocError>
     ensures { IfOk result (λ values. values ≡ values_along kind reset reaching.now own.now) }

@@ -1,8 +1,8 @@
 //! The walk that lays out components, once for all their instances.
-ghost use Rattle.std.specs.Prelude.{◌≡◌, ℕ, ◌∷◌, ◌+◌, ◌≤◌, [], length, Some, IfOk, IfSome, option_copied};
+ghost use Rattle.std.specs.Prelude.{◌≡◌, ℕ, ◌∷◌, ◌+◌, ◌≤◌, [], length, Some, IfOk, IfSome};
 ghost use Rattle.std.specs.Option.{is_some};
-ghost use Rattle.rdl_tree.specs.Component.{own_component};
 ghost use Rattle.rdl_tree.specs.Depth.{depth};
+ghost use Rattle.rdl_tree.specs.declared.description.Item.TheVariants.{Instance};
 ghost use Rattle.rdl_tree.specs.View.{items_of};
 ghost use Rattle.rdl_scope.specs.Closed.{Made, Parts, Standing, component, head_at, lookup, parts, standing};
 ghost use Rattle.rdl_elab.specs.Finished.{IsFinished, IsKept, AreParts};
@@ -14,6 +14,7 @@ use crate::instances::{first_empty, layouts, levels, rows};
 use crate::reaches::assignments;
 use crate::types::Types;
 use crate::values::{layout_values, shown_values};
+use rdl_scope::types::own_component;
 use rdl_text::name::Name;
 use rdl_tree::address::Address;
 use rdl_tree::description::{Component, Description, Item, Of};
@@ -71,6 +72,7 @@ fn finished<'a>(
 
 /// Lays out the component of the item at this address. What stands before the item stays.
 #[cycle(walk)]
+#[tactic(auto, using(crate::proofs::Goings::goings))]
 fn finish<'a>(
     alloc: Global,
     description: &'a Description,
@@ -97,6 +99,7 @@ fn finish<'a>(
 }
 
 /// The instance of a type, if the type stands.
+#[tactic(auto, using(crate::proofs::Goings::goings))]
 fn named_part<'a>(at: &Address, shell: &'a Shell, name: &Name, types: &Types) -> Option<Part<'a>>
     ensures { LeadsTo at.now shell.now (lookup name.now types.now) result }
 {
@@ -108,8 +111,39 @@ fn named_part<'a>(at: &Address, shell: &'a Shell, name: &Name, types: &Types) ->
     })
 }
 
+/// Lays out the component of the instance at this address, if it has one of its own.
+#[cycle(walk)]
+#[tactic(auto, using(crate::proofs::Goings::goings))]
+fn walk_instance<'a>(
+    alloc: Global,
+    description: &'a Description,
+    at: &Address,
+    shell: &'a Shell,
+    of: &'a Of,
+    walk: &mut Walk<'a>,
+) -> Result<Option<Part<'a>>, AllocError>
+    requires nesting { depth description.now.items ≤ 16 }
+    requires room { length at.now + depth (items_of (Instance shell.now of.now ∷ [])) ≤ 17 }
+    ensures part { IfOk result (λ p. (e : Standing) → Stands description.now.items walk.old e → AreParts description.now.items walk.new.components.items (length walk.new.components.items) (in_list p) (item_parts e at.now (Instance shell.now of.now))) }
+    ensures stands { IfOk result (λ p. (e : Standing) → Stands description.now.items walk.old e → Stands description.now.items walk.new e) }
+    ensures behind { IfOk result (λ p. IsBehind walk.old walk.new) }
+{
+    match of {
+        Of::Anonymous(component) => {
+            let component = finish(alloc, description, at, component, walk)?;
+            Ok(Some(Part {
+                at: at.copy(),
+                shell,
+                component,
+            }))
+        }
+        Of::Named(name) => Ok(named_part(at, shell, name, &walk.types)),
+    }
+}
+
 /// Lays out what the item at this address holds, and goes on behind it. The part is that of an instance.
 #[cycle(walk)]
+#[tactic(auto, using(crate::proofs::Goings::goings))]
 fn walk_item<'a>(
     alloc: Global,
     description: &'a Description,
@@ -129,15 +163,7 @@ fn walk_item<'a>(
             walk.types.push(name, number)?;
             Ok(None)
         }
-        Item::Instance(shell, Of::Anonymous(component)) => {
-            let component = finish(alloc, description, at, component, walk)?;
-            Ok(Some(Part {
-                at: at.copy(),
-                shell,
-                component,
-            }))
-        }
-        Item::Instance(shell, Of::Named(name)) => Ok(named_part(at, shell, name, &walk.types)),
+        Item::Instance(shell, of) => walk_instance(alloc, description, at, shell, of, walk),
         Item::Default(name, value) => {
             walk.defaults.push(name, value)?;
             Ok(None)
@@ -149,6 +175,7 @@ fn walk_item<'a>(
 /// Lays out what these first items of the body at this address hold, and goes on behind them. The parts are those of
 /// the instances.
 #[cycle(walk)]
+#[tactic(auto, using(crate::proofs::Goings::goings))]
 fn walk_items<'a>(
     alloc: Global,
     description: &'a Description,
@@ -169,16 +196,6 @@ fn walk_items<'a>(
         }
     }
     Ok(parts)
-}
-
-fn own_component(item: &Item) -> Option<&Component>
-    ensures { option_copied result ≡ own_component item.now }
-{
-    match item {
-        Item::Instance(_, Of::Anonymous(component)) => Some(component),
-        Item::Define(_, component) => Some(component),
-        _ => None,
-    }
 }
 
 /// Lays out the component of item `n` of the root body.

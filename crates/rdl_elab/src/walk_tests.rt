@@ -1,6 +1,6 @@
 //! Tests that the walk succeeds with ample memory, on a map whose layout is known.
 use crate::layout::Span;
-use crate::walk::lay_out_item;
+use crate::walk::{Walked, lay_out_item};
 use rdl_text::name::Name;
 use rdl_tree::description::{Body, Component, Description, Item, Of};
 use rdl_tree::dims::Dims;
@@ -56,11 +56,21 @@ fn nested(alloc: Global) -> Result<Description, Fail> {
     })
 }
 
+fn laid_out<'a>(
+    alloc: Global,
+    description: &'a Description,
+    n: usize,
+) -> Result<Option<Walked<'a>>, Fail> {
+    if description.items.depth() > 16 {
+        return Err(Fail::new("too deep"));
+    }
+    Ok(lay_out_item(alloc, description, n)?)
+}
+
 #[test]
 fn lays_out_each_type_once(rt: HostRuntime) -> Result<(), Fail> {
     let description = nested(rt.alloc())?;
-    let walked = lay_out_item(rt.alloc(), &description, 1)?;
-    let Some(walked) = walked else {
+    let Some(walked) = laid_out(rt.alloc(), &description, 1)? else {
         return Err(Fail::new("nothing there"));
     };
     // R and its field once, the two register files, and top
@@ -75,6 +85,6 @@ fn lays_out_each_type_once(rt: HostRuntime) -> Result<(), Fail> {
         Some(address) => assert_eq!(rt; address.as_slice(), [1, 3].as_slice()),
         None => assert!(rt; false),
     }
-    assert!(rt; lay_out_item(rt.alloc(), &description, 2)?.is_none());
+    assert!(rt; laid_out(rt.alloc(), &description, 2)?.is_none());
     Ok(())
 }

@@ -1,3 +1,4 @@
+pub mod Accepted
 pub mod AsFound
 pub mod Bodies
 pub mod Depths

@@ -1,8 +1,17 @@
 //! What the definitions have in common.
-ghost use Rattle.std.specs.Prelude.{◌≡◌, ℕ, List, ◌∷◌, Some};
+ghost use Rattle.std.specs.Prelude.{◌≡◌, ℕ, true, List, [], ◌∷◌, ◌++◌, Some, None, slice_get};
 ghost use Rattle.std.specs.Option.{is_some};
 ghost use Rattle.rdl_tree.specs.Items.{Items};
 ghost use Rattle.rdl_tree.specs.Address.{body_at};
+ghost use Rattle.rdl_tree.specs.View.{list_of};
+ghost use Rattle.rdl_tree.specs.declared.shell.Kind.{Kind};
+ghost use Rattle.rdl_tree.specs.declared.shell.Shell.{Shell};
+ghost use Rattle.rdl_tree.specs.declared.description.Component.{Component};
+ghost use Rattle.rdl_tree.specs.declared.description.Item.{Item};
+ghost use Rattle.rdl_tree.specs.declared.description.Item.TheVariants.{Instance};
+ghost use Rattle.rdl_tree.specs.declared.description.Of.{Of};
+ghost use Rattle.rdl_scope.specs.Types.{component_at};
+ghost use Rattle.rdl_scope.specs.ItemFaults.{may_instantiate, instance_kind, item_fault, fault_of};
 ghost use Rattle.rdl_scope.specs.Value.{component_value};
 ghost use Rattle.rdl_scope.specs.Closed.{Made, component, head_value, IsAsFound};
 
@@ -13,4 +22,14 @@ pub fn components_are_as_found()
     ensures exists { (d : Items) (i : ℕ) (a : List ℕ) → is_some (component d (i ∷ a)) ≡ is_some (body_at (i ∷ a) d) }
     ensures found { (d : Items) (a : List ℕ) (m : Made) → component d a ≡ Some m → IsAsFound d a m }
     ensures values { (d : Items) (a : List ℕ) (m : Made) → component d a ≡ Some m → head_value m.head ≡ component_value d a }
+{}
+
+/// In a description without a fault, no item has one: neither those of the root nor those inside a component. So each
+/// instance is of a kind that the component around it may hold. It does nothing when it runs.
+pub fn accepted_items_have_no_fault()
+    ensures root { (d : Items) (n : ℕ) (x : Item) → fault_of d ≡ None → slice_get (list_of d) n ≡ Some x → item_fault d None [] d n x ≡ None }
+    ensures inside { (d : Items) (a : List ℕ) (c : Component) (n : ℕ) (x : Item) → fault_of d ≡ None → component_at d a ≡ Some c
+        → slice_get (list_of c.body) n ≡ Some x → item_fault d (Some c.kind) a c.body n x ≡ None }
+    ensures kinds { (d : Items) (a : List ℕ) (c : Component) (n : ℕ) (s : Shell) (o : Of) (k : Kind) → fault_of d ≡ None → component_at d a ≡ Some c
+        → slice_get (list_of c.body) n ≡ Some (Instance s o) → instance_kind d (a ++ n ∷ []) ≡ Some k → may_instantiate (Some c.kind) k ≡ true }
 {}

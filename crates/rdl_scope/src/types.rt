@@ -133,7 +133,7 @@ pub(crate) fn component_of(description: &Description, address: &Address) -> Opti
 }
 
 /// The item's own component. An instance of a named type has none.
-pub(crate) fn own_component(item: &Item) -> Option<&Component>
+pub fn own_component(item: &Item) -> Option<&Component>
     ensures { option_copied result ≡ own_component item.now }
 {
     match item {

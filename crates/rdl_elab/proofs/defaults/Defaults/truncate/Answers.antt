@@ -1,4 +1,4 @@
-use Rattle.std.proofs.Common.{◌≡◌, ◌-◌, ◌≤◌, List, length, take, drop, map, reverse, ℕ, ap, ◌∙◌, sym, subst}
+use Rattle.std.proofs.Common.{◌≡◌, ◌-◌, ◌≤◌, List, length, drop, map, reverse, ℕ, ap, ◌∙◌, sym, subst}
 use Rattle.rdl_tree.specs.declared.value.Value.{Value}
 use Rattle.rdl_elab.specs.declared.defaults.Default.{Default}
 use Rattle.rdl_elab.proofs.DefaultStacks.{stack-shorter}

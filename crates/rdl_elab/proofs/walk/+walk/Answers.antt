@@ -1,0 +1,100 @@
+use Rattle.std.proofs.Common.{◌≡◌, ◌∷◌, ◌+◌, ◌-◌, ◌*◌, ◌<◌, List, [], length, take, drop, ◌++◌, refl, ap, sym, subst, ◌∙◌, arith, length-append}
+use Rattle.rdl_tree.specs.View.{items_of}
+use Rattle.rdl_tree.specs.declared.description.Item.{Item}
+use Rattle.rdl_tree.specs.declared.description.Of.{Of}
+use Rattle.rdl_tree.specs.declared.description.Item.TheVariants.{Instance}
+use Rattle.rdl_scope.specs.Closed.{parts, standing}
+use Rattle.rdl_elab.specs.declared.finished.Part.{Part}
+use Rattle.rdl_elab.specs.declared.walk.Walk.{Walk}
+use Rattle.rdl_elab.specs.Finished.{AreParts}
+use Rattle.rdl_elab.specs.Stands.{made_at, after_item, item_parts, in_list, Stands}
+use Rattle.rdl_elab.proofs.Goings.{append_nil, grows-on, grows-push, item-room, body-room, stands-grow, stands-define, finished-part, named-part, made-last, stands-next, parts-next, behind-on}
+use Rattle.rdl_elab.proofs.walk.+walk.Goals as goal
+use Rattle.rdl_elab.proofs.walk.+walk.Goals.{walk_items-in-Some+in_ok-push, walk_items-in_default}
+
+pub finish-walk_items-requires : goal.finish-walk_items-requires
+finish-walk_items-requires t c =
+    let less : 4 * (17 - length c.args.at.now) < t = omega (arith, c.decreases) in
+    (less, (c.requires.nesting, body-room c.args.at.now c.args.component.now.body c.as_slice.result.now c.as_slice.ensures c.requires.room))
+
+pub finish-returns-clause-made : goal.finish-returns-clause-made
+finish-returns-clause-made t c = λ e h.
+    let d = c.args.description.now.items in
+    let mid = c.walk_items.new.walk.components.items in
+    let behind = c.in_ok-parts.ensures.behind in
+    let long = c.walk_items.new.walk.defaults in
+    let defaults = c.truncate-2.ensures ∙ ap (λ n. drop (length long - n) long) c.len-defaults.ensures ∙ behind.defaults.same ∙ h.defaults in
+    let same = c.in_ok-finished.ensures.parts in
+    let number : c.len-number.result ≡ length mid = omega arith in
+    made-last d c.args.at.now c.args.component.now e mid c.push.new.self.items c.len-number.result c.in_ok-finished.finished c.as_slice.result.now c.as_slice.ensures number c.in_ok-push.ensures.items
+    (subst (λ (ps : List Part). AreParts d mid (length mid) ps (parts e c.args.at.now 0 (items_of c.as_slice.result.now))) (sym (ap (λ v. v.items) same)) (c.in_ok-parts.ensures.parts e h))
+    (λ inside n are. c.in_ok-finished.ensures.kept e inside n defaults (subst (λ (ps : List Part). AreParts d mid n ps inside) (ap (λ v. v.items) same) are))
+
+pub finish-returns-clause-components : goal.finish-returns-clause-components
+finish-returns-clause-components t c =
+    let mid = c.walk_items.new.walk.components.items in
+    grows-on c.args.walk.now.components.items mid c.push.new.self.items c.in_ok-parts.ensures.behind.components (grows-push mid c.push.new.self.items c.in_ok-finished.finished c.in_ok-push.ensures.items)
+
+pub walk_item-returns-in_ok-push-in-Define-clause-stands :
+    goal.walk_item-returns-in_ok-push-in-Define-clause-stands
+walk_item-returns-in_ok-push-in-Define-clause-stands t c = λ e h.
+    let d = c.args.description.now.items in
+    let old = c.args.walk.now in
+    let mid = c.finish.new.walk in
+    let new : Walk = record { types = c.push.new.self; defaults = mid.defaults; components = mid.components } in
+    let k = c.in_ok-number-in-Define.number in
+    let all = c.in_ok-number-in-Define.ensures in
+    subst (λ (x : Item). Stands d new (after_item c.args.at.now x e)) (sym c.in-Define.is)
+    (stands-define d old new e c.args.at.now c.in-Define.name k c.in-Define.component (c.in_ok-push-in-Define.ensures ∙ ap (λ ts. (c.in-Define.name, k) ∷ ts) all.types) all.defaults all.components (all.made e h) h)
+
+pub walk_items-walk_item-requires : goal.walk_items-walk_item-requires
+walk_items-walk_item-requires t c =
+    let n = ap length c.inside.ensures in
+    let less : 4 * (17 - length c.inside.result) + 3 < t = omega (arith, c.decreases, n, length-append c.args.at.now (c.loop-i.i ∷ []), c.requires.room) in
+    (less, (c.requires.nesting, item-room c.args.at.now c.inside.result c.loop-i.i c.args.items.now c.index-items-i.result c.loop-i-test.true c.index-items-i.is c.inside.ensures c.requires.room))
+
+pub walk_items-loop-i-preserved : goal.walk_items-loop-i-preserved
+walk_items-loop-i-preserved t c =
+    let d = c.args.description.now.items in
+    let new = c.walk_item.new.walk in
+    let all = c.in_ok-part.ensures in
+    let xs = c.args.items.now in
+    let i = c.loop-i.i in
+    let after : c.match-branch-2.parts.items ≡ c.loop-i.parts.items ++ in_list c.in_ok-part.field-0 =
+    elim c.match-branch-2.branch [
+      | walk_items-in-Some+in_ok-push w ↦ ap (λ v. v.items) w.parts-is ∙ w.in_ok-push.ensures.items ∙ ap (λ o. c.loop-i.parts.items ++ in_list o) (sym w.in-Some.is)
+      | walk_items-in_default w ↦ ap (λ v. v.items) w.parts-is ∙ sym (append_nil c.loop-i.parts.items) ∙ ap (λ o. c.loop-i.parts.items ++ in_list o) (sym w.in_default.is)
+    ] in
+    record {
+      parts = λ e h.
+          parts-next d c.args.at.now c.inside.result xs i c.index-items-i.result c.loop-i-test.true c.index-items-i.is c.inside.ensures e c.loop-i.walk.components.items new.components.items c.loop-i.parts.items c.match-branch-2.parts.items
+          c.in_ok-part.field-0 all.behind.components after (c.loop-i.invariant.parts e h) (all.part (standing e c.args.at.now 0 (items_of (take i xs))) (c.loop-i.invariant.stands e h));
+      stands = λ e h.
+          stands-next d c.args.at.now c.inside.result xs i c.index-items-i.result c.loop-i-test.true c.index-items-i.is c.inside.ensures e new
+          (all.stands (standing e c.args.at.now 0 (items_of (take i xs))) (c.loop-i.invariant.stands e h));
+      behind = behind-on c.args.walk.now c.loop-i.walk new c.loop-i.invariant.behind all.behind;
+    }
+
+pub walk_instance-returns-in_ok-component-in-Anonymous-clause-part :
+    goal.walk_instance-returns-in_ok-component-in-Anonymous-clause-part
+walk_instance-returns-in_ok-component-in-Anonymous-clause-part t c = λ e h.
+    let d = c.args.description.now.items in
+    let made = c.in-Anonymous.component in
+    let new = c.finish.new.walk.components.items in
+    let all = c.in_ok-component-in-Anonymous.ensures in
+    let p : Part = record { at = c.copy.result; shell = c.args.shell; component = c.in_ok-component-in-Anonymous.component } in
+    subst (λ (o : Of). AreParts d new (length new) (p ∷ []) (item_parts e c.args.at.now (Instance c.args.shell.now o))) (sym c.in-Anonymous.is)
+    (finished-part d new c.in_ok-component-in-Anonymous.component (made_at e c.args.at.now made) c.args.at.now c.args.shell.now p (all.made e h) c.copy.ensures refl refl)
+
+pub walk_instance-returns-in_ok-component-in-Anonymous-clause-stands :
+    goal.walk_instance-returns-in_ok-component-in-Anonymous-clause-stands
+walk_instance-returns-in_ok-component-in-Anonymous-clause-stands t c = λ e h.
+    let all = c.in_ok-component-in-Anonymous.ensures in
+    stands-grow c.args.description.now.items c.args.walk.now c.finish.new.walk e all.types all.defaults all.components h
+
+pub walk_instance-returns-in-Named-clause-part : goal.walk_instance-returns-in-Named-clause-part
+walk_instance-returns-in-Named-clause-part t c = λ e h.
+    let d = c.args.description.now.items in
+    let fs = c.args.walk.now.components.items in
+    subst (λ (o : Of). AreParts d fs (length fs) (in_list c.named_part.result) (item_parts e c.args.at.now (Instance c.args.shell.now o))) (sym c.in-Named.is)
+    (named-part d fs c.args.at.now c.args.shell.now c.in-Named.name c.named_part.result c.args.walk.now.types e.types h.types c.named_part.ensures)

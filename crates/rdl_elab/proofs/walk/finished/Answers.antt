@@ -1,0 +1,34 @@
+use Rattle.std.proofs.Common.{◌≡◌, List, [], refl, sym, subst, ◌∙◌}
+use Rattle.rdl_scope.specs.Closed.{Head, head_at, head_value}
+use Rattle.rdl_elab.specs.declared.layout.LayoutValues.{LayoutValues}
+use Rattle.rdl_elab.specs.declared.finished.Part.{Part}
+use Rattle.rdl_elab.specs.declared.finished.Finished.{Finished}
+use Rattle.rdl_elab.specs.Capped.{IsAlignment}
+use Rattle.rdl_elab.specs.Finished.{AreParts}
+use Rattle.rdl_elab.proofs.Powers.{alignment-power}
+use Rattle.rdl_elab.proofs.Insides.{layouts-are, levels-kept, rows-kept, empty-kept}
+use Rattle.rdl_elab.proofs.walk.finished.Goals as goal
+
+pub layouts-requires : goal.layouts-requires
+layouts-requires c =
+    let h : Head = record { at = []; kind = c.args.component.now.kind; body = c.args.component.now.body; defaults = c.args.walk.now.defaults } in
+    subst (λ (v : LayoutValues). IsAlignment v.alignment) (sym (c.layout_values-values.ensures h refl refl)) (alignment-power (head_value h))
+
+pub returns-clause-kept : goal.returns-clause-kept
+returns-clause-kept c = λ e inside n same are.
+    let d = c.args.description.now.items in
+    let fs = c.as_slice-components.result.now in
+    let h = head_at c.args.at.now c.args.component.now.kind c.args.component.now.body e in
+    let moved = λ (ps : List Part) (g : ps ≡ c.args.parts.items).
+    subst (λ (gs : List Finished). AreParts d gs n ps inside) (sym c.as_slice-components.ensures.value) (subst (λ (qs : List Part). AreParts d c.args.walk.now.components.items n qs inside) (sym g) are) in
+    record {
+      at = c.copy.ensures;
+      kind = refl;
+      values = c.layout_values-values.ensures h refl (sym same);
+      shown = c.in_ok-shown.ensures h refl refl (sym same);
+      assignments = c.in_ok-assignments.ensures;
+      layouts = layouts-are d fs n c.as_slice.result.now inside h c.layout_values-values.result c.in_ok-layouts.layouts (c.layout_values-values.ensures h refl (sym same)) (moved c.as_slice.result.now c.as_slice.ensures.value) c.in_ok-layouts.ensures;
+      levels = c.levels.ensures ∙ levels-kept d fs n c.as_slice-2.result.now inside (moved c.as_slice-2.result.now c.as_slice-2.ensures.value);
+      rows = c.rows.ensures ∙ rows-kept d fs n c.as_slice-3.result.now inside (moved c.as_slice-3.result.now c.as_slice-3.ensures.value);
+      first_empty = c.first_empty.ensures ∙ empty-kept d fs n c.as_slice-4.result.now inside (moved c.as_slice-4.result.now c.as_slice-4.ensures.value);
+    }

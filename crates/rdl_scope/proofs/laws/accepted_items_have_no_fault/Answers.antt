@@ -1,0 +1,5 @@
+use Rattle.rdl_scope.proofs.Accepted.{clear-root, clear-inside, kinds-allowed}
+use Rattle.rdl_scope.proofs.laws.accepted_items_have_no_fault.Goals as goal
+
+pub returns : goal.returns
+returns c = record { root = clear-root; inside = clear-inside; kinds = kinds-allowed }
