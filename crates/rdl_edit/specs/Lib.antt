@@ -1,3 +1,3 @@
 pub mod Names
 pub mod Step
-pub mod Opening
+pub mod Faults

@@ -1,29 +1,28 @@
 //! The map that a history keeps.
-ghost use Rattle.std.specs.Prelude.{◌≡◌, ◌++◌, ◌∷◌, [], Ok, Err, Some, None, IfOk, IfErr, OnOk, option_copied};
-ghost use Rattle.std.specs.Prelude.{string_bytes, unwrap_or};
-ghost use Rattle.rdl_flat.specs.FlatFault.{map_fault};
-ghost use Rattle.rdl_flat.specs.FlatRows.{list_lines};
+ghost use Rattle.std.specs.Prelude.{◌≡◌, ◌⊎◌, ◌++◌, ◌∷◌, [], Ok, Err, Some, None, IfOk, IfErr, OnOk, option_copied, unwrap_or};
+ghost use Rattle.std.specs.List.{list_all};
+ghost use Rattle.rdl_elab.specs.Faults.{elaborated};
+ghost use Rattle.rdl_scope.specs.ItemFaults.{out_of_memory};
 ghost use Rattle.rdl_tree.specs.Address.{inner, map_body};
 ghost use Rattle.rdl_tree.specs.Items.{no_items};
 ghost use Rattle.rdl_tree.specs.View.{items_of, list_of};
-ghost use Rattle.rdl_write.specs.MapText.{map_text};
-ghost use Rattle.rdl_edit.specs.Opening.{IfRefused};
-ghost use Rattle.rdl_edit.specs.Step.{State, target_at, extended, taken, edited, step};
+ghost use Rattle.rdl_edit.specs.Step.{State, HasRows, is_component, target_at, extended, taken, edited, step};
 
-use crate::edit::{Edit, Refusal};
+use crate::edit::{Edit, Refusal, is_memory};
 use crate::names::{definition_taken, instance_taken};
 use journal_core::invertible::Invertible;
-use rdl_flat::fault::{MapFault, map_fault};
-use rdl_flat::rows;
+use rdl_elab::elaborate::elaborate;
+use rdl_elab::row::Rows;
 use rdl_text::name::Name;
 use rdl_tree::address::Address;
-use rdl_tree::description::{Body, Description};
+use rdl_tree::description::{Body, Description, Item};
+use rdl_tree::fault::Fault;
 use rdl_tree::path::Segment;
 use std::alloc::{AllocError, Global};
 use std::marker::Model;
 use std::mem;
 
-/// A map that elaborates, with the name that the option asks of its top. A contract sees a `State`.
+/// A map that has rows, with the name that the option asks of its top. A contract sees a `State`.
 #[derive(Debug, Drop)]
 pub struct Map {
     description: Description,
@@ -31,10 +30,7 @@ pub struct Map {
 }
 
 impl Model for Map {
-    ghost use Rattle.std.specs.Prelude.{◌≡◌, None};
-    ghost use Rattle.rdl_edit.specs.Opening.{IfRefused};
-    ghost use Rattle.rdl_edit.specs.Step.{State};
-    ghost use Rattle.rdl_flat.specs.FlatFault.{map_fault};
+    ghost use Rattle.rdl_edit.specs.Step.{State, HasRows};
     ghost use Rattle.rdl_tree.specs.contracts.description.Body as body;
     ghost use Rattle.std.specs.Coded.{codes};
 
@@ -44,31 +40,34 @@ impl Model for Map {
 
     ghost view = { λ m. record { description = m.description.items; option = m.name } };
 
-    ghost invariant = { λ m. map_fault m.name m.description.items ≡ None };
+    ghost invariant = { λ m. HasRows (record { description = m.description.items; option = m.name }) };
 }
 
-/// Why a description isn't opened.
-#[derive(Debug, Drop)]
-pub enum OpenFault {
-    Refused(MapFault),
-    Memory,
+fn text_of(name: Option<&Name>) -> Option<&str>
+    ensures { option_copied result ≡ option_copied name.entry }
+{
+    match name {
+        Some(name) => Some(name.as_str()),
+        None => None,
+    }
+}
+
+fn are_components(items: &Body) -> bool
+    ensures { result ≡ list_all is_component (list_of items.now) }
+{
+    items.as_slice().iter().all(|item| matches!(item, Item::Define(..) | Item::Instance(..)))
 }
 
 impl Map {
     /// Takes the description, and drops it where it has a fault.
-    pub fn open(
-        alloc: Global,
-        description: Description,
-        name: Option<Name>,
-    ) -> Result<Map, OpenFault>
+    pub fn open(alloc: Global, description: Description, name: Option<Name>) -> Result<Map, Fault>
         ensures ok { IfOk result (λ m. m ≡ record { description = description.items; option = name }) }
-        ensures accepted { IfOk result (λ _. map_fault name description.items ≡ None) }
-        ensures refused { IfErr result (λ fault. IfRefused fault (λ f. map_fault name description.items ≡ Some f)) }
+        ensures accepted { IfOk result (λ _. HasRows (record { description = description.items; option = name })) }
+        ensures refused { IfErr result (λ fault. (elaborated description.items name ≡ Err fault) ⊎ (fault ≡ out_of_memory)) }
     {
-        match map_fault(alloc, &description, name.as_ref()) {
-            Ok(None) => Ok(Map { description, name }),
-            Ok(Some(fault)) => Err(OpenFault::Refused(fault)),
-            Err(_) => Err(OpenFault::Memory),
+        match elaborate(alloc, &description, text_of(name.as_ref())) {
+            Ok(_) => Ok(Map { description, name }),
+            Err(fault) => Err(fault),
         }
     }
 
@@ -78,11 +77,14 @@ impl Map {
         &self.description
     }
 
-    /// The lines of `list`.
-    pub fn list_text(&self, alloc: Global) -> Result<String, AllocError>
-        ensures { IfOk result (λ text. string_bytes text ≡ list_lines self.now.description) }
+    /// The rows, laid out anew.
+    pub fn rows(&self, alloc: Global) -> Result<Rows, AllocError>
+        ensures { IfOk result (λ rows. elaborated self.now.description self.now.option ≡ Ok rows) }
     {
-        rows::list_text(alloc, &self.description)
+        match elaborate(alloc, &self.description, text_of(self.name.as_ref())) {
+            Ok(rows) => Ok(rows),
+            Err(_) => Err(AllocError),
+        }
     }
 
     fn option(&self, alloc: Global) -> Result<Option<Name>, AllocError>
@@ -148,7 +150,6 @@ fn extend(alloc: Global, body: &mut Body, added: &Body) -> Result<(), AllocError
 }
 
 impl Invertible for Map {
-    ghost use Rattle.rdl_edit.specs.Opening.{IfRefused};
     ghost use Rattle.rdl_edit.specs.Step.{Leads, Refuses};
 
     type Change = Edit;
@@ -173,6 +174,9 @@ impl Invertible for Map {
         let Some(number) = self.target(alloc, &edit.target)? else {
             return Err(Refusal::NoSuchPath);
         };
+        if !are_components(&edit.items) {
+            return Err(Refusal::NotAddable);
+        }
         if self.is_taken(alloc, number, edit)? {
             return Err(Refusal::NameTaken);
         }
@@ -180,8 +184,8 @@ impl Invertible for Map {
         let name = self.option(alloc)?;
         match Map::open(alloc, description, name) {
             Ok(new) => Ok(mem::replace(self, new)),
-            Err(OpenFault::Refused(fault)) => Err(Refusal::Faulty(fault)),
-            Err(OpenFault::Memory) => Err(Refusal::Memory),
+            Err(fault) if is_memory(fault.kind) => Err(Refusal::Memory),
+            Err(fault) => Err(Refusal::Faulty(fault)),
         }
     }
 

@@ -27,7 +27,7 @@ impl Model for RowPath {
 impl RowPath {
     ghost use Rattle.std.specs.Prelude.{◌≡◌};
 
-    pub(crate) fn from_vec(names: Vec<Name>) -> RowPath
+    pub fn from_vec(names: Vec<Name>) -> RowPath
         ensures { result ≡ names.items }
     {
         RowPath { names }
@@ -78,7 +78,7 @@ impl Model for RowValues {
 impl RowValues {
     ghost use Rattle.std.specs.Prelude.{◌≡◌, IfOk};
 
-    pub(crate) fn from_vec(items: Vec<PropertyValue>) -> RowValues
+    pub fn from_vec(items: Vec<PropertyValue>) -> RowValues
         ensures { result ≡ items.items }
     {
         RowValues { items }

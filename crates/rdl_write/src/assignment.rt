@@ -4,7 +4,6 @@ ghost use Rattle.rdl_write.specs.Texts.{value_text, assignment_text, target_text
 
 use crate::number::push_decimal;
 use rdl_text::name::Name;
-use rdl_tree::target::Target;
 use rdl_tree::value::Value;
 use std::alloc::AllocError;
 
@@ -36,11 +35,11 @@ pub fn push_assignment(text: &mut String, property: &Name, value: &Value) -> Res
     Ok(())
 }
 
-/// Appends the names of a target, with dots between them.
-pub fn push_target(text: &mut String, target: &Target) -> Result<(), AllocError>
-    ensures { OnOk result (string_bytes text.new ≡ string_bytes text.old ++ target_text target.now) }
+/// Appends names with dots between them, as those of a target.
+pub fn push_names(text: &mut String, names: &[Name]) -> Result<(), AllocError>
+    ensures { OnOk result (string_bytes text.new ≡ string_bytes text.old ++ target_text names.now) }
 {
-    match target.names() {
+    match names {
         [] => Ok(()),
         [first, others @ ..] => {
             text.push_str(first.as_str())?;

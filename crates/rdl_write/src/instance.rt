@@ -31,7 +31,8 @@ pub fn outside_text(outside: Outside) -> &'static str
     }
 }
 
-fn push_dims(text: &mut String, dims: &[Number]) -> Result<(), AllocError>
+/// Appends each size of an array in brackets.
+pub fn push_dims(text: &mut String, dims: &[Number]) -> Result<(), AllocError>
     ensures { OnOk result (string_bytes text.new ≡ string_bytes text.old ++ flat_map dim_text dims.now) }
 {
     'dims: for size in dims {

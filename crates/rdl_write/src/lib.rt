@@ -6,5 +6,7 @@ mod instance;
 mod map;
 mod number;
 
+pub use assignment::push_names;
+pub use instance::{kind_text, push_dims};
 pub use map::rdl;
 pub use number::{push_decimal, push_hexadecimal};

@@ -5,7 +5,7 @@ ghost use Rattle.rdl_tree.specs.declared.shell.Kind.{Kind as SomeKind};
 ghost use Rattle.rdl_write.specs.MapText.{deeper, statement_line, open_line, close_line, body_text, map_text};
 ghost use Rattle.rdl_write.specs.ItemText.{item_text};
 
-use crate::assignment::{push_assignment, push_target};
+use crate::assignment::{push_assignment, push_names};
 use crate::instance::{kind_text, outside_text, push_shell};
 use rdl_text::name::Name;
 use rdl_tree::description::{Body, Description, Item, Of};
@@ -73,7 +73,7 @@ fn push_dynamic(
     ensures { OnOk result (string_bytes text.new ≡ string_bytes text.old ++ statement_line indent.now (dynamic target.now property.now value.now)) }
 {
     text.push_str(indent)?;
-    push_target(text, target)?;
+    push_names(text, target.names())?;
     text.push_str("->")?;
     push_assignment(text, property, value)?;
     text.push_str(";\n")?;

@@ -3,12 +3,12 @@ use Rattle.std.specs.Prelude.{◌≡◌, ◌≢◌, ℕ, ◌+◌, Bool, true, fa
 use Rattle.std.specs.List.{list_any}
 use Rattle.journal_core.specs.History.{History, IsAt, Edits, after_undo, after_redo}
 use Rattle.regedit.specs.Commands.{Command, nothing, undo, redo, list, add, refused, command_of}
-use Rattle.rdl_edit.specs.Step.{State, Leads}
+use Rattle.rdl_edit.specs.Step.{State, HasRows, Leads}
 use Rattle.rdl_edit.specs.Step as edits
 use Rattle.rdl_edit.specs.declared.edit.Edit.{Edit}
 use Rattle.rdl_edit.specs.declared.edit.Refusal.{Refusal}
 use Rattle.rdl_edit.specs.declared.edit.Refusal.TheVariants.{Memory}
-use Rattle.rdl_flat.specs.FlatRows.{list_lines}
+use Rattle.rdl_list.specs.ListText.{list_lines}
 use Rattle.rdl_tree.specs.View.{items_of}
 use Rattle.rdl_tree.specs.declared.description.Item.{Item}
 use Rattle.regedit.specs.Known.{concat}
@@ -46,11 +46,20 @@ pub record Full (old : History') (text : List ℕ) : Type 0 where
   pub read : ReadsItems text items
   pub full : old.place ≡ old.limit
 
--- the rows at the place
+-- the lines of the rows of a map
+pub record ListsRows (now : State) (text : List ℕ) : Type 0 where
+  pub laid_out : HasRows now
+  pub lines : text ≡ list_lines laid_out.rows
+
+abbrev pub IsListOf : State → Reply → Type 0
+IsListOf now (Listed text) = ListsRows now (string_bytes text)
+IsListOf now r = ⊥
+
+-- those of the map at the place
 pub record Lists (old : History') (text : List ℕ) : Type 0 where
   pub now : State
   pub at : IsAt old now
-  pub rows : text ≡ list_lines now.description
+  pub rows : ListsRows now text
 
 -- one line: a command, its reply, and the history before and after it; whatever is refused moves nothing
 abbrev pub Answers : History' → Command → Reply → History' → Type 0

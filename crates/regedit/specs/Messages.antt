@@ -9,8 +9,6 @@ use Rattle.rdl_edit.specs.declared.edit.Refusal.TheVariants as refusals
 use Rattle.rdl_parse.specs.declared.fault.ParseFault.{ParseFault}
 use Rattle.rdl_parse.specs.declared.fault.ParseFaultKind.{ParseFaultKind}
 use Rattle.rdl_parse.specs.declared.fault.ParseFaultKind.TheVariants as texts
-use Rattle.rdl_flat.specs.declared.fault.MapFault.{MapFault}
-use Rattle.rdl_flat.specs.declared.fault.MapFault.TheVariants.{NotSupported, Found}
 use Rattle.rdl_tree.specs.AddressText.{address_text}
 use Rattle.rdl_tree.specs.declared.fault.FaultKind.{FaultKind}
 use Rattle.rdl_tree.specs.declared.fault.FaultKind.TheVariants as kinds
@@ -69,15 +67,6 @@ fault_text kinds.ResetTooWide = codes "E23 reset too wide"
 fault_text kinds.Memory = []
 fault_text kinds.DescriptionTooLarge = codes "E25 description too large"
 
--- a fault of a map, and the item at which it stands
-unfoldable pub map_fault_text : MapFault → List ℕ
-map_fault_text (NotSupported at) = codes "E0 not yet supported"
-map_fault_text (Found fault) = fault_text fault.kind
-
-abbrev pub fault_address : MapFault → List ℕ
-fault_address (NotSupported at) = at
-fault_address (Found fault) = fault.address
-
 unfoldable pub command_fault_text : CommandFault → List ℕ
 command_fault_text commands.Unknown = codes "C1 unknown command"
 command_fault_text commands.BadOperands = codes "C2 bad operands"
@@ -85,9 +74,10 @@ command_fault_text commands.NotUtf8 = codes "C3 not UTF-8"
 
 unfoldable pub refusal_text : Refusal → List ℕ
 refusal_text refusals.NoSuchPath = codes "X1 no such path: P1 no such name"
+refusal_text refusals.NotAddable = codes "X8 only definitions and instances are added"
 refusal_text refusals.NameTaken = codes "X3 name taken"
 refusal_text (refusals.Faulty fault) =
-    codes "X9 the edited map has a fault: " ++ map_fault_text fault ++ codes " at item " ++ address_text (fault_address fault)
+    codes "X9 the edited map has a fault: " ++ fault_text fault.kind ++ codes " at item " ++ address_text fault.address
 refusal_text refusals.Memory = []
 
 -- the text of an `add` has no line feed, so its columns are its bytes, from 1; no text reaches the greatest number

@@ -5,13 +5,14 @@ ghost use Rattle.regedit.specs.Opening.{text_line, fault_line, Opens, RefusesToO
 ghost use Rattle.regedit.specs.OpeningFaults.{IfRefusedToOpen};
 
 use crate::reading::{ReadingFault, map_of};
-use crate::reply::{fault_address, map_fault_text, map_line, parse_fault_text};
-use rdl_edit::map::{Map, OpenFault as MapOpenFault};
-use rdl_flat::fault::MapFault;
+use crate::reply::{fault_text, map_line, parse_fault_text};
+use rdl_edit::edit::is_memory;
+use rdl_edit::map::Map;
 use rdl_parse::fault::ParseFault;
 use rdl_parse::places::Places;
 use rdl_text::byte_place;
 use rdl_text::name::Name;
+use rdl_tree::fault::Fault;
 use std::alloc::{AllocError, Global};
 
 /// Why a map isn't opened.
@@ -43,11 +44,11 @@ fn text_line(alloc: Global, bytes: &[u8], fault: ParseFault) -> Result<String, A
     )
 }
 
-fn fault_line(alloc: Global, places: &Places<'_>, fault: &MapFault) -> Result<String, AllocError>
+fn fault_line(alloc: Global, places: &Places<'_>, fault: &Fault) -> Result<String, AllocError>
     ensures { IfOk result (λ text. string_bytes text ≡ fault_line places.now fault.now) }
 {
-    let place = places.at(fault_address(fault)).unwrap_or((1, 1));
-    map_line(alloc, place, map_fault_text(fault))
+    let place = places.at(&fault.address).unwrap_or((1, 1));
+    map_line(alloc, place, fault_text(fault.kind))
 }
 
 fn copied(alloc: Global, name: Option<&Name>) -> Result<Option<Name>, AllocError>
@@ -73,9 +74,7 @@ pub fn open(alloc: Global, bytes: &[u8], name: Option<&Name>) -> Result<Map, Ope
     };
     match Map::open(alloc, description, copied(alloc, name)?) {
         Ok(map) => Ok(map),
-        Err(MapOpenFault::Refused(fault)) => {
-            Err(OpenFault::Refused(fault_line(alloc, &places, &fault)?))
-        }
-        Err(MapOpenFault::Memory) => Err(OpenFault::Memory),
+        Err(fault) if is_memory(fault.kind) => Err(OpenFault::Memory),
+        Err(fault) => Err(OpenFault::Refused(fault_line(alloc, &places, &fault)?)),
     }
 }

@@ -5,8 +5,6 @@ ghost use Rattle.regedit.specs.Messages.{
   words_fault_text,
   parse_fault_text,
   fault_text,
-  map_fault_text,
-  fault_address,
   command_fault_text,
   refusal_text,
   add_column,
@@ -18,10 +16,8 @@ ghost use Rattle.regedit.specs.Messages.{
 
 use crate::script::CommandFault;
 use rdl_edit::edit::Refusal;
-use rdl_flat::fault::MapFault;
 use rdl_parse::fault::{ParseFault, ParseFaultKind};
 use rdl_text::fault::FaultKind as WordsFault;
-use rdl_tree::address::Address;
 use rdl_tree::fault::FaultKind;
 use rdl_write::push_decimal;
 use std::alloc::{AllocError, Global};
@@ -91,8 +87,9 @@ pub fn parse_fault_text(kind: ParseFaultKind) -> &'static str
     }
 }
 
+/// The text of a fault of a map.
 #[tactic(auto, unfolding(crate::specs::Messages::fault_text))]
-fn fault_text(kind: FaultKind) -> &'static str
+pub fn fault_text(kind: FaultKind) -> &'static str
     ensures { result.now ≡ fault_text kind }
 {
     match kind {
@@ -124,27 +121,6 @@ fn fault_text(kind: FaultKind) -> &'static str
     }
 }
 
-/// The text of a fault of a map.
-#[tactic(auto, unfolding(crate::specs::Messages::map_fault_text))]
-pub fn map_fault_text(fault: &MapFault) -> &'static str
-    ensures { result.now ≡ map_fault_text fault.now }
-{
-    match fault {
-        MapFault::NotSupported(_) => "E0 not yet supported",
-        MapFault::Found(found) => fault_text(found.kind),
-    }
-}
-
-/// The item at which a fault of a map stands.
-pub fn fault_address(fault: &MapFault) -> &Address
-    ensures { result.now ≡ fault_address fault.now }
-{
-    match fault {
-        MapFault::NotSupported(address) => address,
-        MapFault::Found(found) => &found.address,
-    }
-}
-
 #[tactic(auto, unfolding(crate::specs::Messages::command_fault_text))]
 fn command_fault_text(fault: CommandFault) -> &'static str
     ensures { result.now ≡ command_fault_text fault }
@@ -162,11 +138,12 @@ fn push_refusal(text: &mut String, refusal: &Refusal) -> Result<(), AllocError>
 {
     match refusal {
         Refusal::NoSuchPath => text.push_str("X1 no such path: P1 no such name"),
+        Refusal::NotAddable => text.push_str("X8 only definitions and instances are added"),
         Refusal::NameTaken => text.push_str("X3 name taken"),
         Refusal::Faulty(fault) => {
             text.push_str("X9 the edited map has a fault: ")?;
-            text.push_str(map_fault_text(fault))?;
-            write!(text, " at item {}", fault_address(fault))
+            text.push_str(fault_text(fault.kind))?;
+            write!(text, " at item {}", fault.address)
         }
         Refusal::Memory => Ok(()),
     }

@@ -3,7 +3,7 @@ ghost use Rattle.std.specs.Prelude.{◌≡◌, ◌⊎◌, ℕ, ◌≤◌, ◌<�
 ghost use Rattle.std.specs.Io.KnownBytes.{Appends};
 ghost use Rattle.std.specs.List.{prefix_len};
 ghost use Rattle.std.specs.Option.{option_copied};
-ghost use Rattle.regedit.specs.Answers.{Answers, Replied, Serves};
+ghost use Rattle.regedit.specs.Answers.{Answers, IsListOf, Replied, Serves};
 ghost use Rattle.regedit.specs.Commands.{add, undo, redo, lines_of, lines_left};
 ghost use Rattle.regedit.specs.ScriptLines.{is_in_line, left_len};
 ghost use Rattle.regedit.specs.Seen.{seen};
@@ -17,6 +17,7 @@ use journal_core::fault::{EditFault, StepFault};
 use journal_core::journal::Journal;
 use rdl_edit::edit::{Edit, Refusal};
 use rdl_edit::map::Map;
+use rdl_list::list_text;
 use rdl_text::name::Name;
 use rdl_tree::description::Body;
 use std::alloc::Global;
@@ -70,6 +71,20 @@ fn redo(alloc: Global, journal: &mut Journal<Map>) -> Result<Reply, RunFault>
     }
 }
 
+/// The lines of the rows of a map.
+fn list(alloc: Global, map: &Map) -> Result<Reply, RunFault>
+    ensures lists { IfOk result (IsListOf map.now) }
+    ensures fault { IsOkUnless result RunFault.Memory }
+{
+    let Ok(rows) = map.rows(alloc) else {
+        return Err(RunFault::Memory);
+    };
+    match list_text(alloc, rows.as_slice()) {
+        Ok(text) => Ok(Reply::Listed(text)),
+        Err(_) => Err(RunFault::Memory),
+    }
+}
+
 /// Does what a line asks for.
 pub fn serve(
     alloc: Global,
@@ -83,10 +98,7 @@ pub fn serve(
         Request::Nothing => Ok(Reply::Done),
         Request::Undo => undo(alloc, journal),
         Request::Redo => redo(alloc, journal),
-        Request::List => match journal.map().list_text(alloc) {
-            Ok(text) => Ok(Reply::Listed(text)),
-            Err(_) => Err(RunFault::Memory),
-        },
+        Request::List => list(alloc, journal.map()),
         Request::Add(target, text) => add(alloc, journal, target, text),
         Request::Refused(fault) => Ok(Reply::Refused(LineRefusal::Command(fault))),
     }

@@ -1,16 +1,21 @@
 //! Tests of the whole program, over readers and writers in memory and over files.
 use crate::run::{Options, run};
 use crate::status::{RunFault, Status};
+use rdl_text::name::Name;
 use std::alloc::Global;
 use std::io::{Read, Write};
 use std::str;
 use std::test::Fail;
 
+mod edits;
+mod examples;
 mod faults;
 mod files;
 mod history;
+mod layouts;
 mod limits;
 mod lines;
+mod map_faults;
 mod maps;
 mod mission;
 
@@ -58,13 +63,12 @@ fn run_with<M: Read, S: Read, E: Write>(
     )
 }
 
-fn write_with(
+fn write_by(
     alloc: Global,
     mut map: &[u8],
     mut script: &[u8],
-    history: u32,
+    options: &Options,
 ) -> Result<Written, RunFault> {
-    let options = Options { top: None, history };
     let mut rdl = Vec::new(alloc);
     let mut header = Vec::new(alloc);
     let mut messages = Vec::new(alloc);
@@ -72,7 +76,7 @@ fn write_with(
         alloc,
         &mut map,
         &mut script,
-        &options,
+        options,
         &mut rdl,
         &mut header,
         &mut messages,
@@ -83,6 +87,20 @@ fn write_with(
         header,
         messages,
     })
+}
+
+fn write_with(alloc: Global, map: &[u8], script: &[u8], history: u32) -> Result<Written, RunFault> {
+    let options = Options { top: None, history };
+    write_by(alloc, map, script, &options)
+}
+
+/// Runs with the name of the top.
+fn write_top(alloc: Global, map: &str, script: &str, top: &str) -> Result<Written, Fail> {
+    let options = Options {
+        top: Some(Name::new(alloc, top)?),
+        history: 10_000,
+    };
+    Ok(write_by(alloc, map.as_bytes(), script.as_bytes(), &options)?)
 }
 
 fn write_bytes(alloc: Global, map: &[u8], script: &[u8]) -> Result<Written, RunFault> {

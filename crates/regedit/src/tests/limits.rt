@@ -85,3 +85,50 @@ fn of_nesting(rt: HostRuntime) -> Result<(), Fail> {
     assert_eq!(rt; written.messages()?, "map:1:161: S10 unexpected end\n");
     Ok(())
 }
+
+/// A map of 65,536 rows: the top, and three register files of 21,845 rows each.
+const MANY_ROWS: &str = "reg C0 {};
+regfile C1 { C0 a, b, c, d; };
+regfile C2 { C1 a, b, c, d; };
+regfile C3 { C2 a, b, c, d; };
+regfile C4 { C3 a, b, c, d; };
+regfile C5 { C4 a, b, c, d; };
+regfile C6 { C5 a, b, c, d; };
+regfile C7 { C6 a, b, c, d; };
+addrmap top { C7 x, y, z; };
+";
+
+#[test]
+fn of_rows(rt: HostRuntime) -> Result<(), Fail> {
+    let written = write(rt.alloc(), MANY_ROWS, "add /$top last reg {} r;\n")?;
+    let want = "script:1: X9 the edited map has a fault: E15 over 65536 rows at item 8\n";
+    assert_eq!(rt; written.messages()?, want);
+    Ok(())
+}
+
+/// Adds so many address maps, each inside the one before.
+fn adding_nested(alloc: Global, levels: usize) -> Result<String, AllocError> {
+    let mut script = String::from_str(alloc, "add /$top last ")?;
+    for _ in 0..levels {
+        script.push_str("addrmap{")?;
+    }
+    for _ in 0..levels {
+        script.push_str("}b;")?;
+    }
+    Ok(script)
+}
+
+// The text of an `add` may nest as deep as a map, and then it is too deep inside the map.
+#[test]
+fn of_nesting_in_an_edited_map(rt: HostRuntime) -> Result<(), Fail> {
+    let script = adding_nested(rt.alloc(), 16)?;
+    let written = write(rt.alloc(), MAP, script.as_str())?;
+    let want = "script:1: X9 the edited map has a fault: E25 description too large at item -\n";
+    assert_eq!(rt; written.messages()?, want);
+    let script = adding_nested(rt.alloc(), 15)?;
+    let written = write(rt.alloc(), MAP, script.as_str())?;
+    let want =
+        "script:1: X9 the edited map has a fault: E16 empty component at item 0.1.0.0.0.0.0.0.0.0.0.0.0.0.0.0\n";
+    assert_eq!(rt; written.messages()?, want);
+    Ok(())
+}

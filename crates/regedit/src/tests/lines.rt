@@ -70,7 +70,7 @@ const REFUSED: [(&str, &str); 36] = [
     ("add /$top last regfile { reg top {}; } b;", "X3 name taken"),
     (
         "add /$top last field {} f;",
-        "X9 the edited map has a fault: E0 not yet supported at item 0.1",
+        "X9 the edited map has a fault: E3 kind not allowed here at item 0.1",
     ),
     (
         "add /$top last reg { field {} g; field {} g; } b;",

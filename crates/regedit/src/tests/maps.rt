@@ -3,7 +3,7 @@ use super::{write, write_bytes};
 use crate::status::Status;
 use std::test::Fail;
 
-const REFUSED: [(&str, &str); 23] = [
+const REFUSED: [(&str, &str); 19] = [
     ("", "map:1:1: E13 no top\n"),
     (" // nothing\n", "map:1:1: E13 no top\n"),
     ("addrmap top { ? };", "map:1:15: S1 bad character\n"),
@@ -24,22 +24,6 @@ const REFUSED: [(&str, &str); 23] = [
     ("0'h4", "map:1:1: S6 Verilog width out of range\n"),
     ("addrmap reg {};", "map:1:9: S9 unexpected word\n"),
     ("addrmap top { reg {", "map:1:20: S10 unexpected end\n"),
-    (
-        "reg T { field {} e; field {} f; }; addrmap top { T u; T v; u.f->reset = 1; T w; v.f->reset = 0; v.e->sw = r; };",
-        "map:1:1: E0 not yet supported\n",
-    ),
-    (
-        "addrmap top { reg {} a @ 0x10; };",
-        "map:1:22: E0 not yet supported\n",
-    ),
-    (
-        "addrmap top { reg { field {} f[7:0]; } a; };",
-        "map:1:30: E0 not yet supported\n",
-    ),
-    (
-        "addrmap top { reg {} a; reg {} a; regfile {} b; };",
-        "map:1:46: E0 not yet supported\n",
-    ),
     (
         "addrmap top { reg {} a; reg {} a; };",
         "map:1:32: E1 name twice\n",

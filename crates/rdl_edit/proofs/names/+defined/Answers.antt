@@ -1,12 +1,11 @@
 use Rattle.std.proofs.Common.{◌*◌, ◌<◌, arith}
 use Rattle.rdl_tree.proofs.Sizes.{item_count}
-use Rattle.rdl_write.proofs.Counts.{item_count-item}
-use Rattle.rdl_edit.proofs.Defined.{defined_done}
+use Rattle.rdl_edit.proofs.Defined.{count-item, defined_done}
 use Rattle.rdl_edit.proofs.names.+defined.Goals as goal
 
 pub push_defined-push_item-requires : goal.push_defined-push_item-requires
 push_defined-push_item-requires t c =
-    let h = item_count-item c.as_slice-item-items.result.now c.items.item-index c.item-item.result c.args.body.now c.items-test.true c.item-item.is c.as_slice-item-items.ensures in
+    let h = count-item c.as_slice-item-items.result.now c.items.item-index c.item-item.result c.args.body.now c.items-test.true c.item-item.is c.as_slice-item-items.ensures in
     let less : 2 * item_count c.item-item.result < t = omega (arith, h, c.decreases) in
     (less, tt)
 

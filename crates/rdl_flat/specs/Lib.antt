@@ -1,6 +1,0 @@
-pub mod FlatBits
-pub mod FlatFault
-pub mod FlatForms
-pub mod FlatMap
-pub mod FlatRows
-pub mod FormsAnswers

@@ -1,0 +1,73 @@
+-- The lines of `list`, one for each row. Own.
+use Rattle.std.specs.Prelude.{ℕ, ◌-◌, List, [], ◌∷◌, ◌++◌, Option, None, Some, codes}
+use Rattle.std.specs.Fmt.{decimal}
+use Rattle.std.specs.List.{flat_map}
+use Rattle.std.specs.Option.{option_or}
+use Rattle.rdl_tree.specs.declared.property.Property.{Property}
+use Rattle.rdl_tree.specs.declared.property.Property.TheVariants.{Reset}
+use Rattle.rdl_tree.specs.declared.value.Value.{Value}
+use Rattle.rdl_tree.specs.declared.value.Value.TheVariants.{Number}
+use Rattle.rdl_elab.specs.declared.layout.Span.{Span}
+use Rattle.rdl_elab.specs.declared.row.Extent.{Extent}
+use Rattle.rdl_elab.specs.declared.row.Place.{Place}
+use Rattle.rdl_elab.specs.declared.row.Place.TheVariants.{Bytes, Bits}
+use Rattle.rdl_elab.specs.declared.row.PropertyValue.{PropertyValue}
+use Rattle.rdl_elab.specs.declared.row.Row.{Row}
+use Rattle.rdl_write.specs.Texts.{newline, hexadecimal, kind_text, dim_text, target_text}
+
+-- ---- Parts of a line.
+
+-- the names from the top, with dots between them
+abbrev pub path_text : List (List ℕ) → List ℕ
+path_text names = target_text names
+
+-- a word and a number behind it, each behind a space
+abbrev pub part_text : (word : List ℕ) → ℕ → List ℕ
+part_text word n = codes " " ++ word ++ codes " " ++ hexadecimal n
+
+-- the distance of the elements, of a row that has sizes
+abbrev pub stride_text : (dims : List ℕ) → (stride : ℕ) → List ℕ
+stride_text [] stride = []
+stride_text (dim ∷ dims) stride = part_text (codes "stride") stride
+
+-- the number of the property reset among these values
+abbrev pub reset_by : Property → Value → Option ℕ
+reset_by Reset (Number n) = Some n
+reset_by property value = None
+
+abbrev pub reset_among : List PropertyValue → Option ℕ
+reset_among [] = None
+reset_among (v ∷ vs) = option_or (reset_by v.property v.value) (reset_among vs)
+
+abbrev pub reset_text : Option ℕ → List ℕ
+reset_text None = []
+reset_text (Some n) = part_text (codes "reset") n
+
+-- ---- Lines.
+
+-- `BASE KIND PATH`
+unfoldable pub head_text : Row → List ℕ
+head_text row = hexadecimal row.base ++ codes " " ++ kind_text row.kind ++ codes " " ++ path_text row.names
+
+-- `[n].. size SIZE stride STRIDE`
+unfoldable pub extent_text : Extent → List ℕ
+extent_text extent = flat_map dim_text extent.dims ++ part_text (codes "size") extent.size ++ stride_text extent.dims extent.stride
+
+abbrev pub bytes_line : Row → Extent → List ℕ
+bytes_line row extent = head_text row ++ extent_text extent ++ newline
+
+-- `[HIGH:LOW] field PATH reset RESET`; the end of a span is the number behind its high bit
+unfoldable pub bits_line : Row → Span → List ℕ
+bits_line row span =
+    codes "[" ++ decimal (span.end - 1) ++ codes ":" ++ decimal span.start ++ codes "] field " ++ path_text row.names
+    ++ reset_text (reset_among row.values) ++ newline
+
+abbrev pub line_at : Row → Place → List ℕ
+line_at row (Bytes extent) = bytes_line row extent
+line_at row (Bits span) = bits_line row span
+
+abbrev pub row_line : Row → List ℕ
+row_line row = line_at row row.place
+
+abbrev pub list_lines : List Row → List ℕ
+list_lines rows = flat_map row_line rows
