@@ -7,7 +7,6 @@ pub mod Members
 pub mod KeptLayouts
 pub mod Overlaps
 pub mod Starts
-pub mod Walking
 pub mod Powers
 pub mod WideNumbers
 pub mod Watermarks

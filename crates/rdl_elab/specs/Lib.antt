@@ -6,7 +6,6 @@ pub mod Layouts
 pub mod Capped
 pub mod Rows
 pub mod Faults
-pub mod Kept
 pub mod Shown
 pub mod Reaches
 pub mod Finished

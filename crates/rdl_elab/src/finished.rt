@@ -1,7 +1,4 @@
 //! Components that are laid out.
-ghost use Rattle.std.specs.Prelude.{◌≡◌};
-ghost use Rattle.rdl_elab.specs.Kept.{in_mode};
-
 use crate::layout::{Layout, LayoutValues, Mode};
 use crate::reaches::Assignment;
 use crate::row::RowValues;

@@ -7,7 +7,7 @@ ghost use Rattle.rdl_tree.specs.declared.property.Property.{Property};
 ghost use Rattle.rdl_tree.specs.declared.value.Value.{Value};
 ghost use Rattle.rdl_tree.specs.declared.description.Of.{Of};
 ghost use Rattle.rdl_tree.specs.declared.description.Item.TheVariants.{Instance};
-ghost use Rattle.rdl_scope.specs.Closed.{Head, Parts, Made, Standing, component, instances, parts};
+ghost use Rattle.rdl_scope.specs.Closed.{Head, Parts, Made, component, instances};
 ghost use Rattle.rdl_scope.specs.Types.{item};
 ghost use Rattle.rdl_scope.specs.Target.{body_of};
 ghost use Rattle.rdl_scope.specs.Value.{assigned, component_value};
@@ -20,7 +20,6 @@ ghost use Rattle.rdl_elab.specs.Rounding.{power_up, IsLeastPower};
 ghost use Rattle.rdl_elab.specs.Start.{start_of, alignments, IsLeast};
 ghost use Rattle.rdl_elab.specs.Layouts.{values_of, layout_values, mode_inside, laid_out, layouts, layout, instances_under, member};
 ghost use Rattle.rdl_elab.specs.Capped.{capped_layout, capped_instance, IsAlignment};
-ghost use Rattle.rdl_elab.specs.Kept.{kept_instances, scope_of};
 ghost use Rattle.rdl_elab.specs.Rows.{row_values};
 ghost use Rattle.rdl_elab.specs.Shown.{shown_values};
 ghost use Rattle.rdl_elab.specs.Reaches.{reaches, reaches_at, behind, along, reached, values_along};
@@ -48,11 +47,6 @@ pub fn layouts_are_of_members()
 /// What is kept of the layout of a component is made of what is kept of the layouts of its instances' components.
 pub fn kept_layouts_suffice()
     ensures { (k : Kind) (v : LayoutValues) (m : Mode) (xs : List (Shell × Layout)) → capped_layout (laid_out k v m (map member (map capped_instance xs))) ≡ capped_layout (laid_out k v m (map member xs)) }
-{}
-
-/// What is kept of the layouts of a body is found in one walk, in which each type in scope has one layout for each mode.
-pub fn one_walk_finds_kept_layouts()
-    ensures { (st : Standing) (b : List ℕ) (n : ℕ) (m : Mode) (items : Items) → map capped_instance (layouts m (parts st b n items)) ≡ kept_instances (scope_of st) m items }
 {}
 
 /// Two spans overlap exactly where a number lies in both.
