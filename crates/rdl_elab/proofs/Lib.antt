@@ -10,6 +10,8 @@ pub mod Starts
 pub mod Powers
 pub mod WideNumbers
 pub mod Watermarks
+pub mod RangeSearches
+pub mod RangesKept
 pub mod Telling
 pub mod Counting
 pub mod Insides

@@ -10,6 +10,7 @@ pub mod Shown
 pub mod Reaches
 pub mod Finished
 pub mod KeptRows
+pub mod SiblingRanges
 pub mod Inside
 pub mod Stands
 pub mod Tops

@@ -16,6 +16,8 @@ pub mod row;
 mod rows;
 pub mod siblings;
 #[cfg(test)]
+mod siblings_tests;
+#[cfg(test)]
 mod tests;
 mod types;
 mod values;

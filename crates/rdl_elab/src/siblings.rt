@@ -1,11 +1,14 @@
 //! Siblings that overlap, and resets that are too wide.
-ghost use Rattle.std.specs.Prelude.{◌≡◌, ◌^◌, nat_le, option_copied};
+ghost use Rattle.std.specs.Prelude.{◌≡◌, ◌^◌, nat_le, option_copied, false, List, [], ◌∷◌, ◌++◌, IfOk};
 ghost use Rattle.rdl_elab.specs.Faults.{overlap, is_read_only, is_write_only, may_share, is_reset_too_wide};
-ghost use Rattle.rdl_elab.specs.KeptRows.{share};
+ghost use Rattle.rdl_elab.specs.KeptRows.{share, overlaps_before};
+ghost use Rattle.rdl_elab.specs.SiblingRanges.{AreRanges, AreRangesIfKept};
+ghost use Rattle.rdl_elab.specs.declared.siblings.Sibling.{Sibling};
 
 use crate::layout::Span;
 use rdl_tree::value::{Value, Word};
 use std::alloc::{AllocError, Global};
+use std::collections::BTreeMap;
 use std::marker::Model;
 
 /// A row as its later siblings see it: where it lies in the component around it, and whether software only reads it
@@ -29,17 +32,50 @@ pub(crate) struct Siblings {
     items: Vec<Sibling>,
     /// The greatest end of their spans: what begins there or later overlaps none of them.
     end: u64,
+    /// Their spans but the empty ones, from start to end, while no two of them overlap.
+    ranges: Option<BTreeMap<u64, u64>>,
+}
+
+/// Whether a span overlaps one of the ranges: the last that begins before its end would be the one.
+fn runs_into(ranges: &BTreeMap<u64, u64>, span: Span) -> bool
+    ensures { (before : List Sibling) → AreRanges ranges.now before → result ≡ overlaps_before span before }
+{
+    if span.end <= span.start {
+        return false;
+    }
+    match ranges.range(..span.end).next_back() {
+        Some((_, end)) => span.start < *end,
+        None => false,
+    }
+}
+
+/// The ranges, where they are kept, with that of one more span, which overlaps none of them.
+fn with_range(
+    ranges: Option<BTreeMap<u64, u64>>,
+    span: Span,
+) -> Result<Option<BTreeMap<u64, u64>>, AllocError>
+    ensures { IfOk result (λ with_one. (before : List Sibling) (sibling : Sibling) → AreRangesIfKept ranges before → overlaps_before span before ≡ false → sibling.span ≡ span → AreRangesIfKept with_one (before ++ sibling ∷ [])) }
+{
+    let Some(mut ranges) = ranges else {
+        return Ok(None);
+    };
+    if span.end <= span.start {
+        return Ok(Some(ranges));
+    }
+    ranges.insert(span.start, span.end)?;
+    Ok(Some(ranges))
 }
 
 impl Model for Siblings {
     ghost use Rattle.std.specs.Prelude.{List, All, ◌≤◌};
     ghost use Rattle.rdl_elab.specs.declared.siblings.Sibling.{Sibling};
+    ghost use Rattle.rdl_elab.specs.SiblingRanges.{AreRangesIfKept};
 
     ghost Value = { List Sibling };
 
     ghost view = { λ s. s.items.items };
 
-    ghost invariant = { λ s. All (λ (b : Sibling). b.span.end ≤ s.end) s.items.items };
+    ghost invariant = { λ s. All (λ (b : Sibling). b.span.end ≤ s.end) s.items.items × AreRangesIfKept s.ranges s.items.items };
 }
 
 impl Siblings {
@@ -52,14 +88,21 @@ impl Siblings {
         Siblings {
             items: Vec::new(alloc),
             end: 0,
+            ranges: Some(BTreeMap::new(alloc)),
         }
     }
 
     pub(crate) fn push(&mut self, sibling: Sibling) -> Result<(), AllocError>
         ensures { OnOk result (self.new ≡ self.old ++ sibling ∷ []) }
     {
+        let ranges = if self.ranges.is_none() || self.overlap(sibling.span) {
+            None
+        } else {
+            with_range(self.ranges.take(), sibling.span)?
+        };
         self.items.push(sibling)?;
         self.end = self.end.max(sibling.span.end);
+        self.ranges = ranges;
         Ok(())
     }
 
@@ -70,7 +113,10 @@ impl Siblings {
         if self.end <= span.start {
             return false;
         }
-        self.items.iter().any(|before| overlap(span, before.span))
+        match &self.ranges {
+            Some(ranges) => runs_into(ranges, span),
+            None => self.items.iter().any(|before| overlap(span, before.span)),
+        }
     }
 
     /// Whether one of them has a bit of the field that the two may not share.
