@@ -80,12 +80,12 @@ fn place(
 }
 
 /// The names with one more behind them.
-fn longer(alloc: Global, names: &[Name], name: &Name) -> Result<RowPath, AllocError>
-    ensures { IfOk result (λ path. path ≡ names.now ++ name.now ∷ []) }
+fn longer(alloc: Global, names: &[Name], name: &Name) -> Result<Vec<Name>, AllocError>
+    ensures { IfOk result (λ path. path.items ≡ names.now ++ name.now ∷ []) }
 {
     let mut copies = copied(alloc, names)?;
     copies.push(name.try_copy(alloc)?)?;
-    Ok(RowPath::from_vec(copies))
+    Ok(copies)
 }
 
 fn copied(alloc: Global, names: &[Name]) -> Result<Vec<Name>, AllocError>
@@ -128,7 +128,7 @@ fn row(
     let shell = part.shell;
     let size = component.layouts.under(around.mode).size;
     Ok(Row {
-        names: longer(alloc, around.names.as_slice(), &shell.name)?,
+        names: RowPath::from_vec(longer(alloc, around.names.as_slice(), &shell.name)?),
         kind: component.kind,
         base: base(component.kind, around.base, span),
         place: place(alloc, component.kind, shell, span, size)?,
@@ -255,18 +255,18 @@ fn add_row(
 fn inside<'a>(
     alloc: Global,
     around: &Around<'a>,
+    span: Span,
     part: &Part<'a>,
     component: &Finished<'a>,
-    row: &Row,
     reaching: &[Assignment<'a>],
 ) -> Result<Around<'a>, AllocError>
     requires { reaching.now ≡ behind part.now.at around.now.reaching }
-    ensures { IfOk result (λ inside. inside ≡ surroundings_inside around.now part.now component.now row.now) }
+    ensures { IfOk result (λ inside. inside ≡ surroundings_inside around.now part.now component.now (kept_row around.now span part.now component.now)) }
 {
     Ok(Around {
         mode: mode_inside(component.kind, component.values, around.mode),
-        names: copied(alloc, row.names.names())?,
-        base: row.base,
+        names: longer(alloc, around.names.as_slice(), &part.shell.name)?,
+        base: base(component.kind, around.base, span),
         bits: component.values.regwidth,
         reaching: with_own(alloc, reaching, component.assignments.as_slice())?,
     })
@@ -284,8 +284,35 @@ fn component_of<'c, 'a>(components: &'c [Finished<'a>], part: &Part) -> Option<&
     components.get(part.component)
 }
 
+/// Puts the rows of the instances of the component of this instance, so many levels deep, behind the others, up to the
+/// first that has a fault.
+#[cycle(rows)]
+fn add_below<'a>(
+    alloc: Global,
+    components: &[Finished<'a>],
+    around: &Around<'a>,
+    span: Span,
+    part: &Part<'a>,
+    component: &Finished<'a>,
+    reaching: &[Assignment<'a>],
+    levels: usize,
+    rows: &mut Vec<Row>,
+) -> Result<Option<Fault>, AllocError>
+    requires { reaching.now ≡ behind part.now.at around.now.reaching }
+    ensures { IfOk result (λ fault. record { fault = fault; rows = rows.new.items } ≡ told rows.old.items (kept_rows levels components.now (surroundings_inside around.now part.now component.now (kept_row around.now span part.now component.now)) (under around.now.mode component.now.layouts).spans component.now.parts.items)) }
+{
+    let parts = component.parts.as_slice();
+    if parts.is_empty() {
+        return Ok(None);
+    }
+    let inside = inside(alloc, around, span, part, component, reaching)?;
+    let spans = component.layouts.under(around.mode).spans.as_slice();
+    add_rows(alloc, components, &inside, spans, parts, levels, rows)
+}
+
 /// Puts the rows of the instances of a component, so many levels deep, behind the others, up to the first that has a
 /// fault.
+#[cycle(rows)]
 pub(crate) fn add_rows<'a>(
     alloc: Global,
     components: &[Finished<'a>],
@@ -310,18 +337,19 @@ pub(crate) fn add_rows<'a>(
         };
         let reaching = behind(alloc, &part.at, around.reaching.as_slice())?;
         let row = row(alloc, around, span, part, component, reaching.as_slice())?;
-        let inside = inside(alloc, around, part, component, &row, reaching.as_slice())?;
         let fault = add_row(around, part, component, span, row, &mut siblings, rows)?;
         if fault.is_some() {
             return Ok(fault);
         }
-        let below = component.layouts.under(around.mode).spans.as_slice();
-        let fault = add_rows(
+        let reaching = reaching.as_slice();
+        let fault = add_below(
             alloc,
             components,
-            &inside,
-            below,
-            component.parts.as_slice(),
+            around,
+            span,
+            part,
+            component,
+            reaching,
             levels - 1,
             rows,
         )?;

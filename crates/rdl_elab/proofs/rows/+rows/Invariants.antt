@@ -1,11 +1,14 @@
-use Rattle.std.proofs.Common.{◌≡◌, ◌-◌, drop}
+use Rattle.std.proofs.Common.{◌≡◌, ◌-◌, ◌+◌, ◌*◌, drop}
 use Rattle.rdl_elab.specs.KeptRows.{level_rows, kept_rows, told}
-use Rattle.rdl_elab.proofs.rows.+add_rows.Given as goal
+use Rattle.rdl_elab.proofs.rows.+rows.Given as goal
+
+abbrev pub decreases-add_below : goal.decreases-add_below
+decreases-add_below l = 2 * l.levels + 2
 
 abbrev pub decreases-add_rows : goal.decreases-add_rows
-decreases-add_rows l = l.levels
+decreases-add_rows l = 2 * l.levels + 1
 
-abbrev pub invariant-loop-i : goal.invariant-loop-i
-invariant-loop-i l =
+abbrev pub invariant-add_rows-loop-i : goal.invariant-add_rows-loop-i
+invariant-add_rows-loop-i l =
     told l.rows.items (level_rows l.components (λ inside ss qs. kept_rows (l.levels - 1) l.components inside ss qs) l.around l.siblings (drop l.i l.spans) (drop l.i l.parts))
     ≡ told l.initial.rows.items (kept_rows l.levels l.components l.around l.spans l.parts)
