@@ -67,7 +67,7 @@ fn members(
 ) -> Result<Vec<Member>, AllocError>
     ensures { IfOk result (λ ms. ms.items ≡ map counted_member (map member (kept_parts mode components.now parts.now))) }
 {
-    let mut members = Vec::new(alloc);
+    let mut members = Vec::with_capacity(alloc, parts.len())?;
     for part in parts {
         if let Some(finished) = components.get(part.component) {
             members.push(member(part.shell, finished.layouts.under(mode)))?;

@@ -93,7 +93,7 @@ impl RowValues {
     pub(crate) fn try_copy(&self, alloc: Global) -> Result<RowValues, AllocError>
         ensures { IfOk result (λ values. values ≡ self.now) }
     {
-        let mut items = Vec::new(alloc);
+        let mut items = Vec::with_capacity(alloc, self.items.len())?;
         for value in &self.items {
             items.push(value.try_copy(alloc)?)?;
         }

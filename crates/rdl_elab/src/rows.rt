@@ -83,18 +83,11 @@ fn place(
 fn longer(alloc: Global, names: &[Name], name: &Name) -> Result<Vec<Name>, AllocError>
     ensures { IfOk result (λ path. path.items ≡ names.now ++ name.now ∷ []) }
 {
-    let mut copies = copied(alloc, names)?;
-    copies.push(name.try_copy(alloc)?)?;
-    Ok(copies)
-}
-
-fn copied(alloc: Global, names: &[Name]) -> Result<Vec<Name>, AllocError>
-    ensures { IfOk result (λ copies. copies.items ≡ names.now) }
-{
-    let mut copies = Vec::with_capacity(alloc, names.len())?;
-    for name in names {
-        copies.push(name.try_copy(alloc)?)?;
+    let mut copies = Vec::with_capacity(alloc, names.len().saturating_add(1))?;
+    for around in names {
+        copies.push(around.try_copy(alloc)?)?;
     }
+    copies.push(name.try_copy(alloc)?)?;
     Ok(copies)
 }
 
