@@ -1,0 +1,7 @@
+use Rattle.std.proofs.Common.{◌≡◌, ◌++◌, string_bytes, take}
+use Rattle.std.specs.List.{flat_map}
+use Rattle.rdl_header.specs.HeaderText.{macro_line}
+use Rattle.rdl_header.proofs.text.push_macros.Given as goal
+
+abbrev pub invariant-defines : goal.invariant-defines
+invariant-defines l = string_bytes l.text ≡ string_bytes l.fn.text ++ flat_map macro_line (take l.define-index l.defines)

@@ -1,0 +1,132 @@
+-- The C header of a map's rows: its macros, their lines, and when two of them clash. Own; the macros of a field end as those of
+-- PeakRDL-cheader.
+use Rattle.std.specs.Prelude.{ℕ, Bool, ◌-◌, ◌*◌, ◌^◌, min, List, [], ◌∷◌, ◌++◌, Option, None, Some, Result, Ok, Err, codes, bytes_eq, if◌then◌else◌}
+use Rattle.std.specs.Fmt.{decimal}
+use Rattle.std.specs.List.{flat_map, list_any}
+use Rattle.std.specs.Option.{option_or}
+use Rattle.rdl_tree.specs.declared.property.Property.{Property}
+use Rattle.rdl_tree.specs.declared.property.Property.TheVariants.{Reset}
+use Rattle.rdl_tree.specs.declared.value.Value.{Value}
+use Rattle.rdl_tree.specs.declared.value.Value.TheVariants.{Number}
+use Rattle.rdl_scope.specs.ItemFaults.{product}
+use Rattle.rdl_elab.specs.declared.layout.Span.{Span}
+use Rattle.rdl_elab.specs.declared.row.Extent.{Extent}
+use Rattle.rdl_elab.specs.declared.row.Place.{Place}
+use Rattle.rdl_elab.specs.declared.row.Place.TheVariants.{Bytes, Bits}
+use Rattle.rdl_elab.specs.declared.row.PropertyValue.{PropertyValue}
+use Rattle.rdl_elab.specs.declared.row.Row.{Row}
+use Rattle.rdl_write.specs.Texts.{newline, hexadecimal}
+
+-- ---- Macros.
+
+-- a name, and the text that stands for it
+pub record Macro : Type 0 where
+  pub name : List ℕ
+  pub value : List ℕ
+
+-- the names from the top, with two underscores between them
+abbrev pub path_text : List (List ℕ) → List ℕ
+path_text [] = []
+path_text (name ∷ names) = name ++ flat_map (λ n. codes "__" ++ n) names
+
+abbrev pub hexadecimal_macro : (path : List ℕ) → (ending : List ℕ) → ℕ → Macro
+hexadecimal_macro path ending n = record { name = path ++ ending; value = hexadecimal n }
+
+abbrev pub decimal_macro : (path : List ℕ) → (ending : List ℕ) → ℕ → Macro
+decimal_macro path ending n = record { name = path ++ ending; value = decimal n }
+
+-- a number of 64 bits, the greatest of them for any that is greater; no map has rows with a greater one
+abbrev pub capped : ℕ → ℕ
+capped n = min n (2 ^ 64 - 1)
+
+-- how many elements an array has, and how far they lie apart
+abbrev pub array_macros : (path : List ℕ) → (dims : List ℕ) → (stride : ℕ) → List Macro
+array_macros path [] stride = []
+array_macros path (dim ∷ dims) stride =
+    decimal_macro path (codes "_count") (capped (product (dim ∷ dims))) ∷ hexadecimal_macro path (codes "_stride") stride ∷ []
+
+unfoldable pub bytes_macros : (path : List ℕ) → (base : ℕ) → Extent → List Macro
+bytes_macros path base extent =
+    hexadecimal_macro path (codes "_base") base
+    ∷ hexadecimal_macro path (codes "_offset") extent.offset
+    ∷ hexadecimal_macro path (codes "_size") extent.size
+    ∷ array_macros path extent.dims extent.stride
+
+-- the bits that a field has; its end is the number behind its high bit
+abbrev pub width : Span → ℕ
+width span = span.end - span.start
+
+-- as many ones as a field has bits, where the field stands in its register
+abbrev pub mask : Span → ℕ
+mask span = capped ((2 ^ width span - 1) * 2 ^ span.start)
+
+-- the number of the property reset among these values
+abbrev pub reset_by : Property → Value → Option ℕ
+reset_by Reset (Number n) = Some n
+reset_by property value = None
+
+abbrev pub reset_among : List PropertyValue → Option ℕ
+reset_among [] = None
+reset_among (v ∷ vs) = option_or (reset_by v.property v.value) (reset_among vs)
+
+-- the reset isn't shifted
+abbrev pub reset_macros : (path : List ℕ) → Option ℕ → List Macro
+reset_macros path None = []
+reset_macros path (Some n) = hexadecimal_macro path (codes "_reset") n ∷ []
+
+unfoldable pub bits_macros : (path : List ℕ) → Span → (reset : Option ℕ) → List Macro
+bits_macros path span reset =
+    hexadecimal_macro path (codes "_bm") (mask span)
+    ∷ decimal_macro path (codes "_bp") span.start
+    ∷ decimal_macro path (codes "_bw") (width span)
+    ∷ reset_macros path reset
+
+abbrev pub macros_at : Row → Place → List Macro
+macros_at row (Bytes extent) = bytes_macros (path_text row.names) row.base extent
+macros_at row (Bits span) = bits_macros (path_text row.names) span (reset_among row.values)
+
+abbrev pub macros_of : Row → List Macro
+macros_of row = macros_at row row.place
+
+-- the macro that is defined wherever the header has been read, of the first row, which is the top
+abbrev pub guard : Row → Macro
+guard top = record { name = path_text top.names ++ codes "_H"; value = [] }
+
+-- the guard, then those of the rows below the top
+abbrev pub macros : List Row → List Macro
+macros [] = []
+macros (top ∷ rows) = guard top ∷ flat_map macros_of rows
+
+-- ---- The text.
+
+unfoldable pub macro_line : Macro → List ℕ
+macro_line m = codes "#define " ++ m.name ++ codes " " ++ m.value ++ newline
+
+unfoldable pub guard_lines : Macro → List ℕ
+guard_lines m = codes "#ifndef " ++ m.name ++ newline ++ codes "#define " ++ m.name ++ newline
+
+-- the first macro is the guard; without one there are no lines
+abbrev pub header_text : List Macro → List ℕ
+header_text [] = []
+header_text (m ∷ ms) = guard_lines m ++ flat_map macro_line ms ++ codes "#endif" ++ newline
+
+-- ---- Clashes.
+
+abbrev pub is_defined : (name : List ℕ) → List Macro → Bool
+is_defined name ms = list_any (λ m. bytes_eq m.name name) ms
+
+-- the name of the first macro that has the name of one before it
+abbrev pub clash_behind : (before : List Macro) → List Macro → Option (List ℕ)
+clash_behind before [] = None
+clash_behind before (m ∷ ms) = if is_defined m.name before then Some m.name else clash_behind (before ++ m ∷ []) ms
+
+abbrev pub first_clash : List Macro → Option (List ℕ)
+first_clash ms = clash_behind [] ms
+
+abbrev pub text_unless : Option (List ℕ) → List ℕ → Result (List ℕ) (List ℕ)
+text_unless None text = Ok text
+text_unless (Some name) text = Err name
+
+-- the header of the rows, or the name that clashes
+abbrev pub header_of : List Row → Result (List ℕ) (List ℕ)
+header_of rows = text_unless (first_clash (macros rows)) (header_text (macros rows))

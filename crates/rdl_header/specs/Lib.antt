@@ -1,0 +1,2 @@
+pub mod HeaderFaults
+pub mod HeaderText

@@ -1,0 +1,12 @@
+//! The C header of a map.
+#![tactic(auto)]
+
+mod bits;
+mod clash;
+mod define;
+mod macros;
+#[cfg(test)]
+mod tests;
+mod text;
+
+pub use text::{HeaderFault, header};
