@@ -151,7 +151,7 @@ fn top_row(alloc: Global, name: &Name, top: &Finished) -> Result<Row, AllocError
 fn top_rows(alloc: Global, name: &Name, top: &Finished) -> Result<Vec<Row>, AllocError>
     ensures { IfOk result (λ rows. rows.items ≡ kept_top_row name.now top.now ∷ []) }
 {
-    let mut rows = Vec::new(alloc);
+    let mut rows = Vec::with_capacity(alloc, top.rows.saturating_add(1))?;
     rows.push(top_row(alloc, name, top)?)?;
     Ok(rows)
 }

@@ -103,8 +103,19 @@ fn layout(
     lay_out(alloc, kind, values, inside, members.as_slice())
 }
 
-/// The layouts of a component of this kind with these values and these instances.
-pub(crate) fn layouts(
+/// The same layout under each mode.
+fn in_each_mode(alloc: Global, layout: Layout) -> Result<Layouts, AllocError>
+    ensures { IfOk result (λ ls. (m : Mode) → under m ls ≡ layout) }
+{
+    Ok(Layouts {
+        compact: layout.try_copy(alloc)?,
+        regalign: layout.try_copy(alloc)?,
+        fullalign: layout,
+    })
+}
+
+/// The layout under each mode.
+fn by_mode(
     alloc: Global,
     kind: Kind,
     values: LayoutValues,
@@ -122,6 +133,29 @@ pub(crate) fn layouts(
         regalign,
         fullalign,
     })
+}
+
+/// The layouts of a component of this kind with these values and these instances. That of an address map is the same
+/// under each mode.
+pub(crate) fn layouts(
+    alloc: Global,
+    kind: Kind,
+    values: LayoutValues,
+    parts: &[Part],
+    components: &[Finished],
+) -> Result<Layouts, AllocError>
+    requires { IsAlignment values.alignment }
+    ensures { IfOk result (λ ls. (m : Mode) → let n = mode_inside kind values m in under m ls ≡ capped_layout (laid_out kind values n (map member (kept_parts n components.now parts.now)))) }
+{
+    match kind {
+        Kind::Addrmap => {
+            let own = layout(alloc, kind, values, Mode::Compact, parts, components)?;
+            in_each_mode(alloc, own)
+        }
+        Kind::Regfile | Kind::Reg | Kind::Field => {
+            by_mode(alloc, kind, values, parts, components)
+        }
+    }
 }
 
 /// The names of the longest path below a component with these instances, at most 16.

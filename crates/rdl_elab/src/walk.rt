@@ -189,7 +189,7 @@ fn walk_items<'a>(
     ensures stands { IfOk result (λ ps. (e : Standing) → Stands description.now.items walk.old e → Stands description.now.items walk.new (standing e at.now 0 (items_of items.now))) }
     ensures behind { IfOk result (λ ps. IsBehind walk.old walk.new) }
 {
-    let mut parts = Vec::new(alloc);
+    let mut parts = Vec::with_capacity(alloc, items.len())?;
     for (i, item) in items.iter().enumerate() {
         if let Some(part) = walk_item(alloc, description, &at.inside(i), item, walk)? {
             parts.push(part)?;

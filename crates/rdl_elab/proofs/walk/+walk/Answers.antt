@@ -60,14 +60,14 @@ walk_items-loop-i-preserved t c =
     let all = c.in_ok-part.ensures in
     let xs = c.args.items.now in
     let i = c.loop-i.i in
-    let after : c.match-branch-2.parts.items ≡ c.loop-i.parts.items ++ in_list c.in_ok-part.field-0 =
-    elim c.match-branch-2.branch [
+    let after : c.match-branch-3.parts.items ≡ c.loop-i.parts.items ++ in_list c.in_ok-part.field-0 =
+    elim c.match-branch-3.branch [
       | walk_items-in-Some+in_ok-push w ↦ ap (λ v. v.items) w.parts-is ∙ w.in_ok-push.ensures.items ∙ ap (λ o. c.loop-i.parts.items ++ in_list o) (sym w.in-Some.is)
       | walk_items-in_default w ↦ ap (λ v. v.items) w.parts-is ∙ sym (append_nil c.loop-i.parts.items) ∙ ap (λ o. c.loop-i.parts.items ++ in_list o) (sym w.in_default.is)
     ] in
     record {
       parts = λ e h.
-          parts-next d c.args.at.now c.inside.result xs i c.index-items-i.result c.loop-i-test.true c.index-items-i.is c.inside.ensures e c.loop-i.walk.components.items new.components.items c.loop-i.parts.items c.match-branch-2.parts.items
+          parts-next d c.args.at.now c.inside.result xs i c.index-items-i.result c.loop-i-test.true c.index-items-i.is c.inside.ensures e c.loop-i.walk.components.items new.components.items c.loop-i.parts.items c.match-branch-3.parts.items
           c.in_ok-part.field-0 all.behind.components after (c.loop-i.invariant.parts e h) (all.part (standing e c.args.at.now 0 (items_of (take i xs))) (c.loop-i.invariant.stands e h));
       stands = λ e h.
           stands-next d c.args.at.now c.inside.result xs i c.index-items-i.result c.loop-i-test.true c.index-items-i.is c.inside.ensures e new
