@@ -1,5 +1,5 @@
 //! The program's edge: its words, its files and its exit status.
-ghost use Rattle.std.specs.Prelude.{◌≡◌, ◌↔◌, map, false, IfSome, IsNone, IsErrOf, IsOkUnless};
+ghost use Rattle.std.specs.Prelude.{◌≡◌, ◌↔◌, ◌⊎◌, map, false, IfSome, IsNone, IsErrOf, IsOkUnless};
 ghost use Rattle.regedit.specs.CommandLine.{command_line, is_command_line, status_code, failure_code, IsExit};
 ghost use Rattle.regedit.specs.declared.command.Failure.{Failure};
 ghost use Rattle.regedit.specs.declared.status.RunFault.{RunFault};
@@ -190,7 +190,7 @@ pub fn command<R: Files, M: Write, E: Write>(
 
 /// The exit status where the words can't be had.
 pub fn refuse_words<E: Write>(error: &io::Error, errors: &mut E) -> u8
-    ensures { IsExit result }
+    ensures { (result ≡ 4) ⊎ (result ≡ 5) }
 {
     let failure = if error.kind() == ErrorKind::OutOfMemory {
         Failure::Fault(RunFault::Memory)
