@@ -1,0 +1,2 @@
+pub mod WrittenWords
+pub mod Spellable

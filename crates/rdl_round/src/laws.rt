@@ -1,0 +1,25 @@
+//! Laws of reading what was written, as contracts of functions that do nothing.
+ghost use Rattle.std.specs.Prelude.{List};
+ghost use Rattle.rdl_text.specs.Word.{Word};
+ghost use Rattle.rdl_tree.specs.Items.{Items};
+ghost use Rattle.rdl_parse.specs.declared.found.Spot.{Spot};
+ghost use Rattle.rdl_parse.specs.Spelling.{Spells};
+ghost use Rattle.rdl_parse.specs.Symbol.{symbols};
+ghost use Rattle.rdl_round.specs.Spellable.{IsSpellable};
+ghost use Rattle.rdl_round.specs.WrittenWords.{map_words};
+
+/// Every description that the words of a text spell is spellable: its names aren't reserved, each of its properties is
+/// a name or a reserved word that is a property, and no instance has both sizes and a range.
+pub fn spelled_is_spellable()
+    ensures { (ws : List Word) (d : Items) (at : List Spot) → Spells (symbols ws) d at → IsSpellable d }
+{}
+
+/// The words of a written map spell the description that was written, where that is spellable.
+pub fn written_words_spell()
+    ensures { (d : Items) → IsSpellable d → (at : List Spot) × Spells (map_words d) d at }
+{}
+
+/// So the words of what was read and is then written spell what was read.
+pub fn read_words_spell_again()
+    ensures { (ws : List Word) (d : Items) (at : List Spot) → Spells (symbols ws) d at → (bt : List Spot) × Spells (map_words d) d bt }
+{}
