@@ -1,6 +1,8 @@
 -- The words of a written map as the grammar sees them, without their places.
 -- SystemRDL 2.0, component definitions and instances, property assignments; the forms are those of rdl_write's MapText.
-use Rattle.std.specs.Prelude.{ℕ, List, [], ◌∷◌, Option, Some, None, codes}
+use Rattle.std.specs.Prelude.{◌≡◌, ℕ, List, [], ◌∷◌, Option, Some, None, Ok, codes}
+use Rattle.rdl_text.specs.Word.{Word as Token}
+use Rattle.rdl_text.specs.Words.{words}
 use Rattle.rdl_text.specs.declared.token.Mark.TheVariants.{OpenBrace, CloseBrace, OpenBracket, CloseBracket, Colon, Semicolon, Dot, Equals, At, PlusEquals, PercentEquals, Arrow}
 use Rattle.rdl_tree.specs.Items.{Items, no_items, plain, holder, Plain, named, own, default, dynamic, Holder, define, anonymous}
 use Rattle.rdl_tree.specs.Word.{word_text}
@@ -10,7 +12,7 @@ use Rattle.rdl_tree.specs.declared.shell.Shell.{Shell}
 use Rattle.rdl_tree.specs.declared.value.Value.{Value}
 use Rattle.rdl_tree.specs.declared.value.Value.TheVariants.{Number, Text, Bool as Boolean, Word}
 use Rattle.rdl_parse.specs.Class.{class}
-use Rattle.rdl_parse.specs.Symbol.{Symbol, class_symbol, number, text, mark}
+use Rattle.rdl_parse.specs.Symbol.{Symbol, class_symbol, symbols, number, text, mark}
 use Rattle.rdl_parse.specs.Spelling.{sizes_words, part_words}
 use Rattle.rdl_write.specs.Texts.{boolean_text, kind_text}
 
@@ -84,3 +86,9 @@ body_words (holder h body rest) after = open_words h (body_words body (close_wor
 
 abbrev pub map_words : Items → List Symbol
 map_words d = body_words d []
+
+-- ---- The words of a text.
+
+-- the text has words, and these are they to the grammar
+abbrev pub HasSymbols : List ℕ → List Symbol → Type 0
+HasSymbols s ws = (found : List Token) × (words s ≡ Ok found) × (symbols found ≡ ws)

@@ -1,12 +1,17 @@
 //! Laws of reading what was written, as contracts of functions that do nothing.
-ghost use Rattle.std.specs.Prelude.{List};
+ghost use Rattle.std.specs.Prelude.{◌≤◌, List, length};
 ghost use Rattle.rdl_text.specs.Word.{Word};
 ghost use Rattle.rdl_tree.specs.Items.{Items};
 ghost use Rattle.rdl_parse.specs.declared.found.Spot.{Spot};
 ghost use Rattle.rdl_parse.specs.Spelling.{Spells};
 ghost use Rattle.rdl_parse.specs.Symbol.{symbols};
+ghost use Rattle.rdl_parse.specs.Faults.{max_text};
+ghost use Rattle.rdl_parse.specs.Parsing.{SpellsText};
+ghost use Rattle.rdl_parse.specs.Places.{Located};
+ghost use Rattle.rdl_write.specs.MapText.{map_text};
+ghost use Rattle.rdl_round.specs.OfWords.{IsOfWords};
 ghost use Rattle.rdl_round.specs.Spellable.{IsSpellable};
-ghost use Rattle.rdl_round.specs.WrittenWords.{map_words};
+ghost use Rattle.rdl_round.specs.WrittenWords.{map_words, HasSymbols};
 
 /// Every description that the words of a text spell is spellable: its names aren't reserved, each of its properties is
 /// a name or a reserved word that is a property, and no instance has both sizes and a range.
@@ -22,4 +27,16 @@ pub fn written_words_spell()
 /// So the words of what was read and is then written spell what was read.
 pub fn read_words_spell_again()
     ensures { (ws : List Word) (d : Items) (at : List Spot) → Spells (symbols ws) d at → (bt : List Spot) × Spells (map_words d) d bt }
+{}
+
+/// The text of a written map has words, and to the grammar they are `map_words`, where the description is made of words:
+/// its names are identifiers, its numbers have the bits of a number, and its strings can stand between quotes.
+pub fn written_text_has_words()
+    ensures { (d : Items) → IsOfWords d → HasSymbols (map_text d) (map_words d) }
+{}
+
+/// The text of a written map spells the description that was written, where the description is made of words and spellable
+/// and the text isn't too long.
+pub fn written_maps_read_back()
+    ensures { (d : Items) → IsOfWords d → IsSpellable d → length (map_text d) ≤ max_text → (p : Located) × SpellsText (map_text d) d p }
 {}
