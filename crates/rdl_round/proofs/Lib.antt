@@ -5,4 +5,5 @@ pub mod Parts
 pub mod Numerals
 pub mod Written
 pub mod Lines
+pub mod MadeOfWords
 pub mod Back

@@ -56,7 +56,7 @@ take_front : (xs ys : List ℕ) → take (length xs) (xs ++ ys) ≡ xs
 take_front [] ys = refl
 take_front (x ∷ xs) ys = ap (λ (q : List ℕ). x ∷ q) (take_front xs ys)
 
-inside-quoted : (t : List ℕ) → inside (quoted t) ≡ t
+pub inside-quoted : (t : List ℕ) → inside (quoted t) ≡ t
 inside-quoted t =
     let long : length (quoted t) - 2 ≡ length t = omega (arith, length-append t (34 ∷ [])) in
     ap (λ k. take k (t ++ (34 ∷ []))) long ∙ take_front t (34 ∷ [])

@@ -1,6 +1,7 @@
 //! Laws of reading what was written, as contracts of functions that do nothing.
-ghost use Rattle.std.specs.Prelude.{◌≤◌, List, length};
+ghost use Rattle.std.specs.Prelude.{◌≡◌, ◌≤◌, ℕ, List, length, Ok};
 ghost use Rattle.rdl_text.specs.Word.{Word};
+ghost use Rattle.rdl_text.specs.Words.{words};
 ghost use Rattle.rdl_tree.specs.Items.{Items};
 ghost use Rattle.rdl_parse.specs.declared.found.Spot.{Spot};
 ghost use Rattle.rdl_parse.specs.Spelling.{Spells};
@@ -39,4 +40,14 @@ pub fn written_text_has_words()
 /// and the text isn't too long.
 pub fn written_maps_read_back()
     ensures { (d : Items) → IsOfWords d → IsSpellable d → length (map_text d) ≤ max_text → (p : Located) × SpellsText (map_text d) d p }
+{}
+
+/// Every description that the words of a text spell is made of words.
+pub fn spelled_is_of_words()
+    ensures { (text : List ℕ) (ws : List Word) (d : Items) (at : List Spot) → words text ≡ Ok ws → Spells (symbols ws) d at → IsOfWords d }
+{}
+
+/// So the text of the map that is written of what a text spells spells the same description, where it isn't too long.
+pub fn read_maps_read_back()
+    ensures { (text : List ℕ) (d : Items) (p : Located) → SpellsText text d p → length (map_text d) ≤ max_text → (q : Located) × SpellsText (map_text d) d q }
 {}
