@@ -7,3 +7,4 @@ pub mod Written
 pub mod Lines
 pub mod MadeOfWords
 pub mod Back
+pub mod Parsed

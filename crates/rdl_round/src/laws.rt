@@ -3,10 +3,12 @@ ghost use Rattle.std.specs.Prelude.{◌≡◌, ◌≤◌, ℕ, List, length, Ok}
 ghost use Rattle.rdl_text.specs.Word.{Word};
 ghost use Rattle.rdl_text.specs.Words.{words};
 ghost use Rattle.rdl_tree.specs.Items.{Items};
+ghost use Rattle.rdl_tree.specs.Limits.{IsWithinLimits};
 ghost use Rattle.rdl_parse.specs.declared.found.Spot.{Spot};
 ghost use Rattle.rdl_parse.specs.Spelling.{Spells};
 ghost use Rattle.rdl_parse.specs.Symbol.{symbols};
 ghost use Rattle.rdl_parse.specs.Faults.{max_text};
+ghost use Rattle.rdl_parse.specs.FirstFault.{parse_reading};
 ghost use Rattle.rdl_parse.specs.Parsing.{SpellsText};
 ghost use Rattle.rdl_parse.specs.Places.{Located};
 ghost use Rattle.rdl_write.specs.MapText.{map_text};
@@ -50,4 +52,15 @@ pub fn spelled_is_of_words()
 /// So the text of the map that is written of what a text spells spells the same description, where it isn't too long.
 pub fn read_maps_read_back()
     ensures { (text : List ℕ) (d : Items) (p : Located) → SpellsText text d p → length (map_text d) ≤ max_text → (q : Located) × SpellsText (map_text d) d q }
+{}
+
+/// Reading the text of a written map within the limits gives the description that was written.
+pub fn written_maps_are_parsed()
+    ensures { (d : Items) → IsOfWords d → IsSpellable d → IsWithinLimits d → length (map_text d) ≤ max_text → (p : Located) × (parse_reading (map_text d) ≡ Ok (d, p)) }
+{}
+
+/// So what was read, is then written and read again is the same: this is what `parse` answers for the text that `rdl`
+/// writes of what `parse` answered, where memory suffices.
+pub fn read_maps_are_parsed_again()
+    ensures { (text : List ℕ) (d : Items) (p : Located) → SpellsText text d p → IsWithinLimits d → length (map_text d) ≤ max_text → (q : Located) × (parse_reading (map_text d) ≡ Ok (d, q)) }
 {}
