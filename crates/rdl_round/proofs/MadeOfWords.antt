@@ -25,7 +25,7 @@ use Rattle.rdl_parse.specs.declared.class.Class.{Class}
 use Rattle.rdl_parse.specs.declared.class.Class.TheVariants as classes
 use Rattle.rdl_parse.specs.declared.found.Spot.{Spot}
 use Rattle.rdl_parse.specs.Symbol.{Symbol, name, number, text, mark, inside, class_symbol, symbol_by, symbols}
-use Rattle.rdl_parse.specs.Spelling.{Brackets, sizes, range, Inst, Prop, free, reserved, Statement, define, define_with, anonymous, named, own, default, dynamic, Statements, none, one, sizes_words, brackets_words, part_words, inst_words, others_words, insts_words, outside_words, at_front, at_late, equals_words, assigned_words, dots_words, statement_words, words, dims_of, range_of, shell_of, instance, said, out_of, prop_text, value_of, component, statement_items, items, Spells}
+use Rattle.rdl_parse.specs.Spelling.{Brackets, sizes, range, Inst, Prop, free, reserved, Statement, define, define_with, anonymous, named, own, default, dynamic, Statements, none, one, sizes_words, brackets_words, part_words, inst_words, others_words, insts_words, outside_words, at_front, at_late, equals_words, assigned_words, dots_words, statement_words, words, dims_of, range_of, shell_of, instance, said, out_of, prop_text, value_of, component, statement_items, items, Spells, SpellsItems}
 use Rattle.rdl_parse.proofs.Words.{property_is_name}
 use Rattle.rdl_round.specs.OfWords.{IsNumber, AreNumbers, IsPart, IsRange, AreNames, IsValue, IsShellOfWords, IsOfWords}
 use Rattle.rdl_round.proofs.Parts.{inside-quoted}
@@ -144,7 +144,7 @@ anonymous-made : (o : Outside) (k : Kind) (body : Items) (is : List Inst) → Is
 anonymous-made o k body [] b h = tt
 anonymous-made o k body (i ∷ is) b h = (h.0 o, b, anonymous-made o k body is b h.1)
 
-together : (xs ys : List Item) → IsOfWords (items_of xs) → IsOfWords (items_of ys) → IsOfWords (items_of (xs ++ ys))
+pub together : (xs ys : List Item) → IsOfWords (items_of xs) → IsOfWords (items_of ys) → IsOfWords (items_of (xs ++ ys))
 together [] ys h k = k
 together (Define n c ∷ xs) ys h k = (h.0, h.1, together xs ys h.2 k)
 together (Instance s (Named t) ∷ xs) ys h k = (h.0, together xs ys h.1 k)
@@ -189,3 +189,7 @@ mutual
 pub spelled-made : (s : List ℕ) (ws : List Word) (d : Items) (at : List Spot) → cutting.words s ≡ Ok ws → Spells (symbols ws) d at → IsOfWords d
 spelled-made s ws d at cut spelled =
     subst IsOfWords (sym spelled.2) (statements-made spelled.0 [] (subst AreWell spelled.1 (symbols-well ws (words_are_well_spelled s ws cut)))).0
+
+pub statement-of-words : (s : List ℕ) (ws : List Word) (xs : List Item) → cutting.words s ≡ Ok ws → SpellsItems (symbols ws) xs → IsOfWords (items_of xs)
+statement-of-words s ws xs cut spelled =
+    subst (λ ys. IsOfWords (items_of ys)) (sym spelled.2) (statement-made spelled.0 [] (subst AreWell spelled.1 (symbols-well ws (words_are_well_spelled s ws cut)))).0

@@ -1,5 +1,5 @@
 -- A written number is one word, and is worth the number.
-use Rattle.std.proofs.Common.{◌≡◌, ◌≢◌, ℕ, suc, ◌+◌, ◌-◌, ◌^◌, ◌<◌, ◌≤◌, Bool, true, false, not, cond, ◌&&◌, ◌||◌, List, [], ◌∷◌, ◌++◌, length, take, drop, Some, None, Ok, refl, sym, ap, ◌∙◌, arith}
+use Rattle.std.proofs.Common.{◌≡◌, ◌≢◌, ℕ, suc, ◌+◌, ◌-◌, ◌^◌, ◌<◌, ◌≤◌, Bool, true, false, not, cond, ◌&&◌, ◌||◌, List, [], ◌∷◌, ◌++◌, length, drop, Some, None, Ok, refl, sym, ap, ◌∙◌, arith}
 use Rattle.std.specs.Prelude.{nat_eq, nat_lt, slice_range}
 use Rattle.std.specs.Char.{digit_value, is_digit}
 use Rattle.std.specs.Fmt as shown
@@ -21,7 +21,7 @@ use Rattle.rdl_text.proofs.Longest.{longest_digit}
 use Rattle.rdl_text.proofs.Steps.{candidate_some}
 use Rattle.rdl_parse.specs.Symbol.{number}
 use Rattle.rdl_write.specs.Texts as written
-use Rattle.rdl_round.proofs.Parts.{Part, Stops, cut-word}
+use Rattle.rdl_round.proofs.Parts.{take_front, Part, Stops, cut-word}
 
 -- ---- Digits, and what stops them.
 
@@ -74,10 +74,6 @@ worth base ds b h = ap (digits_value base) (all-count base ds b h)
 byte-behind : (xs ys : List ℕ) → byte (xs ++ ys) (length xs) ≡ byte ys 0
 byte-behind [] ys = refl
 byte-behind (x ∷ xs) ys = byte-behind xs ys
-
-take_front : (xs ys : List ℕ) → take (length xs) (xs ++ ys) ≡ xs
-take_front [] ys = refl
-take_front (x ∷ xs) ys = ap (λ (q : List ℕ). x ∷ q) (take_front xs ys)
 
 drop_front : (xs ys : List ℕ) → drop (length xs) (xs ++ ys) ≡ ys
 drop_front [] ys = refl

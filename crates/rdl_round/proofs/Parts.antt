@@ -52,7 +52,7 @@ name-part n h rest ws s c = cut-word kinds.Identifier n rest ws (λ at. name_is_
 pub mark-part : (m : Mark) → Part Any (mark_spelling m) (λ ws. mark m ∷ ws)
 mark-part m rest ws s c = cut-word (kinds.Mark m) (mark_spelling m) rest ws (λ at. mark_is_word at m rest) c
 
-take_front : (xs ys : List ℕ) → take (length xs) (xs ++ ys) ≡ xs
+pub take_front : (xs ys : List ℕ) → take (length xs) (xs ++ ys) ≡ xs
 take_front [] ys = refl
 take_front (x ∷ xs) ys = ap (λ (q : List ℕ). x ∷ q) (take_front xs ys)
 

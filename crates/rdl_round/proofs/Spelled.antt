@@ -18,7 +18,7 @@ use Rattle.rdl_parse.specs.declared.class.Class.{Class}
 use Rattle.rdl_parse.specs.declared.class.Class.TheVariants as classes
 use Rattle.rdl_parse.specs.declared.found.Spot.{Spot}
 use Rattle.rdl_parse.specs.Symbol.{Symbol, name, mark, class_symbol, symbol_by, symbols}
-use Rattle.rdl_parse.specs.Spelling.{Brackets, sizes, range, Inst, Prop, free, reserved, Statement, define, define_with, anonymous, named, own, default, dynamic, Statements, none, one, sizes_words, brackets_words, part_words, inst_words, others_words, insts_words, outside_words, at_front, at_late, assigned_words, dots_words, statement_words, words, dims_of, range_of, shell_of, instance, said, out_of, prop_text, component, statement_items, items, Spells}
+use Rattle.rdl_parse.specs.Spelling.{Brackets, sizes, range, Inst, Prop, free, reserved, Statement, define, define_with, anonymous, named, own, default, dynamic, Statements, none, one, sizes_words, brackets_words, part_words, inst_words, others_words, insts_words, outside_words, at_front, at_late, assigned_words, dots_words, statement_words, words, dims_of, range_of, shell_of, instance, said, out_of, prop_text, component, statement_items, items, Spells, SpellsItems}
 use Rattle.rdl_round.specs.Spellable.{IsFree, AreFree, IsProperty, AreBrackets, IsShell, IsSpellable}
 
 -- ---- The names among the words of a text aren't reserved.
@@ -123,7 +123,7 @@ anonymous-fit : (o : Outside) (k : Kind) (body : Items) (is : List Inst) → IsS
 anonymous-fit o k body [] b h = tt
 anonymous-fit o k body (i ∷ is) b h = (shell-fits o i h.0, b, anonymous-fit o k body is b h.1)
 
-together : (xs ys : List Item) → IsSpellable (items_of xs) → IsSpellable (items_of ys) → IsSpellable (items_of (xs ++ ys))
+pub together : (xs ys : List Item) → IsSpellable (items_of xs) → IsSpellable (items_of ys) → IsSpellable (items_of (xs ++ ys))
 together [] ys h k = k
 together (Define n c ∷ xs) ys h k = (h.0, h.1, together xs ys h.2 k)
 together (Instance s (Named t) ∷ xs) ys h k = (h.0, together xs ys h.1 k)
@@ -167,3 +167,6 @@ mutual
 
 pub spelled-spellable : (ws : List Word) (d : Items) (at : List Spot) → Spells (symbols ws) d at → IsSpellable d
 spelled-spellable ws d at s = subst IsSpellable (sym s.2) (statements-fit s.0 [] (subst AreOwn s.1 (symbols-own ws))).0
+
+pub statement-spellable : (ws : List Word) (xs : List Item) → SpellsItems (symbols ws) xs → IsSpellable (items_of xs)
+statement-spellable ws xs s = subst (λ ys. IsSpellable (items_of ys)) (sym s.2) (statement-fits s.0 [] (subst AreOwn s.1 (symbols-own ws))).0

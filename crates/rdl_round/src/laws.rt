@@ -1,11 +1,13 @@
 //! Laws of reading what was written, as contracts of functions that do nothing.
-ghost use Rattle.std.specs.Prelude.{◌≡◌, ◌≤◌, ℕ, List, length, Ok};
+ghost use Rattle.std.specs.Prelude.{◌≡◌, ◌≤◌, ℕ, List, ◌++◌, length, Ok};
 ghost use Rattle.rdl_text.specs.Word.{Word};
 ghost use Rattle.rdl_text.specs.Words.{words};
 ghost use Rattle.rdl_tree.specs.Items.{Items};
 ghost use Rattle.rdl_tree.specs.Limits.{IsWithinLimits};
+ghost use Rattle.rdl_tree.specs.View.{items_of};
+ghost use Rattle.rdl_tree.specs.declared.description.Item.{Item};
 ghost use Rattle.rdl_parse.specs.declared.found.Spot.{Spot};
-ghost use Rattle.rdl_parse.specs.Spelling.{Spells};
+ghost use Rattle.rdl_parse.specs.Spelling.{Spells, SpellsItems};
 ghost use Rattle.rdl_parse.specs.Symbol.{symbols};
 ghost use Rattle.rdl_parse.specs.Faults.{max_text};
 ghost use Rattle.rdl_parse.specs.FirstFault.{parse_reading};
@@ -63,4 +65,16 @@ pub fn written_maps_are_parsed()
 /// writes of what `parse` answered, where memory suffices.
 pub fn read_maps_are_parsed_again()
     ensures { (text : List ℕ) (d : Items) (p : Located) → SpellsText text d p → IsWithinLimits d → length (map_text d) ≤ max_text → (q : Located) × (parse_reading (map_text d) ≡ Ok (d, q)) }
+{}
+
+/// The items of a statement too are spellable and made of words.
+pub fn spelled_items_are_writable()
+    ensures spellable { (ws : List Word) (xs : List Item) → SpellsItems (symbols ws) xs → IsSpellable (items_of xs) }
+    ensures of_words { (text : List ℕ) (ws : List Word) (xs : List Item) → words text ≡ Ok ws → SpellsItems (symbols ws) xs → IsOfWords (items_of xs) }
+{}
+
+/// So are items behind items, if both are.
+pub fn items_together_are_writable()
+    ensures spellable { (xs ys : List Item) → IsSpellable (items_of xs) → IsSpellable (items_of ys) → IsSpellable (items_of (xs ++ ys)) }
+    ensures of_words { (xs ys : List Item) → IsOfWords (items_of xs) → IsOfWords (items_of ys) → IsOfWords (items_of (xs ++ ys)) }
 {}
