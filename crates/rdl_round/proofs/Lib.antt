@@ -6,5 +6,6 @@ pub mod Numerals
 pub mod Written
 pub mod Lines
 pub mod MadeOfWords
+pub mod Edits
 pub mod Back
 pub mod Parsed

@@ -2,9 +2,10 @@
 ghost use Rattle.std.specs.Prelude.{◌≡◌, ◌≤◌, ℕ, List, ◌++◌, length, Ok};
 ghost use Rattle.rdl_text.specs.Word.{Word};
 ghost use Rattle.rdl_text.specs.Words.{words};
+ghost use Rattle.rdl_tree.specs.Address.{map_body};
 ghost use Rattle.rdl_tree.specs.Items.{Items};
 ghost use Rattle.rdl_tree.specs.Limits.{IsWithinLimits};
-ghost use Rattle.rdl_tree.specs.View.{items_of};
+ghost use Rattle.rdl_tree.specs.View.{items_of, list_of};
 ghost use Rattle.rdl_tree.specs.declared.description.Item.{Item};
 ghost use Rattle.rdl_parse.specs.declared.found.Spot.{Spot};
 ghost use Rattle.rdl_parse.specs.Spelling.{Spells, SpellsItems};
@@ -73,8 +74,14 @@ pub fn spelled_items_are_writable()
     ensures of_words { (text : List ℕ) (ws : List Word) (xs : List Item) → words text ≡ Ok ws → SpellsItems (symbols ws) xs → IsOfWords (items_of xs) }
 {}
 
-/// So are items behind items, if both are.
-pub fn items_together_are_writable()
-    ensures spellable { (xs ys : List Item) → IsSpellable (items_of xs) → IsSpellable (items_of ys) → IsSpellable (items_of (xs ++ ys)) }
-    ensures of_words { (xs ys : List Item) → IsOfWords (items_of xs) → IsOfWords (items_of ys) → IsOfWords (items_of (xs ++ ys)) }
+/// So is a body with items behind its own, if both are.
+pub fn added_items_are_writable()
+    ensures spellable { (body added : Items) → IsSpellable body → IsSpellable added → IsSpellable (items_of (list_of body ++ list_of added)) }
+    ensures of_words { (body added : Items) → IsOfWords body → IsOfWords added → IsOfWords (items_of (list_of body ++ list_of added)) }
+{}
+
+/// And so is a description with one body changed, if the change keeps it of each body.
+pub fn edited_bodies_are_writable()
+    ensures spellable { (address : List ℕ) (change : Items → Items) (d : Items) → ((b : Items) → IsSpellable b → IsSpellable (change b)) → IsSpellable d → IsSpellable (map_body address change d) }
+    ensures of_words { (address : List ℕ) (change : Items → Items) (d : Items) → ((b : Items) → IsOfWords b → IsOfWords (change b)) → IsOfWords d → IsOfWords (map_body address change d) }
 {}
