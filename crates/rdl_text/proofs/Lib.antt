@@ -1,3 +1,4 @@
+pub mod Bounds
 pub mod Cutting
 pub mod Ends
 pub mod Examples

@@ -8,5 +8,6 @@ pub mod Raw
 pub mod Rows
 pub mod Spans
 pub mod Spelling
+pub mod WellSpelled
 pub mod Word
 pub mod Words

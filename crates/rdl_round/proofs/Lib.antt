@@ -1,0 +1,11 @@
+pub mod Classes
+pub mod Statements
+pub mod Spelled
+pub mod Parts
+pub mod Numerals
+pub mod Written
+pub mod Lines
+pub mod MadeOfWords
+pub mod Edits
+pub mod Back
+pub mod Parsed

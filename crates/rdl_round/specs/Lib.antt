@@ -1,0 +1,3 @@
+pub mod WrittenWords
+pub mod Spellable
+pub mod OfWords

@@ -1,0 +1,4 @@
+//! Laws of reading what was written. Nothing here does anything when it runs.
+#![tactic(auto)]
+
+pub mod laws;
