@@ -21,6 +21,7 @@ pub mod DefaultStacks
 pub mod ValueLists
 pub mod BareHeads
 pub mod Tops
+pub mod TypeStacks
 pub mod Assignments
 pub mod Along
 pub mod PartsFound

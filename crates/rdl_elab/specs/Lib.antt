@@ -13,5 +13,6 @@ pub mod KeptRows
 pub mod SiblingRanges
 pub mod Inside
 pub mod Stands
+pub mod TypeStacks
 pub mod Tops
 pub mod Found

@@ -1,13 +1,21 @@
 //! The types before an item.
 use rdl_text::name::Name;
 use std::alloc::{AllocError, Global};
+use std::collections::HashMap;
 use std::marker::Model;
 
-/// A type, and the number of its component among the finished ones.
+/// A type, the number of its component among the finished ones, and that of the type whose name it hides.
 #[derive(Drop)]
 pub(crate) struct TypeEntry<'a> {
     name: &'a Name,
     component: usize,
+    hidden: Option<usize>,
+}
+
+/// The component of the nearest type of each name.
+#[derive(Drop)]
+pub(crate) struct TypeIndex<'a> {
+    components: HashMap<&'a str, usize>,
 }
 
 /// The types that stand before an item, those of the bodies around it included. A contract sees their list, the
@@ -15,15 +23,63 @@ pub(crate) struct TypeEntry<'a> {
 #[derive(Drop)]
 pub(crate) struct Types<'a> {
     items: Vec<TypeEntry<'a>>,
+    nearest: TypeIndex<'a>,
+}
+
+impl<'a> TypeIndex<'a> {
+    ghost use Rattle.std.specs.Prelude.{◌≡◌, ℕ, List, ◌∷◌, [], OnOk, OnErr};
+    ghost use Rattle.rdl_elab.specs.TypeStacks.{IsIndex, Uncovers, Lacks};
+    ghost use Rattle.rdl_scope.specs.Closed.{lookup};
+
+    fn new(alloc: Global) -> TypeIndex<'a>
+        ensures { IsIndex result [] }
+    {
+        TypeIndex {
+            components: HashMap::new(alloc),
+        }
+    }
+
+    fn get(&self, name: &str) -> Option<usize>
+        ensures { (types : List (List ℕ × ℕ)) → IsIndex self.now types → result ≡ lookup name.now types }
+    {
+        self.components.get(name).copied()
+    }
+
+    /// One more type.
+    fn put(&mut self, name: &'a str, component: usize) -> Result<(), AllocError>
+        ensures ok { OnOk result ((types : List (List ℕ × ℕ)) → IsIndex self.old types → IsIndex self.new ((name.now, component) ∷ types)) }
+        ensures err { OnErr result ((types : List (List ℕ × ℕ)) → IsIndex self.old types → IsIndex self.new types) }
+    {
+        self.components.insert(name, component)?;
+        Ok(())
+    }
+
+    /// Without the nearest type of the name, which hides this one. It can't want for memory where there is such a type.
+    fn uncover(&mut self, name: &'a str, hidden: Option<usize>) -> Result<(), AllocError>
+        ensures ok { OnOk result (Uncovers name.now hidden self.old self.new) }
+        ensures err { OnErr result (Lacks name.now self.old) }
+    {
+        match hidden {
+            Some(component) => {
+                self.components.insert(name, component)?;
+            }
+            None => {
+                self.components.remove(name);
+            }
+        }
+        Ok(())
+    }
 }
 
 impl<'a> Model for Types<'a> {
-    ghost use Rattle.std.specs.Prelude.{ℕ, List, map, reverse};
-    ghost use Rattle.rdl_elab.specs.declared.types.TypeEntry.{TypeEntry};
+    ghost use Rattle.std.specs.Prelude.{ℕ, List, reverse};
+    ghost use Rattle.rdl_elab.specs.TypeStacks.{pairs, Hides, IsIndex};
 
     ghost Value = { List (List ℕ × ℕ) };
 
-    ghost view = { λ s. reverse (map (λ (e : TypeEntry). (e.name.now, e.component)) s.items.items) };
+    ghost view = { λ s. pairs (reverse s.items.items) };
+
+    ghost invariant = { λ s. Hides (reverse s.items.items) × IsIndex s.nearest (pairs (reverse s.items.items)) };
 }
 
 impl<'a> Types<'a> {
@@ -35,6 +91,7 @@ impl<'a> Types<'a> {
     {
         Types {
             items: Vec::new(alloc),
+            nearest: TypeIndex::new(alloc),
         }
     }
 
@@ -47,28 +104,44 @@ impl<'a> Types<'a> {
     pub(crate) fn push(&mut self, name: &'a Name, component: usize) -> Result<(), AllocError>
         ensures { OnOk result (self.new ≡ (name.now, component) ∷ self.old) }
     {
-        self.items.push(TypeEntry { name, component })?;
+        let hidden = self.get(name);
+        self.items.push(TypeEntry {
+            name,
+            component,
+            hidden,
+        })?;
+        if self.nearest.put(name.as_str(), component).is_err() {
+            self.items.pop();
+            return Err(AllocError);
+        }
         Ok(())
     }
 
-    /// Keeps those that were there when there were this many.
-    pub(crate) fn truncate(&mut self, len: usize)
-        requires { len ≤ length self.old }
-        ensures { self.new ≡ drop (length self.old - len) self.old }
+    /// Drops the nearest.
+    fn pop(&mut self) -> Result<(), AllocError>
+        ensures { OnOk result (self.new ≡ drop 1 self.old) }
     {
-        self.items.truncate(len);
+        let Some(nearest) = self.items.pop() else {
+            return Ok(());
+        };
+        self.nearest.uncover(nearest.name.as_str(), nearest.hidden)
+    }
+
+    /// Keeps those that were there when there were this many.
+    pub(crate) fn truncate(&mut self, len: usize) -> Result<(), AllocError>
+        requires { len ≤ length self.old }
+        ensures { OnOk result (self.new ≡ drop (length self.old - len) self.old) }
+    {
+        for _ in len..self.items.len() {
+            self.pop()?;
+        }
+        Ok(())
     }
 
     /// The component of the nearest type of the name.
     pub(crate) fn get(&self, name: &Name) -> Option<usize>
         ensures { result ≡ lookup name.now self.now }
     {
-        let mut nearest = None;
-        for entry in &self.items {
-            if entry.name == name {
-                nearest = Some(entry.component);
-            }
-        }
-        nearest
+        self.nearest.get(name.as_str())
     }
 }

@@ -90,7 +90,7 @@ fn finish<'a>(
     let types = walk.types.len();
     let defaults = walk.defaults.len();
     let parts = walk_items(alloc, description, at, component.body.as_slice(), walk)?;
-    walk.types.truncate(types);
+    walk.types.truncate(types)?;
     walk.defaults.truncate(defaults);
     let finished = finished(alloc, description, at, component, parts, walk)?;
     let number = walk.components.len();

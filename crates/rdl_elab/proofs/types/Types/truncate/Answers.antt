@@ -1,14 +1,9 @@
-use Rattle.std.proofs.Common.{◌≡◌, ◌-◌, ◌≤◌, List, length, drop, map, reverse, ℕ, ap, ◌∙◌, sym, subst}
-use Rattle.rdl_elab.specs.declared.types.TypeEntry.{TypeEntry}
-use Rattle.rdl_elab.proofs.DefaultStacks.{stack-shorter}
+use Rattle.std.proofs.Common.{◌≡◌, ◌-◌, ◌+◌, drop, ap, ◌∙◌, arith}
+use Rattle.std.proofs.lemmas.List.{drop-drop}
 use Rattle.rdl_elab.proofs.types.Types.truncate.Goals as goal
 
-abbrev pair : TypeEntry → List ℕ × ℕ
-pair e = (e.name.now, e.component)
-
-pub returns : goal.returns
-returns c =
-    let view : reverse (map pair c.self.inside.items.items) ≡ c.args.self.now = c.self.view_is in
-    ap (λ (xs : List TypeEntry). reverse (map pair xs)) c.truncate.ensures.items
-    ∙ stack-shorter pair c.args.len c.self.inside.items.items (subst (λ (v : List (List ℕ × ℕ)). c.args.len ≤ length v) (sym view) c.requires)
-    ∙ ap (λ (v : List (List ℕ × ℕ)). drop (length v - c.args.len) v) view
+pub loop-preserved : goal.loop-preserved
+loop-preserved c =
+    let one : c.pop.new.self ≡ drop 1 c.loop.self = c.in_ok-pop.ensures in
+    let more : c.loop.counter - c.args.len + 1 ≡ c.loop.counter + 1 - c.args.len = omega (arith, c.loop.auto.counter) in
+    one ∙ ap (drop 1) c.loop.invariant ∙ drop-drop 1 (c.loop.counter - c.args.len) c.args.self.now ∙ ap (λ n. drop n c.args.self.now) more

@@ -1,0 +1,28 @@
+-- The types before an item as a stack, with an index of the nearest of each name.
+-- own: how the types are kept. Which of them a name means `lookup` says.
+use Rattle.std.specs.Prelude.{◌≡◌, ℕ, List, [], ◌∷◌, map, bytes_eq, Option, None}
+use Rattle.std.specs.HashMap.{get_by}
+use Rattle.rdl_scope.specs.Closed.{lookup}
+use Rattle.rdl_elab.specs.declared.types.TypeEntry.{TypeEntry}
+use Rattle.rdl_elab.specs.declared.types.TypeIndex.{TypeIndex}
+
+-- the names with the numbers of their components
+abbrev pub pairs : List TypeEntry → List (List ℕ × ℕ)
+pairs es = map (λ (e : TypeEntry). (e.name.now, e.component)) es
+
+-- each type, the nearest first, knows the one whose name it hides
+abbrev pub Hides : List TypeEntry → Type 0
+Hides [] = Unit {0}
+Hides (e ∷ es) = (e.hidden ≡ lookup e.name.now (pairs es)) × Hides es
+
+-- the index has the nearest of each name
+abbrev pub IsIndex : TypeIndex → List (List ℕ × ℕ) → Type 0
+IsIndex index types = (q : List ℕ) → get_by (λ k. bytes_eq q k.now) index.components ≡ lookup q types
+
+-- without the nearest type the index has again the one whose name it hid
+abbrev pub Uncovers : List ℕ → Option ℕ → TypeIndex → TypeIndex → Type 0
+Uncovers name hidden old new = (types : List (List ℕ × ℕ)) (component : ℕ) → IsIndex old ((name, component) ∷ types) → hidden ≡ lookup name types → IsIndex new types
+
+-- no type of this name is in the index
+abbrev pub Lacks : List ℕ → TypeIndex → Type 0
+Lacks name index = (types : List (List ℕ × ℕ)) → IsIndex index types → lookup name types ≡ None
