@@ -1,19 +1,17 @@
 -- Among ranges of which no two overlap, the last that begins before a span's end is the one that overlaps it, if one does.
-use Rattle.std.proofs.Common.{◌≡◌, ℕ, ◌<◌, ◌≤◌, List, [], ◌∷◌, ◌++◌, Bool, true, false, refl, ap, sym, subst, ◌∙◌, arith, ◌⊎◌, inl, inr, length, get_or, Option, Some, None}
-use Rattle.std.specs.Prelude.{nat_lt, ◌||◌, All}
-use Rattle.std.specs.List.{list_any}
+use Rattle.std.proofs.Common.{◌≡◌, ℕ, ◌<◌, ◌≤◌, List, true, false, ap, sym, ◌∙◌, arith, ◌⊎◌, inl, inr, get_or, Some, None}
+use Rattle.std.specs.Prelude.{nat_lt}
 use Rattle.std.specs.declared.cmp.Ordering.TheVariants.{Less}
 use Rattle.std.specs.Ordering.{nat_cmp, is_lt}
 use Rattle.std.specs.Cmp.{nat_cmp_is}
-use Rattle.std.specs.BTreeMap.{BTreeMap, get, Updates}
-use Rattle.std.proofs.lemmas.Bool.{cases_Bool, cases_eq, cases_lt, both_ways, lt-ltb, le-ltb}
-use Rattle.std.proofs.lemmas.List.Elements.{All-push}
-use Rattle.std.proofs.lemmas.List.Folds.{list_any-append, list_any_none}
+use Rattle.std.specs.BTreeMap.{BTreeMap, get}
+use Rattle.std.proofs.lemmas.Bool.{cases_Bool, cases_lt, both_ways, lt-ltb, le-ltb}
+use Rattle.std.proofs.lemmas.List.Folds.{list_any_none}
 use Rattle.rdl_elab.specs.declared.layout.Span.{Span}
 use Rattle.rdl_elab.specs.declared.siblings.Sibling.{Sibling}
 use Rattle.rdl_elab.specs.Faults.{overlap, SharesANumber}
 use Rattle.rdl_elab.specs.KeptRows.{overlaps_before}
-use Rattle.rdl_elab.specs.SiblingRanges.{HasRange, IsTaken, AreRanges}
+use Rattle.rdl_elab.specs.SiblingRanges.{HasRange, AreRanges}
 use Rattle.rdl_elab.proofs.Overlaps.{overlap-shares, shares-overlap}
 
 -- spans

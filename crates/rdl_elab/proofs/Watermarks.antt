@@ -1,7 +1,7 @@
 -- What begins at the greatest end of its earlier siblings, or behind it, overlaps none of them.
-use Rattle.std.proofs.Common.{◌≡◌, ◌≤◌, ℕ, List, Bool, true, false, refl, ap, sym, ◌∙◌, arith, ◌&&◌, get_or}
+use Rattle.std.proofs.Common.{◌≡◌, ◌≤◌, ℕ, List, Bool, true, false, refl, ap, ◌∙◌, arith, ◌&&◌, get_or}
 use Rattle.std.specs.Prelude.{nat_lt, not}
-use Rattle.std.specs.List.{All, list_any}
+use Rattle.std.specs.List.{All}
 use Rattle.std.proofs.lemmas.Bool.{le-ltb}
 use Rattle.std.proofs.lemmas.List.Folds.{list_any_none}
 use Rattle.rdl_elab.specs.declared.layout.Span.{Span}

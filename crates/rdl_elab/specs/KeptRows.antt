@@ -1,12 +1,11 @@
 -- The rows of a map and their faults, from what is kept of its components, level by level.
 -- own: SystemRDL 2.0 has no rows. `Rows` and `Faults` say the same of the components themselves.
-use Rattle.std.specs.Prelude.{ℕ, zero, suc, ◌+◌, ◌-◌, ◌^◌, ◌&&◌, ◌||◌, not, nat_lt, min, Bool, true, false, List, [], ◌∷◌, ◌++◌, Option, Some, None, option_and_then, Result, Ok, Err, slice_get, unwrap_or, if◌then◌else◌}
+use Rattle.std.specs.Prelude.{ℕ, zero, suc, ◌+◌, ◌-◌, ◌^◌, ◌&&◌, ◌||◌, not, nat_lt, min, Bool, List, [], ◌∷◌, ◌++◌, Option, Some, None, option_and_then, Result, Ok, Err, slice_get, unwrap_or, if◌then◌else◌}
 use Rattle.std.specs.Option.{option_or}
 use Rattle.std.specs.List.{list_any}
 use Rattle.rdl_tree.specs.declared.shell.Kind.{Kind}
-use Rattle.rdl_tree.specs.declared.shell.Kind.TheVariants.{Addrmap, Regfile, Reg, Field}
+use Rattle.rdl_tree.specs.declared.shell.Kind.TheVariants.{Reg, Field}
 use Rattle.rdl_tree.specs.declared.shell.Shell.{Shell}
-use Rattle.rdl_tree.specs.declared.value.Value.{Value}
 use Rattle.rdl_tree.specs.declared.property.Property.TheVariants.{Reset, Sw}
 use Rattle.rdl_tree.specs.declared.fault.FaultKind.{FaultKind}
 use Rattle.rdl_tree.specs.declared.fault.FaultKind.TheVariants.{NoTop, TooManyLevels, TooManyRows, EmptyComponent, MapTooLarge, AccessTooWide, StrideTooSmall, AddressOverlap, FieldPastRegister, FieldOverlap, ResetTooWide}
@@ -15,7 +14,6 @@ use Rattle.rdl_scope.specs.ItemFaults.{first_of, fault_at}
 use Rattle.rdl_elab.specs.declared.layout.Mode.{Mode}
 use Rattle.rdl_elab.specs.declared.layout.Mode.TheVariants.{Regalign}
 use Rattle.rdl_elab.specs.declared.layout.Span.{Span}
-use Rattle.rdl_elab.specs.declared.layout.Layout.{Layout}
 use Rattle.rdl_elab.specs.declared.layout.LayoutValues.{LayoutValues}
 use Rattle.rdl_elab.specs.declared.row.PropertyValue.{PropertyValue}
 use Rattle.rdl_elab.specs.declared.row.Place.TheVariants.{Bytes}

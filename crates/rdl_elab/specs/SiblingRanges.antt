@@ -1,6 +1,6 @@
 -- The spans of earlier siblings as ordered ranges, from each start to its end, so that a search needn't go through them all.
 -- own: how the siblings are kept. Which of them overlap `KeptRows` says.
-use Rattle.std.specs.Prelude.{◌≡◌, ℕ, ◌<◌, ◌≤◌, true, List, All, Option, Some, IfSome}
+use Rattle.std.specs.Prelude.{◌≡◌, ℕ, ◌<◌, ◌≤◌, true, false, List, All, length, get_or, take, Option, Some, IfSome}
 use Rattle.std.specs.Ordering.{nat_cmp}
 use Rattle.std.specs.BTreeMap.{BTreeMap, get}
 use Rattle.rdl_elab.specs.declared.layout.Span.{Span}
@@ -21,6 +21,10 @@ pub record AreRanges (ranges : BTreeMap ℕ ℕ) (before : List Sibling) : Type 
   pub rising : (start end : ℕ) → HasRange ranges start end → start < end
   pub taken : (start end : ℕ) → HasRange ranges start end → IsTaken before start end
   pub apart : (start end later last : ℕ) → HasRange ranges start end → HasRange ranges later last → start < later → end ≤ later
+
+-- no two of the siblings overlap
+abbrev pub AreApart : List Sibling → Type 0
+AreApart siblings = (i : ℕ) (d : Sibling) → i < length siblings → overlaps_before (get_or siblings i d).span (take i siblings) ≡ false
 
 -- the ranges are kept only until two siblings overlap
 abbrev pub AreRangesIfKept : Option (BTreeMap ℕ ℕ) → List Sibling → Type 0

@@ -2,7 +2,7 @@
 ghost use Rattle.std.specs.Prelude.{◌≡◌, ◌^◌, nat_le, option_copied, false, List, [], ◌∷◌, ◌++◌, IfOk};
 ghost use Rattle.rdl_elab.specs.Faults.{overlap, is_read_only, is_write_only, may_share, is_reset_too_wide};
 ghost use Rattle.rdl_elab.specs.KeptRows.{share, overlaps_before};
-ghost use Rattle.rdl_elab.specs.SiblingRanges.{AreRanges, AreRangesIfKept};
+ghost use Rattle.rdl_elab.specs.SiblingRanges.{AreApart, AreRanges, AreRangesIfKept};
 ghost use Rattle.rdl_elab.specs.declared.siblings.Sibling.{Sibling};
 
 use crate::layout::Span;
@@ -26,13 +26,19 @@ fn share(first: Sibling, second: Sibling) -> bool
     first.is_read_only && second.is_write_only || first.is_write_only && second.is_read_only
 }
 
+/// So many siblings are searched one by one before ranges are kept.
+const FEW: usize = 32;
+
 /// The earlier siblings of a row. A contract sees their list.
 #[derive(Drop)]
 pub(crate) struct Siblings {
+    alloc: Global,
     items: Vec<Sibling>,
     /// The greatest end of their spans: what begins there or later overlaps none of them.
     end: u64,
-    /// Their spans but the empty ones, from start to end, while no two of them overlap.
+    /// Whether no two of their spans overlap.
+    are_apart: bool,
+    /// Their spans but the empty ones, from start to end, once one of many has begun before the greatest end.
     ranges: Option<BTreeMap<u64, u64>>,
 }
 
@@ -66,42 +72,77 @@ fn with_range(
     Ok(Some(ranges))
 }
 
+/// The ranges of siblings of which no two overlap.
+fn ranges_of(alloc: Global, siblings: &[Sibling]) -> Result<Option<BTreeMap<u64, u64>>, AllocError>
+    ensures { IfOk result (λ ranges. AreApart siblings.now → AreRangesIfKept ranges siblings.now) }
+{
+    let mut ranges = Some(BTreeMap::new(alloc));
+    for sibling in siblings {
+        ranges = with_range(ranges, sibling.span)?;
+    }
+    Ok(ranges)
+}
+
 impl Model for Siblings {
-    ghost use Rattle.std.specs.Prelude.{List, All, ◌≤◌};
+    ghost use Rattle.std.specs.Prelude.{List, All, ◌≤◌, ◌≡◌, true};
     ghost use Rattle.rdl_elab.specs.declared.siblings.Sibling.{Sibling};
-    ghost use Rattle.rdl_elab.specs.SiblingRanges.{AreRangesIfKept};
+    ghost use Rattle.rdl_elab.specs.SiblingRanges.{AreApart, AreRangesIfKept};
 
     ghost Value = { List Sibling };
 
     ghost view = { λ s. s.items.items };
 
-    ghost invariant = { λ s. All (λ (b : Sibling). b.span.end ≤ s.end) s.items.items × AreRangesIfKept s.ranges s.items.items };
+    ghost invariant = { λ s. All (λ (b : Sibling). b.span.end ≤ s.end) s.items.items × (s.are_apart ≡ true → AreApart s.items.items) × AreRangesIfKept s.ranges s.items.items };
 }
 
 impl Siblings {
-    ghost use Rattle.std.specs.Prelude.{◌≡◌, [], ◌∷◌, ◌++◌, OnOk};
+    ghost use Rattle.std.specs.Prelude.{◌≡◌, [], ◌∷◌, ◌++◌, OnOk, IfOk, true, false};
     ghost use Rattle.rdl_elab.specs.KeptRows.{overlaps_before, clashes_before};
+    ghost use Rattle.rdl_elab.specs.SiblingRanges.{AreApart, AreRangesIfKept};
 
     pub(crate) fn new(alloc: Global) -> Siblings
         ensures { result ≡ [] }
     {
         Siblings {
+            alloc,
             items: Vec::new(alloc),
             end: 0,
-            ranges: Some(BTreeMap::new(alloc)),
+            are_apart: true,
+            ranges: None,
         }
+    }
+
+    /// The ranges to be kept with one more sibling, if no two overlap then.
+    fn ranges_with(
+        &mut self,
+        sibling: Sibling,
+        are_apart: bool,
+    ) -> Result<Option<BTreeMap<u64, u64>>, AllocError>
+        requires { are_apart ≡ true → AreApart self.old × (overlaps_before sibling.span self.old ≡ false) }
+        ensures same { self.new ≡ self.old }
+        ensures ranges { IfOk result (λ ranges. AreRangesIfKept ranges (self.old ++ sibling ∷ [])) }
+    {
+        if !are_apart {
+            return Ok(None);
+        }
+        let kept = self.ranges.take();
+        if kept.is_some() {
+            return with_range(kept, sibling.span);
+        }
+        if self.end <= sibling.span.start || self.items.len() < FEW {
+            return Ok(None);
+        }
+        with_range(ranges_of(self.alloc, self.items.as_slice())?, sibling.span)
     }
 
     pub(crate) fn push(&mut self, sibling: Sibling) -> Result<(), AllocError>
         ensures { OnOk result (self.new ≡ self.old ++ sibling ∷ []) }
     {
-        let ranges = if self.ranges.is_none() || self.overlap(sibling.span) {
-            None
-        } else {
-            with_range(self.ranges.take(), sibling.span)?
-        };
+        let are_apart = self.are_apart && !self.overlap(sibling.span);
+        let ranges = self.ranges_with(sibling, are_apart)?;
         self.items.push(sibling)?;
         self.end = self.end.max(sibling.span.end);
+        self.are_apart = are_apart;
         self.ranges = ranges;
         Ok(())
     }
