@@ -158,7 +158,7 @@ fn shows_a_reset_of_an_instance(rt: HostRuntime) -> Result<(), Fail> {
     assert!(rt; count == 26 && number_at(&own, Property::Reset) == Some(5));
     let row = row_values(alloc, Kind::Field, Some(7), &[], &own)?;
     assert!(rt; row.as_slice().len() == count && number_at(&row, Property::Reset) == Some(7));
-    let copy = row.try_copy(alloc)?;
+    let copy = row.share()?;
     assert!(rt; copy.as_slice().len() == count && number_at(&copy, Property::Reset) == Some(7));
     Ok(())
 }

@@ -188,7 +188,7 @@ fn shown_among(
             })?;
         }
     }
-    Ok(RowValues::from_vec(items))
+    RowValues::from_vec(alloc, items)
 }
 
 /// The values of a component of this kind with this body, where these defaults reach it.
@@ -274,13 +274,13 @@ fn values_among(
             })?;
         }
     }
-    Ok(RowValues::from_vec(items))
+    RowValues::from_vec(alloc, items)
 }
 
 /// The values of the row of an instance with this reset, which these assignments reach, and whose component, of this
 /// kind, has these values by itself.
 ///
-/// Where there is no reset and no assignment, they are those of the component, and `RowValues::try_copy` is quicker.
+/// Where there is no reset and no assignment, they are those of the component, and `RowValues::share` is quicker.
 pub(crate) fn row_values(
     alloc: Global,
     kind: Kind,
