@@ -20,6 +20,7 @@ pub mod Roots
 pub mod DefaultStacks
 pub mod ValueLists
 pub mod BareHeads
+pub mod Unstated
 pub mod Tops
 pub mod TypeStacks
 pub mod Assignments

@@ -144,7 +144,7 @@ fn top_row(alloc: Global, name: &Name, top: &Finished) -> Result<Row, AllocError
             dims: Dims::new(alloc),
             stride: size,
         }),
-        values: top.shown.try_copy(alloc)?,
+        values: top.shown.share()?,
     })
 }
 

@@ -2,6 +2,7 @@
 #![tactic(auto)]
 
 pub mod bits;
+mod built_ins;
 pub mod component;
 mod defaults;
 pub mod elaborate;

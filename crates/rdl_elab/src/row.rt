@@ -9,6 +9,7 @@ use rdl_tree::shell::Kind;
 use rdl_tree::value::Value;
 use std::alloc::{AllocError, Global};
 use std::marker::Model;
+use std::rc::Rc;
 
 /// The names from the top down to a row, the top's first. A contract sees the list of the names' bytes.
 #[derive(Debug, Drop)]
@@ -60,10 +61,11 @@ impl PropertyValue {
     }
 }
 
-/// The properties of a row that have a value, in the order of the table of properties. A contract sees the list.
+/// The properties of a row that have a value, in the order of the table of properties. Rows with the same values share
+/// them. A contract sees the list.
 #[derive(Debug, Drop)]
 pub struct RowValues {
-    items: Vec<PropertyValue>,
+    items: Rc<Vec<PropertyValue>>,
 }
 
 impl Model for RowValues {
@@ -72,16 +74,17 @@ impl Model for RowValues {
 
     ghost Value = { List PropertyValue };
 
-    ghost view = { λ values. values.items.items };
+    ghost view = { λ values. values.items.value.items };
 }
 
 impl RowValues {
     ghost use Rattle.std.specs.Prelude.{◌≡◌, IfOk};
 
-    pub fn from_vec(items: Vec<PropertyValue>) -> RowValues
-        ensures { result ≡ items.items }
+    pub fn from_vec(alloc: Global, items: Vec<PropertyValue>) -> Result<RowValues, AllocError>
+        ensures { IfOk result (λ values. values ≡ items.items) }
     {
-        RowValues { items }
+        let items = Rc::new(alloc, items)?;
+        Ok(RowValues { items })
     }
 
     pub fn as_slice(&self) -> &[PropertyValue]
@@ -90,13 +93,11 @@ impl RowValues {
         self.items.as_slice()
     }
 
-    pub(crate) fn try_copy(&self, alloc: Global) -> Result<RowValues, AllocError>
+    /// The same values once more, which costs no memory.
+    pub(crate) fn share(&self) -> Result<RowValues, AllocError>
         ensures { IfOk result (λ values. values ≡ self.now) }
     {
-        let mut items = Vec::with_capacity(alloc, self.items.len())?;
-        for value in &self.items {
-            items.push(value.try_copy(alloc)?)?;
-        }
+        let items = self.items.clone()?;
         Ok(RowValues { items })
     }
 }

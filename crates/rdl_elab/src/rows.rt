@@ -102,7 +102,7 @@ fn values(
     ensures { IfOk result (λ values. values ≡ kept_values kind reset reaching.now own.now) }
 {
     match (reset, reaching) {
-        (None, []) => own.try_copy(alloc),
+        (None, []) => own.share(),
         _ => row_values(alloc, kind, reset, reaching, own),
     }
 }

@@ -1,5 +1,6 @@
 //! Tests that the calls succeed with ample memory.
 use crate::bits::bits;
+use crate::built_ins::BuiltIns;
 use crate::component::lay_out;
 use crate::defaults::Defaults;
 use crate::layout::{FieldBits, LayoutValues, Member, Mode, Placement, Span};
@@ -153,12 +154,13 @@ fn shows_a_reset_of_an_instance(rt: HostRuntime) -> Result<(), Fail> {
     let mut items = Vec::new(alloc);
     items.push(Item::Own(name(alloc, "reset")?, Value::Number(5)))?;
     let body = Body::from_vec(items);
-    let own = shown_values(alloc, Kind::Field, &body, &Defaults::new(alloc))?;
+    let built_ins = BuiltIns::new(alloc)?;
+    let own = shown_values(alloc, Kind::Field, &body, &Defaults::new(alloc), &built_ins)?;
     let count = own.as_slice().len();
     assert!(rt; count == 26 && number_at(&own, Property::Reset) == Some(5));
     let row = row_values(alloc, Kind::Field, Some(7), &[], &own)?;
     assert!(rt; row.as_slice().len() == count && number_at(&row, Property::Reset) == Some(7));
-    let copy = row.try_copy(alloc)?;
+    let copy = row.share()?;
     assert!(rt; copy.as_slice().len() == count && number_at(&copy, Property::Reset) == Some(7));
     Ok(())
 }

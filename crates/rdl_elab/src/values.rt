@@ -1,21 +1,24 @@
 //! The values of components and of rows.
-ghost use Rattle.std.specs.Prelude.{◌≡◌, Some, IfOk, option_copied, option_map, bytes_eq};
+ghost use Rattle.std.specs.Prelude.{◌≡◌, ℕ, List, [], true, Some, None, IfOk, option_copied, option_map, bytes_eq};
 ghost use Rattle.std.specs.Option.{option_or};
 ghost use Rattle.rdl_tree.specs.Properties.{row, properties};
 ghost use Rattle.rdl_tree.specs.declared.shell.Kind.{Kind};
 ghost use Rattle.rdl_scope.specs.Closed.{Head, stated, built_in, head_value};
 ghost use Rattle.rdl_scope.specs.Value.{shown};
 ghost use Rattle.rdl_elab.specs.Layouts.{values_of, number_in, power_in, width_in, mode_in};
-ghost use Rattle.rdl_elab.specs.Shown.{bare, shown_value, shown_among, shown_values};
+ghost use Rattle.std.specs.List.{list_any};
+ghost use Rattle.rdl_tree.specs.Items.{no_items};
+ghost use Rattle.rdl_elab.specs.Shown.{bare, shown_value, shown_among, shown_values, is_own};
 ghost use Rattle.rdl_elab.specs.Reaches.{value_along, values_among, values_along, reset_value, value_under};
 
+use crate::built_ins::BuiltIns;
 use crate::defaults::Defaults;
 use crate::layout::{LayoutValues, Mode};
 use crate::reaches::{Assignment, reached};
 use crate::row::{PropertyValue, RowValues};
 use rdl_scope::values::{own_value, shown};
 use rdl_text::token::Number;
-use rdl_tree::description::Body;
+use rdl_tree::description::{Body, Item};
 use rdl_tree::property::{Form, Property};
 use rdl_tree::shell::Kind;
 use rdl_tree::value::{Value, Word};
@@ -94,11 +97,46 @@ fn bare_layout_values(body: &Body, defaults: &Defaults) -> LayoutValues
     }
 }
 
+fn built_in_layout_values() -> LayoutValues
+    ensures { result ≡ values_of (bare Kind.Field no_items []) }
+{
+    LayoutValues {
+        addressing: Mode::Regalign,
+        alignment: None,
+        regwidth: 32,
+        accesswidth: 32,
+        fieldwidth: 1,
+    }
+}
+
+fn is_own(item: &Item) -> bool
+    ensures { result ≡ is_own item.now }
+{
+    matches!(item, Item::Own(_, _))
+}
+
+fn has_own(items: &[Item]) -> bool
+    ensures { result ≡ list_any is_own items.now }
+{
+    items.iter().any(|item| is_own(item))
+}
+
+/// Whether a component with this body, where these defaults reach it, has the built-in values alone.
+fn states_nothing(body: &Body, defaults: &Defaults) -> bool
+    ensures { result ≡ true → (name : List ℕ) → stated (bare Kind.Field body.now defaults.now) name ≡ None }
+{
+    defaults.len() == 0 && !has_own(body.as_slice())
+}
+
 /// The values on which the layout of a component with this body depends, where these defaults reach it.
 pub(crate) fn layout_values(body: &Body, defaults: &Defaults) -> LayoutValues
     ensures { (h : Head) → h.body ≡ body.now → h.defaults ≡ defaults.now → result ≡ values_of h }
 {
-    bare_layout_values(body, defaults)
+    if states_nothing(body, defaults) {
+        built_in_layout_values()
+    } else {
+        bare_layout_values(body, defaults)
+    }
 }
 
 fn copied(alloc: Global, value: Option<&Value>) -> Result<Option<Value>, AllocError>
@@ -179,7 +217,7 @@ fn shown_among(
 ) -> Result<RowValues, AllocError>
     ensures { IfOk result (λ values. values ≡ shown_among (bare kind body.now defaults.now) properties.now) }
 {
-    let mut items = Vec::new(alloc);
+    let mut items = Vec::with_capacity(alloc, properties.len())?;
     for property in properties {
         if let Some(value) = shown_value(alloc, kind, body, defaults, *property)? {
             items.push(PropertyValue {
@@ -188,7 +226,19 @@ fn shown_among(
             })?;
         }
     }
-    Ok(RowValues::from_vec(items))
+    RowValues::from_vec(alloc, items)
+}
+
+/// The values of a component of this kind with this body, where these defaults reach it, each looked for.
+pub(crate) fn stated_values(
+    alloc: Global,
+    kind: Kind,
+    body: &Body,
+    defaults: &Defaults,
+) -> Result<RowValues, AllocError>
+    ensures { IfOk result (λ values. values ≡ shown_values (bare kind body.now defaults.now)) }
+{
+    shown_among(alloc, kind, body, defaults, &Property::ALL)
 }
 
 /// The values of a component of this kind with this body, where these defaults reach it.
@@ -197,10 +247,15 @@ pub(crate) fn shown_values(
     kind: Kind,
     body: &Body,
     defaults: &Defaults,
+    built_ins: &BuiltIns,
 ) -> Result<RowValues, AllocError>
     ensures { IfOk result (λ values. (h : Head) → h.kind ≡ kind → h.body ≡ body.now → h.defaults ≡ defaults.now → values ≡ shown_values h) }
 {
-    shown_among(alloc, kind, body, defaults, &Property::ALL)
+    if states_nothing(body, defaults) {
+        built_ins.of(kind).share()
+    } else {
+        stated_values(alloc, kind, body, defaults)
+    }
 }
 
 fn reset_value(property: Property, reset: Option<Number>) -> Option<Value>
@@ -274,13 +329,13 @@ fn values_among(
             })?;
         }
     }
-    Ok(RowValues::from_vec(items))
+    RowValues::from_vec(alloc, items)
 }
 
 /// The values of the row of an instance with this reset, which these assignments reach, and whose component, of this
 /// kind, has these values by itself.
 ///
-/// Where there is no reset and no assignment, they are those of the component, and `RowValues::try_copy` is quicker.
+/// Where there is no reset and no assignment, they are those of the component, and `RowValues::share` is quicker.
 pub(crate) fn row_values(
     alloc: Global,
     kind: Kind,

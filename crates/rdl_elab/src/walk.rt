@@ -8,6 +8,7 @@ ghost use Rattle.rdl_scope.specs.Closed.{Made, Parts, Standing, component, head_
 ghost use Rattle.rdl_elab.specs.Finished.{IsFinished, IsKept, AreParts};
 ghost use Rattle.rdl_elab.specs.Stands.{made_at, after_item, item_parts, in_list, LeadsTo, Stands, Grows, IsBehind};
 
+use crate::built_ins::BuiltIns;
 use crate::defaults::Defaults;
 use crate::finished::{Finished, Part};
 use crate::instances::{first_empty, layouts, levels, rows};
@@ -34,6 +35,7 @@ struct Walk<'a> {
     types: Types<'a>,
     defaults: Defaults<'a>,
     components: Vec<Finished<'a>>,
+    built_ins: BuiltIns,
 }
 
 /// All that is kept of a component with these instances, which these defaults reach.
@@ -53,7 +55,7 @@ fn finished<'a>(
     let body = &component.body;
     let components = walk.components.as_slice();
     let values = layout_values(body, &walk.defaults);
-    let shown = shown_values(alloc, kind, body, &walk.defaults)?;
+    let shown = shown_values(alloc, kind, body, &walk.defaults, &walk.built_ins)?;
     let assignments = assignments(alloc, description, at, body)?;
     let layouts = layouts(alloc, kind, values, parts.as_slice(), components)?;
     Ok(Finished {
@@ -219,6 +221,7 @@ pub(crate) fn lay_out_item<'a>(
         types: Types::new(alloc),
         defaults: Defaults::new(alloc),
         components: Vec::new(alloc),
+        built_ins: BuiltIns::new(alloc)?,
     };
     let root = Address::new();
     walk_items(alloc, description, &root, &items[..n], &mut walk)?;

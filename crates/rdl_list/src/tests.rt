@@ -32,7 +32,7 @@ fn bytes(alloc: Global, names: &[&str], kind: Kind, base: u64, dims: &[u64]) -> 
         kind,
         base,
         place,
-        values: RowValues::from_vec(Vec::new(alloc)),
+        values: RowValues::from_vec(alloc, Vec::new(alloc))?,
     })
 }
 
@@ -64,7 +64,7 @@ fn field(
         kind: Kind::Field,
         base: 0,
         place: Place::Bits(Span { start, end }),
-        values: RowValues::from_vec(values),
+        values: RowValues::from_vec(alloc, values)?,
     })
 }
 

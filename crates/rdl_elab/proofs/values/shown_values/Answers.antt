@@ -1,15 +1,30 @@
-use Rattle.std.proofs.Common.{◌≡◌, ◌∙◌}
+use Rattle.std.proofs.Common.{◌≡◌, sym, ◌∙◌}
 use Rattle.std.proofs.lemmas.Result.{IfOk-weaker}
-use Rattle.rdl_tree.specs.Properties.{properties}
 use Rattle.rdl_scope.specs.Closed.{Head}
-use Rattle.rdl_elab.specs.Shown.{bare, shown_among, shown_values}
+use Rattle.rdl_elab.specs.Shown.{bare, shown_values}
 use Rattle.rdl_elab.proofs.BareHeads.{shown-bare}
+use Rattle.rdl_elab.proofs.Unstated.{shown-unstated}
 use Rattle.rdl_elab.proofs.values.shown_values.Goals as goal
 
-pub returns : goal.returns
-returns c =
-    IfOk-weaker c.shown_among.result
-    (λ values. values ≡ shown_among (bare c.args.kind c.args.body.now c.args.defaults.now) properties)
-    (λ values. (h : Head) → h.kind ≡ c.args.kind → h.body ≡ c.args.body.now → h.defaults ≡ c.args.defaults.now → values ≡ shown_values h)
-    (λ values e h k b d. e ∙ shown-bare h c.args.kind c.args.body.now c.args.defaults.now k b d)
-    c.shown_among.ensures
+pub returns-then-states_nothing : goal.returns-then-states_nothing
+returns-then-states_nothing c =
+    let k = c.args.kind in
+    let body = c.args.body.now in
+    let ds = c.args.defaults.now in
+    let none = c.states_nothing.ensures c.if-states_nothing.true in
+    IfOk-weaker c.share.result
+    (λ values. values ≡ c.of.result.now)
+    (λ values. (h : Head) → h.kind ≡ k → h.body ≡ body → h.defaults ≡ ds → values ≡ shown_values h)
+    (λ values e h same_kind same_body same_defaults. e ∙ c.of.ensures ∙ sym (shown-unstated k body ds none) ∙ shown-bare h k body ds same_kind same_body same_defaults)
+    c.share.ensures
+
+pub returns-else-states_nothing : goal.returns-else-states_nothing
+returns-else-states_nothing c =
+    let k = c.args.kind in
+    let body = c.args.body.now in
+    let ds = c.args.defaults.now in
+    IfOk-weaker c.stated_values.result
+    (λ values. values ≡ shown_values (bare k body ds))
+    (λ values. (h : Head) → h.kind ≡ k → h.body ≡ body → h.defaults ≡ ds → values ≡ shown_values h)
+    (λ values e h same_kind same_body same_defaults. e ∙ shown-bare h k body ds same_kind same_body same_defaults)
+    c.stated_values.ensures

@@ -41,7 +41,7 @@ walk_item-returns-in_ok-push-in-Define-clause-stands t c = λ e h.
     let d = c.args.description.now.items in
     let old = c.args.walk.now in
     let mid = c.finish.new.walk in
-    let new : Walk = record { types = c.push.new.self; defaults = mid.defaults; components = mid.components } in
+    let new : Walk = record { types = c.push.new.self; defaults = mid.defaults; components = mid.components; built_ins = mid.built_ins } in
     let k = c.in_ok-number-in-Define.number in
     let all = c.in_ok-number-in-Define.ensures in
     subst (λ (x : Item). Stands d new (after_item c.args.at.now x e)) (sym c.in-Define.is)

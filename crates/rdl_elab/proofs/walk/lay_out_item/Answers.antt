@@ -38,7 +38,7 @@ returns-clause-finished c = λ made is.
     let e = standing nothing [] 0 (items_of (take c.args.n xs)) in
     let found = root-item d c.args.n xs (take c.args.n xs) c.index-items-n.result (Some c.in-Some.component.now) c.as_slice-items.ensures refl c.if-n-items.false c.index-items-n.is (sym c.in-Some.ensures) in
     let same : made_at e (c.args.n ∷ []) c.in-Some.component.now ≡ made = cc (found, is) in
-    let begun : Walk = record { types = c.new.result; defaults = c.new-2.result; components = c.new-3.result } in
+    let begun : Walk = record { types = c.new.result; defaults = c.new-2.result; components = c.new-3.result; built_ins = tt } in
     let after : Stands d c.walk_items.new.walk e =
     subst (λ (b : List ℕ). Stands d c.walk_items.new.walk (standing nothing b 0 (items_of (take c.args.n xs)))) c.new-root.ensures
     (c.in_ok-walk_items.ensures.stands nothing (stands-first d begun c.new.ensures c.new-2.ensures)) in
