@@ -12,9 +12,10 @@ use Rattle.rdl_tree.specs.declared.shell.Kind.TheVariants.{Addrmap, Regfile, Reg
 use Rattle.rdl_tree.specs.declared.shell.Shell.{Shell}
 use Rattle.rdl_scope.specs.Closed.{Head, Parts, no_parts, part}
 use Rattle.rdl_elab.specs.declared.layout.Mode.{Mode}
+use Rattle.rdl_elab.specs.declared.layout.Mode.TheVariants.{Compact}
 use Rattle.rdl_elab.specs.declared.layout.Layout.{Layout}
 use Rattle.rdl_elab.specs.declared.layout.LayoutValues.{LayoutValues}
-use Rattle.rdl_elab.specs.declared.finished.Layouts.{Layouts}
+use Rattle.rdl_elab.specs.Kept.{Layouts}
 use Rattle.rdl_elab.proofs.KeptLayouts.{kept-laid_out}
 use Rattle.rdl_elab.specs.declared.finished.Part.{Part}
 use Rattle.rdl_elab.specs.declared.finished.Finished.{Finished}
@@ -125,6 +126,35 @@ pub empty-none : (fs : List Finished) (i : ℕ) (ps : List Part) → length ps �
 empty-none fs i ps h = ap (kept_empty fs) (drop_all i ps h)
 
 pub ruleset steps = (kept-next, kept-none, levels-next, levels-none, rows-next, rows-none, empty-next, empty-none)
+
+-- no layout of the instances' components depends on the mode
+abbrev pub AreSame : List Finished → List Part → Type 0
+AreSame fs ps = (m : Mode) → kept_parts m fs ps ≡ kept_parts Compact fs ps
+
+one-same : (fs : List Finished) (p : Part) (f : Finished) → slice_get fs p.component ≡ Some f → ((m : Mode) → under m f.layouts ≡ under Compact f.layouts) → (m : Mode) → kept_part m fs p ≡ kept_part Compact fs p
+one-same fs p f e g m =
+    ap (option_map (λ (f : Finished). (p.shell.now, under m f.layouts))) e
+    ∙ ap (λ l. Some (p.shell.now, l)) (g m)
+    ∙ sym (ap (option_map (λ (f : Finished). (p.shell.now, under Compact f.layouts))) e)
+
+none-same : (fs : List Finished) (p : Part) → slice_get fs p.component ≡ None → (m : Mode) → kept_part m fs p ≡ kept_part Compact fs p
+none-same fs p e m = ap (option_map (λ (f : Finished). (p.shell.now, under m f.layouts))) e ∙ sym (ap (option_map (λ (f : Finished). (p.shell.now, under Compact f.layouts))) e)
+
+module _ (fs : List Finished) (i : ℕ) (ps : List Part) (p : Part) (h : i < length ps) (is : p ≡ get_or ps i p) (inv : AreSame fs (drop i ps) → AreSame fs ps) where
+  same-next : ((m : Mode) → kept_part m fs p ≡ kept_part Compact fs p) → AreSame fs (drop (i + 1) ps) → AreSame fs ps
+  same-next one rest = inv (λ m. here m ∙ ap (λ o. cons_option o (kept_parts m fs (drop (i + 1) ps))) (one m) ∙ ap (cons_option (kept_part Compact fs p)) (rest m) ∙ sym (here Compact))
+    where
+      here : (m : Mode) → kept_parts m fs (drop i ps) ≡ cons_option (kept_part m fs p) (kept_parts m fs (drop (i + 1) ps))
+      here m = kept-next m fs i ps p h ∙ ap (λ (q : Part). cons_option (kept_part m fs q) (kept_parts m fs (drop (i + 1) ps))) (sym is)
+
+  pub same-some : (f : Finished) → slice_get fs p.component ≡ Some f → ((m : Mode) → under m f.layouts ≡ under Compact f.layouts) → AreSame fs (drop (i + 1) ps) → AreSame fs ps
+  same-some f e g = same-next (one-same fs p f e g)
+
+  pub same-none : slice_get fs p.component ≡ None → AreSame fs (drop (i + 1) ps) → AreSame fs ps
+  same-none e = same-next (none-same fs p e)
+
+pub same-all : (fs : List Finished) (i : ℕ) (ps : List Part) → length ps ≤ i → (AreSame fs (drop i ps) → AreSame fs ps) → AreSame fs ps
+same-all fs i ps h inv = inv (λ m. kept-none m fs i ps h ∙ sym (kept-none Compact fs i ps h))
 
 pub found-read : (fs : List Finished) (k : ℕ) (f : Finished) → k < length fs → f ≡ get_or fs k f → slice_get fs k ≡ Some f
 found-read fs k f h e = slice_get-get_or fs k f h ∙ ap Some (sym e)

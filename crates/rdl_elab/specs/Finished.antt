@@ -7,7 +7,7 @@ use Rattle.rdl_scope.specs.Closed.{Parts, no_parts, part, Made}
 use Rattle.rdl_elab.specs.declared.layout.Mode.{Mode}
 use Rattle.rdl_elab.specs.declared.layout.Mode.TheVariants.{Compact, Regalign, Fullalign}
 use Rattle.rdl_elab.specs.declared.layout.Layout.{Layout}
-use Rattle.rdl_elab.specs.declared.finished.Layouts.{Layouts}
+use Rattle.rdl_elab.specs.Kept.{Layouts}
 use Rattle.rdl_elab.specs.declared.finished.Part.{Part}
 use Rattle.rdl_elab.specs.declared.finished.Finished.{Finished}
 use Rattle.rdl_elab.specs.Layouts.{values_of, layout}

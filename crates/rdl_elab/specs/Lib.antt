@@ -8,6 +8,8 @@ pub mod Rows
 pub mod Faults
 pub mod Shown
 pub mod Reaches
+pub mod Kept
+pub mod EachMode
 pub mod Finished
 pub mod KeptRows
 pub mod SiblingRanges

@@ -117,7 +117,10 @@ fn map_fault(at: &Address, top: &Finished) -> Option<Fault>
     }
     match &top.first_empty {
         Some(first) => Some(fault_at(first, FaultKind::EmptyComponent)),
-        None if top.layouts.regalign.size > MAX_SIZE => Some(fault_at(at, FaultKind::MapTooLarge)),
+        None if top.layouts.under(Mode::Regalign).size > MAX_SIZE => Some(fault_at(
+            at,
+            FaultKind::MapTooLarge,
+        )),
         None => None,
     }
 }
@@ -133,7 +136,7 @@ fn one_name(alloc: Global, name: &Name) -> Result<Vec<Name>, AllocError>
 fn top_row(alloc: Global, name: &Name, top: &Finished) -> Result<Row, AllocError>
     ensures { IfOk result (λ row. row ≡ kept_top_row name.now top.now) }
 {
-    let size = top.layouts.regalign.size;
+    let size = top.layouts.under(Mode::Regalign).size;
     Ok(Row {
         names: RowPath::from_vec(one_name(alloc, name)?),
         kind: top.kind,
@@ -179,7 +182,7 @@ fn rows_below<'a>(
 {
     let mut rows = top_rows(alloc, name, top)?;
     let around = around_top(alloc, name, top)?;
-    let spans = top.layouts.regalign.spans.as_slice();
+    let spans = top.layouts.under(Mode::Regalign).spans.as_slice();
     let parts = top.parts.as_slice();
     match add_rows(alloc, components, &around, spans, parts, 16, &mut rows)? {
         Some(fault) => Ok(Err(fault)),

@@ -4,6 +4,8 @@ use crate::reaches::Assignment;
 use crate::row::RowValues;
 use rdl_tree::address::Address;
 use rdl_tree::shell::{Kind, Shell};
+use std::alloc::{AllocError, Global};
+use std::marker::Model;
 
 /// An instance, and the number of its component among the finished ones.
 #[derive(Drop)]
@@ -13,25 +15,93 @@ pub(crate) struct Part<'a> {
     pub component: usize,
 }
 
-/// The layouts of a component, one for each mode under which it may stand.
+/// One layout for each mode.
 #[derive(Drop)]
-pub(crate) struct Layouts {
+pub(crate) struct ThreeLayouts {
     pub compact: Layout,
     pub regalign: Layout,
     pub fullalign: Layout,
 }
 
-impl Layouts {
+impl ThreeLayouts {
     ghost use Rattle.std.specs.Prelude.{◌≡◌};
+    ghost use Rattle.rdl_elab.specs.EachMode.{of_three};
     ghost use Rattle.rdl_elab.specs.Finished.{under};
 
-    pub(crate) fn under(&self, mode: Mode) -> &Layout
-        ensures { result.now ≡ under mode self.now }
+    fn under(&self, mode: Mode) -> &Layout
+        ensures { result.now ≡ under mode (of_three self.now) }
     {
         match mode {
             Mode::Compact => &self.compact,
             Mode::Regalign => &self.regalign,
             Mode::Fullalign => &self.fullalign,
+        }
+    }
+}
+
+/// The layouts under the three modes, of which most components have but one.
+#[derive(Drop)]
+pub(crate) enum EachMode {
+    Same(Layout),
+    Own(Box<ThreeLayouts>),
+}
+
+/// The layouts of a component, one for each mode under which it may stand. A contract sees the three.
+#[derive(Drop)]
+pub(crate) struct Layouts {
+    each: EachMode,
+}
+
+impl Model for Layouts {
+    ghost use Rattle.rdl_elab.specs.Kept.{Layouts};
+
+    ghost Value = { Layouts };
+
+    ghost use Rattle.rdl_elab.specs.EachMode.{each_mode};
+
+    ghost view = { λ l. each_mode l.each };
+}
+
+impl Layouts {
+    ghost use Rattle.std.specs.Prelude.{◌≡◌, true, IfOk};
+    ghost use Rattle.rdl_elab.specs.declared.layout.Mode.{Mode};
+    ghost use Rattle.rdl_elab.specs.declared.layout.Mode.TheVariants.{Compact};
+    ghost use Rattle.rdl_elab.specs.EachMode.{of_three};
+    ghost use Rattle.rdl_elab.specs.Finished.{under};
+
+    /// The same layout under each mode.
+    pub(crate) fn same(layout: Layout) -> Layouts
+        ensures { (m : Mode) → under m result ≡ layout }
+    {
+        Layouts {
+            each: EachMode::Same(layout),
+        }
+    }
+
+    pub(crate) fn own(alloc: Global, three: ThreeLayouts) -> Result<Layouts, AllocError>
+        ensures { IfOk result (λ layouts. layouts ≡ of_three three) }
+    {
+        Ok(Layouts {
+            each: EachMode::Own(Box::new(alloc, three)?),
+        })
+    }
+
+    pub(crate) fn under(&self, mode: Mode) -> &Layout
+        ensures { result.now ≡ under mode self.now }
+    {
+        match &self.each {
+            EachMode::Same(layout) => layout,
+            EachMode::Own(three) => three.under(mode),
+        }
+    }
+
+    /// Whether it is known that the mode makes no difference.
+    pub(crate) fn is_same(&self) -> bool
+        ensures { result ≡ true → (m : Mode) → under m self.now ≡ under Compact self.now }
+    {
+        match &self.each {
+            EachMode::Same(_) => true,
+            EachMode::Own(_) => false,
         }
     }
 }

@@ -1,14 +1,16 @@
 //! What a component takes of its instances, of whose components all is kept.
-ghost use Rattle.std.specs.Prelude.{◌≡◌, min, map, IfOk, Some, option_copied};
+ghost use Rattle.std.specs.Prelude.{◌≡◌, min, map, true, IfOk, Some, option_copied};
 ghost use Rattle.std.specs.Option.{option_or};
 ghost use Rattle.rdl_elab.specs.declared.layout.Mode.{Mode};
+ghost use Rattle.rdl_elab.specs.declared.layout.Mode.TheVariants.{Compact};
+ghost use Rattle.rdl_tree.specs.declared.shell.Kind.TheVariants.{Reg};
 ghost use Rattle.rdl_elab.specs.Layouts.{placement, field_bits, member, mode_inside, laid_out};
 ghost use Rattle.rdl_elab.specs.Capped.{capped_layout, IsAlignment};
 ghost use Rattle.rdl_elab.specs.Finished.{under};
 ghost use Rattle.rdl_elab.specs.Inside.{counted, counted_member, kept_parts, kept_levels, kept_rows, lacks_parts, part_empty, kept_empty};
 
 use crate::component::lay_out;
-use crate::finished::{Finished, Layouts, Part};
+use crate::finished::{Finished, Layouts, Part, ThreeLayouts};
 use crate::layout::{FieldBits, Layout, LayoutValues, Member, Mode, Placement};
 use rdl_scope::shells::product;
 use rdl_tree::address::Address;
@@ -103,17 +105,6 @@ fn layout(
     lay_out(alloc, kind, values, inside, members.as_slice())
 }
 
-/// The same layout under each mode.
-fn in_each_mode(alloc: Global, layout: Layout) -> Result<Layouts, AllocError>
-    ensures { IfOk result (λ ls. (m : Mode) → under m ls ≡ layout) }
-{
-    Ok(Layouts {
-        compact: layout.try_copy(alloc)?,
-        regalign: layout.try_copy(alloc)?,
-        fullalign: layout,
-    })
-}
-
 /// The layout under each mode.
 fn by_mode(
     alloc: Global,
@@ -128,15 +119,47 @@ fn by_mode(
     let compact = layout(alloc, kind, values, Mode::Compact, parts, components)?;
     let regalign = layout(alloc, kind, values, Mode::Regalign, parts, components)?;
     let fullalign = layout(alloc, kind, values, Mode::Fullalign, parts, components)?;
-    Ok(Layouts {
+    let three = ThreeLayouts {
         compact,
         regalign,
         fullalign,
-    })
+    };
+    Layouts::own(alloc, three)
 }
 
-/// The layouts of a component of this kind with these values and these instances. That of an address map is the same
-/// under each mode.
+/// Whether it is known that the mode makes no difference to the layouts of these instances' components.
+fn are_same(parts: &[Part], components: &[Finished]) -> bool
+    ensures { result ≡ true → (m : Mode) → kept_parts m components.now parts.now ≡ kept_parts Compact components.now parts.now }
+{
+    for part in parts {
+        if let Some(finished) = components.get(part.component) {
+            if !finished.layouts.is_same() {
+                return false;
+            }
+        }
+    }
+    true
+}
+
+/// Those of a register, which has one layout if its fields have one each.
+fn register_layouts(
+    alloc: Global,
+    values: LayoutValues,
+    parts: &[Part],
+    components: &[Finished],
+) -> Result<Layouts, AllocError>
+    requires { IsAlignment values.alignment }
+    ensures { IfOk result (λ ls. (m : Mode) → under m ls ≡ capped_layout (laid_out Reg values m (map member (kept_parts m components.now parts.now)))) }
+{
+    if !are_same(parts, components) {
+        return by_mode(alloc, Kind::Reg, values, parts, components);
+    }
+    let one = layout(alloc, Kind::Reg, values, Mode::Compact, parts, components)?;
+    Ok(Layouts::same(one))
+}
+
+/// The layouts of a component of this kind with these values and these instances. To that of an address map or a field
+/// the mode makes no difference.
 pub(crate) fn layouts(
     alloc: Global,
     kind: Kind,
@@ -148,13 +171,12 @@ pub(crate) fn layouts(
     ensures { IfOk result (λ ls. (m : Mode) → let n = mode_inside kind values m in under m ls ≡ capped_layout (laid_out kind values n (map member (kept_parts n components.now parts.now)))) }
 {
     match kind {
-        Kind::Addrmap => {
-            let own = layout(alloc, kind, values, Mode::Compact, parts, components)?;
-            in_each_mode(alloc, own)
+        Kind::Addrmap | Kind::Field => {
+            let one = layout(alloc, kind, values, Mode::Compact, parts, components)?;
+            Ok(Layouts::same(one))
         }
-        Kind::Regfile | Kind::Reg | Kind::Field => {
-            by_mode(alloc, kind, values, parts, components)
-        }
+        Kind::Reg => register_layouts(alloc, values, parts, components),
+        Kind::Regfile => by_mode(alloc, kind, values, parts, components),
     }
 }
 

@@ -1,6 +1,5 @@
 //! Layouts of components.
 
-use std::alloc::{AllocError, Global};
 use std::marker::Model;
 
 /// How the instances of an address map are aligned.
@@ -34,7 +33,7 @@ impl Model for Spans {
 }
 
 impl Spans {
-    ghost use Rattle.std.specs.Prelude.{◌≡◌, IfOk};
+    ghost use Rattle.std.specs.Prelude.{◌≡◌};
 
     pub(crate) fn from_vec(items: Vec<Span>) -> Spans
         ensures { result ≡ items.items }
@@ -47,14 +46,6 @@ impl Spans {
     {
         self.items.as_slice()
     }
-
-    fn try_copy(&self, alloc: Global) -> Result<Spans, AllocError>
-        ensures { IfOk result (λ spans. spans ≡ self.now) }
-    {
-        Ok(Spans {
-            items: Vec::from_slice(alloc, self.items.as_slice())?,
-        })
-    }
 }
 
 /// A component under a mode, each number over 2^40 kept as 2^40 + 1.
@@ -66,20 +57,6 @@ pub struct Layout {
     pub size: u64,
     pub access: u64,
     pub spans: Spans,
-}
-
-impl Layout {
-    ghost use Rattle.std.specs.Prelude.{◌≡◌, IfOk};
-
-    pub(crate) fn try_copy(&self, alloc: Global) -> Result<Layout, AllocError>
-        ensures { IfOk result (λ layout. layout ≡ self.now) }
-    {
-        Ok(Layout {
-            size: self.size,
-            access: self.access,
-            spans: self.spans.try_copy(alloc)?,
-        })
-    }
 }
 
 /// What the place of an instance in an address map or a register file depends on.
