@@ -1,7 +1,7 @@
 -- Steps of the search for the first fault.
-use Rattle.std.proofs.Common.{◌≡◌, ℕ, zero, suc, ◌+◌, ◌-◌, ◌<◌, ◌≤◌, List, [], ◌∷◌, ◌++◌, length, drop, get_or, Some, None, Option, refl, ap, sym, ◌∙◌, arith, length-append}
+use Rattle.std.proofs.Common.{◌≡◌, ℕ, zero, suc, ◌+◌, ◌-◌, ◌<◌, ◌≤◌, List, [], ◌∷◌, ◌++◌, length, drop, get_or, Some, None, Option, refl, ap, sym, ◌∙◌, arith}
 use Rattle.std.specs.Option.{option_or}
-use Rattle.rdl_tree.specs.Items.{Items}
+use Rattle.rdl_tree.specs.Items.{Items, no_items, plain, holder}
 use Rattle.rdl_tree.specs.View.{add, items_of, list_of}
 use Rattle.rdl_tree.specs.Component.{own_component}
 use Rattle.rdl_tree.specs.Depth.{depth}
@@ -74,54 +74,60 @@ pub depth-item : (t : Items) (i : ℕ) (x : Item) (c : Component) → i < length
 depth-item t i x c h e = omega (arith, depth-get (list_of t) i x c h e, ap depth (items_of-list_of t))
 
 -- a fault of an item that is met is the first, where none was before it
-pub first_met : (d : Items) (around : Option Kind) (b : List ℕ) (body : Items) (i : ℕ) (xs : List Item) (x : Item) (a : List ℕ) (k : Option FaultKind) (f : Fault) (whole : Option Fault)
-    → xs ≡ list_of body → i < length xs → x ≡ get_or xs i x → a ≡ b ++ i ∷ [] → k ≡ item_fault d around b body i x → Some f ≡ fault_at a k
+pub first_met : (d : Items) (around : Option Kind) (b : List ℕ) (body : Items) (i : ℕ) (xs : List Item) (x : Item) (k : Option FaultKind) (f : Fault) (whole : Option Fault)
+    → xs ≡ list_of body → i < length xs → x ≡ get_or xs i x → k ≡ item_fault d around b body i x → Some f ≡ fault_at (b ++ i ∷ []) k
     → whole ≡ first_fault d around b body i (items_of (drop i (list_of body))) → Some f ≡ whole
-first_met d around b body i xs x a k f whole e h is at kind found w =
+first_met d around b body i xs x k f whole e h is kind found w =
     let here : fault_at (b ++ i ∷ []) (item_fault d around b body i (get_or xs i x)) ≡ Some f =
-    ap (λ y. fault_at (b ++ i ∷ []) (item_fault d around b body i y)) (sym is) ∙ ap (λ z. fault_at (b ++ i ∷ []) z) (sym kind) ∙ ap (λ z. fault_at z k) (sym at) ∙ sym found in
+    ap (λ y. fault_at (b ++ i ∷ []) (item_fault d around b body i y)) (sym is) ∙ ap (λ z. fault_at (b ++ i ∷ []) z) (sym kind) ∙ sym found in
     sym (w ∙ ap (λ ys. first_fault d around b body i (items_of (drop i ys))) (sym e) ∙ first-next d around b body i xs x h
     ∙ ap (λ z. option_or z (option_or (inside_fault d (b ++ i ∷ []) (own_component (get_or xs i x))) (first_fault d around b body (i + 1) (items_of (drop (i + 1) xs))))) here)
 
-pub one_longer : (b a : List ℕ) (i : ℕ) → a ≡ b ++ i ∷ [] → length a ≡ length b + 1
-one_longer b a i e = ap length e ∙ simp length-append refl
-
 -- there is room for the numbers of the items inside an item
-pub room_inside : (b a : List ℕ) (i : ℕ) (body : Items) (xs : List Item) (x : Item) (o : Option Component) → xs ≡ list_of body → i < length xs → x ≡ get_or xs i x → a ≡ b ++ i ∷ [] → o ≡ own_component x
-    → length b + depth body ≤ 16 → (c : Component) → o ≡ Some c → length a + depth c.body ≤ 16
-room_inside b a i body xs x o e h is at holds room c some =
+pub room_inside : (b : List ℕ) (i : ℕ) (body : Items) (xs : List Item) (x : Item) (o : Option Component) → xs ≡ list_of body → i < length xs → x ≡ get_or xs i x → o ≡ own_component x
+    → length b + depth body ≤ 16 → (c : Component) → o ≡ Some c → length b + depth c.body < 16
+room_inside b i body xs x o e h is holds room c some =
     let held : own_component (get_or (list_of body) i x) ≡ Some c = ap (λ ys. own_component (get_or ys i x)) (sym e) ∙ ap own_component (sym is) ∙ sym holds ∙ some in
-    omega (arith, one_longer b a i at, depth-item body i x c (omega (arith, ap length e)) held)
+    omega (arith, depth-item body i x c (omega (arith, ap length e)) held)
 
 pub no_some : {X : Type 0} (o : Option X) → ((x : X) → o ≡ Some x → ⊥) → o ≡ None
 no_some None h = refl
 no_some (Some x) h = absurd (h x refl)
 
 -- where an item has no fault, and nothing inside it has one, the first is that of the items after it
-pub none_met : (d : Items) (around : Option Kind) (b : List ℕ) (body : Items) (i : ℕ) (xs : List Item) (x : Item) (a : List ℕ) (k : Option FaultKind) (o inside : Option Fault) (component : Option Component) (whole : Option Fault)
-    → xs ≡ list_of body → i < length xs → x ≡ get_or xs i x → a ≡ b ++ i ∷ [] → k ≡ item_fault d around b body i x → o ≡ fault_at a k → ((f : Fault) → o ≡ Some f → ⊥)
-    → component ≡ own_component x → inside ≡ inside_fault d a component → ((f : Fault) → inside ≡ Some f → ⊥)
+pub none_met : (d : Items) (around : Option Kind) (b : List ℕ) (body : Items) (i : ℕ) (xs : List Item) (x : Item) (k : Option FaultKind) (o inside : Option Fault) (component : Option Component) (whole : Option Fault)
+    → xs ≡ list_of body → i < length xs → x ≡ get_or xs i x → k ≡ item_fault d around b body i x → o ≡ fault_at (b ++ i ∷ []) k → o ≡ None
+    → component ≡ own_component x → inside ≡ inside_fault d (b ++ i ∷ []) component → inside ≡ None
     → whole ≡ first_fault d around b body i (items_of (drop i (list_of body))) → whole ≡ first_fault d around b body (i + 1) (items_of (drop (i + 1) (list_of body)))
-none_met d around b body i xs x a k o inside component whole e h is at kind found none held within clear w =
+none_met d around b body i xs x k o inside component whole e h is kind found none held within clear w =
     let here : fault_at (b ++ i ∷ []) (item_fault d around b body i (get_or xs i x)) ≡ None =
-    ap (λ y. fault_at (b ++ i ∷ []) (item_fault d around b body i y)) (sym is) ∙ ap (λ z. fault_at (b ++ i ∷ []) z) (sym kind) ∙ ap (λ z. fault_at z k) (sym at) ∙ sym found ∙ no_some o none in
+    ap (λ y. fault_at (b ++ i ∷ []) (item_fault d around b body i y)) (sym is) ∙ ap (λ z. fault_at (b ++ i ∷ []) z) (sym kind) ∙ sym found ∙ none in
     let deeper : inside_fault d (b ++ i ∷ []) (own_component (get_or xs i x)) ≡ None =
-    ap (λ y. inside_fault d (b ++ i ∷ []) (own_component y)) (sym is) ∙ ap (λ z. inside_fault d (b ++ i ∷ []) z) (sym held) ∙ ap (λ z. inside_fault d z component) (sym at) ∙ sym within ∙ no_some inside clear in
+    ap (λ y. inside_fault d (b ++ i ∷ []) (own_component y)) (sym is) ∙ ap (λ z. inside_fault d (b ++ i ∷ []) z) (sym held) ∙ sym within ∙ clear in
     w ∙ ap (λ ys. first_fault d around b body i (items_of (drop i ys))) (sym e) ∙ first-next d around b body i xs x h
     ∙ ap (λ z. option_or z (option_or (inside_fault d (b ++ i ∷ []) (own_component (get_or xs i x))) (first_fault d around b body (i + 1) (items_of (drop (i + 1) xs))))) here
     ∙ ap (λ z. option_or z (first_fault d around b body (i + 1) (items_of (drop (i + 1) xs)))) deeper
     ∙ ap (λ ys. first_fault d around b body (i + 1) (items_of (drop (i + 1) ys))) e
 
 -- a fault that is met inside an item is the first, where the item has none
-pub inside_met : (d : Items) (around : Option Kind) (b : List ℕ) (body : Items) (i : ℕ) (xs : List Item) (x : Item) (a : List ℕ) (k : Option FaultKind) (o inside : Option Fault) (component : Option Component) (f : Fault) (whole : Option Fault)
-    → xs ≡ list_of body → i < length xs → x ≡ get_or xs i x → a ≡ b ++ i ∷ [] → k ≡ item_fault d around b body i x → o ≡ fault_at a k → ((f : Fault) → o ≡ Some f → ⊥)
-    → component ≡ own_component x → inside ≡ inside_fault d a component → inside ≡ Some f
+pub inside_met : (d : Items) (around : Option Kind) (b : List ℕ) (body : Items) (i : ℕ) (xs : List Item) (x : Item) (k : Option FaultKind) (o inside : Option Fault) (component : Option Component) (f : Fault) (whole : Option Fault)
+    → xs ≡ list_of body → i < length xs → x ≡ get_or xs i x → k ≡ item_fault d around b body i x → o ≡ fault_at (b ++ i ∷ []) k → o ≡ None
+    → component ≡ own_component x → inside ≡ inside_fault d (b ++ i ∷ []) component → inside ≡ Some f
     → whole ≡ first_fault d around b body i (items_of (drop i (list_of body))) → Some f ≡ whole
-inside_met d around b body i xs x a k o inside component f whole e h is at kind found none held within met w =
+inside_met d around b body i xs x k o inside component f whole e h is kind found none held within met w =
     let here : fault_at (b ++ i ∷ []) (item_fault d around b body i (get_or xs i x)) ≡ None =
-    ap (λ y. fault_at (b ++ i ∷ []) (item_fault d around b body i y)) (sym is) ∙ ap (λ z. fault_at (b ++ i ∷ []) z) (sym kind) ∙ ap (λ z. fault_at z k) (sym at) ∙ sym found ∙ no_some o none in
+    ap (λ y. fault_at (b ++ i ∷ []) (item_fault d around b body i y)) (sym is) ∙ ap (λ z. fault_at (b ++ i ∷ []) z) (sym kind) ∙ sym found ∙ none in
     let deeper : inside_fault d (b ++ i ∷ []) (own_component (get_or xs i x)) ≡ Some f =
-    ap (λ y. inside_fault d (b ++ i ∷ []) (own_component y)) (sym is) ∙ ap (λ z. inside_fault d (b ++ i ∷ []) z) (sym held) ∙ ap (λ z. inside_fault d z component) (sym at) ∙ sym within ∙ met in
+    ap (λ y. inside_fault d (b ++ i ∷ []) (own_component y)) (sym is) ∙ ap (λ z. inside_fault d (b ++ i ∷ []) z) (sym held) ∙ sym within ∙ met in
     sym (w ∙ ap (λ ys. first_fault d around b body i (items_of (drop i ys))) (sym e) ∙ first-next d around b body i xs x h
     ∙ ap (λ z. option_or z (option_or (inside_fault d (b ++ i ∷ []) (own_component (get_or xs i x))) (first_fault d around b body (i + 1) (items_of (drop (i + 1) xs))))) here
     ∙ ap (λ z. option_or z (first_fault d around b body (i + 1) (items_of (drop (i + 1) xs)))) deeper)
+
+-- a component without items has no fault
+pub empty_inside : (d : Items) (a : List ℕ) (o : Option Component) (c : Component) → o ≡ Some c → length (list_of c.body) ≡ 0 → None ≡ inside_fault d a o
+empty_inside d a o c e h = sym (ap (inside_fault d a) e ∙ none c.body h)
+  where
+    none : (t : Items) → length (list_of t) ≡ 0 → first_fault d (Some c.kind) a t 0 t ≡ None
+    none no_items h = refl
+    none (plain p rest) h = absurd (omega arith)
+    none (holder k body rest) h = absurd (omega arith)

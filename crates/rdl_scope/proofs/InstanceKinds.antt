@@ -1,17 +1,15 @@
 -- The kind of an instance's component.
-use Rattle.std.proofs.Common.{◌≡◌, ℕ, ◌+◌, ◌<◌, List, [], ◌∷◌, length, Some, None, Option, refl, ap, sym, ◌∙◌, arith, option_map}
+use Rattle.std.proofs.Common.{◌≡◌, ℕ, ◌+◌, ◌<◌, List, [], ◌∷◌, length, Some, None, Option, refl, ap, arith, option_map}
 use Rattle.std.specs.Prelude.{option_and_then}
 use Rattle.std.specs.Option.{option_or}
 use Rattle.rdl_tree.specs.Items.{Items}
 use Rattle.rdl_tree.specs.Address.{inner}
 use Rattle.rdl_tree.specs.declared.shell.Shell.{Shell}
-use Rattle.rdl_tree.specs.declared.value.Value.{Value}
 use Rattle.rdl_tree.specs.declared.description.Component.{Component}
-use Rattle.rdl_tree.specs.declared.description.Item.TheVariants.{Define, Instance, Own, Default, Dynamic}
+use Rattle.rdl_tree.specs.declared.description.Item.TheVariants.{Instance}
 use Rattle.rdl_tree.specs.declared.description.Of.TheVariants.{Named, Anonymous}
 use Rattle.rdl_scope.specs.Types.{last_definition, item, held_by, type_at, component_of}
 use Rattle.rdl_scope.specs.Walk.{found, below}
-use Rattle.rdl_scope.proofs.Searches.{along, type_at-found}
 
 within-more : (path : List ℕ) (p : ℕ × ℕ) (o : Option (ℕ × ℕ)) → ((r : ℕ × ℕ) → o ≡ Some r → r.0 < length path) → (k : Option ℕ) → option_or (option_map below o) (option_map (λ k. (0, k)) k) ≡ Some p → p.0 < length path + 1
 within-more path p None h None e = cc
@@ -33,24 +31,3 @@ component-named d a s t e = ap (option_and_then (held_by d a)) e
 
 pub component-anonymous : (d : Items) (a : List ℕ) (s : Shell) (c : Component) → item a d ≡ Some (Instance s (Anonymous c)) → component_of d a ≡ Some a
 component-anonymous d a s c e = ap (option_and_then (held_by d a)) e
-
-pub component-define : (d : Items) (a : List ℕ) (n : List ℕ) (c : Component) → item a d ≡ Some (Define n c) → component_of d a ≡ None
-component-define d a n c e = ap (option_and_then (held_by d a)) e
-
-pub component-own : (d : Items) (a : List ℕ) (n : List ℕ) (v : Value) → item a d ≡ Some (Own n v) → component_of d a ≡ None
-component-own d a n v e = ap (option_and_then (held_by d a)) e
-
-pub component-default : (d : Items) (a : List ℕ) (n : List ℕ) (v : Value) → item a d ≡ Some (Default n v) → component_of d a ≡ None
-component-default d a n v e = ap (option_and_then (held_by d a)) e
-
-pub component-dynamic : (d : Items) (a : List ℕ) (t : List (List ℕ)) (n : List ℕ) (v : Value) → item a d ≡ Some (Dynamic t n v) → component_of d a ≡ None
-component-dynamic d a t n v e = ap (option_and_then (held_by d a)) e
-
-pub ruleset kinds = (component-named, component-anonymous, component-define, component-own, component-default, component-dynamic)
-
--- the place where the definition was found
-pub type_scope : (d : Items) (a t : List ℕ) (p : ℕ × ℕ) (c : List ℕ) → found a d t ≡ Some p → c ≡ along a p → Some c ≡ type_at a d t
-type_scope d a t p c f at = ap Some at ∙ ap (option_map (along a)) (sym f) ∙ sym (type_at-found a d t)
-
-pub no_type_scope : (d : Items) (a t : List ℕ) → found a d t ≡ None → None ≡ type_at a d t
-no_type_scope d a t f = ap (option_map (along a)) (sym f) ∙ sym (type_at-found a d t)

@@ -1,8 +1,7 @@
 -- What a walk knows of the definitions around an item is what the search through whole bodies finds.
-use Rattle.std.proofs.Common.{◌≡◌, ℕ, suc, ◌+◌, ◌<◌, ◌≤◌, cond, List, [], ◌∷◌, ◌++◌, length, drop, get_or, Some, None, Option, refl, ap, sym, ◌∙◌, arith, option_map, add-one, drop-cons}
+use Rattle.std.proofs.Common.{◌≡◌, ℕ, suc, ◌+◌, ◌<◌, cond, List, [], ◌∷◌, ◌++◌, length, get_or, Some, None, Option, refl, ap, sym, ◌∙◌, arith, option_map}
 use Rattle.std.specs.Prelude.{option_and_then, slice_get}
 use Rattle.std.specs.Option.{option_or}
-use Rattle.std.proofs.lemmas.List.{drop_all}
 use Rattle.rdl_tree.specs.Items.{Items}
 use Rattle.rdl_tree.specs.View.{list_of, own_body}
 use Rattle.rdl_tree.specs.Address.{inner, body_at}
@@ -27,23 +26,6 @@ or-none : {X : Type 0} (a : Option X) → option_or a None ≡ a
 or-none None = refl
 or-none (Some x) = refl
 
-pub level-next : (i : ℕ) (ms : List Names) (m : Names) (q : List ℕ) (o : Option (ℕ × ℕ)) → i < length ms
-    → option_or (level_found i (drop i ms) q) o ≡ option_or (level_found (i + 1) (drop (i + 1) ms) q) (option_or (option_map (λ k. (i, k)) (number_under (get_or ms i m) q)) o)
-level-next i ms m q o h =
-    let one : drop i ms ≡ get_or ms i m ∷ drop (i + 1) ms = rw add-one (drop-cons ms i m h) in
-    let j : suc i ≡ i + 1 = omega arith in
-    ap (λ xs. option_or (level_found i xs q) o) one
-    ∙ or-assoc (level_found (suc i) (drop (i + 1) ms) q) (option_map (λ k. (i, k)) (number_under (get_or ms i m) q)) o
-    ∙ ap (λ n. option_or (level_found n (drop (i + 1) ms) q) (option_or (option_map (λ k. (i, k)) (number_under (get_or ms i m) q)) o)) j
-
-pub level-end : (i : ℕ) (ms : List Names) (q : List ℕ) → length ms ≤ i → level_found i (drop i ms) q ≡ None
-level-end i ms q h = ap (λ xs. level_found i xs q) (drop_all i ms h)
-
-pub level-all : (ms : List Names) (q : List ℕ) → option_or (level_found 0 (drop 0 ms) q) None ≡ level_found 0 ms q
-level-all ms q = or-none (level_found 0 ms q)
-
-pub ruleset steps = (level-next, level-end, level-all)
-
 -- one level more
 level-push-from : (d : ℕ) (ms : List Names) (m : Names) (q : List ℕ) → level_found d (ms ++ m ∷ []) q ≡ option_or (option_map (λ k. (d + length ms, k)) (number_under m q)) (level_found d ms q)
 level-push-from d [] m q =
@@ -59,6 +41,13 @@ pub level-push : (ms : List Names) (m : Names) (q : List ℕ) → level_found 0 
 level-push ms m q =
     let e : 0 + length ms ≡ length ms = omega arith in
     level-push-from 0 ms m q ∙ ap (λ n. option_or (option_map (λ k. (n, k)) (number_under m q)) (level_found 0 ms q)) e
+
+pub level_last : (levels ms : List Names) (m : Names) (q : List ℕ) → levels ≡ ms ++ m ∷ [] → level_found 0 levels q ≡ scope_found ms m q
+level_last levels ms m q e = ap (λ ls. level_found 0 ls q) e ∙ level-push ms m q
+
+pub level_none : (levels : List Names) (q : List ℕ) → length levels ≡ 0 → level_found 0 levels q ≡ None
+level_none [] q h = refl
+level_none (m ∷ ms) q h = absurd (omega arith)
 
 -- one body deeper
 no_inner : (o : Option Items) (q : List ℕ) → option_and_then (λ b. found [] b q) o ≡ None

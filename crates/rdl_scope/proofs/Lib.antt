@@ -7,6 +7,7 @@ pub mod Firsts
 pub mod Holds
 pub mod InstanceKinds
 pub mod Instances
+pub mod Known
 pub mod Levelled
 pub mod OuterAssignments
 pub mod Passing

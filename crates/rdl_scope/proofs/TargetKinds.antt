@@ -12,12 +12,12 @@ use Rattle.rdl_tree.specs.declared.fault.Fault.{Fault}
 use Rattle.rdl_tree.specs.declared.fault.FaultKind.{FaultKind}
 use Rattle.rdl_tree.specs.declared.description.Of.{Of}
 use Rattle.rdl_tree.specs.declared.description.Item.{Item}
-use Rattle.rdl_tree.specs.declared.description.Item.TheVariants.{Define, Instance, Own, Default, Dynamic}
+use Rattle.rdl_tree.specs.declared.description.Item.TheVariants.{Instance}
 use Rattle.rdl_scope.specs.Types.{component_of, items_in}
 use Rattle.rdl_scope.specs.Target.{passes, instance_in, instance_before}
-use Rattle.rdl_scope.specs.ItemFaults.{kind_at, instance_kind, target_kind, last_of, item_fault, instance_fault, fault_at}
+use Rattle.rdl_scope.specs.ItemFaults.{kind_at, instance_kind, target_kind, last_of, instance_fault, fault_at}
 use Rattle.rdl_scope.specs.Walk.{is_instance}
-use Rattle.rdl_scope.specs.Scopes.{kind_below, instance_component, address_put}
+use Rattle.rdl_scope.specs.Scopes.{kind_below, instance_component}
 use Rattle.rdl_scope.proofs.Instances.{instance-suc}
 
 -- a target that is found passes an instance
@@ -102,55 +102,37 @@ at_number d b o = option_and_then (component_of d) (option_map (λ k. b ++ k ∷
 in-body : (d : Items) (b : List ℕ) (body : Items) (n : ℕ) (q : List ℕ) → body_at b d ≡ Some body → instance_component d b n q ≡ at_number d b (instance_before q n body)
 in-body d b body n q e = ap (λ o. at_number d b (option_and_then (instance_before q n) o)) e
 
-next-number : (d : Items) (b : List ℕ) (body : Items) (n : ℕ) (x : Item) (q : List ℕ) → slice_get (list_of body) n ≡ Some x → at_number d b (instance_before q (n + 1) body) ≡ at_number d b (option_or (instance_before q n body) (cond (is_instance q (Some x)) (Some n) None))
-next-number d b body n x q got =
+next-number : (d : Items) (b : List ℕ) (body : Items) (n : ℕ) (x : Item) (q : List ℕ) → body_at b d ≡ Some body → slice_get (list_of body) n ≡ Some x
+    → instance_component d b (n + 1) q ≡ at_number d b (option_or (instance_before q n body) (cond (is_instance q (Some x)) (Some n) None))
+next-number d b body n x q e got =
     let j : n + 1 ≡ suc n = omega arith in
-    ap (λ m. at_number d b (instance_before q m body)) j ∙ ap (at_number d b) (instance-suc q n body) ∙ ap (λ o. at_number d b (option_or (instance_before q n body) (cond (is_instance q o) (Some n) None))) got
+    in-body d b body (n + 1) q e ∙ ap (λ m. at_number d b (instance_before q m body)) j ∙ ap (at_number d b) (instance-suc q n body) ∙ ap (λ o. at_number d b (option_or (instance_before q n body) (cond (is_instance q o) (Some n) None))) got
 
 -- an item that is no instance
-no-instance : (d : Items) (b : List ℕ) (body : Items) (n : ℕ) (x : Item) (q : List ℕ) (held old : Option (List ℕ)) → is_instance q (Some x) ≡ false → old ≡ at_number d b (instance_before q n body)
-    → address_put q x held old ≡ at_number d b (option_or (instance_before q n body) (cond (is_instance q (Some x)) (Some n) None))
-no-instance d b body n x q held old h e =
-    kept held ∙ e ∙ ap (at_number d b) (sym (or-none (instance_before q n body))) ∙ ap (λ z. at_number d b (option_or (instance_before q n body) (cond z (Some n) None))) (sym h)
-  where
-    kept : (o : Option (List ℕ)) → address_put q x o old ≡ old
-    kept None = refl
-    kept (Some c) = ap (λ z. cond z (Some c) old) h
+pub component-same : (d : Items) (b : List ℕ) (body : Items) (n : ℕ) (x : Item) (q : List ℕ) → body_at b d ≡ Some body → slice_get (list_of body) n ≡ Some x → is_instance q (Some x) ≡ false
+    → instance_component d b n q ≡ instance_component d b (n + 1) q
+component-same d b body n x q e got h =
+    sym (next-number d b body n x q e got ∙ ap (λ z. at_number d b (option_or (instance_before q n body) (cond z (Some n) None))) h ∙ ap (at_number d b) (or-none (instance_before q n body)) ∙ sym (in-body d b body n q e))
 
 none-known : (o : Option Kind) → o ≡ None → is_some o ≡ true → ⊥
 none-known None e h = cc
 none-known (Some k) e h = cc
 
+-- the component of an instance without a fault is known
+pub is-known : (d : Items) (around : Option Kind) (a : List ℕ) (twice : Bool) (s : Shell) (c : Option (List ℕ)) → instance_fault around twice s (instance_kind d a) ≡ None → c ≡ component_of d a → c ≡ None → ⊥
+is-known d around a twice s c h e none =
+    none-known (instance_kind d a) (ap (option_and_then (kind_at d)) (sym e ∙ none)) (accepted around twice s (instance_kind d a) h).1
+
 -- an instance without a fault
-an-instance : (d : Items) (around : Option Kind) (b : List ℕ) (body : Items) (n : ℕ) (s : Shell) (o : Of) (q : List ℕ) (held old : Option (List ℕ)) → instance_fault around (is_some (instance_before s.name n body)) s (instance_kind d (b ++ n ∷ [])) ≡ None
-    → held ≡ component_of d (b ++ n ∷ []) → old ≡ at_number d b (instance_before q n body)
-    → address_put q (Instance s o) held old ≡ at_number d b (option_or (instance_before q n body) (cond (bytes_eq s.name q) (Some n) None))
-an-instance d around b body n s o q None old h e w =
-    let known = (accepted around (is_some (instance_before s.name n body)) s (instance_kind d (b ++ n ∷ [])) h).1 in
-    let none : instance_kind d (b ++ n ∷ []) ≡ None = ap (option_and_then (kind_at d)) (sym e) in
-    absurd (none-known (instance_kind d (b ++ n ∷ [])) none known)
-an-instance d around b body n s o q (Some c) old h e w =
+pub component-next : (d : Items) (around : Option Kind) (b : List ℕ) (body : Items) (n : ℕ) (s : Shell) (o : Of) (q c : List ℕ) → body_at b d ≡ Some body → slice_get (list_of body) n ≡ Some (Instance s o)
+    → instance_fault around (is_some (instance_before s.name n body)) s (instance_kind d (b ++ n ∷ [])) ≡ None → Some c ≡ component_of d (b ++ n ∷ [])
+    → cond (bytes_eq s.name q) (Some c) (instance_component d b n q) ≡ instance_component d b (n + 1) q
+component-next d around b body n s o q c e got h w =
     let first = (accepted around (is_some (instance_before s.name n body)) s (instance_kind d (b ++ n ∷ [])) h).0 in
-    ap (cond (bytes_eq s.name q) (Some c)) w
+    ap (cond (bytes_eq s.name q) (Some c)) (in-body d b body n q e)
     ∙ by-name (bytes_eq s.name q) (instance_before q n body) n c (at_number d b)
-    (λ t. ap (λ m. instance_before m n body) (sym ((bytes_eq-Decides s.name q).0 t)) ∙ none-of (instance_before s.name n body) first) (sym e)
-
--- one item more
-pub components-next : (d : Items) (around : Option Kind) (b : List ℕ) (body : Items) (n : ℕ) (x : Item) (q : List ℕ) (held old new : Option (List ℕ)) → body_at b d ≡ Some body → slice_get (list_of body) n ≡ Some x → item_fault d around b body n x ≡ None
-    → held ≡ component_of d (b ++ n ∷ []) → old ≡ instance_component d b n q → new ≡ address_put q x held old → new ≡ instance_component d b (n + 1) q
-unfolding item_fault
-components-next d around b body n x q held old new e got h c w put =
-    put ∙ by-sort x h ∙ sym (next-number d b body n x q got) ∙ sym (in-body d b body (n + 1) q e)
-  where
-    before : old ≡ at_number d b (instance_before q n body)
-    before = w ∙ in-body d b body n q e
-
-    by-sort : (x : Item) → item_fault d around b body n x ≡ None → address_put q x held old ≡ at_number d b (option_or (instance_before q n body) (cond (is_instance q (Some x)) (Some n) None))
-    by-sort (Define m k) h = no-instance d b body n (Define m k) q held old refl before
-    by-sort (Instance s o) h = an-instance d around b body n s o q held old h c before
-    by-sort (Own p v) h = no-instance d b body n (Own p v) q held old refl before
-    by-sort (Default p v) h = no-instance d b body n (Default p v) q held old refl before
-    by-sort (Dynamic t p v) h = no-instance d b body n (Dynamic t p v) q held old refl before
+    (λ t. ap (λ m. instance_before m n body) (sym ((bytes_eq-Decides s.name q).0 t)) ∙ none-of (instance_before s.name n body) first) (sym w)
+    ∙ sym (next-number d b body n (Instance s o) q e got)
 
 -- no fault at an address is no fault
 pub no-fault-at : (a : List ℕ) (k : Option FaultKind) (o : Option Fault) → o ≡ fault_at a k → o ≡ None → k ≡ None

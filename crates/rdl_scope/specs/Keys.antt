@@ -1,26 +1,22 @@
--- What an item may not repeat in its body, as a list of texts: its sort, and the names that count.
--- own: no part of what a fault is; by it the code finds repeated items.
-use Rattle.std.specs.Prelude.{◌≡◌, ℕ, Bool, List, [], ◌∷◌, map, take, codes, bytes_eq, nat_eq}
+-- What a dynamic assignment may not repeat in its body, as a list of texts: the names of its property and target.
+-- own: no part of what a fault is; by it the code finds repeated assignments.
+use Rattle.std.specs.Prelude.{◌≡◌, ℕ, Bool, false, List, ◌∷◌, map, take, bytes_eq, nat_eq}
 use Rattle.std.specs.List.{list_any}
 use Rattle.std.specs.Cmp.Lexicographic.{pointwise}
-use Rattle.std.specs.HashSet.{HashSet, contains}
+use Rattle.std.specs.HashSet.{contains}
 use Rattle.std.specs.declared.alloc.Global.{Global}
 use Rattle.std.specs.declared.vec.Vec.{Vec}
-use Rattle.std.specs.declared.hash.FoldHasher.{FoldHasher}
-use Rattle.std.specs.declared.hash.BuildHasherDefault.{BuildHasherDefault}
 use denote.Ref.{Bor}
 use Rattle.rdl_tree.specs.declared.description.Item.{Item}
 use Rattle.rdl_tree.specs.declared.description.Item.TheVariants.{Define, Instance, Own, Default, Dynamic}
-
-abbrev pub item_key : Item → List (List ℕ)
-item_key (Define n c) = codes "define" ∷ n ∷ []
-item_key (Instance s o) = codes "instance" ∷ s.name ∷ []
-item_key (Own p v) = codes "own" ∷ p ∷ []
-item_key (Default p v) = codes "default" ∷ p ∷ []
-item_key (Dynamic t p v) = codes "dynamic" ∷ p ∷ t
+use Rattle.rdl_scope.specs.declared.keys.Keys.{Keys}
 
 abbrev pub has_key : List (List ℕ) → Item → Bool
-has_key key x = pointwise bytes_eq (item_key x) key
+has_key key (Dynamic t p v) = pointwise bytes_eq (p ∷ t) key
+has_key key (Define n c) = false
+has_key key (Instance s o) = false
+has_key key (Own p v) = false
+has_key key (Default p v) = false
 
 -- one of the first n items has the key
 abbrev pub key_before : List (List ℕ) → ℕ → List Item → Bool
@@ -37,5 +33,5 @@ abbrev pub same_key : Key → Key → Bool
 same_key x y = pointwise (λ a b. pointwise nat_eq a.now b.now) x.items y.items
 
 -- the set has the keys of which this holds
-abbrev pub Holds : HashSet Key (BuildHasherDefault FoldHasher) → (List (List ℕ) → Bool) → Type 0
-Holds keys f = (q : Key) → contains same_key keys q ≡ f (texts q)
+abbrev pub Holds : Keys → (List (List ℕ) → Bool) → Type 0
+Holds s f = (q : Key) → contains same_key s.keys q ≡ f (texts q)

@@ -1,17 +1,22 @@
--- What the walk of `check` knows of the definitions around an item.
+-- What the walk of `check` knows around an item.
 -- own: no part of what a type is; `found` (Walk) says the same by a search through whole bodies.
-use Rattle.std.specs.Prelude.{ℕ, suc, List, [], ◌∷◌, Option, None, Some, option_map, option_and_then, length, bytes_eq, if◌then◌else◌}
-use Rattle.std.specs.Option.{option_or}
+use Rattle.std.specs.Prelude.{◌≡◌, ℕ, suc, List, [], ◌∷◌, ◌++◌, take, Option, None, Some, option_map, option_and_then, length, bytes_eq, if◌then◌else◌}
+use Rattle.std.specs.Option.{option_or, is_some}
 use Rattle.std.specs.HashMap.{get_by}
 use Rattle.rdl_tree.specs.Items.{Items}
 use Rattle.rdl_tree.specs.declared.shell.Kind.{Kind}
-use Rattle.rdl_tree.specs.declared.description.Item.{Item}
+use Rattle.rdl_tree.specs.View.{list_of}
+use Rattle.rdl_tree.specs.declared.description.Of.{Of}
+use Rattle.rdl_tree.specs.declared.description.Of.TheVariants.{Named, Anonymous}
 use Rattle.rdl_scope.specs.Types.{component_of, items_in}
-use Rattle.rdl_scope.specs.Target.{instance_in}
+use Rattle.rdl_scope.specs.Target.{instance_before, instance_in}
+use Rattle.rdl_scope.specs.Value.{own_before, last_default}
 use Rattle.rdl_scope.specs.ItemFaults.{kind_at, target_kind}
-use Rattle.rdl_scope.specs.Walk.{is_instance}
+use Rattle.rdl_scope.specs.Keys.{Holds, key_before}
 use Rattle.rdl_scope.specs.declared.names.Names.{Names}
-use Rattle.rdl_scope.specs.declared.names.Components.{Components}
+use Rattle.rdl_scope.specs.declared.places.Place.{Place}
+use Rattle.rdl_scope.specs.declared.places.Places.{Places}
+use Rattle.rdl_scope.specs.declared.passed.Passed.{Passed}
 
 -- the number under a name
 abbrev pub number_under : Names → List ℕ → Option ℕ
@@ -26,9 +31,32 @@ level_found d (m ∷ ms) q = option_or (level_found (suc d) ms q) (option_map (�
 abbrev pub scope_found : List Names → Names → List ℕ → Option (ℕ × ℕ)
 scope_found levels m q = option_or (option_map (λ k. (length levels, k)) (number_under m q)) (level_found 0 levels q)
 
--- where the component of the instance of a name stands
-abbrev pub address_under : Components → List ℕ → Option (List ℕ)
-address_under m q = get_by (λ k. bytes_eq q k.now) m.addresses
+-- the place under a name
+abbrev pub place_under : Places → List ℕ → Option Place
+place_under m q = get_by (λ k. bytes_eq q k.now) m.places
+
+-- the address of a place along the address of a body
+abbrev pub along_place : List ℕ → Place → List ℕ
+along_place b p = take p.depth b ++ p.number ∷ []
+
+-- where the component of the instance of a name stands, for the body at b
+abbrev pub address_under : List ℕ → Places → List ℕ → Option (List ℕ)
+address_under b m q = option_map (along_place b) (place_under m q)
+
+-- what is under q after an instance of this name with this component
+abbrev pub place_put : List ℕ → List ℕ → (held old : Option Place) → Option Place
+place_put name q None old = old
+place_put name q (Some p) old = if bytes_eq name q then Some p else old
+
+-- the place of the component of item n of the body at b, an instance of this, where the definitions are found so
+abbrev pub place_held : List ℕ → ℕ → Of → (List ℕ → Option (ℕ × ℕ)) → Option Place
+place_held b n (Named t) f = option_map (λ p. record { depth = p.0; number = p.1 }) (f t)
+place_held b n (Anonymous c) f = Some (record { depth = length b; number = n })
+
+-- the kind of the component at this place, that of an instance of this
+abbrev pub kind_held : Items → List ℕ → Of → Option Place → Option Kind
+kind_held d b (Named t) p = option_and_then (λ p. kind_at d (along_place b p)) p
+kind_held d b (Anonymous c) p = Some c.kind
 
 -- the component of the instance of a name among the first n items of the body at b
 abbrev pub instance_component : Items → List ℕ → ℕ → List ℕ → Option (List ℕ)
@@ -39,7 +67,10 @@ abbrev pub kind_below : Items → List (List ℕ) → List ℕ → Option Kind
 kind_below d [] c = kind_at d c
 kind_below d (name ∷ names) c = target_kind d c (items_in c d) (name ∷ names)
 
--- what stands under a name after an item with this component
-abbrev pub address_put : List ℕ → Item → (held old : Option (List ℕ)) → Option (List ℕ)
-address_put q x None old = old
-address_put q x (Some c) old = if is_instance q (Some x) then Some c else old
+-- what is kept of the first n items of the body at b
+pub record Knows (d : Items) (b : List ℕ) (body : Items) (n : ℕ) (p : Passed) : Type 0 where
+  pub places : (q : List ℕ) → address_under b p.places q ≡ instance_component d b n q
+  pub instances : (q : List ℕ) → is_some (place_under p.places q) ≡ is_some (instance_before q n body)
+  pub owns : (q : List ℕ) → is_some (number_under p.owns q) ≡ is_some (own_before q n body)
+  pub defaults : (q : List ℕ) → is_some (number_under p.defaults q) ≡ is_some (last_default q n body)
+  pub dynamics : Holds p.dynamics (λ key. key_before key n (list_of body))

@@ -9,6 +9,8 @@ mod kinds;
 pub mod laws;
 mod levels;
 mod names;
+mod passed;
+mod places;
 pub mod shells;
 pub mod targets;
 #[cfg(test)]

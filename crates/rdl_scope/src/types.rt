@@ -78,14 +78,14 @@ pub(crate) fn item_at<'a>(body: &'a Body, path: &[usize]) -> Option<&'a Item>
     }
 }
 
-/// The address that goes along the path to this depth.
+/// The address that goes along the path to this depth, or to its end.
+#[tactic(auto, using(std::proofs::lemmas::List::take_min))]
 pub(crate) fn prefix(path: &[usize], depth: usize) -> Address
-    requires short { length path.now ≤ 17 }
-    requires within { depth ≤ length path.now }
+    requires { length path.now ≤ 17 }
     ensures { result ≡ take depth path.now }
 {
     let mut address = Address::new();
-    for i in 0..depth {
+    for i in 0..depth.min(path.len()) {
         address.push(path[i]);
     }
     address

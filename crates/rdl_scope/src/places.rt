@@ -1,0 +1,128 @@
+//! Where the components of instances stand.
+ghost use Rattle.std.specs.Prelude.{◌≡◌, ◌<◌, ◌++◌, ◌∷◌, [], length, take, option_copied};
+ghost use Rattle.rdl_scope.specs.Types.{item};
+ghost use Rattle.rdl_scope.specs.ItemFaults.{kind_at};
+ghost use Rattle.rdl_scope.specs.Scopes.{along_place, place_held, kind_held, scope_found};
+
+use crate::levels::scope_found;
+use crate::names::Names;
+use crate::types::{own_component, prefix};
+use rdl_tree::address::Address;
+use rdl_tree::description::{Body, Description, Item, Of};
+use rdl_tree::shell::Kind;
+use std::alloc::{AllocError, Global};
+use std::collections::HashMap;
+
+/// The place of an item as a body at some address sees it: its number in the body that is so deep along the address.
+#[derive(Clone, Copy)]
+pub(crate) struct Place {
+    pub(crate) depth: usize,
+    pub(crate) number: usize,
+}
+
+/// The places of the components of instances, under the instances' names.
+#[derive(Drop)]
+pub(crate) struct Places<'a> {
+    places: HashMap<&'a str, Place>,
+}
+
+impl<'a> Places<'a> {
+    ghost use Rattle.std.specs.Prelude.{◌≡◌, ℕ, List, None, IfOk, OnOk};
+    ghost use Rattle.std.specs.Option.{is_some};
+    ghost use Rattle.rdl_scope.specs.Scopes.{place_under, place_put};
+
+    pub(crate) fn new(alloc: Global) -> Places<'a>
+        ensures { (q : List ℕ) → place_under result q ≡ None }
+    {
+        Places {
+            places: HashMap::new(alloc),
+        }
+    }
+
+    pub(crate) fn get(&self, name: &str) -> Option<Place>
+        ensures { result ≡ place_under self.now name.now }
+    {
+        match self.places.get(name) {
+            Some(place) => Some(*place),
+            None => None,
+        }
+    }
+
+    /// Puts the place, if there is one, under the name, and answers whether one was there.
+    pub(crate) fn note(&mut self, name: &'a str, place: Option<Place>) -> Result<bool, AllocError>
+        ensures twice { IfOk result (λ twice. twice ≡ is_some (place_under self.old name.now)) }
+        ensures noted { OnOk result ((q : List ℕ) → place_under self.new q ≡ place_put name.now q place (place_under self.old q)) }
+    {
+        match place {
+            Some(place) => {
+                let before = self.places.insert(name, place)?;
+                Ok(before.is_some())
+            }
+            None => Ok(self.get(name).is_some()),
+        }
+    }
+}
+
+/// The address of a place along the address of a body.
+pub(crate) fn address_of(at: &Address, place: Place) -> Address
+    requires { length at.now < 17 }
+    ensures { result ≡ along_place at.now place }
+{
+    prefix(at.as_slice(), place.depth).inside(place.number)
+}
+
+/// The item of this number in the body that is so deep along the path.
+fn item_along<'a>(body: &'a Body, path: &[usize], depth: usize, number: usize) -> Option<&'a Item>
+    ensures { option_copied result ≡ item (take depth path.now ++ number ∷ []) body.now }
+{
+    match path {
+        [first, rest @ ..] if depth > 0 => {
+            item_along(body.inner(*first)?, rest, depth - 1, number)
+        }
+        _ => body.item(number),
+    }
+}
+
+fn kind_at(description: &Description, at: &Address, place: Place) -> Option<Kind>
+    ensures { result ≡ kind_at description.now.items (along_place at.now place) }
+{
+    let item = item_along(&description.items, at.as_slice(), place.depth, place.number)?;
+    Some(own_component(item)?.kind)
+}
+
+/// The place of the component of item `n` of the body at this address, which is an instance of this.
+pub(crate) fn place_of(
+    at: &Address,
+    n: usize,
+    of: &Of,
+    levels: &[Names],
+    definitions: &Names,
+) -> Option<Place>
+    ensures { result ≡ place_held at.now n of.now (scope_found levels.now definitions.now) }
+{
+    match of {
+        Of::Named(name) => {
+            let (depth, number) = scope_found(levels, definitions, name.as_str())?;
+            Some(Place { depth, number })
+        }
+        Of::Anonymous(_) => Some(Place {
+            depth: at.len(),
+            number: n,
+        }),
+    }
+}
+
+/// The kind of the component at this place, that of an instance of this.
+pub(crate) fn kind_of(
+    description: &Description,
+    at: &Address,
+    of: &Of,
+    place: Option<Place>,
+) -> Option<Kind>
+    ensures { result ≡ kind_held description.now.items at.now of.now place }
+{
+    match of {
+        Of::Named(_) => kind_at(description, at, place?),
+        Of::Anonymous(component) => Some(component.kind),
+    }
+}
