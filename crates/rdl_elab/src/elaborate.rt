@@ -25,6 +25,7 @@ use rdl_tree::fault::{Fault, FaultKind};
 use rdl_tree::shell::Kind;
 use std::alloc::{AllocError, Global};
 use std::marker::Model;
+use std::rc::Rc;
 
 /// The most bytes that a map may have.
 const MAX_SIZE: u64 = 1 << 40;
@@ -125,20 +126,21 @@ fn map_fault(at: &Address, top: &Finished) -> Option<Fault>
     }
 }
 
-fn one_name(alloc: Global, name: &Name) -> Result<Vec<Name>, AllocError>
-    ensures { IfOk result (λ names. names.items ≡ name.now ∷ []) }
+fn one_name(alloc: Global, name: &Name) -> Result<Rc<Vec<Name>>, AllocError>
+    ensures { IfOk result (λ names. names.value.items ≡ name.now ∷ []) }
 {
     let mut names = Vec::new(alloc);
     names.push(name.try_copy(alloc)?)?;
-    Ok(names)
+    Ok(Rc::new(alloc, names)?)
 }
 
 fn top_row(alloc: Global, name: &Name, top: &Finished) -> Result<Row, AllocError>
     ensures { IfOk result (λ row. row ≡ kept_top_row name.now top.now) }
 {
     let size = top.layouts.under(Mode::Regalign).size;
+    let around = Rc::new(alloc, Vec::new(alloc))?;
     Ok(Row {
-        names: RowPath::from_vec(one_name(alloc, name)?),
+        names: RowPath::new(around, name.try_copy(alloc)?),
         kind: top.kind,
         base: 0,
         place: Place::Bytes(Extent {

@@ -11,33 +11,36 @@ use std::alloc::{AllocError, Global};
 use std::marker::Model;
 use std::rc::Rc;
 
-/// The names from the top down to a row, the top's first. A contract sees the list of the names' bytes.
+/// The names from the top down to a row, the top's first. The rows of a component's instances share the names around
+/// them. A contract sees the list of the names' bytes.
 #[derive(Debug, Drop)]
 pub struct RowPath {
-    names: Vec<Name>,
+    around: Rc<Vec<Name>>,
+    last: Name,
 }
 
 impl Model for RowPath {
-    ghost use Rattle.std.specs.Prelude.{ℕ, List};
+    ghost use Rattle.std.specs.Prelude.{ℕ, List, [], ◌∷◌, ◌++◌};
 
     ghost Value = { List (List ℕ) };
 
-    ghost view = { λ path. path.names.items };
+    ghost view = { λ path. path.around.value.items ++ path.last ∷ [] };
 }
 
 impl RowPath {
-    ghost use Rattle.std.specs.Prelude.{◌≡◌};
+    ghost use Rattle.std.specs.Prelude.{◌≡◌, [], ◌∷◌, ◌++◌};
 
-    pub fn from_vec(names: Vec<Name>) -> RowPath
-        ensures { result ≡ names.items }
+    pub fn new(around: Rc<Vec<Name>>, last: Name) -> RowPath
+        ensures { result ≡ around.value.items ++ last ∷ [] }
     {
-        RowPath { names }
+        RowPath { around, last }
     }
 
-    pub fn names(&self) -> &[Name]
-        ensures { result.now ≡ self.now }
+    /// The last name, and those before it.
+    pub fn split_last(&self) -> (&Name, &[Name])
+        ensures { self.now ≡ result.1.now ++ result.0.now ∷ [] }
     {
-        self.names.as_slice()
+        (&self.last, self.around.as_slice())
     }
 }
 

@@ -22,13 +22,15 @@ use rdl_tree::shell::{Kind, Shell};
 use rdl_tree::value::Value;
 use std::alloc::{AllocError, Global};
 use std::marker::Model;
+use std::rc::Rc;
 
 /// What stands around the instances of a component. A contract sees `Surroundings`.
 #[derive(Drop)]
 pub(crate) struct Around<'a> {
     /// The mode in which the instances are placed.
     pub mode: Mode,
-    pub names: Vec<Name>,
+    /// From the top down to the component.
+    pub names: Rc<Vec<Name>>,
     /// The address of the component, in bytes.
     pub base: u64,
     /// How many bits it has if it is a register.
@@ -41,7 +43,7 @@ impl<'a> Model for Around<'a> {
 
     ghost Value = { Surroundings };
 
-    ghost view = { λ a. record { mode = a.mode; names = a.names.items; base = a.base; bits = a.bits; reaching = a.reaching.items } };
+    ghost view = { λ a. record { mode = a.mode; names = a.names.value.items; base = a.base; bits = a.bits; reaching = a.reaching.items } };
 }
 
 fn base(kind: Kind, around: u64, span: Span) -> u64
@@ -80,15 +82,15 @@ fn place(
 }
 
 /// The names with one more behind them.
-fn longer(alloc: Global, names: &[Name], name: &Name) -> Result<Vec<Name>, AllocError>
-    ensures { IfOk result (λ path. path.items ≡ names.now ++ name.now ∷ []) }
+fn longer(alloc: Global, names: &[Name], name: &Name) -> Result<Rc<Vec<Name>>, AllocError>
+    ensures { IfOk result (λ path. path.value.items ≡ names.now ++ name.now ∷ []) }
 {
     let mut copies = Vec::with_capacity(alloc, names.len().saturating_add(1))?;
     for around in names {
         copies.push(around.try_copy(alloc)?)?;
     }
     copies.push(name.try_copy(alloc)?)?;
-    Ok(copies)
+    Ok(Rc::new(alloc, copies)?)
 }
 
 /// The values of the row of an instance with this reset, whose component has these values by itself.
@@ -121,7 +123,7 @@ fn row(
     let shell = part.shell;
     let size = component.layouts.under(around.mode).size;
     Ok(Row {
-        names: RowPath::from_vec(longer(alloc, around.names.as_slice(), &shell.name)?),
+        names: RowPath::new(around.names.clone()?, shell.name.try_copy(alloc)?),
         kind: component.kind,
         base: base(component.kind, around.base, span),
         place: place(alloc, component.kind, shell, span, size)?,

@@ -1,2 +1,3 @@
 pub mod Clashes
 pub mod Masks
+pub mod Paths

@@ -6,35 +6,30 @@ ghost use Rattle.rdl_header.specs.HeaderText.{path_text, array_macros, bytes_mac
 use crate::bits::{mask, width};
 use crate::define::Define;
 use rdl_elab::layout::Span;
-use rdl_elab::row::{Extent, Place, PropertyValue, Row};
+use rdl_elab::row::{Extent, Place, PropertyValue, Row, RowPath};
 use rdl_scope::shells::product;
-use rdl_text::name::Name;
 use rdl_text::token::Number;
 use rdl_tree::property::Property;
 use rdl_tree::value::Value;
 use std::alloc::{AllocError, Global};
 
-/// Appends the names with two underscores between them.
-fn push_path(text: &mut String, names: &[Name]) -> Result<(), AllocError>
-    ensures { OnOk result (string_bytes text.new ≡ string_bytes text.old ++ path_text names.now) }
+/// Appends the names from the top with two underscores between them.
+fn push_path(text: &mut String, path: &RowPath) -> Result<(), AllocError>
+    ensures { OnOk result (string_bytes text.new ≡ string_bytes text.old ++ path_text path.now) }
 {
-    match names {
-        [] => Ok(()),
-        [first, others @ ..] => {
-            text.push_str(first.as_str())?;
-            'names: for name in others {
-                write!(text, "__{name}")?;
-            }
-            Ok(())
-        }
+    let (last, around) = path.split_last();
+    'names: for name in around {
+        write!(text, "{name}__")?;
     }
+    text.push_str(last.as_str())?;
+    Ok(())
 }
 
 fn path(alloc: Global, row: &Row) -> Result<String, AllocError>
     ensures { IfOk result (λ text. string_bytes text ≡ path_text row.now.names) }
 {
     let mut text = String::new(alloc);
-    push_path(&mut text, row.names.names())?;
+    push_path(&mut text, &row.names)?;
     Ok(text)
 }
 

@@ -1,15 +1,27 @@
 //! The line of a row.
 ghost use Rattle.std.specs.Prelude.{◌≡◌, ◌++◌, string_bytes, OnOk};
-ghost use Rattle.rdl_list.specs.ListText.{part_text, stride_text, reset_by, reset_among, reset_text, head_text, extent_text, bytes_line, bits_line, row_line};
+ghost use Rattle.rdl_list.specs.ListText.{path_text, part_text, stride_text, reset_by, reset_among, reset_text, head_text, extent_text, bytes_line, bits_line, row_line};
 
 use rdl_elab::layout::Span;
-use rdl_elab::row::{Extent, Place, PropertyValue, Row};
+use rdl_elab::row::{Extent, Place, PropertyValue, Row, RowPath};
 use rdl_text::token::Number;
 use rdl_tree::dims::Dims;
 use rdl_tree::property::Property;
 use rdl_tree::value::Value;
-use rdl_write::{kind_text, push_dims, push_hexadecimal, push_names};
+use rdl_write::{kind_text, push_dims, push_hexadecimal};
 use std::alloc::AllocError;
+
+/// Appends the names from the top with dots between them.
+fn push_path(text: &mut String, path: &RowPath) -> Result<(), AllocError>
+    ensures { OnOk result (string_bytes text.new ≡ string_bytes text.old ++ path_text path.now) }
+{
+    let (last, around) = path.split_last();
+    'names: for name in around {
+        write!(text, "{name}.")?;
+    }
+    text.push_str(last.as_str())?;
+    Ok(())
+}
 
 fn push_part(text: &mut String, word: &str, number: Number) -> Result<(), AllocError>
     ensures { OnOk result (string_bytes text.new ≡ string_bytes text.old ++ part_text word.now number) }
@@ -62,7 +74,7 @@ fn push_head(text: &mut String, row: &Row) -> Result<(), AllocError>
 {
     push_hexadecimal(text, row.base)?;
     write!(text, " {} ", kind_text(row.kind))?;
-    push_names(text, row.names.names())
+    push_path(text, &row.names)
 }
 
 #[tactic(auto, unfolding(crate::specs::ListText::extent_text))]
@@ -88,7 +100,7 @@ fn push_bits(text: &mut String, row: &Row, span: &Span) -> Result<(), AllocError
 {
     let high = span.end.saturating_sub(1);
     write!(text, "[{high}:{}] field ", span.start)?;
-    push_names(text, row.names.names())?;
+    push_path(text, &row.names)?;
     push_reset(text, reset_among(row.values.as_slice()))?;
     text.push_str("\n")
 }

@@ -8,14 +8,17 @@ use rdl_tree::property::Property;
 use rdl_tree::shell::Kind;
 use rdl_tree::value::{Value, Word};
 use std::alloc::Global;
+use std::rc::Rc;
 use std::test::Fail;
 
 fn path(alloc: Global, names: &[&str]) -> Result<RowPath, Fail> {
-    let mut all = Vec::new(alloc);
-    for name in names {
-        all.push(Name::new(alloc, name)?)?;
+    let (last, before) = names.split_last().ok_or("no names")?;
+    let mut around = Vec::new(alloc);
+    for name in before {
+        around.push(Name::new(alloc, name)?)?;
     }
-    Ok(RowPath::from_vec(all))
+    let around = Rc::new(alloc, around)?;
+    Ok(RowPath::new(around, Name::new(alloc, last)?))
 }
 
 /// A row of these bytes, each element of 12, each 32 behind the one before.
