@@ -16,10 +16,11 @@ use Rattle.rdl_tree.specs.declared.description.Of.TheVariants.{Named, Anonymous}
 use Rattle.rdl_tree.specs.declared.description.Component.{Component}
 use Rattle.rdl_scope.specs.Closed.{Parts, no_parts, part, Made, Standing, lookup, with_made, head_at, parts, standing, nothing}
 use Rattle.rdl_elab.specs.declared.finished.Finished.{Finished}
-use Rattle.rdl_elab.specs.declared.finished.Part.{Part}
+use Rattle.rdl_elab.specs.Kept.{Part}
 use Rattle.rdl_elab.specs.declared.walk.Walk.{Walk}
+use Rattle.rdl_elab.specs.declared.walk.Found.{Found}
 use Rattle.rdl_elab.specs.Finished.{IsKept, AreParts, IsFinished}
-use Rattle.rdl_elab.specs.Stands.{made_at, after_item, item_parts, LeadsTo, in_list, AreTypes, Stands, Grows, IsLonger, IsBehind}
+use Rattle.rdl_elab.specs.Stands.{made_at, after_item, item_parts, LeadsTo, placed, in_list, AreTypes, Stands, Grows, IsLonger, IsBehind}
 
 -- finished components stay where they are
 pub grows-same : (fs : List Finished) → Grows fs fs
@@ -210,8 +211,8 @@ depth-take (suc n) (x ∷ xs) = over x (items_of (take n xs)) (items_of xs) (dep
     over (Default p v) a b h = omega arith
     over (Dynamic t p v) a b h = omega arith
 
-pub item-room : (at below : List ℕ) (i : ℕ) (xs : List Item) (x : Item) → i < length xs → x ≡ get_or xs i x → below ≡ at ++ i ∷ [] → length at + depth (items_of xs) ≤ 16 → length below + depth (items_of (x ∷ [])) ≤ 17
-item-room at below i xs x h e b room = omega (arith, ap length b, length-append at (i ∷ []), depth-one i xs x (slice_get-get_or xs i x h ∙ ap Some (sym e)), room)
+pub item-room : (at : List ℕ) (i : ℕ) (xs : List Item) (x : Item) → i < length xs → x ≡ get_or xs i x → length at + depth (items_of xs) ≤ 16 → length at + depth (items_of (x ∷ [])) ≤ 16
+item-room at i xs x h e room = omega (arith, depth-one i xs x (slice_get-get_or xs i x h ∙ ap Some (sym e)), room)
 
 pub body-room : (at : List ℕ) (t : Items) (xs : List Item) → xs ≡ list_of t → length at + depth t ≤ 16 → length at + depth (items_of xs) ≤ 16
 body-room at t xs e room = omega (arith, ap (λ ys. depth (items_of ys)) e, ap depth (items_of-list_of t))
@@ -250,7 +251,7 @@ module _ (d : Items) where
     defaults = f ∙ h.defaults;
   }
 
-  pub finished-part : (fs : List Finished) (k : ℕ) (c : Made) (at : List ℕ) (s : Shell) (p : Part) → IsFinished d fs k c → p.at ≡ at → p.shell.now ≡ s → p.component ≡ k
+  pub finished-part : (fs : List Finished) (k : ℕ) (c : Made) (at : List ℕ) (s : Shell) (p : Part) → IsFinished d fs k c → p.at ≡ at → p.shell ≡ s → p.component ≡ k
       → AreParts d fs (length fs) (p ∷ []) (part at s c.head c.parts no_parts)
   finished-part fs k c at s p h a b e = (
     record {
@@ -265,20 +266,21 @@ module _ (d : Items) where
     tt,
   )
 
-  pub named-part : (fs : List Finished) (at : List ℕ) (s : Shell) (name : List ℕ) (r : Option Part) (ks : List (List ℕ × ℕ)) (ts : List (List ℕ × Made)) → AreTypes d fs ks ts → LeadsTo at s (lookup name ks) r
-      → AreParts d fs (length fs) (in_list r) (with_made at s (lookup name ts) no_parts)
+  pub named-part : (fs : List Finished) (at : List ℕ) (s : Shell) (name : List ℕ) (r : Option Found) (ks : List (List ℕ × ℕ)) (ts : List (List ℕ × Made)) → AreTypes d fs ks ts → LeadsTo s (lookup name ks) r
+      → AreParts d fs (length fs) (in_list (placed at r)) (with_made at s (lookup name ts) no_parts)
   named-part fs at s name None [] [] h g = tt
   named-part fs at s name (Some p) [] [] h g = absurd g
   named-part fs at s name r (k ∷ ks) [] h g = absurd h
   named-part fs at s name r [] (t ∷ ts) h g = absurd h
   named-part fs at s name r (k ∷ ks) (t ∷ ts) h g =
-      subst (λ (n : List ℕ). AreParts d fs (length fs) (in_list r) (with_made at s (if bytes_eq n name then Some t.1 else lookup name ts) no_parts)) h.0 (by_test (named-part fs at s name r ks ts h.2) (bytes_eq k.0 name) g)
+      subst (λ (n : List ℕ). AreParts d fs (length fs) (in_list (placed at r)) (with_made at s (if bytes_eq n name then Some t.1 else lookup name ts) no_parts)) h.0 (by_test (named-part fs at s name r ks ts h.2) (bytes_eq k.0 name) g)
     where
-      some : (r : Option Part) → LeadsTo at s (Some k.1) r → AreParts d fs (length fs) (in_list r) (part at s t.1.head t.1.parts no_parts)
+      some : (r : Option Found) → LeadsTo s (Some k.1) r → AreParts d fs (length fs) (in_list (placed at r)) (part at s t.1.head t.1.parts no_parts)
       some None g = absurd g
-      some (Some p) g = finished-part fs k.1 t.1 at s p h.1 g.0 g.1 g.2
+      some (Some f) g = finished-part fs k.1 t.1 at s (record { at = at; shell = f.shell.now; component = f.component }) h.1 refl g.0 g.1
 
-      by_test : (LeadsTo at s (lookup name ks) r → AreParts d fs (length fs) (in_list r) (with_made at s (lookup name ts) no_parts)) → (b : Bool) → LeadsTo at s (if b then Some k.1 else lookup name ks) r → AreParts d fs (length fs) (in_list r) (with_made at s (if b then Some t.1 else lookup name ts) no_parts)
+      by_test : (LeadsTo s (lookup name ks) r → AreParts d fs (length fs) (in_list (placed at r)) (with_made at s (lookup name ts) no_parts)) → (b : Bool) → LeadsTo s (if b then Some k.1 else lookup name ks) r
+          → AreParts d fs (length fs) (in_list (placed at r)) (with_made at s (if b then Some t.1 else lookup name ts) no_parts)
       by_test further true g = some r g
       by_test further false g = further g
 

@@ -15,9 +15,8 @@ use Rattle.rdl_elab.specs.declared.layout.Mode.{Mode}
 use Rattle.rdl_elab.specs.declared.layout.Mode.TheVariants.{Compact}
 use Rattle.rdl_elab.specs.declared.layout.Layout.{Layout}
 use Rattle.rdl_elab.specs.declared.layout.LayoutValues.{LayoutValues}
-use Rattle.rdl_elab.specs.Kept.{Layouts}
 use Rattle.rdl_elab.proofs.KeptLayouts.{kept-laid_out}
-use Rattle.rdl_elab.specs.declared.finished.Part.{Part}
+use Rattle.rdl_elab.specs.Kept.{Layouts, Part}
 use Rattle.rdl_elab.specs.declared.finished.Finished.{Finished}
 use Rattle.rdl_elab.specs.Layouts.{values_of, mode_inside, laid_out, layouts, layout, member}
 use Rattle.rdl_elab.specs.Capped.{capped_layout, capped_instance}
@@ -35,7 +34,7 @@ module _ (d : Items) (fs : List Finished) where
 
   one-kept : (m : Mode) (n : ℕ) (p : Part) (at : List ℕ) (s : Shell) (h : Head) (inside : Parts) → IsPart d fs n p at s (record { head = h; parts = inside }) (Inside p inside) → kept_part m fs p ≡ Some (capped_instance (s, layout m (record { head = h; parts = inside })))
   one-kept m n p at s h inside x =
-      ap (option_map (λ (f : Finished). (p.shell.now, under m f.layouts))) x.there
+      ap (option_map (λ (f : Finished). (p.shell, under m f.layouts))) x.there
       ∙ ap (λ t. Some (t, under m x.finished.layouts)) x.shell
       ∙ ap (λ l. Some (s, l)) (x.kept.layouts m)
 
@@ -133,12 +132,12 @@ AreSame fs ps = (m : Mode) → kept_parts m fs ps ≡ kept_parts Compact fs ps
 
 one-same : (fs : List Finished) (p : Part) (f : Finished) → slice_get fs p.component ≡ Some f → ((m : Mode) → under m f.layouts ≡ under Compact f.layouts) → (m : Mode) → kept_part m fs p ≡ kept_part Compact fs p
 one-same fs p f e g m =
-    ap (option_map (λ (f : Finished). (p.shell.now, under m f.layouts))) e
-    ∙ ap (λ l. Some (p.shell.now, l)) (g m)
-    ∙ sym (ap (option_map (λ (f : Finished). (p.shell.now, under Compact f.layouts))) e)
+    ap (option_map (λ (f : Finished). (p.shell, under m f.layouts))) e
+    ∙ ap (λ l. Some (p.shell, l)) (g m)
+    ∙ sym (ap (option_map (λ (f : Finished). (p.shell, under Compact f.layouts))) e)
 
 none-same : (fs : List Finished) (p : Part) → slice_get fs p.component ≡ None → (m : Mode) → kept_part m fs p ≡ kept_part Compact fs p
-none-same fs p e m = ap (option_map (λ (f : Finished). (p.shell.now, under m f.layouts))) e ∙ sym (ap (option_map (λ (f : Finished). (p.shell.now, under Compact f.layouts))) e)
+none-same fs p e m = ap (option_map (λ (f : Finished). (p.shell, under m f.layouts))) e ∙ sym (ap (option_map (λ (f : Finished). (p.shell, under Compact f.layouts))) e)
 
 module _ (fs : List Finished) (i : ℕ) (ps : List Part) (p : Part) (h : i < length ps) (is : p ≡ get_or ps i p) (inv : AreSame fs (drop i ps) → AreSame fs ps) where
   same-next : ((m : Mode) → kept_part m fs p ≡ kept_part Compact fs p) → AreSame fs (drop (i + 1) ps) → AreSame fs ps
@@ -164,12 +163,12 @@ shown_members xs = map counted_member (map member xs)
 
 -- one more instance, with its component and without one
 pub members-some : (m : Mode) (fs : List Finished) (i : ℕ) (ps : List Part) (p : Part) (f : Finished) (x : Member) (done after whole : List Member) → i < length ps → p ≡ get_or ps i p → slice_get fs p.component ≡ Some f
-    → x ≡ counted_member (member (p.shell.now, under m f.layouts)) → after ≡ done ++ x ∷ [] → done ++ shown_members (kept_parts m fs (drop i ps)) ≡ whole → after ++ shown_members (kept_parts m fs (drop (i + 1) ps)) ≡ whole
+    → x ≡ counted_member (member (p.shell, under m f.layouts)) → after ≡ done ++ x ∷ [] → done ++ shown_members (kept_parts m fs (drop i ps)) ≡ whole → after ++ shown_members (kept_parts m fs (drop (i + 1) ps)) ≡ whole
 members-some m fs i ps p f x done after whole h is found e g inv =
     let rest = kept_parts m fs (drop (i + 1) ps) in
-    let one : kept_parts m fs (drop i ps) ≡ (p.shell.now, under m f.layouts) ∷ rest =
+    let one : kept_parts m fs (drop i ps) ≡ (p.shell, under m f.layouts) ∷ rest =
     kept-next m fs i ps p h ∙ ap (λ (q : Part). cons_option (kept_part m fs q) rest) (sym is)
-    ∙ ap (λ o. cons_option (option_map (λ (g : Finished). (p.shell.now, under m g.layouts)) o) rest) found in
+    ∙ ap (λ o. cons_option (option_map (λ (g : Finished). (p.shell, under m g.layouts)) o) rest) found in
     ap (λ xs. xs ++ shown_members rest) g ∙ append_assoc done (x ∷ []) (shown_members rest) ∙ ap (λ y. done ++ y ∷ shown_members rest) e
     ∙ sym (ap (λ xs. done ++ shown_members xs) one) ∙ inv
 
@@ -179,7 +178,7 @@ members-none m fs i ps p done after whole h is found g inv =
     let rest = kept_parts m fs (drop (i + 1) ps) in
     let one : kept_parts m fs (drop i ps) ≡ rest =
     kept-next m fs i ps p h ∙ ap (λ (q : Part). cons_option (kept_part m fs q) rest) (sym is)
-    ∙ ap (λ o. cons_option (option_map (λ (g : Finished). (p.shell.now, under m g.layouts)) o) rest) found in
+    ∙ ap (λ o. cons_option (option_map (λ (g : Finished). (p.shell, under m g.layouts)) o) rest) found in
     ap (λ xs. xs ++ shown_members rest) g ∙ sym (ap (λ xs. done ++ shown_members xs) one) ∙ inv
 
 -- one more instance for the levels, the rows, and the instances that must not be empty

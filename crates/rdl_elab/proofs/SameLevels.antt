@@ -24,7 +24,7 @@ use Rattle.rdl_elab.specs.declared.layout.Span.{Span}
 use Rattle.rdl_elab.specs.declared.layout.Layout.{Layout}
 use Rattle.rdl_elab.specs.declared.row.PropertyValue.{PropertyValue}
 use Rattle.rdl_elab.specs.declared.row.Row.{Row}
-use Rattle.rdl_elab.specs.declared.finished.Part.{Part}
+use Rattle.rdl_elab.specs.Kept.{Part}
 use Rattle.rdl_elab.specs.declared.finished.Finished.{Finished}
 use Rattle.rdl_elab.specs.declared.siblings.Sibling.{Sibling}
 use Rattle.rdl_elab.specs.Layouts.{values_of, mode_inside, number_in, width_in, layout_of, layout}
@@ -121,7 +121,7 @@ module _ (d : Items) (fs : List Finished) where
   around_of b a = record { mode = a.mode; names = a.names; base = a.base; bits = a.bits; reaching = along d [] a.path ++ reaches_at d b }
 
   module _ (b : List ℕ) (a : Around) (before : List (Span × Option Value)) (span : Span) (at : List ℕ) (s : Shell) (h : Head) (within : Parts) (p : Part) (f : Finished)
-      (place : p.at ≡ at) (shell : p.shell.now ≡ s) (k : IsKept d f (record { head = h; parts = within })) (found : IsPartFound d b at s h within)
+      (place : p.at ≡ at) (shell : p.shell ≡ s) (k : IsKept d f (record { head = h; parts = within })) (found : IsPartFound d b at s h within)
       (small : a.bits ≤ 64) (fits : OneFits a.mode a.base span h within) where
     abbrev l : Layout
     l = layout_of a.mode h within

@@ -1,5 +1,5 @@
 -- Steps along the properties whose values are listed, and along assignments.
-use Rattle.std.proofs.Common.{◌≡◌, ℕ, ◌+◌, ◌<◌, ◌≤◌, List, [], ◌∷◌, ◌++◌, length, take, drop, get_or, true, false, Some, None, Option, refl, ap, ◌∙◌, arith, add-one, option_map, append-nil}
+use Rattle.std.proofs.Common.{◌≡◌, ℕ, ◌+◌, ◌<◌, ◌≤◌, List, [], ◌∷◌, ◌++◌, length, take, drop, get_or, true, false, Some, None, Option, refl, ap, sym, ◌∙◌, arith, add-one, option_map, append-nil}
 use Rattle.std.specs.List.{filter_map, cons_option}
 use Rattle.std.specs.Prelude.{nat_eq}
 use Rattle.std.specs.Cmp.Lexicographic.{pointwise}
@@ -12,7 +12,7 @@ use Rattle.rdl_tree.specs.declared.value.Value.{Value}
 use Rattle.rdl_elab.specs.declared.row.PropertyValue.{PropertyValue}
 use Rattle.rdl_elab.specs.Rows.{valued}
 use Rattle.rdl_elab.specs.Shown.{bare, shown_value, shown_among}
-use Rattle.rdl_elab.specs.Reaches.{Reach, value_along, values_among, passed, behind}
+use Rattle.rdl_elab.specs.Reaches.{Reach, value_along, values_among, passed, has_ended, behind}
 
 -- with one item more
 found-next : {X Y : Type 0} (h : X → Option Y) (i : ℕ) (xs : List X) (x : X) → i < length xs → filter_map h (take (i + 1) xs) ≡ filter_map h (take i xs) ++ cons_option (h (get_or xs i x)) []
@@ -56,5 +56,13 @@ passed-one a r (p ∷ ps) x l e = rw e refl
 pub passed-none : (a : List ℕ) (r : Reach) (ps : List (List ℕ)) (x : List ℕ) → 1 ≤ length ps → pointwise nat_eq (get_or ps 0 x) a ≡ false → passed a r ps ≡ None
 passed-none a r [] x l e = absurd (omega arith)
 passed-none a r (p ∷ ps) x l e = rw e refl
+
+pub ended-none : (i : ℕ) (rs : List Reach) (r : Reach) → i < length rs → r ≡ get_or rs i r → has_ended r.path ≡ true → ((a : List ℕ) → behind a (take i rs) ≡ []) → (a : List ℕ) → behind a (take (i + 1) rs) ≡ []
+ended-none i rs r l is e h a =
+    behind-none a i rs r l (ap (λ (q : Reach). passed a q q.path) (sym is) ∙ no-path r r.path e) ∙ h a
+  where
+    no-path : (q : Reach) (path : List (List ℕ)) → has_ended path ≡ true → passed a q path ≡ None
+    no-path q [] e = refl
+    no-path q (b ∷ path) e = absurd cc
 
 pub ruleset steps = (shown-some, shown-none, along-some, along-none, behind-some, behind-none, passed-one, passed-none)

@@ -7,8 +7,7 @@ use Rattle.rdl_scope.specs.Closed.{Parts, no_parts, part, Made}
 use Rattle.rdl_elab.specs.declared.layout.Mode.{Mode}
 use Rattle.rdl_elab.specs.declared.layout.Mode.TheVariants.{Compact, Regalign, Fullalign}
 use Rattle.rdl_elab.specs.declared.layout.Layout.{Layout}
-use Rattle.rdl_elab.specs.Kept.{Layouts}
-use Rattle.rdl_elab.specs.declared.finished.Part.{Part}
+use Rattle.rdl_elab.specs.Kept.{Layouts, Part}
 use Rattle.rdl_elab.specs.declared.finished.Finished.{Finished}
 use Rattle.rdl_elab.specs.Layouts.{values_of, layout}
 use Rattle.rdl_elab.specs.Capped.{capped_layout}
@@ -36,7 +35,7 @@ pub record IsKept (d : Items) (f : Finished) (c : Made) : Type 0 where
 -- an instance leads to what is kept of its component, which stands before number n
 pub record IsPart (d : Items) (fs : List Finished) (n : ℕ) (p : Part) (at : List ℕ) (s : Shell) (c : Made) (Inside : Finished → Type 0) : Type 0 where
   pub place : p.at ≡ at
-  pub shell : p.shell.now ≡ s
+  pub shell : p.shell ≡ s
   pub before : p.component < n
   pub finished : Finished
   pub there : slice_get fs p.component ≡ Some finished

@@ -10,7 +10,7 @@ use Rattle.rdl_elab.specs.declared.layout.Mode.{Mode}
 use Rattle.rdl_elab.specs.declared.layout.Placement.{Placement}
 use Rattle.rdl_elab.specs.declared.layout.Member.{Member}
 use Rattle.rdl_elab.specs.declared.layout.Layout.{Layout}
-use Rattle.rdl_elab.specs.declared.finished.Part.{Part}
+use Rattle.rdl_elab.specs.Kept.{Part}
 use Rattle.rdl_elab.specs.declared.finished.Finished.{Finished}
 use Rattle.rdl_elab.specs.Finished.{under}
 
@@ -23,7 +23,7 @@ counted_member m = record m { placement = counted m.placement }
 
 -- an instance, with the kept layout of its component under a mode
 abbrev pub kept_part : Mode → List Finished → Part → Option (Shell × Layout)
-kept_part m fs p = option_map (λ (f : Finished). (p.shell.now, under m f.layouts)) (slice_get fs p.component)
+kept_part m fs p = option_map (λ (f : Finished). (p.shell, under m f.layouts)) (slice_get fs p.component)
 
 abbrev pub kept_parts : Mode → List Finished → List Part → List (Shell × Layout)
 kept_parts m fs ps = filter_map (kept_part m fs) ps

@@ -1,6 +1,14 @@
 -- What contracts see of the types that keep components.
 -- own: SystemRDL 2.0 speaks of definitions and instances.
+use Rattle.std.specs.Prelude.{ℕ, List}
+use Rattle.rdl_tree.specs.declared.shell.Shell.{Shell}
 use Rattle.rdl_elab.specs.declared.layout.Layout.{Layout}
+
+-- an instance: its address, its shell, and the number of its component among the finished ones
+pub record Part : Type 0 where
+  pub at : List ℕ
+  pub shell : Shell
+  pub component : ℕ
 
 -- the layouts of a component, one for each mode under which it may stand
 pub record Layouts : Type 0 where

@@ -18,7 +18,7 @@ use Rattle.rdl_elab.specs.declared.layout.LayoutValues.{LayoutValues}
 use Rattle.rdl_elab.specs.declared.row.PropertyValue.{PropertyValue}
 use Rattle.rdl_elab.specs.declared.row.Place.TheVariants.{Bytes}
 use Rattle.rdl_elab.specs.declared.row.Row.{Row}
-use Rattle.rdl_elab.specs.declared.finished.Part.{Part}
+use Rattle.rdl_elab.specs.Kept.{Part}
 use Rattle.rdl_elab.specs.declared.finished.Finished.{Finished}
 use Rattle.rdl_elab.specs.declared.siblings.Sibling.{Sibling}
 use Rattle.rdl_elab.specs.Layouts.{mode_inside, number_in}
@@ -55,11 +55,11 @@ kept_values k (Some n) rs values = values_along k (Some n) rs values
 abbrev pub kept_row : Surroundings → Span → Part → Finished → Row
 kept_row o span p f =
     record {
-      names = o.names ++ p.shell.now.name ∷ [];
+      names = o.names ++ p.shell.name ∷ [];
       kind = f.kind;
       base = kept_base f.kind o.base span;
-      place = place_of f.kind p.shell.now span (under o.mode f.layouts).size;
-      values = kept_values f.kind p.shell.now.reset (behind p.at o.reaching) f.shown;
+      place = place_of f.kind p.shell span (under o.mode f.layouts).size;
+      values = kept_values f.kind p.shell.reset (behind p.at o.reaching) f.shown;
     }
 
 -- a row as later siblings see it
@@ -99,7 +99,7 @@ abbrev pub judged : Surroundings → List Sibling → Span → Part → Finished
 judged o before span p f r =
     record {
       row = r;
-      fault = fault_at p.at (kept_fault f.kind f.values o.bits p.shell.now (under o.mode f.layouts).size (seen span r.values) before r.values);
+      fault = fault_at p.at (kept_fault f.kind f.values o.bits p.shell (under o.mode f.layouts).size (seen span r.values) before r.values);
     }
 
 abbrev pub surroundings_inside : Surroundings → Part → Finished → Row → Surroundings

@@ -9,8 +9,9 @@ use Rattle.rdl_tree.specs.declared.description.Of.TheVariants.{Named, Anonymous}
 use Rattle.rdl_tree.specs.declared.description.Component.{Component}
 use Rattle.rdl_scope.specs.Closed.{Parts, no_parts, part, Made, Standing, lookup, with_type, with_default, with_made, head_at, parts}
 use Rattle.rdl_elab.specs.declared.finished.Finished.{Finished}
-use Rattle.rdl_elab.specs.declared.finished.Part.{Part}
+use Rattle.rdl_elab.specs.Kept.{Part}
 use Rattle.rdl_elab.specs.declared.walk.Walk.{Walk}
+use Rattle.rdl_elab.specs.declared.walk.Found.{Found}
 use Rattle.rdl_elab.specs.Finished.{IsFinished}
 
 -- the component written at an address
@@ -35,11 +36,16 @@ item_parts e at (Default p v) = no_parts
 item_parts e at (Dynamic t p v) = no_parts
 
 -- an instance leads to the component of this number, if there is one
-abbrev pub LeadsTo : List ℕ → Shell → Option ℕ → Option Part → Type 0
-LeadsTo at s None None = Unit {0}
-LeadsTo at s None (Some p) = ⊥
-LeadsTo at s (Some k) None = ⊥
-LeadsTo at s (Some k) (Some p) = (p.at ≡ at) × (p.shell.now ≡ s) × (p.component ≡ k)
+abbrev pub LeadsTo : Shell → Option ℕ → Option Found → Type 0
+LeadsTo s None None = Unit {0}
+LeadsTo s None (Some f) = ⊥
+LeadsTo s (Some k) None = ⊥
+LeadsTo s (Some k) (Some f) = (f.shell.now ≡ s) × (f.component ≡ k)
+
+-- what is found is an instance at this address
+abbrev pub placed : List ℕ → Option Found → Option Part
+placed at None = None
+placed at (Some f) = Some (record { at = at; shell = f.shell.now; component = f.component })
 
 abbrev pub in_list : Option Part → List Part
 in_list None = []

@@ -2,17 +2,76 @@
 use crate::layout::{Layout, LayoutValues, Mode};
 use crate::reaches::Assignment;
 use crate::row::RowValues;
+use crate::shared::SharedAddress;
 use rdl_tree::address::Address;
 use rdl_tree::shell::{Kind, Shell};
 use std::alloc::{AllocError, Global};
 use std::marker::Model;
 
-/// An instance, and the number of its component among the finished ones.
+/// An instance, and the number of its component among the finished ones. A contract sees the record of specs/, with the
+/// address of the instance.
 #[derive(Drop)]
 pub(crate) struct Part<'a> {
-    pub at: Address,
-    pub shell: &'a Shell,
-    pub component: usize,
+    /// The address of the body around it.
+    around: SharedAddress,
+    /// The number of its item in that body.
+    number: usize,
+    shell: &'a Shell,
+    component: usize,
+}
+
+impl<'a> Model for Part<'a> {
+    ghost use Rattle.std.specs.Prelude.{◌++◌, ◌∷◌, ◌<◌, [], length};
+    ghost use Rattle.rdl_elab.specs.Kept.{Part};
+
+    ghost Value = { Part };
+
+    ghost view = { λ p. record { at = p.around ++ p.number ∷ []; shell = p.shell.now; component = p.component } };
+
+    ghost invariant = { λ p. length p.around < 17 };
+}
+
+impl<'a> Part<'a> {
+    ghost use Rattle.std.specs.Prelude.{◌≡◌, ◌<◌, ◌++◌, ◌∷◌, [], length, option_copied, slice_get};
+
+    pub(crate) fn new(
+        around: SharedAddress,
+        number: usize,
+        shell: &'a Shell,
+        component: usize,
+    ) -> Part<'a>
+        requires { length around < 17 }
+        ensures { result ≡ record { at = around ++ number ∷ []; shell = shell.now; component = component } }
+    {
+        Part {
+            around,
+            number,
+            shell,
+            component,
+        }
+    }
+
+    pub(crate) fn at(&self) -> Address
+        ensures { result ≡ self.now.at }
+    {
+        self.around.as_address().inside(self.number)
+    }
+
+    pub(crate) fn shell(&self) -> &'a Shell
+        ensures { result.now ≡ self.now.shell }
+    {
+        self.shell
+    }
+
+    /// What is kept of its component, if that is among these.
+    pub(crate) fn component<'c, 'f>(
+        &self,
+        components: &'c [Finished<'f>],
+    ) -> Option<&'c Finished<'f>>
+        ensures { option_copied result ≡ slice_get components.now self.now.component }
+    {
+        components.get(self.component)
+    }
 }
 
 /// One layout for each mode.

@@ -71,8 +71,8 @@ fn members(
 {
     let mut members = Vec::with_capacity(alloc, parts.len())?;
     for part in parts {
-        if let Some(finished) = components.get(part.component) {
-            members.push(member(part.shell, finished.layouts.under(mode)))?;
+        if let Some(finished) = part.component(components) {
+            members.push(member(part.shell(), finished.layouts.under(mode)))?;
         }
     }
     Ok(members)
@@ -132,7 +132,7 @@ fn are_same(parts: &[Part], components: &[Finished]) -> bool
     ensures { result ≡ true → (m : Mode) → kept_parts m components.now parts.now ≡ kept_parts Compact components.now parts.now }
 {
     for part in parts {
-        if let Some(finished) = components.get(part.component) {
+        if let Some(finished) = part.component(components) {
             if !finished.layouts.is_same() {
                 return false;
             }
@@ -187,7 +187,7 @@ pub(crate) fn levels(parts: &[Part], components: &[Finished]) -> usize
 {
     let mut levels = 0usize;
     for part in parts {
-        if let Some(finished) = components.get(part.component) {
+        if let Some(finished) = part.component(components) {
             levels = levels
                 .max(finished.levels.saturating_add(1))
                 .min(MAX_LEVELS);
@@ -203,7 +203,7 @@ pub(crate) fn rows(parts: &[Part], components: &[Finished]) -> usize
 {
     let mut rows = 0usize;
     for part in parts {
-        if let Some(finished) = components.get(part.component) {
+        if let Some(finished) = part.component(components) {
             let more = finished.rows.saturating_add(1);
             rows = rows.saturating_add(more).min(MAX_ROWS);
         }
@@ -235,7 +235,7 @@ fn empty_part(part: &Part, finished: &Finished) -> Option<Address>
     ensures { result ≡ part_empty part.now (Some finished.now) }
 {
     if is_empty(finished.kind, finished.parts.as_slice()) {
-        Some(part.at.copy())
+        Some(part.at())
     } else {
         copied(finished.first_empty.as_ref())
     }
@@ -247,7 +247,7 @@ pub(crate) fn first_empty(parts: &[Part], components: &[Finished]) -> Option<Add
     ensures { result ≡ kept_empty components.now parts.now }
 {
     for part in parts {
-        if let Some(finished) = components.get(part.component) {
+        if let Some(finished) = part.component(components) {
             let empty = empty_part(part, finished);
             if empty.is_some() {
                 return empty;

@@ -15,6 +15,7 @@ mod reaches;
 mod round;
 pub mod row;
 mod rows;
+mod shared;
 pub mod siblings;
 #[cfg(test)]
 mod siblings_tests;

@@ -1,5 +1,5 @@
 //! The dynamic assignments that reach an instance.
-ghost use Rattle.std.specs.Prelude.{◌≡◌, ◌++◌, ◌≤◌, IfOk, OnOk, option_copied};
+ghost use Rattle.std.specs.Prelude.{◌≡◌, ℕ, ◌++◌, ◌≤◌, List, [], true, IfOk, OnOk, option_copied};
 ghost use Rattle.rdl_tree.specs.Depth.{depth};
 ghost use Rattle.rdl_elab.specs.Reaches.{reaches, behind, reached, reach_by};
 
@@ -144,6 +144,19 @@ fn add_all<'a>(
         list.push(assignment.try_copy(alloc)?)?;
     }
     Ok(())
+}
+
+/// Whether each of them has passed all its instances.
+#[tactic(auto, using(crate::proofs::ValueLists::steps))]
+pub(crate) fn have_ended(reaching: &[Assignment]) -> bool
+    ensures { result ≡ true → (a : List ℕ) → behind a reaching.now ≡ [] }
+{
+    for assignment in reaching {
+        if !assignment.has_ended() {
+            return false;
+        }
+    }
+    true
 }
 
 /// Those whose targets pass this instance.

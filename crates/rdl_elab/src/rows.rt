@@ -10,7 +10,7 @@ ghost use Rattle.rdl_elab.specs.KeptRows.{kept_base, kept_values, kept_row, seen
 use crate::finished::{Finished, Part};
 use crate::instances::mode_inside;
 use crate::layout::{Mode, Span};
-use crate::reaches::{Assignment, behind, with_own};
+use crate::reaches::{Assignment, behind, have_ended, with_own};
 use crate::row::{Extent, Place, Row, RowPath, RowValues};
 use crate::siblings::{Sibling, Siblings, as_sibling, is_reset_too_wide};
 use crate::values::{row_values, value_under};
@@ -109,6 +109,20 @@ fn values(
     }
 }
 
+/// The assignments whose targets pass this instance.
+fn behind_part<'a>(
+    alloc: Global,
+    part: &Part,
+    reaching: &[Assignment<'a>],
+) -> Result<Vec<Assignment<'a>>, AllocError>
+    ensures { IfOk result (λ list. list.items ≡ behind part.now.at reaching.now) }
+{
+    if have_ended(reaching) {
+        return Ok(Vec::new(alloc));
+    }
+    behind(alloc, &part.at(), reaching)
+}
+
 fn row(
     alloc: Global,
     around: &Around,
@@ -120,7 +134,7 @@ fn row(
     requires { reaching.now ≡ behind part.now.at around.now.reaching }
     ensures { IfOk result (λ row. row ≡ kept_row around.now span part.now component.now) }
 {
-    let shell = part.shell;
+    let shell = part.shell();
     let size = component.layouts.under(around.mode).size;
     Ok(Row {
         names: RowPath::new(around.names.clone()?, shell.name.try_copy(alloc)?),
@@ -229,7 +243,7 @@ fn add_row(
     let sibling = seen(span, &row.values);
     let fault = fault_kind(
         around,
-        part.shell,
+        part.shell(),
         component,
         sibling,
         siblings,
@@ -238,7 +252,7 @@ fn add_row(
     if let Some(kind) = fault {
         return Ok(Some(Fault {
             kind,
-            address: part.at.copy(),
+            address: part.at(),
         }));
     }
     siblings.push(sibling)?;
@@ -260,7 +274,7 @@ fn inside<'a>(
 {
     Ok(Around {
         mode: mode_inside(component.kind, component.values, around.mode),
-        names: longer(alloc, around.names.as_slice(), &part.shell.name)?,
+        names: longer(alloc, around.names.as_slice(), &part.shell().name)?,
         base: base(component.kind, around.base, span),
         bits: component.values.regwidth,
         reaching: with_own(alloc, reaching, component.assignments.as_slice())?,
@@ -271,12 +285,6 @@ fn span_at(spans: &[Span], number: usize) -> Option<Span>
     ensures { result ≡ slice_get spans.now number }
 {
     spans.get(number).copied()
-}
-
-fn component_of<'c, 'a>(components: &'c [Finished<'a>], part: &Part) -> Option<&'c Finished<'a>>
-    ensures { option_copied result ≡ slice_get components.now part.now.component }
-{
-    components.get(part.component)
 }
 
 /// Puts the rows of the instances of the component of this instance, so many levels deep, behind the others, up to the
@@ -327,10 +335,10 @@ pub(crate) fn add_rows<'a>(
         let Some(span) = span_at(spans, i) else {
             return Ok(None);
         };
-        let Some(component) = component_of(components, part) else {
+        let Some(component) = part.component(components) else {
             return Ok(None);
         };
-        let reaching = behind(alloc, &part.at, around.reaching.as_slice())?;
+        let reaching = behind_part(alloc, part, around.reaching.as_slice())?;
         let row = row(alloc, around, span, part, component, reaching.as_slice())?;
         let fault = add_row(around, part, component, span, row, &mut siblings, rows)?;
         if fault.is_some() {

@@ -1,18 +1,19 @@
 //! The walk that lays out components, once for all their instances.
-ghost use Rattle.std.specs.Prelude.{◌≡◌, ℕ, ◌∷◌, ◌+◌, ◌≤◌, [], length, Some, IfOk, IfSome};
+ghost use Rattle.std.specs.Prelude.{◌≡◌, ℕ, ◌∷◌, ◌++◌, ◌+◌, ◌≤◌, [], length, Some, IfOk, IfSome};
 ghost use Rattle.std.specs.Option.{is_some};
 ghost use Rattle.rdl_tree.specs.Depth.{depth};
 ghost use Rattle.rdl_tree.specs.declared.description.Item.TheVariants.{Instance};
 ghost use Rattle.rdl_tree.specs.View.{items_of};
 ghost use Rattle.rdl_scope.specs.Closed.{Made, Parts, Standing, component, head_at, lookup, parts, standing};
 ghost use Rattle.rdl_elab.specs.Finished.{IsFinished, IsKept, AreParts};
-ghost use Rattle.rdl_elab.specs.Stands.{made_at, after_item, item_parts, in_list, LeadsTo, Stands, Grows, IsBehind};
+ghost use Rattle.rdl_elab.specs.Stands.{made_at, after_item, item_parts, in_list, placed, LeadsTo, Stands, Grows, IsBehind};
 
 use crate::built_ins::BuiltIns;
 use crate::defaults::Defaults;
 use crate::finished::{Finished, Part};
 use crate::instances::{first_empty, layouts, levels, rows};
 use crate::reaches::assignments;
+use crate::shared::share;
 use crate::types::Types;
 use crate::values::{layout_values, shown_values};
 use rdl_scope::types::own_component;
@@ -36,6 +37,13 @@ struct Walk<'a> {
     defaults: Defaults<'a>,
     components: Vec<Finished<'a>>,
     built_ins: BuiltIns,
+}
+
+/// An instance in the body that is walked, and the number of its component among the finished ones.
+#[derive(Drop)]
+struct Found<'a> {
+    shell: &'a Shell,
+    component: usize,
 }
 
 /// All that is kept of a component with these instances, which these defaults reach.
@@ -102,70 +110,66 @@ fn finish<'a>(
 
 /// The instance of a type, if the type stands.
 #[tactic(auto, using(crate::proofs::Goings::goings))]
-fn named_part<'a>(at: &Address, shell: &'a Shell, name: &Name, types: &Types) -> Option<Part<'a>>
-    ensures { LeadsTo at.now shell.now (lookup name.now types.now) result }
+fn named_part<'a>(shell: &'a Shell, name: &Name, types: &Types) -> Option<Found<'a>>
+    ensures { LeadsTo shell.now (lookup name.now types.now) result }
 {
     let component = types.get(name)?;
-    Some(Part {
-        at: at.copy(),
-        shell,
-        component,
-    })
+    Some(Found { shell, component })
 }
 
-/// Lays out the component of the instance at this address, if it has one of its own.
+/// Lays out the component of the instance that is this item of the body at this address, if it has one of its own.
 #[cycle(walk)]
 #[tactic(auto, using(crate::proofs::Goings::goings))]
 fn walk_instance<'a>(
     alloc: Global,
     description: &'a Description,
     at: &Address,
+    number: usize,
     shell: &'a Shell,
     of: &'a Of,
     walk: &mut Walk<'a>,
-) -> Result<Option<Part<'a>>, AllocError>
+) -> Result<Option<Found<'a>>, AllocError>
     requires nesting { depth description.now.items ≤ 16 }
-    requires room { length at.now + depth (items_of (Instance shell.now of.now ∷ [])) ≤ 17 }
-    ensures part { IfOk result (λ p. (e : Standing) → Stands description.now.items walk.old e → AreParts description.now.items walk.new.components.items (length walk.new.components.items) (in_list p) (item_parts e at.now (Instance shell.now of.now))) }
-    ensures stands { IfOk result (λ p. (e : Standing) → Stands description.now.items walk.old e → Stands description.now.items walk.new e) }
-    ensures behind { IfOk result (λ p. IsBehind walk.old walk.new) }
+    requires room { length at.now + depth (items_of (Instance shell.now of.now ∷ [])) ≤ 16 }
+    ensures part { IfOk result (λ f. (e : Standing) → Stands description.now.items walk.old e → AreParts description.now.items walk.new.components.items (length walk.new.components.items) (in_list (placed (at.now ++ number ∷ []) f)) (item_parts e (at.now ++ number ∷ []) (Instance shell.now of.now))) }
+    ensures stands { IfOk result (λ f. (e : Standing) → Stands description.now.items walk.old e → Stands description.now.items walk.new e) }
+    ensures behind { IfOk result (λ f. IsBehind walk.old walk.new) }
 {
     match of {
         Of::Anonymous(component) => {
-            let component = finish(alloc, description, at, component, walk)?;
-            Ok(Some(Part {
-                at: at.copy(),
-                shell,
-                component,
-            }))
+            let component = finish(alloc, description, &at.inside(number), component, walk)?;
+            Ok(Some(Found { shell, component }))
         }
-        Of::Named(name) => Ok(named_part(at, shell, name, &walk.types)),
+        Of::Named(name) => Ok(named_part(shell, name, &walk.types)),
     }
 }
 
-/// Lays out what the item at this address holds, and goes on behind it. The part is that of an instance.
+/// Lays out what this item of the body at this address holds, and goes on behind it. What is found is an instance.
 #[cycle(walk)]
 #[tactic(auto, using(crate::proofs::Goings::goings))]
 fn walk_item<'a>(
     alloc: Global,
     description: &'a Description,
     at: &Address,
+    number: usize,
     item: &'a Item,
     walk: &mut Walk<'a>,
-) -> Result<Option<Part<'a>>, AllocError>
+) -> Result<Option<Found<'a>>, AllocError>
     requires nesting { depth description.now.items ≤ 16 }
-    requires room { length at.now + depth (items_of (item.now ∷ [])) ≤ 17 }
-    ensures part { IfOk result (λ p. (e : Standing) → Stands description.now.items walk.old e → AreParts description.now.items walk.new.components.items (length walk.new.components.items) (in_list p) (item_parts e at.now item.now)) }
-    ensures stands { IfOk result (λ p. (e : Standing) → Stands description.now.items walk.old e → Stands description.now.items walk.new (after_item at.now item.now e)) }
-    ensures behind { IfOk result (λ p. IsBehind walk.old walk.new) }
+    requires room { length at.now + depth (items_of (item.now ∷ [])) ≤ 16 }
+    ensures part { IfOk result (λ f. (e : Standing) → Stands description.now.items walk.old e → AreParts description.now.items walk.new.components.items (length walk.new.components.items) (in_list (placed (at.now ++ number ∷ []) f)) (item_parts e (at.now ++ number ∷ []) item.now)) }
+    ensures stands { IfOk result (λ f. (e : Standing) → Stands description.now.items walk.old e → Stands description.now.items walk.new (after_item (at.now ++ number ∷ []) item.now e)) }
+    ensures behind { IfOk result (λ f. IsBehind walk.old walk.new) }
 {
     match item {
         Item::Define(name, component) => {
-            let number = finish(alloc, description, at, component, walk)?;
-            walk.types.push(name, number)?;
+            let component = finish(alloc, description, &at.inside(number), component, walk)?;
+            walk.types.push(name, component)?;
             Ok(None)
         }
-        Item::Instance(shell, of) => walk_instance(alloc, description, at, shell, of, walk),
+        Item::Instance(shell, of) => {
+            walk_instance(alloc, description, at, number, shell, of, walk)
+        }
         Item::Default(name, value) => {
             walk.defaults.push(name, value)?;
             Ok(None)
@@ -192,9 +196,11 @@ fn walk_items<'a>(
     ensures behind { IfOk result (λ ps. IsBehind walk.old walk.new) }
 {
     let mut parts = Vec::with_capacity(alloc, items.len())?;
+    let mut shared = None;
     for (i, item) in items.iter().enumerate() {
-        if let Some(part) = walk_item(alloc, description, &at.inside(i), item, walk)? {
-            parts.push(part)?;
+        if let Some(found) = walk_item(alloc, description, at, i, item, walk)? {
+            let around = share(alloc, at, &mut shared)?;
+            parts.push(Part::new(around, i, found.shell, found.component))?;
         }
     }
     Ok(parts)

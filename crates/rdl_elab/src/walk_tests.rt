@@ -1,5 +1,5 @@
 //! Tests that the walk succeeds with ample memory, on a map whose layout is known.
-use crate::layout::Span;
+use crate::layout::{Mode, Span};
 use crate::walk::{Walked, lay_out_item};
 use rdl_text::name::Name;
 use rdl_tree::description::{Body, Component, Description, Item, Of};
@@ -79,8 +79,13 @@ fn lays_out_each_type_once(rt: HostRuntime) -> Result<(), Fail> {
         return Err(Fail::new("no top"));
     };
     assert_eq!(rt; (top.levels, top.rows), (3, 8));
-    assert!(rt; are_starts(top.layouts.regalign.spans.as_slice(), &[0, 4, 0x10, 0x14]));
-    assert!(rt; top.layouts.compact.size == 0x14);
+    assert!(rt;
+        are_starts(
+            top.layouts.under(Mode::Regalign).spans.as_slice(),
+            &[0, 4, 0x10, 0x14]
+        )
+    );
+    assert!(rt; top.layouts.under(Mode::Compact).size == 0x14);
     match &top.first_empty {
         Some(address) => assert_eq!(rt; address.as_slice(), [1, 3].as_slice()),
         None => assert!(rt; false),

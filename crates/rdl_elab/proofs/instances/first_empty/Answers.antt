@@ -1,6 +1,5 @@
 use Rattle.std.proofs.Common.{Some, None, refl, sym, ◌∙◌}
-use Rattle.std.proofs.lemmas.Option.{slice_get_past}
-use Rattle.rdl_elab.proofs.Insides.{found-read, empty-more, or-some, or-empty}
+use Rattle.rdl_elab.proofs.Insides.{empty-more, or-some, or-empty}
 use Rattle.rdl_elab.proofs.instances.first_empty.Goals as goal
 use Rattle.rdl_elab.proofs.instances.first_empty.Goals.{in-Some+else-is_some, in_default}
 
@@ -9,20 +8,18 @@ returns-then-is_some c =
     let fs = c.args.components.now in
     let p = c.part-item.result in
     let f = c.in-Some.finished.now in
-    let at = c.in-Some.ensures.lookup in
     or-some c.empty_part-empty.result _ _ (sym c.is_some.ensures ∙ c.if-is_some.true)
-    (empty-more fs c.loop-part.part-index c.args.parts.now p (Some f) c.loop-part-test.true c.part-item.is (found-read fs p.component f at.3.0 at.1) c.empty_part-empty.result _ c.empty_part-empty.ensures c.loop-part.invariant)
+    (empty-more fs c.loop-part.part-index c.args.parts.now p (Some f) c.loop-part-test.true c.part-item.is (sym c.in-Some.ensures) c.empty_part-empty.result _ c.empty_part-empty.ensures c.loop-part.invariant)
 
 pub loop-part-preserved : goal.loop-part-preserved
 loop-part-preserved c =
     let fs = c.args.components.now in
     let p = c.part-item.result in
-    elim c.match-get.branch [
+    elim c.match-component.branch [
       | in-Some+else-is_some w ↦
           let f = w.in-Some.finished.now in
-          let at = w.in-Some.ensures.lookup in
           or-empty w.empty_part-empty.result _ _ (sym w.is_some.ensures ∙ w.if-is_some.false)
-          (empty-more fs c.loop-part.part-index c.args.parts.now p (Some f) c.loop-part-test.true c.part-item.is (found-read fs p.component f at.3.0 at.1) w.empty_part-empty.result _ w.empty_part-empty.ensures c.loop-part.invariant)
+          (empty-more fs c.loop-part.part-index c.args.parts.now p (Some f) c.loop-part-test.true c.part-item.is (sym w.in-Some.ensures) w.empty_part-empty.result _ w.empty_part-empty.ensures c.loop-part.invariant)
       | in_default w ↦
-          empty-more fs c.loop-part.part-index c.args.parts.now p None c.loop-part-test.true c.part-item.is (slice_get_past fs p.component w.in_default.ensures.lookup.3) None _ refl c.loop-part.invariant
+          empty-more fs c.loop-part.part-index c.args.parts.now p None c.loop-part-test.true c.part-item.is (sym w.in_default.ensures) None _ refl c.loop-part.invariant
     ]

@@ -1,6 +1,5 @@
-use Rattle.std.proofs.Common.{Some, None, arith}
-use Rattle.std.proofs.lemmas.Option.{slice_get_past}
-use Rattle.rdl_elab.proofs.Insides.{found-read, levels-more}
+use Rattle.std.proofs.Common.{sym, Some, None, arith}
+use Rattle.rdl_elab.proofs.Insides.{levels-more}
 use Rattle.rdl_elab.proofs.instances.levels.Goals as goal
 use Rattle.rdl_elab.proofs.instances.levels.Goals.{in-Some, in_default}
 
@@ -8,17 +7,16 @@ pub loop-part-preserved : goal.loop-part-preserved
 loop-part-preserved c =
     let fs = c.args.components.now in
     let p = c.part-item.result in
-    elim c.match-get.branch [
+    elim c.match-component.branch [
       | in-Some w ↦
           let f = w.in-Some.finished.now in
-          let at = w.in-Some.ensures.lookup in
           record {
-            so_far = levels-more fs c.loop-part.part-index c.args.parts.now p (Some f) c.loop-part-test.true c.part-item.is (found-read fs p.component f at.3.0 at.1) c.loop-part.levels c.match-get.levels _ (omega arith) c.loop-part.invariant.so_far;
+            so_far = levels-more fs c.loop-part.part-index c.args.parts.now p (Some f) c.loop-part-test.true c.part-item.is (sym w.in-Some.ensures) c.loop-part.levels c.match-component.levels _ (omega arith) c.loop-part.invariant.so_far;
             small = omega arith;
           }
       | in_default w ↦
           record {
-            so_far = levels-more fs c.loop-part.part-index c.args.parts.now p None c.loop-part-test.true c.part-item.is (slice_get_past fs p.component w.in_default.ensures.lookup.3) c.loop-part.levels c.match-get.levels _ (omega arith) c.loop-part.invariant.so_far;
+            so_far = levels-more fs c.loop-part.part-index c.args.parts.now p None c.loop-part-test.true c.part-item.is (sym w.in_default.ensures) c.loop-part.levels c.match-component.levels _ (omega arith) c.loop-part.invariant.so_far;
             small = omega arith;
           }
     ]

@@ -15,8 +15,8 @@ add_rows-returns-in_default t c =
     let none : slice_get c.args.spans.now c.loop-i.i ≡ None = search rules in
     told-end c.loop-i.rows.items _ _ (no-span c.args.components.now (deeper c.args.levels c.args.components.now) c.args.around.now c.args.spans.now c.args.parts.now c.loop-i.i c.loop-i.siblings none) c.loop-i.invariant
 
-pub add_rows-returns-in_default-component_of : goal.add_rows-returns-in_default-component_of
-add_rows-returns-in_default-component_of t c =
+pub add_rows-returns-in_default-component : goal.add_rows-returns-in_default-component
+add_rows-returns-in_default-component t c =
     let span : slice_get c.args.spans.now c.loop-i.i ≡ Some c.in-Some.span = search rules in
     let part : slice_get c.args.parts.now c.loop-i.i ≡ Some c.index-parts-i.result = slice_get_read c.args.parts.now (length c.args.parts.now) c.loop-i.i c.index-parts-i.result refl c.loop-i-test.true c.index-parts-i.is in
     let none : slice_get c.args.components.now c.index-parts-i.result.component ≡ None = search rules in
@@ -26,7 +26,7 @@ pub add_rows-returns-then-is_some : goal.add_rows-returns-then-is_some
 add_rows-returns-then-is_some t c =
     let fs = c.args.components.now in
     let p = c.index-parts-i.result in
-    let f = c.in-Some-component_of.component.now in
+    let f = c.in-Some-component.component.now in
     let span : slice_get c.args.spans.now c.loop-i.i ≡ Some c.in-Some.span = search rules in
     let part : slice_get c.args.parts.now c.loop-i.i ≡ Some p = slice_get_read c.args.parts.now (length c.args.parts.now) c.loop-i.i p refl c.loop-i-test.true c.index-parts-i.is in
     let there : slice_get fs p.component ≡ Some f = search rules in
@@ -42,7 +42,7 @@ pub add_rows-returns-then-is_some-2 : goal.add_rows-returns-then-is_some-2
 add_rows-returns-then-is_some-2 t c =
     let fs = c.args.components.now in
     let p = c.index-parts-i.result in
-    let f = c.in-Some-component_of.component.now in
+    let f = c.in-Some-component.component.now in
     let span : slice_get c.args.spans.now c.loop-i.i ≡ Some c.in-Some.span = search rules in
     let part : slice_get c.args.parts.now c.loop-i.i ≡ Some p = slice_get_read c.args.parts.now (length c.args.parts.now) c.loop-i.i p refl c.loop-i-test.true c.index-parts-i.is in
     let there : slice_get fs p.component ≡ Some f = search rules in
@@ -60,7 +60,7 @@ pub add_rows-loop-i-preserved : goal.add_rows-loop-i-preserved
 add_rows-loop-i-preserved t c =
     let fs = c.args.components.now in
     let p = c.index-parts-i.result in
-    let f = c.in-Some-component_of.component.now in
+    let f = c.in-Some-component.component.now in
     let span : slice_get c.args.spans.now c.loop-i.i ≡ Some c.in-Some.span = search rules in
     let part : slice_get c.args.parts.now c.loop-i.i ≡ Some p = slice_get_read c.args.parts.now (length c.args.parts.now) c.loop-i.i p refl c.loop-i-test.true c.index-parts-i.is in
     let there : slice_get fs p.component ≡ Some f = search rules in

@@ -1,20 +1,25 @@
-use Rattle.std.proofs.Common.{◌≡◌, ◌∷◌, ◌+◌, ◌-◌, ◌*◌, ◌<◌, List, [], length, take, drop, ◌++◌, refl, ap, sym, subst, ◌∙◌, arith, length-append}
+use Rattle.std.proofs.Common.{◌≡◌, ℕ, ◌∷◌, ◌+◌, ◌-◌, ◌*◌, ◌<◌, List, [], length, take, drop, ◌++◌, refl, ap, sym, subst, ◌∙◌, arith}
+use Rattle.std.specs.Prelude.{IfSome}
 use Rattle.rdl_tree.specs.View.{items_of}
+use Rattle.rdl_tree.specs.declared.shell.Shell.{Shell}
 use Rattle.rdl_tree.specs.declared.description.Item.{Item}
 use Rattle.rdl_tree.specs.declared.description.Of.{Of}
 use Rattle.rdl_tree.specs.declared.description.Item.TheVariants.{Instance}
 use Rattle.rdl_scope.specs.Closed.{parts, standing}
-use Rattle.rdl_elab.specs.declared.finished.Part.{Part}
+use Rattle.rdl_elab.specs.Kept.{Part}
 use Rattle.rdl_elab.specs.declared.walk.Walk.{Walk}
-use Rattle.rdl_elab.specs.Finished.{AreParts}
-use Rattle.rdl_elab.specs.Stands.{made_at, after_item, item_parts, in_list, Stands}
+use Rattle.rdl_elab.specs.Finished.{AreParts, IsFinished}
+use Rattle.rdl_elab.specs.Stands.{made_at, after_item, item_parts, in_list, placed, Stands}
 use Rattle.rdl_elab.proofs.Goings.{append_nil, grows-on, grows-push, item-room, body-room, stands-grow, stands-define, finished-part, named-part, made-last, stands-next, parts-next, behind-on}
 use Rattle.rdl_elab.proofs.walk.+walk.Goals as goal
-use Rattle.rdl_elab.proofs.walk.+walk.Goals.{walk_items-in-Some+in_ok-push, walk_items-in_default}
+use Rattle.rdl_elab.proofs.walk.+walk.Goals.{walk_items-in-Some+in_ok-around+in_ok-push, walk_items-in_default}
+
+abbrev part-at : ℕ → Shell → ℕ → List ℕ → Part
+part-at i s k b = record { at = b ++ i ∷ []; shell = s; component = k }
 
 pub finish-walk_items-requires : goal.finish-walk_items-requires
 finish-walk_items-requires t c =
-    let less : 4 * (17 - length c.args.at.now) < t = omega (arith, c.decreases) in
+    let less : 4 * (17 - length c.args.at.now) + 3 < t = omega (arith, c.decreases) in
     (less, (c.requires.nesting, body-room c.args.at.now c.args.component.now.body c.as_slice.result.now c.as_slice.ensures c.requires.room))
 
 pub finish-returns-clause-made : goal.finish-returns-clause-made
@@ -35,43 +40,57 @@ finish-returns-clause-components t c =
     let mid = c.walk_items.new.walk.components.items in
     grows-on c.args.walk.now.components.items mid c.push.new.self.items c.in_ok-parts.ensures.behind.components (grows-push mid c.push.new.self.items c.in_ok-finished.finished c.in_ok-push.ensures.items)
 
+pub walk_items-walk_item-requires : goal.walk_items-walk_item-requires
+walk_items-walk_item-requires t c =
+    let less : 4 * (17 - length c.args.at.now) + 2 < t = omega (arith, c.decreases) in
+    (less, (c.requires.nesting, item-room c.args.at.now c.loop-i.i c.args.items.now c.index-items-i.result c.loop-i-test.true c.index-items-i.is c.requires.room))
+
 pub walk_item-returns-in_ok-push-in-Define-clause-stands :
     goal.walk_item-returns-in_ok-push-in-Define-clause-stands
 walk_item-returns-in_ok-push-in-Define-clause-stands t c = λ e h.
     let d = c.args.description.now.items in
+    let at = c.args.at.now ++ c.args.number ∷ [] in
     let old = c.args.walk.now in
     let mid = c.finish.new.walk in
     let new : Walk = record { types = c.push.new.self; defaults = mid.defaults; components = mid.components; built_ins = mid.built_ins } in
-    let k = c.in_ok-number-in-Define.number in
-    let all = c.in_ok-number-in-Define.ensures in
-    subst (λ (x : Item). Stands d new (after_item c.args.at.now x e)) (sym c.in-Define.is)
-    (stands-define d old new e c.args.at.now c.in-Define.name k c.in-Define.component (c.in_ok-push-in-Define.ensures ∙ ap (λ ts. (c.in-Define.name, k) ∷ ts) all.types) all.defaults all.components (all.made e h) h)
-
-pub walk_items-walk_item-requires : goal.walk_items-walk_item-requires
-walk_items-walk_item-requires t c =
-    let n = ap length c.inside.ensures in
-    let less : 4 * (17 - length c.inside.result) + 3 < t = omega (arith, c.decreases, n, length-append c.args.at.now (c.loop-i.i ∷ []), c.requires.room) in
-    (less, (c.requires.nesting, item-room c.args.at.now c.inside.result c.loop-i.i c.args.items.now c.index-items-i.result c.loop-i-test.true c.index-items-i.is c.inside.ensures c.requires.room))
+    let k = c.in_ok-component-in-Define.component in
+    let all = c.in_ok-component-in-Define.ensures in
+    let made : IsFinished d mid.components.items k (made_at e at c.in-Define.component) =
+    subst (λ (a : List ℕ). IsFinished d mid.components.items k (made_at e a c.in-Define.component)) c.inside.ensures (all.made e h) in
+    subst (λ (x : Item). Stands d new (after_item at x e)) (sym c.in-Define.is)
+    (stands-define d old new e at c.in-Define.name k c.in-Define.component (c.in_ok-push-in-Define.ensures ∙ ap (λ ts. (c.in-Define.name, k) ∷ ts) all.types) all.defaults all.components made h)
 
 pub walk_items-loop-i-preserved : goal.walk_items-loop-i-preserved
 walk_items-loop-i-preserved t c =
     let d = c.args.description.now.items in
+    let b = c.args.at.now in
     let new = c.walk_item.new.walk in
-    let all = c.in_ok-part.ensures in
+    let all = c.in_ok-found.ensures in
     let xs = c.args.items.now in
     let i = c.loop-i.i in
-    let after : c.match-branch-3.parts.items ≡ c.loop-i.parts.items ++ in_list c.in_ok-part.field-0 =
+    let at = b ++ i ∷ [] in
+    let done = c.loop-i.parts.items in
+    let after : c.match-branch-3.parts.items ≡ done ++ in_list (placed at c.in_ok-found.field-0) =
     elim c.match-branch-3.branch [
-      | walk_items-in-Some+in_ok-push w ↦ ap (λ v. v.items) w.parts-is ∙ w.in_ok-push.ensures.items ∙ ap (λ o. c.loop-i.parts.items ++ in_list o) (sym w.in-Some.is)
-      | walk_items-in_default w ↦ ap (λ v. v.items) w.parts-is ∙ sym (append_nil c.loop-i.parts.items) ∙ ap (λ o. c.loop-i.parts.items ++ in_list o) (sym w.in_default.is)
+      | walk_items-in-Some+in_ok-around+in_ok-push w ↦
+          ap (λ v. v.items) w.parts-is ∙ w.in_ok-push.ensures.items
+          ∙ ap (λ (p : Part). done ++ p ∷ []) (w.new.ensures ∙ ap (part-at i w.in-Some.found.shell.now w.in-Some.found.component) w.in_ok-around.ensures.address)
+          ∙ ap (λ o. done ++ in_list (placed at o)) (sym w.in-Some.is)
+      | walk_items-in_default w ↦ ap (λ v. v.items) w.parts-is ∙ sym (append_nil done) ∙ ap (λ o. done ++ in_list (placed at o)) (sym w.in_default.is)
+    ] in
+    let shared : IfSome c.match-branch-3.shared (λ a. a ≡ b) =
+    elim c.match-branch-3.branch [
+      | walk_items-in-Some+in_ok-around+in_ok-push w ↦ subst (λ o. IfSome o (λ a. a ≡ b)) (sym w.shared-is) w.share.ensures.shared
+      | walk_items-in_default w ↦ subst (λ o. IfSome o (λ a. a ≡ b)) (sym w.shared-is) c.loop-i.invariant.shared
     ] in
     record {
       parts = λ e h.
-          parts-next d c.args.at.now c.inside.result xs i c.index-items-i.result c.loop-i-test.true c.index-items-i.is c.inside.ensures e c.loop-i.walk.components.items new.components.items c.loop-i.parts.items c.match-branch-3.parts.items
-          c.in_ok-part.field-0 all.behind.components after (c.loop-i.invariant.parts e h) (all.part (standing e c.args.at.now 0 (items_of (take i xs))) (c.loop-i.invariant.stands e h));
+          parts-next d b at xs i c.index-items-i.result c.loop-i-test.true c.index-items-i.is refl e c.loop-i.walk.components.items new.components.items done c.match-branch-3.parts.items (placed at c.in_ok-found.field-0) all.behind.components
+          after (c.loop-i.invariant.parts e h) (all.part (standing e b 0 (items_of (take i xs))) (c.loop-i.invariant.stands e h));
       stands = λ e h.
-          stands-next d c.args.at.now c.inside.result xs i c.index-items-i.result c.loop-i-test.true c.index-items-i.is c.inside.ensures e new
-          (all.stands (standing e c.args.at.now 0 (items_of (take i xs))) (c.loop-i.invariant.stands e h));
+          stands-next d b at xs i c.index-items-i.result c.loop-i-test.true c.index-items-i.is refl e new
+          (all.stands (standing e b 0 (items_of (take i xs))) (c.loop-i.invariant.stands e h));
+      shared = shared;
       behind = behind-on c.args.walk.now c.loop-i.walk new c.loop-i.invariant.behind all.behind;
     }
 
@@ -79,12 +98,15 @@ pub walk_instance-returns-in_ok-component-in-Anonymous-clause-part :
     goal.walk_instance-returns-in_ok-component-in-Anonymous-clause-part
 walk_instance-returns-in_ok-component-in-Anonymous-clause-part t c = λ e h.
     let d = c.args.description.now.items in
+    let at = c.args.at.now ++ c.args.number ∷ [] in
     let made = c.in-Anonymous.component in
     let new = c.finish.new.walk.components.items in
+    let k = c.in_ok-component-in-Anonymous.component in
     let all = c.in_ok-component-in-Anonymous.ensures in
-    let p : Part = record { at = c.copy.result; shell = c.args.shell; component = c.in_ok-component-in-Anonymous.component } in
-    subst (λ (o : Of). AreParts d new (length new) (p ∷ []) (item_parts e c.args.at.now (Instance c.args.shell.now o))) (sym c.in-Anonymous.is)
-    (finished-part d new c.in_ok-component-in-Anonymous.component (made_at e c.args.at.now made) c.args.at.now c.args.shell.now p (all.made e h) c.copy.ensures refl refl)
+    let p : Part = record { at = at; shell = c.args.shell.now; component = k } in
+    let here : IsFinished d new k (made_at e at made) = subst (λ (a : List ℕ). IsFinished d new k (made_at e a made)) c.inside.ensures (all.made e h) in
+    subst (λ (o : Of). AreParts d new (length new) (p ∷ []) (item_parts e at (Instance c.args.shell.now o))) (sym c.in-Anonymous.is)
+    (finished-part d new k (made_at e at made) at c.args.shell.now p here refl refl refl)
 
 pub walk_instance-returns-in_ok-component-in-Anonymous-clause-stands :
     goal.walk_instance-returns-in_ok-component-in-Anonymous-clause-stands
@@ -95,6 +117,7 @@ walk_instance-returns-in_ok-component-in-Anonymous-clause-stands t c = λ e h.
 pub walk_instance-returns-in-Named-clause-part : goal.walk_instance-returns-in-Named-clause-part
 walk_instance-returns-in-Named-clause-part t c = λ e h.
     let d = c.args.description.now.items in
+    let at = c.args.at.now ++ c.args.number ∷ [] in
     let fs = c.args.walk.now.components.items in
-    subst (λ (o : Of). AreParts d fs (length fs) (in_list c.named_part.result) (item_parts e c.args.at.now (Instance c.args.shell.now o))) (sym c.in-Named.is)
-    (named-part d fs c.args.at.now c.args.shell.now c.in-Named.name c.named_part.result c.args.walk.now.types e.types h.types c.named_part.ensures)
+    subst (λ (o : Of). AreParts d fs (length fs) (in_list (placed at c.named_part.result)) (item_parts e at (Instance c.args.shell.now o))) (sym c.in-Named.is)
+    (named-part d fs at c.args.shell.now c.in-Named.name c.named_part.result c.args.walk.now.types e.types h.types c.named_part.ensures)
