@@ -1,10 +1,9 @@
 -- What is found by what is kept of the instances' components is what the component has.
-use Rattle.std.proofs.Common.{◌≡◌, ℕ, ◌+◌, ◌≤◌, ◌<◌, true, false, List, [], ◌∷◌, map, length, drop, get_or, Option, Some, None, refl, ap, sym, ◌∙◌, arith, add-one, drop-cons, ◌++◌, append_assoc}
+use Rattle.std.proofs.Common.{◌≡◌, ℕ, ◌+◌, ◌≤◌, ◌<◌, List, [], ◌∷◌, map, length, drop, get_or, Option, Some, None, refl, ap, sym, ◌∙◌, arith, add-one, drop-cons, ◌++◌, append_assoc}
 use Rattle.std.specs.Prelude.{max, min, option_map, slice_get, if◌then◌else◌}
-use Rattle.std.specs.Option.{option_or, is_some}
+use Rattle.std.specs.Option.{option_or}
 use Rattle.std.specs.List.{cons_option}
 use Rattle.std.proofs.lemmas.List.{drop_all}
-use Rattle.std.proofs.lemmas.Option.{slice_get-get_or}
 use Rattle.rdl_elab.specs.declared.layout.Member.{Member}
 use Rattle.rdl_tree.specs.Items.{Items}
 use Rattle.rdl_tree.specs.declared.shell.Kind.{Kind}
@@ -155,9 +154,6 @@ module _ (fs : List Finished) (i : ℕ) (ps : List Part) (p : Part) (h : i < len
 pub same-all : (fs : List Finished) (i : ℕ) (ps : List Part) → length ps ≤ i → (AreSame fs (drop i ps) → AreSame fs ps) → AreSame fs ps
 same-all fs i ps h inv = inv (λ m. kept-none m fs i ps h ∙ sym (kept-none Compact fs i ps h))
 
-pub found-read : (fs : List Finished) (k : ℕ) (f : Finished) → k < length fs → f ≡ get_or fs k f → slice_get fs k ≡ Some f
-found-read fs k f h e = slice_get-get_or fs k f h ∙ ap Some (sym e)
-
 abbrev shown_members : List (Shell × Layout) → List Member
 shown_members xs = map counted_member (map member xs)
 
@@ -209,14 +205,6 @@ module _ (fs : List Finished) (i : ℕ) (ps : List Part) (p : Part) (o : Option 
       let one : kept_empty fs (drop i ps) ≡ option_or (part_empty p o) r =
       empty-next fs i ps p h ∙ ap (λ (q : Part). option_or (part_empty q (slice_get fs q.component)) r) (sym is) ∙ ap (λ x. option_or (part_empty p x) r) found in
       ap (λ x. option_or x r) g ∙ sym one ∙ inv
-
-pub or-some : {X : Type 0} (a r w : Option X) → is_some a ≡ true → option_or a r ≡ w → a ≡ w
-or-some None r w h e = cc
-or-some (Some x) r w h e = e
-
-pub or-empty : {X : Type 0} (a r w : Option X) → is_some a ≡ false → option_or a r ≡ w → r ≡ w
-or-empty None r w h e = e
-or-empty (Some x) r w h e = cc
 
 pub layouts-are : (d : Items) (fs : List Finished) (n : ℕ) (ps : List Part) (inside : Parts) (h : Head) (v : LayoutValues) (ls : Layouts) → v ≡ values_of h → AreParts d fs n ps inside
     → ((m : Mode) → under m ls ≡ capped_layout (laid_out h.kind v (mode_inside h.kind v m) (map member (kept_parts (mode_inside h.kind v m) fs ps))))

@@ -22,7 +22,6 @@ under Fullalign l = l.fullalign
 
 -- all but its instances
 pub record IsKept (d : Items) (f : Finished) (c : Made) : Type 0 where
-  pub at : f.at ≡ c.head.at
   pub kind : f.kind ≡ c.head.kind
   pub values : f.values ≡ values_of c.head
   pub shown : f.shown ≡ shown_values c.head

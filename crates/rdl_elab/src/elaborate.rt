@@ -117,7 +117,7 @@ fn map_fault(at: &Address, top: &Finished) -> Option<Fault>
         return Some(fault_at(at, FaultKind::TooManyRows));
     }
     match &top.first_empty {
-        Some(first) => Some(fault_at(first, FaultKind::EmptyComponent)),
+        Some(first) => Some(fault_at(first.as_address(), FaultKind::EmptyComponent)),
         None if top.layouts.under(Mode::Regalign).size > MAX_SIZE => Some(fault_at(
             at,
             FaultKind::MapTooLarge,

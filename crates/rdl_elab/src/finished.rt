@@ -168,7 +168,6 @@ impl Layouts {
 /// A component, once for all its instances, with all that its rows and their faults need.
 #[derive(Drop)]
 pub(crate) struct Finished<'a> {
-    pub at: Address,
     pub kind: Kind,
     pub values: LayoutValues,
     /// Its values as rows show them.
@@ -182,5 +181,5 @@ pub(crate) struct Finished<'a> {
     /// The rows below it, at most 65,536.
     pub rows: usize,
     /// The first instance below it of a register file or address map without instances.
-    pub first_empty: Option<Address>,
+    pub first_empty: Option<SharedAddress>,
 }

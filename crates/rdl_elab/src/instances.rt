@@ -12,8 +12,8 @@ ghost use Rattle.rdl_elab.specs.Inside.{counted, counted_member, kept_parts, kep
 use crate::component::lay_out;
 use crate::finished::{Finished, Layouts, Part, ThreeLayouts};
 use crate::layout::{FieldBits, Layout, LayoutValues, Member, Mode, Placement};
+use crate::shared::SharedAddress;
 use rdl_scope::shells::product;
-use rdl_tree::address::Address;
 use rdl_tree::shell::{Kind, Shell};
 use std::alloc::{AllocError, Global};
 
@@ -220,39 +220,46 @@ fn is_empty(kind: Kind, parts: &[Part]) -> bool
     }
 }
 
-fn copied(address: Option<&Address>) -> Option<Address>
-    ensures { result ≡ option_copied address.entry }
+fn shared(address: Option<&SharedAddress>) -> Result<Option<SharedAddress>, AllocError>
+    ensures { IfOk result (λ shared. shared ≡ option_copied address.entry) }
 {
     match address {
-        Some(address) => Some(address.copy()),
-        None => None,
+        Some(address) => Ok(Some(address.share()?)),
+        None => Ok(None),
     }
 }
 
 /// The instance, if its component is a register file or address map without instances, or the first such instance below
 /// it.
-fn empty_part(part: &Part, finished: &Finished) -> Option<Address>
-    ensures { result ≡ part_empty part.now (Some finished.now) }
+fn empty_part(
+    alloc: Global,
+    part: &Part,
+    finished: &Finished,
+) -> Result<Option<SharedAddress>, AllocError>
+    ensures { IfOk result (λ empty. empty ≡ part_empty part.now (Some finished.now)) }
 {
     if is_empty(finished.kind, finished.parts.as_slice()) {
-        Some(part.at())
+        Ok(Some(SharedAddress::new(alloc, part.at())?))
     } else {
-        copied(finished.first_empty.as_ref())
+        shared(finished.first_empty.as_ref())
     }
 }
 
 /// The first of these instances, or below them, of a register file or address map without instances.
 #[tactic(auto, using(crate::proofs::Insides::steps))]
-pub(crate) fn first_empty(parts: &[Part], components: &[Finished]) -> Option<Address>
-    ensures { result ≡ kept_empty components.now parts.now }
+pub(crate) fn first_empty(
+    alloc: Global,
+    parts: &[Part],
+    components: &[Finished],
+) -> Result<Option<SharedAddress>, AllocError>
+    ensures { IfOk result (λ empty. empty ≡ kept_empty components.now parts.now) }
 {
     for part in parts {
         if let Some(finished) = part.component(components) {
-            let empty = empty_part(part, finished);
-            if empty.is_some() {
-                return empty;
+            if let Some(empty) = empty_part(alloc, part, finished)? {
+                return Ok(Some(empty));
             }
         }
     }
-    None
+    Ok(None)
 }

@@ -66,8 +66,8 @@ fn finished<'a>(
     let shown = shown_values(alloc, kind, body, &walk.defaults, &walk.built_ins)?;
     let assignments = assignments(alloc, description, at, body)?;
     let layouts = layouts(alloc, kind, values, parts.as_slice(), components)?;
+    let first_empty = first_empty(alloc, parts.as_slice(), components)?;
     Ok(Finished {
-        at: at.copy(),
         kind,
         values,
         shown,
@@ -75,7 +75,7 @@ fn finished<'a>(
         layouts,
         levels: levels(parts.as_slice(), components),
         rows: rows(parts.as_slice(), components),
-        first_empty: first_empty(parts.as_slice(), components),
+        first_empty,
         parts,
     })
 }

@@ -87,7 +87,7 @@ fn lays_out_each_type_once(rt: HostRuntime) -> Result<(), Fail> {
     );
     assert!(rt; top.layouts.under(Mode::Compact).size == 0x14);
     match &top.first_empty {
-        Some(address) => assert_eq!(rt; address.as_slice(), [1, 3].as_slice()),
+        Some(address) => assert_eq!(rt; address.as_address().as_slice(), [1, 3].as_slice()),
         None => assert!(rt; false),
     }
     assert!(rt; laid_out(rt.alloc(), &description, 2)?.is_none());

@@ -22,13 +22,12 @@ returns-clause-kept c = λ e inside n same are.
     let moved = λ (ps : List Part) (g : ps ≡ c.args.parts.items).
     subst (λ (gs : List Finished). AreParts d gs n ps inside) (sym c.as_slice-components.ensures.value) (subst (λ (qs : List Part). AreParts d c.args.walk.now.components.items n qs inside) (sym g) are) in
     record {
-      at = c.copy.ensures;
       kind = refl;
       values = c.layout_values-values.ensures h refl (sym same);
       shown = c.in_ok-shown.ensures h refl refl (sym same);
       assignments = c.in_ok-assignments.ensures;
       layouts = layouts-are d fs n c.as_slice.result.now inside h c.layout_values-values.result c.in_ok-layouts.layouts (c.layout_values-values.ensures h refl (sym same)) (moved c.as_slice.result.now c.as_slice.ensures.value) c.in_ok-layouts.ensures;
-      levels = c.levels.ensures ∙ levels-kept d fs n c.as_slice-2.result.now inside (moved c.as_slice-2.result.now c.as_slice-2.ensures.value);
-      rows = c.rows.ensures ∙ rows-kept d fs n c.as_slice-3.result.now inside (moved c.as_slice-3.result.now c.as_slice-3.ensures.value);
-      first_empty = c.first_empty.ensures ∙ empty-kept d fs n c.as_slice-4.result.now inside (moved c.as_slice-4.result.now c.as_slice-4.ensures.value);
+      levels = c.levels.ensures ∙ levels-kept d fs n c.as_slice-3.result.now inside (moved c.as_slice-3.result.now c.as_slice-3.ensures.value);
+      rows = c.rows.ensures ∙ rows-kept d fs n c.as_slice-4.result.now inside (moved c.as_slice-4.result.now c.as_slice-4.ensures.value);
+      first_empty = c.in_ok-first_empty.ensures ∙ empty-kept d fs n c.as_slice-2.result.now inside (moved c.as_slice-2.result.now c.as_slice-2.ensures.value);
     }
