@@ -19,6 +19,7 @@ pub mod Goings
 pub mod Roots
 pub mod DefaultStacks
 pub mod ValueLists
+pub mod ListedValues
 pub mod BareHeads
 pub mod Unstated
 pub mod Tops

@@ -1,5 +1,5 @@
 -- A component that states nothing has the built-in values alone.
-use Rattle.std.proofs.Common.{◌≡◌, ℕ, List, [], ◌∷◌, length, true, false, None, Bool, not, refl, sym, arith, option_map}
+use Rattle.std.proofs.Common.{◌≡◌, ℕ, List, [], ◌∷◌, length, false, None, refl, sym, arith, option_map}
 use Rattle.std.specs.Prelude.{if◌then◌else◌}
 use Rattle.std.specs.List.{filter_map, list_any}
 use Rattle.std.specs.Option.{option_or}
@@ -42,7 +42,3 @@ shown-unstated k t ds none =
     let all : (xs : List Property) → shown_among (bare k t ds) xs ≡ shown_among (bare k no_items []) xs =
     λ xs i. filter_map (λ p. option_map (valued p) (if on p k then option_map (shown (row p).form) (value-unstated k t ds none p i) else None)) xs in
     all properties
-
-pub not-true : (b : Bool) → not b ≡ true → b ≡ false
-not-true true e = absurd (false≢true e)
-not-true false e = refl

@@ -9,13 +9,12 @@ use Rattle.rdl_tree.specs.Items.{Items}
 use Rattle.rdl_tree.specs.declared.shell.Kind.{Kind}
 use Rattle.rdl_tree.specs.declared.property.Property.{Property}
 use Rattle.rdl_tree.specs.declared.value.Value.{Value}
-use Rattle.rdl_elab.specs.declared.row.PropertyValue.{PropertyValue}
 use Rattle.rdl_elab.specs.Rows.{valued}
 use Rattle.rdl_elab.specs.Shown.{bare, shown_value, shown_among}
-use Rattle.rdl_elab.specs.Reaches.{Reach, value_along, values_among, passed, has_ended, behind}
+use Rattle.rdl_elab.specs.Reaches.{Reach, passed, has_ended, behind}
 
 -- with one item more
-found-next : {X Y : Type 0} (h : X → Option Y) (i : ℕ) (xs : List X) (x : X) → i < length xs → filter_map h (take (i + 1) xs) ≡ filter_map h (take i xs) ++ cons_option (h (get_or xs i x)) []
+pub found-next : {X Y : Type 0} (h : X → Option Y) (i : ℕ) (xs : List X) (x : X) → i < length xs → filter_map h (take (i + 1) xs) ≡ filter_map h (take i xs) ++ cons_option (h (get_or xs i x)) []
 found-next h i xs x l =
     ap (λ n. filter_map h (take n xs)) (add-one i)
     ∙ ap (filter_map h) (take-suc xs i x l)
@@ -34,14 +33,6 @@ shown-some k b ds i xs x v l e = found-some (λ p. option_map (valued p) (shown_
 pub shown-none : (k : Kind) (b : Items) (ds : List (List ℕ × Value)) (i : ℕ) (xs : List Property) (x : Property) → i < length xs → shown_value (bare k b ds) (get_or xs i x) ≡ None
     → shown_among (bare k b ds) (take (i + 1) xs) ≡ shown_among (bare k b ds) (take i xs)
 shown-none k b ds i xs x l e = found-none (λ p. option_map (valued p) (shown_value (bare k b ds) p)) i xs x l (ap (option_map (valued (get_or xs i x))) e)
-
-pub along-some : (k : Kind) (reset : Option ℕ) (rs : List Reach) (values : List PropertyValue) (i : ℕ) (xs : List Property) (x : Property) (v : Value) → i < length xs → value_along k reset rs values (get_or xs i x) ≡ Some v
-    → values_among k reset rs values (take (i + 1) xs) ≡ values_among k reset rs values (take i xs) ++ valued (get_or xs i x) v ∷ []
-along-some k reset rs values i xs x v l e = found-some (λ p. option_map (valued p) (value_along k reset rs values p)) i xs x (valued (get_or xs i x) v) l (ap (option_map (valued (get_or xs i x))) e)
-
-pub along-none : (k : Kind) (reset : Option ℕ) (rs : List Reach) (values : List PropertyValue) (i : ℕ) (xs : List Property) (x : Property) → i < length xs → value_along k reset rs values (get_or xs i x) ≡ None
-    → values_among k reset rs values (take (i + 1) xs) ≡ values_among k reset rs values (take i xs)
-along-none k reset rs values i xs x l e = found-none (λ p. option_map (valued p) (value_along k reset rs values p)) i xs x l (ap (option_map (valued (get_or xs i x))) e)
 
 pub behind-some : (a : List ℕ) (i : ℕ) (rs : List Reach) (r q : Reach) → i < length rs → passed a (get_or rs i r) (get_or rs i r).path ≡ Some q → behind a (take (i + 1) rs) ≡ behind a (take i rs) ++ q ∷ []
 behind-some a i rs r q l e = found-some (λ (r : Reach). passed a r r.path) i rs r q l e
@@ -65,4 +56,4 @@ ended-none i rs r l is e h a =
     no-path q [] e = refl
     no-path q (b ∷ path) e = absurd cc
 
-pub ruleset steps = (shown-some, shown-none, along-some, along-none, behind-some, behind-none, passed-one, passed-none)
+pub ruleset steps = (shown-some, shown-none, behind-some, behind-none, passed-one, passed-none)

@@ -1,15 +1,16 @@
 //! The values of components and of rows.
-ghost use Rattle.std.specs.Prelude.{◌≡◌, ℕ, List, [], true, Some, None, IfOk, option_copied, option_map, bytes_eq};
+ghost use Rattle.std.specs.Prelude.{◌≡◌, ◌++◌, ℕ, List, [], true, Some, None, IfOk, OnOk, IsTrue, option_copied, option_map, bytes_eq};
 ghost use Rattle.std.specs.Option.{option_or};
 ghost use Rattle.rdl_tree.specs.Properties.{row, properties};
 ghost use Rattle.rdl_tree.specs.declared.shell.Kind.{Kind};
 ghost use Rattle.rdl_scope.specs.Closed.{Head, stated, built_in, head_value};
 ghost use Rattle.rdl_scope.specs.Value.{shown};
 ghost use Rattle.rdl_elab.specs.Layouts.{values_of, number_in, power_in, width_in, mode_in};
-ghost use Rattle.std.specs.List.{list_any};
+ghost use Rattle.std.specs.List.{list_any, cons_option};
 ghost use Rattle.rdl_tree.specs.Items.{no_items};
 ghost use Rattle.rdl_elab.specs.Shown.{bare, shown_value, shown_among, shown_values, is_own};
-ghost use Rattle.rdl_elab.specs.Reaches.{value_along, values_among, values_along, reset_value, value_under};
+ghost use Rattle.rdl_elab.specs.Rows.{valued};
+ghost use Rattle.rdl_elab.specs.Reaches.{are_distinct, past, value_along, values_among, values_along, reset_value, value_under};
 
 use crate::built_ins::BuiltIns;
 use crate::defaults::Defaults;
@@ -308,8 +309,32 @@ fn value_along(
     }
 }
 
+fn add_value(
+    items: &mut Vec<PropertyValue>,
+    property: Property,
+    value: Option<Value>,
+) -> Result<(), AllocError>
+    ensures { OnOk result (items.new.items ≡ items.old.items ++ cons_option (option_map (valued property) value) []) }
+{
+    if let Some(value) = value {
+        items.push(PropertyValue { property, value })?;
+    }
+    Ok(())
+}
+
+/// The values behind the first, if that is the value of this property.
+fn past(own: &[PropertyValue], property: Property) -> &[PropertyValue]
+    ensures { result.now ≡ past property own.now }
+{
+    match own {
+        [first, others @ ..] if same_property(first.property, property) => others,
+        _ => own,
+    }
+}
+
 /// The values that there are of these properties of the row of such an instance.
-#[tactic(auto, using(crate::proofs::ValueLists::steps))]
+///
+/// The values of a component stand in the order of the properties, so each is looked for behind those that were found.
 fn values_among(
     alloc: Global,
     kind: Kind,
@@ -318,16 +343,15 @@ fn values_among(
     own: &[PropertyValue],
     properties: &[Property],
 ) -> Result<RowValues, AllocError>
+    requires { IsTrue (are_distinct properties.now) }
     ensures { IfOk result (λ values. values ≡ values_among kind reset reaching.now own.now properties.now) }
 {
-    let mut items = Vec::new(alloc);
-    for property in properties {
-        if let Some(value) = value_along(alloc, kind, reset, reaching, own, *property)? {
-            items.push(PropertyValue {
-                property: *property,
-                value,
-            })?;
-        }
+    let mut items = Vec::with_capacity(alloc, own.len().saturating_add(1))?;
+    let mut rest = own;
+    'properties: for property in properties {
+        let value = value_along(alloc, kind, reset, reaching, rest, *property)?;
+        add_value(&mut items, *property, value)?;
+        rest = past(rest, *property);
     }
     RowValues::from_vec(alloc, items)
 }

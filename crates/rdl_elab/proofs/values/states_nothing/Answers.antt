@@ -1,7 +1,8 @@
 use Rattle.std.proofs.Common.{ap, sym, ◌∙◌}
 use Rattle.std.specs.List.{list_any}
+use Rattle.std.proofs.lemmas.Bool.{not-true}
 use Rattle.rdl_elab.specs.Shown.{is_own}
-use Rattle.rdl_elab.proofs.Unstated.{nothing-stated, not-true}
+use Rattle.rdl_elab.proofs.Unstated.{nothing-stated}
 use Rattle.rdl_elab.proofs.values.states_nothing.Goals as goal
 
 pub returns-then-len-eq0 : goal.returns-then-len-eq0
