@@ -2,19 +2,22 @@
 use Rattle.std.proofs.Common.{◌≡◌, ℕ, zero, suc, ◌+◌, ◌-◌, ◌*◌, ◌^◌, ◌≤◌, ◌<◌, Bool, true, false, List, [], ◌∷◌, map, Option, Some, None, refl, ap, sym, ◌∙◌, arith, ◌⊎◌, inl, inr}
 use Rattle.std.specs.Prelude.{max, min, unwrap_or}
 use Rattle.std.proofs.lemmas.Bool.{cases_lt}
-use Rattle.rdl_tree.specs.declared.shell.Kind.{Kind}
-use Rattle.rdl_tree.specs.declared.shell.Kind.TheVariants.{Addrmap, Regfile, Reg, Field}
+use Rattle.rdl_tree.specs.declared.shell.Shell.{Shell}
+use Rattle.rdl_tree.specs.declared.shell.Kind.TheVariants.{Regfile, Reg}
 use Rattle.rdl_elab.specs.declared.layout.Mode.{Mode}
 use Rattle.rdl_elab.specs.declared.layout.Mode.TheVariants.{Compact, Regalign, Fullalign}
 use Rattle.rdl_elab.specs.declared.layout.Placement.{Placement}
+use Rattle.rdl_elab.specs.declared.layout.FieldBits.{FieldBits}
+use Rattle.rdl_elab.specs.declared.layout.Layout.{Layout}
+use Rattle.rdl_elab.specs.declared.layout.Span.{Span}
 use Rattle.rdl_elab.specs.declared.layout.Member.{Member}
 use Rattle.rdl_elab.specs.declared.layout.LayoutValues.{LayoutValues}
 use Rattle.rdl_elab.specs.Size.{bytes_of, end_of, greatest_end, greatest_access}
 use Rattle.rdl_elab.specs.Start.{full_alignment, mode_alignment, aligned_start, start_by, start_of, spans_from}
 use Rattle.rdl_elab.specs.Bits.{bits_from}
-use Rattle.rdl_elab.specs.Layouts.{container, laid_out}
+use Rattle.rdl_elab.specs.Layouts.{placement, field_bits, member, container, laid_out}
 use Rattle.rdl_elab.specs.Capped.{capped, capped_span, capped_layout}
-use Rattle.rdl_elab.specs.Inside.{counted, counted_member}
+use Rattle.rdl_elab.specs.Inside.{counted, shown_placement}
 use Rattle.rdl_elab.proofs.CappedNumbers.{Alike, over, next_alike}
 use Rattle.rdl_elab.proofs.Placing.{to_span, greatest_capped}
 use Rattle.rdl_elab.proofs.KeptLayouts.{power_alike, max_alike}
@@ -102,21 +105,26 @@ counted-container all m ps =
     sym (greatest_capped (spans_from all m 0 (map counted ps))) ∙ ap greatest_end spans ∙ greatest_capped (spans_from all m 0 ps) in
     λ i. record { size = size i; access = counted-access ps i; spans = spans i }
 
-counted-placements : (ms : List Member) → map (λ (i : Member). i.placement) (map counted_member ms) ≡ map counted (map (λ (i : Member). i.placement) ms)
-counted-placements [] = refl
-counted-placements (x ∷ ms) = ap (λ ps. counted x.placement ∷ ps) (counted-placements ms)
+-- what is taken of the instances
+placements-of : (xs : List (Shell × Layout)) → map (λ (i : Member). i.placement) (map member xs) ≡ map placement xs
+placements-of [] = refl
+placements-of (x ∷ xs) = ap (λ ps. placement x ∷ ps) (placements-of xs)
 
-counted-bits : (ms : List Member) → map (λ (i : Member). i.bits) (map counted_member ms) ≡ map (λ (i : Member). i.bits) ms
-counted-bits [] = refl
-counted-bits (x ∷ ms) = ap (λ bs. x.bits ∷ bs) (counted-bits ms)
+bits-of : (xs : List (Shell × Layout)) → map (λ (i : Member). i.bits) (map member xs) ≡ map field_bits xs
+bits-of [] = refl
+bits-of (x ∷ xs) = ap (λ fs. field_bits x ∷ fs) (bits-of xs)
 
-pub counted-laid_out : (k : Kind) (v : LayoutValues) (m : Mode) (ms : List Member) → capped_layout (laid_out k v m (map counted_member ms)) ≡ capped_layout (laid_out k v m ms)
-counted-laid_out Addrmap v m ms =
-    ap (λ ps. capped_layout (container v.alignment m ps)) (counted-placements ms) ∙ counted-container v.alignment m (map (λ (i : Member). i.placement) ms)
-counted-laid_out Regfile v m ms =
-    ap (λ ps. capped_layout (container v.alignment m ps)) (counted-placements ms) ∙ counted-container v.alignment m (map (λ (i : Member). i.placement) ms)
-counted-laid_out Reg v m ms =
-    ap (λ bs. capped_layout (record { size = bytes_of v.regwidth; access = bytes_of v.accesswidth; spans = bits_from 0 bs })) (counted-bits ms)
-counted-laid_out Field v m ms = refl
+counted-of : (xs : List (Shell × Layout)) → map shown_placement xs ≡ map counted (map placement xs)
+counted-of [] = refl
+counted-of (x ∷ xs) = ap (λ ps. shown_placement x ∷ ps) (counted-of xs)
 
-pub ruleset counts = (counted-laid_out)
+-- a component by what is taken of its instances
+pub container-taken : (v : LayoutValues) (m : Mode) (xs : List (Shell × Layout)) (ps : List Placement) → ps ≡ map shown_placement xs → capped_layout (container v.alignment m ps) ≡ capped_layout (laid_out Regfile v m (map member xs))
+container-taken v m xs ps e =
+    ap (λ qs. capped_layout (container v.alignment m qs)) (e ∙ counted-of xs) ∙ counted-container v.alignment m (map placement xs)
+    ∙ ap (λ qs. capped_layout (container v.alignment m qs)) (sym (placements-of xs))
+
+pub register-taken : (v : LayoutValues) (m : Mode) (xs : List (Shell × Layout)) (fs : List FieldBits) (spans : List Span) → fs ≡ map field_bits xs → spans ≡ map capped_span (bits_from 0 fs)
+    → ◌≡◌ {A = Layout} (record { size = capped (bytes_of v.regwidth); access = bytes_of v.accesswidth; spans = spans }) (capped_layout (laid_out Reg v m (map member xs)))
+register-taken v m xs fs spans e g =
+    ap (λ ss. record { size = capped (bytes_of v.regwidth); access = bytes_of v.accesswidth; spans = ss }) (g ∙ ap (λ bs. map capped_span (bits_from 0 bs)) (e ∙ sym (bits-of xs)))

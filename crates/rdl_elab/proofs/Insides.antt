@@ -4,7 +4,6 @@ use Rattle.std.specs.Prelude.{max, min, option_map, slice_get, if◌then◌else�
 use Rattle.std.specs.Option.{option_or}
 use Rattle.std.specs.List.{cons_option}
 use Rattle.std.proofs.lemmas.List.{drop_all}
-use Rattle.rdl_elab.specs.declared.layout.Member.{Member}
 use Rattle.rdl_tree.specs.Items.{Items}
 use Rattle.rdl_tree.specs.declared.shell.Kind.{Kind}
 use Rattle.rdl_tree.specs.declared.shell.Kind.TheVariants.{Addrmap, Regfile, Reg, Field}
@@ -21,7 +20,7 @@ use Rattle.rdl_elab.specs.Layouts.{values_of, mode_inside, laid_out, layouts, la
 use Rattle.rdl_elab.specs.Capped.{capped_layout, capped_instance}
 use Rattle.rdl_elab.specs.Faults.{levels, count, is_empty, first_empty}
 use Rattle.rdl_elab.specs.Finished.{under, IsPart, AreParts}
-use Rattle.rdl_elab.specs.Inside.{counted_member, kept_part, kept_parts, part_levels, kept_levels, part_rows, kept_rows, lacks_parts, part_empty, kept_empty}
+use Rattle.rdl_elab.specs.Inside.{kept_part, kept_parts, part_levels, kept_levels, part_rows, kept_rows, lacks_parts, part_empty, kept_empty}
 
 pub or-assoc : {X : Type 0} (a b c : Option X) → option_or (option_or a b) c ≡ option_or a (option_or b c)
 or-assoc None b c = refl
@@ -154,28 +153,27 @@ module _ (fs : List Finished) (i : ℕ) (ps : List Part) (p : Part) (h : i < len
 pub same-all : (fs : List Finished) (i : ℕ) (ps : List Part) → length ps ≤ i → (AreSame fs (drop i ps) → AreSame fs ps) → AreSame fs ps
 same-all fs i ps h inv = inv (λ m. kept-none m fs i ps h ∙ sym (kept-none Compact fs i ps h))
 
-abbrev shown_members : List (Shell × Layout) → List Member
-shown_members xs = map counted_member (map member xs)
+-- one more instance, with its component and without one, for what is taken of each
+module _ {X : Type 0} (g : Shell × Layout → X) (m : Mode) (fs : List Finished) (i : ℕ) (ps : List Part) (p : Part) (h : i < length ps) (is : p ≡ get_or ps i p) where
+  abbrev left : ℕ → List X
+  left n = map g (kept_parts m fs (drop n ps))
 
--- one more instance, with its component and without one
-pub members-some : (m : Mode) (fs : List Finished) (i : ℕ) (ps : List Part) (p : Part) (f : Finished) (x : Member) (done after whole : List Member) → i < length ps → p ≡ get_or ps i p → slice_get fs p.component ≡ Some f
-    → x ≡ counted_member (member (p.shell, under m f.layouts)) → after ≡ done ++ x ∷ [] → done ++ shown_members (kept_parts m fs (drop i ps)) ≡ whole → after ++ shown_members (kept_parts m fs (drop (i + 1) ps)) ≡ whole
-members-some m fs i ps p f x done after whole h is found e g inv =
-    let rest = kept_parts m fs (drop (i + 1) ps) in
-    let one : kept_parts m fs (drop i ps) ≡ (p.shell, under m f.layouts) ∷ rest =
-    kept-next m fs i ps p h ∙ ap (λ (q : Part). cons_option (kept_part m fs q) rest) (sym is)
-    ∙ ap (λ o. cons_option (option_map (λ (g : Finished). (p.shell, under m g.layouts)) o) rest) found in
-    ap (λ xs. xs ++ shown_members rest) g ∙ append_assoc done (x ∷ []) (shown_members rest) ∙ ap (λ y. done ++ y ∷ shown_members rest) e
-    ∙ sym (ap (λ xs. done ++ shown_members xs) one) ∙ inv
+  pub taken-some : (f : Finished) (x : X) (done after whole : List X) → slice_get fs p.component ≡ Some f → x ≡ g (p.shell, under m f.layouts) → after ≡ done ++ x ∷ [] → done ++ left i ≡ whole → after ++ left (i + 1) ≡ whole
+  taken-some f x done after whole found e same inv =
+      let rest = kept_parts m fs (drop (i + 1) ps) in
+      let one : kept_parts m fs (drop i ps) ≡ (p.shell, under m f.layouts) ∷ rest =
+      kept-next m fs i ps p h ∙ ap (λ (q : Part). cons_option (kept_part m fs q) rest) (sym is)
+      ∙ ap (λ o. cons_option (option_map (λ (f : Finished). (p.shell, under m f.layouts)) o) rest) found in
+      ap (λ xs. xs ++ map g rest) same ∙ append_assoc done (x ∷ []) (map g rest) ∙ ap (λ y. done ++ y ∷ map g rest) e
+      ∙ sym (ap (λ xs. done ++ map g xs) one) ∙ inv
 
-pub members-none : (m : Mode) (fs : List Finished) (i : ℕ) (ps : List Part) (p : Part) (done after whole : List Member) → i < length ps → p ≡ get_or ps i p → slice_get fs p.component ≡ None
-    → after ≡ done → done ++ shown_members (kept_parts m fs (drop i ps)) ≡ whole → after ++ shown_members (kept_parts m fs (drop (i + 1) ps)) ≡ whole
-members-none m fs i ps p done after whole h is found g inv =
-    let rest = kept_parts m fs (drop (i + 1) ps) in
-    let one : kept_parts m fs (drop i ps) ≡ rest =
-    kept-next m fs i ps p h ∙ ap (λ (q : Part). cons_option (kept_part m fs q) rest) (sym is)
-    ∙ ap (λ o. cons_option (option_map (λ (g : Finished). (p.shell, under m g.layouts)) o) rest) found in
-    ap (λ xs. xs ++ shown_members rest) g ∙ sym (ap (λ xs. done ++ shown_members xs) one) ∙ inv
+  pub taken-none : (done after whole : List X) → slice_get fs p.component ≡ None → after ≡ done → done ++ left i ≡ whole → after ++ left (i + 1) ≡ whole
+  taken-none done after whole found same inv =
+      let rest = kept_parts m fs (drop (i + 1) ps) in
+      let one : kept_parts m fs (drop i ps) ≡ rest =
+      kept-next m fs i ps p h ∙ ap (λ (q : Part). cons_option (kept_part m fs q) rest) (sym is)
+      ∙ ap (λ o. cons_option (option_map (λ (f : Finished). (p.shell, under m f.layouts)) o) rest) found in
+      ap (λ xs. xs ++ map g rest) same ∙ sym (ap (λ xs. done ++ map g xs) one) ∙ inv
 
 -- one more instance for the levels, the rows, and the instances that must not be empty
 module _ (fs : List Finished) (i : ℕ) (ps : List Part) (p : Part) (o : Option Finished) (h : i < length ps) (is : p ≡ get_or ps i p) (found : slice_get fs p.component ≡ o) where

@@ -8,18 +8,19 @@ use Rattle.rdl_tree.specs.declared.shell.Kind.TheVariants.{Addrmap, Regfile}
 use Rattle.rdl_tree.specs.declared.shell.Shell.{Shell}
 use Rattle.rdl_elab.specs.declared.layout.Mode.{Mode}
 use Rattle.rdl_elab.specs.declared.layout.Placement.{Placement}
-use Rattle.rdl_elab.specs.declared.layout.Member.{Member}
 use Rattle.rdl_elab.specs.declared.layout.Layout.{Layout}
 use Rattle.rdl_elab.specs.Kept.{Part}
 use Rattle.rdl_elab.specs.declared.finished.Finished.{Finished}
+use Rattle.rdl_elab.specs.Layouts.{placement}
 use Rattle.rdl_elab.specs.Finished.{under}
 
 -- a placement whose elements are counted up to a limit
 abbrev pub counted : Placement → Placement
 counted p = record p { elements = min p.elements (2 ^ 64 - 1) }
 
-abbrev pub counted_member : Member → Member
-counted_member m = record m { placement = counted m.placement }
+-- what is taken of an instance for its place
+abbrev pub shown_placement : Shell × Layout → Placement
+shown_placement i = counted (placement i)
 
 -- an instance, with the kept layout of its component under a mode
 abbrev pub kept_part : Mode → List Finished → Part → Option (Shell × Layout)

@@ -3,15 +3,17 @@ ghost use Rattle.std.specs.Prelude.{◌≡◌, min, map, true, IfOk, Some, optio
 ghost use Rattle.std.specs.Option.{option_or};
 ghost use Rattle.rdl_elab.specs.declared.layout.Mode.{Mode};
 ghost use Rattle.rdl_elab.specs.declared.layout.Mode.TheVariants.{Compact};
-ghost use Rattle.rdl_tree.specs.declared.shell.Kind.TheVariants.{Reg};
+ghost use Rattle.rdl_tree.specs.declared.shell.Kind.TheVariants.{Regfile, Reg};
 ghost use Rattle.rdl_elab.specs.Layouts.{placement, field_bits, member, mode_inside, laid_out};
 ghost use Rattle.rdl_elab.specs.Capped.{capped_layout, IsAlignment};
 ghost use Rattle.rdl_elab.specs.Finished.{under};
-ghost use Rattle.rdl_elab.specs.Inside.{counted, counted_member, kept_parts, kept_levels, kept_rows, lacks_parts, part_empty, kept_empty};
+ghost use Rattle.rdl_elab.specs.Inside.{counted, shown_placement, kept_parts, kept_levels, kept_rows, lacks_parts, part_empty, kept_empty};
 
-use crate::component::lay_out;
+use crate::bits::bits;
+use crate::component::{field, register};
 use crate::finished::{Finished, Layouts, Part, ThreeLayouts};
-use crate::layout::{FieldBits, Layout, LayoutValues, Member, Mode, Placement};
+use crate::layout::{FieldBits, Layout, LayoutValues, Mode, Placement};
+use crate::place::place;
 use crate::shared::SharedAddress;
 use rdl_scope::shells::product;
 use rdl_tree::shell::{Kind, Shell};
@@ -51,31 +53,40 @@ fn field_bits(shell: &Shell, layout: &Layout) -> FieldBits
     }
 }
 
-fn member(shell: &Shell, layout: &Layout) -> Member
-    ensures { result ≡ counted_member (member (shell.now, layout.now)) }
-{
-    Member {
-        placement: placement(shell, layout),
-        bits: field_bits(shell, layout),
-    }
-}
-
 #[tactic(auto, using(crate::proofs::Insides::steps))]
-fn members(
+fn placements(
     alloc: Global,
     mode: Mode,
     parts: &[Part],
     components: &[Finished],
-) -> Result<Vec<Member>, AllocError>
-    ensures { IfOk result (λ ms. ms.items ≡ map counted_member (map member (kept_parts mode components.now parts.now))) }
+) -> Result<Vec<Placement>, AllocError>
+    ensures { IfOk result (λ ps. ps.items ≡ map shown_placement (kept_parts mode components.now parts.now)) }
 {
-    let mut members = Vec::with_capacity(alloc, parts.len())?;
+    let mut placements = Vec::with_capacity(alloc, parts.len())?;
     for part in parts {
         if let Some(finished) = part.component(components) {
-            members.push(member(part.shell(), finished.layouts.under(mode)))?;
+            placements.push(placement(part.shell(), finished.layouts.under(mode)))?;
         }
     }
-    Ok(members)
+    Ok(placements)
+}
+
+#[tactic(auto, using(crate::proofs::Insides::steps))]
+fn fields(
+    alloc: Global,
+    mode: Mode,
+    parts: &[Part],
+    components: &[Finished],
+) -> Result<Vec<FieldBits>, AllocError>
+    ensures { IfOk result (λ fs. fs.items ≡ map field_bits (kept_parts mode components.now parts.now)) }
+{
+    let mut fields = Vec::with_capacity(alloc, parts.len())?;
+    for part in parts {
+        if let Some(finished) = part.component(components) {
+            fields.push(field_bits(part.shell(), finished.layouts.under(mode)))?;
+        }
+    }
+    Ok(fields)
 }
 
 /// The mode of the instances of a component that stands under a mode.
@@ -88,7 +99,35 @@ pub(crate) fn mode_inside(kind: Kind, values: LayoutValues, mode: Mode) -> Mode
     }
 }
 
-#[tactic(auto, using(crate::proofs::Counting::counts))]
+/// An address map or a register file with these instances.
+fn container(
+    alloc: Global,
+    values: LayoutValues,
+    mode: Mode,
+    parts: &[Part],
+    components: &[Finished],
+) -> Result<Layout, AllocError>
+    requires { IsAlignment values.alignment }
+    ensures { IfOk result (λ l. l ≡ capped_layout (laid_out Regfile values mode (map member (kept_parts mode components.now parts.now)))) }
+{
+    let items = placements(alloc, mode, parts, components)?;
+    place(alloc, values.alignment, mode, items.as_slice())
+}
+
+fn register_of(
+    alloc: Global,
+    values: LayoutValues,
+    mode: Mode,
+    parts: &[Part],
+    components: &[Finished],
+) -> Result<Layout, AllocError>
+    ensures { IfOk result (λ l. l ≡ capped_layout (laid_out Reg values mode (map member (kept_parts mode components.now parts.now)))) }
+{
+    let fields = fields(alloc, mode, parts, components)?;
+    let spans = bits(alloc, fields.as_slice())?;
+    Ok(register(values, spans))
+}
+
 fn layout(
     alloc: Global,
     kind: Kind,
@@ -100,9 +139,12 @@ fn layout(
     requires { IsAlignment values.alignment }
     ensures { IfOk result (λ l. let n = mode_inside kind values mode in l ≡ capped_layout (laid_out kind values n (map member (kept_parts n components.now parts.now)))) }
 {
-    let inside = mode_inside(kind, values, mode);
-    let members = members(alloc, inside, parts, components)?;
-    lay_out(alloc, kind, values, inside, members.as_slice())
+    match kind {
+        Kind::Addrmap => container(alloc, values, values.addressing, parts, components),
+        Kind::Regfile => container(alloc, values, mode, parts, components),
+        Kind::Reg => register_of(alloc, values, mode, parts, components),
+        Kind::Field => Ok(field(alloc, values)),
+    }
 }
 
 /// The layout under each mode.
