@@ -3,7 +3,7 @@ ghost use Rattle.std.specs.Prelude.{◌≡◌, IfOk};
 ghost use Rattle.rdl_elab.specs.Shown.{built_in_values};
 
 use crate::defaults::Defaults;
-use crate::row::RowValues;
+use crate::row::ComponentValues;
 use crate::values::stated_values;
 use rdl_tree::description::Body;
 use rdl_tree::shell::Kind;
@@ -14,10 +14,10 @@ use std::marker::Model;
 /// so a contract sees nothing of them.
 #[derive(Drop)]
 pub(crate) struct BuiltIns {
-    addrmap: RowValues,
-    regfile: RowValues,
-    reg: RowValues,
-    field: RowValues,
+    addrmap: ComponentValues,
+    regfile: ComponentValues,
+    reg: ComponentValues,
+    field: ComponentValues,
 }
 
 impl Model for BuiltIns {
@@ -30,7 +30,7 @@ impl Model for BuiltIns {
     ghost invariant = { λ b. AreBuiltIns b.addrmap b.regfile b.reg b.field };
 }
 
-fn built_in_values(alloc: Global, kind: Kind) -> Result<RowValues, AllocError>
+fn built_in_values(alloc: Global, kind: Kind) -> Result<ComponentValues, AllocError>
     ensures { IfOk result (λ values. values ≡ built_in_values kind) }
 {
     stated_values(alloc, kind, &Body::new(alloc), &Defaults::new(alloc))
@@ -50,7 +50,7 @@ impl BuiltIns {
     }
 
     /// Those of a component of this kind.
-    pub(crate) fn of(&self, kind: Kind) -> &RowValues
+    pub(crate) fn of(&self, kind: Kind) -> &ComponentValues
         ensures { result.now ≡ built_in_values kind }
     {
         match kind {

@@ -13,7 +13,7 @@ use crate::finished::Finished;
 use crate::instances::mode_inside;
 use crate::layout::Mode;
 use crate::reaches::with_own;
-use crate::row::{Extent, Place, Row, RowPath, Rows};
+use crate::row::{Extent, Place, Row, RowPath, RowValues, Rows};
 use crate::rows::{Around, add_rows};
 use crate::walk::{Walked, lay_out_item};
 use rdl_scope::faults::check;
@@ -149,7 +149,7 @@ fn top_row(alloc: Global, name: &Name, top: &Finished) -> Result<Row, AllocError
             dims: Dims::new(alloc),
             stride: size,
         }),
-        values: top.shown.share()?,
+        values: RowValues::of(top.shown.share()?),
     })
 }
 

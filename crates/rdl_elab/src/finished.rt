@@ -1,7 +1,7 @@
 //! Components that are laid out.
 use crate::layout::{Layout, LayoutValues, Mode};
 use crate::reaches::Assignment;
-use crate::row::RowValues;
+use crate::row::ComponentValues;
 use crate::shared::SharedAddress;
 use rdl_tree::address::Address;
 use rdl_tree::shell::{Kind, Shell};
@@ -171,7 +171,7 @@ pub(crate) struct Finished<'a> {
     pub kind: Kind,
     pub values: LayoutValues,
     /// Its values as rows show them.
-    pub shown: RowValues,
+    pub shown: ComponentValues,
     /// The dynamic assignments in its body.
     pub assignments: Vec<Assignment<'a>>,
     pub parts: Vec<Part<'a>>,

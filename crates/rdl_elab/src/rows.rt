@@ -11,9 +11,9 @@ use crate::finished::{Finished, Part};
 use crate::instances::mode_inside;
 use crate::layout::{Mode, Span};
 use crate::reaches::{Assignment, behind, have_ended, with_own};
-use crate::row::{Extent, Place, Row, RowPath, RowValues};
+use crate::row::{ComponentValues, Extent, Place, Row, RowPath, RowValues};
 use crate::siblings::{Sibling, Siblings, as_sibling, is_reset_too_wide};
-use crate::values::{row_values, value_under};
+use crate::values::row_values;
 use rdl_text::name::Name;
 use rdl_tree::address::Address;
 use rdl_tree::fault::{Fault, FaultKind};
@@ -99,12 +99,13 @@ fn values(
     kind: Kind,
     reset: Option<u64>,
     reaching: &[Assignment],
-    own: &RowValues,
+    own: &ComponentValues,
 ) -> Result<RowValues, AllocError>
     ensures { IfOk result (λ values. values ≡ kept_values kind reset reaching.now own.now) }
 {
     match (reset, reaching) {
-        (None, []) => own.share(),
+        (None, []) => Ok(RowValues::of(own.share()?)),
+        (Some(number), []) => Ok(RowValues::with_reset(own.share()?, kind, number)),
         _ => row_values(alloc, kind, reset, reaching, own),
     }
 }
@@ -157,21 +158,11 @@ fn is_stride_too_small(shell: &Shell, size: u64) -> bool
     shell.stride.unwrap_or(size) < size
 }
 
-/// The reset among these values.
-fn reset(values: &RowValues) -> Option<u64>
-    ensures { result ≡ number_in (value_under Property.Reset values.now) }
-{
-    match value_under(Property::Reset, values.as_slice()) {
-        Some(Value::Number(number)) => Some(*number),
-        _ => None,
-    }
-}
-
 /// A row as its later siblings see it.
 fn seen(span: Span, values: &RowValues) -> Sibling
     ensures { result ≡ seen span values.now }
 {
-    as_sibling(span, value_under(Property::Sw, values.as_slice()))
+    as_sibling(span, values.get(Property::Sw))
 }
 
 /// What is wrong with a field, in a register of so many bits.
@@ -187,7 +178,7 @@ fn field_fault(
         Some(FaultKind::FieldPastRegister)
     } else if before.clash(field) {
         Some(FaultKind::FieldOverlap)
-    } else if is_reset_too_wide(reset(values), field.span) {
+    } else if is_reset_too_wide(values.number(Property::Reset), field.span) {
         Some(FaultKind::ResetTooWide)
     } else {
         None

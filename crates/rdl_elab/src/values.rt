@@ -16,7 +16,7 @@ use crate::built_ins::BuiltIns;
 use crate::defaults::Defaults;
 use crate::layout::{LayoutValues, Mode};
 use crate::reaches::{Assignment, reached};
-use crate::row::{PropertyValue, RowValues};
+use crate::row::{ComponentValues, PropertyValue, RowValues};
 use rdl_scope::values::{own_value, shown};
 use rdl_text::token::Number;
 use rdl_tree::description::{Body, Item};
@@ -215,7 +215,7 @@ fn shown_among(
     body: &Body,
     defaults: &Defaults,
     properties: &[Property],
-) -> Result<RowValues, AllocError>
+) -> Result<ComponentValues, AllocError>
     ensures { IfOk result (λ values. values ≡ shown_among (bare kind body.now defaults.now) properties.now) }
 {
     let mut items = Vec::with_capacity(alloc, properties.len())?;
@@ -227,7 +227,7 @@ fn shown_among(
             })?;
         }
     }
-    RowValues::from_vec(alloc, items)
+    ComponentValues::from_vec(alloc, items)
 }
 
 /// The values of a component of this kind with this body, where these defaults reach it, each looked for.
@@ -236,7 +236,7 @@ pub(crate) fn stated_values(
     kind: Kind,
     body: &Body,
     defaults: &Defaults,
-) -> Result<RowValues, AllocError>
+) -> Result<ComponentValues, AllocError>
     ensures { IfOk result (λ values. values ≡ shown_values (bare kind body.now defaults.now)) }
 {
     shown_among(alloc, kind, body, defaults, &Property::ALL)
@@ -249,7 +249,7 @@ pub(crate) fn shown_values(
     body: &Body,
     defaults: &Defaults,
     built_ins: &BuiltIns,
-) -> Result<RowValues, AllocError>
+) -> Result<ComponentValues, AllocError>
     ensures { IfOk result (λ values. (h : Head) → h.kind ≡ kind → h.body ≡ body.now → h.defaults ≡ defaults.now → values ≡ shown_values h) }
 {
     if states_nothing(body, defaults) {
@@ -359,13 +359,13 @@ fn values_among(
 /// The values of the row of an instance with this reset, which these assignments reach, and whose component, of this
 /// kind, has these values by itself.
 ///
-/// Where there is no reset and no assignment, they are those of the component, and `RowValues::share` is quicker.
+/// Where there is no assignment, `RowValues::of` and `RowValues::with_reset` are quicker.
 pub(crate) fn row_values(
     alloc: Global,
     kind: Kind,
     reset: Option<Number>,
     reaching: &[Assignment],
-    own: &RowValues,
+    own: &ComponentValues,
 ) -> Result<RowValues, AllocError>
     ensures { IfOk result (λ values. values ≡ values_along kind reset reaching.now own.now) }
 {
