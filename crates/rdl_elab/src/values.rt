@@ -207,6 +207,16 @@ fn shown_value(
     }
 }
 
+/// How many values a component of the kind mostly has.
+fn room(kind: Kind) -> usize {
+    match kind {
+        Kind::Addrmap => 4,
+        Kind::Regfile => 2,
+        Kind::Reg => 5,
+        Kind::Field => 26,
+    }
+}
+
 /// The values that there are of these properties.
 #[tactic(auto, using(crate::proofs::ValueLists::steps))]
 fn shown_among(
@@ -218,7 +228,7 @@ fn shown_among(
 ) -> Result<ComponentValues, AllocError>
     ensures { IfOk result (λ values. values ≡ shown_among (bare kind body.now defaults.now) properties.now) }
 {
-    let mut items = Vec::with_capacity(alloc, properties.len())?;
+    let mut items = Vec::with_capacity(alloc, room(kind))?;
     for property in properties {
         if let Some(value) = shown_value(alloc, kind, body, defaults, *property)? {
             items.push(PropertyValue {
