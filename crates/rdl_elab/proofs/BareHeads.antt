@@ -11,7 +11,7 @@ use Rattle.rdl_tree.specs.declared.property.Property.TheVariants.{Accesswidth}
 use Rattle.rdl_tree.specs.declared.value.Value.{Value}
 use Rattle.rdl_scope.specs.Value.{shown}
 use Rattle.rdl_scope.specs.Closed.{Head, stated, built_in}
-use Rattle.rdl_elab.specs.Rows.{valued}
+use Rattle.rdl_elab.specs.Shown.{valued}
 use Rattle.rdl_elab.specs.Shown.{bare, shown_value, shown_among, shown_values}
 
 built_in-bare : (h : Head) (p : Property) → built_in (bare h.kind h.body h.defaults) p ≡ built_in h p

@@ -26,7 +26,8 @@ use Rattle.rdl_elab.specs.declared.row.PropertyValue.{PropertyValue}
 use Rattle.rdl_elab.specs.declared.row.Place.{Place}
 use Rattle.rdl_elab.specs.declared.row.Place.TheVariants.{Bytes, Bits}
 use Rattle.rdl_elab.specs.declared.row.Row.{Row}
-use Rattle.rdl_elab.specs.Rows.{valued, rows_of}
+use Rattle.rdl_elab.specs.Rows.{rows_of}
+use Rattle.rdl_elab.specs.Shown.{valued}
 use Rattle.rdl_elab.specs.Faults.{elaborated, count}
 use lib.Count.{ones}
 

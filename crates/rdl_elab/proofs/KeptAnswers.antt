@@ -1,6 +1,6 @@
 -- The answer by what is kept of the components is the answer by the definitions.
-use Rattle.std.proofs.Common.{◌≡◌, ℕ, zero, suc, ◌+◌, ◌^◌, ◌≤◌, ◌<◌, Bool, true, false, List, [], ◌∷◌, ◌++◌, map, Option, Some, None, Result, Ok, Err, refl, ap, sym, ◌∙◌, arith, ◌⊎◌, inl, inr}
-use Rattle.std.specs.Prelude.{min, nat_lt, slice_get, option_and_then, if◌then◌else◌}
+use Rattle.std.proofs.Common.{◌≡◌, ℕ, ◌+◌, ◌^◌, ◌≤◌, ◌<◌, Bool, true, false, List, [], ◌∷◌, Option, Some, None, Result, Ok, Err, refl, ap, sym, ◌∙◌, arith, ◌⊎◌, inl, inr}
+use Rattle.std.specs.Prelude.{min, nat_lt, slice_get, option_and_then}
 use Rattle.std.specs.Option.{option_or, is_some}
 use Rattle.std.specs.Prelude.{IfOk, IfErr}
 use Rattle.std.proofs.lemmas.Bool.{cases_lt, lt-ltb, le-ltb, ltb-false}
@@ -14,16 +14,15 @@ use Rattle.rdl_tree.specs.declared.fault.FaultKind.TheVariants.{TooManyLevels, T
 use Rattle.rdl_scope.specs.ItemFaults.{first_of, fault_at, fault_of}
 use Rattle.rdl_scope.specs.Closed.{Made, component}
 use Rattle.rdl_elab.specs.declared.layout.Mode.TheVariants.{Regalign}
-use Rattle.rdl_elab.specs.declared.layout.Span.{Span}
 use Rattle.rdl_elab.specs.declared.layout.Layout.{Layout}
 use Rattle.rdl_elab.specs.declared.row.Place.TheVariants.{Bytes}
 use Rattle.rdl_elab.specs.declared.row.Row.{Row}
 use Rattle.rdl_elab.specs.declared.finished.Finished.{Finished}
-use Rattle.rdl_elab.specs.Layouts.{mode_inside, layout}
-use Rattle.rdl_elab.specs.Capped.{capped, capped_span}
-use Rattle.rdl_elab.specs.Rows.{Judged, around_top, rows_below, rows_of, top_layout, top_row}
+use Rattle.rdl_elab.specs.Layouts.{mode_inside}
+use Rattle.rdl_elab.specs.Capped.{capped}
+use Rattle.rdl_elab.specs.Rows.{around_top, rows_below, rows_of, top_layout, top_row}
 use Rattle.rdl_elab.specs.Faults.{levels, count, first_empty, first_row_fault, fault_of_top, rows_or, under_top, top_from, with_top, unless_fault, elaborated}
-use Rattle.rdl_elab.specs.Finished.{under, IsKept, IsFinished}
+use Rattle.rdl_elab.specs.Finished.{IsFinished}
 use Rattle.rdl_elab.specs.Reaches.{reaches, reaches_at}
 use Rattle.rdl_elab.specs.KeptRows.{Told, told, kept_rows, kept_map_fault, kept_top_row, kept_around_top, told_below, rows_unless, fault_or, kept_rows_or_fault, kept_answer}
 use Rattle.rdl_scope.proofs.AsFound.{as_found}

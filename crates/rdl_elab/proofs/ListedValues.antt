@@ -11,7 +11,7 @@ use Rattle.rdl_tree.specs.declared.property.Property.{Property}
 use Rattle.rdl_tree.specs.declared.value.Value.{Value}
 use Rattle.rdl_scope.specs.Value.{shown}
 use Rattle.rdl_elab.specs.declared.row.PropertyValue.{PropertyValue}
-use Rattle.rdl_elab.specs.Rows.{valued}
+use Rattle.rdl_elab.specs.Shown.{valued}
 use Rattle.rdl_elab.specs.Reaches.{Reach, reached, reset_value, value_under, value_along, values_among, are_distinct, past}
 use Rattle.rdl_elab.proofs.ValueLists.{found-next}
 

@@ -18,7 +18,8 @@ use Rattle.rdl_scope.specs.Value.{shown, instance_reset, item_reset, component_v
 use Rattle.rdl_scope.specs.Closed.{Head, Parts, Made, component, head_value}
 use Rattle.rdl_scope.proofs.AsFound.{as_found, value-found}
 use Rattle.rdl_elab.specs.declared.row.PropertyValue.{PropertyValue}
-use Rattle.rdl_elab.specs.Rows.{valued, row_value, row_values}
+use Rattle.rdl_elab.specs.Rows.{row_value, row_values}
+use Rattle.rdl_elab.specs.Shown.{valued}
 use Rattle.rdl_elab.specs.Shown.{shown_value, shown_values}
 use Rattle.rdl_elab.specs.Reaches.{Reach, reaches, reaches_at, behind, along, reached, reset_value, value_under, value_along, values_among, values_along}
 use Rattle.rdl_elab.proofs.Along.{reached-assigned, along-further}
@@ -49,8 +50,8 @@ under-among f p (q ∷ xs) =
 under-shown : (h : Head) (p : Property) → value_under p (shown_values h) ≡ shown_value h p
 under-shown h p = under-among (shown_value h) p properties ∙ ap (λ b. if b then shown_value h p else None) (all-named p)
 
-pub under-along : (k : Kind) (reset : Option ℕ) (rs : List Reach) (own : List PropertyValue) (p : Property) → value_under p (values_along k reset rs own) ≡ value_along k reset rs own p
-under-along k reset rs own p = under-among (value_along k reset rs own) p properties ∙ ap (λ b. if b then value_along k reset rs own p else None) (all-named p)
+pub under_along : (k : Kind) (reset : Option ℕ) (rs : List Reach) (own : List PropertyValue) (p : Property) → value_under p (values_along k reset rs own) ≡ value_along k reset rs own p
+under_along k reset rs own p = under-among (value_along k reset rs own) p properties ∙ ap (λ b. if b then value_along k reset rs own p else None) (all-named p)
 
 or-map : (f : Value → Value) (a b : Option Value) → option_or (option_map f a) (option_map f b) ≡ option_map f (option_or a b)
 or-map f None b = refl

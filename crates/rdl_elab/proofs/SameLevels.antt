@@ -1,9 +1,9 @@
 -- Level by level, what is told of what is kept is what there is to tell of the components themselves.
-use Rattle.std.proofs.Common.{◌≡◌, ℕ, zero, suc, ◌+◌, ◌-◌, ◌^◌, ◌≤◌, ◌<◌, Bool, true, false, List, [], ◌∷◌, ◌++◌, map, Option, Some, None, refl, ap, sym, ◌∙◌, subst, arith, ◌⊎◌, inl, inr}
+use Rattle.std.proofs.Common.{◌≡◌, ℕ, zero, suc, ◌+◌, ◌^◌, ◌≤◌, Bool, true, false, List, [], ◌∷◌, ◌++◌, map, Option, Some, None, refl, ap, sym, ◌∙◌, arith, ◌⊎◌, inl, inr}
 use Rattle.std.specs.Option.{option_or}
 use Rattle.std.proofs.lemmas.List.{append_assoc, append-nil, map-append}
 use Rattle.rdl_elab.proofs.SameRows.{some-none}
-use Rattle.std.specs.Prelude.{max, min, slice_get, ◌||◌, ◌==◌, if◌then◌else◌}
+use Rattle.std.specs.Prelude.{max, ◌||◌, ◌==◌, if◌then◌else◌}
 use Rattle.std.proofs.lemmas.Bool.{or_cases, eqb-true}
 use Rattle.rdl_tree.specs.Items.{Items}
 use Rattle.rdl_tree.specs.Properties.{has_form}
@@ -15,27 +15,23 @@ use Rattle.rdl_tree.specs.declared.shell.Kind.TheVariants.{Addrmap, Regfile, Reg
 use Rattle.rdl_tree.specs.declared.shell.Shell.{Shell}
 use Rattle.rdl_tree.specs.declared.fault.Fault.{Fault}
 use Rattle.rdl_tree.specs.declared.fault.FaultKind.{FaultKind}
-use Rattle.rdl_tree.specs.declared.property.Property.TheVariants.{Sw, Reset, Regwidth}
+use Rattle.rdl_tree.specs.declared.property.Property.TheVariants.{Regwidth}
 use Rattle.rdl_scope.specs.ItemFaults.{fault_at}
-use Rattle.rdl_scope.specs.Target.{body_of}
-use Rattle.rdl_scope.specs.Closed.{Head, Parts, no_parts, part, Made, component, head_value}
-use Rattle.rdl_elab.specs.declared.layout.Mode.{Mode}
+use Rattle.rdl_scope.specs.Closed.{Head, Parts, no_parts, part, head_value}
 use Rattle.rdl_elab.specs.declared.layout.Span.{Span}
 use Rattle.rdl_elab.specs.declared.layout.Layout.{Layout}
-use Rattle.rdl_elab.specs.declared.row.PropertyValue.{PropertyValue}
 use Rattle.rdl_elab.specs.declared.row.Row.{Row}
 use Rattle.rdl_elab.specs.Kept.{Part}
 use Rattle.rdl_elab.specs.declared.finished.Finished.{Finished}
-use Rattle.rdl_elab.specs.declared.siblings.Sibling.{Sibling}
-use Rattle.rdl_elab.specs.Layouts.{values_of, mode_inside, number_in, width_in, layout_of, layout}
-use Rattle.rdl_elab.specs.Capped.{capped, capped_span, capped_layout}
+use Rattle.rdl_elab.specs.Layouts.{values_of, mode_inside, number_in, width_in, layout_of}
+use Rattle.rdl_elab.specs.Capped.{capped, capped_span}
 use Rattle.rdl_elab.specs.Shown.{shown_values}
-use Rattle.rdl_elab.specs.Rows.{row_value, row_values, place_of, base_of, Around, Judged, judged_row, inside, rows_in}
+use Rattle.rdl_elab.specs.Rows.{place_of, base_of, Around, Judged, judged_row, inside, rows_in}
 use Rattle.rdl_elab.specs.Faults.{levels, kind_fault, row_fault, first_row_fault}
 use Rattle.rdl_elab.specs.Found.{IsPartFound, ArePartsFound}
 use Rattle.rdl_elab.specs.Finished.{under, IsKept, IsPart, AreParts}
-use Rattle.rdl_elab.specs.Reaches.{Reach, values_along, along, behind, reaches, reaches_at}
-use Rattle.rdl_elab.specs.KeptRows.{Surroundings, KeptRow, Told, kept_base, kept_values, kept_row, seen, kept_fault, judged, surroundings_inside, with_below, level_rows, kept_rows, told_one, told}
+use Rattle.rdl_elab.specs.Reaches.{Reach, values_along, along, behind, reaches_at}
+use Rattle.rdl_elab.specs.KeptRows.{Surroundings, KeptRow, Told, kept_base, kept_values, kept_row, seen, kept_fault, judged, surroundings_inside, level_rows, kept_rows, told_one, told}
 use Rattle.rdl_elab.proofs.Along.{along-further}
 use Rattle.rdl_elab.proofs.RowsAlong.{values-row, values-alone, reaches-body}
 use Rattle.rdl_elab.proofs.Telling.{told_after, told-append, one-component}

@@ -1,10 +1,10 @@
 -- The rows and the faults of what is kept are those of the components themselves.
-use Rattle.std.proofs.Common.{◌≡◌, ℕ, zero, suc, ◌+◌, ◌-◌, ◌^◌, ◌≤◌, ◌<◌, Bool, true, false, List, [], ◌∷◌, ◌++◌, map, Option, Some, None, refl, ap, sym, ◌∙◌, subst, arith, ◌⊎◌, inl, inr}
-use Rattle.std.specs.Prelude.{max, min, nat_lt, nat_le, not, ◌&&◌, ◌||◌, unwrap_or, option_map, bytes_eq, if◌then◌else◌}
-use Rattle.std.specs.List.{list_any, filter_map, All}
+use Rattle.std.proofs.Common.{◌≡◌, ℕ, ◌^◌, ◌≤◌, ◌<◌, Bool, true, false, List, [], ◌∷◌, map, Option, Some, None, refl, ap, sym, ◌∙◌, arith, ◌⊎◌, inl, inr}
+use Rattle.std.specs.Prelude.{nat_lt, not, ◌&&◌, ◌||◌, unwrap_or, if◌then◌else◌}
+use Rattle.std.specs.List.{list_any}
 use Rattle.std.proofs.lemmas.Bool.{cases_lt, lt-ltb, le-ltb, ltb-false}
 use Rattle.rdl_tree.specs.Items.{Items}
-use Rattle.rdl_tree.specs.Properties.{row, on, properties}
+use Rattle.rdl_tree.specs.Properties.{properties}
 use Rattle.rdl_tree.specs.declared.shell.Kind.{Kind}
 use Rattle.rdl_tree.specs.declared.shell.Kind.TheVariants.{Addrmap, Regfile, Reg, Field}
 use Rattle.rdl_tree.specs.declared.shell.Shell.{Shell}
@@ -13,28 +13,20 @@ use Rattle.rdl_tree.specs.declared.property.Property.{Property}
 use Rattle.rdl_tree.specs.declared.property.Property.TheVariants.{Sw, Reset}
 use Rattle.rdl_tree.specs.declared.fault.FaultKind.{FaultKind}
 use Rattle.rdl_tree.specs.declared.fault.FaultKind.TheVariants.{AccessTooWide, StrideTooSmall, AddressOverlap, FieldPastRegister, FieldOverlap, ResetTooWide}
-use Rattle.rdl_tree.specs.declared.fault.Fault.{Fault}
-use Rattle.rdl_scope.specs.ItemFaults.{first_of, fault_at}
-use Rattle.rdl_scope.specs.Closed.{Head, Parts, no_parts, part, Made}
-use Rattle.rdl_elab.specs.declared.layout.Mode.{Mode}
+use Rattle.rdl_scope.specs.ItemFaults.{first_of}
+use Rattle.rdl_scope.specs.Closed.{Head, Parts}
 use Rattle.rdl_elab.specs.declared.layout.Span.{Span}
 use Rattle.rdl_elab.specs.declared.layout.Layout.{Layout}
-use Rattle.rdl_elab.specs.declared.row.PropertyValue.{PropertyValue}
-use Rattle.rdl_elab.specs.declared.row.Row.{Row}
-use Rattle.rdl_elab.specs.Kept.{Part}
-use Rattle.rdl_elab.specs.declared.finished.Finished.{Finished}
 use Rattle.rdl_elab.specs.declared.siblings.Sibling.{Sibling}
-use Rattle.rdl_elab.specs.Layouts.{values_of, mode_inside, number_in, layout_of, layout}
-use Rattle.rdl_elab.specs.Capped.{capped, capped_span, capped_layout}
-use Rattle.rdl_elab.specs.Shown.{shown_values}
-use Rattle.rdl_elab.specs.Rows.{valued, row_value, row_values, place_of, base_of, Around, Judged, judged_row, inside, rows_in}
-use Rattle.rdl_elab.specs.Faults.{overlap, overlaps_one, is_read_only, is_write_only, may_share, clashes, is_reset_too_wide, reset_of, kind_fault, row_fault, first_row_fault}
-use Rattle.rdl_elab.specs.Finished.{under, IsKept, IsPart, AreParts}
-use Rattle.rdl_elab.specs.KeptRows.{Surroundings, KeptRow, Told, kept_base, kept_values, kept_row, seen, share, overlaps_before, clashes_before, extent_fault, field_fault, kept_fault, judged, surroundings_inside, with_below, level_rows, kept_rows, told_one, told}
-use Rattle.rdl_elab.specs.Reaches.{value_under, along, behind, reaches_at}
+use Rattle.rdl_elab.specs.Layouts.{values_of, number_in, layout_of}
+use Rattle.rdl_elab.specs.Capped.{capped, capped_span}
+use Rattle.rdl_elab.specs.Rows.{row_value, row_values, place_of, base_of, Around, Judged, judged_row}
+use Rattle.rdl_elab.specs.Faults.{overlap, overlaps_one, is_read_only, is_write_only, may_share, clashes, is_reset_too_wide, reset_of, kind_fault}
+use Rattle.rdl_elab.specs.KeptRows.{kept_base, seen, share, overlaps_before, clashes_before, extent_fault, kept_fault}
+use Rattle.rdl_elab.specs.Reaches.{value_under}
 use Rattle.rdl_elab.proofs.Names.{all-named}
 use Rattle.rdl_elab.proofs.RowsAlong.{under-among}
-use Rattle.rdl_elab.proofs.Fitting.{FieldsIn, BytesFit, OneFits, Fit}
+use Rattle.rdl_elab.proofs.Fitting.{BytesFit, OneFits}
 
 -- an earlier sibling, whose span is exact
 abbrev pub sibling_of : Span × Option Value → Sibling

@@ -1,6 +1,6 @@
 -- The last of the items that may be the top, found from the first item to the last.
-use Rattle.std.proofs.Common.{◌≡◌, ℕ, zero, suc, ◌+◌, ◌<◌, ◌≤◌, List, [], ◌∷◌, length, get_or, drop, Option, Some, None, Bool, true, false, refl, ap, sym, ◌∙◌, add-one, drop-cons}
-use Rattle.std.specs.Prelude.{option_map, slice_get, if◌then◌else◌}
+use Rattle.std.proofs.Common.{◌≡◌, ℕ, suc, ◌+◌, ◌<◌, ◌≤◌, List, length, get_or, drop, Option, Some, None, refl, ap, sym, ◌∙◌, add-one, drop-cons}
+use Rattle.std.specs.Prelude.{if◌then◌else◌}
 use Rattle.std.specs.Option.{option_or}
 use Rattle.std.proofs.lemmas.List.{drop_all}
 use Rattle.rdl_tree.specs.Items.{Items, define}
@@ -10,7 +10,7 @@ use Rattle.rdl_tree.specs.declared.shell.Kind.TheVariants.{Addrmap, Regfile, Reg
 use Rattle.rdl_tree.specs.declared.description.Item.{Item}
 use Rattle.rdl_tree.specs.declared.description.Item.TheVariants.{Define, Instance, Own, Default, Dynamic}
 use Rattle.rdl_tree.specs.declared.description.Of.TheVariants.{Named, Anonymous}
-use Rattle.rdl_elab.specs.Faults.{has_name, may_be_top, top_from}
+use Rattle.rdl_elab.specs.Faults.{may_be_top, top_from}
 use Rattle.rdl_elab.specs.Tops.{top_at, top_of_kind}
 
 pub or-none : {X : Type 0} (a : Option X) → option_or a None ≡ a

@@ -13,7 +13,7 @@ use Rattle.rdl_tree.specs.declared.property.Property.TheVariants.{Regwidth, Acce
 use Rattle.rdl_tree.specs.declared.value.Value.{Value}
 use Rattle.rdl_scope.specs.Value.{shown, own_value}
 use Rattle.rdl_scope.specs.Closed.{stated, head_value, lookup}
-use Rattle.rdl_elab.specs.Rows.{valued}
+use Rattle.rdl_elab.specs.Shown.{valued}
 use Rattle.rdl_elab.specs.Shown.{bare, shown_among, shown_values, built_in_values, is_own}
 
 none-own : (t : Items) (name : List ℕ) → list_any is_own (list_of t) ≡ false → own_value name t ≡ None

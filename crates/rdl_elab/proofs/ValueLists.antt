@@ -9,7 +9,7 @@ use Rattle.rdl_tree.specs.Items.{Items}
 use Rattle.rdl_tree.specs.declared.shell.Kind.{Kind}
 use Rattle.rdl_tree.specs.declared.property.Property.{Property}
 use Rattle.rdl_tree.specs.declared.value.Value.{Value}
-use Rattle.rdl_elab.specs.Rows.{valued}
+use Rattle.rdl_elab.specs.Shown.{valued}
 use Rattle.rdl_elab.specs.Shown.{bare, shown_value, shown_among}
 use Rattle.rdl_elab.specs.Reaches.{Reach, passed, has_ended, behind}
 

@@ -2,7 +2,7 @@
 -- own: how a row keeps its values. What they are `values_along` says.
 use Rattle.std.specs.Prelude.{ℕ, List, [], Option, None, Some}
 use Rattle.rdl_elab.specs.declared.row.PropertyValue.{PropertyValue}
-use Rattle.rdl_elab.specs.declared.row.InstanceReset.{InstanceReset}
+use Rattle.rdl_elab.specs.declared.row_values.InstanceReset.{InstanceReset}
 use Rattle.rdl_elab.specs.Layouts.{number_in}
 use Rattle.rdl_elab.specs.Reaches.{values_along}
 

@@ -18,7 +18,7 @@ use Rattle.rdl_tree.specs.declared.property.Property.TheVariants.{Reset}
 use Rattle.rdl_scope.specs.Target.{passes, body_of}
 use Rattle.rdl_scope.specs.Value.{shown}
 use Rattle.rdl_elab.specs.declared.row.PropertyValue.{PropertyValue}
-use Rattle.rdl_elab.specs.Rows.{valued}
+use Rattle.rdl_elab.specs.Shown.{valued}
 
 -- an assignment, and the instances that its target has yet to pass
 pub record Reach : Type 0 where

@@ -22,6 +22,7 @@ use Rattle.rdl_elab.specs.declared.row.Place.{Place}
 use Rattle.rdl_elab.specs.declared.row.Place.TheVariants.{Bytes, Bits}
 use Rattle.rdl_elab.specs.declared.row.Row.{Row}
 use Rattle.rdl_elab.specs.Layouts.{values_of, mode_inside, layout_of}
+use Rattle.rdl_elab.specs.Shown.{valued}
 
 -- A row has the names from the top, the kind, the absolute address of the first element (a field's is that of its register), the place,
 -- and the value of each property of the kind that has one, in the order of the table of properties.
@@ -31,9 +32,6 @@ abbrev pub row_value : Items → List (List ℕ) → Head → Property → Optio
 row_value d path h p = if on p h.kind then option_map (shown (row p).form) (path_value d path h.at p) else None
 
 -- those that there are, in the order of the table
-abbrev pub valued : Property → Value → PropertyValue
-valued p v = record { property = p; value = v }
-
 abbrev pub row_values : Items → List (List ℕ) → Head → List PropertyValue
 row_values d path h = filter_map (λ p. option_map (valued p) (row_value d path h p)) properties
 

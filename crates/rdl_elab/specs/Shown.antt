@@ -13,7 +13,9 @@ use Rattle.rdl_tree.specs.declared.property.Property.{Property}
 use Rattle.rdl_scope.specs.Value.{shown}
 use Rattle.rdl_scope.specs.Closed.{Head, head_value}
 use Rattle.rdl_elab.specs.declared.row.PropertyValue.{PropertyValue}
-use Rattle.rdl_elab.specs.Rows.{valued}
+
+abbrev pub valued : Property → Value → PropertyValue
+valued p v = record { property = p; value = v }
 
 abbrev pub shown_value : Head → Property → Option Value
 shown_value h p = if on p h.kind then option_map (shown (row p).form) (head_value h p) else None

@@ -2,7 +2,7 @@
 -- own: `top_from` (Faults) says the same of all items of the root.
 use Rattle.std.specs.Prelude.{ℕ, List, Option, Some, None, if◌then◌else◌}
 use Rattle.rdl_tree.specs.declared.shell.Kind.{Kind}
-use Rattle.rdl_tree.specs.declared.shell.Kind.TheVariants.{Addrmap, Regfile, Reg, Field}
+use Rattle.rdl_tree.specs.declared.shell.Kind.TheVariants.{Addrmap}
 use Rattle.rdl_tree.specs.declared.description.Item.{Item}
 use Rattle.rdl_tree.specs.declared.description.Item.TheVariants.{Define, Instance, Own, Default, Dynamic}
 use Rattle.rdl_elab.specs.Faults.{has_name}

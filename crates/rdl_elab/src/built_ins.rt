@@ -3,7 +3,7 @@ ghost use Rattle.std.specs.Prelude.{◌≡◌, IfOk};
 ghost use Rattle.rdl_elab.specs.Shown.{built_in_values};
 
 use crate::defaults::Defaults;
-use crate::row::ComponentValues;
+use crate::row_values::ComponentValues;
 use crate::values::stated_values;
 use rdl_tree::description::Body;
 use rdl_tree::shell::Kind;

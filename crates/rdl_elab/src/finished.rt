@@ -1,7 +1,7 @@
 //! Components that are laid out.
 use crate::layout::{Layout, LayoutValues, Mode};
 use crate::reaches::Assignment;
-use crate::row::ComponentValues;
+use crate::row_values::ComponentValues;
 use crate::shared::SharedAddress;
 use rdl_tree::address::Address;
 use rdl_tree::shell::{Kind, Shell};

@@ -14,6 +14,7 @@ pub mod place;
 mod reaches;
 mod round;
 pub mod row;
+pub mod row_values;
 mod rows;
 mod shared;
 pub mod siblings;

@@ -6,7 +6,7 @@ use crate::defaults::Defaults;
 use crate::layout::{FieldBits, LayoutValues, Member, Mode, Placement, Span};
 use crate::place::place;
 use crate::reaches::{assignments, behind, reached, with_own};
-use crate::row::RowValues;
+use crate::row_values::RowValues;
 use crate::values::{layout_values, row_values, shown_values};
 use rdl_text::name::Name;
 use rdl_tree::address::Address;

@@ -9,14 +9,15 @@ ghost use Rattle.rdl_elab.specs.Layouts.{values_of, number_in, power_in, width_i
 ghost use Rattle.std.specs.List.{list_any, cons_option};
 ghost use Rattle.rdl_tree.specs.Items.{no_items};
 ghost use Rattle.rdl_elab.specs.Shown.{bare, shown_value, shown_among, shown_values, is_own};
-ghost use Rattle.rdl_elab.specs.Rows.{valued};
+ghost use Rattle.rdl_elab.specs.Shown.{valued};
 ghost use Rattle.rdl_elab.specs.Reaches.{are_distinct, past, value_along, values_among, values_along, reset_value, value_under};
 
 use crate::built_ins::BuiltIns;
 use crate::defaults::Defaults;
 use crate::layout::{LayoutValues, Mode};
 use crate::reaches::{Assignment, reached};
-use crate::row::{ComponentValues, PropertyValue, RowValues};
+use crate::row::PropertyValue;
+use crate::row_values::{ComponentValues, RowValues};
 use rdl_scope::values::{own_value, shown};
 use rdl_text::token::Number;
 use rdl_tree::description::{Body, Item};

@@ -3,18 +3,15 @@
 use Rattle.std.specs.Prelude.{ℕ, Bool, ◌-◌, ◌*◌, ◌^◌, min, List, [], ◌∷◌, ◌++◌, Option, None, Some, Result, Ok, Err, codes, bytes_eq, if◌then◌else◌}
 use Rattle.std.specs.Fmt.{decimal}
 use Rattle.std.specs.List.{flat_map, list_any}
-use Rattle.std.specs.Option.{option_or}
-use Rattle.rdl_tree.specs.declared.property.Property.{Property}
 use Rattle.rdl_tree.specs.declared.property.Property.TheVariants.{Reset}
-use Rattle.rdl_tree.specs.declared.value.Value.{Value}
-use Rattle.rdl_tree.specs.declared.value.Value.TheVariants.{Number}
 use Rattle.rdl_scope.specs.ItemFaults.{product}
 use Rattle.rdl_elab.specs.declared.layout.Span.{Span}
 use Rattle.rdl_elab.specs.declared.row.Extent.{Extent}
 use Rattle.rdl_elab.specs.declared.row.Place.{Place}
 use Rattle.rdl_elab.specs.declared.row.Place.TheVariants.{Bytes, Bits}
-use Rattle.rdl_elab.specs.declared.row.PropertyValue.{PropertyValue}
 use Rattle.rdl_elab.specs.declared.row.Row.{Row}
+use Rattle.rdl_elab.specs.Layouts.{number_in}
+use Rattle.rdl_elab.specs.Reaches.{value_under}
 use Rattle.rdl_write.specs.Texts.{newline, hexadecimal}
 
 -- ---- Macros.
@@ -60,15 +57,6 @@ width span = span.end - span.start
 abbrev pub mask : Span → ℕ
 mask span = capped ((2 ^ width span - 1) * 2 ^ span.start)
 
--- the number of the property reset among these values
-abbrev pub reset_by : Property → Value → Option ℕ
-reset_by Reset (Number n) = Some n
-reset_by property value = None
-
-abbrev pub reset_among : List PropertyValue → Option ℕ
-reset_among [] = None
-reset_among (v ∷ vs) = option_or (reset_by v.property v.value) (reset_among vs)
-
 -- the reset isn't shifted
 abbrev pub reset_macros : (path : List ℕ) → Option ℕ → List Macro
 reset_macros path None = []
@@ -83,7 +71,7 @@ bits_macros path span reset =
 
 abbrev pub macros_at : Row → Place → List Macro
 macros_at row (Bytes extent) = bytes_macros (path_text row.names) row.base extent
-macros_at row (Bits span) = bits_macros (path_text row.names) span (reset_among row.values)
+macros_at row (Bits span) = bits_macros (path_text row.names) span (number_in (value_under Reset row.values))
 
 abbrev pub macros_of : Row → List Macro
 macros_of row = macros_at row row.place

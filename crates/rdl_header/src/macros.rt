@@ -1,16 +1,15 @@
 //! The macros of the rows.
 ghost use Rattle.std.specs.Prelude.{◌≡◌, ◌++◌, string_bytes, IfOk, OnOk};
 ghost use Rattle.std.specs.List.{flat_map};
-ghost use Rattle.rdl_header.specs.HeaderText.{path_text, array_macros, bytes_macros, reset_by, reset_among, reset_macros, bits_macros, macros_of, guard, macros};
+ghost use Rattle.rdl_header.specs.HeaderText.{path_text, array_macros, bytes_macros, reset_macros, bits_macros, macros_of, guard, macros};
 
 use crate::bits::{mask, width};
 use crate::define::Define;
 use rdl_elab::layout::Span;
-use rdl_elab::row::{Extent, Place, PropertyValue, Row, RowPath};
+use rdl_elab::row::{Extent, Place, Row, RowPath};
 use rdl_scope::shells::product;
 use rdl_text::token::Number;
 use rdl_tree::property::Property;
-use rdl_tree::value::Value;
 use std::alloc::{AllocError, Global};
 
 /// Appends the names from the top with two underscores between them.
@@ -69,26 +68,6 @@ fn add_bytes(
     add_array(alloc, defines, path, dims, extent.stride)
 }
 
-fn reset_by(item: &PropertyValue) -> Option<Number>
-    ensures { result ≡ reset_by item.now.property item.now.value }
-{
-    match (item.property, &item.value) {
-        (Property::Reset, Value::Number(number)) => Some(*number),
-        _ => None,
-    }
-}
-
-fn reset_among(values: &[PropertyValue]) -> Option<Number>
-    ensures { result ≡ reset_among values.now }
-{
-    'values: for item in values {
-        if let Some(number) = reset_by(item) {
-            return Some(number);
-        }
-    }
-    None
-}
-
 fn add_reset(
     alloc: Global,
     defines: &mut Vec<Define>,
@@ -128,7 +107,7 @@ fn add_row(alloc: Global, defines: &mut Vec<Define>, row: &Row) -> Result<(), Al
     match &row.place {
         Place::Bytes(extent) => add_bytes(alloc, defines, path.as_str(), row.base, extent),
         Place::Bits(span) => {
-            let reset = reset_among(row.values.as_slice());
+            let reset = row.values.number(Property::Reset);
             add_bits(alloc, defines, path.as_str(), span, reset)
         }
     }

@@ -2,17 +2,14 @@
 use Rattle.std.specs.Prelude.{ℕ, ◌-◌, List, [], ◌∷◌, ◌++◌, Option, None, Some, codes}
 use Rattle.std.specs.Fmt.{decimal}
 use Rattle.std.specs.List.{flat_map}
-use Rattle.std.specs.Option.{option_or}
-use Rattle.rdl_tree.specs.declared.property.Property.{Property}
 use Rattle.rdl_tree.specs.declared.property.Property.TheVariants.{Reset}
-use Rattle.rdl_tree.specs.declared.value.Value.{Value}
-use Rattle.rdl_tree.specs.declared.value.Value.TheVariants.{Number}
 use Rattle.rdl_elab.specs.declared.layout.Span.{Span}
 use Rattle.rdl_elab.specs.declared.row.Extent.{Extent}
 use Rattle.rdl_elab.specs.declared.row.Place.{Place}
 use Rattle.rdl_elab.specs.declared.row.Place.TheVariants.{Bytes, Bits}
-use Rattle.rdl_elab.specs.declared.row.PropertyValue.{PropertyValue}
 use Rattle.rdl_elab.specs.declared.row.Row.{Row}
+use Rattle.rdl_elab.specs.Layouts.{number_in}
+use Rattle.rdl_elab.specs.Reaches.{value_under}
 use Rattle.rdl_write.specs.Texts.{newline, hexadecimal, kind_text, dim_text, target_text}
 
 -- ---- Parts of a line.
@@ -29,15 +26,6 @@ part_text word n = codes " " ++ word ++ codes " " ++ hexadecimal n
 abbrev pub stride_text : (dims : List ℕ) → (stride : ℕ) → List ℕ
 stride_text [] stride = []
 stride_text (dim ∷ dims) stride = part_text (codes "stride") stride
-
--- the number of the property reset among these values
-abbrev pub reset_by : Property → Value → Option ℕ
-reset_by Reset (Number n) = Some n
-reset_by property value = None
-
-abbrev pub reset_among : List PropertyValue → Option ℕ
-reset_among [] = None
-reset_among (v ∷ vs) = option_or (reset_by v.property v.value) (reset_among vs)
 
 abbrev pub reset_text : Option ℕ → List ℕ
 reset_text None = []
@@ -60,7 +48,7 @@ bytes_line row extent = head_text row ++ extent_text extent ++ newline
 unfoldable pub bits_line : Row → Span → List ℕ
 bits_line row span =
     codes "[" ++ decimal (span.end - 1) ++ codes ":" ++ decimal span.start ++ codes "] field " ++ path_text row.names
-    ++ reset_text (reset_among row.values) ++ newline
+    ++ reset_text (number_in (value_under Reset row.values)) ++ newline
 
 abbrev pub line_at : Row → Place → List ℕ
 line_at row (Bytes extent) = bytes_line row extent

@@ -1,13 +1,12 @@
 //! The line of a row.
 ghost use Rattle.std.specs.Prelude.{◌≡◌, ◌++◌, string_bytes, OnOk};
-ghost use Rattle.rdl_list.specs.ListText.{path_text, part_text, stride_text, reset_by, reset_among, reset_text, head_text, extent_text, bytes_line, bits_line, row_line};
+ghost use Rattle.rdl_list.specs.ListText.{path_text, part_text, stride_text, reset_text, head_text, extent_text, bytes_line, bits_line, row_line};
 
 use rdl_elab::layout::Span;
-use rdl_elab::row::{Extent, Place, PropertyValue, Row, RowPath};
+use rdl_elab::row::{Extent, Place, Row, RowPath};
 use rdl_text::token::Number;
 use rdl_tree::dims::Dims;
 use rdl_tree::property::Property;
-use rdl_tree::value::Value;
 use rdl_write::{kind_text, push_dims, push_hexadecimal};
 use std::alloc::AllocError;
 
@@ -37,26 +36,6 @@ fn push_stride(text: &mut String, dims: &Dims, stride: Number) -> Result<(), All
         [] => Ok(()),
         [_, ..] => push_part(text, "stride", stride),
     }
-}
-
-fn reset_by(item: &PropertyValue) -> Option<Number>
-    ensures { result ≡ reset_by item.now.property item.now.value }
-{
-    match (item.property, &item.value) {
-        (Property::Reset, Value::Number(number)) => Some(*number),
-        _ => None,
-    }
-}
-
-fn reset_among(values: &[PropertyValue]) -> Option<Number>
-    ensures { result ≡ reset_among values.now }
-{
-    'values: for item in values {
-        if let Some(number) = reset_by(item) {
-            return Some(number);
-        }
-    }
-    None
 }
 
 fn push_reset(text: &mut String, reset: Option<Number>) -> Result<(), AllocError>
@@ -101,7 +80,7 @@ fn push_bits(text: &mut String, row: &Row, span: &Span) -> Result<(), AllocError
     let high = span.end.saturating_sub(1);
     write!(text, "[{high}:{}] field ", span.start)?;
     push_path(text, &row.names)?;
-    push_reset(text, reset_among(row.values.as_slice()))?;
+    push_reset(text, row.values.number(Property::Reset))?;
     text.push_str("\n")
 }
 

@@ -1,5 +1,4 @@
-use Rattle.std.proofs.Common.{rules, ◌≡◌, ◌∙◌, ◌∷◌, [], ap, sym, inl, Ok, Err, None, Some, option_copied}
-use Rattle.rdl_tree.specs.View.{list_of}
+use Rattle.std.proofs.Common.{rules, ◌≡◌, ◌∙◌, ◌∷◌, [], ap, sym, inl, Err, None, Some, option_copied}
 use Rattle.rdl_scope.specs.ItemFaults.{fault_of, out_of_memory}
 use Rattle.rdl_elab.specs.Faults.{elaborated, with_top, under_top}
 use Rattle.rdl_scope.specs.Closed.{component}

@@ -1,8 +1,6 @@
-use Rattle.std.proofs.Common.{rules, ◌≡◌, ◌∙◌, sym, option_copied, get_or, ap}
-use Rattle.std.specs.Option.{option_or}
+use Rattle.std.proofs.Common.{rules, ◌∙◌, sym, option_copied}
 use Rattle.rdl_tree.specs.View.{items_of}
 use Rattle.rdl_elab.specs.Faults.{top_from}
-use Rattle.rdl_elab.specs.Tops.{top_at}
 use Rattle.rdl_elab.proofs.Tops.{or-none, top-next, top-none}
 use Rattle.rdl_elab.proofs.elaborate.last_top.Goals as goal
 

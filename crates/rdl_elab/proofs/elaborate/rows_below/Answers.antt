@@ -1,5 +1,5 @@
-use Rattle.std.proofs.Common.{rules, ◌≡◌, ap, sym, ◌∙◌, Some, None, Ok, ◌∷◌, []}
-use Rattle.rdl_elab.specs.KeptRows.{told, kept_top_row, kept_around_top, kept_rows}
+use Rattle.std.proofs.Common.{rules, ◌≡◌, ap, ◌∙◌, Some, None, Ok}
+use Rattle.rdl_elab.specs.KeptRows.{told, kept_rows}
 use Rattle.rdl_elab.proofs.Telling.{told-answer}
 use Rattle.rdl_elab.proofs.elaborate.rows_below.Goals as goal
 

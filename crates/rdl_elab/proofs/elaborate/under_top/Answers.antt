@@ -1,5 +1,5 @@
 use Rattle.std.proofs.Common.{rules, ◌≡◌, ◌∷◌, [], subst, true, Some, IfOk}
-use Rattle.std.specs.Prelude.{IfSome, slice_get}
+use Rattle.std.specs.Prelude.{IfSome}
 use Rattle.std.specs.Option.{is_some}
 use Rattle.rdl_scope.specs.Closed.{Made, component}
 use Rattle.rdl_elab.specs.Finished.{IsFinished}
