@@ -17,12 +17,6 @@ pub mod row;
 mod rows;
 mod shared;
 pub mod siblings;
-#[cfg(test)]
-mod siblings_tests;
-#[cfg(test)]
-mod tests;
 mod types;
 mod values;
 mod walk;
-#[cfg(test)]
-mod walk_tests;

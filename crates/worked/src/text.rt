@@ -1,11 +1,10 @@
 //! Each row of the table of words, each fault with its place, and places.
-
-use crate::fault::TextFault;
-use crate::list::Tokens;
-use crate::name::{Name, NameFault};
-use crate::raw::Raw;
-use crate::token::{Mark, TokenKind};
-use crate::{place, tokens};
+use rdl_text::fault::TextFault;
+use rdl_text::list::Tokens;
+use rdl_text::name::{Name, NameFault};
+use rdl_text::raw::Raw;
+use rdl_text::token::{Mark, TokenKind};
+use rdl_text::{place, tokens};
 use std::alloc::{AllocError, Global};
 use std::process::Abort;
 use std::test::Fail;
