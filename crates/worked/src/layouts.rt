@@ -273,17 +273,20 @@ fn makes_the_rows_of_nine_levels(rt: HostRuntime) -> Result<(), Fail> {
     Ok(())
 }
 
-/// Registers of four bytes, with four bytes free behind each, the last one first, and one more at this address.
+fn register(alloc: Global, number: u64, start: u64) -> Result<String, Fail> {
+    Ok(format!(in alloc; "reg {{}} r{number} @ {start};")?)
+}
+
+/// Registers of four bytes, with four bytes free behind each, the last one first, then one more at this address, and
+/// one far behind them.
 fn descending(alloc: Global, count: u64, more: u64) -> Result<String, Fail> {
     let mut text = String::from_str(alloc, "addrmap top {")?;
     for behind in 0..count {
         let start = (count - behind).saturating_mul(8);
-        write!(text, "reg {{}} r{behind} @ {start};")?;
+        text.push_str(register(alloc, behind, start)?.as_str())?;
     }
-    write!(
-        text,
-        "reg {{}} more @ {more}; reg {{}} last @ 0x10_0000; }};"
-    )?;
+    text.push_str(register(alloc, count, more)?.as_str())?;
+    text.push_str("reg {} last @ 0x10_0000; };")?;
     Ok(text)
 }
 
