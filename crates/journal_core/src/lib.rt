@@ -7,5 +7,3 @@ pub mod fault;
 pub mod invertible;
 pub mod journal;
 pub mod laws;
-#[cfg(test)]
-mod tests;

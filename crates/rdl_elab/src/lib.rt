@@ -18,12 +18,6 @@ pub mod row_values;
 mod rows;
 mod shared;
 pub mod siblings;
-#[cfg(test)]
-mod siblings_tests;
-#[cfg(test)]
-mod tests;
 mod types;
 mod values;
 mod walk;
-#[cfg(test)]
-mod walk_tests;

@@ -5,8 +5,6 @@ mod bits;
 mod clash;
 mod define;
 mod macros;
-#[cfg(test)]
-mod tests;
 mod text;
 
 pub use text::{HeaderFault, header};

@@ -3,7 +3,5 @@
 
 mod line;
 mod list;
-#[cfg(test)]
-mod tests;
 
 pub use list::list_text;

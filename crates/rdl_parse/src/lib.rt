@@ -13,7 +13,5 @@ pub mod places;
 mod reader;
 mod room;
 mod statement;
-#[cfg(test)]
-mod tests;
 mod text;
 mod word;

@@ -13,7 +13,5 @@ mod passed;
 mod places;
 pub mod shells;
 pub mod targets;
-#[cfg(test)]
-mod tests;
 pub mod types;
 pub mod values;

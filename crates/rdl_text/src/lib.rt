@@ -12,8 +12,6 @@ mod piece;
 mod places;
 pub mod raw;
 mod rows;
-#[cfg(test)]
-mod tests;
 pub mod token;
 
 pub use cut::tokens;

@@ -17,7 +17,5 @@ pub mod property;
 pub mod reach;
 pub mod shell;
 pub mod target;
-#[cfg(test)]
-mod tests;
 pub mod value;
 pub mod weight;

@@ -1,5 +1,5 @@
-//! Tests of what no clause says: that the calls succeed, and that the definitions say what is meant.
-use crate::parse::{parse, parse_item};
+//! What texts spell, where their items stand, and why they are refused.
+use rdl_parse::parse::{parse, parse_item};
 use rdl_text::place;
 use rdl_tree::address::Address;
 use rdl_tree::description::{Description, Item, Of};

@@ -1,11 +1,10 @@
 //! Each row of the table of words, each fault with its place, and places.
-
-use crate::fault::TextFault;
-use crate::list::Tokens;
-use crate::name::{Name, NameFault};
-use crate::raw::Raw;
-use crate::token::{Mark, TokenKind};
-use crate::{place, tokens};
+use rdl_text::fault::TextFault;
+use rdl_text::list::Tokens;
+use rdl_text::name::{Name, NameFault};
+use rdl_text::raw::Raw;
+use rdl_text::token::{Mark, TokenKind};
+use rdl_text::{place, tokens};
 use std::alloc::{AllocError, Global};
 use std::process::Abort;
 use std::test::Fail;
@@ -78,62 +77,82 @@ fn identifiers(rt: HostRuntime) -> Result<(), Fail> {
     Ok(())
 }
 
-#[test]
-fn numbers(rt: HostRuntime) -> Result<(), Fail> {
-    assert_eq!(rt; only_kind(rt.alloc(), "0")?, Some(TokenKind::Number(0)));
-    assert_eq!(rt; only_kind(rt.alloc(), "0017")?, Some(TokenKind::Number(17)));
-    assert_eq!(rt;
-        only_kind(rt.alloc(), "1_000__")?,
-        Some(TokenKind::Number(1000))
-    );
-    assert_eq!(rt;
-        only_kind(rt.alloc(), "18446744073709551615")?,
-        Some(TokenKind::Number(u64::MAX))
-    );
-    assert_eq!(rt; fault(rt.alloc(), " 18446744073709551616"), (4, 1));
-    assert_eq!(rt;
-        only_kind(rt.alloc(), "0xFf")?,
-        Some(TokenKind::Number(255))
-    );
-    assert_eq!(rt;
-        only_kind(rt.alloc(), "0X0_1_")?,
-        Some(TokenKind::Number(1))
-    );
-    assert_eq!(rt;
-        only_kind(rt.alloc(), "0xFFFF_FFFF_FFFF_FFFF")?,
-        Some(TokenKind::Number(u64::MAX))
-    );
-    assert_eq!(rt; fault(rt.alloc(), "a 0x1_0000_0000_0000_0000"), (4, 2));
-    Ok(())
+const ONE_WORD: [(&str, TokenKind); 16] = [
+    ("0", TokenKind::Number(0)),
+    ("0017", TokenKind::Number(17)),
+    ("1_000__", TokenKind::Number(1000)),
+    ("18446744073709551615", TokenKind::Number(u64::MAX)),
+    ("0xFf", TokenKind::Number(255)),
+    ("0X0_1_", TokenKind::Number(1)),
+    ("0xFFFF_FFFF_FFFF_FFFF", TokenKind::Number(u64::MAX)),
+    ("4'b1_01", TokenKind::Number(5)),
+    ("04'B0101", TokenKind::Number(5)),
+    ("8'd255", TokenKind::Number(255)),
+    ("8'D0_", TokenKind::Number(0)),
+    ("64'hFFFFFFFFFFFFFFFF", TokenKind::Number(u64::MAX)),
+    ("2'H3", TokenKind::Number(3)),
+    ("\"\"", TokenKind::Text),
+    ("\"a // b\n/* é\"", TokenKind::Text),
+    ("\"a\\\"b\\\\\"", TokenKind::Text),
+];
+
+fn one_word() -> &'static [(&'static str, TokenKind)] {
+    &ONE_WORD
 }
 
 #[test]
-fn sized_numbers(rt: HostRuntime) -> Result<(), Fail> {
-    assert_eq!(rt;
-        only_kind(rt.alloc(), "4'b1_01")?,
-        Some(TokenKind::Number(5))
-    );
-    assert_eq!(rt;
-        only_kind(rt.alloc(), "04'B0101")?,
-        Some(TokenKind::Number(5))
-    );
-    assert_eq!(rt;
-        only_kind(rt.alloc(), "8'd255")?,
-        Some(TokenKind::Number(255))
-    );
-    assert_eq!(rt; only_kind(rt.alloc(), "8'D0_")?, Some(TokenKind::Number(0)));
-    assert_eq!(rt;
-        only_kind(rt.alloc(), "64'hFFFFFFFFFFFFFFFF")?,
-        Some(TokenKind::Number(u64::MAX))
-    );
-    assert_eq!(rt; only_kind(rt.alloc(), "2'H3")?, Some(TokenKind::Number(3)));
-    assert_eq!(rt; fault(rt.alloc(), ";2'h4"), (5, 1));
-    assert_eq!(rt; fault(rt.alloc(), "64'h1_0000_0000_0000_0000"), (5, 0));
-    assert_eq!(rt; fault(rt.alloc(), "0'b0"), (6, 0));
-    assert_eq!(rt; fault(rt.alloc(), "65'h0"), (6, 0));
-    assert_eq!(rt; fault(rt.alloc(), "0'b1"), (6, 0));
-    assert_eq!(rt; fault(rt.alloc(), "99999999999999999999'h0"), (6, 0));
+fn numbers_and_strings(rt: HostRuntime) -> Result<(), Fail> {
+    for (text, kind) in one_word() {
+        assert_eq!(rt;
+            only_kind(rt.alloc(), text)?,
+            Some(*kind),
+            "the kind of {text}"
+        );
+    }
     Ok(())
+}
+
+const FAULTS: [(&str, u8, usize); 25] = [
+    (" 18446744073709551616", 4, 1),
+    ("a 0x1_0000_0000_0000_0000", 4, 2),
+    (";2'h4", 5, 1),
+    ("64'h1_0000_0000_0000_0000", 5, 0),
+    ("0'b0", 6, 0),
+    ("65'h0", 6, 0),
+    ("0'b1", 6, 0),
+    ("99999999999999999999'h0", 6, 0),
+    ("4'h", 1, 1),
+    ("4'h_1", 1, 1),
+    ("4'b2", 1, 1),
+    ("1_0'h5", 1, 3),
+    ("4'o7", 1, 1),
+    ("a \"b", 3, 2),
+    ("\"b\\\"", 3, 0),
+    ("\"\\", 3, 0),
+    ("a/*/", 2, 1),
+    ("/* *", 2, 0),
+    ("a / b", 1, 2),
+    ("a é", 1, 2),
+    ("a\0", 1, 1),
+    ("a + = b", 1, 2),
+    ("a - > b", 1, 2),
+    ("\\a", 1, 0),
+    ("a # 2'h4", 1, 2),
+];
+
+fn faults() -> &'static [(&'static str, u8, usize)] {
+    &FAULTS
+}
+
+#[test]
+fn faults_have_their_places(rt: HostRuntime) {
+    for (text, number, offset) in faults() {
+        assert_eq!(rt;
+            fault(rt.alloc(), text),
+            (*number, *offset),
+            "the fault of {text}"
+        );
+    }
 }
 
 #[test]
@@ -144,28 +163,11 @@ fn numbers_that_break_off(rt: HostRuntime) -> Result<(), Fail> {
     is_word(&rt, &words, 1, TokenKind::Identifier, 1, "x");
     is_word(&rt, &words, 2, TokenKind::Number(0), 3, "0");
     is_word(&rt, &words, 3, TokenKind::Identifier, 4, "b1");
-    assert_eq!(rt; fault(rt.alloc(), "4'h"), (1, 1));
-    assert_eq!(rt; fault(rt.alloc(), "4'h_1"), (1, 1));
-    assert_eq!(rt; fault(rt.alloc(), "4'b2"), (1, 1));
-    assert_eq!(rt; fault(rt.alloc(), "1_0'h5"), (1, 3));
-    assert_eq!(rt; fault(rt.alloc(), "4'o7"), (1, 1));
     Ok(())
 }
 
 #[test]
 fn strings(rt: HostRuntime) -> Result<(), Fail> {
-    assert_eq!(rt; only_kind(rt.alloc(), "\"\"")?, Some(TokenKind::Text));
-    assert_eq!(rt;
-        only_kind(rt.alloc(), "\"a // b\n/* é\"")?,
-        Some(TokenKind::Text)
-    );
-    assert_eq!(rt;
-        only_kind(rt.alloc(), "\"a\\\"b\\\\\"")?,
-        Some(TokenKind::Text)
-    );
-    assert_eq!(rt; fault(rt.alloc(), "a \"b"), (3, 2));
-    assert_eq!(rt; fault(rt.alloc(), "\"b\\\""), (3, 0));
-    assert_eq!(rt; fault(rt.alloc(), "\"\\"), (3, 0));
     let words = tokens(rt.alloc(), "x=\"a\\\"é\";")?;
     is_word(&rt, &words, 2, TokenKind::Text, 2, "\"a\\\"é\"");
     let inside = words.get(2).and_then(|word| word.raw());
@@ -177,30 +179,33 @@ fn strings(rt: HostRuntime) -> Result<(), Fail> {
     Ok(())
 }
 
+const MARKS: [(usize, Mark, usize, &str); 13] = [
+    (0, Mark::OpenBrace, 0, "{"),
+    (1, Mark::CloseBrace, 1, "}"),
+    (2, Mark::OpenBracket, 2, "["),
+    (3, Mark::CloseBracket, 3, "]"),
+    (4, Mark::Colon, 4, ":"),
+    (5, Mark::Semicolon, 5, ";"),
+    (6, Mark::Comma, 6, ","),
+    (7, Mark::Dot, 7, "."),
+    (8, Mark::Equals, 8, "="),
+    (9, Mark::At, 9, "@"),
+    (10, Mark::PlusEquals, 10, "+="),
+    (11, Mark::PercentEquals, 12, "%="),
+    (12, Mark::Arrow, 14, "->"),
+];
+
+fn marks_in_order() -> &'static [(usize, Mark, usize, &'static str)] {
+    &MARKS
+}
+
 #[test]
 fn marks(rt: HostRuntime) -> Result<(), Fail> {
     let words = tokens(rt.alloc(), "{}[]:;,.=@+=%=->")?;
     assert_eq!(rt; words.len(), 13);
-    is_word(&rt, &words, 0, TokenKind::Mark(Mark::OpenBrace), 0, "{");
-    is_word(&rt, &words, 1, TokenKind::Mark(Mark::CloseBrace), 1, "}");
-    is_word(&rt, &words, 2, TokenKind::Mark(Mark::OpenBracket), 2, "[");
-    is_word(&rt, &words, 3, TokenKind::Mark(Mark::CloseBracket), 3, "]");
-    is_word(&rt, &words, 4, TokenKind::Mark(Mark::Colon), 4, ":");
-    is_word(&rt, &words, 5, TokenKind::Mark(Mark::Semicolon), 5, ";");
-    is_word(&rt, &words, 6, TokenKind::Mark(Mark::Comma), 6, ",");
-    is_word(&rt, &words, 7, TokenKind::Mark(Mark::Dot), 7, ".");
-    is_word(&rt, &words, 8, TokenKind::Mark(Mark::Equals), 8, "=");
-    is_word(&rt, &words, 9, TokenKind::Mark(Mark::At), 9, "@");
-    is_word(&rt, &words, 10, TokenKind::Mark(Mark::PlusEquals), 10, "+=");
-    is_word(
-        &rt,
-        &words,
-        11,
-        TokenKind::Mark(Mark::PercentEquals),
-        12,
-        "%=",
-    );
-    is_word(&rt, &words, 12, TokenKind::Mark(Mark::Arrow), 14, "->");
+    for (index, mark, start, source) in marks_in_order() {
+        is_word(&rt, &words, *index, TokenKind::Mark(*mark), *start, source);
+    }
     Ok(())
 }
 
@@ -220,20 +225,6 @@ fn blanks_and_comments(rt: HostRuntime) -> Result<(), Fail> {
         tokens(rt.alloc(), "//")?.is_empty(),
         "a comment up to the end"
     );
-    assert_eq!(rt; fault(rt.alloc(), "a/*/"), (2, 1));
-    assert_eq!(rt; fault(rt.alloc(), "/* *"), (2, 0));
-    Ok(())
-}
-
-#[test]
-fn bad_characters(rt: HostRuntime) -> Result<(), Fail> {
-    assert_eq!(rt; fault(rt.alloc(), "a / b"), (1, 2));
-    assert_eq!(rt; fault(rt.alloc(), "a é"), (1, 2));
-    assert_eq!(rt; fault(rt.alloc(), "a\0"), (1, 1));
-    assert_eq!(rt; fault(rt.alloc(), "a + = b"), (1, 2));
-    assert_eq!(rt; fault(rt.alloc(), "a - > b"), (1, 2));
-    assert_eq!(rt; fault(rt.alloc(), "\\a"), (1, 0));
-    assert_eq!(rt; fault(rt.alloc(), "a # 2'h4"), (1, 2));
     Ok(())
 }
 

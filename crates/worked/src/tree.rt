@@ -1,13 +1,13 @@
-//! Tests of what no clause says: that the calls succeed, and that the definitions say what is meant.
-use crate::address::Address;
-use crate::description::{Body, Component, Description, Item, Of};
-use crate::dims::Dims;
-use crate::path::{Path, PathFault, Segment};
-use crate::shell::{Kind, Outside, Shell};
-use crate::target::Target;
-use crate::value::{Value, Word};
+//! Trees made by hand.
 use rdl_text::name::Name;
 use rdl_text::raw::Raw;
+use rdl_tree::address::Address;
+use rdl_tree::description::{Body, Component, Description, Item, Of};
+use rdl_tree::dims::Dims;
+use rdl_tree::path::{Path, PathFault, Segment};
+use rdl_tree::shell::{Kind, Outside, Shell};
+use rdl_tree::target::Target;
+use rdl_tree::value::{Value, Word};
 use std::alloc::Global;
 use std::test::Fail;
 

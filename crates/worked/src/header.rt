@@ -1,66 +1,21 @@
-//! Tests of rows made by hand, with ample memory.
-use crate::{HeaderFault, header};
-use rdl_elab::layout::Span;
-use rdl_elab::row::{Extent, Place, PropertyValue, Row, RowPath, RowValues};
-use rdl_text::name::Name;
-use rdl_tree::dims::Dims;
-use rdl_tree::property::Property;
+//! The header of rows made by hand.
+use crate::rows;
+use crate::rows::{dims, field};
+use rdl_elab::row::{Extent, Row};
+use rdl_header::{HeaderFault, header};
 use rdl_tree::shell::Kind;
-use rdl_tree::value::Value;
 use std::alloc::Global;
-use std::rc::Rc;
 use std::test::Fail;
 
-fn path(alloc: Global, names: &[&str]) -> Result<RowPath, Fail> {
-    let (last, before) = names.split_last().ok_or("no names")?;
-    let mut around = Vec::new(alloc);
-    for name in before {
-        around.push(Name::new(alloc, name)?)?;
-    }
-    let around = Rc::new(alloc, around)?;
-    Ok(RowPath::new(around, Name::new(alloc, last)?))
-}
-
-/// A row of four bytes, the elements eight apart.
-fn bytes(alloc: Global, names: &[&str], kind: Kind, base: u64, dims: &[u64]) -> Result<Row, Fail> {
-    let dims = Dims::from_vec(Vec::from_slice(alloc, dims)?);
-    let place = Place::Bytes(Extent {
+/// A row of elements of four bytes, eight apart.
+fn bytes(alloc: Global, names: &[&str], kind: Kind, base: u64, sizes: &[u64]) -> Result<Row, Fail> {
+    let extent = Extent {
         offset: base,
         size: 4,
-        dims,
+        dims: dims(alloc, sizes)?,
         stride: 8,
-    });
-    Ok(Row {
-        names: path(alloc, names)?,
-        kind,
-        base,
-        place,
-        values: RowValues::from_vec(alloc, Vec::new(alloc))?,
-    })
-}
-
-/// A field of the bits from `start` up to `end`.
-fn field(
-    alloc: Global,
-    names: &[&str],
-    start: u64,
-    end: u64,
-    reset: Option<u64>,
-) -> Result<Row, Fail> {
-    let mut values = Vec::new(alloc);
-    if let Some(number) = reset {
-        values.push(PropertyValue {
-            property: Property::Reset,
-            value: Value::Number(number),
-        })?;
-    }
-    Ok(Row {
-        names: path(alloc, names)?,
-        kind: Kind::Field,
-        base: 0,
-        place: Place::Bits(Span { start, end }),
-        values: RowValues::from_vec(alloc, values)?,
-    })
+    };
+    rows::bytes(alloc, names, kind, base, extent)
 }
 
 #[test]

@@ -1,6 +1,7 @@
-use crate::example::{Change, Numbers, Refusal};
-use crate::fault::{EditFault, StepFault};
-use crate::journal::Journal;
+//! The history of a list of numbers.
+use journal_core::example::{Change, Numbers, Refusal};
+use journal_core::fault::{EditFault, StepFault};
+use journal_core::journal::Journal;
 use std::test::Fail;
 
 #[test]
