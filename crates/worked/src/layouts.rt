@@ -124,25 +124,20 @@ fn bytes_at(rows: &Rows, number: usize) -> Result<(u64, u64), Fail> {
     }
 }
 
-/// The value of a property, if the row has one.
-fn value(row: &Row, property: Property) -> Option<&Value> {
-    for value in row.values.as_slice() {
-        if value.property == property {
-            return Some(&value.value);
-        }
-    }
-    None
+/// How many properties of the row have a value.
+fn count(row: &Row) -> usize {
+    Property::ALL
+        .iter()
+        .filter(|property| row.values.get(**property).is_some())
+        .count()
 }
 
 fn number_at(rows: &Rows, number: usize, property: Property) -> Result<Option<u64>, Fail> {
-    Ok(match value(row(rows, number)?, property) {
-        Some(Value::Number(number)) => Some(*number),
-        _ => None,
-    })
+    Ok(row(rows, number)?.values.number(property))
 }
 
 fn word_at(rows: &Rows, number: usize, property: Property) -> Result<Option<Word>, Fail> {
-    Ok(match value(row(rows, number)?, property) {
+    Ok(match row(rows, number)?.values.get(property) {
         Some(Value::Word(word)) => Some(*word),
         _ => None,
     })
@@ -181,7 +176,7 @@ fn reads_the_values_of_a_layout(rt: HostRuntime) -> Result<(), Fail> {
         word_at(&rows, 3, Property::Addressing)?,
         Some(Word::Regalign)
     );
-    assert!(rt; value(row(&rows, 0)?, Property::Alignment).is_none());
+    assert!(rt; row(&rows, 0)?.values.get(Property::Alignment).is_none());
     Ok(())
 }
 
@@ -191,13 +186,13 @@ fn shows_a_reset_of_an_instance(rt: HostRuntime) -> Result<(), Fail> {
     let text =
         "field F { reset = 5; }; addrmap top { reg { F f[8] = 7; F g[8]; field {} h; F i[8]; } r; };";
     let rows = elaborated(rt.alloc(), text)?;
-    for (number, count, reset) in [
+    for (number, wanted, reset) in [
         (2, 26, Some(7)),
         (3, 26, Some(5)),
         (4, 25, None),
         (5, 26, Some(5)),
     ] {
-        assert_eq!(rt; row(&rows, number)?.values.as_slice().len(), count);
+        assert_eq!(rt; count(row(&rows, number)?), wanted);
         assert_eq!(rt; number_at(&rows, number, Property::Reset)?, reset);
     }
     Ok(())

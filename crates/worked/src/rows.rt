@@ -1,6 +1,7 @@
 //! Rows made by hand.
 use rdl_elab::layout::Span;
-use rdl_elab::row::{Extent, Place, PropertyValue, Row, RowPath, RowValues};
+use rdl_elab::row::{Extent, Place, PropertyValue, Row, RowPath};
+use rdl_elab::row_values::RowValues;
 use rdl_text::name::Name;
 use rdl_tree::dims::Dims;
 use rdl_tree::property::Property;
