@@ -17,30 +17,3 @@ fn named(name: &str, properties: &[Property]) -> Option<Property>
 {
     properties.iter().copied().find(|p| name == p.name())
 }
-
-#[cfg(test)]
-mod tests {
-    use super::*;
-    use crate::shell::Kind;
-    use crate::value::Value;
-    use std::test::Fail;
-
-    #[test]
-    fn finds_by_name(rt: HostRuntime) -> Result<(), Fail> {
-        assert_eq!(rt; property("stickybit"), Some(Property::Stickybit));
-        assert_eq!(rt; property("Reset"), None);
-        Ok(())
-    }
-
-    // The row of `alignment`: address maps and register files, powers of two up to 2^40, in the layout.
-    #[test]
-    fn reads_the_columns_of_a_row(rt: HostRuntime) -> Result<(), Fail> {
-        let alignment = Property::Alignment;
-        assert!(rt; alignment.on(Kind::Regfile) && !alignment.on(Kind::Reg));
-        assert!(rt;
-            alignment.takes(&Value::Number(1 << 40)) && !alignment.takes(&Value::Number(3))
-        );
-        assert!(rt; alignment.layout() && !alignment.dynamic() && alignment.built_in().is_none());
-        Ok(())
-    }
-}

@@ -1,11 +1,10 @@
 //! Layouts and rows: each part on its own, and whole maps as they are elaborated.
+use crate::map::rows_or_fault;
 use rdl_elab::bits::bits;
 use rdl_elab::component::lay_out;
-use rdl_elab::elaborate::elaborate;
 use rdl_elab::layout::{FieldBits, LayoutValues, Member, Mode, Placement, Span};
 use rdl_elab::place::place;
 use rdl_elab::row::{Place, Row, Rows};
-use rdl_parse::parse::parse;
 use rdl_tree::fault::FaultKind;
 use rdl_tree::property::Property;
 use rdl_tree::shell::Kind;
@@ -92,14 +91,14 @@ fn lays_out_a_register(rt: HostRuntime) -> Result<(), Fail> {
 
 /// The rows of a text's map.
 fn elaborated(alloc: Global, text: &str) -> Result<Rows, Fail> {
-    let (description, _) = parse(alloc, text).ok().ok_or("spelled")?;
-    Ok(elaborate(alloc, &description, None).ok().ok_or("rows")?)
+    let answer = rows_or_fault(alloc, text).ok().ok_or("spelled")?;
+    Ok(answer.ok().ok_or("rows")?)
 }
 
 /// What is wrong with a text's map, and the item at which it shows.
 fn fault(alloc: Global, text: &str) -> Result<(FaultKind, String), Fail> {
-    let (description, _) = parse(alloc, text).ok().ok_or("spelled")?;
-    let fault = elaborate(alloc, &description, None).err().ok_or("rows")?;
+    let answer = rows_or_fault(alloc, text).ok().ok_or("spelled")?;
+    let fault = answer.err().ok_or("rows")?;
     Ok((fault.kind, fault.address.to_string(alloc)?))
 }
 

@@ -1,5 +1,5 @@
 //! The libraries on worked examples: that their calls succeed with ample memory, and that their definitions say what
-//! is meant. Nothing else stands here.
+//! is meant. Beside the tests stands only the way from a text to its rows.
 #![tactic(auto)]
 
 #[cfg(test)]
@@ -10,6 +10,7 @@ mod journal;
 mod layouts;
 #[cfg(test)]
 mod list;
+pub mod map;
 #[cfg(test)]
 mod parse;
 #[cfg(test)]

@@ -5,6 +5,8 @@ use rdl_tree::address::Address;
 use rdl_tree::description::{Body, Component, Description, Item, Of};
 use rdl_tree::dims::Dims;
 use rdl_tree::path::{Path, PathFault, Segment};
+use rdl_tree::properties::property;
+use rdl_tree::property::Property;
 use rdl_tree::shell::{Kind, Outside, Shell};
 use rdl_tree::target::Target;
 use rdl_tree::value::{Value, Word};
@@ -255,5 +257,22 @@ fn drops_the_largest(rt: HostRuntime) -> Result<(), Fail> {
     }
     assert!(rt; map.body(&address).is_some());
     drop(map);
+    Ok(())
+}
+
+#[test]
+fn finds_properties_by_name(rt: HostRuntime) -> Result<(), Fail> {
+    assert_eq!(rt; property("stickybit"), Some(Property::Stickybit));
+    assert_eq!(rt; property("Reset"), None);
+    Ok(())
+}
+
+// The row of `alignment`: address maps and register files, powers of two up to 2^40, in the layout.
+#[test]
+fn reads_the_columns_of_a_row(rt: HostRuntime) -> Result<(), Fail> {
+    let alignment = Property::Alignment;
+    assert!(rt; alignment.on(Kind::Regfile) && !alignment.on(Kind::Reg));
+    assert!(rt; alignment.takes(&Value::Number(1 << 40)) && !alignment.takes(&Value::Number(3)));
+    assert!(rt; alignment.layout() && !alignment.dynamic() && alignment.built_in().is_none());
     Ok(())
 }
