@@ -1,3 +1,4 @@
+pub mod Closings
 pub mod CommandLine
 pub mod ItemNames
 pub mod Opened

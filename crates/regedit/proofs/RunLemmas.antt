@@ -1,38 +1,39 @@
 -- From the parts of a run to the whole.
-use Rattle.std.proofs.Common.{◌≡◌, inl, ℕ, Bool, List, [], Option, refl, subst}
-use Rattle.std.specs.Prelude.{if◌then◌else◌}
+use Rattle.std.proofs.Common.{◌≡◌, inl, ℕ, Bool, List, [], ◌++◌, Option, refl, subst}
 use Rattle.std.specs.Io.KnownBytes.{Appends}
-use Rattle.std.proofs.KnownBytes.{Appends-nil}
+use Rattle.std.proofs.KnownBytes.{Appends-nil, Appends-trans}
 use Rattle.journal_core.specs.History.{IsAt}
 use Rattle.regedit.specs.Answers.{History', Serves}
 use Rattle.regedit.specs.Commands.{lines_of}
 use Rattle.rdl_edit.specs.Step.{State}
-use Rattle.rdl_write.specs.MapText.{map_text}
+use Rattle.regedit.specs.Closing.{Closes}
 use Rattle.regedit.specs.Known.{Gives}
 use Rattle.regedit.specs.Opening.{RefusesToOpen}
 use Rattle.regedit.specs.Output.{one_map, RanFrom, Ran}
 use Rattle.regedit.specs.declared.status.Status.{Status}
-use Rattle.regedit.specs.declared.status.Status.TheVariants.{Accepted, LineRefused, MapRefused}
+use Rattle.regedit.specs.declared.status.Status.TheVariants.{MapRefused}
 
--- the script was run, and both files written
-pub ran_from : (limit : ℕ) (first : State) (script : List ℕ) (refuses : Bool) (status : Status) (before last : History') (now : State) (m m' r r' h h' : Option (List ℕ))
-    → before ≡ one_map limit first → status ≡ (if refuses then LineRefused else Accepted)
-    → (text : List ℕ) × Serves before (lines_of script) text refuses last × Appends m m' text
-    → IsAt last now → Appends r r' (map_text now.description) → Appends h h' []
+-- the script was run, and all was written that closes the run
+pub ran_from : (limit : ℕ) (first : State) (script : List ℕ) (refuses : Bool) (status : Status) (before last : History') (now : State)
+    (message rdl header : List ℕ) (m mid m' r r' h h' : Option (List ℕ))
+    → before ≡ one_map limit first
+    → (replies : List ℕ) × Serves before (lines_of script) replies refuses last × Appends m mid replies
+    → IsAt last now → Closes now refuses message rdl header status → Appends mid m' message → Appends r r' rdl → Appends h h' header
     → RanFrom limit first script (record { messages = m; rdl = r; header = h }) (record { messages = m'; rdl = r'; header = h' }) status
-ran_from limit first script refuses status before last now m m' r r' h h' e s served at rdl header = record {
-  out = record { messages = served.0; rdl = map_text now.description; header = []; status = status };
+ran_from limit first script refuses status before last now message rdl header m mid m' r r' h h' e served at closes said wrote_rdl wrote_header = record {
+  out = record { messages = served.0 ++ message; rdl = rdl; header = header; status = status };
   runs = record {
     last = last;
     refuses = refuses;
+    replies = served.0;
     serves = subst (λ b. Serves b (lines_of script) served.0 refuses last) e served.1;
     now = now;
     at = at;
-    rdl = refl;
-    header = refl;
-    status = s;
+    message = message;
+    closes = closes;
+    messages = refl;
   };
-  holds = record { messages = served.2; rdl = rdl; header = header; answer = refl };
+  holds = record { messages = Appends-trans m mid m' served.0 message served.2 said; rdl = wrote_rdl; header = wrote_header; answer = refl };
 }
 
 -- the map was refused

@@ -1,5 +1,5 @@
 -- The words of the program, and its exit status. Own.
-use Rattle.std.specs.Prelude.{◌≢◌, ℕ, ◌≤◌, ◌==◌, Bool, false, ◌&&◌, List, [], ◌∷◌, map, codes}
+use Rattle.std.specs.Prelude.{ℕ, ◌≤◌, ◌==◌, Bool, false, ◌&&◌, List, [], ◌∷◌, map, codes}
 use Rattle.std.specs.Cmp.Lexicographic.{pointwise}
 use Rattle.regedit.specs.declared.command.Failure.{Failure}
 use Rattle.regedit.specs.declared.command.Failure.TheVariants as failures
@@ -19,10 +19,11 @@ abbrev pub status_code : Status → ℕ
 status_code statuses.Accepted = 0
 status_code statuses.LineRefused = 1
 status_code statuses.MapRefused = 2
+status_code statuses.HeaderClash = 3
 
 abbrev pub failure_code : Failure → ℕ
 failure_code (failures.Fault fault) = 4
 failure_code failures.BadCommandLine = 5
 
 abbrev pub IsExit : ℕ → Type 0
-IsExit n = (n ≤ 5) × (n ≢ 3)
+IsExit n = n ≤ 5

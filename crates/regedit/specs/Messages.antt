@@ -108,3 +108,7 @@ reply_text number (replies.Refused refusal) = script_line number (line_refusal_t
 -- the message of a map that is refused
 abbrev pub map_line : (line column : ℕ) → List ℕ → List ℕ
 map_line line column what = codes "map:" ++ decimal line ++ codes ":" ++ decimal column ++ codes ": " ++ what ++ newline
+
+-- the message of two macros that have one name
+abbrev pub clash_line : List ℕ → List ℕ
+clash_line name = codes "header: H1 two macros with one name: " ++ name ++ newline

@@ -1,15 +1,15 @@
 -- The output of a run: messages, both files and the status, from the bytes of the map and of the script. Own.
-use Rattle.std.specs.Prelude.{◌≡◌, ◌⊎◌, ℕ, Bool, List, [], ◌∷◌, Option, if◌then◌else◌}
+use Rattle.std.specs.Prelude.{◌≡◌, ◌⊎◌, ℕ, Bool, List, [], ◌∷◌, ◌++◌, Option}
 use Rattle.std.specs.Io.KnownBytes.{Appends}
 use Rattle.journal_core.specs.History.{IsAt}
 use Rattle.regedit.specs.Answers.{History', Serves}
 use Rattle.regedit.specs.Commands.{lines_of}
 use Rattle.rdl_edit.specs.Step.{State}
-use Rattle.rdl_write.specs.MapText.{map_text}
+use Rattle.regedit.specs.Closing.{Closes}
 use Rattle.regedit.specs.Known.{Gives}
 use Rattle.regedit.specs.Opening.{Opens, RefusesToOpen}
 use Rattle.regedit.specs.declared.status.Status.{Status}
-use Rattle.regedit.specs.declared.status.Status.TheVariants.{Accepted, LineRefused, MapRefused}
+use Rattle.regedit.specs.declared.status.Status.TheVariants.{MapRefused}
 
 pub record Output : Type 0 where
   pub messages : List ℕ
@@ -28,16 +28,18 @@ pub record RefusesMapOf (option : Option (List ℕ)) (map : List ℕ) (out : Out
 abbrev pub one_map : (limit : ℕ) → State → History'
 one_map limit s = record { limit = limit; states = s ∷ []; place = 0 }
 
--- the lines of the script lead from the history of the map alone to a place; the files are of the map there
+-- the lines of the script lead from the history of the map alone to a place; the run closes with the map there, and what that
+-- says stands behind the replies
 pub record Runs (limit : ℕ) (first : State) (script : List ℕ) (out : Output) : Type 0 where
   pub last : History'
   pub refuses : Bool
-  pub serves : Serves (one_map limit first) (lines_of script) out.messages refuses last
+  pub replies : List ℕ
+  pub serves : Serves (one_map limit first) (lines_of script) replies refuses last
   pub now : State
   pub at : IsAt last now
-  pub rdl : out.rdl ≡ map_text now.description
-  pub header : out.header ≡ []
-  pub status : out.status ≡ (if refuses then LineRefused else Accepted)
+  pub message : List ℕ
+  pub closes : Closes now refuses message out.rdl out.header out.status
+  pub messages : out.messages ≡ replies ++ message
 
 -- the map is opened, and the script run
 pub record RunsScript (option : Option (List ℕ)) (limit : ℕ) (map script : List ℕ) (out : Output) : Type 0 where

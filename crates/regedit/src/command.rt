@@ -68,6 +68,7 @@ fn status_code(status: Status) -> u8
         Status::Accepted => 0,
         Status::LineRefused => 1,
         Status::MapRefused => 2,
+        Status::HeaderClash => 3,
     }
 }
 
@@ -146,8 +147,11 @@ fn edit_files<R: Files, M: Write>(
     messages: &mut M,
 ) -> Result<Status, RunFault> {
     let texts = run_in_memory(rt, alloc, paths, messages)?;
-    if texts.status != Status::MapRefused {
-        write_file(rt, paths.rdl, texts.rdl.as_slice())?;
+    if texts.status == Status::MapRefused {
+        return Ok(texts.status);
+    }
+    write_file(rt, paths.rdl, texts.rdl.as_slice())?;
+    if texts.status != Status::HeaderClash {
         write_file(rt, paths.header, texts.header.as_slice())?;
     }
     Ok(texts.status)
@@ -171,7 +175,8 @@ fn obey<R: Files, M: Write>(
 }
 
 /// Does what the words behind the program's name ask, which are `MAP SCRIPT --rdl OUT --header OUT`, and answers the
-/// exit status. Both outputs are written only when the run has ended, and neither is where the map is refused.
+/// exit status. Both outputs are written only when the run has ended, neither where the map is refused, and the map's
+/// alone where two of the header's macros have one name.
 pub fn command<R: Files, M: Write, E: Write>(
     rt: &R,
     alloc: Global,

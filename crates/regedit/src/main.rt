@@ -1,6 +1,7 @@
 //! An editor of register maps.
 #![tactic(auto)]
 
+mod closing;
 mod command;
 mod input;
 mod open;

@@ -2,6 +2,7 @@
 ghost use Rattle.std.specs.Prelude.{◌^◌, ◌<◌, length, IfOk};
 ghost use Rattle.regedit.specs.Output.{Ran, RanFrom};
 
+use crate::closing::Closing;
 use crate::input::read_whole;
 use crate::open::{OpenFault, open};
 use crate::output::write_whole;
@@ -25,7 +26,8 @@ pub struct Options {
 /// The greatest map and the greatest script, in bytes.
 const MOST_BYTES: usize = 67_108_864;
 
-/// Runs a script from a map, and writes the map that it leads to. The header is empty for now.
+/// Runs a script from a map, and writes the map that it leads to and that map's header. Where two of the header's macros
+/// have one name, that is said, and no header is written.
 fn run_script<R: Write, H: Write, E: Write>(
     alloc: Global,
     map: Map,
@@ -40,21 +42,17 @@ fn run_script<R: Write, H: Write, E: Write>(
         (record { messages = E.contents messages.old; rdl = R.contents rdl.old; header = H.contents header.old })
         (record { messages = E.contents messages.new; rdl = R.contents rdl.new; header = H.contents header.new })) }
 {
+    let mut interrupts = 0;
     let mut journal = Journal::new(alloc, map, history);
-    let refused = serve_all(alloc, &mut journal, script, messages)?;
-    let Ok(text) = rdl_write::rdl(alloc, journal.map().description()) else {
-        return Err(RunFault::Memory);
-    };
-    write_whole(rdl, &mut 0, text.as_bytes())?;
-    write_whole(header, &mut 0, &[])?;
-    if refused {
-        Ok(Status::LineRefused)
-    } else {
-        Ok(Status::Accepted)
-    }
+    let refused = serve_all(alloc, &mut journal, script, messages, &mut interrupts)?;
+    let closing = Closing::of(alloc, journal.map(), refused)?;
+    write_whole(messages, &mut interrupts, closing.message.as_bytes())?;
+    write_whole(rdl, &mut 0, closing.rdl.as_bytes())?;
+    write_whole(header, &mut 0, closing.header.as_bytes())?;
+    Ok(closing.status)
 }
 
-/// Reads the map and the script whole, runs the script's lines, and writes the map that they lead to.
+/// Reads the map and the script whole, runs the script's lines, and writes the map that they lead to and its header.
 pub fn run<M: Read, S: Read, R: Write, H: Write, E: Write>(
     alloc: Global,
     map: &mut M,

@@ -156,12 +156,14 @@ pub fn serve_all<E: Write>(
     journal: &mut Journal<Map>,
     script: &[u8],
     messages: &mut E,
+    interrupts: &mut usize,
 ) -> Result<bool, RunFault>
-    requires { length script.now < 2 ^ 32 }
+    requires length { length script.now < 2 ^ 32 }
+    requires few { interrupts.old ≤ 1000 }
     ensures served { IfOk result (λ refused. (text : List ℕ) × (Serves journal.old (lines_of script.now) text refused journal.new) × (Appends (E.contents messages.old) (E.contents messages.new) text)) }
     ensures fault { IfErr result (λ fault. (fault ≡ RunFault.Memory) ⊎ (fault ≡ RunFault.Write)) }
+    ensures interrupts { interrupts.new ≤ 1000 }
 {
-    let mut interrupts = 0usize;
     let mut number = 0usize;
     let mut refused = false;
     let mut rest = Some(script);
@@ -172,7 +174,7 @@ pub fn serve_all<E: Write>(
             Ok(said) => said,
             Err(_) => return Err(RunFault::Memory),
         };
-        if write_whole(messages, &mut interrupts, text.as_bytes()).is_err() {
+        if write_whole(messages, interrupts, text.as_bytes()).is_err() {
             return Err(RunFault::Write);
         }
         refused = refused || refuses;

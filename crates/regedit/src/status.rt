@@ -1,4 +1,5 @@
 //! How a run ends.
+use std::alloc::AllocError;
 use thiserror::Error;
 
 /// How a run ended that wrote its whole output.
@@ -10,6 +11,8 @@ pub enum Status {
     LineRefused,
     /// The map was refused.
     MapRefused,
+    /// Two macros of the header have one name, whether or not a line was refused too.
+    HeaderClash,
 }
 
 /// Why a run stopped.
@@ -25,6 +28,17 @@ pub enum RunFault {
     TooLong,
     #[error("regedit: reader does not end")]
     Interrupted,
+}
+
+impl From<AllocError> for RunFault {
+    ghost use Rattle.regedit.specs.declared.status.RunFault.{RunFault};
+    ghost use Rattle.std.specs.Prelude.{◌≡◌};
+
+    ghost from_gives = { λ _ f. f ≡ RunFault.Memory };
+
+    fn from(_error: AllocError) -> RunFault {
+        RunFault::Memory
+    }
 }
 
 /// How often one input or output may be interrupted.

@@ -11,6 +11,7 @@ mod edits;
 mod examples;
 mod faults;
 mod files;
+mod headers;
 mod history;
 mod layouts;
 mod limits;
@@ -33,6 +34,10 @@ struct Written {
 impl Written {
     fn rdl(&self) -> Result<&str, Fail> {
         Ok(str::from_utf8(self.rdl.as_slice())?)
+    }
+
+    fn header(&self) -> Result<&str, Fail> {
+        Ok(str::from_utf8(self.header.as_slice())?)
     }
 
     fn messages(&self) -> Result<&str, Fail> {

@@ -1,30 +1,11 @@
 //! The program on files.
 use super::MAP;
+use super::headers::{CLASH, CLASH_MESSAGE, CLASH_WRITTEN};
+use super::mission::{HEADER, MESSAGES, SCRIPT, WRITTEN};
 use crate::command::command;
 use std::alloc::AllocError;
 use std::test::Fail;
 use std::{env, fs, process, str};
-
-const SCRIPT: &str = "add /$top last reg { field {} g; } b;\nundo\nredo\nlist\n";
-
-const MESSAGES: &str = "0x0 addrmap top size 0x8
-0x0 reg top.a size 0x4
-[7:0] field top.a.f reset 0x5
-0x4 reg top.b size 0x4
-[0:0] field top.b.g
-";
-
-const WRITTEN: &str = "addrmap top {
-    reg {
-        field {
-        } f[8] = 0x5;
-    } a;
-    reg {
-        field {
-        } g;
-    } b;
-};
-";
 
 /// A folder of a test's own, with the files of a run.
 #[derive(Drop)]
@@ -115,7 +96,7 @@ fn are_written(rt: HostRuntime) -> Result<(), Fail> {
     let rdl = fs::read_to_string(&rt, folder.rdl.as_str())?;
     assert_eq!(rt; rdl.as_str(), WRITTEN);
     let header = fs::read_to_string(&rt, folder.header.as_str())?;
-    assert_eq!(rt; header.as_str(), "");
+    assert_eq!(rt; header.as_str(), HEADER);
     folder.remove(&rt)
 }
 
@@ -146,6 +127,24 @@ fn stay_where_the_map_is_refused(rt: HostRuntime) -> Result<(), Fail> {
     assert_eq!(rt; said.status, 2);
     let rdl = fs::read_to_string(&rt, folder.rdl.as_str())?;
     assert_eq!(rt; rdl.as_str(), "old map");
+    let header = fs::read_to_string(&rt, folder.header.as_str())?;
+    assert_eq!(rt; header.as_str(), "old header");
+    folder.remove(&rt)
+}
+
+// The map is written, and the header's file stays as it was.
+#[test]
+fn of_headers_stay_where_two_macros_have_one_name(rt: HostRuntime) -> Result<(), Fail> {
+    let folder = Folder::new(&rt, "clash")?;
+    fs::write(&rt, folder.map.as_str(), CLASH)?;
+    fs::write(&rt, folder.script.as_str(), "")?;
+    fs::write(&rt, folder.header.as_str(), "old header")?;
+    let said = run_in(&rt, &folder);
+    assert_eq!(rt; said.errors()?, "");
+    assert_eq!(rt; said.messages()?, CLASH_MESSAGE);
+    assert_eq!(rt; said.status, 3);
+    let rdl = fs::read_to_string(&rt, folder.rdl.as_str())?;
+    assert_eq!(rt; rdl.as_str(), CLASH_WRITTEN);
     let header = fs::read_to_string(&rt, folder.header.as_str())?;
     assert_eq!(rt; header.as_str(), "old header");
     folder.remove(&rt)

@@ -3,16 +3,16 @@ use super::{MAP, write};
 use crate::status::Status;
 use std::test::Fail;
 
-const SCRIPT: &str = "add /$top last reg { field {} g; } b;\nundo\nredo\nlist\n";
+pub(super) const SCRIPT: &str = "add /$top last reg { field {} g; } b;\nundo\nredo\nlist\n";
 
-const MESSAGES: &str = "0x0 addrmap top size 0x8
+pub(super) const MESSAGES: &str = "0x0 addrmap top size 0x8
 0x0 reg top.a size 0x4
 [7:0] field top.a.f reset 0x5
 0x4 reg top.b size 0x4
 [0:0] field top.b.g
 ";
 
-const WRITTEN: &str = "addrmap top {
+pub(super) const WRITTEN: &str = "addrmap top {
     reg {
         field {
         } f[8] = 0x5;
@@ -22,6 +22,24 @@ const WRITTEN: &str = "addrmap top {
         } g;
     } b;
 };
+";
+
+pub(super) const HEADER: &str = "#ifndef top_H
+#define top_H
+#define top__a_base 0x0
+#define top__a_offset 0x0
+#define top__a_size 0x4
+#define top__a__f_bm 0xFF
+#define top__a__f_bp 0
+#define top__a__f_bw 8
+#define top__a__f_reset 0x5
+#define top__b_base 0x4
+#define top__b_offset 0x4
+#define top__b_size 0x4
+#define top__b__g_bm 0x1
+#define top__b__g_bp 0
+#define top__b__g_bw 1
+#endif
 ";
 
 const UNEDITED: &str = "addrmap top {
@@ -38,7 +56,7 @@ fn adds_a_register(rt: HostRuntime) -> Result<(), Fail> {
     assert_eq!(rt; written.status, Status::Accepted);
     assert_eq!(rt; written.messages()?, MESSAGES);
     assert_eq!(rt; written.rdl()?, WRITTEN);
-    assert!(rt; written.header.is_empty());
+    assert_eq!(rt; written.header()?, HEADER);
     Ok(())
 }
 
@@ -58,7 +76,7 @@ fn writes_an_empty_address_map(rt: HostRuntime) -> Result<(), Fail> {
     assert_eq!(rt; written.status, Status::Accepted);
     assert_eq!(rt; written.messages()?, "");
     assert_eq!(rt; written.rdl()?, "addrmap top {\n};\n");
-    assert!(rt; written.header.is_empty());
+    assert_eq!(rt; written.header()?, "#ifndef top_H\n#define top_H\n#endif\n");
     Ok(())
 }
 

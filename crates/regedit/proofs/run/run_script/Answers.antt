@@ -1,25 +1,16 @@
-use Rattle.std.proofs.Common.{◌≡◌, sym, ap, ◌∙◌, subst}
-use Rattle.std.specs.Prelude.{if◌then◌else◌}
+use Rattle.std.proofs.Common.{string_bytes, subst}
 use Rattle.std.specs.Io.KnownBytes.{Appends}
-use Rattle.rdl_write.specs.MapText.{map_text}
-use Rattle.regedit.specs.declared.status.Status.TheVariants.{Accepted, LineRefused}
 use Rattle.regedit.proofs.RunLemmas.{ran_from}
 use Rattle.regedit.proofs.run.run_script.Goals as goal
 
-pub returns-then-refused : goal.returns-then-refused
-returns-then-refused g c =
-    let contents = g.R.Write.contents in
-    let text : c.as_bytes.result.now ≡ map_text c.map.result.now.description = c.as_bytes.ensures.value ∙ c.in-Ok.ensures ∙ ap map_text c.description.ensures in
-    let rdl : Appends (contents c.args.rdl.now) (contents c.write_whole.new.writer) (map_text c.map.result.now.description) =
-    subst (Appends (contents c.args.rdl.now) (contents c.write_whole.new.writer)) text c.in_ok-write_whole.ensures.ok in
-    ran_from c.args.history c.args.map c.args.script.now c.in_ok-refused.refused _ c.new-journal.result c.serve_all.new.journal c.map.result.now _ _ _ _ _ _
-    c.new-journal.ensures (sym (ap (λ b. if b then LineRefused else Accepted) c.if-refused.true)) c.in_ok-refused.ensures.served c.map.ensures rdl c.in_ok-write_whole-2.ensures.ok
-
 pub returns : goal.returns
 returns g c =
-    let contents = g.R.Write.contents in
-    let text : c.as_bytes.result.now ≡ map_text c.map.result.now.description = c.as_bytes.ensures.value ∙ c.in-Ok.ensures ∙ ap map_text c.description.ensures in
-    let rdl : Appends (contents c.args.rdl.now) (contents c.write_whole.new.writer) (map_text c.map.result.now.description) =
-    subst (Appends (contents c.args.rdl.now) (contents c.write_whole.new.writer)) text c.in_ok-write_whole.ensures.ok in
-    ran_from c.args.history c.args.map c.args.script.now c.in_ok-refused.refused _ c.new-journal.result c.serve_all.new.journal c.map.result.now _ _ _ _ _ _
-    c.new-journal.ensures (sym (ap (λ b. if b then LineRefused else Accepted) c.if-refused.false)) c.in_ok-refused.ensures.served c.map.ensures rdl c.in_ok-write_whole-2.ensures.ok
+    let closing = c.in_ok-closing.closing in
+    let said : Appends (g.E.Write.contents c.serve_all.new.messages) (g.E.Write.contents c.write_whole.new.writer) (string_bytes closing.message) =
+    subst (Appends (g.E.Write.contents c.serve_all.new.messages) (g.E.Write.contents c.write_whole.new.writer)) c.as_bytes.ensures.value c.in_ok-write_whole.ensures.ok in
+    let rdl : Appends (g.R.Write.contents c.args.rdl.now) (g.R.Write.contents c.write_whole-2.new.writer) (string_bytes closing.rdl) =
+    subst (Appends (g.R.Write.contents c.args.rdl.now) (g.R.Write.contents c.write_whole-2.new.writer)) c.as_bytes-2.ensures.value c.in_ok-write_whole-2.ensures.ok in
+    let header : Appends (g.H.Write.contents c.args.header.now) (g.H.Write.contents c.write_whole-3.new.writer) (string_bytes closing.header) =
+    subst (Appends (g.H.Write.contents c.args.header.now) (g.H.Write.contents c.write_whole-3.new.writer)) c.as_bytes-3.ensures.value c.in_ok-write_whole-3.ensures.ok in
+    ran_from c.args.history c.args.map c.args.script.now c.in_ok-refused.refused _ c.new-journal.result c.serve_all.new.journal c.map.result.now _ _ _ _ _ _ _ _ _ _
+        c.new-journal.ensures c.in_ok-refused.ensures.served c.map.ensures c.in_ok-closing.ensures said rdl header

@@ -1,0 +1,146 @@
+//! Headers.
+use super::write;
+use crate::status::Status;
+use std::test::Fail;
+
+/// A map in which the last of the macros has the name of the one before.
+pub(super) const CLASH: &str =
+    "addrmap top { reg { field {} c; } a__b; reg { field {} b__c; } a; };";
+
+pub(super) const CLASH_MESSAGE: &str = "header: H1 two macros with one name: top__a__b__c_bm\n";
+
+pub(super) const CLASH_WRITTEN: &str = "addrmap top {
+    reg {
+        field {
+        } c;
+    } a__b;
+    reg {
+        field {
+        } b__c;
+    } a;
+};
+";
+
+/// A map, a script, and what the script prints and the header has.
+struct Case {
+    map: &'static str,
+    script: &'static str,
+    messages: &'static str,
+    header: &'static str,
+}
+
+const CASES: [Case; 4] = [
+    // the map of the specification that has comments, Verilog numbers and an array
+    Case {
+        map: "// demo
+addrmap top { default regwidth = 32; /* all */ external reg R { field {} f[4'd3:0]; } a, b[2] += 8'h08; };",
+        script: "",
+        messages: "",
+        header: "#ifndef top_H
+#define top_H
+#define top__a_base 0x0
+#define top__a_offset 0x0
+#define top__a_size 0x4
+#define top__a__f_bm 0xF
+#define top__a__f_bp 0
+#define top__a__f_bw 4
+#define top__b_base 0x4
+#define top__b_offset 0x4
+#define top__b_size 0x4
+#define top__b_count 2
+#define top__b_stride 0x8
+#define top__b__f_bm 0xF
+#define top__b__f_bp 0
+#define top__b__f_bw 4
+#endif
+",
+    },
+    // a register inside a register file, whose offset isn't its base, and a reset beside one that is assigned
+    Case {
+        map: "addrmap top { regfile { reg { field {} f[15:8] = 1; } r @ 4; } g @ 0x10; g.r.f->reset = 0xAB; };",
+        script: "",
+        messages: "",
+        header: "#ifndef top_H
+#define top_H
+#define top__g_base 0x10
+#define top__g_offset 0x10
+#define top__g_size 0x8
+#define top__g__r_base 0x14
+#define top__g__r_offset 0x4
+#define top__g__r_size 0x4
+#define top__g__r__f_bm 0xFF00
+#define top__g__r__f_bp 8
+#define top__g__r__f_bw 8
+#define top__g__r__f_reset 0xAB
+#endif
+",
+    },
+    // the header is of the place that undo leads to
+    Case {
+        map: "addrmap top { reg {} a; };",
+        script: "add /$top last reg {} b;\nadd /$top last reg {} c;\nundo\n",
+        messages: "",
+        header: "#ifndef top_H
+#define top_H
+#define top__a_base 0x0
+#define top__a_offset 0x0
+#define top__a_size 0x4
+#define top__b_base 0x4
+#define top__b_offset 0x4
+#define top__b_size 0x4
+#endif
+",
+    },
+    // all 64 bits, and a line that is refused
+    Case {
+        map: "addrmap top { reg { regwidth = 64; field {} f[64] = 18446744073709551615; } a; };",
+        script: "undo\n",
+        messages: "script:1: J2 nothing to undo\n",
+        header: "#ifndef top_H
+#define top_H
+#define top__a_base 0x0
+#define top__a_offset 0x0
+#define top__a_size 0x8
+#define top__a__f_bm 0xFFFFFFFFFFFFFFFF
+#define top__a__f_bp 0
+#define top__a__f_bw 64
+#define top__a__f_reset 0xFFFFFFFFFFFFFFFF
+#endif
+",
+    },
+];
+
+fn cases() -> &'static [Case] {
+    &CASES
+}
+
+#[test]
+fn are_of_the_last_map(rt: HostRuntime) -> Result<(), Fail> {
+    for case in cases() {
+        let written = write(rt.alloc(), case.map, case.script)?;
+        assert_eq!(rt; written.messages()?, case.messages, "at {}", case.map);
+        assert_eq!(rt; written.header()?, case.header, "at {}", case.map);
+    }
+    Ok(())
+}
+
+#[test]
+fn are_not_written_where_two_macros_have_one_name(rt: HostRuntime) -> Result<(), Fail> {
+    let written = write(rt.alloc(), CLASH, "")?;
+    assert_eq!(rt; written.messages()?, CLASH_MESSAGE);
+    assert_eq!(rt; written.rdl()?, CLASH_WRITTEN);
+    assert_eq!(rt; written.header()?, "");
+    assert_eq!(rt; written.status, Status::HeaderClash);
+    Ok(())
+}
+
+// The clash counts more than the refused line, and is said behind it.
+#[test]
+fn are_judged_behind_the_lines(rt: HostRuntime) -> Result<(), Fail> {
+    let written = write(rt.alloc(), CLASH, "redo\n")?;
+    let want =
+        "script:1: J3 nothing to redo\nheader: H1 two macros with one name: top__a__b__c_bm\n";
+    assert_eq!(rt; written.messages()?, want);
+    assert_eq!(rt; written.status, Status::HeaderClash);
+    Ok(())
+}
