@@ -6,7 +6,7 @@ use Rattle.std.proofs.lemmas.Grind.{flat_map-append}
 use Rattle.std.proofs.lemmas.List.{drop_more, take_more, take-append-drop}
 use Rattle.rdl_header.specs.declared.text.HeaderFault.{HeaderFault}
 use Rattle.rdl_header.specs.declared.text.HeaderFault.TheVariants.{Clash, Memory}
-use Rattle.rdl_header.specs.Defines.{IsClash}
+use Rattle.rdl_header.specs.Defines.{IsAdded, IsClash}
 use Rattle.rdl_header.specs.HeaderText.{Macro, is_defined, clash_behind}
 
 none-both : (b : Bool) (name : List ℕ) (later : Option (List ℕ)) → (if b then Some name else later) ≡ None → (b ≡ false) × (later ≡ None)
@@ -35,33 +35,33 @@ clash-ahead : (before ms rest : List Macro) (f : HeaderFault) → IsClash before
 clash-ahead before ms rest (Clash name) h = clash-stays before ms rest _ h
 clash-ahead before ms rest Memory h = h
 
-pub clash_later : (before ms now rest : List Macro) (f : HeaderFault) → now ≡ before ++ ms → clash_behind before ms ≡ None → IsClash now rest f → IsClash before (ms ++ rest) f
-clash_later before ms now rest (Clash name) is clear h = clash-passed before ms rest clear ∙ ap (λ xs. clash_behind xs rest) (sym is) ∙ h
-clash_later before ms now rest Memory is clear h = h
+clash-later : (before ms now rest : List Macro) (f : HeaderFault) → IsAdded before ms now → IsClash now rest f → IsClash before (ms ++ rest) f
+clash-later before ms now rest (Clash name) added h = clash-passed before ms rest added.1 ∙ ap (λ xs. clash_behind xs rest) (sym added.0) ∙ h
+clash-later before ms now rest Memory added h = h
 
-pub clear_later : (before ms now rest : List Macro) → now ≡ before ++ ms → clash_behind before ms ≡ None → clash_behind now rest ≡ None → clash_behind before (ms ++ rest) ≡ None
-clear_later before ms now rest is clear h = clash-passed before ms rest clear ∙ ap (λ xs. clash_behind xs rest) (sym is) ∙ h
+added-later : (before ms now rest new : List Macro) → IsAdded before ms now → IsAdded now rest new → IsAdded before (ms ++ rest) new
+added-later before ms now rest new added h =
+    (h.0 ∙ ap (λ xs. xs ++ rest) added.0 ∙ append_assoc before ms rest, clash-passed before ms rest added.1 ∙ ap (λ xs. clash_behind xs rest) (sym added.0) ∙ h.1)
 
 -- ---- The macros of one row more.
 
-module _ {R : Type 0} (of : R → List Macro) (before now : List Macro) (i : ℕ) (rows : List R) (row : R) (h : i < length rows) (item : row ≡ get_or rows i row) (is : now ≡ before ++ flat_map of (take i rows)) where
-  more : flat_map of (take (i + 1) rows) ≡ flat_map of (take i rows) ++ of row
-  more =
-      ap (flat_map of) (take_more rows i row h ∙ ap (λ x. take i rows ++ x ∷ []) (sym item))
-      ∙ flat_map-append of (take i rows) (row ∷ []) ∙ ap (λ xs. flat_map of (take i rows) ++ xs) (append-nil (of row))
+module _ {R : Type 0} (of : R → List Macro) (before now : List Macro) (i : ℕ) (rows : List R) (row : R) (h : i < length rows) (item : row ≡ get_or rows i row) (added : IsAdded before (flat_map of (take i rows)) now) where
+  pub row_added : (new : List Macro) → IsAdded now (of row) new → IsAdded before (flat_map of (take (i + 1) rows)) new
+  row_added new here =
+      let taken : flat_map of (take i rows) ++ of row ≡ flat_map of (take (i + 1) rows) =
+      ap (λ xs. flat_map of (take i rows) ++ xs) (sym (append-nil (of row)))
+      ∙ sym (flat_map-append of (take i rows) (row ∷ []))
+      ∙ ap (flat_map of) (ap (λ x. take i rows ++ x ∷ []) item ∙ sym (take_more rows i row h))
+      in
+      subst (λ ms. IsAdded before ms new) taken (added-later before (flat_map of (take i rows)) now (of row) new added here)
 
-  pub row_added : {new : List Macro} → new ≡ now ++ of row → new ≡ before ++ flat_map of (take (i + 1) rows)
-  row_added here =
-      here ∙ ap (λ xs. xs ++ of row) is ∙ append_assoc before (flat_map of (take i rows)) (of row) ∙ ap (λ xs. before ++ xs) (sym more)
-
-  pub row_clear : clash_behind before (flat_map of (take i rows)) ≡ None → clash_behind now (of row) ≡ None → clash_behind before (flat_map of (take (i + 1) rows)) ≡ None
-  row_clear clear here = ap (clash_behind before) more ∙ clear_later before (flat_map of (take i rows)) now (of row) is clear here
-
-  pub row_clash : clash_behind before (flat_map of (take i rows)) ≡ None → (f : HeaderFault) → IsClash now (of row) f → IsClash before (flat_map of rows) f
-  row_clash clear f here =
+  pub row_clash : (f : HeaderFault) → IsClash now (of row) f → IsClash before (flat_map of rows) f
+  row_clash f here =
       let rest = flat_map of (drop (i + 1) rows) in
       let from : row ∷ drop (i + 1) rows ≡ drop i rows = ap (λ x. x ∷ drop (i + 1) rows) item ∙ sym (drop_more rows i row h) in
-      let split : flat_map of (take i rows) ++ (of row ++ rest) ≡ flat_map of rows =
-      sym (flat_map-append of (take i rows) (row ∷ drop (i + 1) rows)) ∙ ap (λ xs. flat_map of (take i rows ++ xs)) from ∙ ap (flat_map of) (take-append-drop i rows)
+      let all : flat_map of (take i rows) ++ (of row ++ rest) ≡ flat_map of rows =
+      sym (flat_map-append of (take i rows) (row ∷ drop (i + 1) rows))
+      ∙ ap (λ xs. flat_map of (take i rows ++ xs)) from
+      ∙ ap (flat_map of) (take-append-drop i rows)
       in
-      subst (λ ms. IsClash before ms f) split (clash_later before (flat_map of (take i rows)) now (of row ++ rest) f is clear (clash-ahead now (of row) rest f here))
+      subst (λ ms. IsClash before ms f) all (clash-later before (flat_map of (take i rows)) now (of row ++ rest) f added (clash-ahead now (of row) rest f here))

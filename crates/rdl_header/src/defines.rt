@@ -1,7 +1,7 @@
 //! The macros of the header, as far as they are known.
-ghost use Rattle.std.specs.Prelude.{◌≡◌, ◌++◌, [], ◌∷◌, None, string_bytes, IfOk, IfErr, OnOk};
-ghost use Rattle.rdl_header.specs.Defines.{entry_macros, IsClash};
-ghost use Rattle.rdl_header.specs.HeaderText.{hexadecimal_macro, decimal_macro, clash_behind};
+ghost use Rattle.std.specs.Prelude.{◌≡◌, ◌++◌, [], ◌∷◌, string_bytes, IfOk};
+ghost use Rattle.rdl_header.specs.Defines.{entry_macros, Adds};
+ghost use Rattle.rdl_header.specs.HeaderText.{hexadecimal_macro, decimal_macro};
 
 use crate::text::HeaderFault;
 use indexmap::IndexMap;
@@ -38,9 +38,7 @@ impl Defines {
 
     /// Puts a macro behind the others, unless one of them has its name.
     pub(crate) fn push(&mut self, name: String, value: String) -> Result<(), HeaderFault>
-        ensures added { OnOk result (self.new ≡ self.old ++ record { name = string_bytes name; value = string_bytes value } ∷ []) }
-        ensures clear { OnOk result (clash_behind self.old (record { name = string_bytes name; value = string_bytes value } ∷ []) ≡ None) }
-        ensures clash { IfErr result (IsClash self.old (record { name = string_bytes name; value = string_bytes value } ∷ [])) }
+        ensures { Adds self.old (record { name = string_bytes name; value = string_bytes value } ∷ []) self.new result }
     {
         if self.values.contains_key(name.as_str()) {
             return Err(HeaderFault::Clash(name));
@@ -57,9 +55,7 @@ impl Defines {
         ending: &str,
         number: Number,
     ) -> Result<(), HeaderFault>
-        ensures added { OnOk result (self.new ≡ self.old ++ hexadecimal_macro path.now ending.now number ∷ []) }
-        ensures clear { OnOk result (clash_behind self.old (hexadecimal_macro path.now ending.now number ∷ []) ≡ None) }
-        ensures clash { IfErr result (IsClash self.old (hexadecimal_macro path.now ending.now number ∷ [])) }
+        ensures { Adds self.old (hexadecimal_macro path.now ending.now number ∷ []) self.new result }
     {
         let mut value = String::new(alloc);
         push_hexadecimal(&mut value, number)?;
@@ -74,9 +70,7 @@ impl Defines {
         ending: &str,
         number: Number,
     ) -> Result<(), HeaderFault>
-        ensures added { OnOk result (self.new ≡ self.old ++ decimal_macro path.now ending.now number ∷ []) }
-        ensures clear { OnOk result (clash_behind self.old (decimal_macro path.now ending.now number ∷ []) ≡ None) }
-        ensures clash { IfErr result (IsClash self.old (decimal_macro path.now ending.now number ∷ [])) }
+        ensures { Adds self.old (decimal_macro path.now ending.now number ∷ []) self.new result }
     {
         let mut value = String::new(alloc);
         push_decimal(&mut value, number)?;

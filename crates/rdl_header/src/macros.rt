@@ -1,8 +1,8 @@
 //! The macros of the rows.
-ghost use Rattle.std.specs.Prelude.{◌≡◌, ◌++◌, [], ◌∷◌, None, string_bytes, IfOk, IfErr, OnOk};
+ghost use Rattle.std.specs.Prelude.{◌≡◌, ◌++◌, [], ◌∷◌, string_bytes, IfOk, OnOk, MatchResult};
 ghost use Rattle.std.specs.List.{flat_map};
-ghost use Rattle.rdl_header.specs.Defines.{IsClash};
-ghost use Rattle.rdl_header.specs.HeaderText.{path_text, array_macros, bytes_macros, reset_macros, bits_macros, macros_of, guard, macros, clash_behind};
+ghost use Rattle.rdl_header.specs.Defines.{IsAdded, IsClash, Adds};
+ghost use Rattle.rdl_header.specs.HeaderText.{path_text, array_macros, bytes_macros, reset_macros, bits_macros, macros_of, guard, macros};
 
 use crate::bits::{mask, width};
 use crate::defines::Defines;
@@ -41,9 +41,7 @@ fn add_array(
     dims: &[Number],
     stride: Number,
 ) -> Result<(), HeaderFault>
-    ensures added { OnOk result (defines.new ≡ defines.old ++ array_macros path.now dims.now stride) }
-    ensures clear { OnOk result (clash_behind defines.old (array_macros path.now dims.now stride) ≡ None) }
-    ensures clash { IfErr result (IsClash defines.old (array_macros path.now dims.now stride)) }
+    ensures { Adds defines.old (array_macros path.now dims.now stride) defines.new result }
 {
     if dims.is_empty() {
         return Ok(());
@@ -63,9 +61,7 @@ fn add_bytes(
     base: Number,
     extent: &Extent,
 ) -> Result<(), HeaderFault>
-    ensures added { OnOk result (defines.new ≡ defines.old ++ bytes_macros path.now base extent.now) }
-    ensures clear { OnOk result (clash_behind defines.old (bytes_macros path.now base extent.now) ≡ None) }
-    ensures clash { IfErr result (IsClash defines.old (bytes_macros path.now base extent.now)) }
+    ensures { Adds defines.old (bytes_macros path.now base extent.now) defines.new result }
 {
     defines.push_hexadecimal(alloc, path, "_base", base)?;
     defines.push_hexadecimal(alloc, path, "_offset", extent.offset)?;
@@ -80,9 +76,7 @@ fn add_reset(
     path: &str,
     reset: Option<Number>,
 ) -> Result<(), HeaderFault>
-    ensures added { OnOk result (defines.new ≡ defines.old ++ reset_macros path.now reset) }
-    ensures clear { OnOk result (clash_behind defines.old (reset_macros path.now reset) ≡ None) }
-    ensures clash { IfErr result (IsClash defines.old (reset_macros path.now reset)) }
+    ensures { Adds defines.old (reset_macros path.now reset) defines.new result }
 {
     if let Some(number) = reset {
         defines.push_hexadecimal(alloc, path, "_reset", number)?;
@@ -99,9 +93,7 @@ fn add_bits(
     span: &Span,
     reset: Option<Number>,
 ) -> Result<(), HeaderFault>
-    ensures added { OnOk result (defines.new ≡ defines.old ++ bits_macros path.now span.now reset) }
-    ensures clear { OnOk result (clash_behind defines.old (bits_macros path.now span.now reset) ≡ None) }
-    ensures clash { IfErr result (IsClash defines.old (bits_macros path.now span.now reset)) }
+    ensures { Adds defines.old (bits_macros path.now span.now reset) defines.new result }
 {
     defines.push_hexadecimal(alloc, path, "_bm", mask(span))?;
     defines.push_decimal(alloc, path, "_bp", span.start)?;
@@ -111,9 +103,7 @@ fn add_bits(
 
 /// Puts the macros of a row behind the others.
 fn add_row(alloc: Global, defines: &mut Defines, row: &Row) -> Result<(), HeaderFault>
-    ensures added { OnOk result (defines.new ≡ defines.old ++ macros_of row.now) }
-    ensures clear { OnOk result (clash_behind defines.old (macros_of row.now) ≡ None) }
-    ensures clash { IfErr result (IsClash defines.old (macros_of row.now)) }
+    ensures { Adds defines.old (macros_of row.now) defines.new result }
 {
     let path = path(alloc, row)?;
     match &row.place {
@@ -125,11 +115,9 @@ fn add_row(alloc: Global, defines: &mut Defines, row: &Row) -> Result<(), Header
     }
 }
 
-/// Puts the macro that is defined wherever the header of this top has been read behind the others.
+/// Puts the guard behind the others: the macro that is defined wherever the header of this top has been read.
 fn add_guard(alloc: Global, defines: &mut Defines, top: &Row) -> Result<(), HeaderFault>
-    ensures added { OnOk result (defines.new ≡ defines.old ++ guard top.now ∷ []) }
-    ensures clear { OnOk result (clash_behind defines.old (guard top.now ∷ []) ≡ None) }
-    ensures clash { IfErr result (IsClash defines.old (guard top.now ∷ [])) }
+    ensures { Adds defines.old (guard top.now ∷ []) defines.new result }
 {
     let mut name = path(alloc, top)?;
     name.push_str("_H")?;
@@ -138,9 +126,7 @@ fn add_guard(alloc: Global, defines: &mut Defines, top: &Row) -> Result<(), Head
 
 /// Puts the macros of these rows behind the others.
 fn add_rows(alloc: Global, defines: &mut Defines, rows: &[Row]) -> Result<(), HeaderFault>
-    ensures added { OnOk result (defines.new ≡ defines.old ++ flat_map macros_of rows.now) }
-    ensures clear { OnOk result (clash_behind defines.old (flat_map macros_of rows.now) ≡ None) }
-    ensures clash { IfErr result (IsClash defines.old (flat_map macros_of rows.now)) }
+    ensures { Adds defines.old (flat_map macros_of rows.now) defines.new result }
 {
     'rows: for row in rows {
         add_row(alloc, defines, row)?;
@@ -150,9 +136,7 @@ fn add_rows(alloc: Global, defines: &mut Defines, rows: &[Row]) -> Result<(), He
 
 /// The guard, then the macros of the rows below the top.
 pub(crate) fn macros(alloc: Global, rows: &[Row]) -> Result<Defines, HeaderFault>
-    ensures added { IfOk result (λ defines. defines ≡ macros rows.now) }
-    ensures clear { OnOk result (clash_behind [] (macros rows.now) ≡ None) }
-    ensures clash { IfErr result (IsClash [] (macros rows.now)) }
+    ensures { MatchResult result (IsAdded [] (macros rows.now)) (IsClash [] (macros rows.now)) }
 {
     let mut defines = Defines::new(alloc);
     if let [top, below @ ..] = rows {

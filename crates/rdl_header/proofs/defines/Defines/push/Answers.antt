@@ -1,23 +1,18 @@
-use Rattle.std.proofs.Common.{◌≡◌, ◌∙◌, true, false, None, Some, string_bytes, string_eq, ap, sym}
+use Rattle.std.proofs.Common.{◌∙◌, None, Some, string_bytes, string_eq, ap}
 use Rattle.std.specs.Prelude.{if◌then◌else◌}
 use Rattle.indexmap.proofs.CallerLemmas.{insert_entry-new}
-use Rattle.rdl_header.specs.HeaderText.{is_defined}
 use Rattle.rdl_header.proofs.Entries.{found_defined, absent_entry, entries_more}
 use Rattle.rdl_header.proofs.defines.Defines.push.Goals as goal
 
-pub returns-then-contains_key-clause-clash : goal.returns-then-contains_key-clause-clash
-returns-then-contains_key-clause-clash c =
+pub returns-then-contains_key : goal.returns-then-contains_key
+returns-then-contains_key c =
     let name = string_bytes c.args.name in
     let found = found_defined name _ _ _ _ c.self.view_is c.as_str.ensures.value c.contains_key.ensures in
     ap (λ b. if b then Some name else None) (found ∙ c.if-contains_key.true)
 
-pub returns-clause-added : goal.returns-clause-added
-returns-clause-added c =
-    let absent = absent_entry c.args.name _ _ _ c.as_str.ensures.value c.contains_key.ensures c.if-contains_key.false in
-    entries_more _ _ _ _ _ c.self.view_is (c.in_ok-insert.ensures.entries ∙ insert_entry-new string_eq c.self.inside.values c.args.name c.args.value absent)
-
-pub returns-clause-clear : goal.returns-clause-clear
-returns-clause-clear c =
+pub returns : goal.returns
+returns c =
     let name = string_bytes c.args.name in
     let found = found_defined name _ _ _ _ c.self.view_is c.as_str.ensures.value c.contains_key.ensures in
-    ap (λ b. if b then Some name else None) (found ∙ c.if-contains_key.false)
+    let absent = absent_entry c.args.name _ _ _ c.as_str.ensures.value c.contains_key.ensures c.if-contains_key.false in
+    (entries_more _ _ _ _ _ c.self.view_is (c.in_ok-insert.ensures.entries ∙ insert_entry-new string_eq c.self.inside.values c.args.name c.args.value absent), ap (λ b. if b then Some name else None) (found ∙ c.if-contains_key.false))
