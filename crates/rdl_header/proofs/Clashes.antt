@@ -1,45 +1,67 @@
--- One macro more in the search for a name that is defined twice.
-use Rattle.std.proofs.Common.{◌≡◌, ℕ, ◌+◌, ◌<◌, Bool, true, false, cond, List, [], ◌∷◌, ◌++◌, Some, length, get_or, take, drop, refl, ap, sym, ◌∙◌}
-use Rattle.std.specs.Prelude.{◌||◌, not, bytes_eq, if◌then◌else◌}
-use Rattle.std.proofs.lemmas.List.{drop_more, take_more}
-use Rattle.std.proofs.lemmas.List.Folds.{list_any_more}
+-- The search for a name that is defined twice, among macros and those behind them.
+use Rattle.std.proofs.Common.{◌≡◌, ℕ, ◌+◌, ◌<◌, Bool, true, false, List, [], ◌∷◌, ◌++◌, Option, None, Some, length, get_or, take, drop, refl, ap, subst, sym, ◌∙◌, append_assoc, append-nil}
+use Rattle.std.specs.Prelude.{if◌then◌else◌}
+use Rattle.std.specs.List.{flat_map}
+use Rattle.std.proofs.lemmas.Grind.{flat_map-append}
+use Rattle.std.proofs.lemmas.List.{drop_more, take_more, take-append-drop}
+use Rattle.rdl_header.specs.declared.text.HeaderFault.{HeaderFault}
+use Rattle.rdl_header.specs.declared.text.HeaderFault.TheVariants.{Clash, Memory}
+use Rattle.rdl_header.specs.Defines.{IsAdded, IsClash}
 use Rattle.rdl_header.specs.HeaderText.{Macro, is_defined, clash_behind}
 
--- the search from here on
-clash-from : (i : ℕ) (ms : List Macro) (m : Macro) → i < length ms → m ≡ get_or ms i m → clash_behind (take i ms) (drop i ms) ≡ clash_behind (take i ms) (m ∷ drop (i + 1) ms)
-clash-from i ms m h is = ap (clash_behind (take i ms)) (drop_more ms i m h ∙ ap (λ x. x ∷ drop (i + 1) ms) (sym is))
+none-both : (b : Bool) (name : List ℕ) (later : Option (List ℕ)) → (if b then Some name else later) ≡ None → (b ≡ false) × (later ≡ None)
+none-both true name later h = cc
+none-both false name later h = (refl, h)
 
-pub clash_here : (i : ℕ) (ms : List Macro) (m : Macro) → i < length ms → m ≡ get_or ms i m → is_defined m.name (take i ms) ≡ true → clash_behind (take i ms) (drop i ms) ≡ Some m.name
-clash_here i ms m h is d = clash-from i ms m h is ∙ ap (λ b. if b then Some m.name else clash_behind (take i ms ++ m ∷ []) (drop (i + 1) ms)) d
+-- without a clash the search goes on behind
+clash-passed : (before ms rest : List Macro) → clash_behind before ms ≡ None → clash_behind before (ms ++ rest) ≡ clash_behind (before ++ ms) rest
+clash-passed before [] rest h = ap (λ xs. clash_behind xs rest) (sym (append-nil before))
+clash-passed before (m ∷ ms) rest h =
+    let p = none-both (is_defined m.name before) m.name (clash_behind (before ++ m ∷ []) ms) h in
+    ap (λ b. if b then Some m.name else clash_behind (before ++ m ∷ []) (ms ++ rest)) p.0
+    ∙ clash-passed (before ++ m ∷ []) ms rest p.1 ∙ ap (λ xs. clash_behind xs rest) (append_assoc before (m ∷ []) ms)
 
-pub clash_next : (i : ℕ) (ms : List Macro) (m : Macro) → i < length ms → m ≡ get_or ms i m → is_defined m.name (take i ms) ≡ false → clash_behind (take (i + 1) ms) (drop (i + 1) ms) ≡ clash_behind (take i ms) (drop i ms)
-clash_next i ms m h is d =
-    sym
-    (clash-from i ms m h is ∙ ap (λ b. if b then Some m.name else clash_behind (take i ms ++ m ∷ []) (drop (i + 1) ms)) d
-    ∙ ap (λ xs. clash_behind xs (drop (i + 1) ms)) (ap (λ x. take i ms ++ x ∷ []) is ∙ sym (take_more ms i m h)))
+here-or-later : (b : Bool) (m name : List ℕ) (later further : Option (List ℕ)) → (later ≡ Some name → further ≡ Some name) → (if b then Some m else later) ≡ Some name → (if b then Some m else further) ≡ Some name
+here-or-later true m name later further f h = h
+here-or-later false m name later further f h = f h
 
-or-cond : (a b : Bool) → cond a true b ≡ b || a
-or-cond true true = refl
-or-cond true false = refl
-or-cond false true = refl
-or-cond false false = refl
+-- a clash stays the first whatever stands behind
+clash-stays : (before ms rest : List Macro) (name : List ℕ) → clash_behind before ms ≡ Some name → clash_behind before (ms ++ rest) ≡ Some name
+clash-stays before [] rest name h = cc
+clash-stays before (m ∷ ms) rest name h =
+    here-or-later (is_defined m.name before) m.name name _ _ (clash-stays (before ++ m ∷ []) ms rest name) h
 
-pub names_next : (q : List ℕ) (i : ℕ) (ms : List Macro) (m : Macro) → i < length ms → m ≡ get_or ms i m → cond (bytes_eq m.name q) true (is_defined q (take i ms)) ≡ is_defined q (take (i + 1) ms)
-names_next q i ms m h is =
-    or-cond (bytes_eq m.name q) (is_defined q (take i ms)) ∙ ap (λ (x : Macro). is_defined q (take i ms) || bytes_eq x.name q) is
-    ∙ sym (list_any_more (λ (x : Macro). bytes_eq x.name q) ms i m h)
+clash-ahead : (before ms rest : List Macro) (f : HeaderFault) → IsClash before ms f → IsClash before (ms ++ rest) f
+clash-ahead before ms rest (Clash name) h = clash-stays before ms rest _ h
+clash-ahead before ms rest Memory h = h
 
-not-false : (b : Bool) → not b ≡ false → b ≡ true
-not-false true h = refl
-not-false false h = cc
+clash-later : (before ms now rest : List Macro) (f : HeaderFault) → IsAdded before ms now → IsClash now rest f → IsClash before (ms ++ rest) f
+clash-later before ms now rest (Clash name) added h = clash-passed before ms rest added.1 ∙ ap (λ xs. clash_behind xs rest) (sym added.0) ∙ h
+clash-later before ms now rest Memory added h = h
 
-not-true : (b : Bool) → not b ≡ true → b ≡ false
-not-true true h = cc
-not-true false h = refl
+added-later : (before ms now rest new : List Macro) → IsAdded before ms now → IsAdded now rest new → IsAdded before (ms ++ rest) new
+added-later before ms now rest new added h =
+    (h.0 ∙ ap (λ xs. xs ++ rest) added.0 ∙ append_assoc before ms rest, clash-passed before ms rest added.1 ∙ ap (λ xs. clash_behind xs rest) (sym added.0) ∙ h.1)
 
--- what a set of the names before tells of a name
-pub defined-before : (n : List ℕ) (before : List Macro) (m : Macro) (is_new has : Bool) → n ≡ m.name → is_new ≡ not has → has ≡ is_defined n before → is_new ≡ false → is_defined m.name before ≡ true
-defined-before n before m is_new has e a s f = ap (λ k. is_defined k before) (sym e) ∙ sym s ∙ not-false has (sym a ∙ f)
+-- ---- The macros of one row more.
 
-pub not-before : (n : List ℕ) (before : List Macro) (m : Macro) (is_new has : Bool) → n ≡ m.name → is_new ≡ not has → has ≡ is_defined n before → is_new ≡ true → is_defined m.name before ≡ false
-not-before n before m is_new has e a s f = ap (λ k. is_defined k before) (sym e) ∙ sym s ∙ not-true has (sym a ∙ f)
+module _ {R : Type 0} (of : R → List Macro) (before now : List Macro) (i : ℕ) (rows : List R) (row : R) (h : i < length rows) (item : row ≡ get_or rows i row) (added : IsAdded before (flat_map of (take i rows)) now) where
+  pub row_added : (new : List Macro) → IsAdded now (of row) new → IsAdded before (flat_map of (take (i + 1) rows)) new
+  row_added new here =
+      let taken : flat_map of (take i rows) ++ of row ≡ flat_map of (take (i + 1) rows) =
+      ap (λ xs. flat_map of (take i rows) ++ xs) (sym (append-nil (of row)))
+      ∙ sym (flat_map-append of (take i rows) (row ∷ []))
+      ∙ ap (flat_map of) (ap (λ x. take i rows ++ x ∷ []) item ∙ sym (take_more rows i row h))
+      in
+      subst (λ ms. IsAdded before ms new) taken (added-later before (flat_map of (take i rows)) now (of row) new added here)
+
+  pub row_clash : (f : HeaderFault) → IsClash now (of row) f → IsClash before (flat_map of rows) f
+  row_clash f here =
+      let rest = flat_map of (drop (i + 1) rows) in
+      let from : row ∷ drop (i + 1) rows ≡ drop i rows = ap (λ x. x ∷ drop (i + 1) rows) item ∙ sym (drop_more rows i row h) in
+      let all : flat_map of (take i rows) ++ (of row ++ rest) ≡ flat_map of rows =
+      sym (flat_map-append of (take i rows) (row ∷ drop (i + 1) rows))
+      ∙ ap (λ xs. flat_map of (take i rows ++ xs)) from
+      ∙ ap (flat_map of) (take-append-drop i rows)
+      in
+      subst (λ ms. IsClash before ms f) all (clash-later before (flat_map of (take i rows)) now (of row ++ rest) f added (clash-ahead now (of row) rest f here))

@@ -1,3 +1,4 @@
 pub mod Clashes
+pub mod Entries
 pub mod Masks
 pub mod Paths

@@ -1,2 +1,3 @@
+pub mod Defines
 pub mod HeaderFaults
 pub mod HeaderText

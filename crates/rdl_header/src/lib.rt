@@ -2,8 +2,7 @@
 #![tactic(auto)]
 
 mod bits;
-mod clash;
-mod define;
+mod defines;
 mod macros;
 mod text;
 

@@ -1,10 +1,12 @@
 //! The macros of the rows.
-ghost use Rattle.std.specs.Prelude.{◌≡◌, ◌++◌, string_bytes, IfOk, OnOk};
+ghost use Rattle.std.specs.Prelude.{◌≡◌, ◌++◌, [], ◌∷◌, string_bytes, IfOk, OnOk, MatchResult};
 ghost use Rattle.std.specs.List.{flat_map};
+ghost use Rattle.rdl_header.specs.Defines.{IsAdded, IsClash, Adds};
 ghost use Rattle.rdl_header.specs.HeaderText.{path_text, array_macros, bytes_macros, reset_macros, bits_macros, macros_of, guard, macros};
 
 use crate::bits::{mask, width};
-use crate::define::Define;
+use crate::defines::Defines;
+use crate::text::HeaderFault;
 use rdl_elab::layout::Span;
 use rdl_elab::row::{Extent, Place, Row, RowPath};
 use rdl_scope::shells::product;
@@ -34,19 +36,19 @@ fn path(alloc: Global, row: &Row) -> Result<String, AllocError>
 
 fn add_array(
     alloc: Global,
-    defines: &mut Vec<Define>,
+    defines: &mut Defines,
     path: &str,
     dims: &[Number],
     stride: Number,
-) -> Result<(), AllocError>
-    ensures { OnOk result (defines.new.items ≡ defines.old.items ++ array_macros path.now dims.now stride) }
+) -> Result<(), HeaderFault>
+    ensures { Adds defines.old (array_macros path.now dims.now stride) defines.new result }
 {
     if dims.is_empty() {
         return Ok(());
     }
     let count = product(dims);
-    defines.push(Define::decimal(alloc, path, "_count", count)?)?;
-    defines.push(Define::hexadecimal(alloc, path, "_stride", stride)?)?;
+    defines.push_decimal(alloc, path, "_count", count)?;
+    defines.push_hexadecimal(alloc, path, "_stride", stride)?;
     Ok(())
 }
 
@@ -54,30 +56,30 @@ fn add_array(
 #[tactic(auto, unfolding(crate::specs::HeaderText::bytes_macros))]
 fn add_bytes(
     alloc: Global,
-    defines: &mut Vec<Define>,
+    defines: &mut Defines,
     path: &str,
     base: Number,
     extent: &Extent,
-) -> Result<(), AllocError>
-    ensures { OnOk result (defines.new.items ≡ defines.old.items ++ bytes_macros path.now base extent.now) }
+) -> Result<(), HeaderFault>
+    ensures { Adds defines.old (bytes_macros path.now base extent.now) defines.new result }
 {
-    defines.push(Define::hexadecimal(alloc, path, "_base", base)?)?;
-    defines.push(Define::hexadecimal(alloc, path, "_offset", extent.offset)?)?;
-    defines.push(Define::hexadecimal(alloc, path, "_size", extent.size)?)?;
+    defines.push_hexadecimal(alloc, path, "_base", base)?;
+    defines.push_hexadecimal(alloc, path, "_offset", extent.offset)?;
+    defines.push_hexadecimal(alloc, path, "_size", extent.size)?;
     let dims = extent.dims.as_slice();
     add_array(alloc, defines, path, dims, extent.stride)
 }
 
 fn add_reset(
     alloc: Global,
-    defines: &mut Vec<Define>,
+    defines: &mut Defines,
     path: &str,
     reset: Option<Number>,
-) -> Result<(), AllocError>
-    ensures { OnOk result (defines.new.items ≡ defines.old.items ++ reset_macros path.now reset) }
+) -> Result<(), HeaderFault>
+    ensures { Adds defines.old (reset_macros path.now reset) defines.new result }
 {
     if let Some(number) = reset {
-        defines.push(Define::hexadecimal(alloc, path, "_reset", number)?)?;
+        defines.push_hexadecimal(alloc, path, "_reset", number)?;
     }
     Ok(())
 }
@@ -86,22 +88,22 @@ fn add_reset(
 #[tactic(auto, unfolding(crate::specs::HeaderText::bits_macros))]
 fn add_bits(
     alloc: Global,
-    defines: &mut Vec<Define>,
+    defines: &mut Defines,
     path: &str,
     span: &Span,
     reset: Option<Number>,
-) -> Result<(), AllocError>
-    ensures { OnOk result (defines.new.items ≡ defines.old.items ++ bits_macros path.now span.now reset) }
+) -> Result<(), HeaderFault>
+    ensures { Adds defines.old (bits_macros path.now span.now reset) defines.new result }
 {
-    defines.push(Define::hexadecimal(alloc, path, "_bm", mask(span))?)?;
-    defines.push(Define::decimal(alloc, path, "_bp", span.start)?)?;
-    defines.push(Define::decimal(alloc, path, "_bw", width(span))?)?;
+    defines.push_hexadecimal(alloc, path, "_bm", mask(span))?;
+    defines.push_decimal(alloc, path, "_bp", span.start)?;
+    defines.push_decimal(alloc, path, "_bw", width(span))?;
     add_reset(alloc, defines, path, reset)
 }
 
 /// Puts the macros of a row behind the others.
-fn add_row(alloc: Global, defines: &mut Vec<Define>, row: &Row) -> Result<(), AllocError>
-    ensures { OnOk result (defines.new.items ≡ defines.old.items ++ macros_of row.now) }
+fn add_row(alloc: Global, defines: &mut Defines, row: &Row) -> Result<(), HeaderFault>
+    ensures { Adds defines.old (macros_of row.now) defines.new result }
 {
     let path = path(alloc, row)?;
     match &row.place {
@@ -113,18 +115,18 @@ fn add_row(alloc: Global, defines: &mut Vec<Define>, row: &Row) -> Result<(), Al
     }
 }
 
-/// The macro that is defined wherever the header of this top has been read.
-fn guard(alloc: Global, top: &Row) -> Result<Define, AllocError>
-    ensures { IfOk result (λ define. define ≡ guard top.now) }
+/// Puts the guard behind the others: the macro that is defined wherever the header of this top has been read.
+fn add_guard(alloc: Global, defines: &mut Defines, top: &Row) -> Result<(), HeaderFault>
+    ensures { Adds defines.old (guard top.now ∷ []) defines.new result }
 {
     let mut name = path(alloc, top)?;
     name.push_str("_H")?;
-    Ok(Define::without_value(alloc, name))
+    defines.push(name, String::new(alloc))
 }
 
 /// Puts the macros of these rows behind the others.
-fn add_rows(alloc: Global, defines: &mut Vec<Define>, rows: &[Row]) -> Result<(), AllocError>
-    ensures { OnOk result (defines.new.items ≡ defines.old.items ++ flat_map macros_of rows.now) }
+fn add_rows(alloc: Global, defines: &mut Defines, rows: &[Row]) -> Result<(), HeaderFault>
+    ensures { Adds defines.old (flat_map macros_of rows.now) defines.new result }
 {
     'rows: for row in rows {
         add_row(alloc, defines, row)?;
@@ -133,16 +135,13 @@ fn add_rows(alloc: Global, defines: &mut Vec<Define>, rows: &[Row]) -> Result<()
 }
 
 /// The guard, then the macros of the rows below the top.
-pub(crate) fn macros(alloc: Global, rows: &[Row]) -> Result<Vec<Define>, AllocError>
-    ensures { IfOk result (λ defines. defines.items ≡ macros rows.now) }
+pub(crate) fn macros(alloc: Global, rows: &[Row]) -> Result<Defines, HeaderFault>
+    ensures { MatchResult result (IsAdded [] (macros rows.now)) (IsClash [] (macros rows.now)) }
 {
-    let mut defines = Vec::new(alloc);
-    match rows {
-        [] => Ok(defines),
-        [top, below @ ..] => {
-            defines.push(guard(alloc, top)?)?;
-            add_rows(alloc, &mut defines, below)?;
-            Ok(defines)
-        }
+    let mut defines = Defines::new(alloc);
+    if let [top, below @ ..] = rows {
+        add_guard(alloc, &mut defines, top)?;
+        add_rows(alloc, &mut defines, below)?;
     }
+    Ok(defines)
 }

@@ -1,14 +1,15 @@
 //! The header of the rows.
-ghost use Rattle.std.specs.Prelude.{◌≡◌, ◌++◌, Ok, Err, string_bytes, IfOk, IfErr, OnOk};
+ghost use Rattle.std.specs.Prelude.{◌≡◌, ◌++◌, [], Ok, Err, string_bytes, IfOk, IfErr, OnOk};
 ghost use Rattle.std.specs.List.{flat_map};
+ghost use Rattle.rdl_header.specs.Defines.{entry_macros};
 ghost use Rattle.rdl_header.specs.HeaderText.{macro_line, guard_lines, header_text, header_of, macros};
 ghost use Rattle.rdl_header.specs.HeaderFaults.{IsFault};
 
-use crate::clash::first_clash;
-use crate::define::Define;
+use crate::defines::Defines;
 use crate::macros::macros;
+use indexmap::map::Slice;
 use rdl_elab::row::Row;
-use std::alloc::{AllocError, Global};
+use std::alloc::{AllocError, AllocFailed, Global};
 
 /// Why there is no header.
 #[derive(Debug, Drop)]
@@ -30,44 +31,52 @@ impl From<AllocError> for HeaderFault {
     }
 }
 
+impl<T: Drop> From<AllocFailed<T>> for HeaderFault {
+    ghost use Rattle.rdl_header.specs.declared.text.HeaderFault.{HeaderFault};
+    ghost use Rattle.std.specs.Prelude.{◌≡◌};
+
+    ghost from_gives = { λ _ f. f ≡ HeaderFault.Memory };
+
+    fn from(_error: AllocFailed<T>) -> HeaderFault {
+        HeaderFault::Memory
+    }
+}
+
 #[tactic(auto, unfolding(crate::specs::HeaderText::guard_lines))]
-fn push_guard(text: &mut String, define: &Define) -> Result<(), AllocError>
-    ensures { OnOk result (string_bytes text.new ≡ string_bytes text.old ++ guard_lines define.now) }
+fn push_guard(text: &mut String, name: &str) -> Result<(), AllocError>
+    ensures { OnOk result (string_bytes text.new ≡ string_bytes text.old ++ guard_lines (record { name = name.now; value = [] })) }
 {
-    let name = define.name();
     write!(text, "#ifndef {name}\n#define {name}\n")
 }
 
 #[tactic(auto, unfolding(crate::specs::HeaderText::macro_line))]
-fn push_macro(text: &mut String, define: &Define) -> Result<(), AllocError>
-    ensures { OnOk result (string_bytes text.new ≡ string_bytes text.old ++ macro_line define.now) }
+fn push_macro(text: &mut String, name: &str, value: &str) -> Result<(), AllocError>
+    ensures { OnOk result (string_bytes text.new ≡ string_bytes text.old ++ macro_line (record { name = name.now; value = value.now })) }
 {
-    write!(text, "#define {} {}\n", define.name(), define.value())
+    write!(text, "#define {name} {value}\n")
 }
 
-fn push_macros(text: &mut String, defines: &[Define]) -> Result<(), AllocError>
-    ensures { OnOk result (string_bytes text.new ≡ string_bytes text.old ++ flat_map macro_line defines.now) }
+fn push_macros(text: &mut String, entries: &Slice<'_, String, String>) -> Result<(), AllocError>
+    ensures { OnOk result (string_bytes text.new ≡ string_bytes text.old ++ flat_map macro_line (entry_macros entries.now)) }
 {
-    'defines: for define in defines {
-        push_macro(text, define)?;
+    'entries: for (name, value) in entries {
+        push_macro(text, name.as_str(), value.as_str())?;
     }
     Ok(())
 }
 
 /// The lines of the macros, of which the first is the guard.
-fn header_text(alloc: Global, defines: &[Define]) -> Result<String, AllocError>
+#[tactic(auto, unfolding(crate::specs::HeaderText::guard_lines))]
+fn header_text(alloc: Global, defines: &Defines) -> Result<String, AllocError>
     ensures { IfOk result (λ text. string_bytes text ≡ header_text defines.now) }
 {
     let mut text = String::new(alloc);
-    match defines {
-        [] => Ok(text),
-        [guard, others @ ..] => {
-            push_guard(&mut text, guard)?;
-            push_macros(&mut text, others)?;
-            text.push_str("#endif\n")?;
-            Ok(text)
-        }
+    if let Some(((guard, _), others)) = defines.entries().split_first() {
+        push_guard(&mut text, guard.as_str())?;
+        push_macros(&mut text, &others)?;
+        text.push_str("#endif\n")?;
     }
+    Ok(text)
 }
 
 /// The C header of the rows of a map, of which the first is the top.
@@ -76,8 +85,5 @@ pub fn header(alloc: Global, rows: &[Row]) -> Result<String, HeaderFault>
     ensures err { IfErr result (IsFault rows.now) }
 {
     let defines = macros(alloc, rows)?;
-    match first_clash(alloc, defines.as_slice())? {
-        Some(name) => Err(HeaderFault::Clash(String::from_str(alloc, name)?)),
-        None => Ok(header_text(alloc, defines.as_slice())?),
-    }
+    Ok(header_text(alloc, &defines)?)
 }

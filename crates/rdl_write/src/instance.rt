@@ -31,12 +31,20 @@ pub fn outside_text(outside: Outside) -> &'static str
     }
 }
 
+fn push_dim(text: &mut String, size: Number) -> Result<(), AllocError>
+    ensures { OnOk result (string_bytes text.new ≡ string_bytes text.old ++ dim_text size) }
+{
+    text.push_str("[")?;
+    push_decimal(text, size)?;
+    text.push_str("]")
+}
+
 /// Appends each size of an array in brackets.
 pub fn push_dims(text: &mut String, dims: &[Number]) -> Result<(), AllocError>
     ensures { OnOk result (string_bytes text.new ≡ string_bytes text.old ++ flat_map dim_text dims.now) }
 {
     'dims: for size in dims {
-        write!(text, "[{size}]")?;
+        push_dim(text, *size)?;
     }
     Ok(())
 }
@@ -45,7 +53,11 @@ fn push_range(text: &mut String, range: Option<(Number, Number)>) -> Result<(), 
     ensures { OnOk result (string_bytes text.new ≡ string_bytes text.old ++ range_text range) }
 {
     if let Some((high, low)) = range {
-        write!(text, "[{high}:{low}]")?;
+        text.push_str("[")?;
+        push_decimal(text, high)?;
+        text.push_str(":")?;
+        push_decimal(text, low)?;
+        text.push_str("]")?;
     }
     Ok(())
 }

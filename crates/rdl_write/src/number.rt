@@ -3,6 +3,7 @@ ghost use Rattle.std.specs.Prelude.{◌≡◌, ◌++◌, string_bytes, OnOk};
 ghost use Rattle.std.specs.Fmt.{decimal};
 ghost use Rattle.rdl_write.specs.Texts.{hexadecimal};
 
+use itoa::Buffer;
 use rdl_text::token::Number;
 use std::alloc::AllocError;
 
@@ -17,5 +18,5 @@ pub fn push_hexadecimal(text: &mut String, number: Number) -> Result<(), AllocEr
 pub fn push_decimal(text: &mut String, number: Number) -> Result<(), AllocError>
     ensures { OnOk result (string_bytes text.new ≡ string_bytes text.old ++ decimal number) }
 {
-    write!(text, "{number}")
+    text.push_str(Buffer::new().format(number))
 }
