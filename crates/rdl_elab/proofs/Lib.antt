@@ -1,4 +1,5 @@
 pub mod Examples
+pub mod KeptValues
 pub mod Rounding
 pub mod CappedNumbers
 pub mod Placing

@@ -104,11 +104,14 @@ fn values(
 ) -> Result<RowValues, AllocError>
     ensures { IfOk result (λ values. values ≡ kept_values kind reset reaching.now own.now) }
 {
-    match (reset, reaching) {
-        (None, []) => Ok(RowValues::of(own.share()?)),
-        (Some(number), []) => Ok(RowValues::with_reset(own.share()?, kind, number)),
-        _ => row_values(alloc, kind, reset, reaching, own),
+    if !reaching.is_empty() {
+        return row_values(alloc, kind, reset, reaching, own);
     }
+    let own = own.share()?;
+    Ok(match reset {
+        Some(number) => RowValues::with_reset(own, kind, number),
+        None => RowValues::of(own),
+    })
 }
 
 /// The assignments whose targets pass this instance.

@@ -4,7 +4,7 @@ ghost use Rattle.std.specs.Option.{is_some};
 ghost use Rattle.rdl_tree.specs.Depth.{depth};
 ghost use Rattle.rdl_tree.specs.declared.description.Item.TheVariants.{Instance};
 ghost use Rattle.rdl_tree.specs.View.{items_of};
-ghost use Rattle.rdl_scope.specs.Closed.{Made, Parts, Standing, component, head_at, lookup, parts, standing};
+ghost use Rattle.rdl_scope.specs.Closed.{Made, Parts, Standing, component, head_at, lookup, nothing, parts, standing};
 ghost use Rattle.rdl_elab.specs.Finished.{IsFinished, IsKept, AreParts};
 ghost use Rattle.rdl_elab.specs.Stands.{made_at, after_item, item_parts, in_list, placed, LeadsTo, Stands, Grows, IsBehind};
 
@@ -206,6 +206,42 @@ fn walk_items<'a>(
     Ok(parts)
 }
 
+impl<'a> Walk<'a> {
+    ghost use Rattle.std.specs.Prelude.{◌≡◌, [], IfOk};
+
+    /// Nothing is laid out, and nothing stands before the next item.
+    fn new(alloc: Global) -> Result<Walk<'a>, AllocError>
+        ensures types { IfOk result (λ walk. walk.types ≡ []) }
+        ensures defaults { IfOk result (λ walk. walk.defaults ≡ []) }
+    {
+        Ok(Walk {
+            types: Types::new(alloc),
+            defaults: Defaults::new(alloc),
+            components: Vec::new(alloc),
+            built_ins: BuiltIns::new(alloc)?,
+        })
+    }
+}
+
+/// Lays out what the first items of the root body hold, and then the component of item `n` behind them.
+fn finish_behind<'a>(
+    alloc: Global,
+    description: &'a Description,
+    items: &'a [Item],
+    n: usize,
+    component: &'a Component,
+    walk: &mut Walk<'a>,
+) -> Result<usize, AllocError>
+    requires nesting { depth description.now.items ≤ 16 }
+    requires room { depth (items_of items.now) ≤ 16 }
+    requires inside { 1 + depth component.now.body ≤ 16 }
+    ensures { IfOk result (λ k. Stands description.now.items walk.old nothing → IsFinished description.now.items walk.new.components.items k (made_at (standing nothing [] 0 (items_of items.now)) (n ∷ []) component.now)) }
+{
+    let root = Address::new();
+    walk_items(alloc, description, &root, items, walk)?;
+    finish(alloc, description, &root.inside(n), component, walk)
+}
+
 /// Lays out the component of item `n` of the root body.
 pub(crate) fn lay_out_item<'a>(
     alloc: Global,
@@ -223,15 +259,8 @@ pub(crate) fn lay_out_item<'a>(
     let Some(component) = own_component(&items[n]) else {
         return Ok(None);
     };
-    let mut walk = Walk {
-        types: Types::new(alloc),
-        defaults: Defaults::new(alloc),
-        components: Vec::new(alloc),
-        built_ins: BuiltIns::new(alloc)?,
-    };
-    let root = Address::new();
-    walk_items(alloc, description, &root, &items[..n], &mut walk)?;
-    let number = finish(alloc, description, &root.inside(n), component, &mut walk)?;
+    let mut walk = Walk::new(alloc)?;
+    let number = finish_behind(alloc, description, &items[..n], n, component, &mut walk)?;
     Ok(Some(Walked {
         components: walk.components,
         number,

@@ -17,14 +17,14 @@ returns-in_default-clause-there c =
     let xs = c.as_slice-items.result.now in
     sym (ap is_some (root-item c.args.description.now.items c.args.n xs (take c.args.n xs) c.index-items-n.result None c.as_slice-items.ensures refl c.if-n-items.false c.index-items-n.is (sym c.in_default.ensures)))
 
-pub walk_items-requires-clause-room : goal.walk_items-requires-clause-room
-walk_items-requires-clause-room c =
+pub finish_behind-requires-clause-room : goal.finish_behind-requires-clause-room
+finish_behind-requires-clause-room c =
     let xs = c.as_slice-items.result.now in
-    omega (arith, ap length c.new-root.ensures, first-room c.args.description.now.items xs (take c.args.n xs) c.args.n c.as_slice-items.ensures refl c.requires)
+    first-room c.args.description.now.items xs (take c.args.n xs) c.args.n c.as_slice-items.ensures refl c.requires
 
-pub finish-requires-clause-room : goal.finish-requires-clause-room
-finish-requires-clause-room c =
-    own-room c.args.description.now.items c.args.n c.as_slice-items.result.now c.index-items-n.result c.in-Some.component.now c.new-root.result c.inside.result c.as_slice-items.ensures c.if-n-items.false c.index-items-n.is (sym c.in-Some.ensures) c.new-root.ensures c.inside.ensures c.requires
+pub finish_behind-requires-clause-inside : goal.finish_behind-requires-clause-inside
+finish_behind-requires-clause-inside c =
+    own-room c.args.description.now.items c.args.n c.as_slice-items.result.now c.index-items-n.result c.in-Some.component.now [] (c.args.n ∷ []) c.as_slice-items.ensures c.if-n-items.false c.index-items-n.is (sym c.in-Some.ensures) refl refl c.requires
 
 pub returns-clause-there : goal.returns-clause-there
 returns-clause-there c =
@@ -38,11 +38,5 @@ returns-clause-finished c = λ made is.
     let e = standing nothing [] 0 (items_of (take c.args.n xs)) in
     let found = root-item d c.args.n xs (take c.args.n xs) c.index-items-n.result (Some c.in-Some.component.now) c.as_slice-items.ensures refl c.if-n-items.false c.index-items-n.is (sym c.in-Some.ensures) in
     let same : made_at e (c.args.n ∷ []) c.in-Some.component.now ≡ made = cc (found, is) in
-    let begun : Walk = record { types = c.new.result; defaults = c.new-2.result; components = c.new-3.result; built_ins = tt } in
-    let after : Stands d c.walk_items.new.walk e =
-    subst (λ (b : List ℕ). Stands d c.walk_items.new.walk (standing nothing b 0 (items_of (take c.args.n xs)))) c.new-root.ensures
-    (c.in_ok-walk_items.ensures.stands nothing (stands-first d begun c.new.ensures c.new-2.ensures)) in
-    let fs = c.finish.new.walk.components.items in
-    let at : c.inside.result ≡ c.args.n ∷ [] = c.inside.ensures ∙ ap (λ (r : List ℕ). r ++ c.args.n ∷ []) c.new-root.ensures in
-    subst (IsFinished d fs c.in_ok-number.number) same
-    (subst (λ (a : List ℕ). IsFinished d fs c.in_ok-number.number (made_at e a c.in-Some.component.now)) at (c.in_ok-number.ensures.made e after))
+    subst (IsFinished d c.finish_behind.new.walk.components.items c.in_ok-number.number) same
+    (c.in_ok-number.ensures (stands-first d c.in_ok-walk.walk c.in_ok-walk.ensures.types c.in_ok-walk.ensures.defaults))
