@@ -106,7 +106,7 @@ fn dynamic(
 ) -> Result<Item, AllocError>
     ensures { IfOk result (λ item. item ≡ Item.Dynamic target.now property.now value.now) }
 {
-    let target = target.try_copy(alloc)?;
     let property = property.try_copy(alloc)?;
-    Ok(Item::Dynamic(target, property, value.try_copy(alloc)?))
+    let value = value.try_copy(alloc)?;
+    Ok(Item::Dynamic(target.try_copy(alloc)?, property, value))
 }
