@@ -11,5 +11,6 @@ pub mod Exact
 pub mod Gathering
 pub mod Rounds
 pub mod Bodies
+pub mod Classes
 pub mod Placed
 pub mod Answered

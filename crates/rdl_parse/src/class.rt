@@ -1,5 +1,6 @@
 //! What the grammar sees of an identifier.
-ghost use Rattle.std.specs.Prelude.{◌≡◌};
+ghost use Rattle.std.specs.Prelude.{◌≡◌, find, bytes_eq};
+ghost use Rattle.rdl_tree.specs.Word.{word_text};
 ghost use Rattle.rdl_parse.specs.Class.{class, is_unused};
 ghost use Rattle.rdl_parse.specs.Symbol.{property_text};
 
@@ -36,6 +37,52 @@ pub enum Class {
     Name,
 }
 
+const PROPERTIES: [Property; 6] = [
+    Property::Sw,
+    Property::Hw,
+    Property::Rclr,
+    Property::Rset,
+    Property::Woset,
+    Property::Woclr,
+];
+
+/// The words that are values and nothing else.
+const VALUE_WORDS: [Word; 16] = [
+    Word::Rw,
+    Word::Wr,
+    Word::Rw1,
+    Word::W1,
+    Word::Na,
+    Word::Ruser,
+    Word::Wot,
+    Word::Wzs,
+    Word::Wzc,
+    Word::Wzt,
+    Word::Wclr,
+    Word::Wset,
+    Word::Wuser,
+    Word::Compact,
+    Word::Regalign,
+    Word::Fullalign,
+];
+
+/// The property that is spelled so.
+fn property_named(identifier: &str, properties: &[Property]) -> Option<Property>
+    ensures { result ≡ find (λ p. bytes_eq identifier.now (property_text p)) properties.now }
+{
+    properties
+        .iter()
+        .copied()
+        .find(|property| identifier == property.text())
+}
+
+/// The word that is spelled so.
+fn word_named(identifier: &str, words: &[Word]) -> Option<Word>
+    ensures { result ≡ find (λ w. bytes_eq identifier.now (word_text w)) words.now }
+{
+    words.iter().copied().find(|word| identifier == word.text())
+}
+
 /// Whether the identifier is a reserved word with no use in this profile.
 #[tactic(auto, unfolding(crate::specs::Class::is_unused))]
 fn is_unused(identifier: &str) -> bool
@@ -63,30 +110,14 @@ impl Class {
             "default" => Class::Default,
             "true" => Class::Truth(true),
             "false" => Class::Truth(false),
-            "sw" => Class::Property(Property::Sw),
-            "hw" => Class::Property(Property::Hw),
-            "rclr" => Class::Property(Property::Rclr),
-            "rset" => Class::Property(Property::Rset),
-            "woset" => Class::Property(Property::Woset),
-            "woclr" => Class::Property(Property::Woclr),
-            "rw" => Class::Word(Word::Rw),
-            "wr" => Class::Word(Word::Wr),
-            "rw1" => Class::Word(Word::Rw1),
-            "w1" => Class::Word(Word::W1),
-            "na" => Class::Word(Word::Na),
-            "ruser" => Class::Word(Word::Ruser),
-            "wot" => Class::Word(Word::Wot),
-            "wzs" => Class::Word(Word::Wzs),
-            "wzc" => Class::Word(Word::Wzc),
-            "wzt" => Class::Word(Word::Wzt),
-            "wclr" => Class::Word(Word::Wclr),
-            "wset" => Class::Word(Word::Wset),
-            "wuser" => Class::Word(Word::Wuser),
-            "compact" => Class::Word(Word::Compact),
-            "regalign" => Class::Word(Word::Regalign),
-            "fullalign" => Class::Word(Word::Fullalign),
-            _ if is_unused(identifier) => Class::Reserved,
-            _ => Class::Name,
+            _ => match property_named(identifier, &PROPERTIES) {
+                Some(property) => Class::Property(property),
+                None => match word_named(identifier, &VALUE_WORDS) {
+                    Some(word) => Class::Word(word),
+                    None if is_unused(identifier) => Class::Reserved,
+                    None => Class::Name,
+                },
+            },
         }
     }
 }

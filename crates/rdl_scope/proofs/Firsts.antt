@@ -1,5 +1,5 @@
 -- Steps of the search for the first fault.
-use Rattle.std.proofs.Common.{◌≡◌, ℕ, zero, suc, ◌+◌, ◌-◌, ◌<◌, ◌≤◌, List, [], ◌∷◌, ◌++◌, length, drop, get_or, Some, None, Option, refl, ap, sym, ◌∙◌, arith}
+use Rattle.std.proofs.Common.{◌≡◌, ℕ, zero, suc, ◌+◌, ◌-◌, ◌<◌, ◌≤◌, List, [], ◌∷◌, ◌++◌, length, drop, get_or, Some, None, Option, refl, ap, sym, ◌∙◌, arith, length-append}
 use Rattle.std.specs.Option.{option_or}
 use Rattle.rdl_tree.specs.Items.{Items, no_items, plain, holder}
 use Rattle.rdl_tree.specs.View.{add, items_of, list_of}
@@ -89,6 +89,18 @@ pub room_inside : (b : List ℕ) (i : ℕ) (body : Items) (xs : List Item) (x : 
 room_inside b i body xs x o e h is holds room c some =
     let held : own_component (get_or (list_of body) i x) ≡ Some c = ap (λ ys. own_component (get_or ys i x)) (sym e) ∙ ap own_component (sym is) ∙ sym holds ∙ some in
     omega (arith, depth-item body i x c (omega (arith, ap length e)) held)
+
+-- two lists that end alike, each with one more item behind it
+pub ends_same : {X : Type 0} (xs ys : List X) (x y : X) → xs ++ x ∷ [] ≡ ys ++ y ∷ [] → (xs ≡ ys) × (x ≡ y)
+ends_same [] [] x y e = (refl, cc)
+ends_same [] (w ∷ ys) x y e = absurd (omega (arith, simp length-append at (ap length e)))
+ends_same (w ∷ xs) [] x y e = absurd (omega (arith, simp length-append at (ap length e)))
+ends_same (w ∷ xs) (v ∷ ys) x y e =
+    let first : w ≡ v = cc in
+    let others = ends_same xs ys x y (ap (drop 1) e) in (
+      ap (λ z. z ∷ xs) first ∙ ap (λ zs. v ∷ zs) others.0,
+      others.1,
+    )
 
 pub no_some : {X : Type 0} (o : Option X) → ((x : X) → o ≡ Some x → ⊥) → o ≡ None
 no_some None h = refl

@@ -1,5 +1,6 @@
 -- Steps along the names of a target.
-use Rattle.std.proofs.Common.{◌≡◌, ℕ, ◌+◌, ◌<◌, ◌≤◌, List, [], ◌∷◌, ◌++◌, length, drop, get_or, Some, None, Option, refl, ap, sym, arith, append_assoc, option_map, add-one, drop-cons}
+use Rattle.std.proofs.Common.{◌≡◌, ℕ, ◌+◌, ◌<◌, ◌≤◌, List, [], ◌∷◌, ◌++◌, length, drop, get_or, Some, None, Option, refl, ap, sym, ◌∙◌, arith, append_assoc, option_map, add-one, drop-cons, length-drop}
+use Rattle.std.proofs.lemmas.List.{drop_all}
 use Rattle.std.specs.Prelude.{option_and_then}
 use Rattle.rdl_tree.specs.Items.{Items}
 use Rattle.rdl_scope.specs.Types.{component_of, items_in}
@@ -32,7 +33,35 @@ passes-more : (d : Items) (b : List ℕ) (n : ℕ) (name : List ℕ) (names : Li
 passes-more d b n name [] a h e = absurd (omega arith)
 passes-more d b n name (next ∷ names) a h e = ap (option_and_then (λ a. option_map (λ more. a ∷ more) (option_and_then (λ c. passes d c (items_in c d) (next ∷ names)) (component_of d a)))) e
 
-dropped : (i : ℕ) (names : List (List ℕ)) (x : List ℕ) → i < length names → drop i names ≡ get_or names i x ∷ drop (i + 1) names
-dropped i names x h = rw add-one (drop-cons names i x h)
+-- the names from the i-th on, which is x
+named : (i : ℕ) (names : List (List ℕ)) (x : List ℕ) → i < length names → x ≡ get_or names i x → drop i names ≡ x ∷ drop (i + 1) names
+named i names x h e = (rw add-one (drop-cons names i x h)) ∙ ap (λ y. y ∷ drop (i + 1) names) (sym e)
+
+-- no name is left
+pub passed_all : (d : Items) (b : List ℕ) (n : ℕ) (names path : List (List ℕ)) (i : ℕ) → length names ≤ i → after path (passes d b n (drop i names)) ≡ None
+passed_all d b n names path i h = ap (λ ns. after path (passes d b n ns)) (drop_all i names h)
+
+-- the i-th name is that of no instance
+pub met_none : (d : Items) (b : List ℕ) (n : ℕ) (names path : List (List ℕ)) (i : ℕ) (x : List ℕ)
+    → i < length names → x ≡ get_or names i x → instance_in d b n x ≡ None → after path (passes d b n (drop i names)) ≡ None
+met_none d b n names path i x h is e =
+    ap (λ ns. after path (passes d b n ns)) (named i names x h is) ∙ ap (after path) (passes-none d b n x (drop (i + 1) names) e)
+
+-- the i-th name is the last
+pub met_last : (d : Items) (b : List ℕ) (n : ℕ) (names path : List (List ℕ)) (i : ℕ) (x a : List ℕ)
+    → i < length names → x ≡ get_or names i x → i + 1 ≡ length names → instance_in d b n x ≡ Some a → after path (passes d b n (drop i names)) ≡ Some (path ++ a ∷ [])
+met_last d b n names path i x a h is last e =
+    let end : length names ≤ i + 1 = omega (arith, last) in
+    ap (λ ns. after path (passes d b n ns)) (named i names x h is ∙ ap (λ ns. x ∷ ns) (drop_all (i + 1) names end)) ∙ ap (after path) (passes-one d b n x a e)
+
+-- the way goes on in the component of the i-th name's instance
+pub met_more : (d : Items) (b : List ℕ) (n : ℕ) (names path : List (List ℕ)) (i : ℕ) (x a : List ℕ) (o : Option (List ℕ))
+    → i < length names → x ≡ get_or names i x → (i + 1 ≡ length names → ⊥) → instance_in d b n x ≡ Some a → component_of d a ≡ o
+    → after path (passes d b n (drop i names)) ≡ after (path ++ a ∷ []) (option_and_then (λ c. passes d c (items_in c d) (drop (i + 1) names)) o)
+met_more d b n names path i x a o h is more e f =
+    let rest : 1 ≤ length (drop (i + 1) names) = simp length-drop (omega (arith, h, more)) in
+    let inner = option_and_then (λ c. passes d c (items_in c d) (drop (i + 1) names)) in
+    ap (λ ns. after path (passes d b n ns)) (named i names x h is) ∙ ap (after path) (passes-more d b n x (drop (i + 1) names) a rest e)
+    ∙ after-push path a (inner (component_of d a)) ∙ ap (λ k. after (path ++ a ∷ []) (inner k)) f
 
 pub ruleset steps = (after-none)

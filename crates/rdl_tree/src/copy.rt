@@ -2,6 +2,10 @@
 ghost use Rattle.std.specs.Prelude.{◌≡◌, IfOk};
 
 use crate::description::{Body, Component, Description, Item, Of};
+use crate::shell::Shell;
+use crate::target::Target;
+use crate::value::Value;
+use rdl_text::name::Name;
 use std::alloc::{AllocError, Global};
 
 impl Description {
@@ -32,27 +36,11 @@ impl Item {
         ensures { IfOk result (λ copy. copy ≡ self.now) }
     {
         match self {
-            Item::Define(name, component) => {
-                let name = name.try_copy(alloc)?;
-                Ok(Item::Define(name, component.try_copy(alloc)?))
-            }
-            Item::Instance(shell, of) => {
-                let shell = shell.try_copy(alloc)?;
-                Ok(Item::Instance(shell, of.try_copy(alloc)?))
-            }
-            Item::Own(property, value) => {
-                let property = property.try_copy(alloc)?;
-                Ok(Item::Own(property, value.try_copy(alloc)?))
-            }
-            Item::Default(property, value) => {
-                let property = property.try_copy(alloc)?;
-                Ok(Item::Default(property, value.try_copy(alloc)?))
-            }
-            Item::Dynamic(target, property, value) => {
-                let target = target.try_copy(alloc)?;
-                let property = property.try_copy(alloc)?;
-                Ok(Item::Dynamic(target, property, value.try_copy(alloc)?))
-            }
+            Item::Define(name, component) => define(name, component.try_copy(alloc)?, alloc),
+            Item::Instance(shell, of) => instance(shell, of.try_copy(alloc)?, alloc),
+            Item::Own(property, value) => own(property, value, alloc),
+            Item::Default(property, value) => default(property, value, alloc),
+            Item::Dynamic(target, property, value) => dynamic(target, property, value, alloc),
         }
     }
 }
@@ -80,4 +68,45 @@ impl Component {
             body,
         })
     }
+}
+
+/// The definition of the component under a copy of the name.
+fn define(name: &Name, component: Component, alloc: Global) -> Result<Item, AllocError>
+    ensures { IfOk result (λ item. item ≡ Item.Define name.now component) }
+{
+    Ok(Item::Define(name.try_copy(alloc)?, component))
+}
+
+/// The instance of the component with a copy of the shell.
+fn instance(shell: &Shell, of: Of, alloc: Global) -> Result<Item, AllocError>
+    ensures { IfOk result (λ item. item ≡ Item.Instance shell.now of) }
+{
+    Ok(Item::Instance(shell.try_copy(alloc)?, of))
+}
+
+fn own(property: &Name, value: &Value, alloc: Global) -> Result<Item, AllocError>
+    ensures { IfOk result (λ item. item ≡ Item.Own property.now value.now) }
+{
+    let property = property.try_copy(alloc)?;
+    Ok(Item::Own(property, value.try_copy(alloc)?))
+}
+
+fn default(property: &Name, value: &Value, alloc: Global) -> Result<Item, AllocError>
+    ensures { IfOk result (λ item. item ≡ Item.Default property.now value.now) }
+{
+    let property = property.try_copy(alloc)?;
+    Ok(Item::Default(property, value.try_copy(alloc)?))
+}
+
+fn dynamic(
+    target: &Target,
+    property: &Name,
+    value: &Value,
+    alloc: Global,
+) -> Result<Item, AllocError>
+    ensures { IfOk result (λ item. item ≡ Item.Dynamic target.now property.now value.now) }
+{
+    let property = property.try_copy(alloc)?;
+    let value = value.try_copy(alloc)?;
+    Ok(Item::Dynamic(target.try_copy(alloc)?, property, value))
 }

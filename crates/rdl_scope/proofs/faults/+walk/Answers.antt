@@ -1,15 +1,36 @@
-use Rattle.std.proofs.Common.{arith, length, [], ◌∷◌, ◌++◌, ◌+◌, ◌-◌, ◌*◌, ◌<◌, ◌≡◌, refl, ap, sym, ◌∙◌, length-append}
+use Rattle.std.proofs.Common.{arith, length, drop, [], ◌∷◌, ◌++◌, ◌+◌, ◌-◌, ◌*◌, ◌<◌, ◌≡◌, refl, ap, sym, ◌∙◌, length-append}
 use Rattle.std.proofs.lemmas.Bool.{eqb-true}
 use Rattle.std.specs.Option.{option_copied}
+use Rattle.rdl_tree.specs.View.{items_of}
 use Rattle.rdl_tree.specs.Address.{body_at}
 use Rattle.rdl_scope.specs.Walk.{found}
 use Rattle.rdl_scope.specs.Scopes.{number_under, level_found}
 use Rattle.rdl_scope.proofs.TargetKinds.{no-fault-at}
 use Rattle.rdl_tree.proofs.Rests.{rest-all}
 use Rattle.rdl_scope.specs.ItemFaults.{first_fault}
-use Rattle.rdl_scope.proofs.Firsts.{first_met, none_met, inside_met, no_some, room_inside, empty_inside}
+use Rattle.rdl_scope.proofs.Firsts.{ends_same, first-none, first_met, none_met, inside_met, no_some, room_inside, empty_inside}
 use Rattle.rdl_scope.proofs.Levelled.{scope-found, level-push, body-inside, item_got, definition-next}
 use Rattle.rdl_scope.proofs.faults.+walk.Goals as goal
+
+pub first_fault-returns-clause-fault : goal.first_fault-returns-clause-fault
+first_fault-returns-clause-fault t c =
+    let d = c.args.description.now.items in
+    let body = c.args.body.now in
+    sym (c.items.invariant.first
+    ∙ ap (λ ys. first_fault d c.args.around c.args.at.now body c.items.i (items_of (drop c.items.i ys))) (sym c.as_slice-item-items.ensures)
+    ∙ first-none d c.args.around c.args.at.now body c.items.i c.as_slice-item-items.result.now c.items-test.false)
+
+pub inside_fault-returns-in-Some-pop-clause-levels :
+    goal.inside_fault-returns-in-Some-pop-clause-levels
+inside_fault-returns-in-Some-pop-clause-levels t c = λ none.
+    let same = sym c.in-Some-pop.ensures.items ∙ c.in_ok-fault.ensures.levels none ∙ c.in_ok-push.ensures.items in
+    (ends_same c.pop.new.self.items c.args.levels.now.items c.in-Some-pop.outer c.replace.result same).0
+
+pub inside_fault-returns-in-Some-pop-clause-definitions :
+    goal.inside_fault-returns-in-Some-pop-clause-definitions
+inside_fault-returns-in-Some-pop-clause-definitions t c = λ none.
+    let same = sym c.in-Some-pop.ensures.items ∙ c.in_ok-fault.ensures.levels none ∙ c.in_ok-push.ensures.items in
+    (ends_same c.pop.new.self.items c.args.levels.now.items c.in-Some-pop.outer c.replace.result same).1 ∙ c.replace.ensures.value
 
 pub first_fault-items-init : goal.first_fault-items-init
 first_fault-items-init t c =

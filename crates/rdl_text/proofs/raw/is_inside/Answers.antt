@@ -1,5 +1,5 @@
 -- One byte of a string, in each of the two states.
-use Rattle.std.proofs.Common.{◌≡◌, ℕ, ◌+◌, ◌<◌, true, false, List, length, drop, get_or, nat_eq, ◌∙◌, sym, refl}
+use Rattle.std.proofs.Common.{◌≡◌, ℕ, ◌+◌, ◌<◌, true, false, List, length, drop, get_or, nat_eq, ap, ◌∙◌, sym, refl}
 use Rattle.std.proofs.lemmas.Bool.{ne_eqb}
 use Rattle.rdl_text.specs.Raw.{is_inside}
 use Rattle.std.proofs.lemmas.List.{at_drop_more}
@@ -19,6 +19,9 @@ scan-preserved c =
     let i = c.scan.byte-index in
     let s = c.args.bytes.now in
     elim c.if-taken.branch [
-      | then-taken w ↦ let e = taken i s c.scan-test.true in cc
-      | else-taken+else-byte-eq34 w ↦ let e = plain i s c.scan-test.true (ne_eqb _ _ w.if-byte-eq34.false) in cc
+      | then-taken w ↦
+          ap (λ b. is_inside b (drop (i + 1) s)) w.taken-is ∙ taken i s c.scan-test.true ∙ ap (λ b. is_inside b (drop i s)) (sym w.if-taken.true) ∙ c.scan.invariant
+      | else-taken+else-byte-eq34 w ↦
+          ap (λ b. is_inside b (drop (i + 1) s)) w.taken-is ∙ plain i s c.scan-test.true (ne_eqb _ _ w.if-byte-eq34.false)
+          ∙ ap (λ b. is_inside b (drop i s)) (sym w.if-taken.false) ∙ c.scan.invariant
     ]

@@ -29,6 +29,10 @@ scan-preserved c =
     let i = c.scan.index in
     let s = c.args.bytes.now in
     elim c.if-taken.branch [
-      | then-taken w ↦ let e = taken i s c.scan-test.true in cc
-      | else-taken+else-byte-eq34 w ↦ let e = plain i s c.scan-test.true (ne_eqb _ _ w.if-byte-eq34.false) in cc
+      | then-taken w ↦
+          ap (λ b. further (i + 1) (closing b (drop (i + 1) s))) w.taken-is ∙ taken i s c.scan-test.true
+          ∙ ap (λ b. further i (closing b (drop i s))) (sym w.if-taken.true) ∙ c.scan.invariant
+      | else-taken+else-byte-eq34 w ↦
+          ap (λ b. further (i + 1) (closing b (drop (i + 1) s))) w.taken-is ∙ plain i s c.scan-test.true (ne_eqb _ _ w.if-byte-eq34.false)
+          ∙ ap (λ b. further i (closing b (drop i s))) (sym w.if-taken.false) ∙ c.scan.invariant
     ]

@@ -32,7 +32,7 @@ body-returns t c =
 pub statements-returns-in_err-gathered : goal.statements-returns-in_err-gathered
 statements-returns-in_err-gathered t c =
     let p = err_from_is_err_and c.from_residual.result c.from_residual.ensures.1 in
-    let on : goes_on (symbols c.turns.self.rest.now) ≡ true = cc (c.goes_on.ensures, c.turns-test.true) in
+    let on : goes_on (symbols c.turns.self.rest.now) ≡ true = sym c.goes_on.ensures ∙ c.turns-test.true in
     rw (p.1, p.2) (statements-fails _ c.args.levels c.args.before (symbols c.args.self.now.rest.now) (seen c.turns.found, c.turns.room) (symbols c.turns.self.rest.now) on c.in_err-gathered.ensures c.turns.invariant)
 
 pub statements-turns-smaller : goal.statements-turns-smaller
@@ -40,10 +40,10 @@ statements-turns-smaller t c = statement-smaller _ _ _ _ _ c.in_ok-gathered.ensu
 
 pub statements-turns-preserved : goal.statements-turns-preserved
 statements-turns-preserved t c =
-    let on : goes_on (symbols c.turns.self.rest.now) ≡ true = cc (c.goes_on.ensures, c.turns-test.true) in
+    let on : goes_on (symbols c.turns.self.rest.now) ≡ true = sym c.goes_on.ensures ∙ c.turns-test.true in
     rw c.in_ok-append.ensures (statements-next c.args.levels _ (seen c.turns.found, c.turns.room) (symbols c.turns.self.rest.now) (seen c.in_ok-gathered.gathered.found, c.in_ok-gathered.gathered.room) (symbols c.statement.new.self.rest.now) on c.in_ok-gathered.ensures c.turns.invariant)
 
 pub statements-returns : goal.statements-returns
 statements-returns t c =
-    let over : goes_on (symbols c.turns.self.rest.now) ≡ false = cc (c.goes_on.ensures, c.turns-test.false) in
+    let over : goes_on (symbols c.turns.self.rest.now) ≡ false = sym c.goes_on.ensures ∙ c.turns-test.false in
     statements-done c.args.levels c.args.before (symbols c.args.self.now.rest.now) (seen c.turns.found, c.turns.room) (symbols c.turns.self.rest.now) over c.turns.invariant

@@ -1,5 +1,5 @@
 use Rattle.std.proofs.lemmas.Result.{err_from_is_err_and}
-use Rattle.std.proofs.Common.{◌≡◌, true, false, option_map}
+use Rattle.std.proofs.Common.{◌≡◌, sym, ◌∙◌, true, false, option_map}
 use Rattle.rdl_text.specs.declared.token.Mark.TheVariants.{Comma}
 use Rattle.rdl_parse.specs.Finds.{seen}
 use Rattle.rdl_parse.specs.Gathering.{finished}
@@ -20,13 +20,13 @@ commas-init c =
 pub returns-in_err-mark : goal.returns-in_err-mark
 returns-in_err-mark c =
     let p = err_from_is_err_and c.from_residual-in_err-mark.result c.from_residual-in_err-mark.ensures.1 in
-    let goes_on : begins Comma (symbols c.commas.self.rest.now) ≡ true = cc (c.begins.ensures, c.commas-test.true) in
+    let goes_on : begins Comma (symbols c.commas.self.rest.now) ≡ true = sym c.begins.ensures ∙ c.commas-test.true in
     rw (p.1, p.2) (comma-fails c.in_err-mark.field-0.0 c.args.room c.args.outside c.args.of.now c.args.inner.now _ (symbols c.commas.self.rest.now) _ goes_on c.in_err-mark.ensures c.commas.invariant)
 
 pub returns-in_err-kept-2 : goal.returns-in_err-kept-2
 returns-in_err-kept-2 c =
     let p = err_from_is_err_and c.from_residual-in_err-kept-2.result c.from_residual-in_err-kept-2.ensures.1 in
-    let goes_on : begins Comma (symbols c.commas.self.rest.now) ≡ true = cc (c.begins.ensures, c.commas-test.true) in
+    let goes_on : begins Comma (symbols c.commas.self.rest.now) ≡ true = sym c.begins.ensures ∙ c.commas-test.true in
     rw (p.1, p.2) (next-fails c.in_err-kept-2.field-0.0 c.args.room c.args.outside c.args.of.now c.args.inner.now _ (symbols c.commas.self.rest.now) (symbols c.mark.new.self.rest.now) _ goes_on c.in_ok-mark.ensures c.in_err-kept-2.ensures c.commas.invariant)
 
 pub commas-smaller : goal.commas-smaller
@@ -35,10 +35,10 @@ commas-smaller c =
 
 pub commas-preserved : goal.commas-preserved
 commas-preserved c =
-    let goes_on : begins Comma (symbols c.commas.self.rest.now) ≡ true = cc (c.begins.ensures, c.commas-test.true) in
+    let goes_on : begins Comma (symbols c.commas.self.rest.now) ≡ true = sym c.begins.ensures ∙ c.commas-test.true in
     gathers-next c.args.room c.args.outside c.args.of.now c.args.inner.now (option_map finished c.commas.kept) _ (symbols c.commas.self.rest.now) (symbols c.mark.new.self.rest.now) _ _ goes_on c.in_ok-mark.ensures c.in_ok-kept-2.ensures c.commas.invariant
 
 pub returns : goal.returns
 returns c =
-    let over : begins Comma (symbols c.commas.self.rest.now) ≡ false = cc (c.begins.ensures, c.commas-test.false) in
+    let over : begins Comma (symbols c.commas.self.rest.now) ≡ false = sym c.begins.ensures ∙ c.commas-test.false in
     rw (gathers-ends c.args.room c.args.outside c.args.of.now c.args.inner.now (option_map finished c.commas.kept) (symbols c.commas.self.rest.now) _ over c.commas.invariant) c.end_statement.ensures

@@ -1,11 +1,11 @@
-use Rattle.std.proofs.Common.{ap, sym, ◌∙◌}
+use Rattle.std.proofs.Common.{◌≡◌, [], refl, ap, sym, ◌∙◌}
 use Rattle.std.specs.Option.{ghost_name_of, option_copied_mut}
 use borrow.Follows.Closed.{read_of}
 use Rattle.rdl_tree.specs.Items.{Items}
 use Rattle.rdl_tree.specs.Address.{body_at, map_body}
 use Rattle.rdl_tree.specs.declared.description.Component.{Component}
 use Rattle.rdl_tree.specs.declared.description.Description.{Description}
-use Rattle.rdl_tree.proofs.Steps.{lent_some, lent_none}
+use Rattle.rdl_tree.proofs.Steps.{path_end, lent_some, lent_none}
 use Rattle.rdl_tree.proofs.Components.{set-map_body, set_component-same, body_at-some, body_at-none}
 use Rattle.rdl_tree.proofs.description.Description.body_mut.Goals as goal
 
@@ -27,3 +27,8 @@ returns-in_ok-self-in-len1-up c =
           (record { items = set_component-same _ whole.items part found j }),
       record { writes_back = tt; value = c.reach.ensures.value ∙ sym (ap (λ p. body_at p whole.items) (sym c.as_slice.ensures.value) ∙ body_at-some c.as_slice.result.now whole.items part c.in-len1-up.len_at_least found) },
     )
+
+pub returns-in-empty : goal.returns-in-empty
+returns-in-empty c =
+    let end : c.args.address.now ≡ [] = sym c.as_slice.ensures.value ∙ path_end c.as_slice.result.now c.in-empty.len_below in
+    rw end (refl, record { writes_back = tt; value = refl })

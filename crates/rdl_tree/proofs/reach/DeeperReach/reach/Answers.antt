@@ -1,10 +1,10 @@
-use Rattle.std.proofs.Common.{ap, sym, ◌∙◌}
+use Rattle.std.proofs.Common.{refl, ap, sym, ◌∙◌}
 use Rattle.std.specs.Option.{ghost_name_of, option_copied_mut}
 use borrow.Follows.Closed.{read_of}
 use Rattle.rdl_tree.specs.Items.{Items}
 use Rattle.rdl_tree.specs.Address.{map_body}
 use Rattle.rdl_tree.specs.declared.description.Component.{Component}
-use Rattle.rdl_tree.proofs.Steps.{lent_some, lent_none}
+use Rattle.rdl_tree.proofs.Steps.{path_end, lent_some, lent_none}
 use Rattle.rdl_tree.proofs.Components.{set-map_body, set_component-same, body_at-some, body_at-none}
 use Rattle.rdl_tree.proofs.reach.DeeperReach.reach.Goals as goal
 
@@ -24,3 +24,6 @@ returns-in_ok-component-in-len1-up g c =
       λ j. read_of (ghost_name_of c.reach.result) (λ (w : Items). record whole { body = set-map_body c.args.path.now whole.body w part c.in-len1-up.len_at_least found j }) (record whole { body = set_component-same _ whole.body part found j }),
       record { writes_back = tt; value = c.reach.ensures.value ∙ sym (body_at-some c.args.path.now whole.body part c.in-len1-up.len_at_least found) },
     )
+
+pub returns-in-empty : goal.returns-in-empty
+returns-in-empty g c = rw (path_end c.args.path.now c.in-empty.len_below) (refl, record { writes_back = tt; value = refl })

@@ -1,0 +1,19 @@
+use Rattle.std.proofs.Common.{◌∷◌, [], ◌++◌, take, take_all, map, ap, sym, ◌∙◌}
+use Rattle.std.proofs.lemmas.List.{map-append, take_more}
+use Rattle.rdl_scope.proofs.keys.target_key.Goals as goal
+
+pub returns : goal.returns
+returns c =
+    c.loop-part.invariant
+    ∙ ap (λ ns. c.args.name.now ∷ ns) (take_all c.loop-part.part-index c.names-part-items.result.now c.loop-part-test.false ∙ c.names-part-items.ensures)
+
+pub loop-part-preserved : goal.loop-part-preserved
+loop-part-preserved c =
+    let i = c.loop-part.part-index in
+    let parts = c.names-part-items.result.now in
+    let text = c.as_str-in-loop-part.result in
+    ap (map (λ s. s.now)) c.in_ok-push.ensures.items
+    ∙ map-append (λ s. s.now) c.loop-part.key.items (text ∷ [])
+    ∙ ap (λ ts. ts ++ text.now ∷ []) c.loop-part.invariant
+    ∙ ap (λ n. c.args.name.now ∷ (take i parts ++ n ∷ [])) (c.as_str-in-loop-part.ensures ∙ c.part-item.is)
+    ∙ ap (λ ns. c.args.name.now ∷ ns) (sym (take_more parts i c.part-item.result c.loop-part-test.true))
