@@ -36,11 +36,11 @@ impl Item {
         ensures { IfOk result (λ copy. copy ≡ self.now) }
     {
         match self {
-            Item::Define(name, component) => define(name, component.try_copy(alloc)?, alloc),
-            Item::Instance(shell, of) => instance(shell, of.try_copy(alloc)?, alloc),
-            Item::Own(property, value) => own(property, value, alloc),
-            Item::Default(property, value) => default(property, value, alloc),
-            Item::Dynamic(target, property, value) => dynamic(target, property, value, alloc),
+            Item::Define(name, component) => define(alloc, name, component.try_copy(alloc)?),
+            Item::Instance(shell, of) => instance(alloc, shell, of.try_copy(alloc)?),
+            Item::Own(property, value) => own(alloc, property, value),
+            Item::Default(property, value) => default(alloc, property, value),
+            Item::Dynamic(target, property, value) => dynamic(alloc, target, property, value),
         }
     }
 }
@@ -71,27 +71,27 @@ impl Component {
 }
 
 /// The definition of the component under a copy of the name.
-fn define(name: &Name, component: Component, alloc: Global) -> Result<Item, AllocError>
+fn define(alloc: Global, name: &Name, component: Component) -> Result<Item, AllocError>
     ensures { IfOk result (λ item. item ≡ Item.Define name.now component) }
 {
     Ok(Item::Define(name.try_copy(alloc)?, component))
 }
 
 /// The instance of the component with a copy of the shell.
-fn instance(shell: &Shell, of: Of, alloc: Global) -> Result<Item, AllocError>
+fn instance(alloc: Global, shell: &Shell, of: Of) -> Result<Item, AllocError>
     ensures { IfOk result (λ item. item ≡ Item.Instance shell.now of) }
 {
     Ok(Item::Instance(shell.try_copy(alloc)?, of))
 }
 
-fn own(property: &Name, value: &Value, alloc: Global) -> Result<Item, AllocError>
+fn own(alloc: Global, property: &Name, value: &Value) -> Result<Item, AllocError>
     ensures { IfOk result (λ item. item ≡ Item.Own property.now value.now) }
 {
     let property = property.try_copy(alloc)?;
     Ok(Item::Own(property, value.try_copy(alloc)?))
 }
 
-fn default(property: &Name, value: &Value, alloc: Global) -> Result<Item, AllocError>
+fn default(alloc: Global, property: &Name, value: &Value) -> Result<Item, AllocError>
     ensures { IfOk result (λ item. item ≡ Item.Default property.now value.now) }
 {
     let property = property.try_copy(alloc)?;
@@ -99,10 +99,10 @@ fn default(property: &Name, value: &Value, alloc: Global) -> Result<Item, AllocE
 }
 
 fn dynamic(
+    alloc: Global,
     target: &Target,
     property: &Name,
     value: &Value,
-    alloc: Global,
 ) -> Result<Item, AllocError>
     ensures { IfOk result (λ item. item ≡ Item.Dynamic target.now property.now value.now) }
 {
