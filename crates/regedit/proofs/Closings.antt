@@ -13,7 +13,6 @@ use Rattle.regedit.specs.declared.status.Status.TheVariants.{Accepted, LineRefus
 
 module _ (now : State) (refuses : Bool) (rows : List Row) (message rdl header : List ℕ) (status : Status)
     (are : elaborated now.description now.option ≡ Ok rows) (written : rdl ≡ map_text now.description) where
-
   pub closes_with_header : header_of rows ≡ Ok header → message ≡ [] → status ≡ (if refuses then LineRefused else Accepted) → Closes now refuses message rdl header status
   closes_with_header is silent ended = record {
     laid_out = record { rows = rows; are = are };

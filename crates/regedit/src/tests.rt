@@ -4,6 +4,7 @@ use crate::status::{RunFault, Status};
 use rdl_text::name::Name;
 use std::alloc::Global;
 use std::io::{Read, Write};
+use std::process::Abort;
 use std::str;
 use std::test::Fail;
 
@@ -114,4 +115,33 @@ fn write_bytes(alloc: Global, map: &[u8], script: &[u8]) -> Result<Written, RunF
 
 fn write(alloc: Global, map: &str, script: &str) -> Result<Written, RunFault> {
     write_bytes(alloc, map.as_bytes(), script.as_bytes())
+}
+
+/// Asserts what a script prints on a map, and how the run ends.
+fn assert_prints(
+    rt: &impl Abort,
+    alloc: Global,
+    map: &str,
+    script: &[u8],
+    status: Status,
+    want: &str,
+) -> Result<(), Fail> {
+    let written = write_bytes(alloc, map.as_bytes(), script)?;
+    assert_eq!(rt; written.messages()?, want, "at {map}");
+    assert_eq!(rt; written.status, status, "at {map}");
+    Ok(())
+}
+
+/// Asserts what a script prints on each of these maps, and how each run ends.
+fn assert_each_prints(
+    rt: &impl Abort,
+    alloc: Global,
+    cases: &[(&str, &str)],
+    script: &str,
+    status: Status,
+) -> Result<(), Fail> {
+    for (map, want) in cases {
+        assert_prints(rt, alloc, map, script.as_bytes(), status, want)?;
+    }
+    Ok(())
 }

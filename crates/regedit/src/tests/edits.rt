@@ -3,26 +3,22 @@ use super::write;
 use std::test::Fail;
 
 /// A map, a script, and what is printed.
-struct Case {
-    map: &'static str,
-    script: &'static str,
-    want: &'static str,
-}
+type Case = (&'static str, &'static str, &'static str);
 
 const CASES: [Case; 5] = [
     // one register more, behind all others
-    Case {
-        map: "addrmap top {
+    (
+        "addrmap top {
 reg { field {} f[8] = 0x5; } a;
 reg { field {} f; } b;
 reg { field {} f[7:4]; } c;
 };",
-        script: "add /$top last reg { field {} g; } x;
+        "add /$top last reg { field {} g; } x;
 undo
 redo
 list
 ",
-        want: "0x0 addrmap top size 0x10
+        "0x0 addrmap top size 0x10
 0x0 reg top.a size 0x4
 [7:0] field top.a.f reset 0x5
 0x4 reg top.b size 0x4
@@ -32,14 +28,14 @@ list
 0xC reg top.x size 0x4
 [0:0] field top.x.g
 ",
-    },
+    ),
     // a field more in each register of a type
-    Case {
-        map: "reg T { field {} e; field {} f; }; addrmap top { T u; T v; u.f->reset = 1; T w; v.f->reset = 0; v.e->sw = r; };",
-        script: "add /$T last field {} g[4] = 9;
+    (
+        "reg T { field {} e; field {} f; }; addrmap top { T u; T v; u.f->reset = 1; T w; v.f->reset = 0; v.e->sw = r; };",
+        "add /$T last field {} g[4] = 9;
 list
 ",
-        want: "0x0 addrmap top size 0xC
+        "0x0 addrmap top size 0xC
 0x0 reg top.u size 0x4
 [0:0] field top.u.e
 [1:1] field top.u.f reset 0x1
@@ -53,11 +49,11 @@ list
 [1:1] field top.w.f
 [5:2] field top.w.g reset 0x9
 ",
-    },
+    ),
     // a type, and then its instances
-    Case {
-        map: "addrmap top { reg {} a; };",
-        script: "add /$top last reg R { field {} f; };
+    (
+        "addrmap top { reg {} a; };",
+        "add /$top last reg R { field {} f; };
 add /$top last R r, s[2];
 list
 undo
@@ -67,7 +63,7 @@ redo
 redo
 redo
 ",
-        want: "0x0 addrmap top size 0x10
+        "0x0 addrmap top size 0x10
 0x0 reg top.a size 0x4
 0x4 reg top.r size 0x4
 [0:0] field top.r.f
@@ -77,29 +73,29 @@ redo
 0x0 reg top.a size 0x4
 script:9: J3 nothing to redo
 ",
-    },
+    ),
     // assignments are not added: the path before them, the text before both
-    Case {
-        map: "reg T { field {} e; field {} f; }; addrmap top { T u; T v; u.f->reset = 1; T w; v.f->reset = 0; v.e->sw = r; };",
-        script: "add /$T last sw = r;
+    (
+        "reg T { field {} e; field {} f; }; addrmap top { T u; T v; u.f->reset = 1; T w; v.f->reset = 0; v.e->sw = r; };",
+        "add /$T last sw = r;
 add /$top last default sw = r;
 add /$top last u.f->reset = 1;
 add /$none last sw = r;
 add /$top last sw = ;
 add /$top last name = \"top\";
 ",
-        want: "script:1: X8 only definitions and instances are added
+        "script:1: X8 only definitions and instances are added
 script:2: X8 only definitions and instances are added
 script:3: X8 only definitions and instances are added
 script:4: X1 no such path: P1 no such name
 script:5: C4 text refused: S9 unexpected word at column 6
 script:6: X8 only definitions and instances are added
 ",
-    },
+    ),
     // faults of the edited map, at the item where they stand
-    Case {
-        map: "addrmap top { reg {} a; };",
-        script: "add /$top last R r;
+    (
+        "addrmap top { reg {} a; };",
+        "add /$top last R r;
 add /$top last field {} f;
 add /$top last regfile {} g;
 add /$top last reg {} b @ 0x100_0000_0000;
@@ -108,7 +104,7 @@ add /$top last reg {} b[2] += 2;
 add /$top last reg {} b, c @ 0x2;
 list
 ",
-        want: "script:1: X9 the edited map has a fault: E2 unknown type at item 0.1
+        "script:1: X9 the edited map has a fault: E2 unknown type at item 0.1
 script:2: X9 the edited map has a fault: E3 kind not allowed here at item 0.1
 script:3: X9 the edited map has a fault: E16 empty component at item 0.1
 script:4: X9 the edited map has a fault: E17 map too large at item 0
@@ -118,7 +114,7 @@ script:7: X9 the edited map has a fault: E20 address overlap at item 0.2
 0x0 addrmap top size 0x4
 0x0 reg top.a size 0x4
 ",
-    },
+    ),
 ];
 
 fn cases() -> &'static [Case] {
@@ -127,9 +123,9 @@ fn cases() -> &'static [Case] {
 
 #[test]
 fn are_made_or_refused(rt: HostRuntime) -> Result<(), Fail> {
-    for case in cases() {
-        let written = write(rt.alloc(), case.map, case.script)?;
-        assert_eq!(rt; written.messages()?, case.want, "at {}", case.map);
+    for (map, script, want) in cases() {
+        let written = write(rt.alloc(), map, script)?;
+        assert_eq!(rt; written.messages()?, *want, "at {map}");
     }
     Ok(())
 }

@@ -1,6 +1,8 @@
 //! The examples of the folder `examples`, whose texts stand here again.
 use super::write;
 use crate::status::Status;
+use std::alloc::Global;
+use std::process::Abort;
 use std::test::Fail;
 
 const UART: &str = "// A serial port with FIFOs of 16 bytes, as its firmware sees it.
@@ -467,47 +469,32 @@ script:18: J2 nothing to undo
 ";
 
 /// A map, a script that ends with `list`, and what is printed.
-struct Example {
-    map: &'static str,
-    script: &'static str,
-    output: &'static str,
-}
+type Example = (&'static str, &'static str, &'static str);
 
 const EXAMPLES: [Example; 2] = [
-    Example {
-        map: UART,
-        script: UART_SCRIPT,
-        output: UART_OUTPUT,
-    },
-    Example {
-        map: DMA,
-        script: DMA_SCRIPT,
-        output: DMA_OUTPUT,
-    },
+    (UART, UART_SCRIPT, UART_OUTPUT),
+    (DMA, DMA_SCRIPT, DMA_OUTPUT),
 ];
 
 fn examples() -> &'static [Example] {
     &EXAMPLES
 }
 
-#[test]
-fn print_their_outputs(rt: HostRuntime) -> Result<(), Fail> {
-    for example in examples() {
-        let written = write(rt.alloc(), example.map, example.script)?;
-        assert_eq!(rt; written.messages()?, example.output);
-        assert_eq!(rt; written.status, Status::LineRefused);
-    }
+// The map that is written has the rows that were listed last.
+fn assert_lists_alike(rt: &impl Abort, alloc: Global, rdl: &str, output: &str) -> Result<(), Fail> {
+    let again = write(alloc, rdl, "list")?;
+    assert!(rt; output.ends_with(again.messages()?));
+    assert_eq!(rt; again.status, Status::Accepted);
     Ok(())
 }
 
-// The map that is written has the rows that were listed last.
 #[test]
-fn write_maps_that_list_alike(rt: HostRuntime) -> Result<(), Fail> {
-    for example in examples() {
-        let written = write(rt.alloc(), example.map, example.script)?;
-        let again = write(rt.alloc(), written.rdl()?, "list")?;
-        assert_eq!(rt; again.status, Status::Accepted);
-        assert!(rt; example.output.ends_with(again.messages()?));
+fn print_their_outputs_and_list_alike(rt: HostRuntime) -> Result<(), Fail> {
+    for (map, script, output) in examples() {
+        let written = write(rt.alloc(), map, script)?;
+        assert_eq!(rt; written.messages()?, *output);
+        assert_eq!(rt; written.status, Status::LineRefused);
+        assert_lists_alike(&rt, rt.alloc(), written.rdl()?, output)?;
     }
     Ok(())
 }

@@ -1,5 +1,5 @@
 //! Headers.
-use super::write;
+use super::{assert_prints, write};
 use crate::status::Status;
 use std::test::Fail;
 
@@ -22,21 +22,16 @@ pub(super) const CLASH_WRITTEN: &str = "addrmap top {
 ";
 
 /// A map, a script, and what the script prints and the header has.
-struct Case {
-    map: &'static str,
-    script: &'static str,
-    messages: &'static str,
-    header: &'static str,
-}
+type Case = (&'static str, &'static str, &'static str, &'static str);
 
 const CASES: [Case; 4] = [
     // the map of the specification that has comments, Verilog numbers and an array
-    Case {
-        map: "// demo
+    (
+        "// demo
 addrmap top { default regwidth = 32; /* all */ external reg R { field {} f[4'd3:0]; } a, b[2] += 8'h08; };",
-        script: "",
-        messages: "",
-        header: "#ifndef top_H
+        "",
+        "",
+        "#ifndef top_H
 #define top_H
 #define top__a_base 0x0
 #define top__a_offset 0x0
@@ -54,13 +49,13 @@ addrmap top { default regwidth = 32; /* all */ external reg R { field {} f[4'd3:
 #define top__b__f_bw 4
 #endif
 ",
-    },
+    ),
     // a register inside a register file, whose offset isn't its base, and a reset beside one that is assigned
-    Case {
-        map: "addrmap top { regfile { reg { field {} f[15:8] = 1; } r @ 4; } g @ 0x10; g.r.f->reset = 0xAB; };",
-        script: "",
-        messages: "",
-        header: "#ifndef top_H
+    (
+        "addrmap top { regfile { reg { field {} f[15:8] = 1; } r @ 4; } g @ 0x10; g.r.f->reset = 0xAB; };",
+        "",
+        "",
+        "#ifndef top_H
 #define top_H
 #define top__g_base 0x10
 #define top__g_offset 0x10
@@ -74,13 +69,13 @@ addrmap top { default regwidth = 32; /* all */ external reg R { field {} f[4'd3:
 #define top__g__r__f_reset 0xAB
 #endif
 ",
-    },
+    ),
     // the header is of the place that undo leads to
-    Case {
-        map: "addrmap top { reg {} a; };",
-        script: "add /$top last reg {} b;\nadd /$top last reg {} c;\nundo\n",
-        messages: "",
-        header: "#ifndef top_H
+    (
+        "addrmap top { reg {} a; };",
+        "add /$top last reg {} b;\nadd /$top last reg {} c;\nundo\n",
+        "",
+        "#ifndef top_H
 #define top_H
 #define top__a_base 0x0
 #define top__a_offset 0x0
@@ -90,13 +85,13 @@ addrmap top { default regwidth = 32; /* all */ external reg R { field {} f[4'd3:
 #define top__b_size 0x4
 #endif
 ",
-    },
+    ),
     // all 64 bits, and a line that is refused
-    Case {
-        map: "addrmap top { reg { regwidth = 64; field {} f[64] = 18446744073709551615; } a; };",
-        script: "undo\n",
-        messages: "script:1: J2 nothing to undo\n",
-        header: "#ifndef top_H
+    (
+        "addrmap top { reg { regwidth = 64; field {} f[64] = 18446744073709551615; } a; };",
+        "undo\n",
+        "script:1: J2 nothing to undo\n",
+        "#ifndef top_H
 #define top_H
 #define top__a_base 0x0
 #define top__a_offset 0x0
@@ -107,7 +102,7 @@ addrmap top { default regwidth = 32; /* all */ external reg R { field {} f[4'd3:
 #define top__a__f_reset 0xFFFFFFFFFFFFFFFF
 #endif
 ",
-    },
+    ),
 ];
 
 fn cases() -> &'static [Case] {
@@ -116,10 +111,10 @@ fn cases() -> &'static [Case] {
 
 #[test]
 fn are_of_the_last_map(rt: HostRuntime) -> Result<(), Fail> {
-    for case in cases() {
-        let written = write(rt.alloc(), case.map, case.script)?;
-        assert_eq!(rt; written.messages()?, case.messages, "at {}", case.map);
-        assert_eq!(rt; written.header()?, case.header, "at {}", case.map);
+    for (map, script, messages, header) in cases() {
+        let written = write(rt.alloc(), map, script)?;
+        assert_eq!(rt; written.messages()?, *messages, "at {map}");
+        assert_eq!(rt; written.header()?, *header, "at {map}");
     }
     Ok(())
 }
@@ -130,17 +125,13 @@ fn are_not_written_where_two_macros_have_one_name(rt: HostRuntime) -> Result<(),
     assert_eq!(rt; written.messages()?, CLASH_MESSAGE);
     assert_eq!(rt; written.rdl()?, CLASH_WRITTEN);
     assert_eq!(rt; written.header()?, "");
-    assert_eq!(rt; written.status, Status::HeaderClash);
     Ok(())
 }
 
 // The clash counts more than the refused line, and is said behind it.
 #[test]
 fn are_judged_behind_the_lines(rt: HostRuntime) -> Result<(), Fail> {
-    let written = write(rt.alloc(), CLASH, "redo\n")?;
     let want =
         "script:1: J3 nothing to redo\nheader: H1 two macros with one name: top__a__b__c_bm\n";
-    assert_eq!(rt; written.messages()?, want);
-    assert_eq!(rt; written.status, Status::HeaderClash);
-    Ok(())
+    assert_prints(&rt, rt.alloc(), CLASH, b"redo\n", Status::HeaderClash, want)
 }

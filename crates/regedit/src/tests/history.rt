@@ -1,19 +1,19 @@
 //! What the history refuses.
-use super::{MAP, write, write_with};
+use super::{MAP, assert_prints, write_with};
 use crate::status::Status;
+use std::alloc::Global;
+use std::process::Abort;
 use std::test::Fail;
 
 #[test]
 fn has_nothing_to_undo(rt: HostRuntime) -> Result<(), Fail> {
-    let written = write(rt.alloc(), MAP, "undo\n")?;
-    assert_eq!(rt; written.status, Status::LineRefused);
-    assert_eq!(rt; written.messages()?, "script:1: J2 nothing to undo\n");
-    Ok(())
+    let want = "script:1: J2 nothing to undo\n";
+    assert_prints(&rt, rt.alloc(), MAP, b"undo\n", Status::LineRefused, want)
 }
 
 #[test]
 fn has_nothing_to_redo_after_an_edit(rt: HostRuntime) -> Result<(), Fail> {
-    let script = "undo
+    let script = b"undo
 add /$top last reg {} b;
 undo
 add /$top last reg {} c;
@@ -27,9 +27,20 @@ script:5: J3 nothing to redo
 [7:0] field top.a.f reset 0x5
 0x4 reg top.c size 0x4
 ";
-    let written = write(rt.alloc(), MAP, script)?;
-    assert_eq!(rt; written.status, Status::LineRefused);
+    assert_prints(&rt, rt.alloc(), MAP, script, Status::LineRefused, want)
+}
+
+/// Asserts what a script prints of which some lines are refused, where the history holds so many changes.
+fn assert_refuses(
+    rt: &impl Abort,
+    alloc: Global,
+    script: &[u8],
+    history: u32,
+    want: &str,
+) -> Result<(), Fail> {
+    let written = write_with(alloc, MAP.as_bytes(), script, history)?;
     assert_eq!(rt; written.messages()?, want);
+    assert_eq!(rt; written.status, Status::LineRefused);
     Ok(())
 }
 
@@ -47,10 +58,7 @@ list
 [7:0] field top.a.f reset 0x5
 0x4 reg top.d size 0x4
 ";
-    let written = write_with(rt.alloc(), MAP.as_bytes(), script, 1)?;
-    assert_eq!(rt; written.status, Status::LineRefused);
-    assert_eq!(rt; written.messages()?, want);
-    Ok(())
+    assert_refuses(&rt, rt.alloc(), script, 1, want)
 }
 
 // A full history is judged before the map, and the text of an edit before either.
@@ -60,15 +68,13 @@ fn is_full_before_the_map_refuses(rt: HostRuntime) -> Result<(), Fail> {
     let want = "script:1: J1 history full
 script:2: C4 text refused: S10 unexpected end at column 6
 ";
-    let written = write_with(rt.alloc(), MAP.as_bytes(), script, 0)?;
-    assert_eq!(rt; written.messages()?, want);
-    Ok(())
+    assert_refuses(&rt, rt.alloc(), script, 0, want)
 }
 
 // After a refused line the history is as before.
 #[test]
 fn keeps_its_place_at_a_refusal(rt: HostRuntime) -> Result<(), Fail> {
-    let script = "add /$top last reg {} b;
+    let script = b"add /$top last reg {} b;
 undo
 add /$top last reg {} a;
 redo
@@ -76,7 +82,5 @@ undo
 undo
 ";
     let want = "script:3: X3 name taken\nscript:6: J2 nothing to undo\n";
-    let written = write(rt.alloc(), MAP, script)?;
-    assert_eq!(rt; written.messages()?, want);
-    Ok(())
+    assert_prints(&rt, rt.alloc(), MAP, script, Status::LineRefused, want)
 }

@@ -1,6 +1,8 @@
 //! Maps that are laid out.
-use super::{write, write_top};
+use super::{assert_each_prints, write, write_top};
 use crate::status::Status;
+use std::alloc::Global;
+use std::process::Abort;
 use std::test::Fail;
 
 const WORKED: [(&str, &str); 16] = [
@@ -267,21 +269,13 @@ fn others() -> &'static [(&'static str, &'static str)] {
 // The rows that the specification works out.
 #[test]
 fn are_as_the_rows_say(rt: HostRuntime) -> Result<(), Fail> {
-    for (map, want) in worked() {
-        let written = write(rt.alloc(), map, "list")?;
-        assert_eq!(rt; written.messages()?, *want, "at {map}");
-    }
-    Ok(())
+    assert_each_prints(&rt, rt.alloc(), worked(), "list", Status::Accepted)
 }
 
 // Alignments, modes inside modes, arrays of arrays, defaults, resets, the top, shared bits, the greatest map.
 #[test]
 fn are_as_the_rules_say(rt: HostRuntime) -> Result<(), Fail> {
-    for (map, want) in others() {
-        let written = write(rt.alloc(), map, "list")?;
-        assert_eq!(rt; written.messages()?, *want, "at {map}");
-    }
-    Ok(())
+    assert_each_prints(&rt, rt.alloc(), others(), "list", Status::Accepted)
 }
 
 #[test]
@@ -298,17 +292,30 @@ fn may_have_many_rows(rt: HostRuntime) -> Result<(), Fail> {
     Ok(())
 }
 
+fn assert_lists_top(
+    rt: &impl Abort,
+    alloc: Global,
+    top: &str,
+    status: Status,
+    want: &str,
+) -> Result<(), Fail> {
+    let map = "addrmap a { reg {} r; }; addrmap b {};";
+    let written = write_top(alloc, map, "list", top)?;
+    assert_eq!(rt; written.messages()?, want);
+    assert_eq!(rt; written.status, status);
+    Ok(())
+}
+
 // The top is the last address map of the name that is asked.
 #[test]
 fn begin_with_the_top_that_is_asked(rt: HostRuntime) -> Result<(), Fail> {
-    let map = "addrmap a { reg {} r; }; addrmap b {};";
-    let written = write_top(rt.alloc(), map, "list", "a")?;
-    assert_eq!(rt;
-        written.messages()?,
-        "0x0 addrmap a size 0x4\n0x0 reg a.r size 0x4\n"
-    );
-    let written = write_top(rt.alloc(), map, "list", "r")?;
-    assert_eq!(rt; written.status, Status::MapRefused);
-    assert_eq!(rt; written.messages()?, "map:1:1: E13 no top\n");
-    Ok(())
+    let want = "0x0 addrmap a size 0x4\n0x0 reg a.r size 0x4\n";
+    assert_lists_top(&rt, rt.alloc(), "a", Status::Accepted, want)?;
+    assert_lists_top(
+        &rt,
+        rt.alloc(),
+        "r",
+        Status::MapRefused,
+        "map:1:1: E13 no top\n",
+    )
 }

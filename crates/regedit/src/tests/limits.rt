@@ -1,7 +1,8 @@
 //! What stands at a limit, and past it.
-use super::{MAP, write};
+use super::{MAP, assert_prints, write};
 use crate::status::Status;
 use std::alloc::{AllocError, Global};
+use std::process::Abort;
 use std::test::Fail;
 
 fn named(alloc: Global, len: usize) -> Result<String, AllocError> {
@@ -12,25 +13,63 @@ fn named(alloc: Global, len: usize) -> Result<String, AllocError> {
     Ok(name)
 }
 
+/// A text with `n` in place of each `@`.
+fn with_name(alloc: Global, text: &str, name: &str) -> Result<String, AllocError> {
+    text.replace(alloc, "@", name)
+}
+
+/// Asserts what a script prints on a map, each with this name in place of `@`.
+fn assert_names(
+    rt: &impl Abort,
+    alloc: Global,
+    name: &str,
+    map: &str,
+    script: &str,
+    status: Status,
+    want: &str,
+) -> Result<(), Fail> {
+    let map = with_name(alloc, map, name)?;
+    let script = with_name(alloc, script, name)?;
+    assert_prints(rt, alloc, map.as_str(), script.as_bytes(), status, want)
+}
+
+#[test]
+fn of_the_longest_name(rt: HostRuntime) -> Result<(), Fail> {
+    let name = named(rt.alloc(), 255)?;
+    let map = with_name(rt.alloc(), "addrmap @ {};", name.as_str())?;
+    let want = with_name(rt.alloc(), "addrmap @ {\n};\n", name.as_str())?;
+    let written = write(rt.alloc(), map.as_str(), "")?;
+    assert_eq!(rt; written.rdl()?, want.as_str());
+    assert_eq!(rt; written.status, Status::Accepted);
+    Ok(())
+}
+
 #[test]
 fn of_the_length_of_names(rt: HostRuntime) -> Result<(), Fail> {
-    let name = named(rt.alloc(), 255)?;
-    let map = format!(in rt.alloc(); "addrmap {name} {{}};")?;
-    let want = format!(in rt.alloc(); "addrmap {name} {{\n}};\n")?;
-    let written = write(rt.alloc(), map.as_str(), "")?;
-    assert_eq!(rt; written.status, Status::Accepted);
-    assert_eq!(rt; written.rdl()?, want.as_str());
-    let map = format!(in rt.alloc(); "addrmap n{name} {{}};")?;
-    let written = write(rt.alloc(), map.as_str(), "")?;
-    assert_eq!(rt; written.messages()?, "map:1:9: S7 identifier too long\n");
-    let script = format!(in rt.alloc(); "add /$top last reg {{}} n{name};")?;
-    let written = write(rt.alloc(), MAP, script.as_str())?;
-    let want = "script:1: C4 text refused: S7 identifier too long at column 8\n";
-    assert_eq!(rt; written.messages()?, want);
-    let script = format!(in rt.alloc(); "add /$n{name} last reg {{}} b;")?;
-    let written = write(rt.alloc(), MAP, script.as_str())?;
-    assert_eq!(rt; written.messages()?, "script:1: C2 bad operands\n");
-    Ok(())
+    let name = named(rt.alloc(), 256)?;
+    let name = name.as_str();
+    let want = "map:1:9: S7 identifier too long\n";
+    assert_names(
+        &rt,
+        rt.alloc(),
+        name,
+        "addrmap @ {};",
+        "",
+        Status::MapRefused,
+        want,
+    )?;
+    let script = "add /$top last reg {} @;\nadd /$@ last reg {} b;";
+    let want =
+        "script:1: C4 text refused: S7 identifier too long at column 8\nscript:2: C2 bad operands\n";
+    assert_names(
+        &rt,
+        rt.alloc(),
+        name,
+        MAP,
+        script,
+        Status::LineRefused,
+        want,
+    )
 }
 
 // A register has 32 bits, and a reset those of its field.
@@ -41,15 +80,16 @@ fn of_bits(rt: HostRuntime) -> Result<(), Fail> {
         "addrmap top { reg { field {} f[31] = 0x7FFF_FFFF; field {} g = 1; } a; };",
     ];
     for map in &maps {
-        let written = write(rt.alloc(), map, "")?;
-        assert_eq!(rt; written.status, Status::Accepted, "at {map}");
+        assert_prints(&rt, rt.alloc(), map, b"", Status::Accepted, "")?;
     }
-    let map = "addrmap top { reg { field {} f[32] = 4294967296; } a; };";
-    let written = write(rt.alloc(), map, "")?;
-    assert_eq!(rt; written.messages()?, "map:1:30: E23 reset too wide\n");
-    let map = "addrmap top { reg { field {} f = 18446744073709551615; } a; };";
-    let written = write(rt.alloc(), map, "")?;
-    assert_eq!(rt; written.messages()?, "map:1:30: E23 reset too wide\n");
+    let maps = [
+        "addrmap top { reg { field {} f[32] = 4294967296; } a; };",
+        "addrmap top { reg { field {} f = 18446744073709551615; } a; };",
+    ];
+    let want = "map:1:30: E23 reset too wide\n";
+    for map in &maps {
+        assert_prints(&rt, rt.alloc(), map, b"", Status::MapRefused, want)?;
+    }
     Ok(())
 }
 
@@ -60,11 +100,8 @@ fn of_the_items_of_a_text(rt: HostRuntime) -> Result<(), Fail> {
     for _ in 0..65_537 {
         map.push_str("reg{}a;")?;
     }
-    let written = write(rt.alloc(), map.as_str(), "")?;
     let want = "map:1:458772: S12 description too large\n";
-    assert_eq!(rt; written.status, Status::MapRefused);
-    assert_eq!(rt; written.messages()?, want);
-    Ok(())
+    assert_prints(&rt, rt.alloc(), map.as_str(), b"", Status::MapRefused, want)
 }
 
 fn nested(alloc: Global, levels: usize) -> Result<String, AllocError> {
@@ -78,12 +115,11 @@ fn nested(alloc: Global, levels: usize) -> Result<String, AllocError> {
 #[test]
 fn of_nesting(rt: HostRuntime) -> Result<(), Fail> {
     let map = nested(rt.alloc(), 17)?;
-    let written = write(rt.alloc(), map.as_str(), "")?;
-    assert_eq!(rt; written.messages()?, "map:1:170: S11 nesting over 16\n");
+    let want = "map:1:170: S11 nesting over 16\n";
+    assert_prints(&rt, rt.alloc(), map.as_str(), b"", Status::MapRefused, want)?;
     let map = nested(rt.alloc(), 16)?;
-    let written = write(rt.alloc(), map.as_str(), "")?;
-    assert_eq!(rt; written.messages()?, "map:1:161: S10 unexpected end\n");
-    Ok(())
+    let want = "map:1:161: S10 unexpected end\n";
+    assert_prints(&rt, rt.alloc(), map.as_str(), b"", Status::MapRefused, want)
 }
 
 /// A map of 65,536 rows: the top, and three register files of 21,845 rows each.
@@ -100,10 +136,15 @@ addrmap top { C7 x, y, z; };
 
 #[test]
 fn of_rows(rt: HostRuntime) -> Result<(), Fail> {
-    let written = write(rt.alloc(), MANY_ROWS, "add /$top last reg {} r;\n")?;
     let want = "script:1: X9 the edited map has a fault: E15 over 65536 rows at item 8\n";
-    assert_eq!(rt; written.messages()?, want);
-    Ok(())
+    assert_prints(
+        &rt,
+        rt.alloc(),
+        MANY_ROWS,
+        b"add /$top last reg {} r;\n",
+        Status::LineRefused,
+        want,
+    )
 }
 
 /// Adds so many address maps, each inside the one before.
@@ -122,13 +163,24 @@ fn adding_nested(alloc: Global, levels: usize) -> Result<String, AllocError> {
 #[test]
 fn of_nesting_in_an_edited_map(rt: HostRuntime) -> Result<(), Fail> {
     let script = adding_nested(rt.alloc(), 16)?;
-    let written = write(rt.alloc(), MAP, script.as_str())?;
     let want = "script:1: X9 the edited map has a fault: E25 description too large at item -\n";
-    assert_eq!(rt; written.messages()?, want);
+    assert_prints(
+        &rt,
+        rt.alloc(),
+        MAP,
+        script.as_bytes(),
+        Status::LineRefused,
+        want,
+    )?;
     let script = adding_nested(rt.alloc(), 15)?;
-    let written = write(rt.alloc(), MAP, script.as_str())?;
     let want =
         "script:1: X9 the edited map has a fault: E16 empty component at item 0.1.0.0.0.0.0.0.0.0.0.0.0.0.0.0\n";
-    assert_eq!(rt; written.messages()?, want);
-    Ok(())
+    assert_prints(
+        &rt,
+        rt.alloc(),
+        MAP,
+        script.as_bytes(),
+        Status::LineRefused,
+        want,
+    )
 }

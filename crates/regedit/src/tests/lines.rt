@@ -1,5 +1,5 @@
 //! Lines of a script.
-use super::{MAP, write, write_bytes};
+use super::{MAP, assert_prints, write};
 use crate::status::Status;
 use std::alloc::Global;
 use std::test::Fail;
@@ -123,42 +123,30 @@ fn are_refused_with_a_message(rt: HostRuntime) -> Result<(), Fail> {
 fn are_refused_where_they_are_not_utf8(rt: HostRuntime) -> Result<(), Fail> {
     let script = b"\xff\nfrob \xff\nadd /$top last \xff\n";
     let want = "script:1: C3 not UTF-8\nscript:2: C3 not UTF-8\nscript:3: C3 not UTF-8\n";
-    let written = write_bytes(rt.alloc(), MAP.as_bytes(), script)?;
-    assert_eq!(rt; written.messages()?, want);
-    Ok(())
+    assert_prints(&rt, rt.alloc(), MAP, script, Status::LineRefused, want)
 }
 
 #[test]
 fn do_nothing_where_they_are_blank_or_remarks(rt: HostRuntime) -> Result<(), Fail> {
     let script = b"\n \t\r\n# undo\n\t #\xff\n#";
-    let written = write_bytes(rt.alloc(), MAP.as_bytes(), script)?;
-    assert_eq!(rt; written.status, Status::Accepted);
-    assert_eq!(rt; written.messages()?, "");
-    Ok(())
+    assert_prints(&rt, rt.alloc(), MAP, script, Status::Accepted, "")
 }
 
 // All lines count, the last one with or without its line feed.
 #[test]
 fn are_numbered_from_one(rt: HostRuntime) -> Result<(), Fail> {
-    let written = write(rt.alloc(), MAP, "\n# none\r\nundo\r\n\r\nredo")?;
+    let script = b"\n# none\r\nundo\r\n\r\nredo";
     let want = "script:3: J2 nothing to undo\nscript:5: J3 nothing to redo\n";
-    assert_eq!(rt; written.messages()?, want);
-    Ok(())
+    assert_prints(&rt, rt.alloc(), MAP, script, Status::LineRefused, want)
 }
 
 #[test]
 fn are_parted_by_spaces_and_tabs(rt: HostRuntime) -> Result<(), Fail> {
-    let written = write(
-        rt.alloc(),
-        MAP,
-        "\tadd \t/$top\tlast  reg\t{}\tb;\t\r\nlist",
-    )?;
+    let script = b"\tadd \t/$top\tlast  reg\t{}\tb;\t\r\nlist";
     let want = "0x0 addrmap top size 0x8
 0x0 reg top.a size 0x4
 [7:0] field top.a.f reset 0x5
 0x4 reg top.b size 0x4
 ";
-    assert_eq!(rt; written.status, Status::Accepted);
-    assert_eq!(rt; written.messages()?, want);
-    Ok(())
+    assert_prints(&rt, rt.alloc(), MAP, script, Status::Accepted, want)
 }

@@ -1,5 +1,5 @@
 //! Maps that are refused for what they describe.
-use super::write;
+use super::{assert_each_prints, assert_prints};
 use crate::status::Status;
 use std::test::Fail;
 
@@ -278,35 +278,20 @@ fn of_two() -> &'static [(&'static str, &'static str)] {
 
 #[test]
 fn stand_at_items(rt: HostRuntime) -> Result<(), Fail> {
-    for (map, want) in of_items() {
-        let written = write(rt.alloc(), map, "list")?;
-        assert_eq!(rt; written.messages()?, *want, "at {map}");
-    }
-    Ok(())
+    assert_each_prints(&rt, rt.alloc(), of_items(), "list", Status::MapRefused)
 }
 
 #[test]
 fn stand_at_rows(rt: HostRuntime) -> Result<(), Fail> {
-    for (map, want) in of_layouts() {
-        let written = write(rt.alloc(), map, "list")?;
-        assert_eq!(rt; written.messages()?, *want, "at {map}");
-    }
-    Ok(())
+    assert_each_prints(&rt, rt.alloc(), of_layouts(), "list", Status::MapRefused)
 }
 
 #[test]
 fn are_the_first(rt: HostRuntime) -> Result<(), Fail> {
-    for (map, want) in of_two() {
-        let written = write(rt.alloc(), map, "list")?;
-        assert_eq!(rt; written.messages()?, *want, "at {map}");
-    }
-    Ok(())
+    assert_each_prints(&rt, rt.alloc(), of_two(), "list", Status::MapRefused)
 }
 
 #[test]
 fn leave_sixteen_levels(rt: HostRuntime) -> Result<(), Fail> {
-    let written = write(rt.alloc(), DEEP, "")?;
-    assert_eq!(rt; written.messages()?, "");
-    assert_eq!(rt; written.status, Status::Accepted);
-    Ok(())
+    assert_prints(&rt, rt.alloc(), DEEP, b"", Status::Accepted, "")
 }

@@ -13,4 +13,4 @@ returns g c =
     let header : Appends (g.H.Write.contents c.args.header.now) (g.H.Write.contents c.write_whole-3.new.writer) (string_bytes closing.header) =
     subst (Appends (g.H.Write.contents c.args.header.now) (g.H.Write.contents c.write_whole-3.new.writer)) c.as_bytes-3.ensures.value c.in_ok-write_whole-3.ensures.ok in
     ran_from c.args.history c.args.map c.args.script.now c.in_ok-refused.refused _ c.new-journal.result c.serve_all.new.journal c.map.result.now _ _ _ _ _ _ _ _ _ _
-        c.new-journal.ensures c.in_ok-refused.ensures.served c.map.ensures c.in_ok-closing.ensures said rdl header
+    c.new-journal.ensures c.in_ok-refused.ensures.served c.map.ensures c.in_ok-closing.ensures said rdl header
