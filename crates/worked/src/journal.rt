@@ -46,12 +46,15 @@ fn make(alloc: Global, journal: &mut Journal<Numbers>, call: &Call) -> &'static 
 fn follow(rt: &impl Abort, alloc: Global, limit: u32, steps: &[Step]) {
     let mut journal = Journal::new(alloc, Numbers::new(alloc), limit);
     for (call, answer, list, undo_len, redo_len) in steps {
-        assert_eq!(rt; make(alloc, &mut journal, call), *answer);
-        assert_eq!(rt; journal.map().as_slice(), *list);
-        assert_eq!(rt;
-            (journal.undo_len(), journal.redo_len()),
-            (*undo_len, *redo_len)
+        assert!(rt;
+            make(alloc, &mut journal, call) == *answer,
+            "{answer} is wanted"
         );
+        assert!(rt;
+            journal.map().as_slice() == *list,
+            "the list behind {answer}"
+        );
+        assert!(rt; journal.undo_len() == *undo_len && journal.redo_len() == *redo_len);
     }
 }
 

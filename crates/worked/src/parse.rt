@@ -115,9 +115,8 @@ const REFUSED: [(&str, u8, usize); 16] = [
 #[test]
 fn faults_have_their_places(rt: HostRuntime) {
     for (text, number, column) in REFUSED.iter() {
-        assert_eq!(rt;
-            fault(rt.alloc(), text),
-            (*number, *column),
+        assert!(rt;
+            fault(rt.alloc(), text) == (*number, *column),
             "the fault of {text}"
         );
     }
@@ -139,7 +138,7 @@ const ACCEPTED: [&str; 10] = [
 #[test]
 fn texts_of_the_language_are_accepted(rt: HostRuntime) {
     for text in ACCEPTED.iter() {
-        assert_eq!(rt; fault(rt.alloc(), text), (0, 0), "the fault of {text}");
+        assert!(rt; fault(rt.alloc(), text) == (0, 0), "the fault of {text}");
     }
 }
 

@@ -1,5 +1,6 @@
 //! Types, targets, values and the first fault of items, of small descriptions.
 use crate::parse::description;
+use crate::tree::address;
 use rdl_scope::faults::check;
 use rdl_scope::targets::{passes, through};
 use rdl_scope::types::type_of;
@@ -19,16 +20,6 @@ fn names(alloc: Global, text: &str) -> Result<Vec<Name>, Fail> {
         names.push(Name::new(alloc, part)?)?;
     }
     Ok(names)
-}
-
-fn address(numbers: &[usize]) -> Address {
-    let mut address = Address::new();
-    for number in numbers {
-        if address.len() < Address::MAX_LEN {
-            address.push(*number);
-        }
-    }
-    address
 }
 
 // The number of the first fault and the address of its item, as in `E2 at 0.0`.

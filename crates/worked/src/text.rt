@@ -180,9 +180,8 @@ fn faults() -> &'static [(&'static str, u8, usize)] {
 #[test]
 fn faults_have_their_places(rt: HostRuntime) {
     for (text, number, offset) in faults() {
-        assert_eq!(rt;
-            fault(rt.alloc(), text),
-            (*number, *offset),
+        assert!(rt;
+            fault(rt.alloc(), text) == (*number, *offset),
             "the fault of {text}"
         );
     }
@@ -202,12 +201,11 @@ fn strings_alone_have_an_inside(rt: HostRuntime) -> Result<(), Fail> {
     Ok(())
 }
 
-/// A name's length, it and its copy as they are printed, and whether those are equal.
-fn shown_name(alloc: Global, text: &str) -> Result<String, Fail> {
+/// Whether a name has this text and length, and its copy is equal to it.
+fn is_kept(alloc: Global, text: &str, length: usize) -> Result<bool, NameFault> {
     let name = Name::new(alloc, text)?;
     let copy = name.try_copy(alloc)?;
-    let is_equal = name == copy;
-    Ok(format!(in alloc; "{} {name} {} {is_equal}", name.len(), copy.as_str())?)
+    Ok(name == copy && name.as_str() == text && name.len() == length)
 }
 
 fn are_equal(alloc: Global, left: &str, right: &str) -> Result<bool, NameFault> {
@@ -218,37 +216,54 @@ fn are_equal(alloc: Global, left: &str, right: &str) -> Result<bool, NameFault> 
 
 #[test]
 fn names(rt: HostRuntime) -> Result<(), Fail> {
-    assert_eq!(rt; shown_name(rt.alloc(), "a_1")?.as_str(), "3 a_1 a_1 true");
+    assert!(rt; is_kept(rt.alloc(), "a_1", 3)?);
     assert!(rt; !are_equal(rt.alloc(), "a_1", "a_2")?);
-    for text in ["", "1a", "a b", "é", "a-"] {
-        assert!(rt;
-            Name::new(rt.alloc(), text).err() == Some(NameFault::NotSuch),
-            "no name: {text}"
-        );
-    }
+    assert!(rt;
+        Name::new(rt.alloc(), "a_1")?
+            .to_string(rt.alloc())?
+            .as_str()
+            == "a_1"
+    );
     Ok(())
 }
 
-fn shown_raw(alloc: Global, text: &str) -> Result<String, Fail> {
+const NO_NAMES: [&str; 5] = ["", "1a", "a b", "é", "a-"];
+
+#[test]
+fn no_names(rt: HostRuntime) {
+    for text in NO_NAMES.iter() {
+        assert!(rt;
+            Name::new(rt.alloc(), text).err() == Some(NameFault::NotSuch),
+            "{text}"
+        );
+    }
+}
+
+/// Whether a string has this length, and its copy is equal to it.
+fn is_kept_raw(alloc: Global, text: &str, length: usize) -> Result<bool, NameFault> {
     let raw = Raw::new(alloc, text)?;
     let copy = raw.try_copy(alloc)?;
-    let is_equal = raw == copy;
-    Ok(format!(in alloc; "{} {raw} {is_equal}", raw.len())?)
+    Ok(raw == copy && raw.len() == length)
 }
 
 #[test]
 fn raw_strings(rt: HostRuntime) -> Result<(), Fail> {
-    assert_eq!(rt;
-        shown_raw(rt.alloc(), "a\\\"\né")?.as_str(),
-        "6 a\\\"\né true"
-    );
-    for text in ["\"", "a\\", "\\\\\"", "\\\\\\"] {
+    let text = "a\\\"\né";
+    assert!(rt; is_kept_raw(rt.alloc(), text, 6)?);
+    assert!(rt; Raw::new(rt.alloc(), text)?.to_string(rt.alloc())?.as_str() == text);
+    Ok(())
+}
+
+const NO_RAW_STRINGS: [&str; 4] = ["\"", "a\\", "\\\\\"", "\\\\\\"];
+
+#[test]
+fn no_raw_strings(rt: HostRuntime) {
+    for text in NO_RAW_STRINGS.iter() {
         assert!(rt;
             Raw::new(rt.alloc(), text).err() == Some(NameFault::NotSuch),
-            "no inside of a string: {text}"
+            "{text}"
         );
     }
-    Ok(())
 }
 
 const PLACES: [(&str, usize, (usize, usize)); 9] = [

@@ -44,10 +44,20 @@ fn path(alloc: Global, text: &str) -> Result<Path, Fail> {
     Ok(path)
 }
 
+/// The address of these numbers, as far as there is one.
+pub(crate) fn address(numbers: &[usize]) -> Address {
+    let mut address = Address::new();
+    for number in numbers {
+        if address.len() < Address::MAX_LEN {
+            address.push(*number);
+        }
+    }
+    address
+}
+
 #[test]
 fn prints_addresses(rt: HostRuntime) -> Result<(), Fail> {
-    let address = Address::new().inside(0).inside(3).inside(1);
-    assert_eq!(rt; address.to_string(rt.alloc())?.as_str(), "0.3.1");
+    assert!(rt; address(&[0, 3, 1]).to_string(rt.alloc())?.as_str() == "0.3.1");
     Ok(())
 }
 
@@ -113,31 +123,40 @@ fn shown<T: Debug>(alloc: Global, value: &T) -> Result<String, AllocError> {
     format!(in alloc; "{value:?}")
 }
 
+fn are_alike<T: Debug>(alloc: Global, left: &T, right: &T) -> Result<bool, AllocError> {
+    let left = shown(alloc, left)?;
+    let right = shown(alloc, right)?;
+    Ok(left == right)
+}
+
 #[test]
 fn copies(rt: HostRuntime) -> Result<(), Fail> {
-    for text in [EVERY_FORM, SHARED_TYPE] {
+    for text in [EVERY_FORM, SHARED_TYPE].iter() {
         let map = description(rt.alloc(), text)?;
         let copy = map.try_copy(rt.alloc())?;
-        assert!(rt; copy.items.len() == 2);
         assert!(rt;
-            shown(rt.alloc(), &copy)? == shown(rt.alloc(), &map)?,
-            "a copy of {text}"
+            copy.items.len() == 2 && are_alike(rt.alloc(), &copy, &map)?,
+            "of {text}"
         );
     }
     Ok(())
 }
 
+// A body that holds a copy of the item alone.
+fn copied(alloc: Global, item: &Item) -> Result<Body, Fail> {
+    let mut body = Body::new(alloc);
+    body.push(item.try_copy(alloc)?)?;
+    Ok(body)
+}
+
 #[test]
 fn copies_one_item(rt: HostRuntime) -> Result<(), Fail> {
     let map = description(rt.alloc(), EVERY_FORM)?;
-    match map.items.item(1) {
-        Some(top) => {
-            let copy = top.try_copy(rt.alloc())?;
-            let printed = shown(rt.alloc(), &copy)?;
-            assert!(rt; printed == shown(rt.alloc(), top)? && printed.contains("External"));
-        }
-        None => assert!(rt; false),
-    }
+    let top = map.items.item(1).ok_or("no top")?;
+    let body = copied(rt.alloc(), top)?;
+    let copy = body.item(0).ok_or("no copy")?;
+    assert!(rt; are_alike(rt.alloc(), copy, top)?);
+    assert!(rt; shown(rt.alloc(), copy)?.contains("External"));
     Ok(())
 }
 
@@ -146,20 +165,31 @@ fn instance_of(alloc: Global, of: &str, text: &str) -> Result<Item, NameFault> {
     Ok(Item::Instance(shell, Of::Named(Name::new(alloc, of)?)))
 }
 
+// Puts `u first;` in front.
+fn put_first(alloc: Global, body: &mut Body) -> Result<(), Fail> {
+    body.insert(0, instance_of(alloc, "u", "first")?)?;
+    Ok(())
+}
+
 #[test]
 fn changes_one_body(rt: HostRuntime) -> Result<(), Fail> {
     let mut map = description(rt.alloc(), ONE_NAME)?;
     assert!(rt; map.weight() == 2 + 4 + 2 + 3 + 2 + 3 + 3);
-    let address = Address::new().inside(1).inside(2);
-    match map.body_mut(&address) {
-        Some(body) => body.insert(0, instance_of(rt.alloc(), "u", "first")?)?,
+    match map.body_mut(&address(&[1, 2])) {
+        Some(body) => put_first(rt.alloc(), body)?,
         None => assert!(rt; false),
     }
     assert!(rt; map.weight() == 19 + 7);
-    assert!(rt; map.body(&address).map(Body::len) == Some(2));
-    assert!(rt; map.body(&address.inside(0)).is_none());
-    assert!(rt; map.body_mut(&address.inside(0)).is_none());
-    assert!(rt; map.body_mut(&address.inside(7)).is_none());
+    assert!(rt; map.body(&address(&[1, 2])).map(Body::len) == Some(2));
+    Ok(())
+}
+
+#[test]
+fn finds_no_body_at_a_named_type_or_past_the_end(rt: HostRuntime) -> Result<(), Fail> {
+    let mut map = description(rt.alloc(), ONE_NAME)?;
+    assert!(rt; map.body(&address(&[1, 2, 0])).is_none());
+    assert!(rt; map.body_mut(&address(&[1, 2, 0])).is_none());
+    assert!(rt; map.body_mut(&address(&[1, 2, 7])).is_none());
     Ok(())
 }
 
@@ -174,33 +204,34 @@ fn names(alloc: Global, body: &Body) -> Result<String, AllocError> {
     Ok(names)
 }
 
+fn weight(item: Item) -> u64 {
+    item.weight()
+}
+
 #[test]
 fn inserts_and_removes_items(rt: HostRuntime) -> Result<(), Fail> {
-    let mut body = description(rt.alloc(), "T a; T b;")?.items;
-    body.push(instance_of(rt.alloc(), "T", "c")?)?;
-    assert!(rt; body.len() == 3);
-    body.insert(2, instance_of(rt.alloc(), "T", "d")?)?;
-    assert_eq!(rt; names(rt.alloc(), &body)?.as_str(), "abdc");
-    assert!(rt; body.remove(1).weight() == 3);
-    assert_eq!(rt; names(rt.alloc(), &body)?.as_str(), "adc");
+    let mut body = description(rt.alloc(), "T a; T b; T c; T d;")?.items;
+    assert!(rt; body.len() == 4);
+    let last = body.remove(3);
+    body.insert(2, last)?;
+    assert!(rt; names(rt.alloc(), &body)?.as_str() == "abdc");
+    assert!(rt; body.len() == 4 && weight(body.remove(1)) == 3);
+    assert!(rt; names(rt.alloc(), &body)?.as_str() == "adc");
     Ok(())
 }
 
 // 65,536 items, those of the innermost body at level 16.
+fn largest(alloc: Global) -> Result<String, AllocError> {
+    let opened = "addrmap d{".repeat(alloc, 16)?;
+    let closed = "};".repeat(alloc, 16)?;
+    repeated(alloc, &opened, "p;", 65_520, &closed)
+}
+
 #[test]
 fn drops_the_largest(rt: HostRuntime) -> Result<(), Fail> {
-    let outer = "addrmap d{".repeat(rt.alloc(), 16)?;
-    let open = repeated(rt.alloc(), &outer, "p;", 65_520, "")?;
-    let text = repeated(rt.alloc(), &open, "};", 16, "")?;
-    let map = description(rt.alloc(), &text)?;
+    let map = description(rt.alloc(), &largest(rt.alloc())?)?;
     assert!(rt; map.weight() == 65536 * 2);
-    let mut address = Address::new();
-    for _ in 0..16 {
-        if address.len() < Address::MAX_LEN {
-            address.push(0);
-        }
-    }
-    assert!(rt; map.body(&address).is_some());
+    assert!(rt; map.body(&address(&[0; 16])).is_some());
     Ok(())
 }
 
