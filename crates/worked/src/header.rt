@@ -1,5 +1,5 @@
 //! The headers of maps.
-use crate::map::rows_or_fault;
+use crate::layouts::elaborated;
 use rdl_elab::row::Row;
 use rdl_header::{HeaderFault, header};
 use std::alloc::Global;
@@ -11,14 +11,6 @@ fn header_of(alloc: Global, rows: &[Row]) -> Result<String, Fail> {
         Ok(text) => Ok(text),
         Err(HeaderFault::Clash(name)) => Ok(name),
         Err(HeaderFault::Memory) => Err(Fail::new("no memory")),
-    }
-}
-
-/// The header of a text's map.
-fn of_map(alloc: Global, text: &str) -> Result<String, Fail> {
-    match rows_or_fault(alloc, text) {
-        Ok(Ok(rows)) => header_of(alloc, rows.as_slice()),
-        _ => Err(Fail::new("no map")),
     }
 }
 
@@ -92,7 +84,8 @@ const HEADERS: [(&str, &str); 3] = [
 #[test]
 fn defines_each_name_once(rt: HostRuntime) -> Result<(), Fail> {
     for (map, want) in HEADERS.iter() {
-        assert_eq!(rt; of_map(rt.alloc(), map)?.as_str(), *want);
+        let rows = elaborated(rt.alloc(), map)?;
+        assert_eq!(rt; header_of(rt.alloc(), rows.as_slice())?.as_str(), *want);
     }
     Ok(())
 }

@@ -3,7 +3,7 @@ use crate::list::listed;
 use crate::map::rows_or_fault;
 use rdl_elab::bits::bits;
 use rdl_elab::component::lay_out;
-use rdl_elab::layout::{FieldBits, LayoutValues, Member, Mode, Placement, Span};
+use rdl_elab::layout::{FieldBits, Layout, LayoutValues, Member, Mode, Placement, Span};
 use rdl_elab::place::place;
 use rdl_elab::row::{Row, Rows};
 use rdl_tree::property::Property;
@@ -33,6 +33,10 @@ fn are_starts(spans: &[Span], starts: &[u64]) -> bool {
             .all(|(span, start)| span.start == *start)
 }
 
+fn is_laid_out(layout: &Layout, starts: &[u64], size: u64) -> bool {
+    layout.size == size && are_starts(layout.spans.as_slice(), starts)
+}
+
 const BY_MODE: [(Mode, [u64; 3], u64); 3] = [
     (Mode::Compact, [0, 4, 0xC], 0x5C),
     (Mode::Regalign, [0, 8, 0x10], 0x60),
@@ -45,7 +49,7 @@ fn places_by_mode(rt: HostRuntime) -> Result<(), Fail> {
     let items = [registers(4, 1), registers(8, 1), registers(4, 20)];
     for (mode, starts, size) in BY_MODE.iter() {
         let layout = place(rt.alloc(), None, *mode, &items)?;
-        assert!(rt; layout.size == *size && are_starts(layout.spans.as_slice(), starts));
+        assert!(rt; is_laid_out(&layout, starts, *size));
     }
     Ok(())
 }
@@ -85,9 +89,7 @@ fn lays_out_a_register(rt: HostRuntime) -> Result<(), Fail> {
         fieldwidth: 1,
     };
     let layout = lay_out(rt.alloc(), Kind::Reg, values, Mode::Regalign, &[field])?;
-    assert!(rt;
-        layout.size == 8 && layout.access == 4 && are_starts(layout.spans.as_slice(), &[0])
-    );
+    assert!(rt; layout.access == 4 && is_laid_out(&layout, &[0], 8));
     Ok(())
 }
 
@@ -178,7 +180,7 @@ fn lays_out_each_instance(rt: HostRuntime) -> Result<(), Fail> {
 }
 
 /// The rows of a text's map.
-fn elaborated(alloc: Global, text: &str) -> Result<Rows, &'static str> {
+pub(crate) fn elaborated(alloc: Global, text: &str) -> Result<Rows, &'static str> {
     match rows_or_fault(alloc, text) {
         Ok(Ok(rows)) => Ok(rows),
         _ => Err("no rows"),
@@ -192,8 +194,8 @@ enum Held {
     Word(Word),
 }
 
-fn holds(row: Option<&Row>, property: Property, held: &Held) -> bool {
-    let Some(row) = row else {
+fn holds(rows: &Rows, number: usize, property: Property, held: &Held) -> bool {
+    let Some(row) = rows.get(number) else {
         return false;
     };
     match (row.values.get(property), held) {
@@ -227,7 +229,7 @@ fn holds_values(rt: HostRuntime) -> Result<(), Fail> {
     for (map, number, property, held) in HELD.iter() {
         let rows = elaborated(rt.alloc(), map)?;
         assert!(rt;
-            holds(rows.get(*number), *property, held),
+            holds(&rows, *number, *property, held),
             "row {number} of {map}"
         );
     }

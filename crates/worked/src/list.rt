@@ -1,11 +1,11 @@
 //! The lines of rows made by hand, and of maps.
 use crate::map::rows_or_fault;
 use crate::rows::bytes;
-use rdl_elab::row::Row;
 use rdl_list::list_text;
 use rdl_tree::fault::Fault;
 use rdl_tree::shell::Kind;
 use std::alloc::Global;
+use std::slice;
 use std::test::Fail;
 
 fn shown_fault(alloc: Global, fault: &Fault) -> Result<String, Fail> {
@@ -62,15 +62,14 @@ const INSTANCES: [(&[&str], Kind, u64, &[u64], &str); 3] = [
     ),
 ];
 
-fn line(alloc: Global, row: Row) -> Result<String, Fail> {
-    Ok(list_text(alloc, &[row])?)
-}
-
 #[test]
 fn shows_instances_by_their_bytes(rt: HostRuntime) -> Result<(), Fail> {
     for (names, kind, base, sizes, want) in INSTANCES.iter() {
         let row = bytes(rt.alloc(), names, *kind, *base, sizes)?;
-        assert_eq!(rt; line(rt.alloc(), row)?.as_str(), *want);
+        assert_eq!(rt;
+            list_text(rt.alloc(), slice::from_ref(&row))?.as_str(),
+            *want
+        );
     }
     Ok(())
 }

@@ -83,13 +83,20 @@ fn is_internal_with_parts(item: Option<&Item>) -> bool {
     }
 }
 
+fn is_default_word(item: Option<&Item>) -> bool {
+    matches!(item, Some(Item::Default(_, Value::Word(Word::R))))
+}
+
+fn is_dynamic_true(item: Option<&Item>) -> bool {
+    matches!(item, Some(Item::Dynamic(_, _, Value::Bool(true))))
+}
+
 #[test]
 fn parts_are_read(rt: HostRuntime) -> Result<(), Fail> {
     let description = description(rt.alloc(), FORMS)?;
-    let items = &description.items;
-    assert!(rt; is_internal_with_parts(items.item(4)));
-    assert!(rt; matches!(items.item(8), Some(Item::Default(_, Value::Word(Word::R)))));
-    assert!(rt; matches!(items.item(11), Some(Item::Dynamic(_, _, Value::Bool(true)))));
+    assert!(rt; is_internal_with_parts(description.items.item(4)));
+    assert!(rt; is_default_word(description.items.item(8)));
+    assert!(rt; is_dynamic_true(description.items.item(11)));
     Ok(())
 }
 
