@@ -270,11 +270,6 @@ regfile T9 { T8 a; T8 b; T8 c; };
 addrmap top { T9 x; };
 ";
 
-/// A line of a list.
-fn line(list: &str, number: usize) -> Option<&str> {
-    list.lines().nth(number)
-}
-
 // nine levels of three instances each: 3^9 registers of four bytes and their fields, and what is around them
 #[test]
 fn makes_the_rows_of_nine_levels(rt: HostRuntime) -> Result<(), Fail> {
@@ -300,55 +295,61 @@ fn gives_a_field_the_base_of_its_register(rt: HostRuntime) -> Result<(), Fail> {
     Ok(())
 }
 
+fn push_register(text: &mut String, number: u64, start: u64) -> Result<(), AllocError> {
+    write!(text, "reg {{}} r{number} @ {start};")
+}
+
 /// Registers of four bytes, with four bytes free behind each, the last one first, then one more at this address, and
 /// one far behind them.
 fn descending(alloc: Global, count: u64, more: u64) -> Result<String, Fail> {
     let mut text = String::from_str(alloc, "addrmap top {")?;
     for behind in 0..count {
-        let start = (count - behind).saturating_mul(8);
-        write!(text, "reg {{}} r{behind} @ {start};")?;
+        push_register(&mut text, behind, (count - behind).saturating_mul(8))?;
     }
-    write!(
-        text,
-        "reg {{}} r{count} @ {more}; reg {{}} last @ 0x10_0000; }};"
-    )?;
+    push_register(&mut text, count, more)?;
+    text.push_str("reg {} last @ 0x10_0000; };")?;
     Ok(text)
+}
+
+fn listed_descending(alloc: Global, more: u64) -> Result<String, Fail> {
+    listed(alloc, &descending(alloc, 2_000, more)?)
+}
+
+/// Whether the list has this line under this number.
+fn has_line(list: &str, number: usize, line: &str) -> bool {
+    list.lines().nth(number) == Some(line)
 }
 
 #[test]
 fn takes_registers_that_go_down(rt: HostRuntime) -> Result<(), Fail> {
-    let text = descending(rt.alloc(), 2_000, 12)?;
-    let list = listed(rt.alloc(), &text)?;
+    let list = listed_descending(rt.alloc(), 12)?;
     assert!(rt; list.lines().count() == 2_003);
-    assert!(rt; line(&list, 1) == Some("0x3E80 reg top.r0 size 0x4"));
-    assert!(rt; line(&list, 2_000) == Some("0x8 reg top.r1999 size 0x4"));
-    assert!(rt; line(&list, 2_001) == Some("0xC reg top.r2000 size 0x4"));
+    assert!(rt; has_line(&list, 1, "0x3E80 reg top.r0 size 0x4"));
+    assert!(rt; has_line(&list, 2_000, "0x8 reg top.r1999 size 0x4"));
+    assert!(rt; has_line(&list, 2_001, "0xC reg top.r2000 size 0x4"));
     Ok(())
 }
 
 // over the first byte of the lowest, over the last byte of the highest, and where one between them stands
 #[test]
 fn refuses_what_overlaps_registers_that_go_down(rt: HostRuntime) -> Result<(), Fail> {
-    for more in [5, 16_003, 8_000] {
-        let text = descending(rt.alloc(), 2_000, more)?;
-        assert_eq!(rt;
-            listed(rt.alloc(), &text)?.as_str(),
-            "E20 at 0.2000",
-            "at {more}"
-        );
+    for more in [5, 16_003, 8_000].iter() {
+        let list = listed_descending(rt.alloc(), *more)?;
+        assert!(rt; list.as_str() == "E20 at 0.2000", "at {more}");
     }
     Ok(())
 }
 
-/// Two fields that share bits with a third, one beside them, and one more.
-fn sharing(alloc: Global, more: &str) -> Result<String, AllocError> {
-    [
+/// What is listed of two fields that share bits with a third, one beside them, and one more; or their fault.
+fn sharing(alloc: Global, more: &str) -> Result<String, Fail> {
+    let text = [
         "addrmap top { reg { regwidth = 64; field { sw = r; } a[23:16]; field { sw = r; } b[11:8]; ",
         "field { sw = w; } c[19:0]; field {} d[31:30]; field ",
         more,
         "; } r; };",
     ]
-    .concat(alloc)
+    .concat(alloc)?;
+    listed(alloc, &text)
 }
 
 // What is listed of the four.
@@ -372,13 +373,16 @@ const BESIDE_SHARED_BITS: [(&str, &str); 8] = [
     ("{} e[39:31]", "E22 at 0.0.5"),
 ];
 
+/// What is listed of the field beside the four, or the fault.
+fn behind_shared_bits(list: &str) -> &str {
+    list.strip_prefix(SHARED_BITS).unwrap_or(list)
+}
+
 #[test]
 fn judges_fields_beside_shared_bits(rt: HostRuntime) -> Result<(), Fail> {
     for (more, want) in BESIDE_SHARED_BITS.iter() {
-        let text = sharing(rt.alloc(), more)?;
-        let list = listed(rt.alloc(), &text)?;
-        let end = list.strip_prefix(SHARED_BITS).unwrap_or(&list);
-        assert_eq!(rt; end, *want, "at {more}");
+        let list = sharing(rt.alloc(), more)?;
+        assert!(rt; behind_shared_bits(&list) == *want, "at {more}");
     }
     Ok(())
 }

@@ -62,14 +62,22 @@ const INSTANCES: [(&[&str], Kind, u64, &[u64], &str); 3] = [
     ),
 ];
 
+fn line(
+    alloc: Global,
+    names: &[&str],
+    kind: Kind,
+    base: u64,
+    sizes: &[u64],
+) -> Result<String, Fail> {
+    let row = bytes(alloc, names, kind, base, sizes)?;
+    Ok(list_text(alloc, slice::from_ref(&row))?)
+}
+
 #[test]
 fn shows_instances_by_their_bytes(rt: HostRuntime) -> Result<(), Fail> {
     for (names, kind, base, sizes, want) in INSTANCES.iter() {
-        let row = bytes(rt.alloc(), names, *kind, *base, sizes)?;
-        assert_eq!(rt;
-            list_text(rt.alloc(), slice::from_ref(&row))?.as_str(),
-            *want
-        );
+        let found = line(rt.alloc(), names, *kind, *base, sizes)?;
+        assert!(rt; found.as_str() == *want, "{want}");
     }
     Ok(())
 }

@@ -10,7 +10,6 @@ use rdl_tree::address::Address;
 use rdl_tree::description::Description;
 use rdl_tree::value::Value;
 use std::alloc::{AllocError, Global};
-use std::fmt;
 use std::test::Fail;
 
 // The names between dots.
@@ -83,23 +82,23 @@ fn finds_types_from_their_definitions_on(rt: HostRuntime) -> Result<(), Fail> {
     Ok(())
 }
 
-// The instances, one behind another.
-fn shown_path(alloc: Global, path: &[Address]) -> Result<String, fmt::Error> {
-    let mut printed = String::new(alloc);
-    for instance in path {
-        write!(printed, "{instance} ")?;
-    }
-    Ok(printed)
+// Whether these instances are passed.
+fn is_path(passed: &Option<Vec<Address>>, wanted: &[&[usize]]) -> bool {
+    let Some(path) = passed else {
+        return false;
+    };
+    path.len() == wanted.len()
+        && path
+            .iter()
+            .zip(wanted)
+            .all(|(address, numbers)| address.as_slice() == *numbers)
 }
 
 #[test]
 fn finds_targets(rt: HostRuntime) -> Result<(), Fail> {
     let description = description(rt.alloc(), TWO_TARGETS)?;
-    let passed = through(rt.alloc(), &description, &address(&[1, 2]))?.ok_or("no target")?;
-    assert_eq!(rt;
-        shown_path(rt.alloc(), passed.as_slice())?.as_str(),
-        "1.0 0.1 "
-    );
+    let passed = through(rt.alloc(), &description, &address(&[1, 2]))?;
+    assert!(rt; is_path(&passed, &[&[1, 0], &[0, 1]]));
     Ok(())
 }
 
@@ -108,12 +107,10 @@ fn passes_the_instances_before(rt: HostRuntime) -> Result<(), Fail> {
     let description = description(rt.alloc(), TWO_TARGETS)?;
     let target = names(rt.alloc(), "v.f")?;
     let top = address(&[1]);
-    assert!(rt; passes(rt.alloc(), &description, &top, 1, target.as_slice())?.is_none());
-    let passed = passes(rt.alloc(), &description, &top, 2, target.as_slice())?.ok_or("no target")?;
-    assert_eq!(rt;
-        shown_path(rt.alloc(), passed.as_slice())?.as_str(),
-        "1.1 0.1 "
-    );
+    let before = passes(rt.alloc(), &description, &top, 1, target.as_slice())?;
+    assert!(rt; before.is_none());
+    let behind = passes(rt.alloc(), &description, &top, 2, target.as_slice())?;
+    assert!(rt; is_path(&behind, &[&[1, 1], &[0, 1]]));
     Ok(())
 }
 
