@@ -238,13 +238,10 @@ fn holds_values(rt: HostRuntime) -> Result<(), Fail> {
 
 /// How many properties of the row have a value.
 fn count(row: &Row) -> usize {
-    let mut count = 0;
-    for property in Property::ALL.iter() {
-        if row.values.get(*property).is_some() {
-            count += 1;
-        }
-    }
-    count
+    Property::ALL
+        .iter()
+        .filter(|property| row.values.get(**property).is_some())
+        .count()
 }
 
 // fieldwidth, sw, hw, rclr, rset, woset, woclr and eighteen more booleans always have a value; reset where it has one

@@ -84,11 +84,17 @@ fn is_internal_with_parts(item: Option<&Item>) -> bool {
 }
 
 fn is_default_word(item: Option<&Item>) -> bool {
-    matches!(item, Some(Item::Default(_, Value::Word(Word::R))))
+    match item {
+        Some(Item::Default(_, value)) => matches!(value, Value::Word(Word::R)),
+        _ => false,
+    }
 }
 
 fn is_dynamic_true(item: Option<&Item>) -> bool {
-    matches!(item, Some(Item::Dynamic(_, _, Value::Bool(true))))
+    match item {
+        Some(Item::Dynamic(_, _, value)) => matches!(value, Value::Bool(true)),
+        _ => false,
+    }
 }
 
 #[test]
