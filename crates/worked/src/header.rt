@@ -1,34 +1,25 @@
-//! The header of rows made by hand.
-use crate::rows;
-use crate::rows::{dims, field};
-use rdl_elab::row::{Extent, Row};
+//! The headers of maps.
+use crate::layouts::elaborated;
+use rdl_elab::row::Row;
 use rdl_header::{HeaderFault, header};
-use rdl_tree::shell::Kind;
 use std::alloc::Global;
 use std::test::Fail;
 
-/// A row of elements of four bytes, eight apart.
-fn bytes(alloc: Global, names: &[&str], kind: Kind, base: u64, sizes: &[u64]) -> Result<Row, Fail> {
-    let extent = Extent {
-        offset: base,
-        size: 4,
-        dims: dims(alloc, sizes)?,
-        stride: 8,
-    };
-    rows::bytes(alloc, names, kind, base, extent)
+/// The header of the rows, or the name that is defined twice.
+fn header_of(alloc: Global, rows: &[Row]) -> Result<String, Fail> {
+    match header(alloc, rows) {
+        Ok(text) => Ok(text),
+        Err(HeaderFault::Clash(name)) => Ok(name),
+        Err(HeaderFault::Memory) => Err(Fail::new("no memory")),
+    }
 }
 
-#[test]
-fn defines_addresses_and_fields(rt: HostRuntime) -> Result<(), Fail> {
-    let alloc = rt.alloc();
-    let rows = [
-        bytes(alloc, &["top"], Kind::Addrmap, 0, &[])?,
-        bytes(alloc, &["top", "a"], Kind::Reg, 0, &[])?,
-        field(alloc, &["top", "a", "f"], 0, 4, None)?,
-        bytes(alloc, &["top", "b"], Kind::Reg, 4, &[2])?,
-        field(alloc, &["top", "b", "f"], 0, 4, None)?,
-    ];
-    let want = "#ifndef top_H
+// Maps and their headers.
+const HEADERS: [(&str, &str); 3] = [
+    // addresses and fields
+    (
+        "addrmap top { reg { field {} f[4]; } a; reg { field {} f[4]; } b[2] += 8; };",
+        "#ifndef top_H
 #define top_H
 #define top__a_base 0x0
 #define top__a_offset 0x0
@@ -45,75 +36,62 @@ fn defines_addresses_and_fields(rt: HostRuntime) -> Result<(), Fail> {
 #define top__b__f_bp 0
 #define top__b__f_bw 4
 #endif
-";
-    match header(alloc, &rows) {
-        Ok(text) => assert_eq!(rt; text.as_str(), want),
-        Err(_) => assert!(rt; false),
-    }
-    Ok(())
-}
-
-#[test]
-fn shifts_masks_and_no_resets(rt: HostRuntime) -> Result<(), Fail> {
-    let alloc = rt.alloc();
-    let rows = [
-        bytes(alloc, &["top"], Kind::Addrmap, 0, &[])?,
-        bytes(alloc, &["top", "r"], Kind::Reg, 0x1F, &[2, 10])?,
-        field(alloc, &["top", "r", "f"], 60, 64, Some(10))?,
-        field(alloc, &["top", "r", "g"], 0, 64, None)?,
-        field(alloc, &["top", "r", "h"], 8, 9, Some(1))?,
-    ];
-    let want = "#ifndef top_H
+",
+    ),
+    // shifted masks, and resets
+    (
+        "addrmap top {
+    regfile {
+        reg {
+            regwidth = 64;
+            field { sw = r; } f[63:60] = 10;
+            field { sw = w; } g[63:0];
+            field { sw = r; } h[8:8] = 1;
+        } r[2][10];
+    } q @ 0x1F;
+};",
+        "#ifndef top_H
 #define top_H
-#define top__r_base 0x1F
-#define top__r_offset 0x1F
-#define top__r_size 0x4
-#define top__r_count 20
-#define top__r_stride 0x8
-#define top__r__f_bm 0xF000000000000000
-#define top__r__f_bp 60
-#define top__r__f_bw 4
-#define top__r__f_reset 0xA
-#define top__r__g_bm 0xFFFFFFFFFFFFFFFF
-#define top__r__g_bp 0
-#define top__r__g_bw 64
-#define top__r__h_bm 0x100
-#define top__r__h_bp 8
-#define top__r__h_bw 1
-#define top__r__h_reset 0x1
+#define top__q_base 0x1F
+#define top__q_offset 0x1F
+#define top__q_size 0xA0
+#define top__q__r_base 0x1F
+#define top__q__r_offset 0x0
+#define top__q__r_size 0x8
+#define top__q__r_count 20
+#define top__q__r_stride 0x8
+#define top__q__r__f_bm 0xF000000000000000
+#define top__q__r__f_bp 60
+#define top__q__r__f_bw 4
+#define top__q__r__f_reset 0xA
+#define top__q__r__g_bm 0xFFFFFFFFFFFFFFFF
+#define top__q__r__g_bp 0
+#define top__q__r__g_bw 64
+#define top__q__r__h_bm 0x100
+#define top__q__r__h_bp 8
+#define top__q__r__h_bw 1
+#define top__q__r__h_reset 0x1
 #endif
-";
-    match header(alloc, &rows) {
-        Ok(text) => assert_eq!(rt; text.as_str(), want),
-        Err(_) => assert!(rt; false),
-    }
-    Ok(())
-}
+",
+    ),
+    // a name that is defined twice
+    (
+        "addrmap top { reg { field {} c; } a__b; reg { field {} b__c; } a; };",
+        "top__a__b__c_bm",
+    ),
+];
 
 #[test]
-fn refuses_a_name_that_is_defined_twice(rt: HostRuntime) -> Result<(), Fail> {
-    let alloc = rt.alloc();
-    let rows = [
-        bytes(alloc, &["top"], Kind::Addrmap, 0, &[])?,
-        bytes(alloc, &["top", "a__b"], Kind::Reg, 0, &[])?,
-        field(alloc, &["top", "a__b", "c"], 0, 1, None)?,
-        bytes(alloc, &["top", "a"], Kind::Reg, 4, &[])?,
-        field(alloc, &["top", "a", "b__c"], 0, 1, None)?,
-    ];
-    let clash = match header(alloc, &rows) {
-        Err(HeaderFault::Clash(name)) => name,
-        Err(HeaderFault::Memory) => String::from_str(alloc, "no memory")?,
-        Ok(text) => text,
-    };
-    assert_eq!(rt; clash.as_str(), "top__a__b__c_bm");
+fn defines_each_name_once(rt: HostRuntime) -> Result<(), Fail> {
+    for (map, want) in HEADERS.iter() {
+        let rows = elaborated(rt.alloc(), map)?;
+        assert_eq!(rt; header_of(rt.alloc(), rows.as_slice())?.as_str(), *want);
+    }
     Ok(())
 }
 
 #[test]
 fn is_empty_without_rows(rt: HostRuntime) -> Result<(), Fail> {
-    match header(rt.alloc(), &[]) {
-        Ok(text) => assert_eq!(rt; text.as_str(), ""),
-        Err(_) => assert!(rt; false),
-    }
+    assert!(rt; header_of(rt.alloc(), &[])?.is_empty());
     Ok(())
 }

@@ -2,66 +2,124 @@
 use journal_core::example::{Change, Numbers, Refusal};
 use journal_core::fault::{EditFault, StepFault};
 use journal_core::journal::Journal;
-use std::test::Fail;
+use std::alloc::Global;
+use std::process::Abort;
 
-#[test]
-fn undo_leads_back_and_redo_leads_on(rt: HostRuntime) -> Result<(), Fail> {
-    let alloc = rt.alloc();
-    let mut journal = Journal::new(alloc, Numbers::new(alloc), 3);
-    assert!(rt; journal.edit(alloc, &Change::Push(3)).is_ok());
-    assert!(rt; journal.edit(alloc, &Change::Push(4)).is_ok());
-    assert_eq!(rt; journal.map().as_slice(), [3, 4].as_slice());
-    assert_eq!(rt; journal.undo(alloc), Ok(()));
-    assert_eq!(rt; journal.map().as_slice(), [3].as_slice());
-    assert_eq!(rt; journal.undo(alloc), Ok(()));
-    assert!(rt; journal.map().as_slice().is_empty());
-    assert_eq!(rt; journal.redo_len(), 2);
-    assert_eq!(rt; journal.redo(alloc), Ok(()));
-    assert_eq!(rt; journal.redo(alloc), Ok(()));
-    assert_eq!(rt; journal.map().as_slice(), [3, 4].as_slice());
-    assert_eq!(rt; journal.undo_len(), 2);
-    Ok(())
+/// A call of a history.
+enum Call {
+    Push(u64),
+    Clear,
+    Undo,
+    Redo,
+}
+
+/// A call and its answer, then the list, and how many changes can be undone and redone.
+type Step = (Call, &'static str, &'static [u64], usize, usize);
+
+fn edit(alloc: Global, journal: &mut Journal<Numbers>, change: &Change) -> &'static str {
+    match journal.edit(alloc, change) {
+        Ok(()) => "made",
+        Err(EditFault::Full) => "full",
+        Err(EditFault::Refused(Refusal::Seven)) => "refused",
+        Err(_) => "no memory",
+    }
+}
+
+fn step_answer(answer: Result<(), StepFault>) -> &'static str {
+    match answer {
+        Ok(()) => "made",
+        Err(StepFault::Nothing) => "nothing",
+        Err(StepFault::Memory) => "no memory",
+    }
+}
+
+fn make(alloc: Global, journal: &mut Journal<Numbers>, call: &Call) -> &'static str {
+    match call {
+        Call::Push(number) => edit(alloc, journal, &Change::Push(*number)),
+        Call::Clear => edit(alloc, journal, &Change::Clear),
+        Call::Undo => step_answer(journal.undo(alloc)),
+        Call::Redo => step_answer(journal.redo(alloc)),
+    }
+}
+
+/// Makes the calls on an empty list, and looks at what stands behind each.
+fn follow(rt: &impl Abort, alloc: Global, limit: u32, steps: &[Step]) {
+    let mut journal = Journal::new(alloc, Numbers::new(alloc), limit);
+    for (call, answer, list, undo_len, redo_len) in steps {
+        assert!(rt;
+            make(alloc, &mut journal, call) == *answer,
+            "{answer} is wanted"
+        );
+        assert!(rt;
+            journal.map().as_slice() == *list,
+            "the list behind {answer}"
+        );
+        assert!(rt; journal.undo_len() == *undo_len && journal.redo_len() == *redo_len);
+    }
+}
+
+const BACK_AND_ON: [Step; 6] = [
+    (Call::Push(3), "made", &[3], 1, 0),
+    (Call::Push(4), "made", &[3, 4], 2, 0),
+    (Call::Undo, "made", &[3], 1, 1),
+    (Call::Undo, "made", &[], 0, 2),
+    (Call::Redo, "made", &[3], 1, 1),
+    (Call::Redo, "made", &[3, 4], 2, 0),
+];
+
+fn back_and_on() -> &'static [Step] {
+    &BACK_AND_ON
 }
 
 #[test]
-fn an_edit_drops_what_could_be_redone(rt: HostRuntime) -> Result<(), Fail> {
-    let alloc = rt.alloc();
-    let mut journal = Journal::new(alloc, Numbers::new(alloc), 2);
-    assert!(rt; journal.edit(alloc, &Change::Push(3)).is_ok());
-    assert_eq!(rt; journal.undo(alloc), Ok(()));
-    assert!(rt; journal.edit(alloc, &Change::Push(5)).is_ok());
-    assert_eq!(rt; journal.redo_len(), 0);
-    assert_eq!(rt; journal.redo(alloc), Err(StepFault::Nothing));
-    assert_eq!(rt; journal.map().as_slice(), [5].as_slice());
-    Ok(())
+fn undo_leads_back_and_redo_leads_on(rt: HostRuntime) {
+    follow(&rt, rt.alloc(), 3, back_and_on());
+}
+
+const EDIT_BEHIND_UNDO: [Step; 4] = [
+    (Call::Push(3), "made", &[3], 1, 0),
+    (Call::Undo, "made", &[], 0, 1),
+    (Call::Push(5), "made", &[5], 1, 0),
+    (Call::Redo, "nothing", &[5], 1, 0),
+];
+
+fn edit_behind_undo() -> &'static [Step] {
+    &EDIT_BEHIND_UNDO
 }
 
 #[test]
-fn an_edit_that_changes_nothing_is_a_place(rt: HostRuntime) -> Result<(), Fail> {
-    let alloc = rt.alloc();
-    let mut journal = Journal::new(alloc, Numbers::new(alloc), 2);
-    assert!(rt; journal.edit(alloc, &Change::Clear).is_ok());
-    assert_eq!(rt; journal.undo_len(), 1);
-    assert_eq!(rt; journal.undo(alloc), Ok(()));
-    assert_eq!(rt; journal.undo(alloc), Err(StepFault::Nothing));
-    Ok(())
+fn an_edit_drops_what_could_be_redone(rt: HostRuntime) {
+    follow(&rt, rt.alloc(), 2, edit_behind_undo());
+}
+
+const NOTHING_CHANGED: [Step; 3] = [
+    (Call::Clear, "made", &[], 1, 0),
+    (Call::Undo, "made", &[], 0, 1),
+    (Call::Undo, "nothing", &[], 0, 1),
+];
+
+fn nothing_changed() -> &'static [Step] {
+    &NOTHING_CHANGED
 }
 
 #[test]
-fn a_full_history_is_judged_before_the_map(rt: HostRuntime) -> Result<(), Fail> {
-    let alloc = rt.alloc();
-    let mut journal = Journal::new(alloc, Numbers::new(alloc), 1);
-    assert!(rt;
-        matches!(
-            journal.edit(alloc, &Change::Push(7)),
-            Err(EditFault::Refused(Refusal::Seven))
-        )
-    );
-    assert_eq!(rt; journal.undo_len(), 0);
-    assert!(rt; journal.edit(alloc, &Change::Push(1)).is_ok());
-    assert!(rt; matches!(journal.edit(alloc, &Change::Push(7)), Err(EditFault::Full)));
-    assert_eq!(rt; journal.undo(alloc), Ok(()));
-    assert!(rt; journal.edit(alloc, &Change::Push(2)).is_ok());
-    assert_eq!(rt; journal.map().as_slice(), [2].as_slice());
-    Ok(())
+fn an_edit_that_changes_nothing_is_a_place(rt: HostRuntime) {
+    follow(&rt, rt.alloc(), 2, nothing_changed());
+}
+
+const FULL: [Step; 5] = [
+    (Call::Push(7), "refused", &[], 0, 0),
+    (Call::Push(1), "made", &[1], 1, 0),
+    (Call::Push(7), "full", &[1], 1, 0),
+    (Call::Undo, "made", &[], 0, 1),
+    (Call::Push(2), "made", &[2], 1, 0),
+];
+
+fn full() -> &'static [Step] {
+    &FULL
+}
+
+#[test]
+fn a_full_history_is_judged_before_the_map(rt: HostRuntime) {
+    follow(&rt, rt.alloc(), 1, full());
 }

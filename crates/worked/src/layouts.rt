@@ -1,15 +1,15 @@
 //! Layouts and rows: each part on its own, and whole maps as they are elaborated.
+use crate::list::listed;
 use crate::map::rows_or_fault;
 use rdl_elab::bits::bits;
 use rdl_elab::component::lay_out;
-use rdl_elab::layout::{FieldBits, LayoutValues, Member, Mode, Placement, Span};
+use rdl_elab::layout::{FieldBits, Layout, LayoutValues, Member, Mode, Placement, Span};
 use rdl_elab::place::place;
-use rdl_elab::row::{Place, Row, Rows};
-use rdl_tree::fault::FaultKind;
+use rdl_elab::row::{Row, Rows};
 use rdl_tree::property::Property;
 use rdl_tree::shell::Kind;
 use rdl_tree::value::{Value, Word};
-use std::alloc::Global;
+use std::alloc::{AllocError, Global};
 use std::test::Fail;
 
 /// So many registers of these bytes, each accessed by four bytes.
@@ -33,17 +33,23 @@ fn are_starts(spans: &[Span], starts: &[u64]) -> bool {
             .all(|(span, start)| span.start == *start)
 }
 
+fn is_laid_out(layout: &Layout, starts: &[u64], size: u64) -> bool {
+    layout.size == size && are_starts(layout.spans.as_slice(), starts)
+}
+
+const BY_MODE: [(Mode, [u64; 3], u64); 3] = [
+    (Mode::Compact, [0, 4, 0xC], 0x5C),
+    (Mode::Regalign, [0, 8, 0x10], 0x60),
+    (Mode::Fullalign, [0, 8, 0x80], 0xD0),
+];
+
 // a register of 32 bits, one of 64, and twenty of 32
 #[test]
 fn places_by_mode(rt: HostRuntime) -> Result<(), Fail> {
     let items = [registers(4, 1), registers(8, 1), registers(4, 20)];
-    for (mode, starts, size) in [
-        (Mode::Compact, [0, 4, 0xC], 0x5C),
-        (Mode::Regalign, [0, 8, 0x10], 0x60),
-        (Mode::Fullalign, [0, 8, 0x80], 0xD0),
-    ] {
-        let layout = place(rt.alloc(), None, mode, &items)?;
-        assert!(rt; layout.size == size && are_starts(layout.spans.as_slice(), &starts));
+    for (mode, starts, size) in BY_MODE.iter() {
+        let layout = place(rt.alloc(), None, *mode, &items)?;
+        assert!(rt; is_laid_out(&layout, starts, *size));
     }
     Ok(())
 }
@@ -83,44 +89,151 @@ fn lays_out_a_register(rt: HostRuntime) -> Result<(), Fail> {
         fieldwidth: 1,
     };
     let layout = lay_out(rt.alloc(), Kind::Reg, values, Mode::Regalign, &[field])?;
-    assert!(rt;
-        layout.size == 8 && layout.access == 4 && are_starts(layout.spans.as_slice(), &[0])
-    );
+    assert!(rt; layout.access == 4 && is_laid_out(&layout, &[0], 8));
+    Ok(())
+}
+
+// the nearer of two defaults, and the outer one behind the body that has the nearer
+const DEFAULTS: &str =
+    "addrmap top { default fieldwidth = 8; reg { default fieldwidth = 4; field {} f; } a; reg { field {} f; } b; };";
+
+// what is stated and what is built in: a register of 16 bits, one of 32, a map under each
+const WIDTHS: &str =
+    "addrmap top { addressing = compact; reg { regwidth = 16; } a; reg {} b; addrmap { reg {} c; } m; };";
+
+// a reset of an instance, one of its type, and none
+const RESETS: &str =
+    "field F { reset = 5; }; addrmap top { reg { F f[8] = 7; F g[8]; field {} h; F i[8]; } r; };";
+
+// three registers of one type: assigned in the register file, in the map around it too, and not at all
+const REACHED: &str =
+    "reg R { field {} f[4]; }; addrmap top { regfile { R r, s; r.f->reset = 9; s.f->reset = 8; } g; R t; g.s.f->reset = 7; };";
+
+// Maps and their lists, or their faults.
+const LISTED: [(&str, &str); 6] = [
+    (
+        DEFAULTS,
+        "0x0 addrmap top size 0x8
+0x0 reg top.a size 0x4
+[3:0] field top.a.f
+0x4 reg top.b size 0x4
+[7:0] field top.b.f
+",
+    ),
+    (
+        WIDTHS,
+        "0x0 addrmap top size 0xC
+0x0 reg top.a size 0x2
+0x4 reg top.b size 0x4
+0x8 addrmap top.m size 0x4
+0x8 reg top.m.c size 0x4
+",
+    ),
+    (
+        RESETS,
+        "0x0 addrmap top size 0x4
+0x0 reg top.r size 0x4
+[7:0] field top.r.f reset 0x7
+[15:8] field top.r.g reset 0x5
+[16:16] field top.r.h
+[24:17] field top.r.i reset 0x5
+",
+    ),
+    (
+        REACHED,
+        "0x0 addrmap top size 0xC
+0x0 regfile top.g size 0x8
+0x0 reg top.g.r size 0x4
+[3:0] field top.g.r.f reset 0x9
+0x4 reg top.g.s size 0x4
+[3:0] field top.g.s.f reset 0x7
+0x8 reg top.t size 0x4
+[3:0] field top.t.f
+",
+    ),
+    // R and its field, a single one, an array of three and one in a register file
+    (
+        "reg R { field {} f; }; addrmap top { R a; R b[3]; regfile { R c; } g; };",
+        "0x0 addrmap top size 0x14
+0x0 reg top.a size 0x4
+[0:0] field top.a.f
+0x4 reg top.b[3] size 0x4 stride 0x4
+[0:0] field top.b.f
+0x10 regfile top.g size 0x4
+0x10 reg top.g.c size 0x4
+[0:0] field top.g.c.f
+",
+    ),
+    // an empty register file behind them
+    (
+        "reg R { field {} f; }; addrmap top { R a; R b[3]; regfile { R c; } g; regfile {} h; };",
+        "E16 at 1.3",
+    ),
+];
+
+#[test]
+fn lays_out_each_instance(rt: HostRuntime) -> Result<(), Fail> {
+    for (map, want) in LISTED.iter() {
+        assert_eq!(rt; listed(rt.alloc(), map)?.as_str(), *want);
+    }
     Ok(())
 }
 
 /// The rows of a text's map.
-fn elaborated(alloc: Global, text: &str) -> Result<Rows, Fail> {
-    let answer = rows_or_fault(alloc, text).ok().ok_or("spelled")?;
-    Ok(answer.ok().ok_or("rows")?)
-}
-
-/// What is wrong with a text's map, and the item at which it shows.
-fn fault(alloc: Global, text: &str) -> Result<(FaultKind, String), Fail> {
-    let answer = rows_or_fault(alloc, text).ok().ok_or("spelled")?;
-    let fault = answer.err().ok_or("rows")?;
-    Ok((fault.kind, fault.address.to_string(alloc)?))
-}
-
-fn row(rows: &Rows, number: usize) -> Result<&Row, Fail> {
-    Ok(rows.get(number).ok_or("a row")?)
-}
-
-/// The lowest and the highest bit of a field.
-fn bits_at(rows: &Rows, number: usize) -> Result<(u64, u64), Fail> {
-    match &row(rows, number)?.place {
-        Place::Bits(span) => Ok((span.start, span.end.saturating_sub(1))),
-        Place::Bytes(_) => Err(Fail::new("no field")),
+pub(crate) fn elaborated(alloc: Global, text: &str) -> Result<Rows, &'static str> {
+    match rows_or_fault(alloc, text) {
+        Ok(Ok(rows)) => Ok(rows),
+        _ => Err("no rows"),
     }
 }
 
-/// The base of another row, and the bytes of one element.
-fn bytes_at(rows: &Rows, number: usize) -> Result<(u64, u64), Fail> {
-    let row = row(rows, number)?;
-    match &row.place {
-        Place::Bytes(extent) => Ok((row.base, extent.size)),
-        Place::Bits(_) => Err(Fail::new("a field")),
+/// What a row holds for a property.
+enum Held {
+    Nothing,
+    Number(u64),
+    Word(Word),
+}
+
+fn holds(rows: &Rows, number: usize, property: Property, held: &Held) -> bool {
+    let Some(row) = rows.get(number) else {
+        return false;
+    };
+    match (row.values.get(property), held) {
+        (None, Held::Nothing) => true,
+        (Some(Value::Number(found)), Held::Number(number)) => *found == *number,
+        (Some(Value::Word(found)), Held::Word(word)) => *found == *word,
+        _ => false,
     }
+}
+
+// A map, the number of a row, a property, and what the row holds for it.
+const HELD: [(&str, usize, Property, Held); 14] = [
+    (DEFAULTS, 2, Property::Fieldwidth, Held::Number(4)),
+    (DEFAULTS, 4, Property::Fieldwidth, Held::Number(8)),
+    (WIDTHS, 0, Property::Addressing, Held::Word(Word::Compact)),
+    (WIDTHS, 0, Property::Alignment, Held::Nothing),
+    (WIDTHS, 1, Property::Regwidth, Held::Number(16)),
+    (WIDTHS, 1, Property::Accesswidth, Held::Number(16)),
+    (WIDTHS, 2, Property::Regwidth, Held::Number(32)),
+    (WIDTHS, 3, Property::Addressing, Held::Word(Word::Regalign)),
+    (RESETS, 2, Property::Reset, Held::Number(7)),
+    (RESETS, 3, Property::Reset, Held::Number(5)),
+    (RESETS, 4, Property::Reset, Held::Nothing),
+    (RESETS, 5, Property::Reset, Held::Number(5)),
+    (REACHED, 2, Property::Reset, Held::Nothing),
+    (REACHED, 7, Property::Reset, Held::Nothing),
+];
+
+#[test]
+fn holds_values(rt: HostRuntime) -> Result<(), Fail> {
+    for (map, number, property, held) in HELD.iter() {
+        let rows = elaborated(rt.alloc(), map)?;
+        assert!(rt;
+            holds(&rows, *number, *property, held),
+            "row {number} of {map}"
+        );
+    }
+    Ok(())
 }
 
 /// How many properties of the row have a value.
@@ -131,113 +244,13 @@ fn count(row: &Row) -> usize {
         .count()
 }
 
-fn number_at(rows: &Rows, number: usize, property: Property) -> Result<Option<u64>, Fail> {
-    Ok(row(rows, number)?.values.number(property))
-}
-
-fn word_at(rows: &Rows, number: usize, property: Property) -> Result<Option<Word>, Fail> {
-    Ok(match row(rows, number)?.values.get(property) {
-        Some(Value::Word(word)) => Some(*word),
-        _ => None,
-    })
-}
-
-// the nearer of two defaults, and the outer one behind the body that has the nearer
-#[test]
-fn takes_the_nearest_default(rt: HostRuntime) -> Result<(), Fail> {
-    let text =
-        "addrmap top { default fieldwidth = 8; reg { default fieldwidth = 4; field {} f; } a; reg { field {} f; } b; };";
-    let rows = elaborated(rt.alloc(), text)?;
-    assert_eq!(rt; rows.len(), 5);
-    assert_eq!(rt; bits_at(&rows, 2)?, (0, 3));
-    assert_eq!(rt; number_at(&rows, 2, Property::Fieldwidth)?, Some(4));
-    assert_eq!(rt; bits_at(&rows, 4)?, (0, 7));
-    assert_eq!(rt; number_at(&rows, 4, Property::Fieldwidth)?, Some(8));
-    Ok(())
-}
-
-// what is stated and what is built in: a register of 16 bits, one of 32, a map under each
-#[test]
-fn reads_the_values_of_a_layout(rt: HostRuntime) -> Result<(), Fail> {
-    let text =
-        "addrmap top { addressing = compact; reg { regwidth = 16; } a; reg {} b; addrmap { reg {} c; } m; };";
-    let rows = elaborated(rt.alloc(), text)?;
-    assert_eq!(rt; bytes_at(&rows, 1)?, (0, 2));
-    assert_eq!(rt; number_at(&rows, 1, Property::Regwidth)?, Some(16));
-    assert_eq!(rt; number_at(&rows, 1, Property::Accesswidth)?, Some(16));
-    assert_eq!(rt; bytes_at(&rows, 2)?, (4, 4));
-    assert_eq!(rt; number_at(&rows, 2, Property::Regwidth)?, Some(32));
-    assert_eq!(rt;
-        word_at(&rows, 0, Property::Addressing)?,
-        Some(Word::Compact)
-    );
-    assert_eq!(rt;
-        word_at(&rows, 3, Property::Addressing)?,
-        Some(Word::Regalign)
-    );
-    assert!(rt; row(&rows, 0)?.values.get(Property::Alignment).is_none());
-    Ok(())
-}
-
 // fieldwidth, sw, hw, rclr, rset, woset, woclr and eighteen more booleans always have a value; reset where it has one
 #[test]
-fn shows_a_reset_of_an_instance(rt: HostRuntime) -> Result<(), Fail> {
-    let text =
-        "field F { reset = 5; }; addrmap top { reg { F f[8] = 7; F g[8]; field {} h; F i[8]; } r; };";
-    let rows = elaborated(rt.alloc(), text)?;
-    for (number, wanted, reset) in [
-        (2, 26, Some(7)),
-        (3, 26, Some(5)),
-        (4, 25, None),
-        (5, 26, Some(5)),
-    ] {
-        assert_eq!(rt; count(row(&rows, number)?), wanted);
-        assert_eq!(rt; number_at(&rows, number, Property::Reset)?, reset);
+fn holds_a_value_for_each_property_that_has_one(rt: HostRuntime) -> Result<(), Fail> {
+    let rows = elaborated(rt.alloc(), RESETS)?;
+    for (number, wanted) in [(2, 26), (3, 26), (4, 25), (5, 26)] {
+        assert!(rt; rows.get(number).map(count) == Some(wanted), "row {number}");
     }
-    Ok(())
-}
-
-// three registers of one type: assigned in the register file, in the map around it too, and not at all
-#[test]
-fn reaches_a_field(rt: HostRuntime) -> Result<(), Fail> {
-    let text =
-        "reg R { field {} f[4]; }; addrmap top { regfile { R r, s; r.f->reset = 9; s.f->reset = 8; } g; R t; g.s.f->reset = 7; };";
-    let rows = elaborated(rt.alloc(), text)?;
-    for (number, reset) in [(3, Some(9)), (5, Some(7)), (7, None)] {
-        assert_eq!(rt; row(&rows, number)?.kind, Kind::Field);
-        assert_eq!(rt; number_at(&rows, number, Property::Reset)?, reset);
-    }
-    assert_eq!(rt; number_at(&rows, 2, Property::Reset)?, None);
-    Ok(())
-}
-
-// R and its field, a single one, an array of three and one in a register file; and an empty register file behind them
-#[test]
-fn lays_out_each_instance_of_a_type(rt: HostRuntime) -> Result<(), Fail> {
-    let full = "reg R { field {} f; }; addrmap top { R a; R b[3]; regfile { R c; } g; };";
-    let rows = elaborated(rt.alloc(), full)?;
-    assert_eq!(rt; rows.as_slice().len(), 8);
-    for (number, bytes) in [
-        (0, (0, 0x14)),
-        (1, (0, 4)),
-        (3, (4, 4)),
-        (5, (0x10, 4)),
-        (6, (0x10, 4)),
-    ] {
-        assert_eq!(rt;
-            bytes_at(&rows, number)?,
-            bytes,
-            "the bytes of row {number}"
-        );
-    }
-    for number in [2, 4, 7] {
-        assert_eq!(rt; bits_at(&rows, number)?, (0, 0), "the bits of row {number}");
-    }
-    let empty =
-        "reg R { field {} f; }; addrmap top { R a; R b[3]; regfile { R c; } g; regfile {} h; };";
-    let (kind, address) = fault(rt.alloc(), empty)?;
-    assert_eq!(rt; kind, FaultKind::EmptyComponent);
-    assert_eq!(rt; address.as_str(), "1.3");
     Ok(())
 }
 
@@ -257,18 +270,30 @@ addrmap top { T9 x; };
 // nine levels of three instances each: 3^9 registers of four bytes and their fields, and what is around them
 #[test]
 fn makes_the_rows_of_nine_levels(rt: HostRuntime) -> Result<(), Fail> {
-    let rows = elaborated(rt.alloc(), NINE_LEVELS)?;
-    assert_eq!(rt; rows.len(), 49_208);
-    assert_eq!(rt; bytes_at(&rows, 0)?, (0, 0x1338C));
-    assert_eq!(rt; bytes_at(&rows, 49_206)?, (0x13388, 4));
-    let (last, before) = row(&rows, 49_207)?.names.split_last();
-    assert!(rt; last.as_str() == "f" && before.len() == 11);
-    assert_eq!(rt; row(&rows, 49_207)?.base, 0x13388);
+    let list = listed(rt.alloc(), NINE_LEVELS)?;
+    assert!(rt; list.lines().count() == 49_208);
+    assert!(rt; list.starts_with("0x0 addrmap top size 0x1338C\n"));
+    assert!(rt;
+        list.ends_with(
+            "0x13388 reg top.x.c.c.c.c.c.c.c.c.c size 0x4\n[0:0] field top.x.c.c.c.c.c.c.c.c.c.f\n"
+        )
+    );
     Ok(())
 }
 
-fn register(alloc: Global, number: u64, start: u64) -> Result<String, Fail> {
-    Ok(format!(in alloc; "reg {{}} r{number} @ {start};")?)
+fn base(rows: &Rows, number: usize) -> Option<u64> {
+    Some(rows.get(number)?.base)
+}
+
+#[test]
+fn gives_a_field_the_base_of_its_register(rt: HostRuntime) -> Result<(), Fail> {
+    let rows = elaborated(rt.alloc(), NINE_LEVELS)?;
+    assert!(rt; base(&rows, 49_207) == Some(0x13388));
+    Ok(())
+}
+
+fn push_register(text: &mut String, number: u64, start: u64) -> Result<(), AllocError> {
+    write!(text, "reg {{}} r{number} @ {start};")
 }
 
 /// Registers of four bytes, with four bytes free behind each, the last one first, then one more at this address, and
@@ -276,75 +301,85 @@ fn register(alloc: Global, number: u64, start: u64) -> Result<String, Fail> {
 fn descending(alloc: Global, count: u64, more: u64) -> Result<String, Fail> {
     let mut text = String::from_str(alloc, "addrmap top {")?;
     for behind in 0..count {
-        let start = (count - behind).saturating_mul(8);
-        text.push_str(register(alloc, behind, start)?.as_str())?;
+        push_register(&mut text, behind, (count - behind).saturating_mul(8))?;
     }
-    text.push_str(register(alloc, count, more)?.as_str())?;
+    push_register(&mut text, count, more)?;
     text.push_str("reg {} last @ 0x10_0000; };")?;
     Ok(text)
 }
 
+fn listed_descending(alloc: Global, more: u64) -> Result<String, Fail> {
+    listed(alloc, &descending(alloc, 2_000, more)?)
+}
+
+/// Whether the list has this line under this number.
+fn has_line(list: &str, number: usize, line: &str) -> bool {
+    list.lines().nth(number) == Some(line)
+}
+
 #[test]
 fn takes_registers_that_go_down(rt: HostRuntime) -> Result<(), Fail> {
-    let text = descending(rt.alloc(), 2_000, 12)?;
-    let rows = elaborated(rt.alloc(), text.as_str())?;
-    assert_eq!(rt; rows.len(), 2_003);
-    assert_eq!(rt; bytes_at(&rows, 1)?, (16_000, 4));
-    assert_eq!(rt; bytes_at(&rows, 2_000)?, (8, 4));
-    assert_eq!(rt; bytes_at(&rows, 2_001)?, (12, 4));
+    let list = listed_descending(rt.alloc(), 12)?;
+    assert!(rt; list.lines().count() == 2_003);
+    assert!(rt; has_line(&list, 1, "0x3E80 reg top.r0 size 0x4"));
+    assert!(rt; has_line(&list, 2_000, "0x8 reg top.r1999 size 0x4"));
+    assert!(rt; has_line(&list, 2_001, "0xC reg top.r2000 size 0x4"));
     Ok(())
 }
 
 // over the first byte of the lowest, over the last byte of the highest, and where one between them stands
 #[test]
 fn refuses_what_overlaps_registers_that_go_down(rt: HostRuntime) -> Result<(), Fail> {
-    for more in [5, 16_003, 8_000] {
-        let text = descending(rt.alloc(), 2_000, more)?;
-        let (kind, address) = fault(rt.alloc(), text.as_str())?;
-        assert_eq!(rt; kind, FaultKind::AddressOverlap, "at {more}");
-        assert_eq!(rt; address.as_str(), "0.2000", "at {more}");
+    for more in [5, 16_003, 8_000].iter() {
+        let list = listed_descending(rt.alloc(), *more)?;
+        assert!(rt; list.as_str() == "E20 at 0.2000", "at {more}");
     }
     Ok(())
 }
 
-/// Two fields that share bits with a third, one beside them, and one more.
+/// What is listed of two fields that share bits with a third, one beside them, and one more; or their fault.
 fn sharing(alloc: Global, more: &str) -> Result<String, Fail> {
-    let mut text = String::from_str(
-        alloc,
+    let text = [
         "addrmap top { reg { regwidth = 64; field { sw = r; } a[23:16]; field { sw = r; } b[11:8]; ",
-    )?;
-    text.push_str("field { sw = w; } c[19:0]; field {} d[31:30]; field ")?;
-    text.push_str(more)?;
-    text.push_str("; } r; };")?;
-    Ok(text)
+        "field { sw = w; } c[19:0]; field {} d[31:30]; field ",
+        more,
+        "; } r; };",
+    ]
+    .concat(alloc)?;
+    listed(alloc, &text)
 }
 
-const BESIDE_SHARED_BITS: [(&str, bool); 8] = [
-    ("{} e[29:24]", true),
-    ("{} e[32:32]", true),
-    ("{ sw = r; } e[7:0]", true),
-    ("{ sw = w; } e[23:20]", true),
-    ("{} e[2:2]", false),
-    ("{ sw = r; } e[15:11]", false),
-    ("{ sw = w; } e[24:19]", false),
-    ("{} e[39:31]", false),
+// What is listed of the four.
+const SHARED_BITS: &str = "0x0 addrmap top size 0x8
+0x0 reg top.r size 0x8
+[23:16] field top.r.a
+[11:8] field top.r.b
+[19:0] field top.r.c
+[31:30] field top.r.d
+";
+
+// One more field, and what is listed of it, or its fault.
+const BESIDE_SHARED_BITS: [(&str, &str); 8] = [
+    ("{} e[29:24]", "[29:24] field top.r.e\n"),
+    ("{} e[32:32]", "[32:32] field top.r.e\n"),
+    ("{ sw = r; } e[7:0]", "[7:0] field top.r.e\n"),
+    ("{ sw = w; } e[23:20]", "[23:20] field top.r.e\n"),
+    ("{} e[2:2]", "E22 at 0.0.5"),
+    ("{ sw = r; } e[15:11]", "E22 at 0.0.5"),
+    ("{ sw = w; } e[24:19]", "E22 at 0.0.5"),
+    ("{} e[39:31]", "E22 at 0.0.5"),
 ];
+
+/// What is listed of the field beside the four, or the fault.
+fn behind_shared_bits(list: &str) -> &str {
+    list.strip_prefix(SHARED_BITS).unwrap_or(list)
+}
 
 #[test]
 fn judges_fields_beside_shared_bits(rt: HostRuntime) -> Result<(), Fail> {
-    for (more, is_taken) in BESIDE_SHARED_BITS {
-        let text = sharing(rt.alloc(), more)?;
-        if is_taken {
-            assert_eq!(rt;
-                elaborated(rt.alloc(), text.as_str())?.len(),
-                7,
-                "at {more}"
-            );
-        } else {
-            let (kind, address) = fault(rt.alloc(), text.as_str())?;
-            assert_eq!(rt; kind, FaultKind::FieldOverlap, "at {more}");
-            assert_eq!(rt; address.as_str(), "0.0.5", "at {more}");
-        }
+    for (more, want) in BESIDE_SHARED_BITS.iter() {
+        let list = sharing(rt.alloc(), more)?;
+        assert!(rt; behind_shared_bits(&list) == *want, "at {more}");
     }
     Ok(())
 }

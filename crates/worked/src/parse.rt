@@ -1,44 +1,43 @@
 //! What texts spell, where their items stand, and why they are refused.
+ghost use Rattle.std.specs.Prelude.{◌≤◌, IfOk};
+ghost use Rattle.rdl_tree.specs.Depth.{depth};
+
 use rdl_parse::parse::{parse, parse_item};
+use rdl_parse::places::Places;
 use rdl_text::place;
 use rdl_tree::address::Address;
 use rdl_tree::description::{Description, Item, Of};
 use rdl_tree::shell::Outside;
 use rdl_tree::value::{Value, Word};
-use std::alloc::Global;
+use std::alloc::{AllocError, Global};
 use std::test::Fail;
 
-/// The number of the fault of a text, and its column.
-fn refusal(alloc: Global, text: &str) -> Result<(u8, usize), Fail> {
-    let fault = parse(alloc, text).err().ok_or("accepted")?;
-    Ok((fault.number(), place(text, fault.offset).1))
+/// The description that a text spells.
+pub(crate) fn description(alloc: Global, text: &str) -> Result<Description, &'static str>
+    ensures { IfOk result (λ d. depth d.items ≤ 16) }
+{
+    match parse(alloc, text) {
+        Ok((description, _)) => Ok(description),
+        Err(_) => Err("spells nothing"),
+    }
 }
 
-/// A text a number of times, between two others.
-fn repeated(
-    alloc: Global,
-    first: &str,
-    text: &str,
-    count: usize,
-    last: &str,
-) -> Result<String, Fail> {
-    let mut whole = String::from_str(alloc, first)?;
-    for _ in 0..count {
-        whole.push_str(text)?;
+/// The number of the fault of a text, and its column; zeros without a fault.
+fn fault(alloc: Global, text: &str) -> (u8, usize) {
+    match parse(alloc, text) {
+        Ok(_) => (0, 0),
+        Err(fault) => (fault.number(), place(text, fault.offset).1),
     }
-    whole.push_str(last)?;
-    Ok(whole)
 }
 
-/// The places of the items of the root body.
-fn root_places(alloc: Global, text: &str) -> Result<Vec<(usize, usize)>, Fail> {
-    let (description, places) = parse(alloc, text).ok().ok_or("spelled")?;
-    let mut found = Vec::new(alloc);
-    for number in 0..description.items.len() {
-        let address = Address::new().inside(number);
-        found.push(places.at(&address).ok_or("a place")?)?;
+/// Whether these are the places of the first items of the root body.
+fn are_places(places: &Places<'_>, wanted: &[(usize, usize)]) -> bool {
+    for (number, place) in wanted.iter().enumerate() {
+        if places.at(&Address::new().inside(number)) != Some(*place) {
+            return false;
+        }
     }
-    Ok(found)
+    true
 }
 
 const FORMS: &str = "reg A { sw = rw; };
@@ -66,42 +65,44 @@ const FORMS_AT: [(usize, usize); 12] = [
 ];
 
 #[test]
-fn each_form_has_its_place(rt: HostRuntime) -> Result<(), Fail> {
-    let alloc = rt.alloc();
-    let found = root_places(alloc, FORMS)?;
-    assert_eq!(rt; found.as_slice(), FORMS_AT.as_slice());
-    Ok(())
+fn each_form_has_its_place(rt: HostRuntime) {
+    match parse(rt.alloc(), FORMS) {
+        Ok((description, places)) => {
+            assert!(rt; description.items.len() == FORMS_AT.len() && are_places(&places, &FORMS_AT))
+        }
+        Err(_) => assert!(rt; false),
+    }
 }
 
-/// The item of a number in the root body.
-fn item(description: &Description, number: usize) -> Result<&Item, Fail> {
-    Ok(description.items.item(number).ok_or("an item")?)
+fn is_internal_with_parts(item: Option<&Item>) -> bool {
+    match item {
+        Some(Item::Instance(shell, Of::Anonymous(_))) => {
+            shell.outside == Outside::Internal && shell.stride == Some(4) && shell.align == Some(2)
+        }
+        _ => false,
+    }
+}
+
+fn is_default_word(item: Option<&Item>) -> bool {
+    match item {
+        Some(Item::Default(_, value)) => matches!(value, Value::Word(Word::R)),
+        _ => false,
+    }
+}
+
+fn is_dynamic_true(item: Option<&Item>) -> bool {
+    match item {
+        Some(Item::Dynamic(_, _, value)) => matches!(value, Value::Bool(true)),
+        _ => false,
+    }
 }
 
 #[test]
 fn parts_are_read(rt: HostRuntime) -> Result<(), Fail> {
-    let alloc = rt.alloc();
-    let (description, _) = parse(alloc, FORMS).ok().ok_or("spelled")?;
-    let Item::Instance(shell, Of::Anonymous(_)) = item(&description, 4)? else {
-        return Err(Fail::from("anonymous"));
-    };
-    assert!(rt;
-        matches!(shell.outside, Outside::Internal)
-            && shell.stride == Some(4)
-            && shell.align == Some(2)
-    );
-    assert!(rt;
-        matches!(
-            item(&description, 8)?,
-            Item::Default(_, Value::Word(Word::R))
-        )
-    );
-    assert!(rt;
-        matches!(
-            item(&description, 11)?,
-            Item::Dynamic(_, _, Value::Bool(true))
-        )
-    );
+    let description = description(rt.alloc(), FORMS)?;
+    assert!(rt; is_internal_with_parts(description.items.item(4)));
+    assert!(rt; is_default_word(description.items.item(8)));
+    assert!(rt; is_dynamic_true(description.items.item(11)));
     Ok(())
 }
 
@@ -125,12 +126,13 @@ const REFUSED: [(&str, u8, usize); 16] = [
 ];
 
 #[test]
-fn faults_have_their_places(rt: HostRuntime) -> Result<(), Fail> {
-    let alloc = rt.alloc();
-    for (text, number, column) in REFUSED {
-        assert_eq!(rt; refusal(alloc, text)?, (number, column));
+fn faults_have_their_places(rt: HostRuntime) {
+    for (text, number, column) in REFUSED.iter() {
+        assert!(rt;
+            fault(rt.alloc(), text) == (*number, *column),
+            "the fault of {text}"
+        );
     }
-    Ok(())
 }
 
 const ACCEPTED: [&str; 10] = [
@@ -147,83 +149,66 @@ const ACCEPTED: [&str; 10] = [
 ];
 
 #[test]
-fn texts_of_the_language_are_accepted(rt: HostRuntime) -> Result<(), Fail> {
-    let alloc = rt.alloc();
-    for text in ACCEPTED {
-        assert!(rt; parse(alloc, text).is_ok());
+fn texts_of_the_language_are_accepted(rt: HostRuntime) {
+    for text in ACCEPTED.iter() {
+        assert!(rt; fault(rt.alloc(), text) == (0, 0), "the fault of {text}");
     }
-    Ok(())
+}
+
+/// A text a number of times, between two others.
+pub(crate) fn repeated(
+    alloc: Global,
+    first: &str,
+    text: &str,
+    count: usize,
+    last: &str,
+) -> Result<String, AllocError> {
+    let mut whole = String::from_str(alloc, first)?;
+    for _ in 0..count {
+        whole.push_str(text)?;
+    }
+    whole.push_str(last)?;
+    Ok(whole)
 }
 
 #[test]
 fn sixteen_levels_are_accepted(rt: HostRuntime) -> Result<(), Fail> {
-    let alloc = rt.alloc();
-    let sixteen = repeated(alloc, "", "addrmap a{", 16, "")?;
-    let closed = repeated(alloc, sixteen.as_str(), "};", 16, "")?;
-    assert!(rt; parse(alloc, closed.as_str()).is_ok());
-    let seventeen = repeated(alloc, "", "addrmap a{", 17, "")?;
-    assert_eq!(rt; refusal(alloc, seventeen.as_str())?, (11, 170));
+    let sixteen = "addrmap a{".repeat(rt.alloc(), 16)?;
+    let closed = repeated(rt.alloc(), &sixteen, "};", 16, "")?;
+    assert!(rt; fault(rt.alloc(), &closed) == (0, 0));
+    let seventeen = "addrmap a{".repeat(rt.alloc(), 17)?;
+    assert!(rt; fault(rt.alloc(), &seventeen) == (11, 170));
     Ok(())
 }
 
 #[test]
 fn a_description_has_65536_items_at_most(rt: HostRuntime) -> Result<(), Fail> {
-    let alloc = rt.alloc();
-    let full = repeated(alloc, "", "a;", 65_536, "")?;
-    assert!(rt; parse(alloc, full.as_str()).is_ok());
-    let fuller = repeated(alloc, full.as_str(), "b;", 1, "c")?;
-    assert_eq!(rt; refusal(alloc, fuller.as_str())?, (12, 131_074));
+    let full = "a;".repeat(rt.alloc(), 65_536)?;
+    assert!(rt; fault(rt.alloc(), &full) == (0, 0));
+    let fuller = repeated(rt.alloc(), &full, "b;", 1, "c")?;
+    assert!(rt; fault(rt.alloc(), &fuller) == (12, 131_074));
     Ok(())
 }
 
 #[test]
 fn copies_past_the_limit_are_not_made(rt: HostRuntime) -> Result<(), Fail> {
-    let alloc = rt.alloc();
-    let body = repeated(alloc, "reg {", "a;", 10_000, "} x")?;
-    let text = repeated(alloc, body.as_str(), ",x", 100_000, ";")?;
-    assert_eq!(rt; refusal(alloc, text.as_str())?, (12, text.len()));
+    let body = repeated(rt.alloc(), "reg {", "a;", 10_000, "} x")?;
+    let text = repeated(rt.alloc(), &body, ",x", 100_000, ";")?;
+    assert!(rt; fault(rt.alloc(), &text) == (12, text.len()));
     Ok(())
+}
+
+/// How many items one statement is, or its fault with its place.
+fn items(alloc: Global, text: &str) -> Result<usize, (u8, usize)> {
+    match parse_item(alloc, text) {
+        Ok(items) => Ok(items.len()),
+        Err(fault) => Err((fault.number(), fault.offset)),
+    }
 }
 
 #[test]
-fn one_statement_is_an_item(rt: HostRuntime) -> Result<(), Fail> {
-    let alloc = rt.alloc();
-    assert_eq!(rt;
-        parse_item(alloc, "reg { field {} f; } a, b;")
-            .ok()
-            .ok_or("spelled")?
-            .len(),
-        2
-    );
-    assert!(rt;
-        matches!(parse_item(alloc, "T a; T b;"), Err(fault) if fault.number() == 9 && fault.offset == 5)
-    );
-    assert!(rt;
-        matches!(parse_item(alloc, " // none"), Err(fault) if fault.number() == 10 && fault.offset == 8)
-    );
-    Ok(())
-}
-
-/// How a value prints itself for debugging, which shows all of it.
-fn shown(alloc: Global, item: &Item) -> Result<String, Fail> {
-    Ok(format!(in alloc; "{item:?}")?)
-}
-
-// A map with one type that three instances share.
-const SHARED_TYPE: &str =
-    "reg T { field {} e; field {} f; }; addrmap top { T u; T v; u.f->reset = 1; T w; v.f->reset = 0; v.e->sw = r; };";
-
-#[test]
-fn copies_equal_what_is_read(rt: HostRuntime) -> Result<(), Fail> {
-    let alloc = rt.alloc();
-    let (description, _) = parse(alloc, SHARED_TYPE).ok().ok_or("spelled")?;
-    let copy = description.try_copy(alloc)?;
-    assert_eq!(rt;
-        format!(in alloc; "{copy:?}")?,
-        format!(in alloc; "{description:?}")?
-    );
-    let top = item(&description, 1)?;
-    let copied = top.try_copy(alloc)?;
-    assert_eq!(rt; shown(alloc, &copied)?, shown(alloc, top)?);
-    Ok(())
+fn one_statement_is_an_item(rt: HostRuntime) {
+    assert!(rt; items(rt.alloc(), "reg { field {} f; } a, b;") == Ok(2));
+    assert!(rt; items(rt.alloc(), "T a; T b;") == Err((9, 5)));
+    assert!(rt; items(rt.alloc(), " // none") == Err((10, 8)));
 }

@@ -1,5 +1,6 @@
 //! Types, targets, values and the first fault of items, of small descriptions.
-use rdl_parse::parse::parse;
+use crate::parse::description;
+use crate::tree::address;
 use rdl_scope::faults::check;
 use rdl_scope::targets::{passes, through};
 use rdl_scope::types::type_of;
@@ -8,13 +9,8 @@ use rdl_text::name::Name;
 use rdl_tree::address::Address;
 use rdl_tree::description::Description;
 use rdl_tree::value::Value;
-use std::alloc::Global;
+use std::alloc::{AllocError, Global};
 use std::test::Fail;
-
-fn description(alloc: Global, text: &str) -> Result<Description, Fail> {
-    let (description, _) = parse(alloc, text).ok().ok_or("spelled")?;
-    Ok(description)
-}
 
 // The names between dots.
 fn names(alloc: Global, text: &str) -> Result<Vec<Name>, Fail> {
@@ -25,38 +21,18 @@ fn names(alloc: Global, text: &str) -> Result<Vec<Name>, Fail> {
     Ok(names)
 }
 
-fn address(numbers: &[usize]) -> Address {
-    let mut address = Address::new();
-    for number in numbers {
-        if address.len() < Address::MAX_LEN {
-            address.push(*number);
-        }
-    }
-    address
-}
-
-// The instances, one behind another.
-fn shown_path(alloc: Global, path: &[Address]) -> Result<String, Fail> {
-    let mut printed = String::new(alloc);
-    for instance in path {
-        write!(printed, "{instance} ")?;
-    }
-    Ok(printed)
-}
-
 // The number of the first fault and the address of its item, as in `E2 at 0.0`.
-fn verdict(alloc: Global, description: &Description) -> Result<String, Fail> {
-    match check(alloc, description) {
+fn verdict(alloc: Global, text: &str) -> Result<String, Fail> {
+    match check(alloc, &description(alloc, text)?) {
         Ok(()) => Ok(String::from_str(alloc, "none")?),
-        Err(fault) => {
-            let number = fault.kind.number();
-            let address = fault.address;
-            Ok(format!(in alloc; "E{number} at {address}")?)
-        }
+        Err(fault) => Ok(format!(in alloc; "E{} at {}", fault.kind.number(), fault.address)?),
     }
 }
 
-const VERDICTS: [(&str, &str); 12] = [
+const TWO_TARGETS: &str =
+    "reg T { field {} e; field {} f; }; addrmap top { T u; T v; u.f->reset = 1; T w; v.f->reset = 0; };";
+
+const VERDICTS: [(&str, &str); 13] = [
     ("reg A {}; field A {};", "E1 at 1"),
     ("addrmap top { T u; }; reg T {};", "E2 at 0.0"),
     ("addrmap top { field {} f; };", "E3 at 0.0"),
@@ -69,83 +45,102 @@ const VERDICTS: [(&str, &str); 12] = [
     ("reg top { field {} f; f->fieldwidth = 2; };", "E10 at 0.1"),
     ("reg top { field {} a @ 4; };", "E11 at 0.0"),
     ("addrmap top { reg {} a[0]; };", "E12 at 0.0"),
+    (TWO_TARGETS, "none"),
 ];
 
 #[test]
 fn judges_each_fault(rt: HostRuntime) -> Result<(), Fail> {
     for (text, wanted) in VERDICTS.iter() {
-        let description = description(rt.alloc(), text)?;
-        let found = verdict(rt.alloc(), &description)?;
-        assert_eq!(rt; found.as_str(), *wanted);
+        assert_eq!(rt; verdict(rt.alloc(), text)?.as_str(), *wanted);
     }
     Ok(())
 }
 
-const TWO_TARGETS: &str =
-    "reg T { field {} e; field {} f; }; addrmap top { T u; T v; u.f->reset = 1; T w; v.f->reset = 0; };";
+const SHADOWED: &str =
+    "reg T {}; addrmap top { regfile { T u; reg T {}; T v; } g; default regwidth = 8; };";
+
+// A text, an instance's address, and the address of the definition of its type.
+const TYPES: [(&str, &[usize], &[usize]); 3] = [
+    (TWO_TARGETS, &[1, 0], &[0]),
+    (SHADOWED, &[1, 0, 0], &[0]),
+    (SHADOWED, &[1, 0, 2], &[1, 0, 1]),
+];
+
+fn has_type(description: &Description, instance: &[usize], definition: &[usize]) -> bool {
+    match type_of(description, &address(instance)) {
+        Some(found) => found.as_slice() == definition,
+        None => false,
+    }
+}
 
 #[test]
-fn finds_types_and_targets(rt: HostRuntime) -> Result<(), Fail> {
-    let alloc = rt.alloc();
-    let description = description(alloc, TWO_TARGETS)?;
-    assert_eq!(rt; verdict(alloc, &description)?.as_str(), "none");
-    assert!(rt; description.items.depth() <= 16);
-    let of = type_of(&description, &address(&[1, 0])).ok_or("no type")?;
-    assert_eq!(rt; of.to_string(alloc)?.as_str(), "0");
-    let passed = through(alloc, &description, &address(&[1, 2]))?.ok_or("no target")?;
-    assert_eq!(rt; shown_path(alloc, passed.as_slice())?.as_str(), "1.0 0.1 ");
-    let target = names(alloc, "v.f")?;
+fn finds_types_from_their_definitions_on(rt: HostRuntime) -> Result<(), Fail> {
+    for (text, instance, definition) in TYPES.iter() {
+        let description = description(rt.alloc(), text)?;
+        assert!(rt; has_type(&description, instance, definition), "in {text}");
+    }
+    Ok(())
+}
+
+// Whether these instances are passed.
+fn is_path(passed: &Option<Vec<Address>>, wanted: &[&[usize]]) -> bool {
+    let Some(path) = passed else {
+        return false;
+    };
+    path.len() == wanted.len()
+        && path
+            .iter()
+            .zip(wanted)
+            .all(|(address, numbers)| address.as_slice() == *numbers)
+}
+
+#[test]
+fn finds_targets(rt: HostRuntime) -> Result<(), Fail> {
+    let description = description(rt.alloc(), TWO_TARGETS)?;
+    let passed = through(rt.alloc(), &description, &address(&[1, 2]))?;
+    assert!(rt; is_path(&passed, &[&[1, 0], &[0, 1]]));
+    Ok(())
+}
+
+#[test]
+fn passes_the_instances_before(rt: HostRuntime) -> Result<(), Fail> {
+    let description = description(rt.alloc(), TWO_TARGETS)?;
+    let target = names(rt.alloc(), "v.f")?;
     let top = address(&[1]);
-    assert!(rt; passes(alloc, &description, &top, 1, target.as_slice())?.is_none());
-    let passed = passes(alloc, &description, &top, 2, target.as_slice())?.ok_or("no target")?;
-    assert_eq!(rt; shown_path(alloc, passed.as_slice())?.as_str(), "1.1 0.1 ");
+    let before = passes(rt.alloc(), &description, &top, 1, target.as_slice())?;
+    assert!(rt; before.is_none());
+    let behind = passes(rt.alloc(), &description, &top, 2, target.as_slice())?;
+    assert!(rt; is_path(&behind, &[&[1, 1], &[0, 1]]));
     Ok(())
 }
 
 // The value, as a number or the bytes of a string.
-fn shown(
+fn shown(alloc: Global, value: Option<Value>) -> Result<String, AllocError> {
+    match value {
+        Some(Value::Number(number)) => number.to_string(alloc),
+        Some(Value::Text(text)) => String::from_str(alloc, text.as_str()),
+        Some(_) => String::from_str(alloc, "another"),
+        None => String::from_str(alloc, "none"),
+    }
+}
+
+fn value_of(
     alloc: Global,
-    description: &Description,
+    text: &str,
     top: usize,
     path: &str,
     property: &str,
 ) -> Result<String, Fail> {
-    if description.items.depth() > 16 {
-        return Ok(String::from_str(alloc, "too deep")?);
-    }
+    let description = description(alloc, text)?;
     let path = names(alloc, path)?;
-    let top = address(&[top]);
-    match value(alloc, description, &top, path.as_slice(), property)? {
-        Some(Value::Number(number)) => Ok(format!(in alloc; "{number}")?),
-        Some(Value::Text(text)) => Ok(String::from_str(alloc, text.as_str())?),
-        Some(_) => Ok(String::from_str(alloc, "another")?),
-        None => Ok(String::from_str(alloc, "none")?),
-    }
-}
-
-const RESETS: [(&str, &str); 3] = [
-    (
-        "addrmap top { regfile { reg { field {} f[8] = 1; } q; q.f->reset = 2; } g; g.q.f->reset = 3; };",
-        "3",
-    ),
-    (
-        "addrmap top { regfile { reg { field {} f[8] = 1; } q; q.f->reset = 2; } g; };",
-        "2",
-    ),
-    (
-        "addrmap top { regfile { reg { field {} f[8] = 1; } q; } g; };",
-        "1",
-    ),
-];
-
-#[test]
-fn takes_the_outermost_assignment(rt: HostRuntime) -> Result<(), Fail> {
-    for (text, wanted) in RESETS.iter() {
-        let description = description(rt.alloc(), text)?;
-        let found = shown(rt.alloc(), &description, 0, "g.q.f", "reset")?;
-        assert_eq!(rt; found.as_str(), *wanted);
-    }
-    Ok(())
+    let found = value(
+        alloc,
+        &description,
+        &address(&[top]),
+        path.as_slice(),
+        property,
+    )?;
+    Ok(shown(alloc, found)?)
 }
 
 const WITH_NAMES: &str = "field A { name = \"outer\"; };
@@ -154,37 +149,44 @@ addrmap top {
     reg { default name = \"near\"; A a; B b; field {} c; field { name = \"own\"; } d; } x;
 };";
 
-const NAMES: [(&str, &str); 5] = [
-    ("x.a", "outer"),
-    ("x.b", "none"),
-    ("x.c", "near"),
-    ("x.d", "own"),
-    ("x", "none"),
+// A text, the number of its top, a path below it, a property, and its value.
+const VALUES: [(&str, usize, &str, &str, &str); 9] = [
+    // the outermost assignment
+    (
+        "addrmap top { regfile { reg { field {} f[8] = 1; } q; q.f->reset = 2; } g; g.q.f->reset = 3; };",
+        0,
+        "g.q.f",
+        "reset",
+        "3",
+    ),
+    (
+        "addrmap top { regfile { reg { field {} f[8] = 1; } q; q.f->reset = 2; } g; };",
+        0,
+        "g.q.f",
+        "reset",
+        "2",
+    ),
+    (
+        "addrmap top { regfile { reg { field {} f[8] = 1; } q; } g; };",
+        0,
+        "g.q.f",
+        "reset",
+        "1",
+    ),
+    // how far defaults reach
+    (WITH_NAMES, 2, "x.a", "name", "outer"),
+    (WITH_NAMES, 2, "x.b", "name", "none"),
+    (WITH_NAMES, 2, "x.c", "name", "near"),
+    (WITH_NAMES, 2, "x.d", "name", "own"),
+    (WITH_NAMES, 2, "x", "name", "none"),
+    (SHADOWED, 1, "g.v", "regwidth", "32"),
 ];
 
 #[test]
-fn reaches_by_defaults(rt: HostRuntime) -> Result<(), Fail> {
-    let description = description(rt.alloc(), WITH_NAMES)?;
-    for (path, wanted) in NAMES.iter() {
-        let found = shown(rt.alloc(), &description, 2, *path, "name")?;
-        assert_eq!(rt; found.as_str(), *wanted);
+fn takes_the_outermost_assignment_or_the_nearest_default(rt: HostRuntime) -> Result<(), Fail> {
+    for (text, top, path, property, wanted) in VALUES.iter() {
+        let found = value_of(rt.alloc(), text, *top, path, property)?;
+        assert_eq!(rt; found.as_str(), *wanted, "of {path} in {text}");
     }
-    Ok(())
-}
-
-const SHADOWED: &str =
-    "reg T {}; addrmap top { regfile { T u; reg T {}; T v; } g; default regwidth = 8; };";
-
-#[test]
-fn shadows_from_a_definition_on(rt: HostRuntime) -> Result<(), Fail> {
-    let description = description(rt.alloc(), SHADOWED)?;
-    let outer = type_of(&description, &address(&[1, 0, 0])).ok_or("no type")?;
-    assert_eq!(rt; outer.to_string(rt.alloc())?.as_str(), "0");
-    let inner = type_of(&description, &address(&[1, 0, 2])).ok_or("no type")?;
-    assert_eq!(rt; inner.to_string(rt.alloc())?.as_str(), "1.0.1");
-    assert_eq!(rt;
-        shown(rt.alloc(), &description, 1, "g.v", "regwidth")?.as_str(),
-        "32"
-    );
     Ok(())
 }

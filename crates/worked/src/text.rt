@@ -5,42 +5,29 @@ use rdl_text::name::{Name, NameFault};
 use rdl_text::raw::Raw;
 use rdl_text::token::{Mark, TokenKind};
 use rdl_text::{place, tokens};
-use std::alloc::{AllocError, Global};
-use std::process::Abort;
+use std::alloc::Global;
 use std::test::Fail;
 
-/// Checks a word and its place.
-fn is_word(
-    rt: &impl Abort,
-    words: &Tokens<'_>,
-    index: usize,
-    kind: TokenKind,
-    start: usize,
-    source: &str,
-) {
-    let Some(word) = words.get(index) else {
-        assert!(rt; false, "no word {index}");
-        return;
-    };
-    assert_eq!(rt; word.kind(), kind, "the kind of word {index}");
-    assert_eq!(rt; word.start(), start, "the place of word {index}");
-    assert!(rt; word.source() == source, "the spelling of word {index}");
+/// A word: its kind, where it begins, and its spelling.
+type Word<'a> = (TokenKind, usize, &'a str);
+
+fn is_word(words: &Tokens<'_>, index: usize, wanted: &Word<'_>) -> bool {
+    let (kind, start, source) = wanted;
+    match words.get(index) {
+        Some(word) => word.kind() == *kind && word.start() == *start && word.source() == *source,
+        None => false,
+    }
 }
 
-/// The one word of a text, if it has one that is all of it.
-fn only_kind(alloc: Global, text: &str) -> Result<Option<TokenKind>, TextFault> {
+/// Whether these are the words of a text.
+fn are_words(alloc: Global, text: &str, wanted: &[Word<'_>]) -> Result<bool, TextFault> {
     let words = tokens(alloc, text)?;
-    if words.len() != 1 {
-        return Ok(None);
+    for (index, word) in wanted.iter().enumerate() {
+        if !is_word(&words, index, word) {
+            return Ok(false);
+        }
     }
-    let Some(word) = words.get(0) else {
-        return Ok(None)
-    };
-    Ok(if word.source() == text {
-        Some(word.kind())
-    } else {
-        None
-    })
+    Ok(words.len() == wanted.len())
 }
 
 /// The number of a text's fault and its place, or zeros.
@@ -51,29 +38,67 @@ fn fault(alloc: Global, text: &str) -> (u8, usize) {
     }
 }
 
-fn letters(alloc: Global, count: usize) -> Result<String, AllocError> {
-    let mut text = String::new(alloc);
-    for _ in 0..count {
-        text.push('a')?;
-    }
-    Ok(text)
-}
+const TEXTS: [(&str, &[Word<'_>]); 6] = [
+    // identifiers
+    (
+        "a _ aZ_09 reg",
+        &[
+            (TokenKind::Identifier, 0, "a"),
+            (TokenKind::Identifier, 2, "_"),
+            (TokenKind::Identifier, 4, "aZ_09"),
+            (TokenKind::Identifier, 10, "reg"),
+        ],
+    ),
+    // numbers that break off
+    (
+        "0x 0b1",
+        &[
+            (TokenKind::Number(0), 0, "0"),
+            (TokenKind::Identifier, 1, "x"),
+            (TokenKind::Number(0), 3, "0"),
+            (TokenKind::Identifier, 4, "b1"),
+        ],
+    ),
+    // marks
+    (
+        "{}[]:;,.=@+=%=->",
+        &[
+            (TokenKind::Mark(Mark::OpenBrace), 0, "{"),
+            (TokenKind::Mark(Mark::CloseBrace), 1, "}"),
+            (TokenKind::Mark(Mark::OpenBracket), 2, "["),
+            (TokenKind::Mark(Mark::CloseBracket), 3, "]"),
+            (TokenKind::Mark(Mark::Colon), 4, ":"),
+            (TokenKind::Mark(Mark::Semicolon), 5, ";"),
+            (TokenKind::Mark(Mark::Comma), 6, ","),
+            (TokenKind::Mark(Mark::Dot), 7, "."),
+            (TokenKind::Mark(Mark::Equals), 8, "="),
+            (TokenKind::Mark(Mark::At), 9, "@"),
+            (TokenKind::Mark(Mark::PlusEquals), 10, "+="),
+            (TokenKind::Mark(Mark::PercentEquals), 12, "%="),
+            (TokenKind::Mark(Mark::Arrow), 14, "->"),
+        ],
+    ),
+    // blanks and comments
+    (
+        " \t\n\u{B}\u{C}\ra//é;\n;/* * / // */b/**/c// d",
+        &[
+            (TokenKind::Identifier, 6, "a"),
+            (TokenKind::Mark(Mark::Semicolon), 13, ";"),
+            (TokenKind::Identifier, 26, "b"),
+            (TokenKind::Identifier, 31, "c"),
+        ],
+    ),
+    // no word
+    ("", &[]),
+    // a comment up to the end
+    ("//", &[]),
+];
 
 #[test]
-fn identifiers(rt: HostRuntime) -> Result<(), Fail> {
-    let words = tokens(rt.alloc(), "a _ aZ_09 reg")?;
-    assert_eq!(rt; words.len(), 4);
-    is_word(&rt, &words, 0, TokenKind::Identifier, 0, "a");
-    is_word(&rt, &words, 1, TokenKind::Identifier, 2, "_");
-    is_word(&rt, &words, 2, TokenKind::Identifier, 4, "aZ_09");
-    is_word(&rt, &words, 3, TokenKind::Identifier, 10, "reg");
-    let longest = letters(rt.alloc(), 255)?;
-    assert_eq!(rt;
-        only_kind(rt.alloc(), &longest)?,
-        Some(TokenKind::Identifier)
-    );
-    let longer = letters(rt.alloc(), 256)?;
-    assert_eq!(rt; fault(rt.alloc(), &longer), (7, 0));
+fn texts_have_their_words(rt: HostRuntime) -> Result<(), Fail> {
+    for (text, words) in TEXTS.iter() {
+        assert!(rt; are_words(rt.alloc(), text, words)?, "the words of {text}");
+    }
     Ok(())
 }
 
@@ -103,12 +128,20 @@ fn one_word() -> &'static [(&'static str, TokenKind)] {
 #[test]
 fn numbers_and_strings(rt: HostRuntime) -> Result<(), Fail> {
     for (text, kind) in one_word() {
-        assert_eq!(rt;
-            only_kind(rt.alloc(), text)?,
-            Some(*kind),
+        assert!(rt;
+            are_words(rt.alloc(), text, &[(*kind, 0, text)])?,
             "the kind of {text}"
         );
     }
+    Ok(())
+}
+
+#[test]
+fn identifiers_have_255_letters_at_most(rt: HostRuntime) -> Result<(), Fail> {
+    let longer = "a".repeat(rt.alloc(), 256)?;
+    let longest = &longer[..255];
+    assert!(rt; are_words(rt.alloc(), longest, &[(TokenKind::Identifier, 0, longest)])?);
+    assert!(rt; fault(rt.alloc(), &longer) == (7, 0));
     Ok(())
 }
 
@@ -147,134 +180,111 @@ fn faults() -> &'static [(&'static str, u8, usize)] {
 #[test]
 fn faults_have_their_places(rt: HostRuntime) {
     for (text, number, offset) in faults() {
-        assert_eq!(rt;
-            fault(rt.alloc(), text),
-            (*number, *offset),
+        assert!(rt;
+            fault(rt.alloc(), text) == (*number, *offset),
             "the fault of {text}"
         );
     }
 }
 
-#[test]
-fn numbers_that_break_off(rt: HostRuntime) -> Result<(), Fail> {
-    let words = tokens(rt.alloc(), "0x 0b1")?;
-    assert_eq!(rt; words.len(), 4);
-    is_word(&rt, &words, 0, TokenKind::Number(0), 0, "0");
-    is_word(&rt, &words, 1, TokenKind::Identifier, 1, "x");
-    is_word(&rt, &words, 2, TokenKind::Number(0), 3, "0");
-    is_word(&rt, &words, 3, TokenKind::Identifier, 4, "b1");
-    Ok(())
+/// What stands inside the quotes of a word.
+fn inside<'a>(words: &Tokens<'a>, index: usize) -> Option<&'a str> {
+    words.get(index)?.raw()
 }
 
 #[test]
-fn strings(rt: HostRuntime) -> Result<(), Fail> {
+fn strings_alone_have_an_inside(rt: HostRuntime) -> Result<(), Fail> {
     let words = tokens(rt.alloc(), "x=\"a\\\"é\";")?;
-    is_word(&rt, &words, 2, TokenKind::Text, 2, "\"a\\\"é\"");
-    let inside = words.get(2).and_then(|word| word.raw());
-    assert!(rt; inside == Some("a\\\"é"), "without the quotes");
-    assert!(rt;
-        words.get(1).and_then(|word| word.raw()) == None,
-        "only strings have an inside"
-    );
+    assert!(rt; is_word(&words, 2, &(TokenKind::Text, 2, "\"a\\\"é\"")));
+    assert!(rt; inside(&words, 2) == Some("a\\\"é"), "without the quotes");
+    assert!(rt; inside(&words, 1) == None);
     Ok(())
 }
 
-const MARKS: [(usize, Mark, usize, &str); 13] = [
-    (0, Mark::OpenBrace, 0, "{"),
-    (1, Mark::CloseBrace, 1, "}"),
-    (2, Mark::OpenBracket, 2, "["),
-    (3, Mark::CloseBracket, 3, "]"),
-    (4, Mark::Colon, 4, ":"),
-    (5, Mark::Semicolon, 5, ";"),
-    (6, Mark::Comma, 6, ","),
-    (7, Mark::Dot, 7, "."),
-    (8, Mark::Equals, 8, "="),
-    (9, Mark::At, 9, "@"),
-    (10, Mark::PlusEquals, 10, "+="),
-    (11, Mark::PercentEquals, 12, "%="),
-    (12, Mark::Arrow, 14, "->"),
-];
-
-fn marks_in_order() -> &'static [(usize, Mark, usize, &'static str)] {
-    &MARKS
+/// Whether a name has this text and length, and its copy is equal to it.
+fn is_kept(alloc: Global, text: &str, length: usize) -> Result<bool, NameFault> {
+    let name = Name::new(alloc, text)?;
+    let copy = name.try_copy(alloc)?;
+    Ok(name == copy && name.as_str() == text && name.len() == length)
 }
 
-#[test]
-fn marks(rt: HostRuntime) -> Result<(), Fail> {
-    let words = tokens(rt.alloc(), "{}[]:;,.=@+=%=->")?;
-    assert_eq!(rt; words.len(), 13);
-    for (index, mark, start, source) in marks_in_order() {
-        is_word(&rt, &words, *index, TokenKind::Mark(*mark), *start, source);
-    }
-    Ok(())
-}
-
-#[test]
-fn blanks_and_comments(rt: HostRuntime) -> Result<(), Fail> {
-    let words = tokens(
-        rt.alloc(),
-        " \t\n\u{B}\u{C}\ra//é;\n;/* * / // */b/**/c// d",
-    )?;
-    assert_eq!(rt; words.len(), 4);
-    is_word(&rt, &words, 0, TokenKind::Identifier, 6, "a");
-    is_word(&rt, &words, 1, TokenKind::Mark(Mark::Semicolon), 13, ";");
-    is_word(&rt, &words, 2, TokenKind::Identifier, 26, "b");
-    is_word(&rt, &words, 3, TokenKind::Identifier, 31, "c");
-    assert!(rt; tokens(rt.alloc(), "")?.is_empty(), "no word in no text");
-    assert!(rt;
-        tokens(rt.alloc(), "//")?.is_empty(),
-        "a comment up to the end"
-    );
-    Ok(())
+fn are_equal(alloc: Global, left: &str, right: &str) -> Result<bool, NameFault> {
+    let left = Name::new(alloc, left)?;
+    let right = Name::new(alloc, right)?;
+    Ok(left == right)
 }
 
 #[test]
 fn names(rt: HostRuntime) -> Result<(), Fail> {
-    let name = Name::new(rt.alloc(), "a_1")?;
-    assert_eq!(rt; name.len(), 3);
-    assert!(rt; name.as_str() == "a_1", "the text");
-    assert!(rt; name == name.try_copy(rt.alloc())?, "a copy is equal");
-    assert!(rt; !(name == Name::new(rt.alloc(), "a_2")?), "another isn't");
+    assert!(rt; is_kept(rt.alloc(), "a_1", 3)?);
+    assert!(rt; !are_equal(rt.alloc(), "a_1", "a_2")?);
     assert!(rt;
-        format!(in rt.alloc(); "{name}")?.as_str() == "a_1",
-        "the printed text"
+        Name::new(rt.alloc(), "a_1")?
+            .to_string(rt.alloc())?
+            .as_str()
+            == "a_1"
     );
-    for text in ["", "1a", "a b", "é", "a-"] {
-        match Name::new(rt.alloc(), text) {
-            Ok(_) => assert!(rt; false, "no name: {text}"),
-            Err(fault) => assert_eq!(rt; fault, NameFault::NotSuch),
-        }
-    }
     Ok(())
+}
+
+const NO_NAMES: [&str; 5] = ["", "1a", "a b", "é", "a-"];
+
+#[test]
+fn no_names(rt: HostRuntime) {
+    for text in NO_NAMES.iter() {
+        assert!(rt;
+            Name::new(rt.alloc(), text).err() == Some(NameFault::NotSuch),
+            "{text}"
+        );
+    }
+}
+
+/// Whether a string has this length, and its copy is equal to it.
+fn is_kept_raw(alloc: Global, text: &str, length: usize) -> Result<bool, NameFault> {
+    let raw = Raw::new(alloc, text)?;
+    let copy = raw.try_copy(alloc)?;
+    Ok(raw == copy && raw.len() == length)
 }
 
 #[test]
 fn raw_strings(rt: HostRuntime) -> Result<(), Fail> {
-    let raw = Raw::new(rt.alloc(), "a\\\"\né")?;
-    assert_eq!(rt; raw.len(), 6);
-    assert!(rt; raw == raw.try_copy(rt.alloc())?, "a copy is equal");
-    assert!(rt;
-        format!(in rt.alloc(); "{raw}")?.as_str() == "a\\\"\né",
-        "the printed text"
-    );
-    for text in ["\"", "a\\", "\\\\\"", "\\\\\\"] {
-        match Raw::new(rt.alloc(), text) {
-            Ok(_) => assert!(rt; false, "no inside of a string: {text}"),
-            Err(fault) => assert_eq!(rt; fault, NameFault::NotSuch),
-        }
-    }
+    let text = "a\\\"\né";
+    assert!(rt; is_kept_raw(rt.alloc(), text, 6)?);
+    assert!(rt; Raw::new(rt.alloc(), text)?.to_string(rt.alloc())?.as_str() == text);
     Ok(())
+}
+
+const NO_RAW_STRINGS: [&str; 4] = ["\"", "a\\", "\\\\\"", "\\\\\\"];
+
+#[test]
+fn no_raw_strings(rt: HostRuntime) {
+    for text in NO_RAW_STRINGS.iter() {
+        assert!(rt;
+            Raw::new(rt.alloc(), text).err() == Some(NameFault::NotSuch),
+            "{text}"
+        );
+    }
+}
+
+const PLACES: [(&str, usize, (usize, usize)); 9] = [
+    ("", 0, (1, 1)),
+    ("ab", 1, (1, 2)),
+    ("a\nb", 1, (1, 2)),
+    ("a\nb", 2, (2, 1)),
+    ("é\n\nb", 4, (3, 1)),
+    ("éb", 2, (1, 3)),
+    ("a\nb", 3, (2, 2)),
+    ("a\nb", 99, (2, 2)),
+    ("a\n", 99, (2, 1)),
+];
+
+fn known_places() -> &'static [(&'static str, usize, (usize, usize))] {
+    &PLACES
 }
 
 #[test]
 fn places(rt: HostRuntime) {
-    assert_eq!(rt; place("", 0), (1, 1));
-    assert_eq!(rt; place("ab", 1), (1, 2));
-    assert_eq!(rt; place("a\nb", 1), (1, 2));
-    assert_eq!(rt; place("a\nb", 2), (2, 1));
-    assert_eq!(rt; place("é\n\nb", 4), (3, 1));
-    assert_eq!(rt; place("éb", 2), (1, 3));
-    assert_eq!(rt; place("a\nb", 3), (2, 2));
-    assert_eq!(rt; place("a\nb", 99), (2, 2));
-    assert_eq!(rt; place("a\n", 99), (2, 1));
+    for (text, offset, wanted) in known_places() {
+        assert!(rt; place(text, *offset) == *wanted, "at {offset} in {text}");
+    }
 }

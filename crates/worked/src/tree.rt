@@ -1,159 +1,111 @@
-//! Trees made by hand.
-use rdl_text::name::Name;
-use rdl_text::raw::Raw;
+//! Trees: paths, counts, weights, copies, changes of one body, the largest description, and the table of properties.
+use crate::parse::{description, repeated};
+use rdl_text::name::{Name, NameFault};
 use rdl_tree::address::Address;
-use rdl_tree::description::{Body, Component, Description, Item, Of};
-use rdl_tree::dims::Dims;
+use rdl_tree::description::{Body, Description, Item, Of};
 use rdl_tree::path::{Path, PathFault, Segment};
 use rdl_tree::properties::property;
 use rdl_tree::property::Property;
-use rdl_tree::shell::{Kind, Outside, Shell};
-use rdl_tree::target::Target;
-use rdl_tree::value::{Value, Word};
-use std::alloc::Global;
+use rdl_tree::shell::{Kind, Shell};
+use rdl_tree::value::Value;
+use std::alloc::{AllocError, Global};
+use std::fmt::Debug;
 use std::test::Fail;
 
-fn name(alloc: Global, text: &str) -> Result<Name, Fail> {
-    Ok(Name::new(alloc, text)?)
-}
+const EVERY_FORM: &str = "reg T { internal field { sw = rw1; } bits[7:4] = 5; };
+addrmap top {
+    external T all[2][3] @ 0x10 += 8 %= 4;
+    desc = \"hello\";
+    default regwidth = 16;
+    all.bits->swmod = true;
+};";
 
-fn shell(alloc: Global, text: &str) -> Result<Shell, Fail> {
-    Ok(Shell::new(alloc, name(alloc, text)?))
-}
+// A map with one type that three instances share.
+const SHARED_TYPE: &str =
+    "reg T { field {} e; field {} f; }; addrmap top { T u; T v; u.f->reset = 1; T w; v.f->reset = 0; v.e->sw = r; };";
 
-fn define(alloc: Global, text: &str, kind: Kind, body: Body) -> Result<Item, Fail> {
-    Ok(Item::Define(name(alloc, text)?, Component { kind, body }))
-}
+const ONE_NAME: &str = "reg u {}; addrmap top { regfile u {}; u x; regfile { u y; } u; u u; };";
 
-fn instance_of(alloc: Global, of: &str, text: &str) -> Result<Item, Fail> {
-    Ok(Item::Instance(shell(alloc, text)?, Of::Named(name(alloc, of)?)))
-}
-
-fn anonymous(alloc: Global, text: &str, kind: Kind, body: Body) -> Result<Item, Fail> {
-    Ok(Item::Instance(shell(alloc, text)?, Of::Anonymous(Component { kind, body })))
-}
-
-// external T all[2][3] @ 0x10 += 8 %= 4;
-fn instance_with_parts(alloc: Global) -> Result<Item, Fail> {
-    let mut shell = shell(alloc, "all")?;
-    shell.outside = Outside::External;
-    shell.dims = Dims::from_vec(vec![in alloc; 2, 3]?);
-    shell.address = Some(0x10);
-    shell.stride = Some(8);
-    shell.align = Some(4);
-    Ok(Item::Instance(shell, Of::Named(name(alloc, "T")?)))
-}
-
-// field { sw = rw1; } bits[7:4] = 5;
-fn field_with_range(alloc: Global) -> Result<Item, Fail> {
-    let mut shell = shell(alloc, "bits")?;
-    shell.outside = Outside::Internal;
-    shell.range = Some((7, 4));
-    shell.reset = Some(5);
-    let mut body = Body::new(alloc);
-    body.push(Item::Own(name(alloc, "sw")?, Value::Word(Word::Rw1)))?;
-    let component = Component {
-        kind: Kind::Field,
-        body,
-    };
-    Ok(Item::Instance(shell, Of::Anonymous(component)))
-}
-
-// desc = "hello"; default regwidth = 16; all.bits->swmod = true;
-fn push_assignments(alloc: Global, body: &mut Body) -> Result<(), Fail> {
-    let text = Raw::new(alloc, "hello")?;
-    body.push(Item::Own(name(alloc, "desc")?, Value::Text(text)))?;
-    body.push(Item::Default(name(alloc, "regwidth")?, Value::Number(16)))?;
-    let target = Target::from_vec(vec![in alloc; name(alloc, "all")?, name(alloc, "bits")?]?);
-    body.push(Item::Dynamic(target, name(alloc, "swmod")?, Value::Bool(true)))?;
-    Ok(())
-}
-
-// reg T { field .. bits .. }; addrmap top { T all ..; the assignments };
-fn every_form(alloc: Global) -> Result<Description, Fail> {
-    let mut reg = Body::new(alloc);
-    reg.push(field_with_range(alloc)?)?;
-    let mut top = Body::new(alloc);
-    top.push(instance_with_parts(alloc)?)?;
-    push_assignments(alloc, &mut top)?;
-    let mut items = Body::new(alloc);
-    items.push(define(alloc, "T", Kind::Reg, reg)?)?;
-    items.push(define(alloc, "top", Kind::Addrmap, top)?)?;
-    Ok(Description { items })
-}
-
-// reg u {}; addrmap top { regfile u {}; u x; u u; regfile { u y; } u; u u; };
-fn one_name(alloc: Global) -> Result<Description, Fail> {
-    let mut inner = Body::new(alloc);
-    inner.push(instance_of(alloc, "u", "y")?)?;
-    let mut top = Body::new(alloc);
-    top.push(define(alloc, "u", Kind::Regfile, Body::new(alloc))?)?;
-    top.push(instance_of(alloc, "u", "x")?)?;
-    top.push(anonymous(alloc, "u", Kind::Regfile, inner)?)?;
-    top.push(instance_of(alloc, "u", "u")?)?;
-    let mut items = Body::new(alloc);
-    items.push(define(alloc, "u", Kind::Reg, Body::new(alloc))?)?;
-    items.push(define(alloc, "top", Kind::Addrmap, top)?)?;
-    Ok(Description { items })
+fn segment(alloc: Global, part: &str) -> Result<Segment, NameFault> {
+    match part.strip_prefix("$") {
+        Some(rest) => Ok(Segment::Def(Name::new(alloc, rest)?)),
+        None => Ok(Segment::Inst(Name::new(alloc, part)?)),
+    }
 }
 
 // A path as it is written: `/$top/u`.
 fn path(alloc: Global, text: &str) -> Result<Path, Fail> {
     let mut path = Path::new(alloc);
     for part in text.split('/') {
-        if part.is_empty() {
-            continue;
+        if !part.is_empty() {
+            path.push(segment(alloc, part)?)?;
         }
-        let segment = match part.strip_prefix("$") {
-            Some(rest) => Segment::Def(name(alloc, rest)?),
-            None => Segment::Inst(name(alloc, part)?),
-        };
-        path.push(segment)?;
     }
     Ok(path)
 }
 
-#[test]
-fn prints_addresses(rt: HostRuntime) -> Result<(), Fail> {
-    let address = Address::new().inside(0).inside(3).inside(1);
-    assert_eq!(rt; address.to_string(rt.alloc())?.as_str(), "0.3.1");
-    Ok(())
+/// The address of these numbers, as far as there is one.
+pub(crate) fn address(numbers: &[usize]) -> Address {
+    let mut address = Address::new();
+    for number in numbers {
+        if address.len() < Address::MAX_LEN {
+            address.push(*number);
+        }
+    }
+    address
 }
 
 #[test]
+fn prints_addresses(rt: HostRuntime) -> Result<(), Fail> {
+    assert!(rt; address(&[0, 3, 1]).to_string(rt.alloc())?.as_str() == "0.3.1");
+    Ok(())
+}
+
+fn leads_to(map: &Description, path: &Path, address: &[usize]) -> bool {
+    match map.find(path) {
+        Ok(found) => found.as_slice() == address,
+        Err(_) => false,
+    }
+}
+
+const FOUND: [(&str, &[usize]); 7] = [
+    ("/", &[]),
+    ("/$u", &[0]),
+    ("/$top", &[1]),
+    ("/$top/$u", &[1, 0]),
+    ("/$top/x", &[1, 1]),
+    ("/$top/u", &[1, 2]),
+    ("/$top/u/y", &[1, 2, 0]),
+];
+
+#[test]
 fn finds_by_sort_and_name(rt: HostRuntime) -> Result<(), Fail> {
-    let map = one_name(rt.alloc())?;
-    for (text, want) in [
-        ("/", "-"),
-        ("/$u", "0"),
-        ("/$top", "1"),
-        ("/$top/$u", "1.0"),
-        ("/$top/x", "1.1"),
-        ("/$top/u", "1.2"),
-        ("/$top/u/y", "1.2.0"),
-    ] {
-        match map.find(&path(rt.alloc(), text)?) {
-            Ok(address) => assert_eq!(rt; address.to_string(rt.alloc())?.as_str(), want),
-            Err(_) => assert!(rt; false, "at {text}"),
-        }
+    let map = description(rt.alloc(), ONE_NAME)?;
+    for (text, address) in FOUND.iter() {
+        assert!(rt;
+            leads_to(&map, &path(rt.alloc(), text)?, address),
+            "at {text}"
+        );
     }
     Ok(())
 }
 
+const NOT_FOUND: [(&str, PathFault); 5] = [
+    ("/u", PathFault::NoSuchName),
+    ("/$top/$x", PathFault::NoSuchName),
+    ("/$top/u/z", PathFault::NoSuchName),
+    ("/$top/x/y", PathFault::ThroughNamedType),
+    ("/$top/u/y/z", PathFault::ThroughNamedType),
+];
+
 #[test]
 fn refuses_paths(rt: HostRuntime) -> Result<(), Fail> {
-    let map = one_name(rt.alloc())?;
-    for (text, want) in [
-        ("/u", PathFault::NoSuchName),
-        ("/$top/$x", PathFault::NoSuchName),
-        ("/$top/u/z", PathFault::NoSuchName),
-        ("/$top/x/y", PathFault::ThroughNamedType),
-        ("/$top/u/y/z", PathFault::ThroughNamedType),
-    ] {
-        match map.find(&path(rt.alloc(), text)?) {
-            Ok(_) => assert!(rt; false, "at {text}"),
-            Err(fault) => assert!(rt; fault == want, "at {text}"),
-        }
+    let map = description(rt.alloc(), ONE_NAME)?;
+    for (text, fault) in NOT_FOUND.iter() {
+        assert!(rt;
+            map.find(&path(rt.alloc(), text)?).err() == Some(*fault),
+            "at {text}"
+        );
     }
     Ok(())
 }
@@ -161,109 +113,146 @@ fn refuses_paths(rt: HostRuntime) -> Result<(), Fail> {
 // T, bits, sw, top, all, desc, regwidth and all.bits->swmod; sw stands between two pairs of braces.
 #[test]
 fn counts_items_and_levels(rt: HostRuntime) -> Result<(), Fail> {
-    let map = every_form(rt.alloc())?;
-    assert_eq!(rt; map.count(), 8);
-    assert_eq!(rt; map.depth(), 2);
+    let map = description(rt.alloc(), EVERY_FORM)?;
+    assert!(rt; map.count() == 8 && map.depth() == 2);
     Ok(())
+}
+
+/// How a value prints itself for debugging, which shows all of it.
+fn shown<T: Debug>(alloc: Global, value: &T) -> Result<String, AllocError> {
+    format!(in alloc; "{value:?}")
+}
+
+fn are_alike<T: Debug>(alloc: Global, left: &T, right: &T) -> Result<bool, AllocError> {
+    let left = shown(alloc, left)?;
+    let right = shown(alloc, right)?;
+    Ok(left == right)
 }
 
 #[test]
 fn copies(rt: HostRuntime) -> Result<(), Fail> {
-    let alloc = rt.alloc();
-    let map = every_form(alloc)?;
-    let copy = map.try_copy(alloc)?;
-    assert_eq!(rt; copy.items.len(), 2);
-    let of_map = format!(in alloc; "{map:?}")?;
-    let of_copy = format!(in alloc; "{copy:?}")?;
-    assert!(rt; of_map.as_str() == of_copy.as_str());
-    assert!(rt; of_map.as_str().contains("External"));
+    for text in [EVERY_FORM, SHARED_TYPE].iter() {
+        let map = description(rt.alloc(), text)?;
+        let copy = map.try_copy(rt.alloc())?;
+        assert!(rt;
+            copy.items.len() == 2 && are_alike(rt.alloc(), &copy, &map)?,
+            "of {text}"
+        );
+    }
+    Ok(())
+}
+
+// A body that holds a copy of the item alone.
+fn copied(alloc: Global, item: &Item) -> Result<Body, Fail> {
+    let mut body = Body::new(alloc);
+    body.push(item.try_copy(alloc)?)?;
+    Ok(body)
+}
+
+fn is_copied(alloc: Global, item: &Item) -> Result<bool, Fail> {
+    let body = copied(alloc, item)?;
+    match body.item(0) {
+        Some(copy) => Ok(are_alike(alloc, copy, item)?),
+        None => Ok(false),
+    }
+}
+
+#[test]
+fn copies_one_item(rt: HostRuntime) -> Result<(), Fail> {
+    let map = description(rt.alloc(), EVERY_FORM)?;
+    match map.items.item(1) {
+        Some(top) => assert!(rt; is_copied(rt.alloc(), top)?),
+        None => assert!(rt; false),
+    }
+    assert!(rt; shown(rt.alloc(), &map)?.contains("External"));
+    Ok(())
+}
+
+fn instance_of(alloc: Global, of: &str, text: &str) -> Result<Item, NameFault> {
+    let shell = Shell::new(alloc, Name::new(alloc, text)?);
+    Ok(Item::Instance(shell, Of::Named(Name::new(alloc, of)?)))
+}
+
+// Puts `u first;` in front.
+fn put_first(alloc: Global, body: &mut Body) -> Result<(), Fail> {
+    body.insert(0, instance_of(alloc, "u", "first")?)?;
     Ok(())
 }
 
 #[test]
 fn changes_one_body(rt: HostRuntime) -> Result<(), Fail> {
-    let alloc = rt.alloc();
-    let mut map = one_name(alloc)?;
-    assert_eq!(rt; map.weight(), 2 + 4 + 2 + 3 + 2 + 3 + 3);
-    let address = Address::new().inside(1).inside(2);
-    match map.body_mut(&address) {
-        Some(body) => body.insert(0, instance_of(alloc, "u", "first")?)?,
+    let mut map = description(rt.alloc(), ONE_NAME)?;
+    assert!(rt; map.weight() == 2 + 4 + 2 + 3 + 2 + 3 + 3);
+    match map.body_mut(&address(&[1, 2])) {
+        Some(body) => put_first(rt.alloc(), body)?,
         None => assert!(rt; false),
     }
-    assert_eq!(rt; map.weight(), 19 + 7);
-    match map.body(&address) {
-        Some(body) => assert_eq!(rt; body.len(), 2),
-        None => assert!(rt; false),
-    }
-    assert!(rt; map.body(&address.inside(0)).is_none());
-    assert!(rt; map.body_mut(&address.inside(0)).is_none());
-    assert!(rt; map.body_mut(&address.inside(7)).is_none());
+    assert!(rt; map.weight() == 19 + 7);
+    assert!(rt; map.body(&address(&[1, 2])).map(Body::len) == Some(2));
     Ok(())
 }
 
-// The names of the instances, one after another.
-fn names(alloc: Global, body: &Body) -> Result<String, Fail> {
-    let mut names = String::new(alloc);
-    for item in body.as_slice() {
-        if let Item::Instance(shell, _) = item {
-            names.push_str(shell.name.as_str())?;
-        }
-    }
-    Ok(names)
+#[test]
+fn finds_no_body_at_a_named_type_or_past_the_end(rt: HostRuntime) -> Result<(), Fail> {
+    let mut map = description(rt.alloc(), ONE_NAME)?;
+    assert!(rt; map.body(&address(&[1, 2, 0])).is_none());
+    assert!(rt; map.body_mut(&address(&[1, 2, 0])).is_none());
+    assert!(rt; map.body_mut(&address(&[1, 2, 7])).is_none());
+    Ok(())
 }
 
-// T a; T b; T c;
-fn three(alloc: Global) -> Result<Body, Fail> {
-    let mut body = Body::new(alloc);
-    for text in ["a", "b", "c"] {
-        body.push(instance_of(alloc, "T", text)?)?;
+fn is_instance(item: &Item, name: &str) -> bool {
+    match item {
+        Item::Instance(shell, _) => shell.name.as_str() == name,
+        _ => false,
     }
-    Ok(body)
+}
+
+// Whether the items are instances of these names.
+fn are_instances(body: &Body, names: &[&str]) -> bool {
+    body.len() == names.len()
+        && body
+            .as_slice()
+            .iter()
+            .zip(names)
+            .all(|(item, name)| is_instance(item, name))
+}
+
+fn weight(item: Item) -> u64 {
+    item.weight()
 }
 
 #[test]
 fn inserts_and_removes_items(rt: HostRuntime) -> Result<(), Fail> {
-    let mut body = three(rt.alloc())?;
-    assert_eq!(rt; body.len(), 3);
-    body.insert(2, instance_of(rt.alloc(), "T", "d")?)?;
-    assert_eq!(rt; names(rt.alloc(), &body)?.as_str(), "abdc");
-    assert_eq!(rt; body.len(), 4);
-    let removed = body.remove(1);
-    assert_eq!(rt; names(rt.alloc(), &body)?.as_str(), "adc");
-    assert_eq!(rt; removed.weight(), 3);
+    let mut body = description(rt.alloc(), "T a; T b; T c; T d;")?.items;
+    assert!(rt; body.len() == 4);
+    let last = body.remove(3);
+    body.insert(2, last)?;
+    assert!(rt; are_instances(&body, &["a", "b", "d", "c"]));
+    assert!(rt; body.len() == 4 && weight(body.remove(1)) == 3);
+    assert!(rt; are_instances(&body, &["a", "d", "c"]));
     Ok(())
 }
 
 // 65,536 items, those of the innermost body at level 16.
+fn largest(alloc: Global) -> Result<String, AllocError> {
+    let opened = "addrmap d{".repeat(alloc, 16)?;
+    let closed = "};".repeat(alloc, 16)?;
+    repeated(alloc, &opened, "p;", 65_520, &closed)
+}
+
 #[test]
 fn drops_the_largest(rt: HostRuntime) -> Result<(), Fail> {
-    let alloc = rt.alloc();
-    let mut body = Body::new(alloc);
-    for _ in 0..65520 {
-        body.push(Item::Own(name(alloc, "p")?, Value::Bool(true)))?;
-    }
-    for _ in 0..16 {
-        let outer = define(alloc, "d", Kind::Addrmap, body)?;
-        body = Body::new(alloc);
-        body.push(outer)?;
-    }
-    let map = Description { items: body };
-    assert_eq!(rt; map.weight(), 65536 * 2);
-    let mut address = Address::new();
-    for _ in 0..16 {
-        if address.len() < 17 {
-            address.push(0);
-        }
-    }
-    assert!(rt; map.body(&address).is_some());
-    drop(map);
+    let map = description(rt.alloc(), &largest(rt.alloc())?)?;
+    assert!(rt; map.weight() == 65536 * 2);
+    assert!(rt; map.body(&address(&[0; 16])).is_some());
     Ok(())
 }
 
 #[test]
 fn finds_properties_by_name(rt: HostRuntime) -> Result<(), Fail> {
-    assert_eq!(rt; property("stickybit"), Some(Property::Stickybit));
-    assert_eq!(rt; property("Reset"), None);
+    assert!(rt; property("stickybit") == Some(Property::Stickybit));
+    assert!(rt; property("Reset") == None);
     Ok(())
 }
 
