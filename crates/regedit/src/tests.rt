@@ -9,6 +9,7 @@ use std::str;
 use std::test::Fail;
 
 mod edits;
+mod example_headers;
 mod examples;
 mod faults;
 mod files;

@@ -1,4 +1,5 @@
 //! The examples of the folder `examples`, whose texts stand here again.
+use super::example_headers::{DMA_HEADER, UART_HEADER};
 use super::write;
 use crate::status::Status;
 use std::alloc::Global;
@@ -468,12 +469,12 @@ script:18: J2 nothing to undo
 [31:0] field dma.channels.timeout.cycles
 ";
 
-/// A map, a script that ends with `list`, and what is printed.
-type Example = (&'static str, &'static str, &'static str);
+/// A map, a script that ends with `list`, what is printed, and the header.
+type Example = (&'static str, &'static str, &'static str, &'static str);
 
 const EXAMPLES: [Example; 2] = [
-    (UART, UART_SCRIPT, UART_OUTPUT),
-    (DMA, DMA_SCRIPT, DMA_OUTPUT),
+    (UART, UART_SCRIPT, UART_OUTPUT, UART_HEADER),
+    (DMA, DMA_SCRIPT, DMA_OUTPUT, DMA_HEADER),
 ];
 
 fn examples() -> &'static [Example] {
@@ -490,9 +491,10 @@ fn assert_lists_alike(rt: &impl Abort, alloc: Global, rdl: &str, output: &str) -
 
 #[test]
 fn print_their_outputs_and_list_alike(rt: HostRuntime) -> Result<(), Fail> {
-    for (map, script, output) in examples() {
+    for (map, script, output, header) in examples() {
         let written = write(rt.alloc(), map, script)?;
         assert_eq!(rt; written.messages()?, *output);
+        assert_eq!(rt; written.header()?, *header);
         assert_eq!(rt; written.status, Status::LineRefused);
         assert_lists_alike(&rt, rt.alloc(), written.rdl()?, output)?;
     }
