@@ -1,1 +1,3 @@
+pub mod Assignments
 pub mod Defined
+pub mod Places

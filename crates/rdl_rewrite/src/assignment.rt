@@ -1,5 +1,5 @@
 //! The assignments of a body to properties: its own and its defaults.
-ghost use Rattle.std.specs.Prelude.{◌≡◌, Ok, Err, IfOk, IfErr};
+ghost use Rattle.std.specs.Prelude.{◌≡◌, Ok, IfOk, IfErr};
 ghost use Rattle.std.specs.List.{position};
 ghost use Rattle.rdl_tree.specs.View.{list_of};
 ghost use Rattle.rdl_rewrite.specs.Assignment.{is_sort, assigns, assignment, up_to_last, set, cleared};
@@ -77,8 +77,8 @@ pub fn set(
     value: &Value,
     body: &mut Body,
 ) -> Result<(), Refusal>
-    ensures made { IfOk result (λ _. Ok (set sort property.now value.now body.old) ≡ Ok body.new) }
-    ensures refused { IfErr result (λ refusal. Refuses (Ok (set sort property.now value.now body.old)) refusal) }
+    ensures made { IfOk result (λ _. body.new ≡ set sort property.now value.now body.old) }
+    ensures refused { IfErr result (λ refusal. refusal ≡ Refusal.Memory) }
 {
     let item = sort.item(property.try_copy(alloc)?, value.try_copy(alloc)?);
     match sort.position(property, body) {

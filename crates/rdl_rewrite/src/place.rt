@@ -25,9 +25,10 @@ impl Place {
         ensures place { result ≡ place_number self.now (list_of body.now) }
         ensures within { MatchOption result (Unit {0}) (λ number. number ≤ length (list_of body.now)) }
     {
+        let len = body.len();
         match self {
             Place::First => Some(0),
-            Place::Last => Some(body.len()),
+            Place::Last => Some(len),
             Place::Before(sibling) => body.position(sibling),
             Place::After(sibling) => Some(body.position(sibling)? + 1),
         }
