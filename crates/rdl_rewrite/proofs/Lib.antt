@@ -1,3 +1,4 @@
 pub mod Assignments
 pub mod Defined
+mod Examples
 pub mod Places

@@ -52,7 +52,9 @@ impl Sort {
     fn position(self, property: &Name, body: &Body) -> Option<usize>
         ensures { result ≡ position (assigns self property.now) (list_of body.now) }
     {
-        body.as_slice().iter().position(|item| self.assigns(property, item))
+        body.as_slice()
+            .iter()
+            .position(|item| self.assigns(property, item))
     }
 
     /// The number behind the last assignment of this sort, or 0.

@@ -26,7 +26,13 @@ pub fn rewrite(
     if address.is_empty() {
         return Err(Refusal::NotAnInstance);
     }
-    change_at(alloc, description, &holder(&address), number(&address), edit)
+    change_at(
+        alloc,
+        description,
+        &holder(&address),
+        number(&address),
+        edit,
+    )
 }
 
 /// A copy of the description, with the body at the address changed.
