@@ -1,0 +1,4 @@
+pub mod Assignments
+pub mod Defined
+mod Examples
+pub mod Places
