@@ -5,12 +5,15 @@ use Rattle.journal_core.specs.History.{History, IsAt, Edits, after_undo, after_r
 use Rattle.regedit.specs.Commands.{Command, nothing, undo, redo, list, add, refused, command_of}
 use Rattle.rdl_edit.specs.Step.{State, HasRows, Leads}
 use Rattle.rdl_edit.specs.Step as edits
-use Rattle.rdl_edit.specs.declared.edit.Edit.{Edit}
 use Rattle.rdl_edit.specs.declared.edit.Refusal.{Refusal}
 use Rattle.rdl_edit.specs.declared.edit.Refusal.TheVariants.{Memory}
 use Rattle.rdl_list.specs.ListText.{list_lines}
+use Rattle.rdl_rewrite.specs.declared.edit.Edit.{Edit}
+use Rattle.rdl_rewrite.specs.declared.edit.Edit.TheVariants.{Add}
+use Rattle.rdl_rewrite.specs.declared.place.Place.TheVariants.{Last}
 use Rattle.rdl_tree.specs.View.{items_of}
 use Rattle.rdl_tree.specs.declared.description.Item.{Item}
+use Rattle.rdl_tree.specs.declared.path.Segment.TheVariants.{Def}
 use Rattle.regedit.specs.Known.{concat}
 use Rattle.regedit.specs.Messages.{reply_text}
 use Rattle.regedit.specs.Readings.{ReadsItems, RefusesItems}
@@ -22,8 +25,9 @@ use Rattle.journal_core.specs.History as history
 abbrev pub History' : Type 0
 History' = History State
 
+-- behind all others in the definition of that name in the root body
 abbrev pub edit : List ℕ → List Item → Edit
-edit target items = record { target = target; items = items_of items }
+edit target items = Add (Def target ∷ []) Last (items_of items)
 
 -- the text was read and the edit made; what could be redone is dropped
 pub record Added (old : History') (target text : List ℕ) (new : History') : Type 0 where

@@ -74,8 +74,12 @@ command_fault_text commands.NotUtf8 = codes "C3 not UTF-8"
 
 unfoldable pub refusal_text : Refusal → List ℕ
 refusal_text refusals.NoSuchPath = codes "X1 no such path: P1 no such name"
+refusal_text refusals.ThroughNamedType = codes "X1 no such path: P2 through a named type"
+refusal_text refusals.NotAnInstance = codes "X7 not an instance"
 refusal_text refusals.NotAddable = codes "X8 only definitions and instances are added"
+refusal_text refusals.NoSuchSibling = codes "X2 no such sibling"
 refusal_text refusals.NameTaken = codes "X3 name taken"
+refusal_text refusals.NotSet = codes "X6 not set"
 refusal_text (refusals.Faulty fault) =
     codes "X9 the edited map has a fault: " ++ fault_text fault.kind ++ codes " at item " ++ address_text fault.address
 refusal_text refusals.Memory = []

@@ -1,8 +1,9 @@
 //! One line of a script after another.
-ghost use Rattle.std.specs.Prelude.{◌≡◌, ◌⊎◌, ℕ, ◌≤◌, ◌<◌, ◌^◌, List, ◌∷◌, length, string_bytes, IfOk, IfErr, IsOkUnless};
+ghost use Rattle.std.specs.Prelude.{◌≡◌, ◌⊎◌, ℕ, ◌≤◌, ◌<◌, ◌^◌, List, [], ◌∷◌, length, string_bytes, IfOk, IfErr, IsOkUnless};
 ghost use Rattle.std.specs.Io.KnownBytes.{Appends};
 ghost use Rattle.std.specs.List.{prefix_len};
 ghost use Rattle.std.specs.Option.{option_copied};
+ghost use Rattle.rdl_tree.specs.declared.path.Segment.{Segment};
 ghost use Rattle.regedit.specs.Answers.{Answers, IsListOf, Replied, Serves};
 ghost use Rattle.regedit.specs.Commands.{add, undo, redo, lines_of, lines_left};
 ghost use Rattle.regedit.specs.ScriptLines.{is_in_line, left_len};
@@ -15,13 +16,25 @@ use crate::script::{Request, request_of};
 use crate::status::RunFault;
 use journal_core::fault::{EditFault, StepFault};
 use journal_core::journal::Journal;
-use rdl_edit::edit::{Edit, Refusal};
+use rdl_edit::edit::Refusal;
 use rdl_edit::map::Map;
 use rdl_list::list_text;
+use rdl_rewrite::edit::Edit;
+use rdl_rewrite::place::Place;
 use rdl_text::name::Name;
 use rdl_tree::description::Body;
-use std::alloc::Global;
+use rdl_tree::path::{Path, Segment};
+use std::alloc::{AllocError, Global};
 use std::io::Write;
+
+/// The path to the definition of that name in the root body.
+fn path_to(alloc: Global, definition: Name) -> Result<Path, AllocError>
+    ensures { IfOk result (λ path. path ≡ Segment.Def definition ∷ []) }
+{
+    let mut path = Path::new(alloc);
+    path.push(Segment::Def(definition))?;
+    Ok(path)
+}
 
 fn add(
     alloc: Global,
@@ -39,7 +52,7 @@ fn add(
         }
         Err(ReadingFault::Memory) => return Err(RunFault::Memory),
     };
-    let edit = Edit { target, items };
+    let edit = Edit::Add(path_to(alloc, target)?, Place::Last, items);
     match journal.edit(alloc, &edit) {
         Ok(()) => Ok(Reply::Done),
         Err(EditFault::Full) => Ok(Reply::Refused(LineRefusal::HistoryFull)),
