@@ -1,0 +1,4 @@
+pub mod Assignments
+pub mod Defined
+pub mod Examples
+pub mod Places

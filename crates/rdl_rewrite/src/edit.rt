@@ -1,0 +1,140 @@
+//! Edits of one item, and why they are refused.
+ghost use Rattle.std.specs.Prelude.{◌≡◌};
+ghost use Rattle.rdl_rewrite.specs.Rewritten.{path_of, is_of_item};
+
+use crate::place::Place;
+use rdl_text::name::Name;
+use rdl_text::token::Number;
+use rdl_tree::description::Body;
+use rdl_tree::dims::Dims;
+use rdl_tree::path::{Path, PathFault};
+use rdl_tree::value::Value;
+use std::alloc::{AllocError, AllocFailed};
+
+/// An edit of one item, or of the assignments of one body. The path leads to a body in `Add` and where a property is
+/// set or cleared, and to an item in all others.
+#[derive(Debug, Drop)]
+pub enum Edit {
+    /// Puts the items, in order, into the body.
+    Add(Path, Place, Body),
+    /// Takes the item out and puts it in again in the same body.
+    Move(Path, Place),
+    /// Gives the instance these sizes, and no range.
+    Resize(Path, Dims),
+    /// Gives the instance this range, or none, and no sizes.
+    SetBits(Path, Option<(Number, Number)>),
+    /// Gives the instance this address, or none.
+    SetAddress(Path, Option<Number>),
+    /// Gives the instance this stride, or none.
+    SetStride(Path, Option<Number>),
+    /// Gives the instance this alignment, or none.
+    SetAlign(Path, Option<Number>),
+    /// Gives the instance this reset, or none.
+    SetReset(Path, Option<Number>),
+    /// Assigns the property of the body's component.
+    SetOwn(Path, Name, Value),
+    /// Assigns the property's default in the body.
+    SetDefault(Path, Name, Value),
+    /// Takes the property's assignment out.
+    ClearOwn(Path, Name),
+    /// Takes the property's default out.
+    ClearDefault(Path, Name),
+}
+
+/// Why an edit isn't made.
+#[derive(Clone, Copy, Debug, PartialEq, Eq)]
+pub enum Refusal {
+    /// X1, P1: the path leads nowhere.
+    NoSuchPath,
+    /// X1, P2: the path goes through an instance of a named type, or would change the body of one.
+    ThroughNamedType,
+    /// X2: the item to stand next to isn't there.
+    NoSuchSibling,
+    /// X3: a name of the new items is taken.
+    NameTaken,
+    /// X6: there is no assignment to clear.
+    NotSet,
+    /// X7: the root where an item is needed, or a definition where an instance is needed.
+    NotAnInstance,
+    /// X8: a new item is neither a definition nor an instance.
+    NotAddable,
+    /// X10: no memory.
+    Memory,
+}
+
+impl Edit {
+    pub fn path(&self) -> &Path
+        ensures { result.now ≡ path_of self.now }
+    {
+        match self {
+            Edit::Add(path, ..) => path,
+            Edit::Move(path, ..) => path,
+            Edit::Resize(path, ..) => path,
+            Edit::SetBits(path, ..) => path,
+            Edit::SetAddress(path, ..) => path,
+            Edit::SetStride(path, ..) => path,
+            Edit::SetAlign(path, ..) => path,
+            Edit::SetReset(path, ..) => path,
+            Edit::SetOwn(path, ..) => path,
+            Edit::SetDefault(path, ..) => path,
+            Edit::ClearOwn(path, ..) => path,
+            Edit::ClearDefault(path, ..) => path,
+        }
+    }
+
+    /// Whether the path leads to an item, and not to a body.
+    pub fn is_of_item(&self) -> bool
+        ensures { result ≡ is_of_item self.now }
+    {
+        match self {
+            Edit::Add(..) => false,
+            Edit::SetOwn(..) => false,
+            Edit::SetDefault(..) => false,
+            Edit::ClearOwn(..) => false,
+            Edit::ClearDefault(..) => false,
+            Edit::Move(..) => true,
+            Edit::Resize(..) => true,
+            Edit::SetBits(..) => true,
+            Edit::SetAddress(..) => true,
+            Edit::SetStride(..) => true,
+            Edit::SetAlign(..) => true,
+            Edit::SetReset(..) => true,
+        }
+    }
+}
+
+impl From<PathFault> for Refusal {
+    ghost use Rattle.rdl_rewrite.specs.Rewritten.{refusal_of};
+    ghost use Rattle.std.specs.Prelude.{◌≡◌};
+
+    ghost from_gives = { λ fault refusal. refusal ≡ refusal_of fault };
+
+    fn from(fault: PathFault) -> Refusal {
+        match fault {
+            PathFault::NoSuchName => Refusal::NoSuchPath,
+            PathFault::ThroughNamedType => Refusal::ThroughNamedType,
+        }
+    }
+}
+
+impl From<AllocError> for Refusal {
+    ghost use Rattle.rdl_rewrite.specs.declared.edit.Refusal.{Refusal};
+    ghost use Rattle.std.specs.Prelude.{◌≡◌};
+
+    ghost from_gives = { λ _ refusal. refusal ≡ Refusal.Memory };
+
+    fn from(_error: AllocError) -> Refusal {
+        Refusal::Memory
+    }
+}
+
+impl<T: Drop> From<AllocFailed<T>> for Refusal {
+    ghost use Rattle.rdl_rewrite.specs.declared.edit.Refusal.{Refusal};
+    ghost use Rattle.std.specs.Prelude.{◌≡◌};
+
+    ghost from_gives = { λ _ refusal. refusal ≡ Refusal.Memory };
+
+    fn from(_error: AllocFailed<T>) -> Refusal {
+        Refusal::Memory
+    }
+}

@@ -1,0 +1,52 @@
+//! The shell of an instance, changed where it stands.
+ghost use Rattle.std.specs.Prelude.{◌≡◌, Ok, Err, IfOk, IfErr};
+ghost use Rattle.rdl_rewrite.specs.Shell.{edited_shell, reshaped};
+ghost use Rattle.rdl_rewrite.specs.Refuses.{Refuses};
+
+use crate::edit::{Edit, Refusal};
+use rdl_tree::description::{Body, Item};
+use rdl_tree::dims::Dims;
+use rdl_tree::part::Part;
+use rdl_tree::shell::Shell;
+use std::alloc::{AllocError, Global};
+
+/// The shell with the part that the edit gives it.
+fn edited_shell(alloc: Global, edit: &Edit, shell: &Shell) -> Result<Shell, AllocError>
+    ensures { IfOk result (λ new. new ≡ edited_shell edit.now shell.now) }
+{
+    let mut new = shell.try_copy(alloc)?;
+    match edit {
+        Edit::Resize(_, dims) => {
+            new.dims = dims.try_copy(alloc)?;
+            new.range = None;
+        }
+        Edit::SetBits(_, range) => {
+            new.dims = Dims::new(alloc);
+            new.range = *range;
+        }
+        Edit::SetAddress(_, address) => new.address = *address,
+        Edit::SetStride(_, stride) => new.stride = *stride,
+        Edit::SetAlign(_, align) => new.align = *align,
+        Edit::SetReset(_, reset) => new.reset = *reset,
+        Edit::Add(..) => {}
+        Edit::Move(..) => {}
+        Edit::SetOwn(..) => {}
+        Edit::SetDefault(..) => {}
+        Edit::ClearOwn(..) => {}
+        Edit::ClearDefault(..) => {}
+    }
+    Ok(new)
+}
+
+/// Gives the instance of this number the part of its shell.
+pub fn reshape(alloc: Global, edit: &Edit, number: usize, body: &mut Body) -> Result<(), Refusal>
+    ensures made { IfOk result (λ _. reshaped (edited_shell edit.now) number body.old ≡ Ok body.new) }
+    ensures refused { IfErr result (λ refusal. Refuses (reshaped (edited_shell edit.now) number body.old) refusal) }
+{
+    let Some(Item::Instance(shell, _)) = body.item(number) else {
+        return Err(Refusal::NotAnInstance);
+    };
+    let new = edited_shell(alloc, edit, shell)?;
+    let _old = body.exchange(number, Part::Shell(new));
+    Ok(())
+}
