@@ -1,9 +1,8 @@
 //! The map that a history keeps.
 ghost use Rattle.std.specs.Prelude.{◌≡◌, ◌⊎◌, Ok, Err, IfOk, IfErr, option_copied};
 ghost use Rattle.rdl_elab.specs.Faults.{elaborated};
-ghost use Rattle.rdl_rewrite.specs.Rewritten.{rewritten};
 ghost use Rattle.rdl_scope.specs.ItemFaults.{out_of_memory};
-ghost use Rattle.rdl_edit.specs.Step.{State, HasRows, Refuses};
+ghost use Rattle.rdl_edit.specs.Step.{State, HasRows};
 
 use crate::edit::{Refusal, is_memory};
 use journal_core::invertible::Invertible;
@@ -85,17 +84,6 @@ impl Map {
             None => Ok(None),
         }
     }
-
-    /// The description as the edit makes it, not yet judged.
-    fn edited(&self, alloc: Global, edit: &Edit) -> Result<Description, Refusal>
-        ensures made { IfOk result (λ new. rewritten self.now.description edit.now ≡ Ok new.items) }
-        ensures refused { IfErr result (λ refusal. Refuses self.now edit.now refusal) }
-    {
-        match rewrite(alloc, &self.description, edit) {
-            Ok(new) => Ok(new),
-            Err(refusal) => Err(Refusal::from(refusal)),
-        }
-    }
 }
 
 impl Invertible for Map {
@@ -120,7 +108,7 @@ impl Invertible for Map {
     ghost refuses = { Refuses };
 
     fn apply(&mut self, alloc: Global, edit: &Edit) -> Result<Map, Refusal> {
-        let description = self.edited(alloc, edit)?;
+        let description = rewrite(alloc, &self.description, edit)?;
         let name = self.option(alloc)?;
         match Map::open(alloc, description, name) {
             Ok(new) => Ok(mem::replace(self, new)),
