@@ -1,28 +1,28 @@
-//! Edits, and why they are refused.
+//! Why an edit of the map is refused.
 ghost use Rattle.std.specs.Prelude.{◌≡◌};
 ghost use Rattle.rdl_edit.specs.Faults.{is_memory};
 
-use rdl_text::name::Name;
-use rdl_tree::description::Body;
+use rdl_rewrite::edit as early;
 use rdl_tree::fault::{Fault, FaultKind};
 use std::alloc::AllocError;
 
-/// An edit: items more behind the others, in the definition of that name in the root body.
-#[derive(Debug, Drop)]
-pub struct Edit {
-    pub target: Name,
-    pub items: Body,
-}
-
-/// Why an edit isn't made.
+/// Why an edit isn't made, in the order in which it is judged.
 #[derive(Debug, Drop)]
 pub enum Refusal {
-    /// X1, P1: no definition of the root has that name.
+    /// X1, P1: the path leads nowhere.
     NoSuchPath,
+    /// X1, P2: the path goes through an instance of a named type, or would change the body of one.
+    ThroughNamedType,
+    /// X7: the root where an item is needed, or a definition where an instance is needed.
+    NotAnInstance,
     /// X8: a new item is neither a definition nor an instance.
     NotAddable,
+    /// X2: the item to stand next to isn't there.
+    NoSuchSibling,
     /// X3: a name of the new items is taken.
     NameTaken,
+    /// X6: there is no assignment to clear.
+    NotSet,
     /// X9: the edited map has a fault.
     Faulty(Fault),
     /// X10: no memory.
@@ -34,6 +34,26 @@ pub fn is_memory(kind: FaultKind) -> bool
     ensures { result ≡ is_memory kind }
 {
     matches!(kind, FaultKind::Memory)
+}
+
+impl From<early::Refusal> for Refusal {
+    ghost use Rattle.rdl_edit.specs.Step.{refusal_of};
+    ghost use Rattle.std.specs.Prelude.{◌≡◌};
+
+    ghost from_gives = { λ refusal f. f ≡ refusal_of refusal };
+
+    fn from(refusal: early::Refusal) -> Refusal {
+        match refusal {
+            early::Refusal::NoSuchPath => Refusal::NoSuchPath,
+            early::Refusal::ThroughNamedType => Refusal::ThroughNamedType,
+            early::Refusal::NoSuchSibling => Refusal::NoSuchSibling,
+            early::Refusal::NameTaken => Refusal::NameTaken,
+            early::Refusal::NotSet => Refusal::NotSet,
+            early::Refusal::NotAnInstance => Refusal::NotAnInstance,
+            early::Refusal::NotAddable => Refusal::NotAddable,
+            early::Refusal::Memory => Refusal::Memory,
+        }
+    }
 }
 
 impl From<AllocError> for Refusal {

@@ -1,6 +1,5 @@
-//! The edits of a register map, and the map that a history keeps.
+//! The map that a history keeps, and the step of an edit.
 #![tactic(auto)]
 
 pub mod edit;
 pub mod map;
-mod names;

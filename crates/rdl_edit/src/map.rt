@@ -1,23 +1,18 @@
 //! The map that a history keeps.
-ghost use Rattle.std.specs.Prelude.{◌≡◌, ◌⊎◌, ◌++◌, ◌∷◌, [], Ok, Err, Some, None, IfOk, IfErr, OnOk, option_copied, unwrap_or};
-ghost use Rattle.std.specs.List.{list_all};
+ghost use Rattle.std.specs.Prelude.{◌≡◌, ◌⊎◌, Ok, Err, IfOk, IfErr, option_copied};
 ghost use Rattle.rdl_elab.specs.Faults.{elaborated};
 ghost use Rattle.rdl_scope.specs.ItemFaults.{out_of_memory};
-ghost use Rattle.rdl_tree.specs.Address.{inner, map_body};
-ghost use Rattle.rdl_tree.specs.Items.{no_items};
-ghost use Rattle.rdl_tree.specs.View.{items_of, list_of};
-ghost use Rattle.rdl_edit.specs.Step.{State, HasRows, is_component, target_at, extended, taken, edited, step};
+ghost use Rattle.rdl_edit.specs.Step.{State, HasRows};
 
-use crate::edit::{Edit, Refusal, is_memory};
-use crate::names::{definition_taken, instance_taken};
+use crate::edit::{Refusal, is_memory};
 use journal_core::invertible::Invertible;
 use rdl_elab::elaborate::elaborate;
 use rdl_elab::row::Rows;
+use rdl_rewrite::edit::Edit;
+use rdl_rewrite::rewrite::rewrite;
 use rdl_text::name::Name;
-use rdl_tree::address::Address;
-use rdl_tree::description::{Body, Description, Item};
+use rdl_tree::description::Description;
 use rdl_tree::fault::Fault;
-use rdl_tree::path::Segment;
 use std::alloc::{AllocError, Global};
 use std::marker::Model;
 use std::mem;
@@ -50,12 +45,6 @@ fn text_of(name: Option<&Name>) -> Option<&str>
         Some(name) => Some(name.as_str()),
         None => None,
     }
-}
-
-fn are_components(items: &Body) -> bool
-    ensures { result ≡ list_all is_component (list_of items.now) }
-{
-    items.as_slice().iter().all(|item| matches!(item, Item::Define(..) | Item::Instance(..)))
 }
 
 impl Map {
@@ -95,58 +84,6 @@ impl Map {
             None => Ok(None),
         }
     }
-
-    fn target(&self, alloc: Global, name: &Name) -> Result<Option<usize>, AllocError>
-        ensures { IfOk result (λ number. number ≡ target_at self.now.description name.now) }
-    {
-        let segment = Segment::Def(name.try_copy(alloc)?);
-        Ok(self.description.items.position(&segment))
-    }
-
-    fn is_taken(&self, alloc: Global, number: usize, edit: &Edit) -> Result<bool, AllocError>
-        ensures { IfOk result (λ answer. answer ≡ taken number edit.now self.now) }
-    {
-        if definition_taken(alloc, &edit.items, &self.description.items)? {
-            return Ok(true);
-        }
-        match self.description.items.inner(number) {
-            Some(body) => instance_taken(alloc, &edit.items, body),
-            None => instance_taken(alloc, &edit.items, &Body::new(alloc)),
-        }
-    }
-
-    fn edited(&self, alloc: Global, number: usize, edit: &Edit) -> Result<Description, AllocError>
-        ensures { IfOk result (λ new. new.items ≡ (edited number edit.now self.now).description) }
-    {
-        let mut description = self.description.try_copy(alloc)?;
-        extend_at(alloc, &mut description, number, &edit.items)?;
-        Ok(description)
-    }
-}
-
-/// Puts copies of the items behind those in the body of the root's item of this number.
-fn extend_at(
-    alloc: Global,
-    description: &mut Description,
-    number: usize,
-    added: &Body,
-) -> Result<(), AllocError>
-    ensures { OnOk result (description.new.items ≡ map_body (number ∷ []) (extended added.now) description.old.items) }
-{
-    match description.body_mut(&Address::new().inside(number)) {
-        Some(body) => extend(alloc, body, added),
-        None => Ok(()),
-    }
-}
-
-/// Puts copies of the items behind those of the body.
-fn extend(alloc: Global, body: &mut Body, added: &Body) -> Result<(), AllocError>
-    ensures { OnOk result (body.new ≡ extended added.now body.old) }
-{
-    'items: for item in added.as_slice() {
-        body.push(item.try_copy(alloc)?)?;
-    }
-    Ok(())
 }
 
 impl Invertible for Map {
@@ -171,16 +108,7 @@ impl Invertible for Map {
     ghost refuses = { Refuses };
 
     fn apply(&mut self, alloc: Global, edit: &Edit) -> Result<Map, Refusal> {
-        let Some(number) = self.target(alloc, &edit.target)? else {
-            return Err(Refusal::NoSuchPath);
-        };
-        if !are_components(&edit.items) {
-            return Err(Refusal::NotAddable);
-        }
-        if self.is_taken(alloc, number, edit)? {
-            return Err(Refusal::NameTaken);
-        }
-        let description = self.edited(alloc, number, edit)?;
+        let description = rewrite(alloc, &self.description, edit)?;
         let name = self.option(alloc)?;
         match Map::open(alloc, description, name) {
             Ok(new) => Ok(mem::replace(self, new)),

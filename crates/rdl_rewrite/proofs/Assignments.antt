@@ -3,7 +3,6 @@ use Rattle.std.proofs.Common.{◌≡◌, ℕ, ◌+◌, ◌<◌, ◌≤◌, Bool,
 use Rattle.std.specs.Prelude.{◌||◌}
 use Rattle.std.specs.List.{list_any}
 use Rattle.std.proofs.lemmas.List.{take_more, length-take}
-use Rattle.std.proofs.lemmas.List.Folds.{list_any-append}
 use Rattle.rdl_tree.specs.declared.description.Item.{Item}
 use Rattle.rdl_rewrite.specs.Assignment.{up_to_last}
 

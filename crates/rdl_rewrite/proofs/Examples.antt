@@ -1,6 +1,6 @@
 -- Small maps, edited by computing.
-use Rattle.std.proofs.Common.{◌≡◌, ℕ, List, [], ◌∷◌, Some, None, Option, refl}
-use Rattle.std.specs.Prelude.{codes, Result, Ok, Err}
+use Rattle.std.proofs.Common.{◌≡◌, ℕ, List, [], ◌∷◌, Some, None, refl}
+use Rattle.std.specs.Prelude.{codes, Ok, Err}
 use Rattle.rdl_tree.specs.Items.{Items, no_items, plain, holder, named, own, default, dynamic, define, anonymous}
 use Rattle.rdl_tree.specs.Shell.{bare_shell}
 use Rattle.rdl_tree.specs.declared.path.Segment.{Segment}
@@ -8,13 +8,10 @@ use Rattle.rdl_tree.specs.declared.path.Segment.TheVariants.{Def, Inst}
 use Rattle.rdl_tree.specs.declared.shell.Shell.{Shell}
 use Rattle.rdl_tree.specs.declared.shell.Kind.{Kind}
 use Rattle.rdl_tree.specs.declared.shell.Kind.TheVariants.{Addrmap, Reg, Field}
-use Rattle.rdl_tree.specs.declared.value.Value.{Value}
 use Rattle.rdl_tree.specs.declared.value.Value.TheVariants.{Number, Word as Worded}
 use Rattle.rdl_tree.specs.declared.value.Word.TheVariants.{R}
 use Rattle.rdl_rewrite.specs.declared.place.Place.TheVariants.{First, Last, Before, After}
-use Rattle.rdl_rewrite.specs.declared.edit.Edit.{Edit}
 use Rattle.rdl_rewrite.specs.declared.edit.Edit.TheVariants as edit
-use Rattle.rdl_rewrite.specs.declared.edit.Refusal.{Refusal}
 use Rattle.rdl_rewrite.specs.declared.edit.Refusal.TheVariants.{NoSuchPath, ThroughNamedType, NoSuchSibling, NameTaken, NotSet, NotAnInstance, NotAddable}
 use Rattle.rdl_rewrite.specs.Rewritten.{rewritten}
 
@@ -110,6 +107,24 @@ sizes_lost = refl
 same_address : rewritten (three b_and_c) (edit.SetAddress to_a None) ≡ Ok (three b_and_c)
 same_address = refl
 
+abbrev shell_a : Shell → Items
+shell_a shell = top (shaped shell Reg (field (codes "f")) no_items)
+
+abbrev bare_a : Shell
+bare_a = bare_shell (codes "a")
+
+new_address : rewritten (shell_a bare_a) (edit.SetAddress to_a (Some 16)) ≡ Ok (shell_a (record bare_a { address = Some 16 }))
+new_address = refl
+
+new_stride : rewritten (shell_a bare_a) (edit.SetStride to_a (Some 8)) ≡ Ok (shell_a (record bare_a { stride = Some 8 }))
+new_stride = refl
+
+new_align : rewritten (shell_a bare_a) (edit.SetAlign to_a (Some 8)) ≡ Ok (shell_a (record bare_a { align = Some 8 }))
+new_align = refl
+
+no_reset : rewritten (top (held (codes "a") Reg wide no_items)) (edit.SetReset to_field None) ≡ Ok (top (held (codes "a") Reg (shaped (record (bare_shell (codes "f")) { dims = 8 ∷ [] }) Field no_items no_items) no_items))
+no_reset = refl
+
 -- ---- Assignments.
 
 abbrev assigned : ℕ → Items → Items
@@ -126,6 +141,13 @@ set_again = refl
 
 cleared : rewritten (top (held (codes "a") Reg (assigned 32 (field (codes "f"))) no_items)) (edit.ClearOwn to_a (codes "regwidth")) ≡ Ok (top (reg (codes "a") no_items))
 cleared = refl
+
+default_cleared : rewritten (top (width (reg (codes "a") no_items))) (edit.ClearDefault (to_top []) (codes "regwidth")) ≡ Ok (top (reg (codes "a") no_items))
+default_cleared = refl
+
+-- a default is no assignment of the body's own
+default_stays : rewritten (top (width (reg (codes "a") no_items))) (edit.ClearOwn (to_top []) (codes "regwidth")) ≡ Err NotSet
+default_stays = refl
 
 -- ---- Refusals, over  reg T { field {} e; field {} f; }; addrmap top { T u; .. };
 

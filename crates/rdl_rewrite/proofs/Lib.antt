@@ -1,4 +1,4 @@
 pub mod Assignments
 pub mod Defined
-mod Examples
+pub mod Examples
 pub mod Places

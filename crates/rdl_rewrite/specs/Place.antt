@@ -1,6 +1,6 @@
 -- Where in a body an item is put.
 -- own: SystemRDL 2.0 has no edits.
-use Rattle.std.specs.Prelude.{ℕ, ◌+◌, List, length, Option, Some, None, option_map}
+use Rattle.std.specs.Prelude.{ℕ, ◌+◌, List, length, Option, Some, option_map}
 use Rattle.std.specs.List.{position}
 use Rattle.rdl_tree.specs.Find.{is_named}
 use Rattle.rdl_tree.specs.declared.description.Item.{Item}

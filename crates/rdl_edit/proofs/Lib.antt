@@ -1,2 +1,0 @@
-pub mod Defined
-pub mod Extending
