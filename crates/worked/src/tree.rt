@@ -26,15 +26,16 @@ const SHARED_TYPE: &str =
 
 const ONE_NAME: &str = "reg u {}; addrmap top { regfile u {}; u x; regfile { u y; } u; u u; };";
 
-fn segment(alloc: Global, part: &str) -> Result<Segment, NameFault> {
+/// A segment as it is written: `$T` or `u`.
+pub(crate) fn segment(alloc: Global, part: &str) -> Result<Segment, NameFault> {
     match part.strip_prefix("$") {
         Some(rest) => Ok(Segment::Def(Name::new(alloc, rest)?)),
         None => Ok(Segment::Inst(Name::new(alloc, part)?)),
     }
 }
 
-// A path as it is written: `/$top/u`.
-fn path(alloc: Global, text: &str) -> Result<Path, Fail> {
+/// A path as it is written: `/$top/u`.
+pub(crate) fn path(alloc: Global, text: &str) -> Result<Path, Fail> {
     let mut path = Path::new(alloc);
     for part in text.split('/') {
         if !part.is_empty() {
