@@ -138,9 +138,7 @@ fn push_refusal(text: &mut String, refusal: &Refusal) -> Result<(), AllocError>
 {
     match refusal {
         Refusal::NoSuchPath => text.push_str("X1 no such path: P1 no such name"),
-        Refusal::ThroughNamedType => {
-            text.push_str("X1 no such path: P2 through a named type")
-        }
+        Refusal::ThroughNamedType => { text.push_str("X1 no such path: P2 through a named type") }
         Refusal::NotAnInstance => text.push_str("X7 not an instance"),
         Refusal::NotAddable => text.push_str("X8 only definitions and instances are added"),
         Refusal::NoSuchSibling => text.push_str("X2 no such sibling"),

@@ -1,8 +1,12 @@
 //! One line of a script after another.
-ghost use Rattle.std.specs.Prelude.{◌≡◌, ◌⊎◌, ℕ, ◌≤◌, ◌<◌, ◌^◌, List, [], ◌∷◌, length, string_bytes, IfOk, IfErr, IsOkUnless};
+ghost use Rattle.std.specs.Prelude.{◌≡◌, ◌⊎◌, ℕ, ◌≤◌, ◌<◌, ◌^◌, List, [], ◌∷◌, length, string_bytes, Err, IfOk, IfErr, OnOk, OnErr, IsOkUnless};
 ghost use Rattle.std.specs.Io.KnownBytes.{Appends};
 ghost use Rattle.std.specs.List.{prefix_len};
 ghost use Rattle.std.specs.Option.{option_copied};
+ghost use Rattle.journal_core.specs.History.{Edits};
+ghost use Rattle.journal_core.specs.Faults.{Explains};
+ghost use Rattle.journal_core.specs.declared.fault.EditFault.{EditFault};
+ghost use Rattle.rdl_edit.specs.Step.{Leads, Refuses};
 ghost use Rattle.rdl_tree.specs.declared.path.Segment.{Segment};
 ghost use Rattle.regedit.specs.Answers.{Answers, IsListOf, Replied, Serves};
 ghost use Rattle.regedit.specs.Commands.{add, undo, redo, lines_of, lines_left};
@@ -36,6 +40,16 @@ fn path_to(alloc: Global, definition: Name) -> Result<Path, AllocError>
     Ok(path)
 }
 
+/// Makes the edit, and lets it go.
+fn make(alloc: Global, journal: &mut Journal<Map>, edit: Edit) -> Result<(), EditFault<Refusal>>
+    ensures ok { OnOk result (Edits Leads edit journal.old journal.new) }
+    ensures full { journal.old.place ≡ journal.old.limit → result ≡ Err EditFault.Full }
+    ensures fault { IfErr result (Explains Refuses edit journal.old) }
+    ensures err { OnErr result (journal.new ≡ journal.old) }
+{
+    journal.edit(alloc, &edit)
+}
+
 fn add(
     alloc: Global,
     journal: &mut Journal<Map>,
@@ -53,7 +67,7 @@ fn add(
         Err(ReadingFault::Memory) => return Err(RunFault::Memory),
     };
     let edit = Edit::Add(path_to(alloc, target)?, Place::Last, items);
-    match journal.edit(alloc, &edit) {
+    match make(alloc, journal, edit) {
         Ok(()) => Ok(Reply::Done),
         Err(EditFault::Full) => Ok(Reply::Refused(LineRefusal::HistoryFull)),
         Err(EditFault::Refused(Refusal::Memory)) => Err(RunFault::Memory),
