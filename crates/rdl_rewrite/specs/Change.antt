@@ -10,11 +10,12 @@ use Rattle.rdl_tree.specs.declared.description.Item.TheVariants.{Define, Instanc
 use Rattle.rdl_rewrite.specs.Names.{clash, defined_names, instance_names}
 use Rattle.rdl_rewrite.specs.Place.{place_number}
 use Rattle.rdl_rewrite.specs.Assignment.{cleared, set}
+use Rattle.rdl_rewrite.specs.Dynamics.{assigned, unassigned}
 use Rattle.rdl_rewrite.specs.Shell.{edited_shell, reshaped}
 use Rattle.rdl_rewrite.specs.declared.assignment.Sort.TheVariants.{Own, Default}
 use Rattle.rdl_rewrite.specs.declared.place.Place.{Place}
 use Rattle.rdl_rewrite.specs.declared.edit.Edit.{Edit}
-use Rattle.rdl_rewrite.specs.declared.edit.Edit.TheVariants.{Add, Move, SetOwn, SetDefault, ClearOwn, ClearDefault}
+use Rattle.rdl_rewrite.specs.declared.edit.Edit.TheVariants.{Add, Move, SetOwn, SetDefault, ClearOwn, ClearDefault, Assign, Unassign}
 use Rattle.rdl_rewrite.specs.declared.edit.Refusal.{Refusal}
 use Rattle.rdl_rewrite.specs.declared.edit.Refusal.TheVariants.{NameTaken, NotAddable, NotAnInstance, NoSuchSibling}
 
@@ -55,7 +56,7 @@ moved_item (Some x) place others = put_in (place_number place (list_of others)) 
 abbrev pub moved : Place → ℕ → Items → Result Items Refusal
 moved place number b = moved_item (slice_get (list_of b) number) place (remove_item number b)
 
--- ---- Every edit. The number is that of the item, for an edit of an item.
+-- ---- Every edit of one body. The number is that of the item, for an edit of an item.
 
 abbrev pub edited_body : (whole : Items) → ℕ → Edit → Items → Result Items Refusal
 edited_body whole number (Add path place new) b = added whole place new b
@@ -64,4 +65,6 @@ edited_body whole number (SetOwn path property value) b = Ok (set Own property v
 edited_body whole number (SetDefault path property value) b = Ok (set Default property value b)
 edited_body whole number (ClearOwn path property) b = cleared Own property b
 edited_body whole number (ClearDefault path property) b = cleared Default property b
+edited_body whole number (Assign path target property value) b = Ok (assigned target property value b)
+edited_body whole number (Unassign path target property) b = unassigned target property b
 edited_body whole number e b = reshaped (edited_shell e) number b

@@ -1,7 +1,11 @@
+pub mod Addresses
 pub mod Assignment
 pub mod Change
+pub mod Dynamics
 pub mod Names
 pub mod Place
 pub mod Refuses
+pub mod Removal
+pub mod Renaming
 pub mod Rewritten
 pub mod Shell

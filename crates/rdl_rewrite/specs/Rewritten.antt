@@ -1,20 +1,25 @@
 -- The description that an edit makes, or its first refusal.
 -- own: SystemRDL 2.0 has no edits.
-use Rattle.std.specs.Prelude.{ℕ, ◌-◌, ◌==◌, Bool, true, false, if◌then◌else◌, List, length, take, slice_index, Option, Some, None, Result, Ok, Err}
+use Rattle.std.specs.Prelude.{ℕ, ◌==◌, Bool, true, false, if◌then◌else◌, List, length, Option, Some, None, Result, Ok, Err}
 use Rattle.rdl_tree.specs.Items.{Items}
 use Rattle.rdl_tree.specs.Address.{body_at, map_body}
 use Rattle.rdl_tree.specs.Find.{find}
 use Rattle.rdl_tree.specs.declared.path.Segment.{Segment}
 use Rattle.rdl_tree.specs.declared.path.PathFault.{PathFault}
 use Rattle.rdl_tree.specs.declared.path.PathFault.TheVariants as fault
+use Rattle.rdl_rewrite.specs.Addresses.{holder_of, number_of}
 use Rattle.rdl_rewrite.specs.Change.{edited_body}
+use Rattle.rdl_rewrite.specs.Removal.{removed}
+use Rattle.rdl_rewrite.specs.Renaming.{renamed}
 use Rattle.rdl_rewrite.specs.declared.edit.Edit.{Edit}
-use Rattle.rdl_rewrite.specs.declared.edit.Edit.TheVariants.{Add, Move, Resize, SetBits, SetAddress, SetStride, SetAlign, SetReset, SetOwn, SetDefault, ClearOwn, ClearDefault}
+use Rattle.rdl_rewrite.specs.declared.edit.Edit.TheVariants.{Add, Remove, Rename, Move, Resize, SetBits, SetAddress, SetStride, SetAlign, SetReset, SetOwn, SetDefault, ClearOwn, ClearDefault, Assign, Unassign}
 use Rattle.rdl_rewrite.specs.declared.edit.Refusal.{Refusal}
 use Rattle.rdl_rewrite.specs.declared.edit.Refusal.TheVariants.{NoSuchPath, ThroughNamedType, NotAnInstance}
 
 abbrev pub path_of : Edit → List Segment
 path_of (Add path place new) = path
+path_of (Remove path) = path
+path_of (Rename path name) = path
 path_of (Move path place) = path
 path_of (Resize path new) = path
 path_of (SetBits path new) = path
@@ -26,6 +31,8 @@ path_of (SetOwn path property value) = path
 path_of (SetDefault path property value) = path
 path_of (ClearOwn path property) = path
 path_of (ClearDefault path property) = path
+path_of (Assign path target property value) = path
+path_of (Unassign path target property) = path
 
 -- the path leads to an item; to a body in the others
 abbrev pub is_of_item : Edit → Bool
@@ -34,18 +41,13 @@ is_of_item (SetOwn path property value) = false
 is_of_item (SetDefault path property value) = false
 is_of_item (ClearOwn path property) = false
 is_of_item (ClearDefault path property) = false
+is_of_item (Assign path target property value) = false
+is_of_item (Unassign path target property) = false
 is_of_item e = true
 
 abbrev pub refusal_of : PathFault → Refusal
 refusal_of fault.NoSuchName = NoSuchPath
 refusal_of fault.ThroughNamedType = ThroughNamedType
-
--- an item's address is that of the body that holds it, and then the item's number
-abbrev pub holder_of : List ℕ → List ℕ
-holder_of way = take (length way - 1) way
-
-abbrev pub number_of : List ℕ → ℕ
-number_of way = slice_index way (length way - 1)
 
 -- the whole with the changed body in its place
 abbrev pub put_body : List ℕ → Items → Result Items Refusal → Result Items Refusal
@@ -60,12 +62,18 @@ change_body way whole change (Some b) = put_body way whole (change b)
 abbrev pub at_body : List ℕ → Items → (Items → Result Items Refusal) → Result Items Refusal
 at_body way whole change = change_body way whole change (body_at way whole)
 
+-- removing and renaming reach every body; the other edits change the one that holds the item
+abbrev pub of_item : (way : List ℕ) → (whole : Items) → Edit → Result Items Refusal
+of_item way whole (Remove path) = removed whole way
+of_item way whole (Rename path name) = renamed whole way name
+of_item way whole e = at_body (holder_of way) whole (edited_body whole (number_of way) e)
+
 -- the root is no item
 abbrev pub by_way : Result (List ℕ) PathFault → Items → Edit → Result Items Refusal
 by_way (Err fault) whole e = Err (refusal_of fault)
 by_way (Ok way) whole e =
     if is_of_item e
-    then (if length way == 0 then Err NotAnInstance else at_body (holder_of way) whole (edited_body whole (number_of way) e))
+    then (if length way == 0 then Err NotAnInstance else of_item way whole e)
     else at_body way whole (edited_body whole 0 e)
 
 abbrev pub rewritten : Items → Edit → Result Items Refusal

@@ -6,6 +6,7 @@ ghost use Rattle.rdl_rewrite.specs.Change.{is_component, taken, insert_items, ad
 ghost use Rattle.rdl_rewrite.specs.Refuses.{Refuses};
 
 use crate::assignment::{Sort, clear, set};
+use crate::dynamics::{assign, unassign};
 use crate::edit::{Edit, Refusal};
 use crate::names::{definition_taken, instance_taken};
 use crate::place::Place;
@@ -114,5 +115,9 @@ pub fn edit_body(
         Edit::SetDefault(_, property, value) => set(alloc, Sort::Default, property, value, body),
         Edit::ClearOwn(_, property) => clear(Sort::Own, property, body),
         Edit::ClearDefault(_, property) => clear(Sort::Default, property, body),
+        Edit::Assign(_, target, property, value) => assign(alloc, target, property, value, body),
+        Edit::Unassign(_, target, property) => unassign(target, property, body),
+        Edit::Remove(..) => reshape(alloc, edit, number, body),
+        Edit::Rename(..) => reshape(alloc, edit, number, body),
     }
 }

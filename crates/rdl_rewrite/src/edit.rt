@@ -1,4 +1,4 @@
-//! Edits of one item, and why they are refused.
+//! Edits, and why they are refused.
 ghost use Rattle.std.specs.Prelude.{◌≡◌};
 ghost use Rattle.rdl_rewrite.specs.Rewritten.{path_of, is_of_item};
 
@@ -8,15 +8,21 @@ use rdl_text::token::Number;
 use rdl_tree::description::Body;
 use rdl_tree::dims::Dims;
 use rdl_tree::path::{Path, PathFault};
+use rdl_tree::target::Target;
 use rdl_tree::value::Value;
 use std::alloc::{AllocError, AllocFailed};
 
-/// An edit of one item, or of the assignments of one body. The path leads to a body in `Add` and where a property is
-/// set or cleared, and to an item in all others.
+/// An edit of an item, or of the assignments of a body. The path leads to a body in `Add` and where a property is set,
+/// cleared, assigned or unassigned, and to an item in all others.
 #[derive(Debug, Drop)]
 pub enum Edit {
     /// Puts the items, in order, into the body.
     Add(Path, Place, Body),
+    /// Takes the item out, and with it every assignment, in any body, whose target passes it.
+    Remove(Path),
+    /// Gives the item this name, and with it every type reference that leads to it and every name in a target that
+    /// stands for it.
+    Rename(Path, Name),
     /// Takes the item out and puts it in again in the same body.
     Move(Path, Place),
     /// Gives the instance these sizes, and no range.
@@ -39,6 +45,10 @@ pub enum Edit {
     ClearOwn(Path, Name),
     /// Takes the property's default out.
     ClearDefault(Path, Name),
+    /// Assigns, from this body, the property of what the target leads to.
+    Assign(Path, Target, Name, Value),
+    /// Takes the body's assignment of the target's property out.
+    Unassign(Path, Target, Name),
 }
 
 /// Why an edit isn't made.
@@ -50,8 +60,12 @@ pub enum Refusal {
     ThroughNamedType,
     /// X2: the item to stand next to isn't there.
     NoSuchSibling,
-    /// X3: a name of the new items is taken.
+    /// X3: the new name, or a name of the new items, is taken.
     NameTaken,
+    /// X4: the new name is a reserved word.
+    Reserved,
+    /// X5: a type reference leads to the definition.
+    InUse,
     /// X6: there is no assignment to clear.
     NotSet,
     /// X7: the root where an item is needed, or a definition where an instance is needed.
@@ -68,6 +82,8 @@ impl Edit {
     {
         match self {
             Edit::Add(path, ..) => path,
+            Edit::Remove(path) => path,
+            Edit::Rename(path, ..) => path,
             Edit::Move(path, ..) => path,
             Edit::Resize(path, ..) => path,
             Edit::SetBits(path, ..) => path,
@@ -79,6 +95,8 @@ impl Edit {
             Edit::SetDefault(path, ..) => path,
             Edit::ClearOwn(path, ..) => path,
             Edit::ClearDefault(path, ..) => path,
+            Edit::Assign(path, ..) => path,
+            Edit::Unassign(path, ..) => path,
         }
     }
 
@@ -92,6 +110,10 @@ impl Edit {
             Edit::SetDefault(..) => false,
             Edit::ClearOwn(..) => false,
             Edit::ClearDefault(..) => false,
+            Edit::Assign(..) => false,
+            Edit::Unassign(..) => false,
+            Edit::Remove(..) => true,
+            Edit::Rename(..) => true,
             Edit::Move(..) => true,
             Edit::Resize(..) => true,
             Edit::SetBits(..) => true,

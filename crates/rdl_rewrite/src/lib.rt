@@ -1,10 +1,13 @@
-//! What an edit of one item makes of a description, or why it is refused before the new description is judged.
+//! What an edit makes of a description, or why it is refused before the new description is judged.
 #![tactic(auto)]
 
 mod assignment;
 mod body;
+mod dynamics;
 pub mod edit;
 mod names;
 pub mod place;
+mod removal;
+mod renaming;
 pub mod rewrite;
 mod shell;

@@ -1,21 +1,27 @@
 //! The description that an edit makes.
-ghost use Rattle.std.specs.Prelude.{◌≡◌, ◌<◌, Ok, IfOk, IfErr, length};
+ghost use Rattle.std.specs.Prelude.{◌≡◌, ◌<◌, ◌≤◌, Ok, IfOk, IfErr, length};
+ghost use Rattle.rdl_tree.specs.Depth.{depth};
+ghost use Rattle.rdl_rewrite.specs.Addresses.{holder_of, number_of};
 ghost use Rattle.rdl_rewrite.specs.Change.{edited_body};
-ghost use Rattle.rdl_rewrite.specs.Rewritten.{holder_of, number_of, at_body, rewritten};
+ghost use Rattle.rdl_rewrite.specs.Rewritten.{at_body, of_item, rewritten};
 ghost use Rattle.rdl_rewrite.specs.Refuses.{Refuses};
 
 use crate::body::edit_body;
 use crate::edit::{Edit, Refusal};
+use crate::removal::remove;
+use crate::renaming::rename;
 use rdl_tree::address::Address;
 use rdl_tree::description::Description;
 use std::alloc::Global;
 
-/// The description as the edit makes it, or the edit's first refusal.
+/// The description as the edit makes it, or the edit's first refusal. The description is nested at most 16 deep, as
+/// every one that has rows.
 pub fn rewrite(
     alloc: Global,
     description: &Description,
     edit: &Edit,
 ) -> Result<Description, Refusal>
+    requires nesting { depth description.now.items ≤ 16 }
     ensures made { IfOk result (λ new. rewritten description.now.items edit.now ≡ Ok new.items) }
     ensures refused { IfErr result (λ refusal. Refuses (rewritten description.now.items edit.now) refusal) }
 {
@@ -26,13 +32,26 @@ pub fn rewrite(
     if address.is_empty() {
         return Err(Refusal::NotAnInstance);
     }
-    change_at(
-        alloc,
-        description,
-        &holder(&address),
-        number(&address),
-        edit,
-    )
+    rewrite_item(alloc, description, &address, edit)
+}
+
+/// The description with the item at the address edited.
+fn rewrite_item(
+    alloc: Global,
+    whole: &Description,
+    way: &Address,
+    edit: &Edit,
+) -> Result<Description, Refusal>
+    requires nesting { depth whole.now.items ≤ 16 }
+    requires item { 0 < length way.now }
+    ensures made { IfOk result (λ new. of_item way.now whole.now.items edit.now ≡ Ok new.items) }
+    ensures refused { IfErr result (λ refusal. Refuses (of_item way.now whole.now.items edit.now) refusal) }
+{
+    match edit {
+        Edit::Remove(_) => remove(alloc, whole, way),
+        Edit::Rename(_, name) => rename(alloc, whole, way, name),
+        _ => change_at(alloc, whole, &holder(way), number(way), edit),
+    }
 }
 
 /// A copy of the description, with the body at the address changed.

@@ -34,6 +34,10 @@ fn edited_shell(alloc: Global, edit: &Edit, shell: &Shell) -> Result<Shell, Allo
         Edit::SetDefault(..) => {}
         Edit::ClearOwn(..) => {}
         Edit::ClearDefault(..) => {}
+        Edit::Assign(..) => {}
+        Edit::Unassign(..) => {}
+        Edit::Remove(..) => {}
+        Edit::Rename(..) => {}
     }
     Ok(new)
 }
