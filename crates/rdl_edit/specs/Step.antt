@@ -10,7 +10,7 @@ use Rattle.rdl_rewrite.specs.declared.edit.Refusal.{Refusal as Early}
 use Rattle.rdl_tree.specs.Items.{Items}
 use Rattle.rdl_tree.specs.declared.fault.Fault.{Fault}
 use Rattle.rdl_edit.specs.declared.edit.Refusal.{Refusal}
-use Rattle.rdl_edit.specs.declared.edit.Refusal.TheVariants.{NoSuchPath, ThroughNamedType, NotAnInstance, NotAddable, NoSuchSibling, NameTaken, NotSet, Faulty, Memory}
+use Rattle.rdl_edit.specs.declared.edit.Refusal.TheVariants.{NoSuchPath, ThroughNamedType, NotAnInstance, NotAddable, NoSuchSibling, NameTaken, Reserved, InUse, NotSet, Faulty, Memory}
 
 -- a description, and the name that the option asks of its top
 pub record State : Type 0 where
@@ -28,6 +28,8 @@ refusal_of first.NoSuchPath = NoSuchPath
 refusal_of first.ThroughNamedType = ThroughNamedType
 refusal_of first.NoSuchSibling = NoSuchSibling
 refusal_of first.NameTaken = NameTaken
+refusal_of first.Reserved = Reserved
+refusal_of first.InUse = InUse
 refusal_of first.NotSet = NotSet
 refusal_of first.NotAnInstance = NotAnInstance
 refusal_of first.NotAddable = NotAddable
@@ -59,6 +61,8 @@ Refuses old e NotAnInstance = step old e ≡ Err NotAnInstance
 Refuses old e NotAddable = step old e ≡ Err NotAddable
 Refuses old e NoSuchSibling = step old e ≡ Err NoSuchSibling
 Refuses old e NameTaken = step old e ≡ Err NameTaken
+Refuses old e Reserved = step old e ≡ Err Reserved
+Refuses old e InUse = step old e ≡ Err InUse
 Refuses old e NotSet = step old e ≡ Err NotSet
 Refuses old e (Faulty fault) = step old e ≡ Err (Faulty fault)
 Refuses old e Memory = Unit {0}

@@ -19,8 +19,12 @@ pub enum Refusal {
     NotAddable,
     /// X2: the item to stand next to isn't there.
     NoSuchSibling,
-    /// X3: a name of the new items is taken.
+    /// X3: the new name, or a name of the new items, is taken.
     NameTaken,
+    /// X4: the new name is a reserved word.
+    Reserved,
+    /// X5: a type reference leads to the definition.
+    InUse,
     /// X6: there is no assignment to clear.
     NotSet,
     /// X9: the edited map has a fault.
@@ -48,6 +52,8 @@ impl From<early::Refusal> for Refusal {
             early::Refusal::ThroughNamedType => Refusal::ThroughNamedType,
             early::Refusal::NoSuchSibling => Refusal::NoSuchSibling,
             early::Refusal::NameTaken => Refusal::NameTaken,
+            early::Refusal::Reserved => Refusal::Reserved,
+            early::Refusal::InUse => Refusal::InUse,
             early::Refusal::NotSet => Refusal::NotSet,
             early::Refusal::NotAnInstance => Refusal::NotAnInstance,
             early::Refusal::NotAddable => Refusal::NotAddable,

@@ -15,30 +15,30 @@ use Rattle.rdl_rewrite.specs.declared.edit.Edit.TheVariants as edit
 use Rattle.rdl_rewrite.specs.declared.edit.Refusal.TheVariants.{NoSuchPath, ThroughNamedType, NoSuchSibling, NameTaken, NotSet, NotAnInstance, NotAddable}
 use Rattle.rdl_rewrite.specs.Rewritten.{rewritten}
 
-abbrev shaped : Shell → Kind → Items → Items → Items
+abbrev pub shaped : Shell → Kind → Items → Items → Items
 shaped shell kind body rest = holder (anonymous shell kind) body rest
 
-abbrev held : List ℕ → Kind → Items → Items → Items
+abbrev pub held : List ℕ → Kind → Items → Items → Items
 held name kind body rest = shaped (bare_shell name) kind body rest
 
-abbrev of_type : List ℕ → List ℕ → Items → Items
+abbrev pub of_type : List ℕ → List ℕ → Items → Items
 of_type type name rest = plain (named (bare_shell name) type) rest
 
-abbrev top : Items → Items
+abbrev pub top : Items → Items
 top body = holder (define (codes "top") Addrmap) body no_items
 
-abbrev to_top : List Segment → List Segment
+abbrev pub to_top : List Segment → List Segment
 to_top rest = Def (codes "top") ∷ rest
 
 abbrev to_a : List Segment
 to_a = to_top (Inst (codes "a") ∷ [])
 
 -- field {} NAME;
-abbrev field : List ℕ → Items
+abbrev pub field : List ℕ → Items
 field name = held name Field no_items no_items
 
 -- reg { field {} f; } NAME;
-abbrev reg : List ℕ → Items → Items
+abbrev pub reg : List ℕ → Items → Items
 reg name rest = held name Reg (field (codes "f")) rest
 
 -- ---- Next to a sibling, and before all others.
