@@ -1,9 +1,1 @@
-pub mod Closings
 pub mod CommandLine
-pub mod ItemNames
-pub mod Opened
-pub mod Pieces
-pub mod RunLemmas
-pub mod ScriptLines
-pub mod SoFar
-pub mod Written

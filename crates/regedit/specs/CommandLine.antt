@@ -3,8 +3,8 @@ use Rattle.std.specs.Prelude.{ℕ, ◌≤◌, ◌==◌, Bool, false, ◌&&◌, L
 use Rattle.std.specs.Cmp.Lexicographic.{pointwise}
 use Rattle.regedit.specs.declared.command.Failure.{Failure}
 use Rattle.regedit.specs.declared.command.Failure.TheVariants as failures
-use Rattle.regedit.specs.declared.status.Status.{Status}
-use Rattle.regedit.specs.declared.status.Status.TheVariants as statuses
+use Rattle.rdl_run.specs.declared.status.Status.{Status}
+use Rattle.rdl_run.specs.declared.status.Status.TheVariants as statuses
 
 -- the words `MAP SCRIPT --rdl OUT --header OUT`
 abbrev pub command_line : (map script rdl header : List ℕ) → List (List ℕ)

@@ -2,11 +2,11 @@
 ghost use Rattle.std.specs.Prelude.{◌≡◌, ◌↔◌, ◌⊎◌, map, false, IfSome, IsNone, IsErrOf, IsOkUnless};
 ghost use Rattle.regedit.specs.CommandLine.{command_line, is_command_line, status_code, failure_code, IsExit};
 ghost use Rattle.regedit.specs.declared.command.Failure.{Failure};
-ghost use Rattle.regedit.specs.declared.status.RunFault.{RunFault};
+ghost use Rattle.rdl_run.specs.declared.status.RunFault.{RunFault};
 
-use crate::output::write_whole;
-use crate::run::{Options, run};
-use crate::status::{RunFault, Status};
+use rdl_run::output::write_whole;
+use rdl_run::run::{Options, run};
+use rdl_run::status::{RunFault, Status};
 use std::alloc::Global;
 use std::fs::File;
 use std::io;

@@ -1,17 +1,7 @@
 //! An editor of register maps.
 #![tactic(auto)]
 
-mod closing;
 mod command;
-mod input;
-mod open;
-mod output;
-mod reading;
-mod reply;
-mod run;
-mod script;
-mod serve;
-mod status;
 #[cfg(test)]
 mod tests;
 

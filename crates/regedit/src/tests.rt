@@ -1,6 +1,6 @@
 //! Tests of the whole program, over readers and writers in memory and over files.
-use crate::run::{Options, run};
-use crate::status::{RunFault, Status};
+use rdl_run::run::{Options, run};
+use rdl_run::status::{RunFault, Status};
 use rdl_text::name::Name;
 use std::alloc::Global;
 use std::io::{Read, Write};

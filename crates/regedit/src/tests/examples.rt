@@ -1,7 +1,7 @@
 //! The examples of the folder `examples`, whose texts stand here again.
 use super::example_headers::{DMA_HEADER, UART_HEADER};
 use super::write;
-use crate::status::Status;
+use rdl_run::status::Status;
 use std::alloc::Global;
 use std::process::Abort;
 use std::test::Fail;

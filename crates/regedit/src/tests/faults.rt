@@ -1,7 +1,7 @@
 //! Readers and writers that fail.
 use super::{MAP, run_with};
-use crate::input::read_whole;
-use crate::status::{RunFault, Status};
+use rdl_run::input::read_whole;
+use rdl_run::status::{RunFault, Status};
 use std::io;
 use std::io::{ErrorKind, Read, Write};
 

@@ -1,6 +1,6 @@
 //! Headers.
 use super::{assert_prints, write};
-use crate::status::Status;
+use rdl_run::status::Status;
 use std::test::Fail;
 
 /// A map in which the last of the macros has the name of the one before.

@@ -1,6 +1,6 @@
 //! What the history refuses.
 use super::{MAP, assert_prints, write_with};
-use crate::status::Status;
+use rdl_run::status::Status;
 use std::alloc::Global;
 use std::process::Abort;
 use std::test::Fail;

@@ -1,6 +1,6 @@
 //! Maps that are laid out.
 use super::{assert_each_prints, write, write_top};
-use crate::status::Status;
+use rdl_run::status::Status;
 use std::alloc::Global;
 use std::process::Abort;
 use std::test::Fail;

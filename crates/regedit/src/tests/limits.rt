@@ -1,6 +1,6 @@
 //! What stands at a limit, and past it.
 use super::{MAP, assert_prints, write};
-use crate::status::Status;
+use rdl_run::status::Status;
 use std::alloc::{AllocError, Global};
 use std::process::Abort;
 use std::test::Fail;

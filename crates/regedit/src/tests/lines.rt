@@ -1,6 +1,6 @@
 //! Lines of a script.
 use super::{MAP, assert_prints, write};
-use crate::status::Status;
+use rdl_run::status::Status;
 use std::alloc::Global;
 use std::test::Fail;
 

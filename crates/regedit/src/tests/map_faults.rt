@@ -1,6 +1,6 @@
 //! Maps that are refused for what they describe.
 use super::{assert_each_prints, assert_prints};
-use crate::status::Status;
+use rdl_run::status::Status;
 use std::test::Fail;
 
 const OF_ITEMS: [(&str, &str); 19] = [

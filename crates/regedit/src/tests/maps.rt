@@ -1,6 +1,6 @@
 //! Maps that are refused.
 use super::{write, write_bytes};
-use crate::status::Status;
+use rdl_run::status::Status;
 use std::test::Fail;
 
 const REFUSED: [(&str, &str); 19] = [

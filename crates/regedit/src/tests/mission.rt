@@ -1,6 +1,6 @@
 //! The run that the README shows.
 use super::{MAP, write};
-use crate::status::Status;
+use rdl_run::status::Status;
 use std::test::Fail;
 
 pub(super) const SCRIPT: &str = "add /$top last reg { field {} g; } b;\nundo\nredo\nlist\n";

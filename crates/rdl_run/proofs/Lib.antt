@@ -1,0 +1,8 @@
+pub mod Closings
+pub mod ItemNames
+pub mod Opened
+pub mod Pieces
+pub mod RunLemmas
+pub mod ScriptLines
+pub mod SoFar
+pub mod Written

@@ -1,0 +1,15 @@
+use Rattle.std.proofs.Common.{◌+◌, ◌≤◌, length}
+use Rattle.std.specs.Option.{option_copied}
+use Rattle.rdl_run.specs.ScriptLines.{left_len}
+use Rattle.rdl_run.proofs.SoFar.{SoFar}
+use Rattle.rdl_run.proofs.serve.serve_all.Given as goal
+
+abbrev pub invariant-lines : goal.invariant-lines
+invariant-lines g l = record {
+  so_far : SoFar l.fn.journal l.script (option_copied l.rest) l.number (g.E.Write.contents l.fn.messages) (g.E.Write.contents l.messages) l.refused l.journal;
+  room : l.number + left_len (option_copied l.rest) ≤ length l.script + 1;
+  few : l.interrupts ≤ 1000;
+}
+
+abbrev pub decreases-lines : goal.decreases-lines
+decreases-lines g l = left_len (option_copied l.rest)

@@ -1,0 +1,12 @@
+pub mod Answers
+pub mod Closing
+pub mod Commands
+pub mod Known
+pub mod Messages
+pub mod Opening
+pub mod OpeningFaults
+pub mod Output
+pub mod ReadingFaults
+pub mod Readings
+pub mod ScriptLines
+pub mod Seen

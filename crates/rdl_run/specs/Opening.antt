@@ -1,0 +1,49 @@
+-- Opening a map: from its bytes to the map that the history begins with, or the one message of a refused map. Own.
+use Rattle.std.specs.Prelude.{◌≡◌, ◌⊎◌, ℕ, List, Option, None, Some, Err}
+use Rattle.rdl_edit.specs.Step.{State, HasRows}
+use Rattle.rdl_elab.specs.Faults.{elaborated}
+use Rattle.rdl_parse.specs.Places.{Located, place_at}
+use Rattle.rdl_parse.specs.declared.fault.ParseFault.{ParseFault}
+use Rattle.rdl_text.specs.Place.{line, column}
+use Rattle.rdl_tree.specs.Items.{Items}
+use Rattle.rdl_tree.specs.declared.fault.Fault.{Fault}
+use Rattle.rdl_run.specs.Messages.{map_line, parse_fault_text, fault_text}
+use Rattle.rdl_run.specs.Readings.{ReadsMap, RefusesMap}
+
+-- a message at a place, or at 1:1 where it is of the whole map
+abbrev pub line_at : Option (ℕ × ℕ) → List ℕ → List ℕ
+line_at None what = map_line 1 1 what
+line_at (Some place) what = map_line place.0 place.1 what
+
+-- the message of a fault of the text, at its byte
+abbrev pub text_line : List ℕ → ParseFault → List ℕ
+text_line bytes fault = map_line (line bytes fault.offset) (column bytes fault.offset) (parse_fault_text fault.kind)
+
+-- the message of a fault of the description, at its item's word
+abbrev pub fault_line : Located → Fault → List ℕ
+fault_line places fault = line_at (place_at fault.address places) (fault_text fault.kind)
+
+-- the bytes spell a map without a fault
+pub record Opens (option : Option (List ℕ)) (bytes : List ℕ) (s : State) : Type 0 where
+  pub places : Located
+  pub read : ReadsMap bytes s.description places
+  pub whole : HasRows s
+  pub same_option : s.option ≡ option
+
+-- they aren't read
+pub record RefusedText (bytes : List ℕ) (message : List ℕ) : Type 0 where
+  pub fault : ParseFault
+  pub refused : RefusesMap bytes fault
+  pub is : message ≡ text_line bytes fault
+
+-- they spell a map that has a fault
+pub record RefusedMap (option : Option (List ℕ)) (bytes : List ℕ) (message : List ℕ) : Type 0 where
+  pub d : Items
+  pub places : Located
+  pub read : ReadsMap bytes d places
+  pub fault : Fault
+  pub first : elaborated d option ≡ Err fault
+  pub is : message ≡ fault_line places fault
+
+abbrev pub RefusesToOpen : Option (List ℕ) → List ℕ → List ℕ → Type 0
+RefusesToOpen option bytes message = RefusedText bytes message ⊎ RefusedMap option bytes message

@@ -1,0 +1,46 @@
+//! Reading an input whole.
+ghost use Rattle.std.specs.Prelude.{◌≡◌, ◌≢◌, ◌^◌, ◌<◌, ◌≤◌, length, Err, IfOk, OnOk, IfSome, IsErrOf};
+ghost use Rattle.std.specs.Io.KnownBytes.{IsAtEnd};
+ghost use Rattle.rdl_run.specs.Known.{Gives};
+ghost use Rattle.rdl_run.specs.declared.status.RunFault.{RunFault};
+
+use crate::status::{MOST_INTERRUPTS, RunFault};
+use std::alloc::Global;
+use std::io::{ErrorKind, Read};
+
+/// All the bytes of a reader. It makes at most `limit + 1_001` reads.
+pub fn read_whole<R: Read>(alloc: Global, reader: &mut R, limit: usize) -> Result<Vec<u8>, RunFault>
+    requires { limit < 2 ^ 32 }
+    ensures bytes { IfOk result (λ bytes. Gives (R.remaining reader.old) bytes.items) }
+    ensures end { OnOk result (IsAtEnd (R.remaining reader.new)) }
+    ensures bound { IfOk result (λ bytes. length bytes.items ≤ limit) }
+    ensures too_long { IsErrOf result RunFault.TooLong → IfSome (R.remaining reader.old) (λ xs. limit < length xs) }
+    ensures no_write { result ≢ Err RunFault.Write }
+{
+    let mut bytes = Vec::new(alloc);
+    let mut interrupts = 0usize;
+    let mut buffer = [0u8; 4096];
+    for _turn in 0..limit + MOST_INTERRUPTS + 1 {
+        match reader.read(&mut buffer) {
+            Ok(0) => return Ok(bytes),
+            Ok(n) => {
+                if n > limit - bytes.len() {
+                    return Err(RunFault::TooLong);
+                }
+                if bytes.extend_from_slice(&buffer[..n]).is_err() {
+                    return Err(RunFault::Memory);
+                }
+            }
+            Err(e) => {
+                if e.kind() != ErrorKind::Interrupted {
+                    return Err(RunFault::Read);
+                }
+                if interrupts == MOST_INTERRUPTS {
+                    return Err(RunFault::Interrupted);
+                }
+                interrupts += 1;
+            }
+        }
+    }
+    unreachable!()
+}

@@ -1,0 +1,13 @@
+//! A whole run of the editor: from the bytes of a map and a script to messages, a map, a header and a status.
+#![tactic(auto)]
+
+mod closing;
+pub mod input;
+mod open;
+pub mod output;
+mod reading;
+mod reply;
+pub mod run;
+mod script;
+mod serve;
+pub mod status;

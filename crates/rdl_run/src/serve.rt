@@ -1,0 +1,211 @@
+//! One line of a script after another.
+ghost use Rattle.std.specs.Prelude.{◌≡◌, ◌⊎◌, ℕ, ◌≤◌, ◌<◌, ◌^◌, List, [], ◌∷◌, length, string_bytes, Err, IfOk, IfErr, OnOk, OnErr, IsOkUnless};
+ghost use Rattle.std.specs.Io.KnownBytes.{Appends};
+ghost use Rattle.std.specs.List.{prefix_len};
+ghost use Rattle.std.specs.Option.{option_copied};
+ghost use Rattle.journal_core.specs.History.{Edits};
+ghost use Rattle.journal_core.specs.Faults.{Explains};
+ghost use Rattle.journal_core.specs.declared.fault.EditFault.{EditFault};
+ghost use Rattle.rdl_edit.specs.Step.{Leads, Refuses};
+ghost use Rattle.rdl_tree.specs.declared.path.Segment.{Segment};
+ghost use Rattle.rdl_run.specs.Answers.{Answers, IsListOf, Replied, Serves};
+ghost use Rattle.rdl_run.specs.Commands.{add, undo, redo, lines_of, lines_left};
+ghost use Rattle.rdl_run.specs.ScriptLines.{is_in_line, left_len};
+ghost use Rattle.rdl_run.specs.Seen.{seen};
+
+use crate::output::write_whole;
+use crate::reading::{ReadingFault, items_of};
+use crate::reply::{LineRefusal, Reply, reply_text};
+use crate::script::{Request, request_of};
+use crate::status::RunFault;
+use journal_core::fault::{EditFault, StepFault};
+use journal_core::journal::Journal;
+use rdl_edit::edit::Refusal;
+use rdl_edit::map::Map;
+use rdl_list::list_text;
+use rdl_rewrite::edit::Edit;
+use rdl_rewrite::place::Place;
+use rdl_text::name::Name;
+use rdl_tree::description::Body;
+use rdl_tree::path::{Path, Segment};
+use std::alloc::{AllocError, Global};
+use std::io::Write;
+
+/// The path to the definition of that name in the root body.
+fn path_to(alloc: Global, definition: Name) -> Result<Path, AllocError>
+    ensures { IfOk result (λ path. path ≡ Segment.Def definition ∷ []) }
+{
+    let mut path = Path::new(alloc);
+    path.push(Segment::Def(definition))?;
+    Ok(path)
+}
+
+/// Makes the edit, and lets it go.
+fn make(alloc: Global, journal: &mut Journal<Map>, edit: Edit) -> Result<(), EditFault<Refusal>>
+    ensures ok { OnOk result (Edits Leads edit journal.old journal.new) }
+    ensures full { journal.old.place ≡ journal.old.limit → result ≡ Err EditFault.Full }
+    ensures fault { IfErr result (Explains Refuses edit journal.old) }
+    ensures err { OnErr result (journal.new ≡ journal.old) }
+{
+    journal.edit(alloc, &edit)
+}
+
+fn add(
+    alloc: Global,
+    journal: &mut Journal<Map>,
+    target: Name,
+    text: &[u8],
+) -> Result<Reply, RunFault>
+    ensures answers { IfOk result (λ reply. Answers journal.old (add target text.now) reply journal.new) }
+    ensures fault { IsOkUnless result RunFault.Memory }
+{
+    let items = match items_of(alloc, text) {
+        Ok(items) => Body::from_vec(items),
+        Err(ReadingFault::Refused(fault)) => {
+            return Ok(Reply::Refused(LineRefusal::Text(fault)));
+        }
+        Err(ReadingFault::Memory) => return Err(RunFault::Memory),
+    };
+    let edit = Edit::Add(path_to(alloc, target)?, Place::Last, items);
+    match make(alloc, journal, edit) {
+        Ok(()) => Ok(Reply::Done),
+        Err(EditFault::Full) => Ok(Reply::Refused(LineRefusal::HistoryFull)),
+        Err(EditFault::Refused(Refusal::Memory)) => Err(RunFault::Memory),
+        Err(EditFault::Refused(refusal)) => Ok(Reply::Refused(LineRefusal::Edit(refusal))),
+        Err(EditFault::Memory) => Err(RunFault::Memory),
+    }
+}
+
+fn undo(alloc: Global, journal: &mut Journal<Map>) -> Result<Reply, RunFault>
+    ensures answers { IfOk result (λ reply. Answers journal.old undo reply journal.new) }
+    ensures fault { IsOkUnless result RunFault.Memory }
+{
+    match journal.undo(alloc) {
+        Ok(()) => Ok(Reply::Done),
+        Err(StepFault::Nothing) => Ok(Reply::Refused(LineRefusal::NothingToUndo)),
+        Err(StepFault::Memory) => Err(RunFault::Memory),
+    }
+}
+
+fn redo(alloc: Global, journal: &mut Journal<Map>) -> Result<Reply, RunFault>
+    ensures answers { IfOk result (λ reply. Answers journal.old redo reply journal.new) }
+    ensures fault { IsOkUnless result RunFault.Memory }
+{
+    match journal.redo(alloc) {
+        Ok(()) => Ok(Reply::Done),
+        Err(StepFault::Nothing) => Ok(Reply::Refused(LineRefusal::NothingToRedo)),
+        Err(StepFault::Memory) => Err(RunFault::Memory),
+    }
+}
+
+/// The lines of the rows of a map.
+fn list(alloc: Global, map: &Map) -> Result<Reply, RunFault>
+    ensures lists { IfOk result (IsListOf map.now) }
+    ensures fault { IsOkUnless result RunFault.Memory }
+{
+    let Ok(rows) = map.rows(alloc) else {
+        return Err(RunFault::Memory);
+    };
+    match list_text(alloc, rows.as_slice()) {
+        Ok(text) => Ok(Reply::Listed(text)),
+        Err(_) => Err(RunFault::Memory),
+    }
+}
+
+/// Does what a line asks for.
+pub fn serve(
+    alloc: Global,
+    journal: &mut Journal<Map>,
+    request: Request<'_>,
+) -> Result<Reply, RunFault>
+    ensures answers { IfOk result (λ reply. Answers journal.old (seen request.entry) reply journal.new) }
+    ensures fault { IsOkUnless result RunFault.Memory }
+{
+    match request {
+        Request::Nothing => Ok(Reply::Done),
+        Request::Undo => undo(alloc, journal),
+        Request::Redo => redo(alloc, journal),
+        Request::List => list(alloc, journal.map()),
+        Request::Add(target, text) => add(alloc, journal, target, text),
+        Request::Refused(fault) => Ok(Reply::Refused(LineRefusal::Command(fault))),
+    }
+}
+
+fn line_len(bytes: &[u8]) -> usize
+    ensures count { result ≡ prefix_len is_in_line bytes.now }
+    ensures within { result ≤ length bytes.now }
+{
+    bytes.iter().take_while(|byte| **byte != b'\n').count()
+}
+
+/// The first line, and what stands behind its line feed, if it has one.
+fn split_line(bytes: &[u8]) -> (&[u8], Option<&[u8]>)
+    ensures lines { lines_of bytes.now ≡ result.0.now ∷ lines_left (option_copied result.1) }
+    ensures less { left_len (option_copied result.1) ≤ length bytes.now }
+{
+    let end = line_len(bytes);
+    if end < bytes.len() {
+        (&bytes[..end], Some(&bytes[end + 1..]))
+    } else {
+        (bytes, None)
+    }
+}
+
+/// One line's message, and whether it is refused.
+fn serve_line(
+    alloc: Global,
+    journal: &mut Journal<Map>,
+    number: usize,
+    line: &[u8],
+) -> Result<(String, bool), RunFault>
+    ensures replied { IfOk result (λ r. Replied journal.old line.now number (string_bytes r.0) r.1 journal.new) }
+    ensures fault { IsOkUnless result RunFault.Memory }
+{
+    let request = match request_of(alloc, line) {
+        Ok(request) => request,
+        Err(_) => return Err(RunFault::Memory),
+    };
+    let reply = match serve(alloc, journal, request) {
+        Ok(reply) => reply,
+        Err(_) => return Err(RunFault::Memory),
+    };
+    let refused = reply.is_refused();
+    match reply_text(alloc, number, reply) {
+        Ok(text) => Ok((text, refused)),
+        Err(_) => Err(RunFault::Memory),
+    }
+}
+
+/// Serves the lines of a script, and writes the messages of each before the next is served. Answers whether one was
+/// refused.
+pub fn serve_all<E: Write>(
+    alloc: Global,
+    journal: &mut Journal<Map>,
+    script: &[u8],
+    messages: &mut E,
+    interrupts: &mut usize,
+) -> Result<bool, RunFault>
+    requires length { length script.now < 2 ^ 32 }
+    requires few { interrupts.old ≤ 1000 }
+    ensures served { IfOk result (λ refused. (text : List ℕ) × (Serves journal.old (lines_of script.now) text refused journal.new) × (Appends (E.contents messages.old) (E.contents messages.new) text)) }
+    ensures fault { IfErr result (λ fault. (fault ≡ RunFault.Memory) ⊎ (fault ≡ RunFault.Write)) }
+    ensures interrupts { interrupts.new ≤ 1000 }
+{
+    let mut number = 0usize;
+    let mut refused = false;
+    let mut rest = Some(script);
+    'lines: while let Some(bytes) = rest {
+        let (line, behind) = split_line(bytes);
+        number += 1;
+        let (text, refuses) = match serve_line(alloc, journal, number, line) {
+            Ok(said) => said,
+            Err(_) => return Err(RunFault::Memory),
+        };
+        if write_whole(messages, interrupts, text.as_bytes()).is_err() {
+            return Err(RunFault::Write);
+        }
+        refused = refused || refuses;
+        rest = behind;
+    }
+    Ok(refused)
+}
