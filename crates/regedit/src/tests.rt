@@ -24,6 +24,15 @@ mod mission;
 
 const MAP: &str = "addrmap top { reg { field {} f[8] = 0x5; } a; };";
 
+/// `MAP` as it is written.
+const UNEDITED: &str = "addrmap top {
+    reg {
+        field {
+        } f[8] = 0x5;
+    } a;
+};
+";
+
 /// What a run writes.
 #[derive(Debug, Drop)]
 struct Written {
@@ -130,6 +139,19 @@ fn assert_prints(
     let written = write_bytes(alloc, map.as_bytes(), script)?;
     assert_eq!(rt; written.messages()?, want, "at {map}");
     assert_eq!(rt; written.status, status, "at {map}");
+    Ok(())
+}
+
+/// Asserts what map a script leads to.
+fn assert_writes(
+    rt: &impl Abort,
+    alloc: Global,
+    map: &str,
+    script: &str,
+    want: &str,
+) -> Result<(), Fail> {
+    let written = write(alloc, map, script)?;
+    assert_eq!(rt; written.rdl()?, want, "at {map}");
     Ok(())
 }
 

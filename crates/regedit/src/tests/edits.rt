@@ -1,5 +1,7 @@
 //! Edits of maps of all forms.
 use super::write;
+use std::alloc::Global;
+use std::process::Abort;
 use std::test::Fail;
 
 /// A map, a script, and what is printed.
@@ -121,11 +123,22 @@ fn cases() -> &'static [Case] {
     &CASES
 }
 
+fn assert_answers(
+    rt: &impl Abort,
+    alloc: Global,
+    map: &str,
+    script: &str,
+    want: &str,
+) -> Result<(), Fail> {
+    let written = write(alloc, map, script)?;
+    assert_eq!(rt; written.messages()?, want, "at {map}");
+    Ok(())
+}
+
 #[test]
 fn are_made_or_refused(rt: HostRuntime) -> Result<(), Fail> {
     for (map, script, want) in cases() {
-        let written = write(rt.alloc(), map, script)?;
-        assert_eq!(rt; written.messages()?, *want, "at {map}");
+        assert_answers(&rt, rt.alloc(), map, script, want)?;
     }
     Ok(())
 }

@@ -4,17 +4,14 @@ use super::headers::{CLASH, CLASH_MESSAGE, CLASH_WRITTEN};
 use super::mission::{HEADER, MESSAGES, SCRIPT, WRITTEN};
 use crate::command::command;
 use std::alloc::AllocError;
+use std::process::Abort;
 use std::test::Fail;
 use std::{env, fs, process, str};
 
-/// A folder of a test's own, with the files of a run.
+/// A folder of a test's own.
 #[derive(Drop)]
 struct Folder {
     path: String,
-    map: String,
-    script: String,
-    rdl: String,
-    header: String,
 }
 
 impl Folder {
@@ -23,23 +20,34 @@ impl Folder {
         let number = process::id(rt.process());
         let path = format!(in rt.alloc(); "{}/regedit-{test}-{number}", above.as_path().display())?;
         fs::create_dir(rt, path.as_str())?;
-        Ok(Folder {
-            map: below(rt, path.as_str(), "map.rdl")?,
-            script: below(rt, path.as_str(), "script.txt")?,
-            rdl: below(rt, path.as_str(), "out.rdl")?,
-            header: below(rt, path.as_str(), "out.h")?,
-            path,
-        })
+        Ok(Folder { path })
+    }
+
+    fn file(&self, rt: &HostRuntime, name: &str) -> Result<String, AllocError> {
+        format!(in rt.alloc(); "{}/{name}", self.path)
+    }
+
+    fn write(&self, rt: &HostRuntime, name: &str, text: &str) -> Result<(), Fail> {
+        let file = self.file(rt, name)?;
+        fs::write(rt, file.as_str(), text)?;
+        Ok(())
+    }
+
+    fn create_folder(&self, rt: &HostRuntime, name: &str) -> Result<(), Fail> {
+        let folder = self.file(rt, name)?;
+        fs::create_dir(rt, folder.as_str())?;
+        Ok(())
+    }
+
+    fn read(&self, rt: &HostRuntime, name: &str) -> Result<String, Fail> {
+        let file = self.file(rt, name)?;
+        Ok(fs::read_to_string(rt, file.as_str())?)
     }
 
     fn remove(self, rt: &HostRuntime) -> Result<(), Fail> {
         fs::remove_dir_all(rt, self.path.as_str())?;
         Ok(())
     }
-}
-
-fn below(rt: &HostRuntime, folder: &str, name: &str) -> Result<String, AllocError> {
-    format!(in rt.alloc(); "{folder}/{name}")
 }
 
 /// What the program answers and writes.
@@ -71,134 +79,188 @@ fn run_words(rt: &HostRuntime, words: &[&str]) -> Said {
     }
 }
 
-fn run_in(rt: &HostRuntime, folder: &Folder) -> Said {
+/// The files of a run: the map and the script, and where the map and the header are written.
+type Names = (&'static str, &'static str, &'static str, &'static str);
+
+const NAMES: Names = ("map.rdl", "script.txt", "out.rdl", "out.h");
+
+fn run_in(rt: &HostRuntime, folder: &Folder, names: Names) -> Result<Said, Fail> {
+    let map = folder.file(rt, names.0)?;
+    let script = folder.file(rt, names.1)?;
+    let rdl = folder.file(rt, names.2)?;
+    let header = folder.file(rt, names.3)?;
     let words = [
-        folder.map.as_str(),
-        folder.script.as_str(),
+        map.as_str(),
+        script.as_str(),
         "--rdl",
-        folder.rdl.as_str(),
+        rdl.as_str(),
         "--header",
-        folder.header.as_str(),
+        header.as_str(),
     ];
-    run_words(rt, &words)
+    Ok(run_words(rt, &words))
+}
+
+/// The exit status, the messages and the errors.
+type Saying = (u8, &'static str, &'static str);
+
+fn assert_says(rt: &impl Abort, said: &Said, want: Saying) -> Result<(), Fail> {
+    assert_eq!(rt; said.errors()?, want.2);
+    assert_eq!(rt; said.messages()?, want.1);
+    assert_eq!(rt; said.status, want.0);
+    Ok(())
+}
+
+fn assert_holds(
+    abort: &impl Abort,
+    rt: &HostRuntime,
+    folder: &Folder,
+    name: &str,
+    want: &str,
+) -> Result<(), Fail> {
+    let text = folder.read(rt, name)?;
+    assert_eq!(abort; text.as_str(), want, "in {name}");
+    Ok(())
+}
+
+type Texts = &'static [(&'static str, &'static str)];
+
+fn write_each(rt: &HostRuntime, folder: &Folder, texts: Texts) -> Result<(), Fail> {
+    for (name, text) in texts {
+        folder.write(rt, name, text)?;
+    }
+    Ok(())
+}
+
+fn assert_each_holds(
+    abort: &impl Abort,
+    rt: &HostRuntime,
+    folder: &Folder,
+    texts: Texts,
+) -> Result<(), Fail> {
+    for (name, text) in texts {
+        assert_holds(abort, rt, folder, name, text)?;
+    }
+    Ok(())
+}
+
+/// Asserts what a run over these files says, and what then stands in others.
+fn assert_run_in(
+    abort: &impl Abort,
+    rt: &HostRuntime,
+    folder: &Folder,
+    before: Texts,
+    want: Saying,
+    behind: Texts,
+) -> Result<(), Fail> {
+    write_each(rt, folder, before)?;
+    let said = run_in(rt, folder, NAMES)?;
+    assert_says(abort, &said, want)?;
+    assert_each_holds(abort, rt, folder, behind)
+}
+
+fn assert_run(
+    abort: &impl Abort,
+    rt: &HostRuntime,
+    test: &str,
+    before: Texts,
+    want: Saying,
+    behind: Texts,
+) -> Result<(), Fail> {
+    let folder = Folder::new(rt, test)?;
+    assert_run_in(abort, rt, &folder, before, want, behind)?;
+    folder.remove(rt)
 }
 
 #[test]
 fn are_written(rt: HostRuntime) -> Result<(), Fail> {
-    let folder = Folder::new(&rt, "written")?;
-    fs::write(&rt, folder.map.as_str(), MAP)?;
-    fs::write(&rt, folder.script.as_str(), SCRIPT)?;
-    fs::write(&rt, folder.header.as_str(), "old")?;
-    let said = run_in(&rt, &folder);
-    assert_eq!(rt; said.errors()?, "");
-    assert_eq!(rt; said.messages()?, MESSAGES);
-    assert_eq!(rt; said.status, 0);
-    let rdl = fs::read_to_string(&rt, folder.rdl.as_str())?;
-    assert_eq!(rt; rdl.as_str(), WRITTEN);
-    let header = fs::read_to_string(&rt, folder.header.as_str())?;
-    assert_eq!(rt; header.as_str(), HEADER);
-    folder.remove(&rt)
+    let before = &[("map.rdl", MAP), ("script.txt", SCRIPT), ("out.h", "old")];
+    let behind = &[("out.rdl", WRITTEN), ("out.h", HEADER)];
+    assert_run(&rt, &rt, "written", before, (0, MESSAGES, ""), behind)
 }
 
 #[test]
 fn are_written_where_a_line_is_refused(rt: HostRuntime) -> Result<(), Fail> {
-    let folder = Folder::new(&rt, "refused")?;
-    fs::write(&rt, folder.map.as_str(), "addrmap top {};")?;
-    fs::write(&rt, folder.script.as_str(), "undo")?;
-    let said = run_in(&rt, &folder);
-    assert_eq!(rt; said.errors()?, "");
-    assert_eq!(rt; said.messages()?, "script:1: J2 nothing to undo\n");
-    assert_eq!(rt; said.status, 1);
-    let rdl = fs::read_to_string(&rt, folder.rdl.as_str())?;
-    assert_eq!(rt; rdl.as_str(), "addrmap top {\n};\n");
-    folder.remove(&rt)
+    let before = &[("map.rdl", "addrmap top {};"), ("script.txt", "undo")];
+    let said = (1, "script:1: J2 nothing to undo\n", "");
+    let behind = &[("out.rdl", "addrmap top {\n};\n")];
+    assert_run(&rt, &rt, "refused", before, said, behind)
 }
 
 #[test]
 fn stay_where_the_map_is_refused(rt: HostRuntime) -> Result<(), Fail> {
-    let folder = Folder::new(&rt, "stay")?;
-    fs::write(&rt, folder.map.as_str(), "addrmap top { reg {")?;
-    fs::write(&rt, folder.script.as_str(), SCRIPT)?;
-    fs::write(&rt, folder.rdl.as_str(), "old map")?;
-    fs::write(&rt, folder.header.as_str(), "old header")?;
-    let said = run_in(&rt, &folder);
-    assert_eq!(rt; said.errors()?, "");
-    assert_eq!(rt; said.messages()?, "map:1:20: S10 unexpected end\n");
-    assert_eq!(rt; said.status, 2);
-    let rdl = fs::read_to_string(&rt, folder.rdl.as_str())?;
-    assert_eq!(rt; rdl.as_str(), "old map");
-    let header = fs::read_to_string(&rt, folder.header.as_str())?;
-    assert_eq!(rt; header.as_str(), "old header");
-    folder.remove(&rt)
+    let before = &[
+        ("map.rdl", "addrmap top { reg {"),
+        ("script.txt", SCRIPT),
+        ("out.rdl", "old map"),
+        ("out.h", "old header"),
+    ];
+    let said = (2, "map:1:20: S10 unexpected end\n", "");
+    let behind = &[("out.rdl", "old map"), ("out.h", "old header")];
+    assert_run(&rt, &rt, "stay", before, said, behind)
 }
 
 // The map is written, and the header's file stays as it was.
 #[test]
 fn of_headers_stay_where_two_macros_have_one_name(rt: HostRuntime) -> Result<(), Fail> {
-    let folder = Folder::new(&rt, "clash")?;
-    fs::write(&rt, folder.map.as_str(), CLASH)?;
-    fs::write(&rt, folder.script.as_str(), "")?;
-    fs::write(&rt, folder.header.as_str(), "old header")?;
-    let said = run_in(&rt, &folder);
-    assert_eq!(rt; said.errors()?, "");
-    assert_eq!(rt; said.messages()?, CLASH_MESSAGE);
-    assert_eq!(rt; said.status, 3);
-    let rdl = fs::read_to_string(&rt, folder.rdl.as_str())?;
-    assert_eq!(rt; rdl.as_str(), CLASH_WRITTEN);
-    let header = fs::read_to_string(&rt, folder.header.as_str())?;
-    assert_eq!(rt; header.as_str(), "old header");
-    folder.remove(&rt)
+    let before = &[
+        ("map.rdl", CLASH),
+        ("script.txt", ""),
+        ("out.h", "old header"),
+    ];
+    let behind = &[("out.rdl", CLASH_WRITTEN), ("out.h", "old header")];
+    assert_run(&rt, &rt, "clash", before, (3, CLASH_MESSAGE, ""), behind)
 }
 
+// Nothing is written where the map or the script isn't there.
 #[test]
 fn that_cannot_be_read_are_a_read_fault(rt: HostRuntime) -> Result<(), Fail> {
-    let folder = Folder::new(&rt, "read")?;
-    fs::write(&rt, folder.script.as_str(), SCRIPT)?;
-    let without_map = run_in(&rt, &folder);
-    assert_eq!(rt; without_map.errors()?, "regedit: read fault\n");
-    assert_eq!(rt; without_map.messages()?, "");
-    assert_eq!(rt; without_map.status, 4);
-    fs::remove_file(&rt, folder.script.as_str())?;
-    fs::write(&rt, folder.map.as_str(), MAP)?;
-    let without_script = run_in(&rt, &folder);
-    assert_eq!(rt; without_script.errors()?, "regedit: read fault\n");
-    assert_eq!(rt; without_script.status, 4);
-    assert!(rt; fs::read_to_string(&rt, folder.rdl.as_str()).is_err());
-    folder.remove(&rt)
+    let said = (4, "", "regedit: read fault\n");
+    let behind = &[("out.rdl", "old map")];
+    let without_map = &[("script.txt", SCRIPT), ("out.rdl", "old map")];
+    assert_run(&rt, &rt, "mapless", without_map, said, behind)?;
+    let without_script = &[("map.rdl", MAP), ("out.rdl", "old map")];
+    assert_run(&rt, &rt, "scriptless", without_script, said, behind)
+}
+
+fn assert_header_is_a_folder(
+    abort: &impl Abort,
+    rt: &HostRuntime,
+    folder: &Folder,
+) -> Result<(), Fail> {
+    folder.create_folder(rt, "out.h")?;
+    let before = &[("map.rdl", MAP), ("script.txt", SCRIPT)];
+    let said = (4, MESSAGES, "regedit: write fault\n");
+    assert_run_in(abort, rt, folder, before, said, &[("out.rdl", WRITTEN)])
 }
 
 #[test]
 fn that_cannot_be_written_are_a_write_fault(rt: HostRuntime) -> Result<(), Fail> {
     let folder = Folder::new(&rt, "write")?;
-    fs::write(&rt, folder.map.as_str(), MAP)?;
-    fs::write(&rt, folder.script.as_str(), SCRIPT)?;
-    fs::create_dir(&rt, folder.header.as_str())?;
-    let said = run_in(&rt, &folder);
-    assert_eq!(rt; said.errors()?, "regedit: write fault\n");
-    assert_eq!(rt; said.messages()?, MESSAGES);
-    assert_eq!(rt; said.status, 4);
-    let rdl = fs::read_to_string(&rt, folder.rdl.as_str())?;
-    assert_eq!(rt; rdl.as_str(), WRITTEN);
+    assert_header_is_a_folder(&rt, &rt, &folder)?;
     folder.remove(&rt)
+}
+
+fn assert_written_in_place(
+    abort: &impl Abort,
+    rt: &HostRuntime,
+    folder: &Folder,
+) -> Result<(), Fail> {
+    write_each(rt, folder, &[("map.rdl", MAP), ("script.txt", SCRIPT)])?;
+    let said = run_in(rt, folder, ("map.rdl", "script.txt", "map.rdl", "out.h"))?;
+    assert_says(abort, &said, (0, MESSAGES, ""))?;
+    assert_holds(abort, rt, folder, "map.rdl", WRITTEN)
 }
 
 #[test]
 fn may_be_the_map_itself(rt: HostRuntime) -> Result<(), Fail> {
     let folder = Folder::new(&rt, "same")?;
-    fs::write(&rt, folder.map.as_str(), MAP)?;
-    fs::write(&rt, folder.script.as_str(), SCRIPT)?;
-    let words = [
-        folder.map.as_str(),
-        folder.script.as_str(),
-        "--rdl",
-        folder.map.as_str(),
-        "--header",
-        folder.header.as_str(),
-    ];
-    assert_eq!(rt; run_words(&rt, &words).status, 0);
-    let rdl = fs::read_to_string(&rt, folder.map.as_str())?;
-    assert_eq!(rt; rdl.as_str(), WRITTEN);
+    assert_written_in_place(&rt, &rt, &folder)?;
     folder.remove(&rt)
+}
+
+fn assert_refused(abort: &impl Abort, rt: &HostRuntime, words: &[&str]) -> Result<(), Fail> {
+    let said = run_words(rt, words);
+    assert_says(abort, &said, (5, "", "regedit: bad command line\n"))
 }
 
 #[test]
@@ -213,10 +275,7 @@ fn are_untouched_by_other_words(rt: HostRuntime) -> Result<(), Fail> {
         &["map", "script", "--rdl", "out", "--header", "out", "more"],
     ];
     for words in cases {
-        let said = run_words(&rt, words);
-        assert_eq!(rt; said.status, 5, "at {words:?}");
-        assert_eq!(rt; said.errors()?, "regedit: bad command line\n");
-        assert_eq!(rt; said.messages()?, "");
+        assert_refused(&rt, &rt, words)?;
     }
     Ok(())
 }

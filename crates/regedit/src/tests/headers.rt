@@ -1,6 +1,8 @@
 //! Headers.
-use super::{assert_prints, write};
+use super::{assert_prints, assert_writes, write};
 use rdl_run::status::Status;
+use std::alloc::Global;
+use std::process::Abort;
 use std::test::Fail;
 
 /// A map in which the last of the macros has the name of the one before.
@@ -109,23 +111,32 @@ fn cases() -> &'static [Case] {
     &CASES
 }
 
+pub(super) fn assert_heads(
+    rt: &impl Abort,
+    alloc: Global,
+    map: &str,
+    script: &str,
+    messages: &str,
+    header: &str,
+) -> Result<(), Fail> {
+    let written = write(alloc, map, script)?;
+    assert_eq!(rt; written.messages()?, messages, "at {map}");
+    assert_eq!(rt; written.header()?, header, "at {map}");
+    Ok(())
+}
+
 #[test]
 fn are_of_the_last_map(rt: HostRuntime) -> Result<(), Fail> {
     for (map, script, messages, header) in cases() {
-        let written = write(rt.alloc(), map, script)?;
-        assert_eq!(rt; written.messages()?, *messages, "at {map}");
-        assert_eq!(rt; written.header()?, *header, "at {map}");
+        assert_heads(&rt, rt.alloc(), map, script, messages, header)?;
     }
     Ok(())
 }
 
 #[test]
 fn are_not_written_where_two_macros_have_one_name(rt: HostRuntime) -> Result<(), Fail> {
-    let written = write(rt.alloc(), CLASH, "")?;
-    assert_eq!(rt; written.messages()?, CLASH_MESSAGE);
-    assert_eq!(rt; written.rdl()?, CLASH_WRITTEN);
-    assert_eq!(rt; written.header()?, "");
-    Ok(())
+    assert_heads(&rt, rt.alloc(), CLASH, "", CLASH_MESSAGE, "")?;
+    assert_writes(&rt, rt.alloc(), CLASH, "", CLASH_WRITTEN)
 }
 
 // The clash counts more than the refused line, and is said behind it.

@@ -1,5 +1,5 @@
 //! What stands at a limit, and past it.
-use super::{MAP, assert_prints, write};
+use super::{MAP, assert_prints, assert_writes};
 use rdl_run::status::Status;
 use std::alloc::{AllocError, Global};
 use std::process::Abort;
@@ -33,15 +33,16 @@ fn assert_names(
     assert_prints(rt, alloc, map.as_str(), script.as_bytes(), status, want)
 }
 
+fn assert_writes_name(rt: &impl Abort, alloc: Global, name: &str) -> Result<(), Fail> {
+    let map = with_name(alloc, "addrmap @ {};", name)?;
+    let want = with_name(alloc, "addrmap @ {\n};\n", name)?;
+    assert_writes(rt, alloc, map.as_str(), "", want.as_str())
+}
+
 #[test]
 fn of_the_longest_name(rt: HostRuntime) -> Result<(), Fail> {
     let name = named(rt.alloc(), 255)?;
-    let map = with_name(rt.alloc(), "addrmap @ {};", name.as_str())?;
-    let want = with_name(rt.alloc(), "addrmap @ {\n};\n", name.as_str())?;
-    let written = write(rt.alloc(), map.as_str(), "")?;
-    assert_eq!(rt; written.rdl()?, want.as_str());
-    assert_eq!(rt; written.status, Status::Accepted);
-    Ok(())
+    assert_writes_name(&rt, rt.alloc(), name.as_str())
 }
 
 #[test]
@@ -112,14 +113,15 @@ fn nested(alloc: Global, levels: usize) -> Result<String, AllocError> {
     Ok(map)
 }
 
+fn assert_nests(rt: &impl Abort, alloc: Global, levels: usize, want: &str) -> Result<(), Fail> {
+    let map = nested(alloc, levels)?;
+    assert_prints(rt, alloc, map.as_str(), b"", Status::MapRefused, want)
+}
+
 #[test]
 fn of_nesting(rt: HostRuntime) -> Result<(), Fail> {
-    let map = nested(rt.alloc(), 17)?;
-    let want = "map:1:170: S11 nesting over 16\n";
-    assert_prints(&rt, rt.alloc(), map.as_str(), b"", Status::MapRefused, want)?;
-    let map = nested(rt.alloc(), 16)?;
-    let want = "map:1:161: S10 unexpected end\n";
-    assert_prints(&rt, rt.alloc(), map.as_str(), b"", Status::MapRefused, want)
+    assert_nests(&rt, rt.alloc(), 17, "map:1:170: S11 nesting over 16\n")?;
+    assert_nests(&rt, rt.alloc(), 16, "map:1:161: S10 unexpected end\n")
 }
 
 /// A map of 65,536 rows: the top, and three register files of 21,845 rows each.
@@ -159,28 +161,18 @@ fn adding_nested(alloc: Global, levels: usize) -> Result<String, AllocError> {
     Ok(script)
 }
 
+fn assert_adds(rt: &impl Abort, alloc: Global, levels: usize, want: &str) -> Result<(), Fail> {
+    let script = adding_nested(alloc, levels)?;
+    let script = script.as_bytes();
+    assert_prints(rt, alloc, MAP, script, Status::LineRefused, want)
+}
+
 // The text of an `add` may nest as deep as a map, and then it is too deep inside the map.
 #[test]
 fn of_nesting_in_an_edited_map(rt: HostRuntime) -> Result<(), Fail> {
-    let script = adding_nested(rt.alloc(), 16)?;
     let want = "script:1: X9 the edited map has a fault: E25 description too large at item -\n";
-    assert_prints(
-        &rt,
-        rt.alloc(),
-        MAP,
-        script.as_bytes(),
-        Status::LineRefused,
-        want,
-    )?;
-    let script = adding_nested(rt.alloc(), 15)?;
+    assert_adds(&rt, rt.alloc(), 16, want)?;
     let want =
         "script:1: X9 the edited map has a fault: E16 empty component at item 0.1.0.0.0.0.0.0.0.0.0.0.0.0.0.0\n";
-    assert_prints(
-        &rt,
-        rt.alloc(),
-        MAP,
-        script.as_bytes(),
-        Status::LineRefused,
-        want,
-    )
+    assert_adds(&rt, rt.alloc(), 15, want)
 }

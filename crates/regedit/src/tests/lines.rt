@@ -1,7 +1,8 @@
 //! Lines of a script.
-use super::{MAP, assert_prints, write};
+use super::{MAP, UNEDITED, assert_prints, assert_writes};
 use rdl_run::status::Status;
 use std::alloc::Global;
+use std::process::Abort;
 use std::test::Fail;
 
 const REFUSED: [(&str, &str); 36] = [
@@ -101,19 +102,24 @@ fn refused() -> &'static [(&'static str, &'static str)] {
     &REFUSED
 }
 
-fn refusal(alloc: Global, what: &str) -> Result<String, Fail> {
-    Ok(format!(in alloc; "script:1: {what}\n")?)
+/// Asserts that the line is refused with this message, and that the map stays.
+fn assert_refused(rt: &impl Abort, alloc: Global, line: &str, what: &str) -> Result<(), Fail> {
+    let want = format!(in alloc; "script:1: {what}\n")?;
+    assert_prints(
+        rt,
+        alloc,
+        MAP,
+        line.as_bytes(),
+        Status::LineRefused,
+        want.as_str(),
+    )?;
+    assert_writes(rt, alloc, MAP, line, UNEDITED)
 }
 
 #[test]
 fn are_refused_with_a_message(rt: HostRuntime) -> Result<(), Fail> {
-    let unedited = write(rt.alloc(), MAP, "")?;
     for (line, what) in refused() {
-        let written = write(rt.alloc(), MAP, line)?;
-        let want = refusal(rt.alloc(), what)?;
-        assert_eq!(rt; written.status, Status::LineRefused, "at {line}");
-        assert_eq!(rt; written.messages()?, want.as_str(), "at {line}");
-        assert_eq!(rt; written.rdl()?, unedited.rdl()?, "at {line}");
+        assert_refused(&rt, rt.alloc(), line, what)?;
     }
     Ok(())
 }

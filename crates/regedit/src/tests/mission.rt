@@ -1,5 +1,6 @@
 //! The run that the README shows.
-use super::{MAP, write};
+use super::headers::assert_heads;
+use super::{MAP, UNEDITED, assert_prints, assert_writes, write};
 use rdl_run::status::Status;
 use std::test::Fail;
 
@@ -42,42 +43,47 @@ pub(super) const HEADER: &str = "#ifndef top_H
 #endif
 ";
 
-const UNEDITED: &str = "addrmap top {
-    reg {
-        field {
-        } f[8] = 0x5;
-    } a;
-};
-";
-
 #[test]
 fn adds_a_register(rt: HostRuntime) -> Result<(), Fail> {
-    let written = write(rt.alloc(), MAP, SCRIPT)?;
-    assert_eq!(rt; written.status, Status::Accepted);
-    assert_eq!(rt; written.messages()?, MESSAGES);
-    assert_eq!(rt; written.rdl()?, WRITTEN);
-    assert_eq!(rt; written.header()?, HEADER);
-    Ok(())
+    assert_prints(
+        &rt,
+        rt.alloc(),
+        MAP,
+        SCRIPT.as_bytes(),
+        Status::Accepted,
+        MESSAGES,
+    )?;
+    assert_writes(&rt, rt.alloc(), MAP, SCRIPT, WRITTEN)?;
+    assert_heads(&rt, rt.alloc(), MAP, SCRIPT, MESSAGES, HEADER)
 }
 
 #[test]
 fn undoes_an_edit(rt: HostRuntime) -> Result<(), Fail> {
     let script = "add /$top last reg { field {} g; } b;\nundo\n";
-    let written = write(rt.alloc(), MAP, script)?;
-    assert_eq!(rt; written.status, Status::Accepted);
-    assert_eq!(rt; written.messages()?, "");
-    assert_eq!(rt; written.rdl()?, UNEDITED);
-    Ok(())
+    assert_prints(
+        &rt,
+        rt.alloc(),
+        MAP,
+        script.as_bytes(),
+        Status::Accepted,
+        "",
+    )?;
+    assert_writes(&rt, rt.alloc(), MAP, script, UNEDITED)
 }
 
 #[test]
 fn writes_an_empty_address_map(rt: HostRuntime) -> Result<(), Fail> {
-    let written = write(rt.alloc(), "addrmap top {};", "")?;
-    assert_eq!(rt; written.status, Status::Accepted);
-    assert_eq!(rt; written.messages()?, "");
-    assert_eq!(rt; written.rdl()?, "addrmap top {\n};\n");
-    assert_eq!(rt; written.header()?, "#ifndef top_H\n#define top_H\n#endif\n");
-    Ok(())
+    let map = "addrmap top {};";
+    assert_prints(&rt, rt.alloc(), map, b"", Status::Accepted, "")?;
+    assert_writes(&rt, rt.alloc(), map, "", "addrmap top {\n};\n")?;
+    assert_heads(
+        &rt,
+        rt.alloc(),
+        map,
+        "",
+        "",
+        "#ifndef top_H\n#define top_H\n#endif\n",
+    )
 }
 
 // That memory is left is no fact of a contract.
