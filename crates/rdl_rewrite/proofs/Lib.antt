@@ -1,4 +1,6 @@
 pub mod Assignments
 pub mod Defined
 pub mod Examples
+pub mod Located
 pub mod Places
+pub mod Staying
