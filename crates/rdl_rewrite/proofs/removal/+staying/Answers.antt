@@ -18,7 +18,7 @@ item_staying-staying-requires t c =
     let held = sym c.in-Some.ensures in
     let h = count-own c.args.found.now c.in-Some.body.now held in
     let less : 2 * count c.in-Some.body.now + 1 < t = omega (arith, h, c.decreases) in
-    (less, (c.requires.nesting, ap (λ a. body_at a c.args.whole.now.items) c.inside.ensures ∙ body_at-item _ c.args.whole.now.items c.args.found.now c.requires.here ∙ held))
+    (less, (c.requires.nesting, (c.requires.taken, ap (λ a. body_at a c.args.whole.now.items) c.inside.ensures ∙ body_at-item _ c.args.whole.now.items c.args.found.now c.requires.here ∙ held)))
 
 pub staying-items-init : goal.staying-items-init
 staying-items-init t c = stays_first (goes c.args.whole.now.items c.args.way.now) c.args.at.now c.args.body.now c.as_slice-found-items.result.now c.new-items.result.items c.new-items.ensures.items c.as_slice-found-items.ensures
@@ -39,7 +39,7 @@ staying-item_staying-requires t c =
     let here = item_met c.args.at.now c.items.number c.args.whole.now.items c.args.body.now c.as_slice-found-items.result.now c.found-item.result c.requires.here c.as_slice-found-items.ensures c.items-test.true c.found-item.is in
     let out = goes c.args.whole.now.items c.args.way.now in
     let stays : out (c.args.at.now ++ c.items.number ∷ []) ≡ false = ap out (sym c.inside.ensures) ∙ sym c.in_ok-goes.ensures ∙ c.if-not-branch.true in
-    (less, (c.requires.nesting, (room, (here, stays))))
+    (less, (c.requires.nesting, (c.requires.taken, (room, (here, stays)))))
 
 pub staying-items-preserved : goal.staying-items-preserved
 staying-items-preserved t c =

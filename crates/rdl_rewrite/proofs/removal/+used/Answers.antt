@@ -16,7 +16,7 @@ is_used-is_used_by-requires t c =
     let less : 2 * item_count c.found-item.result < t = omega (arith, h, c.decreases) in
     let room : length c.args.at.now < 17 = omega (arith, depth-body_at c.args.at.now c.args.whole.now.items c.args.body.now c.requires.here, c.requires.nesting) in
     let here = item_met c.args.at.now c.items.number c.args.whole.now.items c.args.body.now c.as_slice-found-items.result.now c.found-item.result c.requires.here c.as_slice-found-items.ensures c.items-test.true c.found-item.is in
-    (less, (c.requires.nesting, (room, here)))
+    (less, (c.requires.nesting, (c.requires.taken, (room, here))))
 
 pub is_used-items-preserved : goal.is_used-items-preserved
 is_used-items-preserved t c =
@@ -28,4 +28,4 @@ is_used_by-is_used-requires t c =
     let h = count-own c.args.found.now c.in-Some.body.now held in
     let less : 2 * count c.in-Some.body.now + 1 < t = omega (arith, h, c.decreases) in
     let at = c.inside-address.ensures in
-    (less, (c.requires.nesting, ap (λ a. body_at a c.args.whole.now.items) at ∙ body_at-item _ c.args.whole.now.items c.args.found.now c.requires.here ∙ held))
+    (less, (c.requires.nesting, (c.requires.taken, ap (λ a. body_at a c.args.whole.now.items) at ∙ body_at-item _ c.args.whole.now.items c.args.found.now c.requires.here ∙ held)))
