@@ -1,18 +1,17 @@
 -- What a search for a type or along a target finds has the name that was looked for.
 use Rattle.std.proofs.Common.{◌≡◌, ℕ, zero, suc, Bool, true, false, cond, ◌||◌, List, [], ◌∷◌, ◌++◌, Some, None, Option, refl, ap, sym, ◌∙◌, option_map}
-use Rattle.std.proofs.lemmas.List.Folds.{list_any_none}
 use Rattle.std.proofs.lemmas.Slice.Eq.{bytes_eq-Decides}
-use Rattle.std.specs.Prelude.{slice_get, option_and_then, bytes_eq}
+use Rattle.std.specs.Prelude.{slice_get, option_and_then}
 use Rattle.std.specs.Option.{option_or}
 use Rattle.std.specs.List.{list_any}
 use Rattle.rdl_tree.specs.Items.{Items}
 use Rattle.rdl_tree.specs.View.{list_of}
 use Rattle.rdl_tree.specs.Address.{inner, body_at}
 use Rattle.rdl_tree.specs.declared.value.Value.{Value}
+use Rattle.rdl_tree.specs.declared.description.Component.{Component}
 use Rattle.rdl_tree.specs.declared.description.Item.{Item}
 use Rattle.rdl_tree.specs.declared.description.Item.TheVariants.{Define, Instance, Own, Default, Dynamic}
-use Rattle.rdl_tree.specs.declared.description.Of.TheVariants.{Named, Anonymous}
-use Rattle.rdl_scope.specs.Types.{last_definition, type_at, type_of, type_from, item, component_of, items_in}
+use Rattle.rdl_scope.specs.Types.{last_definition, type_at, type_of, item, component_of, items_in}
 use Rattle.rdl_scope.specs.Target.{instance_before, instance_in, passes, body_of, number_of, through, through_of}
 use Rattle.rdl_scope.specs.Walk.{is_definition, is_instance, reference_of}
 use Rattle.rdl_scope.proofs.Instances.{instance-suc}
@@ -29,6 +28,13 @@ same-apart p at way holds fails = by_case (same at way) refl
     by_case true e =
         let one : at ≡ way = (bytes_eq-Decides at way).0 e in
         sym holds ∙ ap p one ∙ fails
+
+or-false : (x y : Bool) → (x || y) ≡ false → (x ≡ false) × (y ≡ false)
+or-false true y e = cc
+or-false false y e = (refl, e)
+
+pub or-both : (x y : Bool) → x ≡ false → y ≡ false → (x || y) ≡ false
+or-both x y e f = ap (λ z. z || y) e ∙ f
 
 -- ---- Types.
 
@@ -66,14 +72,33 @@ definition-type_at (i ∷ path) t name a e = within (λ b. definition-type_at pa
     within ih (Some b) g h = deeper b g (type_at path b name) (ih b) h
 
 -- no reference to a name leads to what isn't a definition of it
-pub unled : (d : Items) (way at : List ℕ) (x : Item) (t : List ℕ) → item at d ≡ Some x → Some t ≡ reference_of x → is_definition t (item way d) ≡ false → leads_to way (type_of d at) ≡ false
-unled d way at x t e refers fails =
-    ap (leads_to way) (type_of-reference d at) ∙ ap (λ o. leads_to way (option_and_then (type_at at d) (option_and_then reference_of o))) e
-    ∙ ap (λ o. leads_to way (option_and_then (type_at at d) o)) (sym refers) ∙ by_case (type_at at d t) refl
+unled-name : (d : Items) (way at t : List ℕ) → is_definition t (item way d) ≡ false → leads_to way (type_at at d t) ≡ false
+unled-name d way at t fails = by_case (type_at at d t) refl
   where
     by_case : (o : Option (List ℕ)) → type_at at d t ≡ o → leads_to way o ≡ false
     by_case None g = refl
     by_case (Some a) g = same-apart (λ y. is_definition t (item y d)) a way (definition-type_at at d t a g) fails
+
+pub unled : (d : Items) (way at : List ℕ) (x : Item) (t : List ℕ) → item at d ≡ Some x → Some t ≡ reference_of x → is_definition t (item way d) ≡ false → leads_to way (type_of d at) ≡ false
+unled d way at x t e refers fails =
+    ap (leads_to way) (type_of-reference d at) ∙ ap (λ o. leads_to way (option_and_then (type_at at d) (option_and_then reference_of o))) e
+    ∙ ap (λ o. leads_to way (option_and_then (type_at at d) o)) (sym refers) ∙ unled-name d way at t fails
+
+-- none leads to what isn't a definition
+pub unused : (d : Items) (way : List ℕ) (o : Option Item) (places : List (List ℕ)) → o ≡ item way d → ((t : List ℕ) → is_definition t o ≡ false) → list_any (λ a. leads_to way (type_of d a)) places ≡ false
+unused d way o [] e fails = refl
+unused d way o (at ∷ places) e fails = or-both _ _ (ap (leads_to way) (type_of-reference d at) ∙ by_case (option_and_then reference_of (item at d))) (unused d way o places e fails)
+  where
+    by_case : (r : Option (List ℕ)) → leads_to way (option_and_then (type_at at d) r) ≡ false
+    by_case None = refl
+    by_case (Some t) = unled-name d way at t (ap (is_definition t) (sym e) ∙ fails t)
+
+pub undefined : (x : Item) → ((n : List ℕ) (c : Component) → x ≡ Define n c → ⊥) → (t : List ℕ) → is_definition t (Some x) ≡ false
+undefined (Define n c) h t = absurd (h n c refl)
+undefined (Instance s o) h t = refl
+undefined (Own p v) h t = refl
+undefined (Default p v) h t = refl
+undefined (Dynamic m p v) h t = refl
 
 -- ---- Targets.
 
@@ -100,13 +125,6 @@ instance-in d b n name a e = by_body (body_at b d) refl e
     by_body : (o : Option Items) → body_at b d ≡ o → option_map (λ k. b ++ k ∷ []) (option_and_then (instance_before name n) o) ≡ Some a → is_instance name (item a d) ≡ true
     by_body None f h = cc
     by_body (Some t) f h = by_number t f (instance_before name n t) refl h
-
-or-false : (x y : Bool) → (x || y) ≡ false → (x ≡ false) × (y ≡ false)
-or-false true y e = cc
-or-false false y e = (refl, e)
-
-pub or-both : (x y : Bool) → x ≡ false → y ≡ false → (x || y) ≡ false
-or-both x y e f = ap (λ z. z || y) e ∙ f
 
 -- names of which none is that of an instance do not pass it
 unpassed-names : (d : Items) (way b : List ℕ) (n : ℕ) (names : List (List ℕ)) → list_any (λ q. is_instance q (item way d)) names ≡ false → passes_by way (passes d b n names) ≡ false

@@ -9,7 +9,7 @@ ghost use Rattle.rdl_scope.specs.Types.{item, type_of};
 ghost use Rattle.rdl_scope.specs.Target.{through};
 ghost use Rattle.rdl_scope.specs.Walk.{is_definition, is_instance, reference_of};
 ghost use Rattle.rdl_rewrite.specs.Addresses.{same, leads_to, passes_by, addresses};
-ghost use Rattle.rdl_rewrite.specs.Removal.{goes, staying, removed};
+ghost use Rattle.rdl_rewrite.specs.Removal.{is_in_use, goes, staying, removed};
 ghost use Rattle.rdl_rewrite.specs.Refuses.{Refuses};
 
 use crate::edit::Refusal;
@@ -141,6 +141,21 @@ fn is_used_by(
     match found.own_body() {
         Some(body) => is_used(whole, way, taken, &address, body),
         None => leads_to(whole, way, taken, &address, found),
+    }
+}
+
+/// Whether the type of an instance is the taken item, the one on the way. Only a definition can be.
+fn is_in_use(whole: &Description, way: &Address, taken: Option<&Item>) -> bool
+    requires nesting { depth whole.now.items ≤ 16 }
+    requires taken { option_copied taken ≡ item way.now whole.now.items }
+    ensures { result ≡ is_in_use whole.now.items way.now }
+{
+    let Some(found) = taken else {
+        return false;
+    };
+    match found {
+        Item::Define(..) => is_used(whole, way, taken, &Address::new(), &whole.items),
+        _ => false,
     }
 }
 
@@ -281,11 +296,10 @@ pub fn remove(alloc: Global, whole: &Description, way: &Address) -> Result<Descr
     ensures made { IfOk result (λ new. removed whole.now.items way.now ≡ Ok new.items) }
     ensures refused { IfErr result (λ refusal. Refuses (removed whole.now.items way.now) refusal) }
 {
-    let root = Address::new();
     let taken = item_at(&whole.items, way.as_slice());
-    if is_used(whole, way, taken, &root, &whole.items) {
+    if is_in_use(whole, way, taken) {
         return Err(Refusal::InUse);
     }
-    let items = staying(alloc, whole, way, taken, &root, &whole.items)?;
+    let items = staying(alloc, whole, way, taken, &Address::new(), &whole.items)?;
     Ok(Description { items })
 }
