@@ -1,39 +1,25 @@
 -- What follows a new name, item by item and name by name.
-use Rattle.std.proofs.Common.{◌≡◌, ◌≤◌, ◌<◌, ◌+◌, ℕ, suc, List, [], ◌∷◌, ◌++◌, length, get_or, drop, Some, None, Option, refl, ap, sym, ◌∙◌, arith, append_assoc}
+use Rattle.std.proofs.Common.{◌≡◌, ◌≤◌, ◌<◌, ◌+◌, ℕ, suc, Bool, true, false, cond, ◌||◌, List, [], ◌∷◌, ◌++◌, length, get_or, drop, Some, None, Option, refl, ap, sym, ◌∙◌, arith, append_assoc}
 use Rattle.std.proofs.lemmas.List.{append-nil, drop_all}
-use Rattle.std.specs.Prelude.{option_and_then}
-use Rattle.rdl_tree.specs.Items.{Items, no_items}
-use Rattle.rdl_tree.specs.View.{add, items_of, list_of, own_body}
-use Rattle.rdl_tree.specs.Address.{inner, body_at}
+use Rattle.std.specs.List.{list_any}
+use Rattle.rdl_tree.specs.Items.{Items, no_items, plain, dynamic}
+use Rattle.rdl_tree.specs.View.{add, items_of, list_of}
 use Rattle.rdl_tree.specs.declared.description.Item.{Item}
 use Rattle.rdl_tree.specs.declared.description.Item.TheVariants.{Define, Instance, Own, Default, Dynamic}
 use Rattle.rdl_tree.specs.declared.description.Of.TheVariants.{Named, Anonymous}
+use Rattle.rdl_tree.specs.declared.value.Value.{Value}
 use Rattle.rdl_tree.proofs.Rests.{rest-next, rest-none}
-use Rattle.rdl_tree.proofs.Rounds.{items_of-list_of, list_of-add, inner-slice_get}
+use Rattle.rdl_tree.proofs.Rounds.{items_of-list_of, list_of-add}
 use Rattle.rdl_scope.specs.Types.{item}
-use Rattle.rdl_scope.proofs.Levelled.{item-deeper, item_got}
-use Rattle.rdl_rewrite.specs.Renaming.{renamed_names, renamed_items}
+use Rattle.rdl_scope.specs.Target.{through}
+use Rattle.rdl_scope.specs.Walk.{is_instance}
+use Rattle.rdl_rewrite.specs.Addresses.{same, passes_by}
+use Rattle.rdl_rewrite.specs.Renaming.{renamed_names, renamed_target, renamed_items}
+use Rattle.rdl_rewrite.proofs.Found.{unpassed}
 
--- ---- Where an item and its own body stand.
-
-some-same : {X : Type 0} (o : Option X) → option_and_then Some o ≡ o
-some-same None = refl
-some-same (Some x) = refl
-
--- the body at an item's address is that of its own component
-pub body_at-item : (a : List ℕ) (d : Items) (x : Item) → item a d ≡ Some x → body_at a d ≡ own_body x
-body_at-item [] d x e = cc
-body_at-item (k ∷ []) d x e = some-same (inner k d) ∙ inner-slice_get k d ∙ ap (option_and_then own_body) e
-body_at-item (k ∷ j ∷ a) d x e = into (λ t. body_at-item (j ∷ a) t x) (inner k d) refl e
-  where
-    into : ((t : Items) → item (j ∷ a) t ≡ Some x → body_at (j ∷ a) t ≡ own_body x) → (o : Option Items) → inner k d ≡ o → option_and_then (item (j ∷ a)) o ≡ Some x
-        → option_and_then (body_at (j ∷ a)) (inner k d) ≡ own_body x
-    into ih None g h = cc
-    into ih (Some t) g h = ap (option_and_then (body_at (j ∷ a))) g ∙ ih t h
-
--- the item that a loop over a body is at
-pub item_met : (b : List ℕ) (i : ℕ) (d body : Items) (xs : List Item) (x : Item) → body_at b d ≡ Some body → xs ≡ list_of body → i < length xs → x ≡ get_or xs i x → item (b ++ i ∷ []) d ≡ Some x
-item_met b i d body xs x here e h is = item-deeper b i d body here ∙ item_got body i xs x e h is
+or-false : (x y : Bool) → (x || y) ≡ false → (x ≡ false) × (y ≡ false)
+or-false true y e = cc
+or-false false y e = (refl, e)
 
 -- ---- The items of a body.
 
@@ -87,3 +73,24 @@ pub names_done : (way name : List ℕ) (i : ℕ) (path names all ys : List (List
     → all ≡ ys ++ renamed_names way name (drop i path) (drop i names) → ys ≡ all
 names_done way name i path names all ys h w =
     sym (w ∙ ap (λ ns. ys ++ renamed_names way name (drop i path) ns) (drop_all i names h) ∙ ap (λ us. ys ++ us) (names-none way name (drop i path)) ∙ append-nil ys)
+
+-- ---- What the searches are left out for.
+
+names-kept : (way name : List ℕ) (path names : List (List ℕ)) → list_any (λ at. same at way) path ≡ false → renamed_names way name path names ≡ names
+names-kept way name [] names e = refl
+names-kept way name (a ∷ path) [] e = refl
+names-kept way name (a ∷ path) (n ∷ names) e =
+    let apart = or-false (same a way) _ e in
+    ap (λ o. cond o name n ∷ renamed_names way name path names) apart.0 ∙ ap (λ ns. n ∷ ns) (names-kept way name path names apart.1)
+
+target-kept : (way name : List ℕ) (o : Option (List (List ℕ))) (target : List (List ℕ)) → passes_by way o ≡ false → renamed_target way name o target ≡ target
+target-kept way name None target e = refl
+target-kept way name (Some path) target e = names-kept way name path target e
+
+-- an assignment of whose names none is that of the item on the way
+pub assignment_kept : (d : Items) (way name b : List ℕ) (n : ℕ) (x : Item) (t : List (List ℕ)) (p : List ℕ) (v : Value) → item (b ++ n ∷ []) d ≡ Some x → x ≡ Dynamic t p v
+    → list_any (λ q. is_instance q (item way d)) t ≡ false → add x no_items ≡ renamed_items d way name b n (add x no_items)
+assignment_kept d way name b n x t p v e is none =
+    ap (λ y. add y no_items) is
+    ∙ ap (λ ns. plain (dynamic ns p v) no_items) (sym (target-kept way name (through d (b ++ n ∷ [])) t (unpassed d way (b ++ n ∷ []) x t p v e is none)))
+    ∙ ap (λ y. renamed_items d way name b n (add y no_items)) (sym is)

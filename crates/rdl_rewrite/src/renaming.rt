@@ -1,14 +1,16 @@
 //! What follows the name of an item.
-ghost use Rattle.std.specs.Prelude.{◌≡◌, ◌≤◌, ◌<◌, ◌++◌, ◌∷◌, [], length, Option, Some, Ok, IfOk, IfErr, option_and_then, option_copied, option_map, if◌then◌else◌};
+ghost use Rattle.std.specs.Prelude.{◌≡◌, ◌≤◌, ◌<◌, ◌++◌, ◌∷◌, [], length, Some, Ok, IfOk, IfErr, option_copied, if◌then◌else◌};
+ghost use Rattle.std.specs.List.{list_any};
 ghost use Rattle.rdl_tree.specs.Items.{no_items, plain, holder, named, dynamic, define, anonymous};
 ghost use Rattle.rdl_tree.specs.View.{add};
 ghost use Rattle.rdl_tree.specs.Address.{body_at};
 ghost use Rattle.rdl_tree.specs.Depth.{depth};
 ghost use Rattle.rdl_scope.specs.Types.{item, type_of};
 ghost use Rattle.rdl_scope.specs.Target.{through};
-ghost use Rattle.rdl_rewrite.specs.Addresses.{same, leads_to, holder_of};
+ghost use Rattle.rdl_scope.specs.Walk.{is_definition, is_instance, reference_of};
+ghost use Rattle.rdl_rewrite.specs.Addresses.{leads_to};
+ghost use Rattle.rdl_rewrite.specs.Names.{has_name};
 ghost use Rattle.rdl_rewrite.specs.Renaming.{renamed_names, renamed_target, renamed_shell, renamed_items, is_reserved, names_in, is_taken, renamed};
-ghost use Rattle.rdl_rewrite.specs.Names.{defined_names, instance_names, has_name};
 ghost use Rattle.rdl_rewrite.specs.Refuses.{Refuses};
 
 use crate::edit::Refusal;
@@ -79,10 +81,65 @@ fn renamed_target(
     }
 }
 
-fn leads_to(whole: &Description, way: &Address, at: &Address) -> bool
+fn item_at<'a>(body: &'a Body, path: &[usize]) -> Option<&'a Item>
+    ensures { option_copied result ≡ item path.now body.now }
+{
+    match path {
+        [] => None,
+        [number] => body.item(*number),
+        [number, rest @ ..] => item_at(body.inner(*number)?, rest),
+    }
+}
+
+fn is_definition(item: Option<&Item>, name: &Name) -> bool
+    ensures { result ≡ is_definition name.now (option_copied item.entry) }
+{
+    match item {
+        Some(Item::Define(defined, _)) => defined == name,
+        _ => false,
+    }
+}
+
+/// The name of the type to which the item refers.
+fn reference(item: &Item) -> Option<&Name>
+    ensures { option_copied result ≡ reference_of item.now }
+{
+    match item {
+        Item::Instance(_, Of::Named(name)) => Some(name),
+        _ => None,
+    }
+}
+
+/// Whether this item, at its address, is an instance whose type is the item on the way. Only a reference to the name of a
+/// definition there is searched for.
+fn leads_to(whole: &Description, way: &Address, at: &Address, old: &Item) -> bool
+    requires { item at.now whole.now.items ≡ Some old.now }
     ensures { result ≡ leads_to way.now (type_of whole.now.items at.now) }
 {
-    is_at(way, type_of(whole, at).as_ref())
+    match reference(old) {
+        Some(name) => {
+            is_definition(item_at(&whole.items, way.as_slice()), name)
+                && is_at(way, type_of(whole, at).as_ref())
+        }
+        None => false,
+    }
+}
+
+fn is_instance(item: Option<&Item>, name: &Name) -> bool
+    ensures { result ≡ is_instance name.now (option_copied item.entry) }
+{
+    match item {
+        Some(Item::Instance(shell, _)) => &shell.name == name,
+        _ => false,
+    }
+}
+
+/// Whether one of the names is that of the instance on the way.
+fn has_instance(whole: &Description, way: &Address, names: &[Name]) -> bool
+    ensures { result ≡ list_any (λ name. is_instance name (item way.now whole.now.items)) names.now }
+{
+    let item = item_at(&whole.items, way.as_slice());
+    names.iter().any(|name| is_instance(item, name))
 }
 
 /// The shell of the instance at this address.
@@ -172,14 +229,10 @@ fn renamed_item(
 {
     let address = at.inside(number);
     match old {
-        Item::Define(defined, component) => {
+        Item::Define(old_name, component) => {
             let body = renamed_body(alloc, whole, way, name, &address, &component.body)?;
-            definition(
-                alloc,
-                chosen(address == *way, name, defined),
-                component.kind,
-                body,
-            )
+            let new_name = chosen(address == *way, name, old_name);
+            definition(alloc, new_name, component.kind, body)
         }
         Item::Instance(shell, Of::Anonymous(component)) => {
             let body = renamed_body(alloc, whole, way, name, &address, &component.body)?;
@@ -188,27 +241,17 @@ fn renamed_item(
         }
         Item::Instance(shell, Of::Named(reference)) => {
             let shell = renamed_shell(alloc, way, name, &address, shell)?;
-            named(
-                alloc,
-                shell,
-                chosen(leads_to(whole, way, &address), name, reference),
-            )
+            let new_name = chosen(leads_to(whole, way, &address, old), name, reference);
+            named(alloc, shell, new_name)
         }
         Item::Dynamic(target, property, value) => {
+            if !has_instance(whole, way, target.names()) {
+                return old.try_copy(alloc);
+            }
             let target = renamed_target(alloc, whole, way, name, &address, target)?;
             dynamic(alloc, target, property, value)
         }
         _ => old.try_copy(alloc),
-    }
-}
-
-fn item_at<'a>(body: &'a Body, path: &[usize]) -> Option<&'a Item>
-    ensures { option_copied result ≡ item path.now body.now }
-{
-    match path {
-        [] => None,
-        [number] => body.item(*number),
-        [number, rest @ ..] => item_at(body.inner(*number)?, rest),
     }
 }
 

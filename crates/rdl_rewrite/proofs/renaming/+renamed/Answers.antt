@@ -1,13 +1,19 @@
-use Rattle.std.proofs.Common.{◌≡◌, ◌+◌, ◌*◌, ◌<◌, length, ap, ◌∙◌, arith}
+use Rattle.std.proofs.Common.{◌≡◌, ◌+◌, ◌*◌, ◌<◌, false, length, ap, sym, ◌∙◌, arith}
+use Rattle.std.proofs.lemmas.Result.{IfOk-weaker}
+use Rattle.std.specs.List.{list_any}
 use Rattle.rdl_tree.specs.Address.{body_at}
-use Rattle.rdl_tree.specs.Items.{count}
-use Rattle.rdl_tree.specs.View.{own_body}
+use Rattle.rdl_tree.specs.Items.{no_items, count}
+use Rattle.rdl_tree.specs.View.{add, own_body}
 use Rattle.rdl_tree.specs.declared.description.Item.TheVariants.{Instance}
 use Rattle.rdl_tree.specs.declared.description.Of.TheVariants.{Anonymous}
 use Rattle.rdl_tree.proofs.Sizes.{item_count}
+use Rattle.rdl_scope.specs.Types.{item}
+use Rattle.rdl_scope.specs.Walk.{is_instance}
 use Rattle.rdl_scope.proofs.Depths.{depth-body_at}
+use Rattle.rdl_rewrite.specs.Renaming.{renamed_items}
 use Rattle.rdl_rewrite.proofs.Defined.{count-item}
-use Rattle.rdl_rewrite.proofs.Renamed.{body_at-item, item_met, renamed_first, renamed_more, renamed_done}
+use Rattle.rdl_rewrite.proofs.Located.{body_at-item, item_met}
+use Rattle.rdl_rewrite.proofs.Renamed.{assignment_kept, renamed_first, renamed_more, renamed_done}
 use Rattle.rdl_rewrite.proofs.renaming.+renamed.Goals as goal
 
 pub renamed_body-items-init : goal.renamed_body-items-init
@@ -55,3 +61,16 @@ renamed_item-renamed_body-requires-in-Instance-default-Anonymous t c =
     let less : 2 * count met.component.body + 1 < t = omega (arith, ap item_count x, c.decreases) in
     let here = ap (λ a. body_at a d) c.inside-address.ensures ∙ body_at-item _ d c.args.old.now c.requires.here ∙ ap own_body x in
     rw it (less, (c.requires.nesting, here))
+
+pub renamed_item-returns-then-not-has_instance : goal.renamed_item-returns-then-not-has_instance
+renamed_item-returns-then-not-has_instance t c =
+    let d = c.args.whole.now.items in
+    let way = c.args.way.now in
+    let none : list_any (λ q. is_instance q (item way d)) c.in-Dynamic.target ≡ false =
+    ap (list_any (λ q. is_instance q (item way d))) (sym c.names.ensures) ∙ sym c.has_instance.ensures ∙ c.if-not-has_instance.true in
+    let kept =
+    assignment_kept d way c.args.name.now c.args.at.now c.args.number c.args.old.now c.in-Dynamic.target c.in-Dynamic.property c.in-Dynamic.value
+    c.requires.here c.in-Dynamic.is none in
+    IfOk-weaker c.try_copy.result (λ copy. copy ≡ c.args.old.now)
+    (λ new. add new no_items ≡ renamed_items d way c.args.name.now c.args.at.now c.args.number (add c.args.old.now no_items))
+    (λ new e. ap (λ x. add x no_items) e ∙ kept) c.try_copy.ensures

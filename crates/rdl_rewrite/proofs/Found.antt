@@ -1,0 +1,162 @@
+-- What a search for a type or along a target finds has the name that was looked for.
+use Rattle.std.proofs.Common.{◌≡◌, ℕ, zero, suc, Bool, true, false, cond, ◌||◌, List, [], ◌∷◌, ◌++◌, Some, None, Option, refl, ap, sym, ◌∙◌, option_map}
+use Rattle.std.proofs.lemmas.Slice.Eq.{bytes_eq-Decides}
+use Rattle.std.specs.Prelude.{slice_get, option_and_then}
+use Rattle.std.specs.Option.{option_or}
+use Rattle.std.specs.List.{list_any}
+use Rattle.rdl_tree.specs.Items.{Items}
+use Rattle.rdl_tree.specs.View.{list_of}
+use Rattle.rdl_tree.specs.Address.{inner, body_at}
+use Rattle.rdl_tree.specs.declared.value.Value.{Value}
+use Rattle.rdl_tree.specs.declared.description.Component.{Component}
+use Rattle.rdl_tree.specs.declared.description.Item.{Item}
+use Rattle.rdl_tree.specs.declared.description.Item.TheVariants.{Define, Instance, Own, Default, Dynamic}
+use Rattle.rdl_scope.specs.Types.{last_definition, type_at, type_of, item, component_of, items_in}
+use Rattle.rdl_scope.specs.Target.{instance_before, instance_in, passes, body_of, number_of, through, through_of}
+use Rattle.rdl_scope.specs.Walk.{is_definition, is_instance, reference_of}
+use Rattle.rdl_scope.proofs.Instances.{instance-suc}
+use Rattle.rdl_scope.proofs.Levelled.{item-deeper}
+use Rattle.rdl_scope.proofs.Searches.{last-suc, type_of-reference}
+use Rattle.rdl_rewrite.specs.Addresses.{same, leads_to, passes_by}
+
+-- an address where a test holds is none where it fails
+same-apart : (p : List ℕ → Bool) (at way : List ℕ) → p at ≡ true → p way ≡ false → same at way ≡ false
+same-apart p at way holds fails = by_case (same at way) refl
+  where
+    by_case : (b : Bool) → same at way ≡ b → b ≡ false
+    by_case false e = refl
+    by_case true e =
+        let one : at ≡ way = (bytes_eq-Decides at way).0 e in
+        sym holds ∙ ap p one ∙ fails
+
+or-false : (x y : Bool) → (x || y) ≡ false → (x ≡ false) × (y ≡ false)
+or-false true y e = cc
+or-false false y e = (refl, e)
+
+pub or-both : (x y : Bool) → x ≡ false → y ≡ false → (x || y) ≡ false
+or-both x y e f = ap (λ z. z || y) e ∙ f
+
+-- ---- Types.
+
+defined-last : (name : List ℕ) (n : ℕ) (t : Items) (k : ℕ) → last_definition name n t ≡ Some k → is_definition name (slice_get (list_of t) k) ≡ true
+defined-last name zero t k e = cc
+defined-last name (suc n) t k e = by_case (defined-last name n t k) (is_definition name (slice_get (list_of t) n)) refl (sym (last-suc name n t) ∙ e)
+  where
+    by_case : (last_definition name n t ≡ Some k → is_definition name (slice_get (list_of t) k) ≡ true) → (b : Bool) → is_definition name (slice_get (list_of t) n) ≡ b
+        → cond b (Some n) (last_definition name n t) ≡ Some k → is_definition name (slice_get (list_of t) k) ≡ true
+    by_case ih true g h = let one : k ≡ n = cc in ap (λ i. is_definition name (slice_get (list_of t) i)) one ∙ g
+    by_case ih false g h = ih h
+
+-- an address that goes on inside an item
+definition-inside : (name : List ℕ) (i : ℕ) (a : List ℕ) (t b : Items) → inner i t ≡ Some b → is_definition name (item a b) ≡ true → is_definition name (item (i ∷ a) t) ≡ true
+definition-inside name i [] t b g e = cc
+definition-inside name i (k ∷ a) t b g e = ap (λ o. is_definition name (option_and_then (item (k ∷ a)) o)) g ∙ e
+
+definition-type_at : (path : List ℕ) (t : Items) (name a : List ℕ) → type_at path t name ≡ Some a → is_definition name (item a t) ≡ true
+definition-type_at [] t name a e = cc
+definition-type_at (i ∷ path) t name a e = within (λ b. definition-type_at path b name) (inner i t) refl e
+  where
+    here : (o : Option ℕ) → last_definition name i t ≡ o → option_map (λ k. k ∷ []) o ≡ Some a → is_definition name (item a t) ≡ true
+    here None g h = cc
+    here (Some k) g h = let one : a ≡ k ∷ [] = cc in ap (λ x. is_definition name (item x t)) one ∙ defined-last name i t k g
+
+    deeper : (b : Items) → inner i t ≡ Some b → (o : Option (List ℕ)) → ((x : List ℕ) → o ≡ Some x → is_definition name (item x b) ≡ true)
+        → option_or (option_map (λ x. i ∷ x) o) (option_map (λ k. k ∷ []) (last_definition name i t)) ≡ Some a → is_definition name (item a t) ≡ true
+    deeper b g None f h = here (last_definition name i t) refl h
+    deeper b g (Some x) f h = let one : a ≡ i ∷ x = cc in ap (λ y. is_definition name (item y t)) one ∙ definition-inside name i x t b g (f x refl)
+
+    within : ((b : Items) (x : List ℕ) → type_at path b name ≡ Some x → is_definition name (item x b) ≡ true) → (o : Option Items) → inner i t ≡ o
+        → option_or (option_map (λ x. i ∷ x) (option_and_then (λ b. type_at path b name) o)) (option_map (λ k. k ∷ []) (last_definition name i t)) ≡ Some a
+        → is_definition name (item a t) ≡ true
+    within ih None g h = here (last_definition name i t) refl h
+    within ih (Some b) g h = deeper b g (type_at path b name) (ih b) h
+
+-- no reference to a name leads to what isn't a definition of it
+unled-name : (d : Items) (way at t : List ℕ) → is_definition t (item way d) ≡ false → leads_to way (type_at at d t) ≡ false
+unled-name d way at t fails = by_case (type_at at d t) refl
+  where
+    by_case : (o : Option (List ℕ)) → type_at at d t ≡ o → leads_to way o ≡ false
+    by_case None g = refl
+    by_case (Some a) g = same-apart (λ y. is_definition t (item y d)) a way (definition-type_at at d t a g) fails
+
+pub unled : (d : Items) (way at : List ℕ) (x : Item) (t : List ℕ) → item at d ≡ Some x → Some t ≡ reference_of x → is_definition t (item way d) ≡ false → leads_to way (type_of d at) ≡ false
+unled d way at x t e refers fails =
+    ap (leads_to way) (type_of-reference d at) ∙ ap (λ o. leads_to way (option_and_then (type_at at d) (option_and_then reference_of o))) e
+    ∙ ap (λ o. leads_to way (option_and_then (type_at at d) o)) (sym refers) ∙ unled-name d way at t fails
+
+-- none leads to what isn't a definition
+pub unused : (d : Items) (way : List ℕ) (o : Option Item) (places : List (List ℕ)) → o ≡ item way d → ((t : List ℕ) → is_definition t o ≡ false) → list_any (λ a. leads_to way (type_of d a)) places ≡ false
+unused d way o [] e fails = refl
+unused d way o (at ∷ places) e fails = or-both _ _ (ap (leads_to way) (type_of-reference d at) ∙ by_case (option_and_then reference_of (item at d))) (unused d way o places e fails)
+  where
+    by_case : (r : Option (List ℕ)) → leads_to way (option_and_then (type_at at d) r) ≡ false
+    by_case None = refl
+    by_case (Some t) = unled-name d way at t (ap (is_definition t) (sym e) ∙ fails t)
+
+pub undefined : (x : Item) → ((n : List ℕ) (c : Component) → x ≡ Define n c → ⊥) → (t : List ℕ) → is_definition t (Some x) ≡ false
+undefined (Define n c) h t = absurd (h n c refl)
+undefined (Instance s o) h t = refl
+undefined (Own p v) h t = refl
+undefined (Default p v) h t = refl
+undefined (Dynamic m p v) h t = refl
+
+-- ---- Targets.
+
+instance-before : (name : List ℕ) (n : ℕ) (t : Items) (k : ℕ) → instance_before name n t ≡ Some k → is_instance name (slice_get (list_of t) k) ≡ true
+instance-before name zero t k e = cc
+instance-before name (suc n) t k e =
+    by_case (instance-before name n t k) (instance_before name n t) refl (is_instance name (slice_get (list_of t) n)) refl (sym (instance-suc name n t) ∙ e)
+  where
+    by_case : (instance_before name n t ≡ Some k → is_instance name (slice_get (list_of t) k) ≡ true) → (o : Option ℕ) → instance_before name n t ≡ o
+        → (b : Bool) → is_instance name (slice_get (list_of t) n) ≡ b → option_or o (cond b (Some n) None) ≡ Some k → is_instance name (slice_get (list_of t) k) ≡ true
+    by_case ih (Some j) f b g h = ih (f ∙ h)
+    by_case ih None f true g h = let one : k ≡ n = cc in ap (λ i. is_instance name (slice_get (list_of t) i)) one ∙ g
+    by_case ih None f false g h = cc
+
+instance-in : (d : Items) (b : List ℕ) (n : ℕ) (name a : List ℕ) → instance_in d b n name ≡ Some a → is_instance name (item a d) ≡ true
+instance-in d b n name a e = by_body (body_at b d) refl e
+  where
+    by_number : (t : Items) → body_at b d ≡ Some t → (o : Option ℕ) → instance_before name n t ≡ o → option_map (λ k. b ++ k ∷ []) o ≡ Some a → is_instance name (item a d) ≡ true
+    by_number t f None g h = cc
+    by_number t f (Some k) g h =
+        let one : a ≡ b ++ k ∷ [] = cc in
+        ap (λ x. is_instance name (item x d)) one ∙ ap (is_instance name) (item-deeper b k d t f) ∙ instance-before name n t k g
+
+    by_body : (o : Option Items) → body_at b d ≡ o → option_map (λ k. b ++ k ∷ []) (option_and_then (instance_before name n) o) ≡ Some a → is_instance name (item a d) ≡ true
+    by_body None f h = cc
+    by_body (Some t) f h = by_number t f (instance_before name n t) refl h
+
+-- names of which none is that of an instance do not pass it
+unpassed-names : (d : Items) (way b : List ℕ) (n : ℕ) (names : List (List ℕ)) → list_any (λ q. is_instance q (item way d)) names ≡ false → passes_by way (passes d b n names) ≡ false
+unpassed-names d way b n [] e = refl
+unpassed-names d way b n (name ∷ []) e = by_case (instance_in d b n name) refl
+  where
+    by_case : (o : Option (List ℕ)) → instance_in d b n name ≡ o → passes_by way (option_map (λ a. a ∷ []) o) ≡ false
+    by_case None g = refl
+    by_case (Some a) g =
+        or-both (same a way) false (same-apart (λ y. is_instance name (item y d)) a way (instance-in d b n name a g) (or-false (is_instance name (item way d)) false e).0) refl
+unpassed-names d way b n (name ∷ next ∷ names) e = by_case (λ c m. unpassed-names d way c m (next ∷ names) others) (instance_in d b n name) refl
+  where
+    others : list_any (λ q. is_instance q (item way d)) (next ∷ names) ≡ false
+    others = (or-false (is_instance name (item way d)) _ e).1
+
+    more : (a : List ℕ) → same a way ≡ false → (o : Option (List (List ℕ))) → passes_by way o ≡ false → passes_by way (option_map (λ path. a ∷ path) o) ≡ false
+    more a f None g = refl
+    more a f (Some path) g = or-both (same a way) _ f g
+
+    below : ((c : List ℕ) (m : ℕ) → passes_by way (passes d c m (next ∷ names)) ≡ false) → (o : Option (List ℕ))
+        → passes_by way (option_and_then (λ c. passes d c (items_in c d) (next ∷ names)) o) ≡ false
+    below ih None = refl
+    below ih (Some c) = ih c (items_in c d)
+
+    by_case : ((c : List ℕ) (m : ℕ) → passes_by way (passes d c m (next ∷ names)) ≡ false) → (o : Option (List ℕ)) → instance_in d b n name ≡ o
+        → passes_by way (option_and_then (λ a. option_map (λ path. a ∷ path) (option_and_then (λ c. passes d c (items_in c d) (next ∷ names)) (component_of d a))) o) ≡ false
+    by_case ih None g = refl
+    by_case ih (Some a) g =
+        more a (same-apart (λ y. is_instance name (item y d)) a way (instance-in d b n name a g) (or-false (is_instance name (item way d)) _ e).0)
+        (option_and_then (λ c. passes d c (items_in c d) (next ∷ names)) (component_of d a)) (below ih (component_of d a))
+
+pub unpassed : (d : Items) (way at : List ℕ) (x : Item) (t : List (List ℕ)) (p : List ℕ) (v : Value) → item at d ≡ Some x → x ≡ Dynamic t p v
+    → list_any (λ q. is_instance q (item way d)) t ≡ false → passes_by way (through d at) ≡ false
+unpassed d way at x t p v e is fails =
+    ap (λ o. passes_by way (option_and_then (through_of d at) o)) (e ∙ ap Some is) ∙ unpassed-names d way (body_of at) (number_of at) t fails
