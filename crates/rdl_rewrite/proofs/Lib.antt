@@ -5,4 +5,5 @@ pub mod Found
 pub mod Located
 pub mod Places
 pub mod Reaching
+pub mod Renamed
 pub mod Staying

@@ -33,7 +33,7 @@ fn push_item<'a>(names: &mut Vec<&'a Name>, item: &'a Item) -> Result<(), AllocE
 }
 
 /// The names of all definitions, those inside included.
-fn defined_names(alloc: Global, body: &Body) -> Result<Vec<&Name>, AllocError>
+pub(crate) fn defined_names(alloc: Global, body: &Body) -> Result<Vec<&Name>, AllocError>
     ensures { IfOk result (λ names. map (λ n. n.now) names.items ≡ defined_names body.now) }
 {
     let mut names = Vec::new(alloc);
@@ -42,7 +42,7 @@ fn defined_names(alloc: Global, body: &Body) -> Result<Vec<&Name>, AllocError>
 }
 
 /// The names of the instances among the items of a body themselves.
-fn instance_names(alloc: Global, body: &Body) -> Result<Vec<&Name>, AllocError>
+pub(crate) fn instance_names(alloc: Global, body: &Body) -> Result<Vec<&Name>, AllocError>
     ensures { IfOk result (λ names. map (λ n. n.now) names.items ≡ instance_names (list_of body.now)) }
 {
     let mut names = Vec::new(alloc);
@@ -54,7 +54,7 @@ fn instance_names(alloc: Global, body: &Body) -> Result<Vec<&Name>, AllocError>
     Ok(names)
 }
 
-fn has_name(names: &[&Name], name: &Name) -> bool
+pub(crate) fn has_name(names: &[&Name], name: &Name) -> bool
     ensures { result ≡ has_name name.now (map (λ n. n.now) names.now) }
 {
     'names: for other in names {

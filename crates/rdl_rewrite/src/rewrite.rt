@@ -88,7 +88,7 @@ fn change(
 }
 
 /// The address of the body that holds the item.
-fn holder(address: &Address) -> Address
+pub(crate) fn holder(address: &Address) -> Address
     requires { 0 < length address.now }
     ensures { result ≡ holder_of address.now }
 {
