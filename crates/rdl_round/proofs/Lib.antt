@@ -6,6 +6,7 @@ pub mod Numerals
 pub mod Written
 pub mod Lines
 pub mod MadeOfWords
-pub mod Edits
+pub mod Each
+pub mod Bodies
 pub mod Back
 pub mod Parsed
