@@ -8,5 +8,6 @@ pub mod Lines
 pub mod MadeOfWords
 pub mod Each
 pub mod Bodies
+pub mod Kept
 pub mod Back
 pub mod Parsed

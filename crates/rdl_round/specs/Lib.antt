@@ -1,3 +1,4 @@
 pub mod WrittenWords
 pub mod Spellable
 pub mod OfWords
+pub mod NewParts
