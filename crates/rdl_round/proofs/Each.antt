@@ -10,6 +10,11 @@ use Rattle.rdl_tree.specs.declared.description.Item.{Item}
 use Rattle.rdl_tree.specs.declared.description.Item.TheVariants.{Define, Instance, Own, Default, Dynamic}
 use Rattle.rdl_tree.specs.declared.description.Of.TheVariants.{Named, Anonymous}
 
+-- what holds of both holds of either
+pub chosen : {X : Type 0} (P : X → Type 0) (z : Bool) (x y : X) → P x → P y → P (if z then x else y)
+chosen P true x y h k = h
+chosen P false x y h k = k
+
 -- of each item without a component of its own, and of each other but for its body
 abbrev pub Each : (P : Plain → Type 0) → (H : Holder → Type 0) → Items → Type 0
 Each P H no_items = Unit {0}

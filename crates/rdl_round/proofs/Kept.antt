@@ -32,7 +32,7 @@ use Rattle.rdl_rewrite.specs.declared.edit.Edit.TheVariants.{Add, Remove, Rename
 use Rattle.rdl_rewrite.specs.declared.edit.Refusal.{Refusal}
 use Rattle.rdl_rewrite.specs.declared.edit.Refusal.TheVariants.{InUse, NameTaken, NotAddable, NotAnInstance, Reserved}
 use Rattle.rdl_rewrite.specs.declared.place.Place.{Place}
-use Rattle.rdl_round.proofs.Each.{Each, Fits, items-fit, each-of, fits-get, each-insert, each-remove, each-replace, body-each, changed-body}
+use Rattle.rdl_round.proofs.Each.{chosen, Each, Fits, items-fit, each-of, fits-get, each-insert, each-remove, each-replace, body-each, changed-body}
 
 -- the change of a shell keeps it of an instance
 pub record KeptShell (P : Plain → Type 0) (H : Holder → Type 0) (change : Shell → Shell) : Type 0 where
@@ -59,10 +59,6 @@ Brings P H whole (Unassign path target property) = Unit {0}
 Brings P H whole e = KeptShell P H (edited_shell e)
 
 module _ (P : Plain → Type 0) (H : Holder → Type 0) where
-  either : (z : Bool) (a b : Items) → Each P H a → Each P H b → Each P H (cond z a b)
-  either true a b e f = e
-  either false a b e f = f
-
   unless : (z : Bool) (r : Refusal) (x : Result Items Refusal) → IfOk x (Each P H) → IfOk (cond z (Err r) x) (Each P H)
   unless true r x h = tt
   unless false r x h = h
@@ -158,11 +154,11 @@ module _ (P : Plain → Type 0) (H : Holder → Type 0) where
   kept-staying out b n no_items e = tt
   kept-staying out b n (plain p rest) e =
       let after = kept-staying out b (suc n) rest e.1 in
-      either (out (b ++ n ∷ [])) (staying out b (suc n) rest) (plain p (staying out b (suc n) rest)) after (e.0, after)
+      chosen (Each P H) (out (b ++ n ∷ [])) (staying out b (suc n) rest) (plain p (staying out b (suc n) rest)) after (e.0, after)
   kept-staying out b n (holder h body rest) e =
       let inside = kept-staying out (b ++ n ∷ []) 0 body e.1 in
       let after = kept-staying out b (suc n) rest e.2 in
-      either (out (b ++ n ∷ [])) (staying out b (suc n) rest) (holder h (staying out (b ++ n ∷ []) 0 body) (staying out b (suc n) rest)) after (e.0, inside, after)
+      chosen (Each P H) (out (b ++ n ∷ [])) (staying out b (suc n) rest) (holder h (staying out (b ++ n ∷ []) 0 body) (staying out b (suc n) rest)) after (e.0, inside, after)
 
   kept-items : (whole : Items) (way name b : List ℕ) (n : ℕ) (t : Items) → KeptName P H whole name → Each P H t → Each P H (renamed_items whole way name b n t)
   kept-items whole way name b n no_items k e = tt
@@ -200,16 +196,12 @@ module _ (P : Plain → Type 0) (H : Holder → Type 0) where
 
   -- ---- The edit.
 
-  kept-either : (z : Bool) (a b : Result Items Refusal) → IfOk a (Each P H) → IfOk b (Each P H) → IfOk (cond z a b) (Each P H)
-  kept-either true a b f g = f
-  kept-either false a b f g = g
-
   kept-way : (found : Result (List ℕ) PathFault) (whole : Items) (edit : Edit) → Brings P H whole edit → Each P H whole → IfOk (by_way found whole edit) (Each P H)
   kept-way (Err fault) whole edit f e = tt
   kept-way (Ok way) whole edit f e =
       let to_item = if length way == 0 then Err NotAnInstance else of_item way whole edit in
       let to_body = at_body way whole (edited_body whole 0 edit) in
-      kept-either (is_of_item edit) to_item to_body
+      chosen (λ r. IfOk r (Each P H)) (is_of_item edit) to_item to_body
       (unless (length way == 0) NotAnInstance (of_item way whole edit) (kept-item way whole edit f e))
       (kept-at way whole 0 edit f e)
 

@@ -9,5 +9,7 @@ pub mod MadeOfWords
 pub mod Each
 pub mod Bodies
 pub mod Kept
+pub mod FreeNames
+pub mod NewWords
 pub mod Back
 pub mod Parsed
