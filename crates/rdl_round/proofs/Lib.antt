@@ -11,5 +11,6 @@ pub mod Bodies
 pub mod Kept
 pub mod FreeNames
 pub mod NewWords
+pub mod KnownNames
 pub mod Back
 pub mod Parsed
