@@ -77,7 +77,7 @@ found-passes test (x ∷ xs) = by (test x) refl (found-passes test xs)
     by true e h = e
     by false e h = h
 
-known-spelled : (name : List ℕ) → IfSome (property_of name) (λ p. IsProperty name)
+pub known-spelled : (name : List ℕ) → IfSome (property_of name) (λ p. IsProperty name)
 unfolding property_of
 known-spelled name = by (find (λ p. bytes_eq name (row p).name) properties) (found-passes (λ p. bytes_eq name (row p).name) properties)
   where
@@ -142,7 +142,7 @@ passed-free d b n (name ∷ next ∷ names) h = into (λ c. passed-free d c (ite
     into deeper None f = tt
     into deeper (Some a) f = below a (component_of d a) f deeper
 
-reached-free : (d : Items) (b : List ℕ) (n : ℕ) (t : List (List ℕ)) → AreNamesFree d → IfSome (target_kind d b n t) (λ _. IsTarget t)
+pub reached-free : (d : Items) (b : List ℕ) (n : ℕ) (t : List (List ℕ)) → AreNamesFree d → IfSome (target_kind d b n t) (λ _. IsTarget t)
 reached-free d b n t h = by (passes d b n t) (passed-free d b n t h)
   where
     ends : (o : Option (List ℕ)) → IsTarget t → IfSome (option_and_then (instance_kind d) o) (λ _. IsTarget t)

@@ -12,5 +12,7 @@ pub mod Kept
 pub mod FreeNames
 pub mod NewWords
 pub mod KnownNames
+pub mod Faultless
+pub mod Stepped
 pub mod Back
 pub mod Parsed

@@ -2,3 +2,4 @@ pub mod WrittenWords
 pub mod Spellable
 pub mod OfWords
 pub mod NewParts
+pub mod Histories
