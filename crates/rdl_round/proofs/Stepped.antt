@@ -91,11 +91,11 @@ acted old (edit e) actions new acts brings all =
 acted old undo actions new acts brings all = (subst AreWritable (sym acts) all, brings)
 acted old redo actions new acts brings all = (subst AreWritable (sym acts) all, brings)
 
-pub followed : (old : History State) (actions : List Action) (new : History State) → Follows old actions new → BringWords actions → AreWritable old → AreWritable new
-followed old [] new follows brings all = subst AreWritable (sym follows) all
-followed old (action ∷ actions) new follows brings all =
+pub followed : (old new : History State) (actions : List Action) → AreWritable old → BringWords actions → Follows old actions new → AreWritable new
+followed old new [] all brings follows = subst AreWritable (sym follows) all
+followed old new (action ∷ actions) all brings follows =
     let next = acted old action actions follows.0 follows.1 brings all in
-    followed follows.0 actions new follows.2 next.1 next.0
+    followed follows.0 new actions next.0 next.1 follows.2
 
 begun-writable : (text : List ℕ) (start : State) (p : Located) (limit : ℕ) → SpellsText text start.description p → HasRows start → AreWritable (begun limit start)
 begun-writable text start p limit s has =
@@ -111,7 +111,7 @@ pub all-read-back : (text : List ℕ) (start : State) (p : Located) (limit : ℕ
     → SpellsText text start.description p → HasRows start → BringWords actions → Follows (begun limit start) actions h → All (λ s. ReadsBack s.description) h.states
 all-read-back text start p limit actions h s has brings follows =
     All-weaker IsStateWritable (λ (z : State). ReadsBack z.description) (λ z w. reads-back z.description w) h.states
-    (followed (begun limit start) actions h follows brings (begun-writable text start p limit s has))
+    (followed (begun limit start) h actions (begun-writable text start p limit s has) brings follows)
 
 pub place-reads-back : (text : List ℕ) (start : State) (p : Located) (limit : ℕ) (actions : List Action) (h : History State) (now : State)
     → SpellsText text start.description p → HasRows start → BringWords actions → Follows (begun limit start) actions h → IsAt h now → ReadsBack now.description

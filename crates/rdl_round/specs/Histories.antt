@@ -18,7 +18,7 @@ use Rattle.rdl_round.specs.Spellable.{IsSpellable}
 abbrev pub ReadsBack : Items → Type 0
 ReadsBack d = length (map_text d) ≤ max_text → (p : Located) × (parse_reading (map_text d) ≡ Ok (d, p))
 
--- made of words, one that a text can spell, and within the limits
+-- so is one that is made of words, that a text can spell, and that is within the limits
 pub record IsWritable (d : Items) : Type 0 where
   pub of_words : IsOfWords d
   pub spellable : IsSpellable d
@@ -29,12 +29,13 @@ pub data Action : Type 0 where
   undo : Action
   redo : Action
 
--- the edit is accepted, or the place goes back or on
+-- an edit that is accepted, or a step of the place back or on
 abbrev pub Acts : History State → Action → History State → Type 0
 Acts old (edit e) new = Edits Leads e old new
 Acts old undo new = new ≡ after_undo old
 Acts old redo new = new ≡ after_redo old
 
+-- one after another
 abbrev pub Follows : History State → List Action → History State → Type 0
 Follows old [] new = new ≡ old
 Follows old (action ∷ actions) new = (next : History State) × Acts old action next × Follows next actions new
@@ -46,6 +47,6 @@ BringWords (edit e ∷ actions) = IsEditOfWords e × IsEditSpellable e × BringW
 BringWords (undo ∷ actions) = BringWords actions
 BringWords (redo ∷ actions) = BringWords actions
 
--- only this state, which nothing can undo
+-- a history that begins with this state
 abbrev pub begun : ℕ → State → History State
 begun limit s = record { limit = limit; states = s ∷ []; place = 0 }

@@ -37,8 +37,14 @@ pub fn edited_maps_read_back()
         → step old e ≡ Ok new → ReadsBack new.description }
 {}
 
-/// And so does each map of a history that began with a map that was read, whatever was done, undone and done again: that
-/// at the place, and those before and after it.
+/// A history of maps that can be written and read back stays one, whatever is done, undone and done again.
+pub fn histories_stay_writable()
+    ensures { (old new : History State) (actions : List Action) → All (λ s. IsWritable s.description) old.states → BringWords actions → Follows old actions new
+        → All (λ s. IsWritable s.description) new.states }
+{}
+
+/// So each map of a history that began with a map that was read reads back: that at the place, and those before
+/// and after it.
 pub fn histories_read_back()
     ensures all { (text : List ℕ) (start : State) (p : Located) (limit : ℕ) (actions : List Action) (h : History State) → SpellsText text start.description p
         → HasRows start → BringWords actions → Follows (begun limit start) actions h → All (λ s. ReadsBack s.description) h.states }
