@@ -1,5 +1,5 @@
 -- What holds of each item of a description, and of those inside.
-use Rattle.std.proofs.Common.{◌≡◌, ℕ, zero, suc, Bool, true, false, if◌then◌else◌, List, [], ◌∷◌, ◌++◌, Option, Some, None, All, drop, insert, remove, take, slice_get, slice_set, sym, subst}
+use Rattle.std.proofs.Common.{ℕ, zero, suc, Bool, true, false, if◌then◌else◌, List, [], ◌∷◌, Option, Some, None, All, drop, insert, remove, take, slice_get, slice_set}
 use Rattle.std.specs.Prelude.{IfSome, option_and_then}
 use Rattle.std.proofs.lemmas.List.Elements.{All-nil, All-cons, All-head, All-tail, All-append, All-set, All-take, All-drop}
 use Rattle.rdl_tree.specs.Address.{inner, map_inner, body_at, map_body}

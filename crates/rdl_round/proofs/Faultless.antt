@@ -1,5 +1,5 @@
 -- A map without a fault is within the limits, and one whose names aren't reserved is then one that a text can spell.
-use Rattle.std.proofs.Common.{◌≡◌, ◌≤◌, ℕ, suc, Bool, true, false, true≢false, ◌&&◌, ◌||◌, not, List, [], ◌∷◌, ◌++◌, length, Option, Some, None, IfSome, Result, Ok, Err, refl, ap, sym, ◌∙◌, is_ok, not-suc-le-zero}
+use Rattle.std.proofs.Common.{◌≡◌, ℕ, suc, Bool, true, false, true≢false, ◌&&◌, ◌||◌, not, List, [], ◌∷◌, ◌++◌, length, Option, Some, None, IfSome, Ok, refl, ap, sym, ◌∙◌, is_ok, not-suc-le-zero}
 use Rattle.std.proofs.Math.Bool.{and-true}
 use Rattle.std.proofs.lemmas.Bool.{ltb-false}
 use Rattle.std.proofs.lemmas.Option.{none-some}
@@ -24,7 +24,7 @@ use Rattle.rdl_scope.specs.Target.{instance_before}
 use Rattle.rdl_scope.specs.Value.{own_before, last_default}
 use Rattle.rdl_elab.specs.Faults.{unless_fault, elaborated}
 use Rattle.rdl_elab.specs.declared.row.Row.{Row}
-use Rattle.rdl_round.specs.Spellable.{IsProperty, IsTarget, AreBrackets, IsShell, IsPlain, IsHolder, IsSpellable}
+use Rattle.rdl_round.specs.Spellable.{IsProperty, IsTarget, AreBrackets, IsPlain, IsHolder, IsSpellable}
 use Rattle.rdl_round.proofs.FreeNames.{HasFreeNames, HasFreeName, AreNamesFree}
 use Rattle.rdl_round.proofs.KnownNames.{known-spelled, reached-free}
 

@@ -1,25 +1,21 @@
 -- An edit keeps that the names of a map aren't reserved.
-use Rattle.std.proofs.Common.{true≢false, ◌≡◌, Bool, true, false, cond, not, ℕ, List, [], ◌∷◌, Option, Some, None, IfOk, if◌then◌else◌, refl}
+use Rattle.std.proofs.Common.{true≢false, ◌≡◌, false, not, ℕ, List, IfOk, refl}
 use Rattle.rdl_tree.specs.Items.{Items, Plain, named, own, default, dynamic, Holder, define, anonymous}
 use Rattle.rdl_tree.specs.declared.shell.Shell.{Shell}
 use Rattle.rdl_parse.specs.Class.{class}
 use Rattle.rdl_parse.specs.declared.class.Class.{Class}
 use Rattle.rdl_parse.specs.declared.class.Class.TheVariants as classes
-use Rattle.rdl_scope.specs.Target.{through}
 use Rattle.rdl_scope.specs.Types.{type_of}
 use Rattle.rdl_rewrite.specs.Addresses.{same, leads_to}
-use Rattle.rdl_rewrite.specs.Renaming.{is_name, is_reserved, renamed_names, renamed_target, renamed_shell, renamed_plain, renamed_holder}
+use Rattle.rdl_rewrite.specs.Renaming.{is_name, renamed_shell, renamed_plain, renamed_holder}
 use Rattle.rdl_rewrite.specs.Rewritten.{rewritten}
-use Rattle.rdl_rewrite.specs.Shell.{edited_shell}
 use Rattle.rdl_rewrite.specs.declared.edit.Edit.{Edit}
 use Rattle.rdl_rewrite.specs.declared.edit.Edit.TheVariants.{Add, Remove, Rename, Move, Resize, SetBits, SetAddress, SetStride, SetAlign, SetReset, SetOwn, SetDefault, ClearOwn, ClearDefault, Assign, Unassign}
-use Rattle.rdl_text.specs.Name.{IsName}
-use Rattle.rdl_round.specs.NewParts.{IsEditOfWords, IsEditSpellable}
-use Rattle.rdl_round.specs.OfWords.{AreNames, IsShellOfWords, IsPlainOfWords, IsHolderOfWords, IsOfWords}
+use Rattle.rdl_round.specs.NewParts.{IsEditSpellable}
 use Rattle.rdl_round.specs.Spellable.{IsFree, IsPlain, IsHolder, IsSpellable}
-use Rattle.rdl_round.proofs.Bodies.{each-spellable, each-of-words, of-words-each}
+use Rattle.rdl_round.proofs.Bodies.{each-spellable}
 use Rattle.rdl_round.proofs.Each.{chosen, Each, weaker}
-use Rattle.rdl_round.proofs.Kept.{KeptShell, KeptName, Brings, kept}
+use Rattle.rdl_round.proofs.Kept.{KeptName, Brings, kept}
 
 -- ---- Names alone: of definitions, of instances and of their types. Nothing is asked of properties and targets.
 

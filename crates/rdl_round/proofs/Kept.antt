@@ -1,13 +1,13 @@
 -- What an edit must bring, so that what holds of each item of the old map holds of each item of the new one.
-use Rattle.std.proofs.Common.{◌≡◌, ℕ, suc, Bool, true, false, cond, if◌then◌else◌, List, [], ◌∷◌, ◌++◌, length, Option, Some, None, Result, Ok, Err, IfOk, IfSome, All, drop, take, slice_get, position, refl}
+use Rattle.std.proofs.Common.{◌≡◌, ℕ, suc, Bool, true, false, cond, if◌then◌else◌, List, [], ◌∷◌, ◌++◌, length, Option, Some, None, Result, Ok, Err, IfOk, IfSome, drop, take, slice_get, position, refl}
 use Rattle.std.specs.List.{list_all}
 use Rattle.std.specs.Prelude.{◌==◌}
 use Rattle.std.proofs.lemmas.List.Elements.{All-append, All-take, All-drop}
-use Rattle.rdl_tree.specs.Address.{body_at, map_body}
-use Rattle.rdl_tree.specs.Edit.{insert_item, remove_item}
+use Rattle.rdl_tree.specs.Address.{body_at}
+use Rattle.rdl_tree.specs.Edit.{remove_item}
 use Rattle.rdl_tree.specs.Find.{find}
 use Rattle.rdl_tree.specs.Items.{Items, no_items, plain, holder, Plain, named, own, default, dynamic, Holder, anonymous}
-use Rattle.rdl_tree.specs.View.{items_of, list_of}
+use Rattle.rdl_tree.specs.View.{list_of}
 use Rattle.rdl_tree.specs.declared.description.Item.{Item}
 use Rattle.rdl_tree.specs.declared.description.Item.TheVariants.{Define, Instance, Own, Default, Dynamic}
 use Rattle.rdl_tree.specs.declared.description.Of.TheVariants.{Named, Anonymous}

@@ -1,30 +1,20 @@
--- A map without a fault, whose names aren't reserved, is one that a text can spell: its properties are known ones, its
--- targets name its instances, and no instance has both sizes and a range.
-use Rattle.std.proofs.Common.{◌≡◌, ℕ, zero, suc, Bool, true, false, true≢false, cond, ◌&&◌, ◌||◌, not, List, [], ◌∷◌, ◌++◌, length, Option, Some, None, IfSome, find, option_map, bytes_eq, inl, inr, refl, ap, sym, subst, ◌∙◌}
-use Rattle.std.specs.Option.{is_some, option_or}
-use Rattle.std.specs.Prelude.{option_and_then, nat_lt}
+-- Names that a text can spell: those of known properties, and those of a target that passes instances whose names
+-- aren't reserved.
+use Rattle.std.proofs.Common.{◌≡◌, ℕ, zero, suc, Bool, true, false, true≢false, cond, List, [], ◌∷◌, ◌++◌, Option, Some, None, IfSome, find, option_map, bytes_eq, inl, inr, refl, sym, subst}
+use Rattle.std.specs.Prelude.{option_and_then}
 use Rattle.std.proofs.lemmas.Slice.Eq.{bytes_eq-Decides}
 use Rattle.rdl_tree.specs.Address.{body_at}
-use Rattle.rdl_tree.specs.Component.{holder_kind}
 use Rattle.rdl_tree.specs.Items.{Items, no_items, plain, holder, Plain, named, own, default, dynamic, Holder, define, anonymous}
 use Rattle.rdl_tree.specs.Properties.{row, properties, property_of}
-use Rattle.rdl_tree.specs.View.{plain_item, holder_item}
-use Rattle.rdl_tree.specs.declared.fault.Fault.{Fault}
-use Rattle.rdl_tree.specs.declared.fault.FaultKind.{FaultKind}
-use Rattle.rdl_tree.specs.declared.fault.FaultKind.TheVariants.{NameTwice, UnknownType, KindNotAllowed, PartNotAllowed, OutOfRange, NotOfKind, WrongValue, AssignedTwice, NoSuchTarget, NotDynamic}
 use Rattle.rdl_tree.specs.declared.property.Property.{Property}
 use Rattle.rdl_tree.specs.declared.property.Property.TheVariants as property
-use Rattle.rdl_tree.specs.declared.shell.Kind.{Kind}
-use Rattle.rdl_tree.specs.declared.shell.Kind.TheVariants.{Addrmap, Regfile, Reg, Field}
-use Rattle.rdl_tree.specs.declared.shell.Shell.{Shell}
-use Rattle.rdl_tree.specs.declared.value.Value.{Value}
 use Rattle.rdl_parse.specs.Class.{class, is_unused}
 use Rattle.rdl_parse.specs.declared.class.Property.TheVariants as reserved
-use Rattle.rdl_scope.specs.ItemFaults.{may_instantiate, is_said, has_dims, wrong_part_of_kind, wrong_part, wrong_number, first_of, define_fault, instance_fault, own_fault, default_fault, dynamic_fault, is_of, instance_kind, last_of, target_kind, item_fault, fault_at, first_fault}
+use Rattle.rdl_scope.specs.ItemFaults.{instance_kind, last_of, target_kind}
 use Rattle.rdl_scope.specs.Target.{plain_named, holder_named, instance_before, instance_in, passes}
 use Rattle.rdl_scope.specs.Types.{component_of, items_in}
-use Rattle.rdl_round.specs.Spellable.{IsFree, IsProperty, AreFree, IsTarget, AreBrackets, IsShell, IsPlain, IsHolder, IsSpellable}
-use Rattle.rdl_round.proofs.Each.{Each, body-each}
+use Rattle.rdl_round.specs.Spellable.{IsFree, IsProperty, IsTarget}
+use Rattle.rdl_round.proofs.Each.{body-each}
 use Rattle.rdl_round.proofs.FreeNames.{HasFreeNames, HasFreeName, AreNamesFree}
 
 -- ---- Properties.
@@ -111,47 +101,35 @@ instance-free name (suc n) no_items h = tt
 instance-free name (suc n) (plain p rest) h = or-later name (plain_named name p) (instance_before name n rest) (plain-names name p h.0) (instance-free name n rest h.1)
 instance-free name (suc n) (holder k body rest) h = or-later name (holder_named name k) (instance_before name n rest) (holder-names name k h.0) (instance-free name n rest h.2)
 
+-- what holds where there is a value holds where one was made of it
+given : {X : Type 0} (Q : Type 0) (o : Option X) → Q → IfSome o (λ _. Q)
+given Q None h = tt
+given Q (Some x) h = h
+
+mapped : {X Y : Type 0} (P Q : Type 0) (f : X → Y) (o : Option X) → IfSome o (λ _. P) → (P → Q) → IfSome (option_map f o) (λ _. Q)
+mapped P Q f None h k = tt
+mapped P Q f (Some x) h k = k h
+
+and-then : {X Y : Type 0} (P : X → Type 0) (Q : Type 0) (f : X → Option Y) (o : Option X) → IfSome o P → ((x : X) → P x → IfSome (f x) (λ _. Q)) → IfSome (option_and_then f o) (λ _. Q)
+and-then P Q f None h k = tt
+and-then P Q f (Some x) h k = k x h
+
 instance-in-free : (d : Items) (b : List ℕ) (n : ℕ) (name : List ℕ) → AreNamesFree d → IfSome (instance_in d b n name) (λ _. IsFree name)
-instance-in-free d b n name h = by (body_at b d) (body-each HasFreeNames HasFreeName b d h)
-  where
-    at : (o : Option ℕ) → IfSome o (λ _. IsFree name) → IfSome (option_map (λ k. b ++ k ∷ []) o) (λ _. IsFree name)
-    at None f = tt
-    at (Some k) f = f
-    by : (o : Option Items) → IfSome o AreNamesFree → IfSome (option_map (λ k. b ++ k ∷ []) (option_and_then (instance_before name n) o)) (λ _. IsFree name)
-    by None f = tt
-    by (Some t) f = at (instance_before name n t) (instance-free name n t f)
+instance-in-free d b n name h =
+    let found = and-then AreNamesFree (IsFree name) (instance_before name n) (body_at b d) (body-each HasFreeNames HasFreeName b d h) (λ t f. instance-free name n t f) in
+    mapped (IsFree name) (IsFree name) (λ k. b ++ k ∷ []) (option_and_then (instance_before name n) (body_at b d)) found (λ f. f)
 
 passed-free : (d : Items) (b : List ℕ) (n : ℕ) (t : List (List ℕ)) → AreNamesFree d → IfSome (passes d b n t) (λ _. IsTarget t)
 passed-free d b n [] h = tt
-passed-free d b n (name ∷ []) h = one (instance_in d b n name) (instance-in-free d b n name h)
-  where
-    one : (o : Option (List ℕ)) → IfSome o (λ _. IsFree name) → IfSome (option_map (λ a. a ∷ []) o) (λ _. IsTarget (name ∷ []))
-    one None f = tt
-    one (Some a) f = (f, tt)
-passed-free d b n (name ∷ next ∷ names) h = into (λ c. passed-free d c (items_in c d) (next ∷ names) h) (instance_in d b n name) (instance-in-free d b n name h)
-  where
-    joined : (a : List ℕ) (o : Option (List (List ℕ))) → IsFree name → IfSome o (λ _. IsTarget (next ∷ names)) → IfSome (option_map (λ more. a ∷ more) o) (λ _. IsTarget (name ∷ next ∷ names))
-    joined a None f g = tt
-    joined a (Some more) f g = (f, g)
-    below : (a : List ℕ) (o : Option (List ℕ)) → IsFree name → ((c : List ℕ) → IfSome (passes d c (items_in c d) (next ∷ names)) (λ _. IsTarget (next ∷ names)))
-        → IfSome (option_map (λ more. a ∷ more) (option_and_then (λ c. passes d c (items_in c d) (next ∷ names)) o)) (λ _. IsTarget (name ∷ next ∷ names))
-    below a None f deeper = tt
-    below a (Some c) f deeper = joined a (passes d c (items_in c d) (next ∷ names)) f (deeper c)
-    into : ((c : List ℕ) → IfSome (passes d c (items_in c d) (next ∷ names)) (λ _. IsTarget (next ∷ names))) → (o : Option (List ℕ)) → IfSome o (λ _. IsFree name)
-        → IfSome (option_and_then (λ a. option_map (λ more. a ∷ more) (option_and_then (λ c. passes d c (items_in c d) (next ∷ names)) (component_of d a))) o) (λ _. IsTarget (name ∷ next ∷ names))
-    into deeper None f = tt
-    into deeper (Some a) f = below a (component_of d a) f deeper
+passed-free d b n (name ∷ []) h = mapped (IsFree name) (IsTarget (name ∷ [])) (λ a. a ∷ []) (instance_in d b n name) (instance-in-free d b n name h) (λ f. (f, tt))
+passed-free d b n (name ∷ next ∷ names) h =
+    let below : List ℕ → Option (List (List ℕ)) = λ c. passes d c (items_in c d) (next ∷ names) in
+    let others : (a : List ℕ) → IfSome (option_and_then below (component_of d a)) (λ _. IsTarget (next ∷ names)) =
+    λ a. and-then (λ _. Unit {0}) (IsTarget (next ∷ names)) below (component_of d a) (given (Unit {0}) (component_of d a) tt) (λ c _. passed-free d c (items_in c d) (next ∷ names) h) in
+    and-then (λ _. IsFree name) (IsTarget (name ∷ next ∷ names)) (λ a. option_map (λ more. a ∷ more) (option_and_then below (component_of d a))) (instance_in d b n name) (instance-in-free d b n name h)
+    (λ a f. mapped (IsTarget (next ∷ names)) (IsTarget (name ∷ next ∷ names)) (λ more. a ∷ more) (option_and_then below (component_of d a)) (others a) (λ g. (f, g)))
 
 pub reached-free : (d : Items) (b : List ℕ) (n : ℕ) (t : List (List ℕ)) → AreNamesFree d → IfSome (target_kind d b n t) (λ _. IsTarget t)
-reached-free d b n t h = by (passes d b n t) (passed-free d b n t h)
-  where
-    ends : (o : Option (List ℕ)) → IsTarget t → IfSome (option_and_then (instance_kind d) o) (λ _. IsTarget t)
-    ends None f = tt
-    ends (Some a) f = at (instance_kind d a) f
-      where
-        at : (o : Option Kind) → IsTarget t → IfSome o (λ _. IsTarget t)
-        at None f = tt
-        at (Some k) f = f
-    by : (o : Option (List (List ℕ))) → IfSome o (λ _. IsTarget t) → IfSome (option_and_then (instance_kind d) (option_and_then last_of o)) (λ _. IsTarget t)
-    by None f = tt
-    by (Some path) f = ends (last_of path) f
+reached-free d b n t h =
+    let last = and-then (λ _. IsTarget t) (IsTarget t) last_of (passes d b n t) (passed-free d b n t h) (λ path f. given (IsTarget t) (last_of path) f) in
+    and-then (λ _. IsTarget t) (IsTarget t) (instance_kind d) (option_and_then last_of (passes d b n t)) last (λ a f. given (IsTarget t) (instance_kind d a) f)

@@ -1,23 +1,20 @@
 -- An accepted edit leads from a map that can be written and read back to another, and so do all actions of a history.
-use Rattle.std.proofs.Common.{◌≡◌, ◌≤◌, ℕ, zero, suc, ◌+◌, List, [], ◌∷◌, length, take, Option, Some, None, Result, Ok, Err, IfOk, All, slice_get, refl, ap, sym, subst, ◌∙◌}
+use Rattle.std.proofs.Common.{◌≡◌, ℕ, zero, suc, ◌+◌, List, [], ◌∷◌, take, Option, Some, None, Result, Ok, Err, IfOk, All, slice_get, refl, sym, subst}
 use Rattle.std.proofs.lemmas.List.Elements.{All-nil, All-cons, All-head, All-tail, All-push, All-take, All-weaker}
 use Rattle.std.proofs.lemmas.Option.{none-some, same_Some}
-use Rattle.journal_core.specs.History.{History, Edits, IsAt, after_edit, after_undo, after_redo}
+use Rattle.journal_core.specs.History.{History, IsAt}
 use Rattle.rdl_tree.specs.Items.{Items}
 use Rattle.rdl_tree.specs.Limits.{IsWithinLimits}
 use Rattle.rdl_tree.specs.declared.fault.Fault.{Fault}
-use Rattle.rdl_parse.specs.Faults.{max_text}
-use Rattle.rdl_parse.specs.FirstFault.{parse_reading}
 use Rattle.rdl_parse.specs.Parsing.{SpellsText}
 use Rattle.rdl_parse.specs.Places.{Located}
 use Rattle.rdl_scope.specs.ItemFaults.{fault_of}
 use Rattle.rdl_elab.specs.Faults.{elaborated}
 use Rattle.rdl_elab.specs.declared.row.Row.{Row}
-use Rattle.rdl_write.specs.MapText.{map_text}
 use Rattle.rdl_rewrite.specs.Rewritten.{rewritten}
 use Rattle.rdl_rewrite.specs.declared.edit.Edit.{Edit}
 use Rattle.rdl_rewrite.specs.declared.edit.Refusal.{Refusal as Early}
-use Rattle.rdl_edit.specs.Step.{State, HasRows, Leads, judged, judged_anew, step}
+use Rattle.rdl_edit.specs.Step.{State, HasRows, judged, judged_anew, step}
 use Rattle.rdl_round.specs.Histories.{ReadsBack, IsWritable, Action, edit, undo, redo, Acts, Follows, BringWords, begun}
 use Rattle.rdl_round.specs.NewParts.{IsEditOfWords, IsEditSpellable}
 use Rattle.rdl_round.specs.OfWords.{IsOfWords}
