@@ -6,6 +6,13 @@ pub mod Numerals
 pub mod Written
 pub mod Lines
 pub mod MadeOfWords
-pub mod Edits
+pub mod Each
+pub mod Bodies
+pub mod Kept
+pub mod FreeNames
+pub mod NewWords
+pub mod KnownNames
+pub mod Faultless
+pub mod Stepped
 pub mod Back
 pub mod Parsed

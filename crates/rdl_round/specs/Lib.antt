@@ -1,3 +1,5 @@
 pub mod WrittenWords
 pub mod Spellable
 pub mod OfWords
+pub mod NewParts
+pub mod Histories

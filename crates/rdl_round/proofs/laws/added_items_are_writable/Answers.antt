@@ -1,4 +1,4 @@
-use Rattle.rdl_round.proofs.Edits.{added-spellable, added-of-words}
+use Rattle.rdl_round.proofs.Bodies.{added-spellable, added-of-words}
 use Rattle.rdl_round.proofs.laws.added_items_are_writable.Goals as goal
 
 pub returns-clause-spellable : goal.returns-clause-spellable

@@ -1,4 +1,4 @@
-use Rattle.rdl_round.proofs.Edits.{body-spellable, body-of-words}
+use Rattle.rdl_round.proofs.Bodies.{body-spellable, body-of-words}
 use Rattle.rdl_round.proofs.laws.edited_bodies_are_writable.Goals as goal
 
 pub returns-clause-spellable : goal.returns-clause-spellable

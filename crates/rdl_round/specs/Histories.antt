@@ -1,0 +1,52 @@
+-- What accepted edits, undos and redos make of a history, one after another.
+-- own: SystemRDL 2.0 has no edits.
+use Rattle.std.specs.Prelude.{◌≡◌, ◌≤◌, ℕ, List, [], ◌∷◌, length, Ok}
+use Rattle.journal_core.specs.History.{History, Edits, after_undo, after_redo}
+use Rattle.rdl_tree.specs.Items.{Items}
+use Rattle.rdl_tree.specs.Limits.{IsWithinLimits}
+use Rattle.rdl_parse.specs.Faults.{max_text}
+use Rattle.rdl_parse.specs.FirstFault.{parse_reading}
+use Rattle.rdl_parse.specs.Places.{Located}
+use Rattle.rdl_write.specs.MapText.{map_text}
+use Rattle.rdl_rewrite.specs.declared.edit.Edit.{Edit}
+use Rattle.rdl_edit.specs.Step.{State, Leads}
+use Rattle.rdl_round.specs.NewParts.{IsEditOfWords, IsEditSpellable}
+use Rattle.rdl_round.specs.OfWords.{IsOfWords}
+use Rattle.rdl_round.specs.Spellable.{IsSpellable}
+
+-- the written text of the description, where it isn't too long, is read as that description
+abbrev pub ReadsBack : Items → Type 0
+ReadsBack d = length (map_text d) ≤ max_text → (p : Located) × (parse_reading (map_text d) ≡ Ok (d, p))
+
+-- so is one that is made of words, that a text can spell, and that is within the limits
+pub record IsWritable (d : Items) : Type 0 where
+  pub of_words : IsOfWords d
+  pub spellable : IsSpellable d
+  pub within : IsWithinLimits d
+
+pub data Action : Type 0 where
+  edit : Edit → Action
+  undo : Action
+  redo : Action
+
+-- an edit that is accepted, or a step of the place back or on
+abbrev pub Acts : History State → Action → History State → Type 0
+Acts old (edit e) new = Edits Leads e old new
+Acts old undo new = new ≡ after_undo old
+Acts old redo new = new ≡ after_redo old
+
+-- one after another
+abbrev pub Follows : History State → List Action → History State → Type 0
+Follows old [] new = new ≡ old
+Follows old (action ∷ actions) new = (next : History State) × Acts old action next × Follows next actions new
+
+-- what the edits bring is made of words, and a text can spell the items that they add
+abbrev pub BringWords : List Action → Type 0
+BringWords [] = Unit {0}
+BringWords (edit e ∷ actions) = IsEditOfWords e × IsEditSpellable e × BringWords actions
+BringWords (undo ∷ actions) = BringWords actions
+BringWords (redo ∷ actions) = BringWords actions
+
+-- a history that begins with this state
+abbrev pub begun : ℕ → State → History State
+begun limit s = record { limit = limit; states = s ∷ []; place = 0 }

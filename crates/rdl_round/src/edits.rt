@@ -1,0 +1,53 @@
+//! Laws of maps that edits made: they can be written and read back too.
+ghost use Rattle.std.specs.Prelude.{◌≡◌, ℕ, List, Option, Ok, All};
+ghost use Rattle.journal_core.specs.History.{History, IsAt};
+ghost use Rattle.rdl_tree.specs.Items.{Items};
+ghost use Rattle.rdl_tree.specs.Limits.{IsWithinLimits};
+ghost use Rattle.rdl_parse.specs.Parsing.{SpellsText};
+ghost use Rattle.rdl_parse.specs.Places.{Located};
+ghost use Rattle.rdl_elab.specs.Faults.{elaborated};
+ghost use Rattle.rdl_elab.specs.declared.row.Row.{Row};
+ghost use Rattle.rdl_rewrite.specs.declared.edit.Edit.{Edit};
+ghost use Rattle.rdl_edit.specs.Step.{State, HasRows, step};
+ghost use Rattle.rdl_round.specs.Histories.{ReadsBack, IsWritable, Action, Follows, BringWords, begun};
+ghost use Rattle.rdl_round.specs.NewParts.{IsEditOfWords, IsEditSpellable};
+ghost use Rattle.rdl_round.specs.OfWords.{IsOfWords};
+ghost use Rattle.rdl_round.specs.Spellable.{IsSpellable};
+
+/// A map that has rows is within the limits.
+pub fn maps_with_rows_are_within_limits()
+    ensures { (d : Items) (option : Option (List ℕ)) (rows : List Row) → elaborated d option ≡ Ok rows → IsWithinLimits d }
+{}
+
+/// An accepted edit leads from a map that a text can spell to another, where a text can spell the items that it adds.
+/// Nothing is asked of other edits: a reserved new name is refused, and so is a map in which an assignment names a
+/// property that isn't known or instances that aren't there, or an instance has both sizes and a range.
+pub fn edited_maps_are_spellable()
+    ensures { (old : State) (e : Edit) (new : State) → step old e ≡ Ok new → IsSpellable old.description → IsEditSpellable e → IsSpellable new.description }
+{}
+
+/// It leads from a map that is made of words to another, where what it brings is made of words.
+pub fn edited_maps_are_of_words()
+    ensures { (old : State) (e : Edit) (new : State) → step old e ≡ Ok new → IsOfWords old.description → IsEditOfWords e → IsOfWords new.description }
+{}
+
+/// So where a text spells the old map, reading the text of the new one gives the new one, if it isn't too long.
+pub fn edited_maps_read_back()
+    ensures { (text : List ℕ) (old new : State) (p : Located) (e : Edit) → SpellsText text old.description p → IsEditOfWords e → IsEditSpellable e
+        → step old e ≡ Ok new → ReadsBack new.description }
+{}
+
+/// A history of maps that can be written and read back stays one, whatever is done, undone and done again.
+pub fn histories_stay_writable()
+    ensures { (old new : History State) (actions : List Action) → All (λ s. IsWritable s.description) old.states → BringWords actions → Follows old actions new
+        → All (λ s. IsWritable s.description) new.states }
+{}
+
+/// So each map of a history that began with a map that was read reads back: that at the place, and those before
+/// and after it.
+pub fn histories_read_back()
+    ensures all { (text : List ℕ) (start : State) (p : Located) (limit : ℕ) (actions : List Action) (h : History State) → SpellsText text start.description p
+        → HasRows start → BringWords actions → Follows (begun limit start) actions h → All (λ s. ReadsBack s.description) h.states }
+    ensures current { (text : List ℕ) (start : State) (p : Located) (limit : ℕ) (actions : List Action) (h : History State) (now : State) → SpellsText text start.description p
+        → HasRows start → BringWords actions → Follows (begun limit start) actions h → IsAt h now → ReadsBack now.description }
+{}
