@@ -5,6 +5,7 @@ mod assignment;
 mod body;
 mod dynamics;
 pub mod edit;
+mod leads;
 mod names;
 pub mod place;
 mod removal;

@@ -7,96 +7,18 @@ ghost use Rattle.rdl_tree.specs.Address.{body_at, map_inner};
 ghost use Rattle.rdl_tree.specs.Depth.{depth};
 ghost use Rattle.rdl_scope.specs.Types.{item, type_of};
 ghost use Rattle.rdl_scope.specs.Target.{through};
-ghost use Rattle.rdl_scope.specs.Walk.{is_definition, is_instance, reference_of};
 ghost use Rattle.rdl_rewrite.specs.Addresses.{same, leads_to, passes_by, addresses};
 ghost use Rattle.rdl_rewrite.specs.Removal.{is_in_use, goes, staying, removed};
 ghost use Rattle.rdl_rewrite.specs.Refuses.{Refuses};
 
 use crate::edit::Refusal;
+use crate::leads::{is_instance_of_any, item_at, leads_to};
 use rdl_scope::targets::through;
-use rdl_scope::types::type_of;
 use rdl_text::name::Name;
 use rdl_tree::address::Address;
 use rdl_tree::description::{Body, Component, Description, Item, Of};
 use rdl_tree::shell::{Kind, Shell};
 use std::alloc::{AllocError, Global};
-
-fn item_at<'a>(body: &'a Body, path: &[usize]) -> Option<&'a Item>
-    ensures { option_copied result ≡ item path.now body.now }
-{
-    match path {
-        [] => None,
-        [number] => body.item(*number),
-        [number, rest @ ..] => item_at(body.inner(*number)?, rest),
-    }
-}
-
-/// The name of the type to which the item refers.
-fn reference(found: &Item) -> Option<&Name>
-    ensures { option_copied result ≡ reference_of found.now }
-{
-    match found {
-        Item::Instance(_, Of::Named(name)) => Some(name),
-        _ => None,
-    }
-}
-
-fn is_definition(taken: Option<&Item>, name: &Name) -> bool
-    ensures { result ≡ is_definition name.now (option_copied taken.entry) }
-{
-    match taken {
-        Some(Item::Define(defined, _)) => defined == name,
-        _ => false,
-    }
-}
-
-fn is_instance(taken: Option<&Item>, name: &Name) -> bool
-    ensures { result ≡ is_instance name.now (option_copied taken.entry) }
-{
-    match taken {
-        Some(Item::Instance(shell, _)) => &shell.name == name,
-        _ => false,
-    }
-}
-
-fn is_instance_of_any(taken: Option<&Item>, names: &[Name]) -> bool
-    ensures { result ≡ list_any (λ name. is_instance name (option_copied taken.entry)) names.now }
-{
-    'names: for name in names {
-        if is_instance(taken, name) {
-            return true;
-        }
-    }
-    false
-}
-
-fn is_way(way: &Address, found: Option<Address>) -> bool
-    ensures { result ≡ leads_to way.now found }
-{
-    match found {
-        Some(at) => at == *way,
-        None => false,
-    }
-}
-
-/// Whether this item, at its address, is an instance whose type is the taken item, the one on the way. Only a reference
-/// to that definition's name is searched for.
-fn leads_to(
-    whole: &Description,
-    way: &Address,
-    taken: Option<&Item>,
-    at: &Address,
-    found: &Item,
-) -> bool
-    requires taken { option_copied taken ≡ item way.now whole.now.items }
-    requires here { item at.now whole.now.items ≡ Some found.now }
-    ensures { result ≡ leads_to way.now (type_of whole.now.items at.now) }
-{
-    match reference(found) {
-        Some(name) => is_definition(taken, name) && is_way(way, type_of(whole, at)),
-        None => false,
-    }
-}
 
 /// Whether the type of an instance in this body, at its address, is the item on the way.
 #[cycle(used)]

@@ -7,18 +7,17 @@ ghost use Rattle.rdl_tree.specs.Address.{body_at};
 ghost use Rattle.rdl_tree.specs.Depth.{depth};
 ghost use Rattle.rdl_scope.specs.Types.{item, type_of};
 ghost use Rattle.rdl_scope.specs.Target.{through};
-ghost use Rattle.rdl_scope.specs.Walk.{is_definition, is_instance, reference_of};
 ghost use Rattle.rdl_rewrite.specs.Addresses.{leads_to};
 ghost use Rattle.rdl_rewrite.specs.Names.{has_name};
 ghost use Rattle.rdl_rewrite.specs.Renaming.{renamed_names, renamed_target, renamed_shell, renamed_items, is_reserved, names_in, is_taken, renamed};
 ghost use Rattle.rdl_rewrite.specs.Refuses.{Refuses};
 
 use crate::edit::Refusal;
+use crate::leads::{is_at, is_instance_of_any, item_at, leads_to};
 use crate::names::{defined_names, has_name, instance_names};
 use crate::rewrite::holder;
 use rdl_parse::class::Class;
 use rdl_scope::targets::through;
-use rdl_scope::types::type_of;
 use rdl_text::name::Name;
 use rdl_tree::address::Address;
 use rdl_tree::description::{Body, Component, Description, Item, Of};
@@ -31,15 +30,6 @@ fn chosen<'a>(is_it: bool, name: &'a Name, old: &'a Name) -> &'a Name
     ensures { result.now ≡ (if is_it then name.now else old.now) }
 {
     if is_it { name } else { old }
-}
-
-fn is_at(way: &Address, at: Option<&Address>) -> bool
-    ensures { result ≡ leads_to way.now (option_copied at.entry) }
-{
-    match at {
-        Some(at) => at == way,
-        None => false,
-    }
 }
 
 /// The names of a target, which passes the instances at these addresses.
@@ -79,67 +69,6 @@ fn renamed_target(
         }
         None => target.try_copy(alloc),
     }
-}
-
-fn item_at<'a>(body: &'a Body, path: &[usize]) -> Option<&'a Item>
-    ensures { option_copied result ≡ item path.now body.now }
-{
-    match path {
-        [] => None,
-        [number] => body.item(*number),
-        [number, rest @ ..] => item_at(body.inner(*number)?, rest),
-    }
-}
-
-fn is_definition(item: Option<&Item>, name: &Name) -> bool
-    ensures { result ≡ is_definition name.now (option_copied item.entry) }
-{
-    match item {
-        Some(Item::Define(defined, _)) => defined == name,
-        _ => false,
-    }
-}
-
-/// The name of the type to which the item refers.
-fn reference(item: &Item) -> Option<&Name>
-    ensures { option_copied result ≡ reference_of item.now }
-{
-    match item {
-        Item::Instance(_, Of::Named(name)) => Some(name),
-        _ => None,
-    }
-}
-
-/// Whether this item, at its address, is an instance whose type is the item on the way. Only a reference to the name of a
-/// definition there is searched for.
-fn leads_to(whole: &Description, way: &Address, at: &Address, old: &Item) -> bool
-    requires { item at.now whole.now.items ≡ Some old.now }
-    ensures { result ≡ leads_to way.now (type_of whole.now.items at.now) }
-{
-    match reference(old) {
-        Some(name) => {
-            is_definition(item_at(&whole.items, way.as_slice()), name)
-                && is_at(way, type_of(whole, at).as_ref())
-        }
-        None => false,
-    }
-}
-
-fn is_instance(item: Option<&Item>, name: &Name) -> bool
-    ensures { result ≡ is_instance name.now (option_copied item.entry) }
-{
-    match item {
-        Some(Item::Instance(shell, _)) => &shell.name == name,
-        _ => false,
-    }
-}
-
-/// Whether one of the names is that of the instance on the way.
-fn has_instance(whole: &Description, way: &Address, names: &[Name]) -> bool
-    ensures { result ≡ list_any (λ name. is_instance name (item way.now whole.now.items)) names.now }
-{
-    let item = item_at(&whole.items, way.as_slice());
-    names.iter().any(|name| is_instance(item, name))
 }
 
 /// The shell of the instance at this address.
@@ -240,12 +169,14 @@ fn renamed_item(
             Ok(anonymous(shell, component.kind, body))
         }
         Item::Instance(shell, Of::Named(reference)) => {
+            let taken = item_at(&whole.items, way.as_slice());
             let shell = renamed_shell(alloc, way, name, &address, shell)?;
-            let new_name = chosen(leads_to(whole, way, &address, old), name, reference);
+            let new_name = chosen(leads_to(whole, way, taken, &address, old), name, reference);
             named(alloc, shell, new_name)
         }
         Item::Dynamic(target, property, value) => {
-            if !has_instance(whole, way, target.names()) {
+            let taken = item_at(&whole.items, way.as_slice());
+            if !is_instance_of_any(taken, target.names()) {
                 return old.try_copy(alloc);
             }
             let target = renamed_target(alloc, whole, way, name, &address, target)?;

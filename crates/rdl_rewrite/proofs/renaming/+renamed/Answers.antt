@@ -62,12 +62,15 @@ renamed_item-renamed_body-requires-in-Instance-default-Anonymous t c =
     let here = ap (λ a. body_at a d) c.inside-address.ensures ∙ body_at-item _ d c.args.old.now c.requires.here ∙ ap own_body x in
     rw it (less, (c.requires.nesting, here))
 
-pub renamed_item-returns-then-not-has_instance : goal.renamed_item-returns-then-not-has_instance
-renamed_item-returns-then-not-has_instance t c =
+pub renamed_item-returns-then-not-is_instance_of_any : goal.renamed_item-returns-then-not-is_instance_of_any
+renamed_item-returns-then-not-is_instance_of_any t c =
     let d = c.args.whole.now.items in
     let way = c.args.way.now in
+    let names = c.names.result.now in
+    let taken = ap (λ w. item w d) (sym c.as_slice-in-Dynamic.ensures.value) ∙ sym c.item_at-taken-in-Dynamic.ensures in
     let none : list_any (λ q. is_instance q (item way d)) c.in-Dynamic.target ≡ false =
-    ap (list_any (λ q. is_instance q (item way d))) (sym c.names.ensures) ∙ sym c.has_instance.ensures ∙ c.if-not-has_instance.true in
+    ap (list_any (λ q. is_instance q (item way d))) (sym c.names.ensures) ∙ ap (λ o. list_any (λ q. is_instance q o) names) taken
+    ∙ sym c.is_instance_of_any.ensures ∙ c.if-not-is_instance_of_any.true in
     let kept =
     assignment_kept d way c.args.name.now c.args.at.now c.args.number c.args.old.now c.in-Dynamic.target c.in-Dynamic.property c.in-Dynamic.value
     c.requires.here c.in-Dynamic.is none in

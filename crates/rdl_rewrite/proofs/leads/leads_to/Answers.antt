@@ -1,7 +1,7 @@
 use Rattle.std.proofs.Common.{ap, sym, ◌∙◌}
 use Rattle.rdl_scope.specs.Walk.{is_definition}
 use Rattle.rdl_rewrite.proofs.Found.{unled}
-use Rattle.rdl_rewrite.proofs.removal.leads_to.Goals as goal
+use Rattle.rdl_rewrite.proofs.leads.leads_to.Goals as goal
 
 pub returns-else-is_definition : goal.returns-else-is_definition
 returns-else-is_definition c =

@@ -1,0 +1,92 @@
+//! What leads to an item: references and targets.
+ghost use Rattle.std.specs.Prelude.{◌≡◌, Some, option_copied};
+ghost use Rattle.std.specs.List.{list_any};
+ghost use Rattle.rdl_scope.specs.Types.{item, type_of};
+ghost use Rattle.rdl_scope.specs.Walk.{is_definition, is_instance, reference_of};
+ghost use Rattle.rdl_rewrite.specs.Addresses.{leads_to};
+
+use rdl_scope::types::type_of;
+use rdl_text::name::Name;
+use rdl_tree::address::Address;
+use rdl_tree::description::{Body, Description, Item, Of};
+
+/// The item at this address of the body.
+pub(crate) fn item_at<'a>(body: &'a Body, path: &[usize]) -> Option<&'a Item>
+    ensures { option_copied result ≡ item path.now body.now }
+{
+    match path {
+        [] => None,
+        [number] => body.item(*number),
+        [number, rest @ ..] => item_at(body.inner(*number)?, rest),
+    }
+}
+
+/// The name of the type to which the item refers.
+fn reference(found: &Item) -> Option<&Name>
+    ensures { option_copied result ≡ reference_of found.now }
+{
+    match found {
+        Item::Instance(_, Of::Named(name)) => Some(name),
+        _ => None,
+    }
+}
+
+/// Whether the item is a definition of this name.
+pub(crate) fn is_definition(taken: Option<&Item>, name: &Name) -> bool
+    ensures { result ≡ is_definition name.now (option_copied taken.entry) }
+{
+    match taken {
+        Some(Item::Define(defined, _)) => defined == name,
+        _ => false,
+    }
+}
+
+fn is_instance(taken: Option<&Item>, name: &Name) -> bool
+    ensures { result ≡ is_instance name.now (option_copied taken.entry) }
+{
+    match taken {
+        Some(Item::Instance(shell, _)) => &shell.name == name,
+        _ => false,
+    }
+}
+
+/// Whether the item is an instance that has one of these names.
+pub(crate) fn is_instance_of_any(taken: Option<&Item>, names: &[Name]) -> bool
+    ensures { result ≡ list_any (λ name. is_instance name (option_copied taken.entry)) names.now }
+{
+    'names: for name in names {
+        if is_instance(taken, name) {
+            return true;
+        }
+    }
+    false
+}
+
+/// Whether there is an address, and it is the way.
+pub(crate) fn is_at(way: &Address, at: Option<&Address>) -> bool
+    ensures { result ≡ leads_to way.now (option_copied at.entry) }
+{
+    match at {
+        Some(at) => at == way,
+        None => false,
+    }
+}
+
+/// Whether this item, at its address, is an instance whose type is the taken item, the one on the way. Only a reference
+/// to that definition's name is searched for.
+pub(crate) fn leads_to(
+    whole: &Description,
+    way: &Address,
+    taken: Option<&Item>,
+    at: &Address,
+    found: &Item,
+) -> bool
+    requires taken { option_copied taken ≡ item way.now whole.now.items }
+    requires here { item at.now whole.now.items ≡ Some found.now }
+    ensures { result ≡ leads_to way.now (type_of whole.now.items at.now) }
+{
+    match reference(found) {
+        Some(name) => is_definition(taken, name) && is_at(way, type_of(whole, at).as_ref()),
+        None => false,
+    }
+}
