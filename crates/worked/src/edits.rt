@@ -219,6 +219,8 @@ fn refusal_text(refusal: &Refusal) -> &'static str {
         Refusal::NotAddable => "X8",
         Refusal::NoSuchSibling => "X2",
         Refusal::NameTaken => "X3",
+        Refusal::Reserved => "X4",
+        Refusal::InUse => "X5",
         Refusal::NotSet => "X6",
         Refusal::Faulty(_) => "X9",
         Refusal::Memory => "X10",

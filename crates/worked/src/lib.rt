@@ -16,6 +16,8 @@ pub mod map;
 #[cfg(test)]
 mod parse;
 #[cfg(test)]
+mod reaching;
+#[cfg(test)]
 mod rows;
 #[cfg(test)]
 mod scope;
