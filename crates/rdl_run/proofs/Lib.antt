@@ -1,5 +1,4 @@
 pub mod Closings
-pub mod ItemNames
 pub mod Opened
 pub mod Pieces
 pub mod RunLemmas

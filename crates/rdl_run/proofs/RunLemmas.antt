@@ -4,7 +4,7 @@ use Rattle.std.specs.Io.KnownBytes.{Appends}
 use Rattle.std.proofs.KnownBytes.{Appends-nil, Appends-trans}
 use Rattle.journal_core.specs.History.{IsAt}
 use Rattle.rdl_run.specs.Answers.{History', Serves}
-use Rattle.rdl_run.specs.Commands.{lines_of}
+use Rattle.rdl_script.specs.Commands.{lines_of}
 use Rattle.rdl_edit.specs.Step.{State}
 use Rattle.rdl_run.specs.Closing.{Closes}
 use Rattle.rdl_run.specs.Known.{Gives}

@@ -5,7 +5,7 @@ use Rattle.std.specs.List.{list_any}
 use Rattle.std.specs.Io.KnownBytes.{Appends}
 use Rattle.std.proofs.KnownBytes.{Appends-trans}
 use Rattle.rdl_run.specs.Known.{concat}
-use Rattle.rdl_run.specs.Commands.{lines_of, lines_left, command_of}
+use Rattle.rdl_script.specs.Commands.{lines_of, lines_left, command_of}
 use Rattle.rdl_run.specs.Messages.{reply_text}
 use Rattle.rdl_run.specs.Answers.{History', Answers, Run, Replied, Serves, is_refused, messages_from}
 use Rattle.rdl_run.specs.declared.reply.Reply.{Reply}

@@ -2,7 +2,7 @@
 use Rattle.std.specs.Prelude.{◌≡◌, ◌≢◌, ℕ, ◌+◌, Bool, true, false, List, [], ◌∷◌, length, string_bytes}
 use Rattle.std.specs.List.{list_any}
 use Rattle.journal_core.specs.History.{History, IsAt, Edits, after_undo, after_redo}
-use Rattle.rdl_run.specs.Commands.{Command, nothing, undo, redo, list, add, refused, command_of}
+use Rattle.rdl_script.specs.Commands.{Command, nothing, undo, redo, list, edit, add, refused, command_of}
 use Rattle.rdl_edit.specs.Step.{State, HasRows, Leads}
 use Rattle.rdl_edit.specs.Step as edits
 use Rattle.rdl_edit.specs.declared.edit.Refusal.{Refusal}
@@ -10,10 +10,10 @@ use Rattle.rdl_edit.specs.declared.edit.Refusal.TheVariants.{Memory}
 use Rattle.rdl_list.specs.ListText.{list_lines}
 use Rattle.rdl_rewrite.specs.declared.edit.Edit.{Edit}
 use Rattle.rdl_rewrite.specs.declared.edit.Edit.TheVariants.{Add}
-use Rattle.rdl_rewrite.specs.declared.place.Place.TheVariants.{Last}
+use Rattle.rdl_rewrite.specs.declared.place.Place.{Place}
 use Rattle.rdl_tree.specs.View.{items_of}
 use Rattle.rdl_tree.specs.declared.description.Item.{Item}
-use Rattle.rdl_tree.specs.declared.path.Segment.TheVariants.{Def}
+use Rattle.rdl_tree.specs.declared.path.Segment.{Segment}
 use Rattle.rdl_run.specs.Known.{concat}
 use Rattle.rdl_run.specs.Messages.{reply_text}
 use Rattle.rdl_run.specs.Readings.{ReadsItems, RefusesItems}
@@ -25,30 +25,33 @@ use Rattle.journal_core.specs.History as history
 abbrev pub History' : Type 0
 History' = History State
 
--- behind all others in the definition of that name in the root body
-abbrev pub edit : List ℕ → List Item → Edit
-edit target items = Add (Def target ∷ []) Last (items_of items)
-
--- the text was read and the edit made; what could be redone is dropped
-pub record Added (old : History') (target text : List ℕ) (new : History') : Type 0 where
-  pub items : List Item
-  pub read : ReadsItems text items
+-- the edit is made, where there is room; what could be redone is dropped
+pub record Made (old : History') (e : Edit) (new : History') : Type 0 where
   pub room : old.place ≢ old.limit
-  pub made : Edits Leads (edit target items) old new
+  pub made : Edits Leads e old new
 
--- the text was read, and the edit is refused at the place, not for want of memory
-pub record NotAdded (old : History') (target text : List ℕ) (refusal : Refusal) : Type 0 where
-  pub items : List Item
-  pub read : ReadsItems text items
+-- it is refused at the place, not for want of memory
+pub record NotMade (old : History') (e : Edit) (refusal : Refusal) : Type 0 where
   pub room : old.place ≢ old.limit
-  pub refused : history.Refuses edits.Refuses (edit target items) old refusal
+  pub refused : history.Refuses edits.Refuses e old refusal
   pub real : refusal ≢ Memory
 
--- the text was read, and the history is full
-pub record Full (old : History') (text : List ℕ) : Type 0 where
+-- an edit: a full history is judged before the map
+abbrev pub AnswersEdit : History' → Edit → Reply → History' → Type 0
+AnswersEdit old e Done new = Made old e new
+AnswersEdit old e (Refused HistoryFull) new = (old.place ≡ old.limit) × (new ≡ old)
+AnswersEdit old e (Refused (OfEdit refusal)) new = NotMade old e refusal × (new ≡ old)
+AnswersEdit old e r new = ⊥
+
+-- an `add`: the text is judged before the edit
+pub record AnswersItems (old : History') (path : List Segment) (place : Place) (text : List ℕ) (reply : Reply) (new : History') : Type 0 where
   pub items : List Item
   pub read : ReadsItems text items
-  pub full : old.place ≡ old.limit
+  pub answers : AnswersEdit old (Add path place (items_of items)) reply new
+
+abbrev pub AnswersAdd : History' → List Segment → Place → List ℕ → Reply → History' → Type 0
+AnswersAdd old path place text (Refused (Text fault)) new = RefusesItems text fault × (new ≡ old)
+AnswersAdd old path place text reply new = AnswersItems old path place text reply new
 
 -- the lines of the rows of a map
 pub record ListsRows (now : State) (text : List ℕ) : Type 0 where
@@ -73,10 +76,8 @@ Answers old undo (Refused NothingToUndo) new = (old.place ≡ 0) × (new ≡ old
 Answers old redo Done new = (old.place + 1 ≢ length old.states) × (new ≡ after_redo old)
 Answers old redo (Refused NothingToRedo) new = (old.place + 1 ≡ length old.states) × (new ≡ old)
 Answers old list (Listed text) new = Lists old (string_bytes text) × (new ≡ old)
-Answers old (add target text) Done new = Added old target text new
-Answers old (add target text) (Refused (Text fault)) new = RefusesItems text fault × (new ≡ old)
-Answers old (add target text) (Refused HistoryFull) new = Full old text × (new ≡ old)
-Answers old (add target text) (Refused (OfEdit refusal)) new = NotAdded old target text refusal × (new ≡ old)
+Answers old (edit e) reply new = AnswersEdit old e reply new
+Answers old (add path place text) reply new = AnswersAdd old path place text reply new
 Answers old (refused fault) (Refused (OfCommand given)) new = (given ≡ fault) × (new ≡ old)
 Answers old c r new = ⊥
 

@@ -1,6 +1,5 @@
 pub mod Answers
 pub mod Closing
-pub mod Commands
 pub mod Known
 pub mod Messages
 pub mod Opening
@@ -9,4 +8,3 @@ pub mod Output
 pub mod ReadingFaults
 pub mod Readings
 pub mod ScriptLines
-pub mod Seen

@@ -17,8 +17,8 @@ use Rattle.rdl_run.specs.declared.reply.LineRefusal.{LineRefusal}
 use Rattle.rdl_run.specs.declared.reply.LineRefusal.TheVariants as lines
 use Rattle.rdl_run.specs.declared.reply.Reply.{Reply}
 use Rattle.rdl_run.specs.declared.reply.Reply.TheVariants as replies
-use Rattle.rdl_run.specs.declared.script.CommandFault.{CommandFault}
-use Rattle.rdl_run.specs.declared.script.CommandFault.TheVariants as commands
+use Rattle.rdl_script.specs.declared.request.CommandFault.{CommandFault}
+use Rattle.rdl_script.specs.declared.request.CommandFault.TheVariants as commands
 
 -- want of memory ends the run, and has no message
 abbrev pub words_fault_text : WordsFault → List ℕ

@@ -8,6 +8,5 @@ pub mod output;
 mod reading;
 mod reply;
 pub mod run;
-mod script;
 mod serve;
 pub mod status;

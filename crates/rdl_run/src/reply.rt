@@ -15,9 +15,9 @@ ghost use Rattle.rdl_run.specs.Messages.{
   map_line,
 };
 
-use crate::script::CommandFault;
 use rdl_edit::edit::Refusal;
 use rdl_parse::fault::{ParseFault, ParseFaultKind};
+use rdl_script::request::CommandFault;
 use rdl_text::fault::FaultKind as WordsFault;
 use rdl_tree::fault::FaultKind;
 use rdl_write::push_decimal;

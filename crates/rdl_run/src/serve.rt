@@ -1,5 +1,5 @@
 //! One line of a script after another.
-ghost use Rattle.std.specs.Prelude.{◌≡◌, ◌⊎◌, ℕ, ◌≤◌, ◌<◌, ◌^◌, List, [], ◌∷◌, length, string_bytes, Err, IfOk, IfErr, OnOk, OnErr, IsOkUnless};
+ghost use Rattle.std.specs.Prelude.{◌≡◌, ◌⊎◌, ℕ, ◌≤◌, ◌<◌, ◌^◌, List, ◌∷◌, length, string_bytes, Err, IfOk, IfErr, OnOk, OnErr, IsOkUnless};
 ghost use Rattle.std.specs.Io.KnownBytes.{Appends};
 ghost use Rattle.std.specs.List.{prefix_len};
 ghost use Rattle.std.specs.Option.{option_copied};
@@ -7,16 +7,14 @@ ghost use Rattle.journal_core.specs.History.{Edits};
 ghost use Rattle.journal_core.specs.Faults.{Explains};
 ghost use Rattle.journal_core.specs.declared.fault.EditFault.{EditFault};
 ghost use Rattle.rdl_edit.specs.Step.{Leads, Refuses};
-ghost use Rattle.rdl_tree.specs.declared.path.Segment.{Segment};
-ghost use Rattle.rdl_run.specs.Answers.{Answers, IsListOf, Replied, Serves};
-ghost use Rattle.rdl_run.specs.Commands.{add, undo, redo, lines_of, lines_left};
+ghost use Rattle.rdl_run.specs.Answers.{Answers, AnswersAdd, AnswersEdit, IsListOf, Replied, Serves};
+ghost use Rattle.rdl_script.specs.Commands.{undo, redo, lines_of, lines_left};
 ghost use Rattle.rdl_run.specs.ScriptLines.{is_in_line, left_len};
-ghost use Rattle.rdl_run.specs.Seen.{seen};
+ghost use Rattle.rdl_script.specs.Seen.{seen};
 
 use crate::output::write_whole;
 use crate::reading::{ReadingFault, items_of};
 use crate::reply::{LineRefusal, Reply, reply_text};
-use crate::script::{Request, request_of};
 use crate::status::RunFault;
 use journal_core::fault::{EditFault, StepFault};
 use journal_core::journal::Journal;
@@ -25,20 +23,11 @@ use rdl_edit::map::Map;
 use rdl_list::list_text;
 use rdl_rewrite::edit::Edit;
 use rdl_rewrite::place::Place;
-use rdl_text::name::Name;
+use rdl_script::request::{Request, request_of};
 use rdl_tree::description::Body;
-use rdl_tree::path::{Path, Segment};
+use rdl_tree::path::Path;
 use std::alloc::{AllocError, Global};
 use std::io::Write;
-
-/// The path to the definition of that name in the root body.
-fn path_to(alloc: Global, definition: Name) -> Result<Path, AllocError>
-    ensures { IfOk result (λ path. path ≡ Segment.Def definition ∷ []) }
-{
-    let mut path = Path::new(alloc);
-    path.push(Segment::Def(definition))?;
-    Ok(path)
-}
 
 /// Makes the edit, and lets it go.
 fn make(alloc: Global, journal: &mut Journal<Map>, edit: Edit) -> Result<(), EditFault<Refusal>>
@@ -50,29 +39,34 @@ fn make(alloc: Global, journal: &mut Journal<Map>, edit: Edit) -> Result<(), Edi
     journal.edit(alloc, &edit)
 }
 
-fn add(
-    alloc: Global,
-    journal: &mut Journal<Map>,
-    target: Name,
-    text: &[u8],
-) -> Result<Reply, RunFault>
-    ensures answers { IfOk result (λ reply. Answers journal.old (add target text.now) reply journal.new) }
+fn edit(alloc: Global, journal: &mut Journal<Map>, edit: Edit) -> Result<Reply, RunFault>
+    ensures answers { IfOk result (λ reply. AnswersEdit journal.old edit reply journal.new) }
     ensures fault { IsOkUnless result RunFault.Memory }
 {
-    let items = match items_of(alloc, text) {
-        Ok(items) => Body::from_vec(items),
-        Err(ReadingFault::Refused(fault)) => {
-            return Ok(Reply::Refused(LineRefusal::Text(fault)));
-        }
-        Err(ReadingFault::Memory) => return Err(RunFault::Memory),
-    };
-    let edit = Edit::Add(path_to(alloc, target)?, Place::Last, items);
     match make(alloc, journal, edit) {
         Ok(()) => Ok(Reply::Done),
         Err(EditFault::Full) => Ok(Reply::Refused(LineRefusal::HistoryFull)),
         Err(EditFault::Refused(Refusal::Memory)) => Err(RunFault::Memory),
         Err(EditFault::Refused(refusal)) => Ok(Reply::Refused(LineRefusal::Edit(refusal))),
         Err(EditFault::Memory) => Err(RunFault::Memory),
+    }
+}
+
+/// Adds the items of the text, which is one statement.
+fn add(
+    alloc: Global,
+    journal: &mut Journal<Map>,
+    path: Path,
+    place: Place,
+    text: &[u8],
+) -> Result<Reply, RunFault>
+    ensures answers { IfOk result (λ reply. AnswersAdd journal.old path place text.now reply journal.new) }
+    ensures fault { IsOkUnless result RunFault.Memory }
+{
+    match items_of(alloc, text) {
+        Ok(items) => edit(alloc, journal, Edit::Add(path, place, Body::from_vec(items))),
+        Err(ReadingFault::Refused(fault)) => Ok(Reply::Refused(LineRefusal::Text(fault))),
+        Err(ReadingFault::Memory) => Err(RunFault::Memory),
     }
 }
 
@@ -126,7 +120,8 @@ pub fn serve(
         Request::Undo => undo(alloc, journal),
         Request::Redo => redo(alloc, journal),
         Request::List => list(alloc, journal.map()),
-        Request::Add(target, text) => add(alloc, journal, target, text),
+        Request::Edit(change) => edit(alloc, journal, change),
+        Request::Add(path, place, text) => add(alloc, journal, path, place, text),
         Request::Refused(fault) => Ok(Reply::Refused(LineRefusal::Command(fault))),
     }
 }

@@ -5,16 +5,27 @@ use std::alloc::Global;
 use std::process::Abort;
 use std::test::Fail;
 
-const REFUSED: [(&str, &str); 36] = [
+const REFUSED: [(&str, &str); 41] = [
     ("frob", "C1 unknown command"),
     ("frob /$top", "C1 unknown command"),
     ("Undo", "C1 unknown command"),
     ("add", "C2 bad operands"),
     ("add /$top last", "C2 bad operands"),
     ("add top last reg {} b;", "C2 bad operands"),
-    ("add / last reg {} b;", "C2 bad operands"),
+    ("add / last", "C2 bad operands"),
+    ("add /$top before last reg {} b;", "X2 no such sibling"),
+    ("remove /$top /$top", "C2 bad operands"),
+    ("rename /$top 9x", "C2 bad operands"),
+    ("resize /$top/a 4", "C2 bad operands"),
+    ("bits /$top/a/f [7]", "C2 bad operands"),
+    ("address /$top/a 1 2", "C2 bad operands"),
+    ("reset /$top/a/f // none", "C2 bad operands"),
+    ("set /$top/a regwidth", "C2 bad operands"),
+    ("default /$top reg 1", "C2 bad operands"),
+    ("assign /$top a. reset 1", "C2 bad operands"),
+    ("unassign /$top a.f reset 1", "C2 bad operands"),
     ("add /$reg last reg {} b;", "C2 bad operands"),
-    ("add /$top first reg {} b;", "C2 bad operands"),
+    ("add /$top second reg {} b;", "C2 bad operands"),
     ("undo 1", "C2 bad operands"),
     ("redo 1", "C2 bad operands"),
     ("list /", "C2 bad operands"),
