@@ -14,4 +14,4 @@ mod reader;
 mod room;
 mod statement;
 mod text;
-mod word;
+pub mod word;

@@ -20,8 +20,9 @@ use rdl_tree::shell::Outside;
 use rdl_tree::value::{Value, Word};
 use std::alloc::Global;
 
+/// Whether a word is this mark.
 #[tactic(auto, using(crate::proofs::Words::identifier_no_mark))]
-pub(crate) fn is_mark(word: &Token<'_>, mark: Mark) -> bool
+pub fn is_mark(word: &Token<'_>, mark: Mark) -> bool
     ensures { result ≡ spec.is_mark mark (symbol word.now) }
 {
     match word.kind() {
@@ -30,8 +31,9 @@ pub(crate) fn is_mark(word: &Token<'_>, mark: Mark) -> bool
     }
 }
 
+/// The number that a word is.
 #[tactic(auto, using(crate::proofs::Words::identifier_no_number))]
-pub(crate) fn number_of(word: &Token<'_>) -> Option<Number>
+pub fn number_of(word: &Token<'_>) -> Option<Number>
     ensures { result ≡ spec.number_by (symbol word.now) }
 {
     match word.kind() {
@@ -40,7 +42,8 @@ pub(crate) fn number_of(word: &Token<'_>) -> Option<Number>
     }
 }
 
-pub(crate) fn name_of<'a>(word: &Token<'a>) -> Option<&'a str>
+/// The identifier, none of the reserved words, that a word is.
+pub fn name_of<'a>(word: &Token<'a>) -> Option<&'a str>
     ensures value { option_copied result ≡ spec.name_by (symbol word.now) }
     ensures is_name { IfSome result (λ name. IsName name.now) }
 {
@@ -174,7 +177,7 @@ fn identifier_value(identifier: &str) -> Option<Value>
 }
 
 /// The value that a word is.
-pub(crate) fn value_of(alloc: Global, word: &Token<'_>) -> Result<Option<Value>, Stop>
+pub fn value_of(alloc: Global, word: &Token<'_>) -> Result<Option<Value>, Stop>
     ensures ok { IfOk result (λ value. value ≡ spec.value_by (symbol word.now)) }
     ensures memory { IfErr result (λ stop. stop ≡ Stop.Memory) }
 {

@@ -1,0 +1,6 @@
+pub mod Words
+pub mod Operands
+pub mod Verbs
+pub mod Edits
+pub mod Commands
+pub mod Seen
