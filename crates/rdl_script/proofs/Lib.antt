@@ -1,0 +1,4 @@
+pub mod Names
+pub mod Runs
+pub mod Splits
+pub mod Sizes
