@@ -1,0 +1,5 @@
+pub mod Lines
+pub mod Names
+pub mod Runs
+pub mod Splits
+pub mod Sizes

@@ -32,8 +32,10 @@ clear_edit Default path property = edits.ClearDefault path property
 abbrev pub removed : List Segment → List ℕ → Option Edit
 removed path operands = if is_empty operands then Some (edits.Remove path) else None
 
-abbrev pub moved_to : List Segment → Placed → Option Edit
-moved_to path place = if is_empty place.1 then Some (edits.Move path place.0) else None
+-- a place is the rest of the line
+abbrev pub moved : List Segment → Option Placed → Option Edit
+moved path None = None
+moved path (Some place) = if is_empty place.1 then Some (edits.Move path place.0) else None
 
 -- PROP VALUE
 unfoldable pub assignment_in : List ℕ → Option (List ℕ × Value)
@@ -50,7 +52,7 @@ unassigned path operands =
 unfoldable pub edit_by : EditVerb → List Segment → List ℕ → Option Edit
 edit_by Remove path operands = removed path operands
 edit_by Rename path operands = option_map (λ n. edits.Rename path n) (name_in Any operands)
-edit_by Move path operands = place_in operands >>= λ p. moved_to path p
+edit_by Move path operands = moved path (place_in operands)
 edit_by Resize path operands = option_map (λ ns. edits.Resize path ns) (dims_in operands)
 edit_by Bits path operands = option_map (λ r. edits.SetBits path r) (bits_in operands)
 edit_by (Number part) path operands = option_map (λ n. number_edit part path n) (number_in operands)

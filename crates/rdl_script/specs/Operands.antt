@@ -131,7 +131,7 @@ dims_by ws = sizes_by ws
 abbrev pub range_by : (left high colon low right : Symbol) → Option (ℕ × ℕ)
 range_by left high colon low right =
     if is_mark OpenBracket left && (is_mark Colon colon && is_mark CloseBracket right)
-    then number_by high >>= λ h. option_map (λ l. (h, l)) (number_by low)
+    then (number_by high >>= λ h. option_map (λ l. (h, l)) (number_by low))
     else None
 
 -- `none`, or [high : low]

@@ -2,7 +2,6 @@
 ghost use Rattle.std.specs.Prelude.{◌≡◌, IfOk, option_map};
 ghost use Rattle.rdl_rewrite.specs.declared.edit.Edit.{Edit};
 ghost use Rattle.rdl_script.specs.Edits as spec;
-ghost use Rattle.rdl_script.specs.Operands.{◌>>=◌};
 ghost use Rattle.rdl_script.specs.Seen.{seen_place};
 
 use crate::line::split_word;
@@ -68,7 +67,7 @@ fn renamed(path: Path, name: Option<Name>) -> Option<Edit>
 }
 
 fn moved(path: Path, place: Option<Placed<'_>>) -> Option<Edit>
-    ensures { result ≡ (option_map seen_place place.entry >>= λ p. spec.moved_to path p) }
+    ensures { result ≡ spec.moved path (option_map seen_place place.entry) }
 {
     let (place, rest) = place?;
     if rest.is_empty() {

@@ -1,0 +1,11 @@
+use Rattle.std.proofs.Common.{◌≡◌, length, IsUtf8}
+use Rattle.rdl_script.specs.Operands.{all_of, name_in, parts}
+use Rattle.rdl_script.specs.declared.name.NameSort.TheVariants.{Any}
+use Rattle.rdl_script.proofs.Splits.{ahead}
+use Rattle.rdl_script.proofs.path.all_names.Given as goal
+
+abbrev pub invariant-parts : goal.invariant-parts
+invariant-parts l = record { utf8 : IsUtf8 l.rest; told : ahead l.names.items (all_of (name_in Any) (parts 46 l.rest)) ≡ all_of (name_in Any) (parts 46 l.fn.text) }
+
+abbrev pub decreases-parts : goal.decreases-parts
+decreases-parts l = length l.rest
