@@ -5,7 +5,7 @@ use std::alloc::Global;
 use std::process::Abort;
 use std::test::Fail;
 
-const REFUSED: [(&str, &str); 41] = [
+const REFUSED: [(&str, &str); 47] = [
     ("frob", "C1 unknown command"),
     ("frob /$top", "C1 unknown command"),
     ("Undo", "C1 unknown command"),
