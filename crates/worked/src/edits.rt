@@ -11,7 +11,7 @@ use rdl_rewrite::edit::Edit;
 use rdl_rewrite::place::Place;
 use rdl_text::name::Name;
 use rdl_text::token::Number;
-use rdl_tree::description::Body;
+use rdl_tree::description::{Body, Description};
 use rdl_tree::dims::Dims;
 use rdl_tree::path::Path;
 use rdl_tree::value::Value;
@@ -28,20 +28,30 @@ enum Spot {
     After(&'static str),
 }
 
-/// What is done at a path.
-enum Change {
-    Add(Spot, &'static str),
-    Move(Spot),
-    Resize(&'static [Number]),
+/// What is done to a number of an instance.
+enum NumberChange {
     SetBits(Option<(Number, Number)>),
     SetAddress(Option<Number>),
     SetStride(Option<Number>),
     SetAlign(Option<Number>),
     SetReset(Option<Number>),
-    SetOwn(&'static str, Number),
-    SetDefault(&'static str, Number),
-    ClearOwn(&'static str),
-    ClearDefault(&'static str),
+}
+
+/// What is done to a property.
+enum PropertyChange {
+    SetOwn(Number),
+    SetDefault(Number),
+    ClearOwn,
+    ClearDefault,
+}
+
+/// What is done at a path.
+enum Change {
+    Add(Spot, &'static str),
+    Move(Spot),
+    Resize(&'static [Number]),
+    Number(NumberChange),
+    Property(&'static str, PropertyChange),
 }
 
 fn place(alloc: Global, spot: &Spot) -> Result<Place, Fail> {
@@ -64,29 +74,37 @@ fn dims(alloc: Global, sizes: &[Number]) -> Result<Dims, Fail> {
     Ok(Dims::from_vec(Vec::from_slice(alloc, sizes)?))
 }
 
-fn number(number: Number) -> Value {
-    Value::Number(number)
+fn add(alloc: Global, path: Path, spot: &Spot, text: &str) -> Result<Edit, Fail> {
+    Ok(Edit::Add(path, place(alloc, spot)?, items(alloc, text)?))
+}
+
+fn of_property(path: Path, property: Name, change: &PropertyChange) -> Edit {
+    match change {
+        PropertyChange::SetOwn(new) => Edit::SetOwn(path, property, Value::Number(*new)),
+        PropertyChange::SetDefault(new) => Edit::SetDefault(path, property, Value::Number(*new)),
+        PropertyChange::ClearOwn => Edit::ClearOwn(path, property),
+        PropertyChange::ClearDefault => Edit::ClearDefault(path, property),
+    }
+}
+
+fn of_number(path: Path, change: &NumberChange) -> Edit {
+    match change {
+        NumberChange::SetBits(range) => Edit::SetBits(path, *range),
+        NumberChange::SetAddress(new) => Edit::SetAddress(path, *new),
+        NumberChange::SetStride(new) => Edit::SetStride(path, *new),
+        NumberChange::SetAlign(new) => Edit::SetAlign(path, *new),
+        NumberChange::SetReset(new) => Edit::SetReset(path, *new),
+    }
 }
 
 fn edit_at(alloc: Global, path: Path, change: &Change) -> Result<Edit, Fail> {
-    Ok(match change {
-        Change::Add(spot, text) => Edit::Add(path, place(alloc, spot)?, items(alloc, text)?),
-        Change::Move(spot) => Edit::Move(path, place(alloc, spot)?),
-        Change::Resize(sizes) => Edit::Resize(path, dims(alloc, sizes)?),
-        Change::SetBits(range) => Edit::SetBits(path, *range),
-        Change::SetAddress(new) => Edit::SetAddress(path, *new),
-        Change::SetStride(new) => Edit::SetStride(path, *new),
-        Change::SetAlign(new) => Edit::SetAlign(path, *new),
-        Change::SetReset(new) => Edit::SetReset(path, *new),
-        Change::SetOwn(property, new) => {
-            Edit::SetOwn(path, Name::new(alloc, property)?, number(*new))
-        }
-        Change::SetDefault(property, new) => {
-            Edit::SetDefault(path, Name::new(alloc, property)?, number(*new))
-        }
-        Change::ClearOwn(property) => Edit::ClearOwn(path, Name::new(alloc, property)?),
-        Change::ClearDefault(property) => Edit::ClearDefault(path, Name::new(alloc, property)?),
-    })
+    match change {
+        Change::Add(spot, text) => add(alloc, path, spot, text),
+        Change::Move(spot) => Ok(Edit::Move(path, place(alloc, spot)?)),
+        Change::Resize(sizes) => Ok(Edit::Resize(path, dims(alloc, sizes)?)),
+        Change::Property(name, change) => Ok(of_property(path, Name::new(alloc, name)?, change)),
+        Change::Number(change) => Ok(of_number(path, change)),
+    }
 }
 
 fn edit(alloc: Global, at: &str, change: &Change) -> Result<Edit, Fail> {
@@ -125,76 +143,101 @@ const EDITS: [(&str, Change, &str); 12] = [
     ),
     (
         "/$top/a/f",
-        Change::SetBits(Some((7, 4))),
+        Change::Number(NumberChange::SetBits(Some((7, 4)))),
         "addrmap top { desc = \"m\"; default regwidth = 32;
             reg { field {} f[7:4]; } a[2]; reg { field {} g; } b; };",
     ),
     (
         "/$top/b",
-        Change::SetAddress(Some(32)),
+        Change::Number(NumberChange::SetAddress(Some(32))),
         "addrmap top { desc = \"m\"; default regwidth = 32;
             reg { field {} f[8]; } a[2]; reg { field {} g; } b @ 0x20; };",
     ),
     (
         "/$top/a",
-        Change::SetStride(Some(16)),
+        Change::Number(NumberChange::SetStride(Some(16))),
         "addrmap top { desc = \"m\"; default regwidth = 32;
             reg { field {} f[8]; } a[2] += 16; reg { field {} g; } b; };",
     ),
     (
         "/$top/b",
-        Change::SetAlign(Some(8)),
+        Change::Number(NumberChange::SetAlign(Some(8))),
         "addrmap top { desc = \"m\"; default regwidth = 32;
             reg { field {} f[8]; } a[2]; reg { field {} g; } b %= 8; };",
     ),
     (
         "/$top/a/f",
-        Change::SetReset(Some(5)),
+        Change::Number(NumberChange::SetReset(Some(5))),
         "addrmap top { desc = \"m\"; default regwidth = 32;
             reg { field {} f[8] = 5; } a[2]; reg { field {} g; } b; };",
     ),
     (
         "/$top/b",
-        Change::SetOwn("regwidth", 16),
+        Change::Property("regwidth", PropertyChange::SetOwn(16)),
         "addrmap top { desc = \"m\"; default regwidth = 32;
             reg { field {} f[8]; } a[2]; reg { regwidth = 16; field {} g; } b; };",
     ),
     (
         "/$top",
-        Change::SetDefault("regwidth", 64),
+        Change::Property("regwidth", PropertyChange::SetDefault(64)),
         "addrmap top { desc = \"m\"; default regwidth = 64;
             reg { field {} f[8]; } a[2]; reg { field {} g; } b; };",
     ),
     (
         "/$top",
-        Change::ClearOwn("desc"),
+        Change::Property("desc", PropertyChange::ClearOwn),
         "addrmap top { default regwidth = 32;
             reg { field {} f[8]; } a[2]; reg { field {} g; } b; };",
     ),
     (
         "/$top",
-        Change::ClearDefault("regwidth"),
+        Change::Property("regwidth", PropertyChange::ClearDefault),
         "addrmap top { desc = \"m\";
             reg { field {} f[8]; } a[2]; reg { field {} g; } b; };",
     ),
 ];
 
+fn is_text_of(alloc: Global, text: &str, map: &Description) -> Result<bool, Fail> {
+    Ok(rdl(alloc, map)?.as_str() == text)
+}
+
+fn are_written_alike(alloc: Global, map: &Description, text: &str) -> Result<bool, Fail> {
+    let wanted = written(alloc, text)?;
+    is_text_of(alloc, wanted.as_str(), map)
+}
+
 fn written(alloc: Global, text: &str) -> Result<String, Fail> {
     Ok(rdl(alloc, &description(alloc, text)?)?)
 }
 
-/// The text of the map behind the edit.
-fn written_after(alloc: Global, at: &str, change: &Change) -> Result<String, Fail> {
+/// Makes the edit, and lets go of it.
+fn made(alloc: Global, journal: &mut Journal<Map>, edit: Edit) -> Result<(), EditFault<Refusal>> {
+    journal.edit(alloc, &edit)
+}
+
+/// Whether the edit leads to the map of the text.
+fn makes(
+    alloc: Global,
+    journal: &mut Journal<Map>,
+    at: &str,
+    change: &Change,
+    text: &str,
+) -> Result<bool, Fail> {
+    match made(alloc, journal, edit(alloc, at, change)?) {
+        Ok(()) => are_written_alike(alloc, journal.map().description(), text),
+        Err(_) => Ok(false),
+    }
+}
+
+fn makes_of_map(alloc: Global, at: &str, change: &Change, text: &str) -> Result<bool, Fail> {
     let mut journal = opened(alloc, MAP)?;
-    journal.edit(alloc, &edit(alloc, at, change)?)?;
-    Ok(rdl(alloc, journal.map().description())?)
+    makes(alloc, &mut journal, at, change, text)
 }
 
 #[test]
 fn makes_each_edit(rt: HostRuntime) -> Result<(), Fail> {
     for (at, change, want) in EDITS.iter() {
-        let found = written_after(rt.alloc(), at, change)?;
-        assert!(rt; found == written(rt.alloc(), want)?, "{want}");
+        assert!(rt; makes_of_map(rt.alloc(), at, change, want)?, "{want}");
     }
     Ok(())
 }
@@ -241,8 +284,8 @@ fn lines(alloc: Global, journal: &Journal<Map>) -> Result<String, Fail> {
     Ok(list_text(alloc, journal.map().rows(alloc)?.as_slice())?)
 }
 
-fn edited(alloc: Global, journal: &mut Journal<Map>, edit: &Edit) -> Result<String, Fail> {
-    match journal.edit(alloc, edit) {
+fn edited(alloc: Global, journal: &mut Journal<Map>, edit: Edit) -> Result<String, Fail> {
+    match made(alloc, journal, edit) {
         Ok(()) => lines(alloc, journal),
         Err(EditFault::Refused(refusal)) => shown(alloc, &refusal),
         Err(_) => Err(Fail::new("no place")),
@@ -263,7 +306,7 @@ fn stepped(
 
 fn answer(alloc: Global, journal: &mut Journal<Map>, call: &Call) -> Result<String, Fail> {
     match call {
-        Call::Edit(at, change) => edited(alloc, journal, &edit(alloc, at, change)?),
+        Call::Edit(at, change) => edited(alloc, journal, edit(alloc, at, change)?),
         Call::Undo => {
             let answer = journal.undo(alloc);
             stepped(alloc, journal, answer)
@@ -325,7 +368,10 @@ const ADD: [Step; 4] = [
 ];
 
 const NO_CHANGE: [Step; 3] = [
-    (Call::Edit("/$top/a", Change::SetAddress(None)), THREE_LINES),
+    (
+        Call::Edit("/$top/a", Change::Number(NumberChange::SetAddress(None))),
+        THREE_LINES,
+    ),
     (Call::Undo, THREE_LINES),
     (Call::Undo, "nothing"),
 ];
@@ -396,8 +442,14 @@ const REFUSED: [Step; 7] = [
         Call::Edit("/$T", Change::Add(Spot::Last, "field {} f;")),
         "X3",
     ),
-    (Call::Edit("/$T", Change::ClearOwn("shared")), "X6"),
-    (Call::Edit("/$T", Change::SetReset(Some(1))), "X7"),
+    (
+        Call::Edit("/$T", Change::Property("shared", PropertyChange::ClearOwn)),
+        "X6",
+    ),
+    (
+        Call::Edit("/$T", Change::Number(NumberChange::SetReset(Some(1)))),
+        "X7",
+    ),
     (Call::Edit("/$T", Change::Add(Spot::Last, "sw = r;")), "X8"),
 ];
 

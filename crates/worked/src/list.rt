@@ -1,6 +1,7 @@
 //! The lines of rows made by hand, and of maps.
 use crate::map::rows_or_fault;
 use crate::rows::bytes;
+use rdl_elab::row::Row;
 use rdl_list::list_text;
 use rdl_tree::fault::Fault;
 use rdl_tree::shell::Kind;
@@ -8,7 +9,8 @@ use std::alloc::Global;
 use std::slice;
 use std::test::Fail;
 
-fn shown_fault(alloc: Global, fault: &Fault) -> Result<String, Fail> {
+/// The number of the fault and the address of its item, as in `E2 at 0.0`.
+pub(crate) fn shown_fault(alloc: Global, fault: &Fault) -> Result<String, Fail> {
     Ok(format!(in alloc; "E{} at {}", fault.kind.number(), fault.address)?)
 }
 
@@ -33,12 +35,21 @@ fn shows_fields_by_their_bits(rt: HostRuntime) -> Result<(), Fail> {
 [63:63] field top.r.g reset 0x0
 [9:9] field top.r.h
 ";
-    assert_eq!(rt; listed(rt.alloc(), FIELDS)?.as_str(), want);
+    assert!(rt; listed(rt.alloc(), FIELDS)?.as_str() == want);
     Ok(())
 }
 
+/// The names, the kind, the base and the sizes of a row, and its line.
+type Instance = (
+    &'static [&'static str],
+    Kind,
+    u64,
+    &'static [u64],
+    &'static str,
+);
+
 // Of elements of 12 bytes, each 32 behind the one before.
-const INSTANCES: [(&[&str], Kind, u64, &[u64], &str); 3] = [
+const INSTANCES: [Instance; 3] = [
     (
         &["top"],
         Kind::Addrmap,
@@ -62,28 +73,21 @@ const INSTANCES: [(&[&str], Kind, u64, &[u64], &str); 3] = [
     ),
 ];
 
-fn line(
-    alloc: Global,
-    names: &[&str],
-    kind: Kind,
-    base: u64,
-    sizes: &[u64],
-) -> Result<String, Fail> {
-    let row = bytes(alloc, names, kind, base, sizes)?;
-    Ok(list_text(alloc, slice::from_ref(&row))?)
+fn are_listed(alloc: Global, rows: &[Row], want: &str) -> Result<bool, Fail> {
+    Ok(list_text(alloc, rows)?.as_str() == want)
+}
+
+fn is_line_of(alloc: Global, instance: &Instance) -> Result<bool, Fail> {
+    let (names, kind, base, sizes, want) = instance;
+    let row = bytes(alloc, names, *kind, *base, sizes)?;
+    are_listed(alloc, slice::from_ref(&row), want)
 }
 
 #[test]
 fn shows_instances_by_their_bytes(rt: HostRuntime) -> Result<(), Fail> {
-    for (names, kind, base, sizes, want) in INSTANCES.iter() {
-        let found = line(rt.alloc(), names, *kind, *base, sizes)?;
-        assert!(rt; found.as_str() == *want, "{want}");
+    assert!(rt; are_listed(rt.alloc(), &[], "")?);
+    for instance in INSTANCES.iter() {
+        assert!(rt; is_line_of(rt.alloc(), instance)?);
     }
-    Ok(())
-}
-
-#[test]
-fn is_empty_without_rows(rt: HostRuntime) -> Result<(), Fail> {
-    assert!(rt; list_text(rt.alloc(), &[])?.is_empty());
     Ok(())
 }

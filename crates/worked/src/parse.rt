@@ -171,22 +171,28 @@ pub(crate) fn repeated(
     Ok(whole)
 }
 
-#[test]
-fn sixteen_levels_are_accepted(rt: HostRuntime) -> Result<(), Fail> {
-    let sixteen = "addrmap a{".repeat(rt.alloc(), 16)?;
-    let closed = repeated(rt.alloc(), &sixteen, "};", 16, "")?;
-    assert!(rt; fault(rt.alloc(), &closed) == (0, 0));
-    let seventeen = "addrmap a{".repeat(rt.alloc(), 17)?;
-    assert!(rt; fault(rt.alloc(), &seventeen) == (11, 170));
-    Ok(())
+/// A text, how often it stands, what is behind it, and the fault with its column.
+type Repeated = (&'static str, usize, &'static str, (u8, usize));
+
+const AT_LIMITS: [Repeated; 4] = [
+    // levels
+    ("addrmap a{", 16, "};};};};};};};};};};};};};};};};", (0, 0)),
+    ("addrmap a{", 17, "", (11, 170)),
+    // items
+    ("a;", 65_536, "", (0, 0)),
+    ("a;", 65_536, "b;c", (12, 131_074)),
+];
+
+fn at_limits() -> &'static [Repeated] {
+    &AT_LIMITS
 }
 
 #[test]
-fn a_description_has_65536_items_at_most(rt: HostRuntime) -> Result<(), Fail> {
-    let full = "a;".repeat(rt.alloc(), 65_536)?;
-    assert!(rt; fault(rt.alloc(), &full) == (0, 0));
-    let fuller = repeated(rt.alloc(), &full, "b;", 1, "c")?;
-    assert!(rt; fault(rt.alloc(), &fuller) == (12, 131_074));
+fn sixteen_levels_and_65536_items_are_accepted(rt: HostRuntime) -> Result<(), Fail> {
+    for (text, count, last, wanted) in at_limits() {
+        let whole = repeated(rt.alloc(), "", text, *count, last)?;
+        assert!(rt; fault(rt.alloc(), &whole) == *wanted, "{count} of {text}");
+    }
     Ok(())
 }
 

@@ -10,6 +10,7 @@ use rdl_tree::shell::{Kind, Shell};
 use rdl_tree::value::Value;
 use std::alloc::{AllocError, Global};
 use std::fmt::Debug;
+use std::process::Abort;
 use std::test::Fail;
 
 const EVERY_FORM: &str = "reg T { internal field { sw = rw1; } bits[7:4] = 5; };
@@ -62,61 +63,48 @@ fn prints_addresses(rt: HostRuntime) -> Result<(), Fail> {
     Ok(())
 }
 
-fn leads_to(map: &Description, path: &Path, address: &[usize]) -> bool {
-    match map.find(path) {
-        Ok(found) => found.as_slice() == address,
-        Err(_) => false,
+/// Where a path leads, or why it leads nowhere.
+type Found = Result<&'static [usize], PathFault>;
+
+fn is_found(found: &Result<Address, PathFault>, wanted: &Found) -> bool {
+    match (found, wanted) {
+        (Ok(address), Ok(numbers)) => address.as_slice() == *numbers,
+        (Err(fault), Err(wanted)) => *fault == *wanted,
+        _ => false,
     }
 }
 
-const FOUND: [(&str, &[usize]); 7] = [
-    ("/", &[]),
-    ("/$u", &[0]),
-    ("/$top", &[1]),
-    ("/$top/$u", &[1, 0]),
-    ("/$top/x", &[1, 1]),
-    ("/$top/u", &[1, 2]),
-    ("/$top/u/y", &[1, 2, 0]),
+fn leads_to(alloc: Global, map: &Description, text: &str, wanted: &Found) -> Result<bool, Fail> {
+    let path = path(alloc, text)?;
+    Ok(is_found(&map.find(&path), wanted))
+}
+
+const FOUND: [(&str, Found); 12] = [
+    ("/", Ok(&[])),
+    ("/$u", Ok(&[0])),
+    ("/$top", Ok(&[1])),
+    ("/$top/$u", Ok(&[1, 0])),
+    ("/$top/x", Ok(&[1, 1])),
+    ("/$top/u", Ok(&[1, 2])),
+    ("/$top/u/y", Ok(&[1, 2, 0])),
+    ("/u", Err(PathFault::NoSuchName)),
+    ("/$top/$x", Err(PathFault::NoSuchName)),
+    ("/$top/u/z", Err(PathFault::NoSuchName)),
+    ("/$top/x/y", Err(PathFault::ThroughNamedType)),
+    ("/$top/u/y/z", Err(PathFault::ThroughNamedType)),
 ];
+
+fn assert_each_found(rt: &impl Abort, alloc: Global, map: &Description) -> Result<(), Fail> {
+    for (text, wanted) in FOUND.iter() {
+        assert!(rt; leads_to(alloc, map, text, wanted)?, "at {text}");
+    }
+    Ok(())
+}
 
 #[test]
 fn finds_by_sort_and_name(rt: HostRuntime) -> Result<(), Fail> {
     let map = description(rt.alloc(), ONE_NAME)?;
-    for (text, address) in FOUND.iter() {
-        assert!(rt;
-            leads_to(&map, &path(rt.alloc(), text)?, address),
-            "at {text}"
-        );
-    }
-    Ok(())
-}
-
-const NOT_FOUND: [(&str, PathFault); 5] = [
-    ("/u", PathFault::NoSuchName),
-    ("/$top/$x", PathFault::NoSuchName),
-    ("/$top/u/z", PathFault::NoSuchName),
-    ("/$top/x/y", PathFault::ThroughNamedType),
-    ("/$top/u/y/z", PathFault::ThroughNamedType),
-];
-
-#[test]
-fn refuses_paths(rt: HostRuntime) -> Result<(), Fail> {
-    let map = description(rt.alloc(), ONE_NAME)?;
-    for (text, fault) in NOT_FOUND.iter() {
-        assert!(rt;
-            map.find(&path(rt.alloc(), text)?).err() == Some(*fault),
-            "at {text}"
-        );
-    }
-    Ok(())
-}
-
-// T, bits, sw, top, all, desc, regwidth and all.bits->swmod; sw stands between two pairs of braces.
-#[test]
-fn counts_items_and_levels(rt: HostRuntime) -> Result<(), Fail> {
-    let map = description(rt.alloc(), EVERY_FORM)?;
-    assert!(rt; map.count() == 8 && map.depth() == 2);
-    Ok(())
+    assert_each_found(&rt, rt.alloc(), &map)
 }
 
 /// How a value prints itself for debugging, which shows all of it.
@@ -130,17 +118,9 @@ fn are_alike<T: Debug>(alloc: Global, left: &T, right: &T) -> Result<bool, Alloc
     Ok(left == right)
 }
 
-#[test]
-fn copies(rt: HostRuntime) -> Result<(), Fail> {
-    for text in [EVERY_FORM, SHARED_TYPE].iter() {
-        let map = description(rt.alloc(), text)?;
-        let copy = map.try_copy(rt.alloc())?;
-        assert!(rt;
-            copy.items.len() == 2 && are_alike(rt.alloc(), &copy, &map)?,
-            "of {text}"
-        );
-    }
-    Ok(())
+fn is_copied_whole(alloc: Global, map: &Description) -> Result<bool, Fail> {
+    let copy = map.try_copy(alloc)?;
+    Ok(copy.items.len() == 2 && are_alike(alloc, &copy, map)?)
 }
 
 // A body that holds a copy of the item alone.
@@ -150,23 +130,48 @@ fn copied(alloc: Global, item: &Item) -> Result<Body, Fail> {
     Ok(body)
 }
 
-fn is_copied(alloc: Global, item: &Item) -> Result<bool, Fail> {
-    let body = copied(alloc, item)?;
+fn is_first(alloc: Global, body: &Body, item: &Item) -> Result<bool, Fail> {
     match body.item(0) {
         Some(copy) => Ok(are_alike(alloc, copy, item)?),
         None => Ok(false),
     }
 }
 
-#[test]
-fn copies_one_item(rt: HostRuntime) -> Result<(), Fail> {
-    let map = description(rt.alloc(), EVERY_FORM)?;
-    match map.items.item(1) {
-        Some(top) => assert!(rt; is_copied(rt.alloc(), top)?),
-        None => assert!(rt; false),
+fn is_copied(alloc: Global, item: Option<&Item>) -> Result<bool, Fail> {
+    match item {
+        Some(item) => is_first(alloc, &copied(alloc, item)?, item),
+        None => Ok(false),
     }
-    assert!(rt; shown(rt.alloc(), &map)?.contains("External"));
+}
+
+fn shows(alloc: Global, map: &Description, part: &str) -> Result<bool, Fail> {
+    Ok(shown(alloc, map)?.contains(part))
+}
+
+fn assert_copied(
+    rt: &impl Abort,
+    alloc: Global,
+    map: &Description,
+    part: &str,
+) -> Result<(), Fail> {
+    assert!(rt; is_copied_whole(alloc, map)?);
+    assert!(rt; is_copied(alloc, map.items.item(1))?);
+    assert!(rt; shows(alloc, map, part)?);
     Ok(())
+}
+
+// T, bits, sw, top, all, desc, regwidth and all.bits->swmod; sw stands between two pairs of braces.
+#[test]
+fn copies_and_counts_each_form(rt: HostRuntime) -> Result<(), Fail> {
+    let map = description(rt.alloc(), EVERY_FORM)?;
+    assert!(rt; map.count() == 8 && map.depth() == 2);
+    assert_copied(&rt, rt.alloc(), &map, "External")
+}
+
+#[test]
+fn copies_a_shared_type(rt: HostRuntime) -> Result<(), Fail> {
+    let map = description(rt.alloc(), SHARED_TYPE)?;
+    assert_copied(&rt, rt.alloc(), &map, "Dynamic")
 }
 
 fn instance_of(alloc: Global, of: &str, text: &str) -> Result<Item, NameFault> {
@@ -180,12 +185,17 @@ fn put_first(alloc: Global, body: &mut Body) -> Result<(), Fail> {
     Ok(())
 }
 
-#[test]
-fn changes_one_body(rt: HostRuntime) -> Result<(), Fail> {
-    let mut map = description(rt.alloc(), ONE_NAME)?;
+// None at a named type, and none past the end.
+fn assert_no_bodies(rt: &impl Abort, map: &mut Description) {
+    assert!(rt; map.body(&address(&[1, 2, 0])).is_none());
+    assert!(rt; map.body_mut(&address(&[1, 2, 0])).is_none());
+    assert!(rt; map.body_mut(&address(&[1, 2, 7])).is_none());
+}
+
+fn assert_changes(rt: &impl Abort, alloc: Global, map: &mut Description) -> Result<(), Fail> {
     assert!(rt; map.weight() == 2 + 4 + 2 + 3 + 2 + 3 + 3);
     match map.body_mut(&address(&[1, 2])) {
-        Some(body) => put_first(rt.alloc(), body)?,
+        Some(body) => put_first(alloc, body)?,
         None => assert!(rt; false),
     }
     assert!(rt; map.weight() == 19 + 7);
@@ -194,12 +204,10 @@ fn changes_one_body(rt: HostRuntime) -> Result<(), Fail> {
 }
 
 #[test]
-fn finds_no_body_at_a_named_type_or_past_the_end(rt: HostRuntime) -> Result<(), Fail> {
+fn changes_one_body(rt: HostRuntime) -> Result<(), Fail> {
     let mut map = description(rt.alloc(), ONE_NAME)?;
-    assert!(rt; map.body(&address(&[1, 2, 0])).is_none());
-    assert!(rt; map.body_mut(&address(&[1, 2, 0])).is_none());
-    assert!(rt; map.body_mut(&address(&[1, 2, 7])).is_none());
-    Ok(())
+    assert_no_bodies(&rt, &mut map);
+    assert_changes(&rt, rt.alloc(), &mut map)
 }
 
 fn is_instance(item: &Item, name: &str) -> bool {
@@ -223,16 +231,21 @@ fn weight(item: Item) -> u64 {
     item.weight()
 }
 
-#[test]
-fn inserts_and_removes_items(rt: HostRuntime) -> Result<(), Fail> {
-    let mut body = description(rt.alloc(), "T a; T b; T c; T d;")?.items;
+// Puts the last of four items before the one before it, and takes the second one out.
+fn assert_moves(rt: &impl Abort, body: &mut Body) -> Result<(), Fail> {
     assert!(rt; body.len() == 4);
     let last = body.remove(3);
     body.insert(2, last)?;
-    assert!(rt; are_instances(&body, &["a", "b", "d", "c"]));
+    assert!(rt; are_instances(body, &["a", "b", "d", "c"]));
     assert!(rt; body.len() == 4 && weight(body.remove(1)) == 3);
-    assert!(rt; are_instances(&body, &["a", "d", "c"]));
+    assert!(rt; are_instances(body, &["a", "d", "c"]));
     Ok(())
+}
+
+#[test]
+fn inserts_and_removes_items(rt: HostRuntime) -> Result<(), Fail> {
+    let mut map = description(rt.alloc(), "T a; T b; T c; T d;")?;
+    assert_moves(&rt, &mut map.items)
 }
 
 // 65,536 items, those of the innermost body at level 16.
@@ -250,19 +263,12 @@ fn drops_the_largest(rt: HostRuntime) -> Result<(), Fail> {
     Ok(())
 }
 
-#[test]
-fn finds_properties_by_name(rt: HostRuntime) -> Result<(), Fail> {
-    assert!(rt; property("stickybit") == Some(Property::Stickybit));
-    assert!(rt; property("Reset") == None);
-    Ok(())
-}
-
 // The row of `alignment`: address maps and register files, powers of two up to 2^40, in the layout.
 #[test]
-fn reads_the_columns_of_a_row(rt: HostRuntime) -> Result<(), Fail> {
+fn reads_the_table_of_properties(rt: HostRuntime) {
+    assert!(rt; property("stickybit") == Some(Property::Stickybit) && property("Reset") == None);
     let alignment = Property::Alignment;
     assert!(rt; alignment.on(Kind::Regfile) && !alignment.on(Kind::Reg));
     assert!(rt; alignment.takes(&Value::Number(1 << 40)) && !alignment.takes(&Value::Number(3)));
     assert!(rt; alignment.layout() && !alignment.dynamic() && alignment.built_in().is_none());
-    Ok(())
 }
