@@ -39,8 +39,8 @@ insts zero = []
 insts (suc n) = Inst (codes "a") ∷ insts n
 
 -- a line feed ends a line, and what stands behind the last is a line too
-lines : lines_of (codes "undo" ++ 13 ∷ 10 ∷ 10 ∷ codes "list" ++ 10 ∷ []) ≡ (codes "undo" ++ 13 ∷ []) ∷ [] ∷ codes "list" ∷ [] ∷ []
-lines = refl
+parted : lines_of (codes "undo" ++ 13 ∷ 10 ∷ 10 ∷ codes "list" ++ 10 ∷ []) ≡ (codes "undo" ++ 13 ∷ []) ∷ [] ∷ codes "list" ∷ [] ∷ []
+parted = refl
 
 -- Lines that ask for nothing, and the calls.
 abbrev calls : List (List ℕ × Command)
@@ -250,45 +250,9 @@ faulty_words =
 
 -- ---- Each line asks for what stands beside it.
 
-abbrev Answers : List (List ℕ × Command) → Type 0
-Answers rows = map (λ row. command_of row.0) rows ≡ map (λ row. row.1) rows
+abbrev lines : List (List ℕ × Command)
+lines = calls ++ added_texts ++ item_edits ++ number_edits ++ assignments ++ faults ++ lengths ++ too_few_or_many ++ malformed ++ faulty_words
 
-calls-answers : Answers calls
+answers : map (λ row. command_of row.0) lines ≡ map (λ row. row.1) lines
 unfolding command_in trimmed first_word behind_word verb_of path_in segment_in name_in target_in place_in symbols_in dims_in bits_in number_in value_in added assignment_in assigned unassigned edit_by edit_in class is_unused is_utf8 chars encode words_from piece longest identifier decimal hexadecimal verilog string mark identifier_len decimal_len hexadecimal_len verilog_len string_len value
-calls-answers = refl
-
-added_texts-answers : Answers added_texts
-unfolding command_in trimmed first_word behind_word verb_of path_in segment_in name_in target_in place_in symbols_in dims_in bits_in number_in value_in added assignment_in assigned unassigned edit_by edit_in class is_unused is_utf8 chars encode words_from piece longest identifier decimal hexadecimal verilog string mark identifier_len decimal_len hexadecimal_len verilog_len string_len value
-added_texts-answers = refl
-
-item_edits-answers : Answers item_edits
-unfolding command_in trimmed first_word behind_word verb_of path_in segment_in name_in target_in place_in symbols_in dims_in bits_in number_in value_in added assignment_in assigned unassigned edit_by edit_in class is_unused is_utf8 chars encode words_from piece longest identifier decimal hexadecimal verilog string mark identifier_len decimal_len hexadecimal_len verilog_len string_len value
-item_edits-answers = refl
-
-number_edits-answers : Answers number_edits
-unfolding command_in trimmed first_word behind_word verb_of path_in segment_in name_in target_in place_in symbols_in dims_in bits_in number_in value_in added assignment_in assigned unassigned edit_by edit_in class is_unused is_utf8 chars encode words_from piece longest identifier decimal hexadecimal verilog string mark identifier_len decimal_len hexadecimal_len verilog_len string_len value
-number_edits-answers = refl
-
-assignments-answers : Answers assignments
-unfolding command_in trimmed first_word behind_word verb_of path_in segment_in name_in target_in place_in symbols_in dims_in bits_in number_in value_in added assignment_in assigned unassigned edit_by edit_in class is_unused is_utf8 chars encode words_from piece longest identifier decimal hexadecimal verilog string mark identifier_len decimal_len hexadecimal_len verilog_len string_len value
-assignments-answers = refl
-
-faults-answers : Answers faults
-unfolding command_in trimmed first_word behind_word verb_of path_in segment_in name_in target_in place_in symbols_in dims_in bits_in number_in value_in added assignment_in assigned unassigned edit_by edit_in class is_unused is_utf8 chars encode words_from piece longest identifier decimal hexadecimal verilog string mark identifier_len decimal_len hexadecimal_len verilog_len string_len value
-faults-answers = refl
-
-lengths-answers : Answers lengths
-unfolding command_in trimmed first_word behind_word verb_of path_in segment_in name_in target_in place_in symbols_in dims_in bits_in number_in value_in added assignment_in assigned unassigned edit_by edit_in class is_unused is_utf8 chars encode words_from piece longest identifier decimal hexadecimal verilog string mark identifier_len decimal_len hexadecimal_len verilog_len string_len value
-lengths-answers = refl
-
-too_few_or_many-answers : Answers too_few_or_many
-unfolding command_in trimmed first_word behind_word verb_of path_in segment_in name_in target_in place_in symbols_in dims_in bits_in number_in value_in added assignment_in assigned unassigned edit_by edit_in class is_unused is_utf8 chars encode words_from piece longest identifier decimal hexadecimal verilog string mark identifier_len decimal_len hexadecimal_len verilog_len string_len value
-too_few_or_many-answers = refl
-
-malformed-answers : Answers malformed
-unfolding command_in trimmed first_word behind_word verb_of path_in segment_in name_in target_in place_in symbols_in dims_in bits_in number_in value_in added assignment_in assigned unassigned edit_by edit_in class is_unused is_utf8 chars encode words_from piece longest identifier decimal hexadecimal verilog string mark identifier_len decimal_len hexadecimal_len verilog_len string_len value
-malformed-answers = refl
-
-faulty_words-answers : Answers faulty_words
-unfolding command_in trimmed first_word behind_word verb_of path_in segment_in name_in target_in place_in symbols_in dims_in bits_in number_in value_in added assignment_in assigned unassigned edit_by edit_in class is_unused is_utf8 chars encode words_from piece longest identifier decimal hexadecimal verilog string mark identifier_len decimal_len hexadecimal_len verilog_len string_len value
-faulty_words-answers = refl
+answers = refl

@@ -42,11 +42,7 @@ impl NameSort {
 }
 
 /// The name that a text is.
-pub(crate) fn name_in(
-    alloc: Global,
-    sort: NameSort,
-    text: &str,
-) -> Result<Option<Name>, AllocError>
+pub(crate) fn name_in(alloc: Global, sort: NameSort, text: &str) -> Result<Option<Name>, AllocError>
     ensures { IfOk result (λ name. name ≡ spec.name_in sort text.now) }
 {
     if !sort.allows(Class::of(text)) {

@@ -25,7 +25,7 @@ parts-preserved c =
       utf8 = others_utf8 46 c.parts.rest.now _ _ (lit< tt) c.parts.invariant.utf8 cut;
       told =
           ap (λ xs. ahead xs (all_of (name_in Any) (parts 46 c.in-Some.others.now))) c.in_ok-push-in-Some-2.ensures.items
-          ∙ read-some (name_in Any) 46 c.parts.names.items _ _ _ c.in-Some-2.name _ cut (sym c.in_ok-name.ensures ∙ c.in-Some-2.is) c.parts.invariant.told
+          ∙ read-some (name_in Any) 46 c.parts.names.items _ _ _ c.in-Some-2.name _ cut (sym c.in_ok-name.ensures ∙ c.in-Some-2.is) c.parts.invariant.told;
     }
 
 pub returns-in-None-2 : goal.returns-in-None-2

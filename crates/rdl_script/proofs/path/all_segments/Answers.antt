@@ -24,7 +24,7 @@ parts-preserved c =
       utf8 = others_utf8 47 c.parts.rest.now _ _ (lit< tt) c.parts.invariant.utf8 cut;
       told =
           ap (λ xs. ahead xs (all_of segment_in (parts 47 c.in-Some.others.now))) c.in_ok-push-in-Some-2.ensures.after
-          ∙ read-some segment_in 47 c.parts.path _ _ _ c.in-Some-2.segment _ cut (sym c.in_ok-segment.ensures ∙ c.in-Some-2.is) c.parts.invariant.told
+          ∙ read-some segment_in 47 c.parts.path _ _ _ c.in-Some-2.segment _ cut (sym c.in_ok-segment.ensures ∙ c.in-Some-2.is) c.parts.invariant.told;
     }
 
 pub returns-in-None-2 : goal.returns-in-None-2
