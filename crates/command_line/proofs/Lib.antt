@@ -1,0 +1,3 @@
+pub mod Simple
+pub mod Found
+pub mod History
