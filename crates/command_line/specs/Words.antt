@@ -1,9 +1,11 @@
 -- What the words behind the program's name mean. Own; how `clap` finds arguments among words is of its own definitions.
-use Rattle.std.specs.Prelude.{◌≡◌, ◌≢◌, ◌≤◌, ⊤, ℕ, List, [], Option, Some, is_some, true, codes, pos, string_bytes, IsSomeAnd, IfSome}
+use Rattle.std.specs.Prelude.{◌≡◌, ◌≢◌, ◌⊎◌, ◌≤◌, ⊤, ℕ, List, [], ◌∷◌, Option, Some, is_some, true, codes, pos, string_bytes, IsSomeAnd, IfSome}
 use Rattle.std.specs.Str.Parse.{signed_digits_value}
-use Rattle.clap.specs.Words.{IsAmong, Kinds, Row, Text, fault_of, first_of, kind_of, matches_of, one_of, takes, without_minus}
+use Rattle.clap.specs.Words.{Kinds, Row, Text, fault_of, first_of, kind_of, matches_of, one_of, takes, without_minus}
 use Rattle.clap.specs.Values.{IsSignedIn}
-use Rattle.clap.specs.declared.error.kind.ErrorKind.TheVariants.{DisplayHelp}
+use Rattle.clap.specs.declared.error.Error.{Error}
+use Rattle.clap.specs.declared.error.kind.ErrorKind.{ErrorKind}
+use Rattle.clap.specs.declared.error.kind.ErrorKind.TheVariants.{DisplayHelp, OutOfMemory}
 use Rattle.rdl_text.specs.Name.{IsName}
 use Rattle.command_line.specs.Arguments.{regedit_command}
 use Rattle.command_line.specs.declared.line.Line.{Line}
@@ -38,9 +40,22 @@ pub record Means (rows : List Row) (line : Line) : Type 0 where
   pub top_is_name : IfSome line.top IsName
   pub history : NumbersHistory rows line.history
 
--- what `clap` finds wrong with the words, where help that is asked for counts as wrong: the kind of the first such thing
+-- what is told of the words: nothing where `clap` takes them, else the kind of the first thing that it doesn't take, where
+-- `--help` is such a thing
 abbrev pub mistakes : List Text → Kinds
 mistakes words = fault_of regedit_command words
+
+-- the error is what is told of the words, or want of memory
+abbrev pub Tells : List Text → Error → Type 0
+Tells words error = (kind_of error ≡ OutOfMemory) ⊎ (mistakes words ≡ kind_of error ∷ [])
+
+-- help is asked for, before anything is wrong
+abbrev pub AskForHelp : List Text → Type 0
+AskForHelp words = mistakes words ≡ DisplayHelp ∷ []
+
+-- something is wrong, before help is asked for
+abbrev pub AreMistaken : List Text → Type 0
+AreMistaken words = (kind : ErrorKind) × (kind ≢ DisplayHelp) × (mistakes words ≡ kind ∷ [])
 
 -- `clap` takes the words
 abbrev pub AreTaken : List Text → Type 0
@@ -50,11 +65,15 @@ AreTaken words = takes regedit_command words ≡ true
 abbrev pub HasBadTop : List Row → Type 0
 HasBadTop rows = IsSomeAnd (value (codes "top") rows) (λ name. ¬ (IsName name))
 
+-- nothing else is wrong
+abbrev pub AreBadAtTop : List Text → Type 0
+AreBadAtTop words = (mistakes words ≡ []) × HasBadTop (found words)
+
 -- the words give what the fault says
 abbrev pub Refuses : List Text → LineFault → Type 0
-Refuses words (Help error) = (kind_of error ≡ DisplayHelp) × IsAmong DisplayHelp (mistakes words)
-Refuses words (Refused error) = (kind_of error ≢ DisplayHelp) × IsAmong (kind_of error) (mistakes words)
-Refuses words BadTop = (mistakes words ≡ []) × HasBadTop (found words)
+Refuses words (Help error) = (kind_of error ≡ DisplayHelp) × AskForHelp words
+Refuses words (Refused error) = (kind_of error ≢ DisplayHelp) × (mistakes words ≡ kind_of error ∷ [])
+Refuses words BadTop = AreBadAtTop words
 Refuses words Memory = ⊤
 
 -- what a fault behind `clap` says of the top

@@ -1,8 +1,8 @@
 //! From words to a line.
-ghost use Rattle.std.specs.Prelude.{◌≡◌, List, [], Some, map, codes, is_some, true, string_bytes, IfOk, IfErr, IfSome, OnOk};
-ghost use Rattle.clap.specs.Words.{FailsBy, found_of, kind_of, rows_of};
+ghost use Rattle.std.specs.Prelude.{◌≡◌, List, [], Some, map, codes, is_some, true, string_bytes, IfOk, IfErr, IfSome, MatchResult, OnOk};
+ghost use Rattle.clap.specs.Words.{found_of, kind_of, rows_of};
 ghost use Rattle.rdl_text.specs.Name.{IsName};
-ghost use Rattle.command_line.specs.Words.{AreTaken, HasHistory, IsBehindClap, IsWhole, Means, NumbersHistory, Refuses, RefusesTop, found, mistakes, value};
+ghost use Rattle.command_line.specs.Words.{AreTaken, HasHistory, IsBehindClap, IsWhole, Means, NumbersHistory, Refuses, RefusesTop, Tells, found, mistakes, value};
 
 use crate::arguments::command;
 use crate::line::{Line, LineFault};
@@ -16,7 +16,7 @@ fn matches<'a>(alloc: Global, words: &'a [&'a str]) -> Result<ArgMatches<'a>, Er
     ensures ok { IfOk result (λ m. rows_of (found_of m) ≡ found (map (λ w. w.now) words.entry.now)) }
     ensures whole { IfOk result (λ m. IsWhole (rows_of (found_of m))) }
     ensures takes { AreTaken (map (λ w. w.now) words.entry.now) → IfErr result (λ e. kind_of e ≡ ErrorKind.OutOfMemory) }
-    ensures kinds { FailsBy (mistakes (map (λ w. w.now) words.entry.now)) result }
+    ensures told { MatchResult result (λ _. mistakes (map (λ w. w.now) words.entry.now) ≡ []) (Tells (map (λ w. w.now) words.entry.now)) }
 {
     command(alloc)?.try_get_matches_from(words)
 }
