@@ -1,0 +1,4 @@
+pub mod Simple
+pub mod Found
+pub mod History
+pub mod Lone

@@ -1,0 +1,36 @@
+-- The arguments of the program as `clap` sees them: two operands and four options. Own.
+use Rattle.std.specs.Prelude.{[], ◌∷◌, Some, true, codes, pos}
+use Rattle.clap.specs.Words.{App, Rule, Text, new_app, new_rule, with_rule}
+use Rattle.clap.specs.declared.builder.action.ArgAction.TheVariants.{Set}
+use Rattle.clap.specs.declared.builder.value_parser.ValueParser.TheVariants as parser
+
+-- MAP and SCRIPT, known by their places
+abbrev pub operand_rule : Text → Rule
+operand_rule id = record (new_rule id) { action = Some Set; required = true; value_names = 1 }
+
+-- --rdl OUT and --header OUT, which have to be there
+abbrev pub output_rule : Text → Rule
+output_rule id = record (new_rule id) { long = Some id; action = Some Set; required = true; value_names = 1 }
+
+-- --top NAME
+abbrev pub top_rule : Rule
+top_rule = record (new_rule (codes "top")) { long = Some (codes "top"); action = Some Set; value_names = 1 }
+
+-- --history N, a number from 1 to 1,000,000
+abbrev pub history_rule : Rule
+history_rule = record (new_rule (codes "history")) {
+  long = Some (codes "history");
+  action = Some Set;
+  value_names = 1;
+  defaults = codes "10000" ∷ [];
+  parser = Some (parser.Signed (pos 1) (pos 1000000));
+}
+
+-- the words don't begin with the program's name
+abbrev pub without_name : App → App
+without_name a = record a { top = record a.top { no_binary_name = true } }
+
+unfoldable pub regedit_command : App
+regedit_command = with_rule (with_rule (with_rule (with_rule (with_rule (with_rule (without_name (new_app (codes "regedit")))
+    (operand_rule (codes "map"))) (operand_rule (codes "script")))
+    (output_rule (codes "rdl"))) (output_rule (codes "header"))) top_rule) history_rule

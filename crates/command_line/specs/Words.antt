@@ -1,0 +1,107 @@
+-- What the words behind the program's name mean. Own; how `clap` finds arguments among words is of its own definitions.
+use Rattle.std.specs.Prelude.{◌≡◌, ◌≢◌, ◌⊎◌, ◌≤◌, ⊤, ℕ, List, [], ◌∷◌, Option, Some, is_some, true, codes, pos, string_bytes, IsSomeAnd, IfSome}
+use Rattle.std.specs.Str.Parse.{signed_digits_value}
+use Rattle.clap.specs.Words.{Kinds, Row, Text, fault_of, first_of, kind_of, matches_of, one_of, takes, without_minus}
+use Rattle.clap.specs.Values.{IsSignedIn}
+use Rattle.clap.specs.declared.error.Error.{Error}
+use Rattle.clap.specs.declared.error.kind.ErrorKind.{ErrorKind}
+use Rattle.clap.specs.declared.error.kind.ErrorKind.TheVariants.{DisplayHelp, OutOfMemory}
+use Rattle.rdl_text.specs.Name.{IsName}
+use Rattle.command_line.specs.Arguments.{regedit_command}
+use Rattle.command_line.specs.declared.line.Line.{Line}
+use Rattle.command_line.specs.declared.line.LineFault.{LineFault}
+use Rattle.command_line.specs.declared.line.LineFault.TheVariants.{Help, Refused, BadTop, Memory}
+
+-- the arguments that are found among the words, each with its values
+abbrev pub found : List Text → List Row
+found words = matches_of regedit_command words
+
+-- the value of an argument: what the words give it, else its default
+abbrev pub value : Text → List Row → Option Text
+value = first_of
+
+-- the number that digits spell, with or without a sign
+abbrev pub Spells : Text → ℕ → Type 0
+Spells text n = signed_digits_value 10 text ≡ pos n
+
+-- the number of the history is the one that its value spells, and lies in its range
+pub record NumbersHistory (rows : List Row) (n : ℕ) : Type 0 where
+  pub spelled : IsSomeAnd (value (codes "history") rows) (λ text. Spells text n)
+  pub least : 1 ≤ n
+  pub most : n ≤ 1000000
+
+-- each part of the line is the value of its argument
+pub record Means (rows : List Row) (line : Line) : Type 0 where
+  pub map : value (codes "map") rows ≡ Some (string_bytes line.map)
+  pub script : value (codes "script") rows ≡ Some (string_bytes line.script)
+  pub rdl : value (codes "rdl") rows ≡ Some (string_bytes line.rdl)
+  pub header : value (codes "header") rows ≡ Some (string_bytes line.header)
+  pub top : value (codes "top") rows ≡ line.top
+  pub top_is_name : IfSome line.top IsName
+  pub history : NumbersHistory rows line.history
+
+-- what is told of the words: nothing where `clap` takes them, else the kind of the first thing that it doesn't take, where
+-- `--help` is such a thing
+abbrev pub mistakes : List Text → Kinds
+mistakes words = fault_of regedit_command words
+
+-- the error is what is told of the words, or want of memory
+abbrev pub Tells : List Text → Error → Type 0
+Tells words error = (kind_of error ≡ OutOfMemory) ⊎ (mistakes words ≡ kind_of error ∷ [])
+
+-- help is asked for, before anything is wrong
+abbrev pub AskForHelp : List Text → Type 0
+AskForHelp words = mistakes words ≡ DisplayHelp ∷ []
+
+-- something is wrong, before help is asked for
+abbrev pub AreMistaken : List Text → Type 0
+AreMistaken words = (kind : ErrorKind) × (kind ≢ DisplayHelp) × (mistakes words ≡ kind ∷ [])
+
+-- `clap` takes the words
+abbrev pub AreTaken : List Text → Type 0
+AreTaken words = takes regedit_command words ≡ true
+
+-- a top is given that is no identifier
+abbrev pub HasBadTop : List Row → Type 0
+HasBadTop rows = IsSomeAnd (value (codes "top") rows) (λ name. ¬ (IsName name))
+
+-- nothing else is wrong
+abbrev pub AreBadAtTop : List Text → Type 0
+AreBadAtTop words = (mistakes words ≡ []) × HasBadTop (found words)
+
+-- the words give what the fault says
+abbrev pub Refuses : List Text → LineFault → Type 0
+Refuses words (Help error) = (kind_of error ≡ DisplayHelp) × AskForHelp words
+Refuses words (Refused error) = (kind_of error ≢ DisplayHelp) × (mistakes words ≡ kind_of error ∷ [])
+Refuses words BadTop = AreBadAtTop words
+Refuses words Memory = ⊤
+
+-- what a fault behind `clap` says of the top
+abbrev pub RefusesTop : List Row → LineFault → Type 0
+RefusesTop rows BadTop = HasBadTop rows
+RefusesTop rows Memory = ⊤
+RefusesTop rows (Help error) = ⊥
+RefusesTop rows (Refused error) = ⊥
+
+-- a fault of words that `clap` takes
+abbrev pub IsBehindClap : LineFault → Type 0
+IsBehindClap BadTop = ⊤
+IsBehindClap Memory = ⊤
+IsBehindClap (Help error) = ⊥
+IsBehindClap (Refused error) = ⊥
+
+-- ---- What is known of all that is found where `clap` takes the words.
+
+-- a number from 1 to 1,000,000, and the text that is read as that number: without a minus, which no such number has
+pub record HasHistory (rows : List Row) : Type 0 where
+  pub text : Text
+  pub is : value (codes "history") rows ≡ Some text
+  pub fits : IsSignedIn (pos 1) (pos 1000000) text
+  pub read : one_of (codes "history") rows ≡ Some (without_minus text)
+
+pub record IsWhole (rows : List Row) : Type 0 where
+  pub map : is_some (value (codes "map") rows) ≡ true
+  pub script : is_some (value (codes "script") rows) ≡ true
+  pub rdl : is_some (value (codes "rdl") rows) ≡ true
+  pub header : is_some (value (codes "header") rows) ≡ true
+  pub history : HasHistory rows
