@@ -128,6 +128,39 @@ fn write(alloc: Global, map: &str, script: &str) -> Result<Written, RunFault> {
     write_bytes(alloc, map.as_bytes(), script.as_bytes())
 }
 
+/// Asserts that the texts are the same, with what they are of in the message. An assertion that shows both of its
+/// values is dear to prove, so this one serves all tests.
+fn assert_same(rt: &impl Abort, found: &str, want: &str, of: &str) {
+    assert_eq!(rt; found, want, "of {of}");
+}
+
+fn assert_status(rt: &impl Abort, found: Status, want: Status, of: &str) {
+    assert_eq!(rt; found, want, "of {of}");
+}
+
+fn assert_messages(rt: &impl Abort, written: &Written, map: &str, want: &str) -> Result<(), Fail> {
+    assert_same(rt, written.messages()?, want, map);
+    Ok(())
+}
+
+/// Asserts what a run printed, and how it ended.
+fn assert_ends(
+    rt: &impl Abort,
+    written: &Written,
+    map: &str,
+    status: Status,
+    want: &str,
+) -> Result<(), Fail> {
+    assert_messages(rt, written, map, want)?;
+    assert_status(rt, written.status, status, map);
+    Ok(())
+}
+
+fn assert_rdl(rt: &impl Abort, written: &Written, map: &str, want: &str) -> Result<(), Fail> {
+    assert_same(rt, written.rdl()?, want, map);
+    Ok(())
+}
+
 /// Asserts what a script prints on a map, and how the run ends.
 fn assert_prints(
     rt: &impl Abort,
@@ -138,9 +171,7 @@ fn assert_prints(
     want: &str,
 ) -> Result<(), Fail> {
     let written = write_bytes(alloc, map.as_bytes(), script)?;
-    assert_eq!(rt; written.messages()?, want, "at {map}");
-    assert_eq!(rt; written.status, status, "at {map}");
-    Ok(())
+    assert_ends(rt, &written, map, status, want)
 }
 
 /// Asserts what map a script leads to.
@@ -152,8 +183,7 @@ fn assert_writes(
     want: &str,
 ) -> Result<(), Fail> {
     let written = write(alloc, map, script)?;
-    assert_eq!(rt; written.rdl()?, want, "at {map}");
-    Ok(())
+    assert_rdl(rt, &written, map, want)
 }
 
 /// Asserts what a script prints on each of these maps, and how each run ends.

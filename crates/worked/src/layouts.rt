@@ -10,7 +10,6 @@ use rdl_tree::property::Property;
 use rdl_tree::shell::Kind;
 use rdl_tree::value::{Value, Word};
 use std::alloc::{AllocError, Global};
-use std::process::Abort;
 use std::test::Fail;
 
 /// So many registers of these bytes, each accessed by four bytes.
@@ -172,14 +171,10 @@ const LISTED: [(&str, &str); 6] = [
     ),
 ];
 
-fn lists() -> &'static [(&'static str, &'static str)] {
-    &LISTED
-}
-
 #[test]
 fn lays_out_each_instance(rt: HostRuntime) -> Result<(), Fail> {
-    for (map, want) in lists() {
-        assert!(rt; listed(rt.alloc(), map)?.as_str() == *want, "{want}");
+    for (map, want) in LISTED.iter() {
+        assert_eq!(rt; listed(rt.alloc(), map)?.as_str(), *want);
     }
     Ok(())
 }
@@ -249,17 +244,13 @@ fn count(row: &Row) -> usize {
         .count()
 }
 
-fn assert_counts(rt: &impl Abort, rows: &Rows) {
-    for (number, wanted) in [(2, 26), (3, 26), (4, 25), (5, 26)] {
-        assert!(rt; rows.get(number).map(count) == Some(wanted), "row {number}");
-    }
-}
-
 // fieldwidth, sw, hw, rclr, rset, woset, woclr and eighteen more booleans always have a value; reset where it has one
 #[test]
 fn holds_a_value_for_each_property_that_has_one(rt: HostRuntime) -> Result<(), Fail> {
     let rows = elaborated(rt.alloc(), RESETS)?;
-    assert_counts(&rt, &rows);
+    for (number, wanted) in [(2, 26), (3, 26), (4, 25), (5, 26)] {
+        assert!(rt; rows.get(number).map(count) == Some(wanted), "row {number}");
+    }
     Ok(())
 }
 
@@ -276,7 +267,10 @@ regfile T9 { T8 a; T8 b; T8 c; };
 addrmap top { T9 x; };
 ";
 
-fn assert_nine_levels(rt: &impl Abort, list: &str) {
+// nine levels of three instances each: 3^9 registers of four bytes and their fields, and what is around them
+#[test]
+fn makes_the_rows_of_nine_levels(rt: HostRuntime) -> Result<(), Fail> {
+    let list = listed(rt.alloc(), NINE_LEVELS)?;
     assert!(rt; list.lines().count() == 49_208);
     assert!(rt; list.starts_with("0x0 addrmap top size 0x1338C\n"));
     assert!(rt;
@@ -284,12 +278,6 @@ fn assert_nine_levels(rt: &impl Abort, list: &str) {
             "0x13388 reg top.x.c.c.c.c.c.c.c.c.c size 0x4\n[0:0] field top.x.c.c.c.c.c.c.c.c.c.f\n"
         )
     );
-}
-
-// nine levels of three instances each: 3^9 registers of four bytes and their fields, and what is around them
-#[test]
-fn makes_the_rows_of_nine_levels(rt: HostRuntime) -> Result<(), Fail> {
-    assert_nine_levels(&rt, listed(rt.alloc(), NINE_LEVELS)?.as_str());
     Ok(())
 }
 
@@ -329,16 +317,13 @@ fn has_line(list: &str, number: usize, line: &str) -> bool {
     list.lines().nth(number) == Some(line)
 }
 
-fn assert_descending(rt: &impl Abort, list: &str) {
-    assert!(rt; list.lines().count() == 2_003);
-    assert!(rt; has_line(list, 1, "0x3E80 reg top.r0 size 0x4"));
-    assert!(rt; has_line(list, 2_000, "0x8 reg top.r1999 size 0x4"));
-    assert!(rt; has_line(list, 2_001, "0xC reg top.r2000 size 0x4"));
-}
-
 #[test]
 fn takes_registers_that_go_down(rt: HostRuntime) -> Result<(), Fail> {
-    assert_descending(&rt, listed_descending(rt.alloc(), 12)?.as_str());
+    let list = listed_descending(rt.alloc(), 12)?;
+    assert!(rt; list.lines().count() == 2_003);
+    assert!(rt; has_line(&list, 1, "0x3E80 reg top.r0 size 0x4"));
+    assert!(rt; has_line(&list, 2_000, "0x8 reg top.r1999 size 0x4"));
+    assert!(rt; has_line(&list, 2_001, "0xC reg top.r2000 size 0x4"));
     Ok(())
 }
 

@@ -9,8 +9,7 @@ use std::alloc::Global;
 use std::slice;
 use std::test::Fail;
 
-/// The number of the fault and the address of its item, as in `E2 at 0.0`.
-pub(crate) fn shown_fault(alloc: Global, fault: &Fault) -> Result<String, Fail> {
+fn shown_fault(alloc: Global, fault: &Fault) -> Result<String, Fail> {
     Ok(format!(in alloc; "E{} at {}", fault.kind.number(), fault.address)?)
 }
 

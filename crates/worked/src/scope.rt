@@ -1,8 +1,4 @@
 //! Types, targets, values and the first fault of items, of small descriptions.
-ghost use Rattle.std.specs.Prelude.{◌≤◌};
-ghost use Rattle.rdl_tree.specs.Depth.{depth};
-
-use crate::list::shown_fault;
 use crate::parse::description;
 use crate::tree::address;
 use rdl_scope::faults::check;
@@ -14,7 +10,6 @@ use rdl_tree::address::Address;
 use rdl_tree::description::Description;
 use rdl_tree::value::Value;
 use std::alloc::{AllocError, Global};
-use std::process::Abort;
 use std::test::Fail;
 
 // The names between dots.
@@ -27,23 +22,15 @@ fn names(alloc: Global, text: &str) -> Result<Vec<Name>, Fail> {
 }
 
 // The number of the first fault and the address of its item, as in `E2 at 0.0`.
-fn verdict(alloc: Global, map: &Description) -> Result<String, Fail> {
-    match check(alloc, map) {
+fn verdict(alloc: Global, text: &str) -> Result<String, Fail> {
+    match check(alloc, &description(alloc, text)?) {
         Ok(()) => Ok(String::from_str(alloc, "none")?),
-        Err(fault) => shown_fault(alloc, &fault),
+        Err(fault) => Ok(format!(in alloc; "E{} at {}", fault.kind.number(), fault.address)?),
     }
-}
-
-fn is_judged(alloc: Global, map: &Description, wanted: &str) -> Result<bool, Fail> {
-    Ok(verdict(alloc, map)?.as_str() == wanted)
 }
 
 const TWO_TARGETS: &str =
     "reg T { field {} e; field {} f; }; addrmap top { T u; T v; u.f->reset = 1; T w; v.f->reset = 0; };";
-
-fn verdicts() -> &'static [(&'static str, &'static str)] {
-    &VERDICTS
-}
 
 const VERDICTS: [(&str, &str); 13] = [
     ("reg A {}; field A {};", "E1 at 1"),
@@ -63,9 +50,8 @@ const VERDICTS: [(&str, &str); 13] = [
 
 #[test]
 fn judges_each_fault(rt: HostRuntime) -> Result<(), Fail> {
-    for (text, wanted) in verdicts() {
-        let map = description(rt.alloc(), text)?;
-        assert!(rt; is_judged(rt.alloc(), &map, wanted)?, "{wanted} of {text}");
+    for (text, wanted) in VERDICTS.iter() {
+        assert_eq!(rt; verdict(rt.alloc(), text)?.as_str(), *wanted);
     }
     Ok(())
 }
@@ -108,52 +94,28 @@ fn is_path(passed: &Option<Vec<Address>>, wanted: &[&[usize]]) -> bool {
             .all(|(address, numbers)| address.as_slice() == *numbers)
 }
 
-fn finds(alloc: Global, map: &Description, at: usize, wanted: &[&[usize]]) -> Result<bool, Fail>
-    requires { depth map.now.items ≤ 16 }
-{
-    Ok(is_path(&through(alloc, map, &address(&[1, at]))?, wanted))
-}
-
-// Whether the instances before the item of this number let the target pass by these instances, or by none.
-fn lets_pass(
-    alloc: Global,
-    map: &Description,
-    number: usize,
-    target: &[Name],
-    wanted: Option<&[&[usize]]>,
-) -> Result<bool, Fail>
-    requires { depth map.now.items ≤ 16 }
-{
-    let found = passes(alloc, map, &address(&[1]), number, target)?;
-    Ok(match wanted {
-        Some(path) => is_path(&found, path),
-        None => found.is_none(),
-    })
-}
-
-fn assert_targets(
-    rt: &impl Abort,
-    alloc: Global,
-    map: &Description,
-    target: &[Name],
-) -> Result<(), Fail>
-    requires { depth map.now.items ≤ 16 }
-{
-    assert!(rt; finds(alloc, map, 2, &[&[1, 0], &[0, 1]])?);
-    assert!(rt; lets_pass(alloc, map, 1, target, None)?);
-    assert!(rt; lets_pass(alloc, map, 2, target, Some(&[&[1, 1], &[0, 1]]))?);
+#[test]
+fn finds_targets(rt: HostRuntime) -> Result<(), Fail> {
+    let description = description(rt.alloc(), TWO_TARGETS)?;
+    let passed = through(rt.alloc(), &description, &address(&[1, 2]))?;
+    assert!(rt; is_path(&passed, &[&[1, 0], &[0, 1]]));
     Ok(())
 }
 
 #[test]
-fn finds_targets_by_the_instances_before(rt: HostRuntime) -> Result<(), Fail> {
-    let map = description(rt.alloc(), TWO_TARGETS)?;
+fn passes_the_instances_before(rt: HostRuntime) -> Result<(), Fail> {
+    let description = description(rt.alloc(), TWO_TARGETS)?;
     let target = names(rt.alloc(), "v.f")?;
-    assert_targets(&rt, rt.alloc(), &map, target.as_slice())
+    let top = address(&[1]);
+    let before = passes(rt.alloc(), &description, &top, 1, target.as_slice())?;
+    assert!(rt; before.is_none());
+    let behind = passes(rt.alloc(), &description, &top, 2, target.as_slice())?;
+    assert!(rt; is_path(&behind, &[&[1, 1], &[0, 1]]));
+    Ok(())
 }
 
 // The value, as a number or the bytes of a string.
-fn shown(alloc: Global, value: &Option<Value>) -> Result<String, AllocError> {
+fn shown(alloc: Global, value: Option<Value>) -> Result<String, AllocError> {
     match value {
         Some(Value::Number(number)) => number.to_string(alloc),
         Some(Value::Text(text)) => String::from_str(alloc, text.as_str()),
@@ -162,35 +124,23 @@ fn shown(alloc: Global, value: &Option<Value>) -> Result<String, AllocError> {
     }
 }
 
-fn is_shown(alloc: Global, value: &Option<Value>, wanted: &str) -> Result<bool, AllocError> {
-    Ok(shown(alloc, value)?.as_str() == wanted)
-}
-
-fn has_value(
-    alloc: Global,
-    map: &Description,
-    top: usize,
-    path: &[Name],
-    property: &str,
-    wanted: &str,
-) -> Result<bool, Fail>
-    requires { depth map.now.items ≤ 16 }
-{
-    let found = value(alloc, map, &address(&[top]), path, property)?;
-    Ok(is_shown(alloc, &found, wanted)?)
-}
-
-fn has_value_at(
+fn value_of(
     alloc: Global,
     text: &str,
     top: usize,
     path: &str,
     property: &str,
-    wanted: &str,
-) -> Result<bool, Fail> {
-    let map = description(alloc, text)?;
+) -> Result<String, Fail> {
+    let description = description(alloc, text)?;
     let path = names(alloc, path)?;
-    has_value(alloc, &map, top, path.as_slice(), property, wanted)
+    let found = value(
+        alloc,
+        &description,
+        &address(&[top]),
+        path.as_slice(),
+        property,
+    )?;
+    Ok(shown(alloc, found)?)
 }
 
 const WITH_NAMES: &str = "field A { name = \"outer\"; };
@@ -198,16 +148,6 @@ field B {};
 addrmap top {
     reg { default name = \"near\"; A a; B b; field {} c; field { name = \"own\"; } d; } x;
 };";
-
-fn values() -> &'static [(
-    &'static str,
-    usize,
-    &'static str,
-    &'static str,
-    &'static str,
-)] {
-    &VALUES
-}
 
 // A text, the number of its top, a path below it, a property, and its value.
 const VALUES: [(&str, usize, &str, &str, &str); 9] = [
@@ -244,11 +184,9 @@ const VALUES: [(&str, usize, &str, &str, &str); 9] = [
 
 #[test]
 fn takes_the_outermost_assignment_or_the_nearest_default(rt: HostRuntime) -> Result<(), Fail> {
-    for (text, top, path, property, wanted) in values() {
-        assert!(rt;
-            has_value_at(rt.alloc(), text, *top, path, property, wanted)?,
-            "{property} of {path} in {text}"
-        );
+    for (text, top, path, property, wanted) in VALUES.iter() {
+        let found = value_of(rt.alloc(), text, *top, path, property)?;
+        assert_eq!(rt; found.as_str(), *wanted, "of {path} in {text}");
     }
     Ok(())
 }

@@ -6,7 +6,6 @@ use rdl_text::raw::Raw;
 use rdl_text::token::{Mark, TokenKind};
 use rdl_text::{place, tokens};
 use std::alloc::Global;
-use std::process::Abort;
 use std::test::Fail;
 
 /// A word: its kind, where it begins, and its spelling.
@@ -95,16 +94,12 @@ const TEXTS: [(&str, &[Word<'_>]); 6] = [
     ("//", &[]),
 ];
 
-fn assert_words(rt: &impl Abort, alloc: Global, texts: &[(&str, &[Word<'_>])]) -> Result<(), Fail> {
-    for (text, words) in texts {
-        assert!(rt; are_words(alloc, text, words)?, "the words of {text}");
-    }
-    Ok(())
-}
-
 #[test]
 fn texts_have_their_words(rt: HostRuntime) -> Result<(), Fail> {
-    assert_words(&rt, rt.alloc(), &TEXTS)
+    for (text, words) in TEXTS.iter() {
+        assert!(rt; are_words(rt.alloc(), text, words)?, "the words of {text}");
+    }
+    Ok(())
 }
 
 const ONE_WORD: [(&str, TokenKind); 16] = [
@@ -141,15 +136,12 @@ fn numbers_and_strings(rt: HostRuntime) -> Result<(), Fail> {
     Ok(())
 }
 
-fn is_identifier(alloc: Global, text: &str) -> Result<bool, TextFault> {
-    are_words(alloc, text, &[(TokenKind::Identifier, 0, text)])
-}
-
 #[test]
 fn identifiers_have_255_letters_at_most(rt: HostRuntime) -> Result<(), Fail> {
     let longer = "a".repeat(rt.alloc(), 256)?;
-    let is_longest = is_identifier(rt.alloc(), &longer[..255])?;
-    assert!(rt; is_longest && fault(rt.alloc(), &longer) == (7, 0));
+    let longest = &longer[..255];
+    assert!(rt; are_words(rt.alloc(), longest, &[(TokenKind::Identifier, 0, longest)])?);
+    assert!(rt; fault(rt.alloc(), &longer) == (7, 0));
     Ok(())
 }
 
@@ -200,79 +192,78 @@ fn inside<'a>(words: &Tokens<'a>, index: usize) -> Option<&'a str> {
     words.get(index)?.raw()
 }
 
-fn assert_inside(rt: &impl Abort, words: &Tokens<'_>) {
-    assert!(rt; is_word(words, 2, &(TokenKind::Text, 2, "\"a\\\"é\"")));
-    assert!(rt; inside(words, 2) == Some("a\\\"é"), "without the quotes");
-    assert!(rt; inside(words, 1) == None);
-}
-
 #[test]
 fn strings_alone_have_an_inside(rt: HostRuntime) -> Result<(), Fail> {
     let words = tokens(rt.alloc(), "x=\"a\\\"é\";")?;
-    assert_inside(&rt, &words);
+    assert!(rt; is_word(&words, 2, &(TokenKind::Text, 2, "\"a\\\"é\"")));
+    assert!(rt; inside(&words, 2) == Some("a\\\"é"), "without the quotes");
+    assert!(rt; inside(&words, 1) == None);
     Ok(())
 }
 
-fn is_copied(alloc: Global, name: &Name) -> Result<bool, Fail> {
-    Ok(name.try_copy(alloc)? == *name)
+/// Whether a name has this text and length, and its copy is equal to it.
+fn is_kept(alloc: Global, text: &str, length: usize) -> Result<bool, NameFault> {
+    let name = Name::new(alloc, text)?;
+    let copy = name.try_copy(alloc)?;
+    Ok(name == copy && name.as_str() == text && name.len() == length)
 }
 
-fn shows(alloc: Global, name: &Name, text: &str) -> Result<bool, Fail> {
-    Ok(name.to_string(alloc)?.as_str() == text)
+fn are_equal(alloc: Global, left: &str, right: &str) -> Result<bool, NameFault> {
+    let left = Name::new(alloc, left)?;
+    let right = Name::new(alloc, right)?;
+    Ok(left == right)
 }
 
-fn is_another(alloc: Global, name: &Name, text: &str) -> Result<bool, Fail> {
-    Ok(Name::new(alloc, text)? != *name)
-}
-
-fn assert_named(rt: &impl Abort, alloc: Global, name: &Name) -> Result<(), Fail> {
-    assert!(rt; name.as_str() == "a_1" && name.len() == 3);
-    assert!(rt; is_copied(alloc, name)? && shows(alloc, name, "a_1")?);
-    assert!(rt; is_another(alloc, name, "a_2")?);
+#[test]
+fn names(rt: HostRuntime) -> Result<(), Fail> {
+    assert!(rt; is_kept(rt.alloc(), "a_1", 3)?);
+    assert!(rt; !are_equal(rt.alloc(), "a_1", "a_2")?);
+    assert!(rt;
+        Name::new(rt.alloc(), "a_1")?
+            .to_string(rt.alloc())?
+            .as_str()
+            == "a_1"
+    );
     Ok(())
 }
 
 const NO_NAMES: [&str; 5] = ["", "1a", "a b", "é", "a-"];
 
-fn is_no_name(alloc: Global, text: &str) -> bool {
-    Name::new(alloc, text).err() == Some(NameFault::NotSuch)
+#[test]
+fn no_names(rt: HostRuntime) {
+    for text in NO_NAMES.iter() {
+        assert!(rt;
+            Name::new(rt.alloc(), text).err() == Some(NameFault::NotSuch),
+            "{text}"
+        );
+    }
+}
+
+/// Whether a string has this length, and its copy is equal to it.
+fn is_kept_raw(alloc: Global, text: &str, length: usize) -> Result<bool, NameFault> {
+    let raw = Raw::new(alloc, text)?;
+    let copy = raw.try_copy(alloc)?;
+    Ok(raw == copy && raw.len() == length)
 }
 
 #[test]
-fn names(rt: HostRuntime) -> Result<(), Fail> {
-    for text in NO_NAMES.iter() {
-        assert!(rt; is_no_name(rt.alloc(), text), "{text}");
-    }
-    assert_named(&rt, rt.alloc(), &Name::new(rt.alloc(), "a_1")?)
-}
-
-fn is_copied_raw(alloc: Global, raw: &Raw) -> Result<bool, Fail> {
-    Ok(raw.try_copy(alloc)? == *raw)
-}
-
-fn shows_raw(alloc: Global, raw: &Raw, text: &str) -> Result<bool, Fail> {
-    Ok(raw.to_string(alloc)?.as_str() == text)
-}
-
-fn assert_raw(rt: &impl Abort, alloc: Global, raw: &Raw, text: &str) -> Result<(), Fail> {
-    assert!(rt; raw.len() == 6 && is_copied_raw(alloc, raw)?);
-    assert!(rt; shows_raw(alloc, raw, text)?);
+fn raw_strings(rt: HostRuntime) -> Result<(), Fail> {
+    let text = "a\\\"\né";
+    assert!(rt; is_kept_raw(rt.alloc(), text, 6)?);
+    assert!(rt; Raw::new(rt.alloc(), text)?.to_string(rt.alloc())?.as_str() == text);
     Ok(())
 }
 
 const NO_RAW_STRINGS: [&str; 4] = ["\"", "a\\", "\\\\\"", "\\\\\\"];
 
-fn is_no_raw_string(alloc: Global, text: &str) -> bool {
-    Raw::new(alloc, text).err() == Some(NameFault::NotSuch)
-}
-
 #[test]
-fn raw_strings(rt: HostRuntime) -> Result<(), Fail> {
+fn no_raw_strings(rt: HostRuntime) {
     for text in NO_RAW_STRINGS.iter() {
-        assert!(rt; is_no_raw_string(rt.alloc(), text), "{text}");
+        assert!(rt;
+            Raw::new(rt.alloc(), text).err() == Some(NameFault::NotSuch),
+            "{text}"
+        );
     }
-    let text = "a\\\"\né";
-    assert_raw(&rt, rt.alloc(), &Raw::new(rt.alloc(), text)?, text)
 }
 
 const PLACES: [(&str, usize, (usize, usize)); 9] = [

@@ -1,5 +1,5 @@
 //! Edits of maps of all forms.
-use super::write;
+use super::{assert_messages, write};
 use std::alloc::Global;
 use std::process::Abort;
 use std::test::Fail;
@@ -131,8 +131,7 @@ fn assert_answers(
     want: &str,
 ) -> Result<(), Fail> {
     let written = write(alloc, map, script)?;
-    assert_eq!(rt; written.messages()?, want, "at {map}");
-    Ok(())
+    assert_messages(rt, &written, map, want)
 }
 
 #[test]

@@ -1,6 +1,7 @@
 //! The examples of the folder `examples`, whose texts stand here again.
 use super::example_headers::{DMA_HEADER, UART_HEADER};
-use super::write;
+use super::headers::assert_headed;
+use super::{Written, write};
 use std::alloc::Global;
 use std::process::Abort;
 use std::test::Fail;
@@ -480,11 +481,26 @@ fn examples() -> &'static [Example] {
     &EXAMPLES
 }
 
+fn assert_last(rt: &impl Abort, again: &Written, output: &str) -> Result<(), Fail> {
+    assert!(rt; output.ends_with(again.messages()?));
+    Ok(())
+}
+
 // The map that is written has the rows that were listed last.
 fn assert_lists_alike(rt: &impl Abort, alloc: Global, rdl: &str, output: &str) -> Result<(), Fail> {
     let again = write(alloc, rdl, "list")?;
-    assert!(rt; output.ends_with(again.messages()?));
-    Ok(())
+    assert_last(rt, &again, output)
+}
+
+fn assert_example(
+    rt: &impl Abort,
+    alloc: Global,
+    written: &Written,
+    output: &str,
+    header: &str,
+) -> Result<(), Fail> {
+    assert_headed(rt, written, "the example", output, header)?;
+    assert_lists_alike(rt, alloc, written.rdl()?, output)
 }
 
 fn assert_is_example(
@@ -496,9 +512,7 @@ fn assert_is_example(
     header: &str,
 ) -> Result<(), Fail> {
     let written = write(alloc, map, script)?;
-    assert_eq!(rt; written.messages()?, output);
-    assert_eq!(rt; written.header()?, header);
-    assert_lists_alike(rt, alloc, written.rdl()?, output)
+    assert_example(rt, alloc, &written, output, header)
 }
 
 #[test]

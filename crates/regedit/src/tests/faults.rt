@@ -74,16 +74,13 @@ fn run_interrupted(rt: &HostRuntime, times: u32, fails: bool) -> Result<Status, 
 
 #[test]
 fn reads_that_fail(rt: HostRuntime) {
-    assert_eq!(rt; run_interrupted(&rt, 0, true), Err(RunFault::Read));
+    assert!(rt; run_interrupted(&rt, 0, true) == Err(RunFault::Read));
 }
 
 #[test]
 fn reads_that_are_interrupted(rt: HostRuntime) {
-    assert_eq!(rt; run_interrupted(&rt, 1_000, false), Ok(Status::LineRefused));
-    assert_eq!(rt;
-        run_interrupted(&rt, 1_001, false),
-        Err(RunFault::Interrupted)
-    );
+    assert!(rt; run_interrupted(&rt, 1_000, false) == Ok(Status::LineRefused));
+    assert!(rt; run_interrupted(&rt, 1_001, false) == Err(RunFault::Interrupted));
 }
 
 fn read_zeros(rt: &HostRuntime, len: usize) -> Result<usize, RunFault> {
@@ -96,8 +93,8 @@ fn read_zeros(rt: &HostRuntime, len: usize) -> Result<usize, RunFault> {
 // At a small limit, since the inputs' own makes for a slow test.
 #[test]
 fn inputs_that_are_too_long(rt: HostRuntime) {
-    assert_eq!(rt; read_zeros(&rt, 10_000), Ok(10_000));
-    assert_eq!(rt; read_zeros(&rt, 10_001), Err(RunFault::TooLong));
+    assert!(rt; read_zeros(&rt, 10_000) == Ok(10_000));
+    assert!(rt; read_zeros(&rt, 10_001) == Err(RunFault::TooLong));
 }
 
 fn undo_into(rt: &HostRuntime, room: usize, fails: bool) -> Result<Status, RunFault> {
@@ -110,7 +107,7 @@ fn undo_into(rt: &HostRuntime, room: usize, fails: bool) -> Result<Status, RunFa
 // The message is `script:1: J2 nothing to undo` and a line feed, 29 bytes.
 #[test]
 fn writes_that_fail(rt: HostRuntime) {
-    assert_eq!(rt; undo_into(&rt, 28, true), Err(RunFault::Write));
-    assert_eq!(rt; undo_into(&rt, 28, false), Err(RunFault::Write));
-    assert_eq!(rt; undo_into(&rt, 29, true), Ok(Status::LineRefused));
+    assert!(rt; undo_into(&rt, 28, true) == Err(RunFault::Write));
+    assert!(rt; undo_into(&rt, 28, false) == Err(RunFault::Write));
+    assert!(rt; undo_into(&rt, 29, true) == Ok(Status::LineRefused));
 }

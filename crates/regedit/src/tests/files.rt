@@ -1,7 +1,7 @@
 //! The program on files.
-use super::MAP;
 use super::headers::{CLASH, CLASH_MESSAGE, CLASH_WRITTEN};
 use super::mission::{HEADER, MESSAGES, SCRIPT, WRITTEN};
+use super::{MAP, assert_same};
 use crate::command::command;
 use std::alloc::AllocError;
 use std::process::Abort;
@@ -104,9 +104,9 @@ fn run_in(rt: &HostRuntime, folder: &Folder, names: Names) -> Result<Said, Fail>
 type Saying = (u8, &'static str, &'static str);
 
 fn assert_says(rt: &impl Abort, said: &Said, want: Saying) -> Result<(), Fail> {
-    assert_eq!(rt; said.errors()?, want.2);
-    assert_eq!(rt; said.messages()?, want.1);
-    assert_eq!(rt; said.status, want.0);
+    assert_same(rt, said.errors()?, want.2, "the errors");
+    assert_same(rt, said.messages()?, want.1, "the messages");
+    assert!(rt; said.status == want.0);
     Ok(())
 }
 
@@ -118,7 +118,7 @@ fn assert_holds(
     want: &str,
 ) -> Result<(), Fail> {
     let text = folder.read(rt, name)?;
-    assert_eq!(abort; text.as_str(), want, "in {name}");
+    assert_same(abort, text.as_str(), want, name);
     Ok(())
 }
 

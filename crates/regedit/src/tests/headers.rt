@@ -1,5 +1,5 @@
 //! Headers.
-use super::{assert_prints, assert_writes, write};
+use super::{Written, assert_messages, assert_prints, assert_same, assert_writes, write};
 use rdl_run::status::Status;
 use std::alloc::Global;
 use std::process::Abort;
@@ -111,6 +111,18 @@ fn cases() -> &'static [Case] {
     &CASES
 }
 
+pub(super) fn assert_headed(
+    rt: &impl Abort,
+    written: &Written,
+    map: &str,
+    messages: &str,
+    header: &str,
+) -> Result<(), Fail> {
+    assert_messages(rt, written, map, messages)?;
+    assert_same(rt, written.header()?, header, map);
+    Ok(())
+}
+
 pub(super) fn assert_heads(
     rt: &impl Abort,
     alloc: Global,
@@ -120,9 +132,7 @@ pub(super) fn assert_heads(
     header: &str,
 ) -> Result<(), Fail> {
     let written = write(alloc, map, script)?;
-    assert_eq!(rt; written.messages()?, messages, "at {map}");
-    assert_eq!(rt; written.header()?, header, "at {map}");
-    Ok(())
+    assert_headed(rt, &written, map, messages, header)
 }
 
 #[test]

@@ -1,5 +1,5 @@
 //! What the history refuses.
-use super::{MAP, assert_prints, write_with};
+use super::{MAP, assert_ends, assert_prints, write_with};
 use rdl_run::status::Status;
 use std::alloc::Global;
 use std::process::Abort;
@@ -39,9 +39,7 @@ fn assert_refuses(
     want: &str,
 ) -> Result<(), Fail> {
     let written = write_with(alloc, MAP.as_bytes(), script, history)?;
-    assert_eq!(rt; written.messages()?, want);
-    assert_eq!(rt; written.status, Status::LineRefused);
-    Ok(())
+    assert_ends(rt, &written, MAP, Status::LineRefused, want)
 }
 
 #[test]

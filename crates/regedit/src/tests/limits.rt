@@ -1,5 +1,5 @@
 //! What stands at a limit, and past it.
-use super::{MAP, assert_prints, assert_writes};
+use super::{MAP, assert_each_prints, assert_prints, assert_writes};
 use rdl_run::status::Status;
 use std::alloc::{AllocError, Global};
 use std::process::Abort;
@@ -45,62 +45,71 @@ fn of_the_longest_name(rt: HostRuntime) -> Result<(), Fail> {
     assert_writes_name(&rt, rt.alloc(), name.as_str())
 }
 
-#[test]
-fn of_the_length_of_names(rt: HostRuntime) -> Result<(), Fail> {
-    let name = named(rt.alloc(), 256)?;
-    let name = name.as_str();
+fn assert_too_long(rt: &impl Abort, alloc: Global, name: &str) -> Result<(), Fail> {
     let want = "map:1:9: S7 identifier too long\n";
-    assert_names(
-        &rt,
-        rt.alloc(),
-        name,
-        "addrmap @ {};",
-        "",
-        Status::MapRefused,
-        want,
-    )?;
+    let status = Status::MapRefused;
+    assert_names(rt, alloc, name, "addrmap @ {};", "", status, want)?;
     let script = "add /$top last reg {} @;\nadd /$@ last reg {} b;";
     let want =
         "script:1: C4 text refused: S7 identifier too long at column 8\nscript:2: C2 bad operands\n";
-    assert_names(
-        &rt,
-        rt.alloc(),
-        name,
-        MAP,
-        script,
-        Status::LineRefused,
-        want,
-    )
+    assert_names(rt, alloc, name, MAP, script, Status::LineRefused, want)
+}
+
+#[test]
+fn of_the_length_of_names(rt: HostRuntime) -> Result<(), Fail> {
+    let name = named(rt.alloc(), 256)?;
+    assert_too_long(&rt, rt.alloc(), name.as_str())
+}
+
+const LAST_BITS: [(&str, &str); 2] = [
+    (
+        "addrmap top { reg { field {} f[32] = 4294967295; } a; };",
+        "",
+    ),
+    (
+        "addrmap top { reg { field {} f[31] = 0x7FFF_FFFF; field {} g = 1; } a; };",
+        "",
+    ),
+];
+
+const BITS_PAST: [(&str, &str); 2] = [
+    (
+        "addrmap top { reg { field {} f[32] = 4294967296; } a; };",
+        "map:1:30: E23 reset too wide\n",
+    ),
+    (
+        "addrmap top { reg { field {} f = 18446744073709551615; } a; };",
+        "map:1:30: E23 reset too wide\n",
+    ),
+];
+
+fn last_bits() -> &'static [(&'static str, &'static str)] {
+    &LAST_BITS
+}
+
+fn bits_past() -> &'static [(&'static str, &'static str)] {
+    &BITS_PAST
 }
 
 // A register has 32 bits, and a reset those of its field.
 #[test]
 fn of_bits(rt: HostRuntime) -> Result<(), Fail> {
-    let maps = [
-        "addrmap top { reg { field {} f[32] = 4294967295; } a; };",
-        "addrmap top { reg { field {} f[31] = 0x7FFF_FFFF; field {} g = 1; } a; };",
-    ];
-    for map in &maps {
-        assert_prints(&rt, rt.alloc(), map, b"", Status::Accepted, "")?;
+    assert_each_prints(&rt, rt.alloc(), last_bits(), "", Status::Accepted)?;
+    assert_each_prints(&rt, rt.alloc(), bits_past(), "", Status::MapRefused)
+}
+
+fn with_registers(alloc: Global, count: usize) -> Result<String, AllocError> {
+    let mut map = String::from_str(alloc, "addrmap top {")?;
+    for _ in 0..count {
+        map.push_str("reg{}a;")?;
     }
-    let maps = [
-        "addrmap top { reg { field {} f[32] = 4294967296; } a; };",
-        "addrmap top { reg { field {} f = 18446744073709551615; } a; };",
-    ];
-    let want = "map:1:30: E23 reset too wide\n";
-    for map in &maps {
-        assert_prints(&rt, rt.alloc(), map, b"", Status::MapRefused, want)?;
-    }
-    Ok(())
+    Ok(map)
 }
 
 // With the last statement the map has one more item than a description may have.
 #[test]
 fn of_the_items_of_a_text(rt: HostRuntime) -> Result<(), Fail> {
-    let mut map = String::from_str(rt.alloc(), "addrmap top {")?;
-    for _ in 0..65_537 {
-        map.push_str("reg{}a;")?;
-    }
+    let map = with_registers(rt.alloc(), 65_537)?;
     let want = "map:1:458772: S12 description too large\n";
     assert_prints(&rt, rt.alloc(), map.as_str(), b"", Status::MapRefused, want)
 }

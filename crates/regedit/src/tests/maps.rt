@@ -1,6 +1,8 @@
 //! Maps that are refused.
-use super::{write, write_bytes};
+use super::{Written, assert_ends, assert_prints, assert_writes, write, write_bytes};
 use rdl_run::status::Status;
+use std::alloc::Global;
+use std::process::Abort;
 use std::test::Fail;
 
 const REFUSED: [(&str, &str); 19] = [
@@ -62,34 +64,46 @@ fn refused() -> &'static [(&'static str, &'static str)] {
     &REFUSED
 }
 
+/// Asserts that the map is refused with this message, and that nothing is written.
+fn assert_refused(rt: &impl Abort, written: &Written, map: &str, want: &str) -> Result<(), Fail> {
+    assert_ends(rt, written, map, Status::MapRefused, want)?;
+    assert!(rt;
+        written.rdl.is_empty() && written.header.is_empty(),
+        "at {map}"
+    );
+    Ok(())
+}
+
 #[test]
 fn are_refused_at_a_place(rt: HostRuntime) -> Result<(), Fail> {
     for (map, want) in refused() {
         let written = write(rt.alloc(), map, "list\n")?;
-        assert_eq!(rt; written.status, Status::MapRefused, "at {map}");
-        assert_eq!(rt; written.messages()?, *want, "at {map}");
-        assert!(rt; written.rdl.is_empty(), "at {map}");
-        assert!(rt; written.header.is_empty(), "at {map}");
+        assert_refused(&rt, &written, map, want)?;
     }
     Ok(())
+}
+
+fn assert_bytes_refused(
+    rt: &impl Abort,
+    alloc: Global,
+    map: &[u8],
+    want: &str,
+) -> Result<(), Fail> {
+    let written = write_bytes(alloc, map, b"list\n")?;
+    assert_ends(rt, &written, want, Status::MapRefused, want)
 }
 
 // What isn't UTF-8 is judged before all other faults.
 #[test]
 fn are_refused_where_they_are_not_utf8(rt: HostRuntime) -> Result<(), Fail> {
-    let written = write_bytes(rt.alloc(), b"addrmap top {\n /* \xff", b"list\n")?;
-    assert_eq!(rt; written.status, Status::MapRefused);
-    assert_eq!(rt; written.messages()?, "map:2:5: S1 bad character\n");
-    let written = write_bytes(rt.alloc(), b"? \xff", b"")?;
-    assert_eq!(rt; written.messages()?, "map:1:3: S1 bad character\n");
-    Ok(())
+    let map = b"addrmap top {\n /* \xff";
+    assert_bytes_refused(&rt, rt.alloc(), map, "map:2:5: S1 bad character\n")?;
+    assert_bytes_refused(&rt, rt.alloc(), b"? \xff", "map:1:3: S1 bad character\n")
 }
 
 #[test]
 fn are_accepted_with_any_comments(rt: HostRuntime) -> Result<(), Fail> {
     let map = "// caf\u{e9}\r\naddrmap\ttop /* a map */ {\r\n};\r\n";
-    let written = write(rt.alloc(), map, "")?;
-    assert_eq!(rt; written.status, Status::Accepted);
-    assert_eq!(rt; written.rdl()?, "addrmap top {\n};\n");
-    Ok(())
+    assert_prints(&rt, rt.alloc(), map, b"", Status::Accepted, "")?;
+    assert_writes(&rt, rt.alloc(), map, "", "addrmap top {\n};\n")
 }

@@ -90,7 +90,7 @@ fn writes_an_empty_address_map(rt: HostRuntime) -> Result<(), Fail> {
 #[test]
 fn edit_always_out_of_memory(rt: HostRuntime) -> Result<(), Fail> {
     let written = write(rt.alloc(), MAP, "add /$top last reg {} b;\n")?;
-    assert_eq!(rt; written.status, Status::Accepted);
+    assert!(rt; written.status == Status::Accepted);
     Ok(())
 }
 
