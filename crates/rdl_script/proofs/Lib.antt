@@ -4,4 +4,5 @@ pub mod Names
 pub mod Runs
 pub mod Spelled
 pub mod Splits
+pub mod ScriptLines
 pub mod Sizes

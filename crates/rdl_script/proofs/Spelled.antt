@@ -1,7 +1,7 @@
 -- What is read of the words of an operand is spelled, and what is spelled is read.
 use Rattle.std.proofs.Common.{◌≡◌, ℕ, Bool, true, false, cond, List, [], ◌∷◌, Option, None, Some, Ok, refl, ap, sym, ◌∙◌, subst, rules, inl, inr}
 use Rattle.std.proofs.lemmas.Slice.Eq.{bytes_eq-Decides}
-use Rattle.std.specs.Prelude.{codes, bytes_eq, option_map, ◌&&◌, ◌⊎◌}
+use Rattle.std.specs.Prelude.{codes, option_map, ◌&&◌, ◌⊎◌}
 use denote.Enum.Bare.{same_true}
 use Rattle.rdl_text.specs.contracts.token.Mark.{the_type}
 use Rattle.rdl_text.specs.declared.token.Mark.{Mark}

@@ -6,5 +6,5 @@ returns c = record {
   dims = λ ws ns. (dims-spelled ws ns, dims-again ws ns);
   bits = λ ws bits. (bits-spelled ws bits, bits-again ws bits);
   number = λ ws n. (number-or-none-spelled ws n, number-or-none-again ws n);
-  value = λ ws value. (one-value-spelled ws value, one-value-again ws value)
+  value = λ ws value. (one-value-spelled ws value, one-value-again ws value);
 }
