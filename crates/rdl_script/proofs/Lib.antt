@@ -2,5 +2,7 @@ mod Examples
 pub mod Lines
 pub mod Names
 pub mod Runs
+pub mod Spelled
 pub mod Splits
+pub mod ScriptLines
 pub mod Sizes

@@ -3,7 +3,7 @@ use Rattle.std.proofs.Common.{◌≡◌, ℕ, Bool, true, false, not, List, refl
 use Rattle.std.specs.Prelude.{IsUtf8, if◌then◌else◌}
 use Rattle.std.specs.Str.{is_utf8}
 use Rattle.std.proofs.lemmas.Str.{IsUtf8-from_is_utf8, is_utf8-from_IsUtf8}
-use Rattle.rdl_script.specs.Commands.{Command, nothing, refused, asked, is_silent, command_in}
+use Rattle.rdl_script.specs.Commands.{nothing, refused, asked, is_silent, command_in}
 use Rattle.rdl_script.specs.Verbs.{verb_of}
 use Rattle.rdl_script.specs.Words.{first_word, behind_word}
 use Rattle.rdl_script.specs.declared.request.CommandFault.TheVariants.{NotUtf8}

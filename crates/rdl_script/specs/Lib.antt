@@ -4,3 +4,4 @@ pub mod Verbs
 pub mod Edits
 pub mod Commands
 pub mod Seen
+pub mod Spelled

@@ -3,6 +3,7 @@
 #![tactic(auto)]
 
 mod edit;
+pub mod laws;
 mod line;
 mod name;
 mod operand;

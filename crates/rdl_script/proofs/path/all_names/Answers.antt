@@ -1,4 +1,4 @@
-use Rattle.std.proofs.Common.{◌≡◌, ◌∙◌, ◌++◌, ◌∷◌, [], sym, ap, Some, None, lit<}
+use Rattle.std.proofs.Common.{◌∙◌, sym, ap, Some, None, lit<}
 use Rattle.std.proofs.lemmas.Str.Pattern.{split_once_first}
 use Rattle.rdl_script.specs.Operands.{all_of, name_in, parts}
 use Rattle.rdl_script.specs.declared.name.NameSort.TheVariants.{Any}

@@ -1,4 +1,4 @@
-use Rattle.std.proofs.Common.{◌≡◌, ◌∙◌, ◌++◌, ◌∷◌, [], sym, ap, Some, None, lit<}
+use Rattle.std.proofs.Common.{◌∙◌, sym, ap, Some, None, lit<}
 use Rattle.std.proofs.lemmas.Str.Pattern.{split_once_first}
 use Rattle.rdl_script.specs.Operands.{all_of, segment_in, parts}
 use Rattle.rdl_script.proofs.Splits.{IsCut, IsWhole, ahead, others_utf8, read-some, read-none, last-some, last-none}

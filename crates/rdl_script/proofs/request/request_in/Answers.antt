@@ -1,5 +1,5 @@
-use Rattle.std.proofs.Common.{◌≡◌, sym, ap, ◌∙◌, subst, rules, false, IfOk}
-use Rattle.rdl_script.specs.Commands.{asked, is_silent, command_in}
+use Rattle.std.proofs.Common.{◌≡◌, sym, ap, ◌∙◌, subst, false, IfOk}
+use Rattle.rdl_script.specs.Commands.{asked, is_silent}
 use Rattle.rdl_script.specs.Seen.{seen}
 use Rattle.rdl_script.specs.Verbs.{verb_of}
 use Rattle.rdl_script.specs.Words.{first_word, behind_word}
