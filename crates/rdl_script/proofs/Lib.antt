@@ -4,5 +4,4 @@ pub mod Names
 pub mod Runs
 pub mod Spelled
 pub mod Splits
-pub mod ScriptLines
 pub mod Sizes
