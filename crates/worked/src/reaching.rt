@@ -42,28 +42,6 @@ fn target(alloc: Global, text: &str) -> Result<Target, Fail> {
     Ok(Target::from_vec(names))
 }
 
-fn renaming(alloc: Global, at: &str, name: &str) -> Result<Edit, Fail> {
-    Ok(Edit::Rename(path(alloc, at)?, Name::new(alloc, name)?))
-}
-
-fn assignment(
-    alloc: Global,
-    at: &str,
-    to: &str,
-    property: &str,
-    number: Number,
-) -> Result<Edit, Fail> {
-    let at = path(alloc, at)?;
-    let to = target(alloc, to)?;
-    Ok(Edit::Assign(at, to, Name::new(alloc, property)?, Value::Number(number)))
-}
-
-fn unassignment(alloc: Global, at: &str, to: &str, property: &str) -> Result<Edit, Fail> {
-    let at = path(alloc, at)?;
-    let to = target(alloc, to)?;
-    Ok(Edit::Unassign(at, to, Name::new(alloc, property)?))
-}
-
 fn refusal_text(refusal: &Refusal) -> &'static str {
     match refusal {
         Refusal::NoSuchPath => "X1 P1",
@@ -86,17 +64,70 @@ fn shown(alloc: Global, refusal: &Refusal) -> Result<String, Fail> {
     }
 }
 
-fn edited(
-    alloc: Global,
-    journal: &mut Journal<Map>,
-    edit: Result<Edit, Fail>,
-) -> Result<String, Fail> {
-    match journal.edit(alloc, &edit?) {
+/// Makes the edit, and lets it go.
+fn make(alloc: Global, journal: &mut Journal<Map>, edit: Edit) -> Result<(), EditFault<Refusal>> {
+    journal.edit(alloc, &edit)
+}
+
+fn made(alloc: Global, answer: Result<(), EditFault<Refusal>>) -> Result<String, Fail> {
+    match answer {
         Ok(()) => Ok(String::new(alloc)),
         Err(EditFault::Full) => Ok(String::from_str(alloc, "J1")?),
         Err(EditFault::Refused(refusal)) => shown(alloc, &refusal),
         Err(EditFault::Memory) => Err(Fail::new("no memory")),
     }
+}
+
+fn edited(alloc: Global, journal: &mut Journal<Map>, edit: Edit) -> Result<String, Fail> {
+    made(alloc, make(alloc, journal, edit))
+}
+
+fn removed(alloc: Global, journal: &mut Journal<Map>, at: &str) -> Result<String, Fail> {
+    edited(alloc, journal, Edit::Remove(path(alloc, at)?))
+}
+
+fn renamed(
+    alloc: Global,
+    journal: &mut Journal<Map>,
+    at: &str,
+    name: &str,
+) -> Result<String, Fail> {
+    let name = Name::new(alloc, name)?;
+    edited(alloc, journal, Edit::Rename(path(alloc, at)?, name))
+}
+
+fn assigned(
+    alloc: Global,
+    journal: &mut Journal<Map>,
+    at: &str,
+    to: &str,
+    property: &str,
+    number: Number,
+) -> Result<String, Fail> {
+    let at = path(alloc, at)?;
+    let to = target(alloc, to)?;
+    let property = Name::new(alloc, property)?;
+    edited(
+        alloc,
+        journal,
+        Edit::Assign(at, to, property, Value::Number(number)),
+    )
+}
+
+fn unassigned(
+    alloc: Global,
+    journal: &mut Journal<Map>,
+    at: &str,
+    to: &str,
+    property: &str,
+) -> Result<String, Fail> {
+    let at = path(alloc, at)?;
+    let to = target(alloc, to)?;
+    edited(
+        alloc,
+        journal,
+        Edit::Unassign(at, to, Name::new(alloc, property)?),
+    )
 }
 
 fn stepped(alloc: Global, answer: Result<(), StepFault>, nothing: &str) -> Result<String, Fail> {
@@ -113,14 +144,12 @@ fn lines(alloc: Global, map: &Map) -> Result<String, Fail> {
 
 fn answer(alloc: Global, journal: &mut Journal<Map>, call: &Call) -> Result<String, Fail> {
     match call {
-        Call::Remove(at) => edited(alloc, journal, Ok(Edit::Remove(path(alloc, at)?))),
-        Call::Rename(at, name) => edited(alloc, journal, renaming(alloc, at, name)),
+        Call::Remove(at) => removed(alloc, journal, at),
+        Call::Rename(at, name) => renamed(alloc, journal, at, name),
         Call::Assign(at, to, property, number) => {
-            edited(alloc, journal, assignment(alloc, at, to, property, *number))
+            assigned(alloc, journal, at, to, property, *number)
         }
-        Call::Unassign(at, to, property) => {
-            edited(alloc, journal, unassignment(alloc, at, to, property))
-        }
+        Call::Unassign(at, to, property) => unassigned(alloc, journal, at, to, property),
         Call::Undo => stepped(alloc, journal.undo(alloc), "J2"),
         Call::Redo => stepped(alloc, journal.redo(alloc), "J3"),
         Call::Write => Ok(rdl(alloc, journal.map().description())?),
