@@ -1,19 +1,12 @@
--- The words of the program, and its exit status. Own.
-use Rattle.std.specs.Prelude.{ℕ, ◌≤◌, ◌==◌, Bool, false, ◌&&◌, List, [], ◌∷◌, map, codes}
-use Rattle.std.specs.Cmp.Lexicographic.{pointwise}
+-- The exit status of the program. Own.
+use Rattle.std.specs.Prelude.{◌≡◌, ◌⊎◌, ℕ, ◌≤◌, List}
+use Rattle.command_line.specs.Words.{AreBadAtTop, AreMistaken}
+use Rattle.command_line.specs.declared.line.LineFault.{LineFault}
+use Rattle.command_line.specs.declared.line.LineFault.TheVariants as line_faults
 use Rattle.regedit.specs.declared.command.Failure.{Failure}
 use Rattle.regedit.specs.declared.command.Failure.TheVariants as failures
 use Rattle.rdl_run.specs.declared.status.Status.{Status}
 use Rattle.rdl_run.specs.declared.status.Status.TheVariants as statuses
-
--- the words `MAP SCRIPT --rdl OUT --header OUT`
-abbrev pub command_line : (map script rdl header : List ℕ) → List (List ℕ)
-command_line map script rdl header = map ∷ script ∷ codes "--rdl" ∷ rdl ∷ codes "--header" ∷ header ∷ []
-
-abbrev pub is_command_line : List (List ℕ) → Bool
-is_command_line (map ∷ script ∷ rdl_option ∷ rdl ∷ header_option ∷ header ∷ []) =
-    pointwise ◌==◌ rdl_option (codes "--rdl") && pointwise ◌==◌ header_option (codes "--header")
-is_command_line _ = false
 
 abbrev pub status_code : Status → ℕ
 status_code statuses.Accepted = 0
@@ -24,6 +17,18 @@ status_code statuses.HeaderClash = 3
 abbrev pub failure_code : Failure → ℕ
 failure_code (failures.Fault fault) = 4
 failure_code failures.BadCommandLine = 5
+failure_code failures.BadTop = 5
+
+-- how the program ends where the words are no command line; help may find no memory, or be cut off
+abbrev pub Ends : LineFault → ℕ → Type 0
+Ends (line_faults.Help help) n = (n ≡ 0) ⊎ (n ≡ 4)
+Ends (line_faults.Refused mistake) n = n ≡ 5
+Ends line_faults.BadTop n = n ≡ 5
+Ends line_faults.Memory n = n ≡ 4
+
+-- the words have a mistake, or they have none and the name of the top is bad
+abbrev pub AreRefused : List (List ℕ) → Type 0
+AreRefused words = AreMistaken words ⊎ AreBadAtTop words
 
 abbrev pub IsExit : ℕ → Type 0
 IsExit n = n ≤ 5

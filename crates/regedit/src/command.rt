@@ -1,9 +1,11 @@
 //! The program's edge: its words, its files and its exit status.
-ghost use Rattle.std.specs.Prelude.{◌≡◌, ◌↔◌, ◌⊎◌, map, false, IfSome, IsNone, IsErrOf, IsOkUnless};
-ghost use Rattle.regedit.specs.CommandLine.{command_line, is_command_line, status_code, failure_code, IsExit};
+ghost use Rattle.std.specs.Prelude.{◌≡◌, ◌⊎◌, ◌≤◌, map, IsOkUnless};
+ghost use Rattle.regedit.specs.CommandLine.{AreRefused, Ends, IsExit, failure_code, status_code};
 ghost use Rattle.regedit.specs.declared.command.Failure.{Failure};
 ghost use Rattle.rdl_run.specs.declared.status.RunFault.{RunFault};
 
+use command_line::line::{Line, LineFault};
+use command_line::words::line;
 use rdl_run::output::write_whole;
 use rdl_run::run::{Options, run};
 use rdl_run::status::{RunFault, Status};
@@ -14,25 +16,15 @@ use std::io::{ErrorKind, Write};
 use std::rt::Files;
 use thiserror::Error;
 
-/// How many edits the program's history keeps.
-const HISTORY: u32 = 10_000;
-
-/// Why the program ends without a status of a run.
+/// Why the program ends without a status of a run, where `clap` says nothing of it.
 #[derive(Clone, Copy, Debug, PartialEq, Eq, Drop, Error)]
 enum Failure {
     #[error("regedit: bad command line")]
     BadCommandLine,
+    #[error("regedit: bad top name")]
+    BadTop,
     #[error("{0}")]
     Fault(RunFault),
-}
-
-/// The files that a command line names.
-#[derive(Clone, Copy, Debug)]
-struct Paths<'a> {
-    map: &'a str,
-    script: &'a str,
-    rdl: &'a str,
-    header: &'a str,
 }
 
 /// The texts of both outputs, and how the run ended that made them.
@@ -41,24 +33,6 @@ struct Texts {
     status: Status,
     rdl: Vec<u8>,
     header: Vec<u8>,
-}
-
-fn paths_of<'a>(words: &[&'a str]) -> Option<Paths<'a>>
-    ensures some { IfSome result (λ paths. map (λ w. w.now) words.now ≡ command_line paths.map.now paths.script.now paths.rdl.now paths.header.now) }
-    ensures none { IsNone result → is_command_line (map (λ w. w.now) words.now) ≡ false }
-{
-    match words {
-        [map, script, rdl_option, rdl, header_option, header]
-            if *rdl_option == "--rdl" && *header_option == "--header" => {
-            Some(Paths {
-                map,
-                script,
-                rdl,
-                header,
-            })
-        }
-        _ => None,
-    }
 }
 
 fn status_code(status: Status) -> u8
@@ -77,7 +51,7 @@ fn failure_code(failure: Failure) -> u8
 {
     match failure {
         Failure::Fault(_) => 4,
-        Failure::BadCommandLine => 5,
+        Failure::BadCommandLine | Failure::BadTop => 5,
     }
 }
 
@@ -113,22 +87,20 @@ fn write_file<R: Files>(rt: &R, path: &str, bytes: &[u8]) -> Result<(), RunFault
 fn run_in_memory<R: Files, M: Write>(
     rt: &R,
     alloc: Global,
-    paths: Paths<'_>,
+    map: &str,
+    script: &str,
+    options: &Options,
     messages: &mut M,
 ) -> Result<Texts, RunFault> {
-    let mut map = open_input(rt, paths.map)?;
-    let mut script = open_input(rt, paths.script)?;
-    let options = Options {
-        top: None,
-        history: HISTORY,
-    };
+    let mut map = open_input(rt, map)?;
+    let mut script = open_input(rt, script)?;
     let mut rdl = Vec::new(alloc);
     let mut header = Vec::new(alloc);
     let status = run(
         alloc,
         &mut map,
         &mut script,
-        &options,
+        options,
         &mut rdl,
         &mut header,
         messages,
@@ -140,43 +112,82 @@ fn run_in_memory<R: Files, M: Write>(
     })
 }
 
+/// Runs the script of a line on its map. Both outputs are written only when the run has ended, neither where the map is
+/// refused, and the map's alone where two of the header's macros have one name.
 fn edit_files<R: Files, M: Write>(
     rt: &R,
     alloc: Global,
-    paths: Paths<'_>,
+    line: Line,
     messages: &mut M,
 ) -> Result<Status, RunFault> {
-    let texts = run_in_memory(rt, alloc, paths, messages)?;
+    let Line {
+        map,
+        script,
+        rdl,
+        header,
+        top,
+        history,
+    } = line;
+    let options = Options { top, history };
+    let texts = run_in_memory(rt, alloc, map.as_str(), script.as_str(), &options, messages)?;
     if texts.status == Status::MapRefused {
         return Ok(texts.status);
     }
-    write_file(rt, paths.rdl, texts.rdl.as_slice())?;
+    write_file(rt, rdl.as_str(), texts.rdl.as_slice())?;
     if texts.status != Status::HeaderClash {
-        write_file(rt, paths.header, texts.header.as_slice())?;
+        write_file(rt, header.as_str(), texts.header.as_slice())?;
     }
     Ok(texts.status)
 }
 
-fn obey<R: Files, M: Write>(
+fn obey<R: Files, M: Write, E: Write>(
     rt: &R,
     alloc: Global,
-    words: &[&str],
+    line: Line,
     messages: &mut M,
-) -> Result<Status, Failure>
-    ensures { IsErrOf result Failure.BadCommandLine ↔ (is_command_line (map (λ w. w.now) words.now) ≡ false) }
+    errors: &mut E,
+) -> u8
+    ensures { result ≤ 4 }
 {
-    let Some(paths) = paths_of(words) else {
-        return Err(Failure::BadCommandLine);
-    };
-    match edit_files(rt, alloc, paths, messages) {
-        Ok(status) => Ok(status),
-        Err(fault) => Err(Failure::Fault(fault)),
+    match edit_files(rt, alloc, line, messages) {
+        Ok(status) => status_code(status),
+        Err(fault) => report(Failure::Fault(fault), errors),
     }
 }
 
-/// Does what the words behind the program's name ask, which are `MAP SCRIPT --rdl OUT --header OUT`, and answers the
-/// exit status. Both outputs are written only when the run has ended, neither where the map is refused, and the map's
-/// alone where two of the header's macros have one name.
+fn print_help<M: Write>(
+    alloc: Global,
+    help: &clap::Error,
+    messages: &mut M,
+) -> Result<(), RunFault> {
+    let text = format!(in alloc; "{help}")?;
+    write_whole(messages, &mut 0, text.as_bytes())
+}
+
+/// Says what words ask for that are no command line.
+fn refuse<M: Write, E: Write>(
+    alloc: Global,
+    fault: LineFault,
+    messages: &mut M,
+    errors: &mut E,
+) -> u8
+    ensures { Ends fault result }
+{
+    match fault {
+        LineFault::Help(help) => match print_help(alloc, &help, messages) {
+            Ok(()) => 0,
+            Err(fault) => report(Failure::Fault(fault), errors),
+        },
+        LineFault::Refused(mistake) => {
+            let _ = write!(errors, "{mistake}");
+            5
+        }
+        LineFault::BadTop => report(Failure::BadTop, errors),
+        LineFault::Memory => report(Failure::Fault(RunFault::Memory), errors),
+    }
+}
+
+/// Does what the words behind the program's name ask, and answers the exit status.
 pub fn command<R: Files, M: Write, E: Write>(
     rt: &R,
     alloc: Global,
@@ -185,11 +196,14 @@ pub fn command<R: Files, M: Write, E: Write>(
     errors: &mut E,
 ) -> u8
     ensures known { IsExit result }
-    ensures words { (result ≡ 5) ↔ (is_command_line (map (λ w. w.now) words.now) ≡ false) }
+
+    // Refused words end with 5, but where there is no memory to read them.
+    ensures refused { AreRefused (map (λ w. w.now) words.now) → (result ≡ 5) ⊎ (result ≡ 4) }
+    ensures only { result ≡ 5 → AreRefused (map (λ w. w.now) words.now) }
 {
-    match obey(rt, alloc, words, messages) {
-        Ok(status) => status_code(status),
-        Err(failure) => report(failure, errors),
+    match line(alloc, words) {
+        Ok(line) => obey(rt, alloc, line, messages, errors),
+        Err(fault) => refuse(alloc, fault, messages, errors),
     }
 }
 

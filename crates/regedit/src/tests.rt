@@ -21,6 +21,7 @@ mod lines;
 mod map_faults;
 mod maps;
 mod mission;
+mod words;
 mod worked;
 
 const MAP: &str = "addrmap top { reg { field {} f[8] = 0x5; } a; };";

@@ -10,12 +10,12 @@ use std::{env, fs, process, str};
 
 /// A folder of a test's own.
 #[derive(Drop)]
-struct Folder {
+pub(super) struct Folder {
     path: String,
 }
 
 impl Folder {
-    fn new(rt: &HostRuntime, test: &str) -> Result<Folder, Fail> {
+    pub(super) fn new(rt: &HostRuntime, test: &str) -> Result<Folder, Fail> {
         let above = env::temp_dir(rt)?;
         let number = process::id(rt.process());
         let path = format!(in rt.alloc(); "{}/regedit-{test}-{number}", above.as_path().display())?;
@@ -23,11 +23,11 @@ impl Folder {
         Ok(Folder { path })
     }
 
-    fn file(&self, rt: &HostRuntime, name: &str) -> Result<String, AllocError> {
+    pub(super) fn file(&self, rt: &HostRuntime, name: &str) -> Result<String, AllocError> {
         format!(in rt.alloc(); "{}/{name}", self.path)
     }
 
-    fn write(&self, rt: &HostRuntime, name: &str, text: &str) -> Result<(), Fail> {
+    pub(super) fn write(&self, rt: &HostRuntime, name: &str, text: &str) -> Result<(), Fail> {
         let file = self.file(rt, name)?;
         fs::write(rt, file.as_str(), text)?;
         Ok(())
@@ -44,7 +44,7 @@ impl Folder {
         Ok(fs::read_to_string(rt, file.as_str())?)
     }
 
-    fn remove(self, rt: &HostRuntime) -> Result<(), Fail> {
+    pub(super) fn remove(self, rt: &HostRuntime) -> Result<(), Fail> {
         fs::remove_dir_all(rt, self.path.as_str())?;
         Ok(())
     }
@@ -52,23 +52,23 @@ impl Folder {
 
 /// What the program answers and writes.
 #[derive(Drop)]
-struct Said {
-    status: u8,
+pub(super) struct Said {
+    pub(super) status: u8,
     messages: Vec<u8>,
     errors: Vec<u8>,
 }
 
 impl Said {
-    fn messages(&self) -> Result<&str, Fail> {
+    pub(super) fn messages(&self) -> Result<&str, Fail> {
         Ok(str::from_utf8(self.messages.as_slice())?)
     }
 
-    fn errors(&self) -> Result<&str, Fail> {
+    pub(super) fn errors(&self) -> Result<&str, Fail> {
         Ok(str::from_utf8(self.errors.as_slice())?)
     }
 }
 
-fn run_words(rt: &HostRuntime, words: &[&str]) -> Said {
+pub(super) fn run_words(rt: &HostRuntime, words: &[&str]) -> Said {
     let mut messages = Vec::new(rt.alloc());
     let mut errors = Vec::new(rt.alloc());
     let status = command(rt, rt.alloc(), words, &mut messages, &mut errors);
@@ -260,17 +260,19 @@ fn may_be_the_map_itself(rt: HostRuntime) -> Result<(), Fail> {
 
 fn assert_refused(abort: &impl Abort, rt: &HostRuntime, words: &[&str]) -> Result<(), Fail> {
     let said = run_words(rt, words);
-    assert_says(abort, &said, (5, "", "regedit: bad command line\n"))
+    assert!(abort; !said.errors()?.is_empty());
+    assert!(abort; said.messages()?.is_empty());
+    assert!(abort; said.status == 5);
+    Ok(())
 }
 
 #[test]
 fn are_untouched_by_other_words(rt: HostRuntime) -> Result<(), Fail> {
-    let cases: [&[&str]; 7] = [
+    let cases: [&[&str]; 6] = [
         &[],
         &["map", "script"],
         &["map", "script", "--rdl", "out"],
-        &["map", "script", "--header", "out", "--rdl", "out"],
-        &["--rdl", "out", "--header", "out", "map", "script"],
+        &["--rdl", "out", "--header", "out", "map"],
         &["map", "script", "--rdl", "out", "--header"],
         &["map", "script", "--rdl", "out", "--header", "out", "more"],
     ];
