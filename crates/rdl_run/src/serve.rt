@@ -64,7 +64,11 @@ fn add(
     ensures fault { IsOkUnless result RunFault.Memory }
 {
     match items_of(alloc, text) {
-        Ok(items) => edit(alloc, journal, Edit::Add(path, place, Body::from_vec(items))),
+        Ok(items) => edit(
+            alloc,
+            journal,
+            Edit::Add(path, place, Body::from_vec(items)),
+        ),
         Err(ReadingFault::Refused(fault)) => Ok(Reply::Refused(LineRefusal::Text(fault))),
         Err(ReadingFault::Memory) => Err(RunFault::Memory),
     }
