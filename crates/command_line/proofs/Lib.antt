@@ -2,3 +2,4 @@ pub mod Simple
 pub mod Found
 pub mod History
 pub mod Lone
+pub mod Order

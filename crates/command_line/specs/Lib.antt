@@ -1,3 +1,4 @@
 pub mod Arguments
 pub mod Kinds
+pub mod Plain
 pub mod Words

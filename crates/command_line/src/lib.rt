@@ -2,5 +2,6 @@
 #![tactic(auto)]
 
 mod arguments;
+pub mod laws;
 pub mod line;
 pub mod words;

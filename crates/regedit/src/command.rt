@@ -1,6 +1,7 @@
 //! The program's edge: its words, its files and its exit status.
 ghost use Rattle.std.specs.Prelude.{◌≡◌, ◌⊎◌, ◌≤◌, map, IsOkUnless};
 ghost use Rattle.regedit.specs.CommandLine.{AreRefused, Ends, IsExit, failure_code, status_code};
+ghost use Rattle.command_line.specs.Words.{AskForHelp};
 ghost use Rattle.regedit.specs.declared.command.Failure.{Failure};
 ghost use Rattle.rdl_run.specs.declared.status.RunFault.{RunFault};
 
@@ -200,6 +201,7 @@ pub fn command<R: Files, M: Write, E: Write>(
     // Refused words end with 5, but where there is no memory to read them.
     ensures refused { AreRefused (map (λ w. w.now) words.now) → (result ≡ 5) ⊎ (result ≡ 4) }
     ensures only { result ≡ 5 → AreRefused (map (λ w. w.now) words.now) }
+    ensures help { AskForHelp (map (λ w. w.now) words.now) → (result ≡ 0) ⊎ (result ≡ 4) }
 {
     match line(alloc, words) {
         Ok(line) => obey(rt, alloc, line, messages, errors),
