@@ -1,15 +1,8 @@
--- Where items stand, and what leads to them: addresses of items, of references and of targets.
+-- What leads to an item: references and targets; and the addresses of all items.
 -- SystemRDL 2.0, clause 5, instances name their types, and dynamic assignments the instances that they pass; item numbers are this project's.
-use Rattle.std.specs.Prelude.{ℕ, suc, ◌-◌, Bool, false, List, [], ◌∷◌, ◌++◌, length, take, slice_index, Option, Some, None, bytes_eq}
+use Rattle.std.specs.Prelude.{ℕ, suc, Bool, false, List, [], ◌∷◌, ◌++◌, Option, Some, None, bytes_eq}
 use Rattle.std.specs.List.{list_any}
 use Rattle.rdl_tree.specs.Items.{Items, no_items, plain, holder}
-
--- an item's address is that of the body that holds it, and then the item's number
-abbrev pub holder_of : List ℕ → List ℕ
-holder_of way = take (length way - 1) way
-
-abbrev pub number_of : List ℕ → ℕ
-number_of way = slice_index way (length way - 1)
 
 abbrev pub same : List ℕ → List ℕ → Bool
 same at way = bytes_eq at way

@@ -4,7 +4,7 @@
 use Rattle.std.specs.Prelude.{ℕ, suc, if◌then◌else◌, Bool, true, false, not, List, [], ◌∷◌, ◌++◌, Option, Some, None, Result, Ok, Err}
 use Rattle.rdl_tree.specs.Items.{Items, no_items, plain, holder, Plain, named, own, default, dynamic, Holder, define, anonymous}
 use Rattle.rdl_tree.specs.View.{list_of}
-use Rattle.rdl_tree.specs.Address.{body_at}
+use Rattle.rdl_tree.specs.Address.{holder_of, body_at}
 use Rattle.rdl_tree.specs.declared.description.Item.{Item}
 use Rattle.rdl_tree.specs.declared.description.Item.TheVariants.{Define, Instance}
 use Rattle.rdl_tree.specs.declared.shell.Shell.{Shell}
@@ -13,7 +13,7 @@ use Rattle.rdl_parse.specs.declared.class.Class.{Class}
 use Rattle.rdl_parse.specs.declared.class.Class.TheVariants.{Name}
 use Rattle.rdl_scope.specs.Types.{item, type_of}
 use Rattle.rdl_scope.specs.Target.{through}
-use Rattle.rdl_rewrite.specs.Addresses.{holder_of, same, leads_to}
+use Rattle.rdl_rewrite.specs.Addresses.{same, leads_to}
 use Rattle.rdl_rewrite.specs.Names.{defined_names, instance_names, has_name}
 use Rattle.rdl_rewrite.specs.declared.edit.Refusal.{Refusal}
 use Rattle.rdl_rewrite.specs.declared.edit.Refusal.TheVariants.{NameTaken, Reserved}

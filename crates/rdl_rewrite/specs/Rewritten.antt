@@ -2,12 +2,11 @@
 -- own: SystemRDL 2.0 has no edits.
 use Rattle.std.specs.Prelude.{ℕ, ◌==◌, Bool, true, false, if◌then◌else◌, List, length, Option, Some, None, Result, Ok, Err}
 use Rattle.rdl_tree.specs.Items.{Items}
-use Rattle.rdl_tree.specs.Address.{body_at, map_body}
+use Rattle.rdl_tree.specs.Address.{holder_of, number_of, body_at, map_body}
 use Rattle.rdl_tree.specs.Find.{find}
 use Rattle.rdl_tree.specs.declared.path.Segment.{Segment}
 use Rattle.rdl_tree.specs.declared.path.PathFault.{PathFault}
 use Rattle.rdl_tree.specs.declared.path.PathFault.TheVariants as fault
-use Rattle.rdl_rewrite.specs.Addresses.{holder_of, number_of}
 use Rattle.rdl_rewrite.specs.Change.{edited_body}
 use Rattle.rdl_rewrite.specs.Removal.{removed}
 use Rattle.rdl_rewrite.specs.Renaming.{renamed}

@@ -1,7 +1,7 @@
 //! The description that an edit makes.
 ghost use Rattle.std.specs.Prelude.{◌≡◌, ◌<◌, ◌≤◌, Ok, IfOk, IfErr, length};
+ghost use Rattle.rdl_tree.specs.Address.{holder_of, number_of};
 ghost use Rattle.rdl_tree.specs.Depth.{depth};
-ghost use Rattle.rdl_rewrite.specs.Addresses.{holder_of, number_of};
 ghost use Rattle.rdl_rewrite.specs.Change.{edited_body};
 ghost use Rattle.rdl_rewrite.specs.Rewritten.{at_body, of_item, rewritten};
 ghost use Rattle.rdl_rewrite.specs.Refuses.{Refuses};

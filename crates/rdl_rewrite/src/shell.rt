@@ -51,6 +51,6 @@ pub fn reshape(alloc: Global, edit: &Edit, number: usize, body: &mut Body) -> Re
         return Err(Refusal::NotAnInstance);
     };
     let new = edited_shell(alloc, edit, shell)?;
-    let _old = body.exchange(number, Part::Shell(new));
+    let _old = body.exchange(number, Part::OfShell(new));
     Ok(())
 }

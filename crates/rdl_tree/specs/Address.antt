@@ -1,7 +1,14 @@
 -- The body at an address, and the tree with another body there.
 -- own: SystemRDL 2.0 names components by paths of names; item numbers are this project's.
-use Rattle.std.specs.Prelude.{ℕ, zero, suc, List, [], ◌∷◌, Option, Some, None, option_and_then}
+use Rattle.std.specs.Prelude.{ℕ, zero, suc, ◌-◌, List, [], ◌∷◌, length, take, slice_index, Option, Some, None, option_and_then}
 use Rattle.rdl_tree.specs.Items.{Items, no_items, plain, holder}
+
+-- an item's address is that of the body that holds it, and then the item's number
+abbrev pub holder_of : List ℕ → List ℕ
+holder_of at = take (length at - 1) at
+
+abbrev pub number_of : List ℕ → ℕ
+number_of at = slice_index at (length at - 1)
 
 -- the body of item i, if that has a component of its own
 abbrev pub inner : ℕ → Items → Option Items

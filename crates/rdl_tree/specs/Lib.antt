@@ -12,6 +12,8 @@ pub mod ItemWeight
 pub mod Items
 pub mod Limits
 pub mod Part
+pub mod Patch
+pub mod PatchWeight
 pub mod Properties
 pub mod Shell
 pub mod View

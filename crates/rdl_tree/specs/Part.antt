@@ -11,35 +11,35 @@ use Rattle.rdl_tree.specs.declared.description.Of.TheVariants.{Named}
 
 -- the item has a part of this one's sort
 abbrev pub has_part : Part → Item → Bool
-has_part (part.Shell new) (Instance s o) = true
-has_part (part.Value new) (Own p v) = true
-has_part (part.Value new) (Default p v) = true
-has_part (part.Value new) (Dynamic t p v) = true
-has_part (part.Target new) (Dynamic t p v) = true
-has_part (part.Type new) (Instance s (Named t)) = true
-has_part (part.Name new) (Define n c) = true
+has_part (part.OfShell new) (Instance s o) = true
+has_part (part.OfValue new) (Own p v) = true
+has_part (part.OfValue new) (Default p v) = true
+has_part (part.OfValue new) (Dynamic t p v) = true
+has_part (part.OfTarget new) (Dynamic t p v) = true
+has_part (part.OfType new) (Instance s (Named t)) = true
+has_part (part.OfDefine new) (Define n c) = true
 has_part new x = false
 
 -- the item with this part in the place of its own; one that has no such part stays
 abbrev pub with_part : Part → Item → Item
-with_part (part.Shell new) (Instance s o) = Instance new o
-with_part (part.Value new) (Own p v) = Own p new
-with_part (part.Value new) (Default p v) = Default p new
-with_part (part.Value new) (Dynamic t p v) = Dynamic t p new
-with_part (part.Target new) (Dynamic t p v) = Dynamic new p v
-with_part (part.Type new) (Instance s (Named t)) = Instance s (Named new)
-with_part (part.Name new) (Define n c) = Define new c
+with_part (part.OfShell new) (Instance s o) = Instance new o
+with_part (part.OfValue new) (Own p v) = Own p new
+with_part (part.OfValue new) (Default p v) = Default p new
+with_part (part.OfValue new) (Dynamic t p v) = Dynamic t p new
+with_part (part.OfTarget new) (Dynamic t p v) = Dynamic new p v
+with_part (part.OfType new) (Instance s (Named t)) = Instance s (Named new)
+with_part (part.OfDefine new) (Define n c) = Define new c
 with_part new x = x
 
 -- the item's own part of this one's sort; where it has none, this one
 abbrev pub part_of : Part → Item → Part
-part_of (part.Shell new) (Instance s o) = part.Shell s
-part_of (part.Value new) (Own p v) = part.Value v
-part_of (part.Value new) (Default p v) = part.Value v
-part_of (part.Value new) (Dynamic t p v) = part.Value v
-part_of (part.Target new) (Dynamic t p v) = part.Target t
-part_of (part.Type new) (Instance s (Named t)) = part.Type t
-part_of (part.Name new) (Define n c) = part.Name n
+part_of (part.OfShell new) (Instance s o) = part.OfShell s
+part_of (part.OfValue new) (Own p v) = part.OfValue v
+part_of (part.OfValue new) (Default p v) = part.OfValue v
+part_of (part.OfValue new) (Dynamic t p v) = part.OfValue v
+part_of (part.OfTarget new) (Dynamic t p v) = part.OfTarget t
+part_of (part.OfType new) (Instance s (Named t)) = part.OfType t
+part_of (part.OfDefine new) (Define n c) = part.OfDefine n
 part_of new x = new
 
 -- the items, with another in the place of the one of this number, if there is one

@@ -11,6 +11,7 @@ pub mod edit;
 pub mod fault;
 pub mod find;
 pub mod part;
+pub mod patch;
 pub mod path;
 pub mod properties;
 pub mod property;

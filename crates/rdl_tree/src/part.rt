@@ -14,15 +14,15 @@ use std::mem;
 #[derive(Debug, Drop)]
 pub enum Part {
     /// The shell of an instance.
-    Shell(Shell),
+    OfShell(Shell),
     /// The value of an assignment.
-    Value(Value),
+    OfValue(Value),
     /// The target of a dynamic assignment.
-    Target(Target),
+    OfTarget(Target),
     /// The name of the type of an instance.
-    Type(Name),
+    OfType(Name),
     /// The name of a definition.
-    Name(Name),
+    OfDefine(Name),
 }
 
 impl Item {
@@ -33,20 +33,20 @@ impl Item {
         ensures value { result ≡ part_of part self.old }
     {
         match (self, part) {
-            (Item::Instance(shell, _), Part::Shell(new)) => {
-                Part::Shell(mem::replace(shell, new))
+            (Item::Instance(shell, _), Part::OfShell(new)) => {
+                Part::OfShell(mem::replace(shell, new))
             }
-            (Item::Instance(_, Of::Named(name)), Part::Type(new)) => {
-                Part::Type(mem::replace(name, new))
+            (Item::Instance(_, Of::Named(name)), Part::OfType(new)) => {
+                Part::OfType(mem::replace(name, new))
             }
-            (Item::Define(name, _), Part::Name(new)) => Part::Name(mem::replace(name, new)),
-            (Item::Own(_, value), Part::Value(new)) => Part::Value(mem::replace(value, new)),
-            (Item::Default(_, value), Part::Value(new)) => Part::Value(mem::replace(value, new)),
-            (Item::Dynamic(_, _, value), Part::Value(new)) => {
-                Part::Value(mem::replace(value, new))
+            (Item::Define(name, _), Part::OfDefine(new)) => Part::OfDefine(mem::replace(name, new)),
+            (Item::Own(_, value), Part::OfValue(new)) => Part::OfValue(mem::replace(value, new)),
+            (Item::Default(_, value), Part::OfValue(new)) => Part::OfValue(mem::replace(value, new)),
+            (Item::Dynamic(_, _, value), Part::OfValue(new)) => {
+                Part::OfValue(mem::replace(value, new))
             }
-            (Item::Dynamic(target, _, _), Part::Target(new)) => {
-                Part::Target(mem::replace(target, new))
+            (Item::Dynamic(target, _, _), Part::OfTarget(new)) => {
+                Part::OfTarget(mem::replace(target, new))
             }
             _ => unreachable!(),
         }
