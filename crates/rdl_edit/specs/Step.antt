@@ -1,6 +1,6 @@
 -- The step of an edit: its first refusal, or the whole edited description.
 -- own: SystemRDL 2.0 has no edits.
-use Rattle.std.specs.Prelude.{◌≡◌, ℕ, List, Option, Result, Ok, Err}
+use Rattle.std.specs.Prelude.{◌≡◌, ℕ, List, [], Option, Result, Ok, Err}
 use Rattle.rdl_elab.specs.Faults.{elaborated}
 use Rattle.rdl_elab.specs.declared.row.Row.{Row}
 use Rattle.rdl_rewrite.specs.Rewritten.{rewritten}
@@ -9,6 +9,7 @@ use Rattle.rdl_rewrite.specs.declared.edit.Refusal.TheVariants as first
 use Rattle.rdl_rewrite.specs.declared.edit.Refusal.{Refusal as Early}
 use Rattle.rdl_tree.specs.Items.{Items}
 use Rattle.rdl_tree.specs.declared.fault.Fault.{Fault}
+use Rattle.rdl_tree.specs.declared.fault.FaultKind.TheVariants.{DescriptionTooLarge}
 use Rattle.rdl_edit.specs.declared.edit.Refusal.{Refusal}
 use Rattle.rdl_edit.specs.declared.edit.Refusal.TheVariants.{NoSuchPath, ThroughNamedType, NotAnInstance, NotAddable, NoSuchSibling, NameTaken, Reserved, InUse, NotSet, Faulty, Memory}
 
@@ -22,6 +23,10 @@ pub record HasRows (s : State) : Type 0 where
   pub rows : List Row
   pub are : elaborated s.description s.option ≡ Ok rows
 
+-- E25 of the whole
+abbrev pub too_large : Fault
+too_large = record { kind = DescriptionTooLarge; address = [] }
+
 -- what is refused before the new description is judged
 abbrev pub refusal_of : Early → Refusal
 refusal_of first.NoSuchPath = NoSuchPath
@@ -33,6 +38,7 @@ refusal_of first.InUse = InUse
 refusal_of first.NotSet = NotSet
 refusal_of first.NotAnInstance = NotAnInstance
 refusal_of first.NotAddable = NotAddable
+refusal_of first.TooDeep = Faulty too_large
 refusal_of first.Memory = Memory
 
 -- accepted where it has no fault
@@ -66,3 +72,9 @@ Refuses old e InUse = step old e ≡ Err InUse
 Refuses old e NotSet = step old e ≡ Err NotSet
 Refuses old e (Faulty fault) = step old e ≡ Err (Faulty fault)
 Refuses old e Memory = Unit {0}
+
+-- the map that this state would be isn't taken
+abbrev pub IsJudged : State → Refusal → Type 0
+IsJudged s (Faulty fault) = elaborated s.description s.option ≡ Err fault
+IsJudged s Memory = Unit {0}
+IsJudged s refusal = ⊥

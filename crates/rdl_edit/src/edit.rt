@@ -1,8 +1,10 @@
 //! Why an edit of the map is refused.
 ghost use Rattle.std.specs.Prelude.{◌≡◌};
 ghost use Rattle.rdl_edit.specs.Faults.{is_memory};
+ghost use Rattle.rdl_edit.specs.Step.{too_large};
 
 use rdl_rewrite::edit as early;
+use rdl_tree::address::Address;
 use rdl_tree::fault::{Fault, FaultKind};
 use std::alloc::AllocError;
 
@@ -40,6 +42,16 @@ pub fn is_memory(kind: FaultKind) -> bool
     matches!(kind, FaultKind::Memory)
 }
 
+/// E25 of the whole.
+fn too_large() -> Fault
+    ensures { result ≡ too_large }
+{
+    Fault {
+        kind: FaultKind::DescriptionTooLarge,
+        address: Address::new(),
+    }
+}
+
 impl From<early::Refusal> for Refusal {
     ghost use Rattle.rdl_edit.specs.Step.{refusal_of};
     ghost use Rattle.std.specs.Prelude.{◌≡◌};
@@ -57,6 +69,7 @@ impl From<early::Refusal> for Refusal {
             early::Refusal::NotSet => Refusal::NotSet,
             early::Refusal::NotAnInstance => Refusal::NotAnInstance,
             early::Refusal::NotAddable => Refusal::NotAddable,
+            early::Refusal::TooDeep => Refusal::Faulty(too_large()),
             early::Refusal::Memory => Refusal::Memory,
         }
     }

@@ -1,5 +1,7 @@
 //! The map that a history keeps, and the step of an edit.
 #![tactic(auto)]
 
+pub mod back;
 pub mod edit;
 pub mod map;
+mod turning;

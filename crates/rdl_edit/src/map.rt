@@ -1,21 +1,24 @@
 //! The map that a history keeps.
-ghost use Rattle.std.specs.Prelude.{◌≡◌, ◌⊎◌, Ok, Err, IfOk, IfErr, option_copied};
+ghost use Rattle.std.specs.Prelude.{◌≡◌, ◌⊎◌, Ok, Err, IfOk, IfErr, OnOk, OnErr, option_copied};
 ghost use Rattle.rdl_elab.specs.Faults.{elaborated};
 ghost use Rattle.rdl_scope.specs.ItemFaults.{out_of_memory};
-ghost use Rattle.rdl_edit.specs.Step.{State, HasRows};
+ghost use Rattle.rdl_edit.specs.Step.{HasRows, Leads, Refuses};
+ghost use Rattle.rdl_edit.specs.Backs.{prior, Fits, IsCheap};
+ghost use Rattle.rdl_rewrite.specs.Patches.{patches};
 
-use crate::edit::{Refusal, is_memory};
+use crate::back::Back;
+use crate::edit::Refusal;
+use crate::turning::{again, turn};
 use journal_core::invertible::Invertible;
 use rdl_elab::elaborate::elaborate;
 use rdl_elab::row::Rows;
 use rdl_rewrite::edit::Edit;
-use rdl_rewrite::rewrite::rewrite;
+use rdl_rewrite::patches::patches;
 use rdl_text::name::Name;
 use rdl_tree::description::Description;
 use rdl_tree::fault::Fault;
 use std::alloc::{AllocError, Global};
 use std::marker::Model;
-use std::mem;
 
 /// A map that has rows, with the name that the option asks of its top. A contract sees a `State`.
 #[derive(Debug, Drop)]
@@ -75,23 +78,15 @@ impl Map {
             Err(_) => Err(AllocError),
         }
     }
-
-    fn option(&self, alloc: Global) -> Result<Option<Name>, AllocError>
-        ensures { IfOk result (λ name. name ≡ self.now.option) }
-    {
-        match &self.name {
-            Some(name) => Ok(Some(name.try_copy(alloc)?)),
-            None => Ok(None),
-        }
-    }
 }
 
 impl Invertible for Map {
     ghost use Rattle.rdl_edit.specs.Step.{Leads, Refuses};
+    ghost use Rattle.rdl_edit.specs.Backs.{prior, Fits};
 
     type Change = Edit;
 
-    type Back = Map;
+    type Back = Back;
 
     type Refusal = Refusal;
 
@@ -99,25 +94,41 @@ impl Invertible for Map {
 
     ghost state = { λ m. m };
 
-    ghost prior = { λ s back. back };
+    ghost prior = { prior };
 
-    ghost fits = { λ s back. Unit {0} };
+    ghost fits = { Fits };
 
     ghost leads = { Leads };
 
     ghost refuses = { Refuses };
 
-    fn apply(&mut self, alloc: Global, edit: &Edit) -> Result<Map, Refusal> {
-        let description = rewrite(alloc, &self.description, edit)?;
-        let name = self.option(alloc)?;
-        match Map::open(alloc, description, name) {
-            Ok(new) => Ok(mem::replace(self, new)),
-            Err(fault) if is_memory(fault.kind) => Err(Refusal::Memory),
-            Err(fault) => Err(Refusal::Faulty(fault)),
-        }
+    /// The step of the edit. What takes it back has one patch for each item that it touched.
+    fn apply(&mut self, alloc: Global, edit: &Edit) -> Result<Back, Refusal>
+        ensures leads { OnOk result (Leads self.old edit.now self.new) }
+        ensures fits { IfOk result (λ back. Fits self.new back) }
+        ensures back { IfOk result (λ back. prior self.new back ≡ self.old) }
+        ensures cost { IfOk result (λ back. IsCheap (patches self.old.description edit.now) self.old.description back) }
+        ensures refused { IfErr result (λ refusal. Refuses self.old edit.now refusal) }
+        ensures err { OnErr result (self.new ≡ self.old) }
+    {
+        let patches = patches(alloc, &self.description, edit)?;
+        let name = text_of(self.name.as_ref());
+        Ok(Back::from_vec(turn(alloc, &mut self.description, name, patches)?))
     }
 
-    fn revert(&mut self, _alloc: Global, back: Map) -> Result<Map, Map> {
-        Ok(mem::replace(self, back))
+    /// Takes a step back. What leads forward again has as many patches.
+    fn revert(&mut self, alloc: Global, back: Back) -> Result<Back, Back>
+        requires { Fits self.old back }
+        ensures leads { OnOk result (self.new ≡ prior self.old back) }
+        ensures fits { IfOk result (λ forward. Fits self.new forward) }
+        ensures back { IfOk result (λ forward. prior self.new forward ≡ self.old) }
+        ensures cost { IfOk result (λ forward. IsCheap back self.old.description forward) }
+        ensures handed { IfErr result (λ same. same ≡ back) }
+        ensures err { OnErr result (self.new ≡ self.old) }
+    {
+        match again(alloc, &mut self.description, back.into_vec()) {
+            Ok(forward) => Ok(Back::from_vec(forward)),
+            Err(same) => Err(Back::from_vec(same)),
+        }
     }
 }

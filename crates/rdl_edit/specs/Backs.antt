@@ -1,0 +1,28 @@
+-- What takes a step of the map back: patches, one for each item that the step touched.
+-- own: SystemRDL 2.0 has no edits.
+use Rattle.std.specs.Prelude.{◌≡◌, ◌≤◌, ℕ, ◌+◌, ◌*◌, List, length}
+use Rattle.rdl_tree.specs.Items.{Items}
+use Rattle.rdl_tree.specs.Patch.{AllFit, image}
+use Rattle.rdl_tree.specs.PatchWeight.{patches_weight, taken}
+use Rattle.rdl_tree.specs.declared.patch.Patch.{Patch}
+use Rattle.rdl_edit.specs.Step.{State, HasRows}
+
+-- the state to which patches lead
+abbrev pub prior : State → List Patch → State
+prior s back = record { description = image back s.description; option = s.option }
+
+-- each fits where those before it led, and they lead to a map that has rows
+pub record Fits (s : State) (back : List Patch) : Type 0 where
+  pub applicable : AllFit back s.description
+  pub has_rows : HasRows (prior s back)
+
+-- these lead from the new description to the old one
+pub record IsWayBack (old new : Items) (back : List Patch) : Type 0 where
+  pub applicable : AllFit back new
+  pub leads : image back new ≡ old
+
+-- what takes back a step along these patches from a description has as many, and weighs no more than what the step
+-- dropped and replaced, and 20 for each item that it touched
+pub record IsCheap (step : List Patch) (old : Items) (back : List Patch) : Type 0 where
+  pub as_many : length back ≡ length step
+  pub light : patches_weight back ≤ taken step old + 20 * length step
