@@ -2,7 +2,9 @@ pub mod Assignments
 pub mod Defined
 pub mod Examples
 pub mod Found
+pub mod Leading
 pub mod Located
+pub mod Patched
 pub mod Places
 pub mod Reaching
 pub mod Renamed
