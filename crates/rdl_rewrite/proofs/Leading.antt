@@ -1,7 +1,8 @@
 -- What patches of one body lead to, or of the bodies inside it.
 use Rattle.std.proofs.Common.{◌≡◌, ℕ, zero, suc, ◌+◌, ◌-◌, ◌<◌, ◌≤◌, Bool, true, false, cond, IsTrue, List, [], ◌∷◌, ◌++◌, length, get_or, take, drop, Some, None, Option, refl, ap, sym, subst, ◌∙◌, arith, length-append}
 use Rattle.std.proofs.Math.Seq.{take-append_seam, get_or-append_seam}
-use Rattle.std.proofs.lemmas.Option.{slice_get_within}
+use Rattle.std.proofs.lemmas.Bool.{le-leb}
+use Rattle.std.proofs.lemmas.Bool.Decides.{Decides-ltb}
 use Rattle.std.specs.Prelude.{nat_le, nat_lt, is_some, slice_get, slice_index, option_and_then, option_map, ◌&&◌}
 use Rattle.rdl_tree.specs.Items.{Items, no_items, plain, holder}
 use Rattle.rdl_tree.specs.View.{add, list_of}
@@ -109,6 +110,61 @@ number-inside b n = ap (λ k. slice_index (b ++ n ∷ []) k) (length-inside b n)
 
 -- the two definitions of the item at an address are one
 pub item-item_at : (at : List ℕ) (t : Items) → item at t ≡ item_at at t
-item-item_at [] t = ?
+item-item_at [] t = refl
 item-item_at (k ∷ []) t = refl
-item-item_at (k ∷ j ∷ at) t = ?
+item-item_at (k ∷ j ∷ at) t = into (item-item_at (j ∷ at)) (inner k t)
+  where
+    into : ((d : Items) → item (j ∷ at) d ≡ item_at (j ∷ at) d) → (o : Option Items) → option_and_then (item (j ∷ at)) o ≡ option_and_then (item_at (j ∷ at)) o
+    into ih None = refl
+    into ih (Some d) = ih d
+
+pub item_at-inside : (b : List ℕ) (n : ℕ) (whole body : Items) → body_at b whole ≡ Some body → item_at (b ++ n ∷ []) whole ≡ slice_get (list_of body) n
+item_at-inside b n whole body here = sym (item-item_at (b ++ n ∷ []) whole) ∙ item-deeper b n whole body here
+
+made-inside : (b : List ℕ) (n : ℕ) (change : ℕ → Items → Items) (whole body : Items) → body_at b whole ≡ Some body
+    → map_body (holder_of (b ++ n ∷ [])) (change (number_of (b ++ n ∷ []))) whole ≡ map_body b (λ _. change n body) whole
+made-inside b n change whole body here =
+    ap (λ h. map_body h (change (number_of (b ++ n ∷ []))) whole) (holder-inside b n) ∙ ap (λ k. map_body b (change k) whole) (number-inside b n)
+    ∙ map_body-cong b (change n) (λ _. change n body) whole body here refl
+
+body_at-inside : (b : List ℕ) (n : ℕ) (whole body : Items) → body_at b whole ≡ Some body → length_of (body_at (holder_of (b ++ n ∷ [])) whole) ≡ Some (length (list_of body))
+body_at-inside b n whole body here = ap (λ h. length_of (body_at h whole)) (holder-inside b n) ∙ ap length_of here
+
+and-true : (x y : Bool) → x ≡ true → y ≡ true → (x && y) ≡ true
+and-true x y e f = ap (λ z. z && y) e ∙ f
+
+pub leads-delete : (b : List ℕ) (n : ℕ) (whole body : Items) (x : Item) → body_at b whole ≡ Some body → slice_get (list_of body) n ≡ Some x
+    → Leads b whole (Delete (b ++ n ∷ []) ∷ []) (remove_item n body)
+leads-delete b n whole body x here got = record {
+  made = made-inside b n remove_item whole body here;
+  fit = (ap is_some (item_at-inside b n whole body here ∙ got), tt);
+}
+
+pub leads-exchange : (b : List ℕ) (n : ℕ) (part : Part) (whole body : Items) (x : Item) → body_at b whole ≡ Some body → slice_get (list_of body) n ≡ Some x → has_part part x ≡ true
+    → Leads b whole (Exchange (b ++ n ∷ []) part ∷ []) (with_part_at n part body)
+leads-exchange b n part whole body x here got has = record {
+  made = made-inside b n (λ k. with_part_at k part) whole body here;
+  fit = (ap (has_part_of part) (item_at-inside b n whole body here ∙ got) ∙ has, tt);
+}
+
+pub leads-shift : (b : List ℕ) (n to : ℕ) (whole body : Items) (x : Item) → body_at b whole ≡ Some body → slice_get (list_of body) n ≡ Some x → to < length (list_of body)
+    → Leads b whole (Shift (b ++ n ∷ []) to ∷ []) (shift_item n to body)
+leads-shift b n to whole body x here got below = record {
+  made = made-inside b n (λ k. shift_item k to) whole body here;
+  fit = (
+    and-true _ _ (ap is_some (item_at-inside b n whole body here ∙ got))
+    (ap (has_item to) (body_at-inside b n whole body here) ∙ (Decides-ltb to (length (list_of body))).1 below),
+    tt
+  );
+}
+
+pub leads-insert : (b : List ℕ) (n : ℕ) (x : Item) (whole body : Items) → body_at b whole ≡ Some body → n ≤ length (list_of body) → length b + depth (add x no_items) ≤ 16
+    → Leads b whole (Insert (b ++ n ∷ []) x ∷ []) (insert_item n x body)
+leads-insert b n x whole body here below level = record {
+  made = made-inside b n (λ k. insert_item k x) whole body here;
+  fit = (
+    and-true _ _ (and-true _ _ (le-leb 1 (length (b ++ n ∷ [])) (omega (arith, length-append b (n ∷ [])))) (le-leb _ _ (omega (arith, length-append b (n ∷ [])))))
+    (ap (has_place (number_of (b ++ n ∷ []))) (body_at-inside b n whole body here) ∙ le-leb _ _ (omega (arith, number-inside b n))),
+    tt
+  );
+}
