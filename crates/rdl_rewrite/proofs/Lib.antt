@@ -1,6 +1,8 @@
 pub mod Assignments
 pub mod Defined
 pub mod Examples
+pub mod Fated
+pub mod Fates
 pub mod Found
 pub mod Leading
 pub mod Located
