@@ -18,7 +18,9 @@ use Rattle.rdl_tree.specs.declared.patch.Patch.{Patch}
 use Rattle.rdl_tree.specs.declared.patch.Patch.TheVariants.{Delete, Exchange}
 use Rattle.rdl_tree.proofs.Rounds.{list_of-items_of, items_of-list_of, list_of-add, inner-items_of}
 use Rattle.rdl_scope.proofs.Levelled.{body-deeper}
-use Rattle.rdl_rewrite.specs.Fates.{Fate, kept, dropped, given, item_patches, fate_patches}
+use Rattle.rdl_rewrite.specs.Fates.{item_patches, fate_patches}
+use Rattle.rdl_rewrite.specs.declared.fate.Fate.{Fate}
+use Rattle.rdl_rewrite.specs.declared.fate.Fate.TheVariants.{Kept, Dropped, Given}
 use Rattle.rdl_rewrite.proofs.Leading.{Leads, leads-none, leads-append, leads-inside, leads-delete, leads-exchange, body_at-map_body}
 
 -- ---- An item behind others.
@@ -94,9 +96,9 @@ has_part-holder (OfDefine m) (anonymous t k) body new = refl
 -- ---- The items that fates leave.
 
 abbrev pub left_by : Fate → Item → Items → Items
-left_by kept x rest = add x rest
-left_by dropped x rest = rest
-left_by (given part) x rest = add (with_part part x) rest
+left_by Kept x rest = add x rest
+left_by Dropped x rest = rest
+left_by (Given part) x rest = add (with_part part x) rest
 
 -- the items from number n on of the body at b
 abbrev pub fated : (List ℕ → Item → Fate) → List ℕ → ℕ → Items → Items
@@ -106,7 +108,7 @@ fated f b n (holder h body rest) = left_by (f (b ++ n ∷ []) (holder_item h bod
 
 -- an item is given only a part of a sort that it has
 abbrev pub Apt : (List ℕ → Item → Fate) → Type 0
-Apt f = (at : List ℕ) (x : Item) (part : Part) → f at x ≡ given part → has_part part x ≡ true
+Apt f = (at : List ℕ) (x : Item) (part : Part) → f at x ≡ Given part → has_part part x ≡ true
 
 -- ---- The patches lead there.
 
@@ -117,18 +119,18 @@ listed : (pre : List Item) (x : Item) (rest : Items) → body_of pre x rest ≡ 
 listed pre x rest = ap (λ ys. items_of (pre ++ ys)) (sym (list_of-add x rest))
 
 -- an item of whose body nothing is changed
-own_leads : (b : List ℕ) (pre : List Item) (x : Item) (rest whole : Items) (fate : Fate) → body_at b whole ≡ Some (body_of pre x rest) → ((part : Part) → fate ≡ given part → has_part part x ≡ true)
+own_leads : (b : List ℕ) (pre : List Item) (x : Item) (rest whole : Items) (fate : Fate) → body_at b whole ≡ Some (body_of pre x rest) → ((part : Part) → fate ≡ Given part → has_part part x ≡ true)
     → Leads b whole (item_patches (b ++ length pre ∷ []) fate []) (items_of (pre ++ list_of (left_by fate x rest)))
-own_leads b pre x rest whole kept here apt = to_next b whole _ _ _ (listed pre x rest) (leads-none b whole (body_of pre x rest) here)
-own_leads b pre x rest whole dropped here apt =
+own_leads b pre x rest whole Kept here apt = to_next b whole _ _ _ (listed pre x rest) (leads-none b whole (body_of pre x rest) here)
+own_leads b pre x rest whole Dropped here apt =
     to_next b whole _ _ _ (removed-seam pre x rest) (leads-delete b (length pre) whole (body_of pre x rest) x here (got-seam pre x rest))
-own_leads b pre x rest whole (given part) here apt =
+own_leads b pre x rest whole (Given part) here apt =
     to_next b whole _ _ _ (exchanged-seam part pre x rest ∙ listed pre (with_part part x) rest)
     (leads-exchange b (length pre) part whole (body_of pre x rest) x here (got-seam pre x rest) (apt part refl))
 
 -- an item whose body is changed before
 holder_leads : (b : List ℕ) (pre : List Item) (h : Holder) (body new rest whole : Items) (inside : List Patch) (fate : Fate) → body_at b whole ≡ Some (body_of pre (holder_item h body) rest)
-    → ((part : Part) → fate ≡ given part → has_part part (holder_item h body) ≡ true) → Leads (b ++ length pre ∷ []) whole inside new
+    → ((part : Part) → fate ≡ Given part → has_part part (holder_item h body) ≡ true) → Leads (b ++ length pre ∷ []) whole inside new
     → Leads b whole (item_patches (b ++ length pre ∷ []) fate inside) (items_of (pre ++ list_of (left_by fate (holder_item h new) rest)))
 holder_leads b pre h body new rest whole inside fate here apt led = by_fate fate apt
   where
@@ -138,15 +140,15 @@ holder_leads b pre h body new rest whole inside fate here apt led = by_fate fate
     there : body_at b (map_body b (λ _. body_of pre (holder_item h new) rest) whole) ≡ Some (body_of pre (holder_item h new) rest)
     there = body_at-map_body b (λ _. body_of pre (holder_item h new) rest) whole (body_of pre (holder_item h body) rest) here
 
-    by_fate : (g : Fate) → ((part : Part) → g ≡ given part → has_part part (holder_item h body) ≡ true)
+    by_fate : (g : Fate) → ((part : Part) → g ≡ Given part → has_part part (holder_item h body) ≡ true)
         → Leads b whole (item_patches (b ++ length pre ∷ []) g inside) (items_of (pre ++ list_of (left_by g (holder_item h new) rest)))
-    by_fate kept a = to_next b whole _ _ _ (listed pre (holder_item h new) rest) led-inside
-    by_fate dropped a =
+    by_fate Kept a = to_next b whole _ _ _ (listed pre (holder_item h new) rest) led-inside
+    by_fate Dropped a =
         to_next b whole _ _ _ (removed-seam pre (holder_item h body) rest)
         (leads-delete b (length pre) whole (body_of pre (holder_item h body) rest) (holder_item h body) here (got-seam pre (holder_item h body) rest))
-    by_fate (given part) a =
+    by_fate (Given part) a =
         leads-append b whole inside _ _ _ led-inside
-        (own_leads b pre (holder_item h new) rest _ (given part) there (λ q e. has_part-holder q h body new ∙ a q e))
+        (own_leads b pre (holder_item h new) rest _ (Given part) there (λ q e. has_part-holder q h body new ∙ a q e))
 
 -- the items behind are changed before
 behind : (b : List ℕ) (pre : List Item) (x : Item) (rest new whole : Items) (ps qs : List Patch) (next : Items) → body_at b whole ≡ Some (body_of pre x rest)
@@ -167,8 +169,8 @@ fated_leads f apt (plain p rest) pre b n whole e here =
     behind b pre x rest new whole (fate_patches f b (suc n) rest) (item_patches at (f at x) []) (items_of (pre ++ list_of (left_by (f at x) x new))) here
     (fated_leads f apt rest (pre ++ x ∷ []) b (suc n) whole (omega (arith, length-append pre (x ∷ []), e)) (here ∙ ap (λ xs. Some (items_of xs)) (sym (append_assoc pre (x ∷ []) (list_of rest)))))
     (λ t there.
-      subst (λ k. Leads b t (item_patches (b ++ k ∷ []) (f at x) []) (items_of (pre ++ list_of (left_by (f at x) x new)))) e
-      (own_leads b pre x new t (f at x) there (λ part q. apt at x part q)))
+    subst (λ k. Leads b t (item_patches (b ++ k ∷ []) (f at x) []) (items_of (pre ++ list_of (left_by (f at x) x new)))) e
+    (own_leads b pre x new t (f at x) there (λ part q. apt at x part q)))
 fated_leads f apt (holder h body rest) pre b n whole e here =
     let x = holder_item h body in
     let at = b ++ n ∷ [] in
@@ -178,11 +180,11 @@ fated_leads f apt (holder h body rest) pre b n whole e here =
     behind b pre x rest new whole (fate_patches f b (suc n) rest) (item_patches at (f at x) inside) (items_of (pre ++ list_of left)) here
     (fated_leads f apt rest (pre ++ x ∷ []) b (suc n) whole (omega (arith, length-append pre (x ∷ []), e)) (here ∙ ap (λ xs. Some (items_of xs)) (sym (append_assoc pre (x ∷ []) (list_of rest)))))
     (λ t there.
-      let into = body-deeper b n t (body_of pre x new) there ∙ ap (λ k. inner k (body_of pre x new)) (sym e) ∙ inner-seam pre h body (list_of new) ∙ ap Some (sym (items_of-list_of body)) in
-      let led = to_next at t inside _ _ (items_of-list_of (fated f at 0 body)) (fated_leads f apt body [] at 0 t refl into) in
-      subst (λ k. Leads b t (item_patches (b ++ k ∷ []) (f at x) inside) (items_of (pre ++ list_of left))) e
-      (holder_leads b pre h body (fated f at 0 body) new t inside (f at x) there (λ part q. apt at x part q)
-      (subst (λ k. Leads (b ++ k ∷ []) t inside (fated f at 0 body)) (sym e) led)))
+    let into = body-deeper b n t (body_of pre x new) there ∙ ap (λ k. inner k (body_of pre x new)) (sym e) ∙ inner-seam pre h body (list_of new) ∙ ap Some (sym (items_of-list_of body)) in
+    let led = to_next at t inside _ _ (items_of-list_of (fated f at 0 body)) (fated_leads f apt body [] at 0 t refl into) in
+    subst (λ k. Leads b t (item_patches (b ++ k ∷ []) (f at x) inside) (items_of (pre ++ list_of left))) e
+    (holder_leads b pre h body (fated f at 0 body) new t inside (f at x) there (λ part q. apt at x part q)
+    (subst (λ k. Leads (b ++ k ∷ []) t inside (fated f at 0 body)) (sym e) led)))
 
 pub fated_whole : (f : List ℕ → Item → Fate) → Apt f → (whole : Items) → Leads [] whole (fate_patches f [] 0 whole) (fated f [] 0 whole)
 fated_whole f apt whole =

@@ -17,7 +17,9 @@ use Rattle.rdl_scope.specs.Types.{item, type_of, type_from}
 use Rattle.rdl_scope.specs.Target.{through}
 use Rattle.rdl_scope.specs.Walk.{is_definition}
 use Rattle.rdl_rewrite.specs.Addresses.{same, leads_to, passes_by}
-use Rattle.rdl_rewrite.specs.Fates.{Fate, kept, dropped, given, given_if, fate_in_removal, fate_in_renaming, fate_of_type, fate, fate_patches}
+use Rattle.rdl_rewrite.specs.Fates.{given_if, fate_in_removal, fate_in_renaming, fate_of_type, fate, fate_patches}
+use Rattle.rdl_rewrite.specs.declared.fate.Fate.{Fate}
+use Rattle.rdl_rewrite.specs.declared.fate.Fate.TheVariants.{Kept, Dropped, Given}
 use Rattle.rdl_rewrite.specs.Removal.{goes, staying}
 use Rattle.rdl_rewrite.specs.Renaming.{renamed_items, renamed_plain, renamed_holder, renamed_target}
 use Rattle.rdl_rewrite.proofs.Fated.{left_by, fated, Apt}
@@ -36,11 +38,11 @@ add-holder (anonymous s k) body rest = refl
 
 -- ---- In a removal.
 
-plain-stays : (o : Bool) (p : Plain) (rest : Items) → cond o rest (plain p rest) ≡ left_by (cond o dropped kept) (plain_item p) rest
+plain-stays : (o : Bool) (p : Plain) (rest : Items) → cond o rest (plain p rest) ≡ left_by (cond o Dropped Kept) (plain_item p) rest
 plain-stays true p rest = refl
 plain-stays false p rest = sym (add-plain p rest)
 
-holder-stays : (o : Bool) (h : Holder) (old body rest : Items) → cond o rest (holder h body rest) ≡ left_by (cond o dropped kept) (holder_item h body) rest
+holder-stays : (o : Bool) (h : Holder) (old body rest : Items) → cond o rest (holder h body rest) ≡ left_by (cond o Dropped Kept) (holder_item h body) rest
 holder-stays true h old body rest = refl
 holder-stays false h old body rest = sym (add-holder h body rest)
 
@@ -54,7 +56,7 @@ staying-fated whole way b n (holder h body rest) =
     ∙ ap (λ k. cond (goes whole way (b ++ n ∷ [])) (fated (fate whole way None) b (suc n) rest) (holder h k (fated (fate whole way None) b (suc n) rest))) (staying-fated whole way (b ++ n ∷ []) 0 body)
     ∙ holder-stays (goes whole way (b ++ n ∷ [])) h body (fated (fate whole way None) (b ++ n ∷ []) 0 body) (fated (fate whole way None) b (suc n) rest)
 
-apt-if : (o : Bool) (x : Item) (part : Part) → cond o dropped kept ≡ given part → has_part part x ≡ true
+apt-if : (o : Bool) (x : Item) (part : Part) → cond o Dropped Kept ≡ Given part → has_part part x ≡ true
 apt-if true x part e = cc
 apt-if false x part e = cc
 
@@ -80,7 +82,7 @@ unled-same : (whole : Items) (way at : List ℕ) → same at way ≡ true → le
 unled-same whole way at e = ap (λ a. leads_to way (type_of whole a)) ((bytes_eq-Decides at way).0 e) ∙ unled-self whole way
 
 named-left : (o l : Bool) (s : Shell) (t name : List ℕ) (rest : Items) → (o ≡ true → l ≡ false)
-    → plain (named (cond o (record s { name = name }) s) (cond l name t)) rest ≡ left_by (cond o (given (OfShell (record s { name = name }))) (given_if l (OfType name))) (Instance s (Named t)) rest
+    → plain (named (cond o (record s { name = name }) s) (cond l name t)) rest ≡ left_by (cond o (Given (OfShell (record s { name = name }))) (given_if l (OfType name))) (Instance s (Named t)) rest
 named-left true true s t name rest h = let never : true ≡ false = h refl in cc
 named-left true false s t name rest h = refl
 named-left false true s t name rest h = refl
@@ -104,7 +106,7 @@ define-left true n name k body rest = refl
 define-left false n name k body rest = refl
 
 anonymous-left : (o : Bool) (s : Shell) (name : List ℕ) (k : Kind) (body rest : Items)
-    → holder (anonymous (cond o (record s { name = name }) s) k) body rest ≡ left_by (cond o (given (OfShell (record s { name = name }))) kept) (holder_item (anonymous s k) body) rest
+    → holder (anonymous (cond o (record s { name = name }) s) k) body rest ≡ left_by (cond o (Given (OfShell (record s { name = name }))) Kept) (holder_item (anonymous s k) body) rest
 anonymous-left true s name k body rest = refl
 anonymous-left false s name k body rest = refl
 
@@ -124,11 +126,11 @@ renamed-fated whole way name b n (holder h body rest) =
     ∙ holder-left whole way name (b ++ n ∷ []) h body (fated (fate whole way (Some name)) (b ++ n ∷ []) 0 body) (fated (fate whole way (Some name)) b (suc n) rest)
 
 -- what is given is of a sort that the item has
-given-if-true : (o : Bool) (made part : Part) (x : Item) → has_part made x ≡ true → given_if o made ≡ given part → has_part part x ≡ true
+given-if-true : (o : Bool) (made part : Part) (x : Item) → has_part made x ≡ true → given_if o made ≡ Given part → has_part part x ≡ true
 given-if-true true made part x has e = let same_part : made ≡ part = cc in ap (λ q. has_part q x) (sym same_part) ∙ has
 given-if-true false made part x has e = cc
 
-given-or : (o : Bool) (made part : Part) (other : Fate) (x : Item) → has_part made x ≡ true → (other ≡ given part → has_part part x ≡ true) → cond o (given made) other ≡ given part → has_part part x ≡ true
+given-or : (o : Bool) (made part : Part) (other : Fate) (x : Item) → has_part made x ≡ true → (other ≡ Given part → has_part part x ≡ true) → cond o (Given made) other ≡ Given part → has_part part x ≡ true
 given-or true made part other x has h e = let same_part : made ≡ part = cc in ap (λ q. has_part q x) (sym same_part) ∙ has
 given-or false made part other x has h e = h e
 
@@ -137,7 +139,7 @@ apt_renaming whole way name at (Define n c) part e = given-if-true (same at way)
 apt_renaming whole way name at (Instance s (Named t)) part e =
     given-or (same at way) (OfShell (record s { name = name })) part _ (Instance s (Named t)) refl (given-if-true (leads_to way (type_of whole at)) (OfType name) part (Instance s (Named t)) refl) e
 apt_renaming whole way name at (Instance s (Anonymous c)) part e =
-    given-or (same at way) (OfShell (record s { name = name })) part kept (Instance s (Anonymous c)) refl (λ h. let never : kept ≡ given part = h in cc) e
+    given-or (same at way) (OfShell (record s { name = name })) part Kept (Instance s (Anonymous c)) refl (λ h. let never : Kept ≡ Given part = h in cc) e
 apt_renaming whole way name at (Own p v) part e = cc
 apt_renaming whole way name at (Default p v) part e = cc
 apt_renaming whole way name at (Dynamic t p v) part e =

@@ -153,8 +153,8 @@ leads-shift b n to whole body x here got below = record {
   made = made-inside b n (λ k. shift_item k to) whole body here;
   fit = (
     and-true _ _ (ap is_some (item_at-inside b n whole body here ∙ got))
-    (ap (has_item to) (body_at-inside b n whole body here) ∙ (Decides-ltb to (length (list_of body))).1 below),
-    tt
+        (ap (has_item to) (body_at-inside b n whole body here) ∙ (Decides-ltb to (length (list_of body))).1 below),
+    tt,
   );
 }
 
@@ -164,7 +164,7 @@ leads-insert b n x whole body here below level = record {
   made = made-inside b n (λ k. insert_item k x) whole body here;
   fit = (
     and-true _ _ (and-true _ _ (le-leb 1 (length (b ++ n ∷ [])) (omega (arith, length-append b (n ∷ [])))) (le-leb _ _ (omega (arith, length-append b (n ∷ [])))))
-    (ap (has_place (number_of (b ++ n ∷ []))) (body_at-inside b n whole body here) ∙ le-leb _ _ (omega (arith, number-inside b n))),
-    tt
+        (ap (has_place (number_of (b ++ n ∷ []))) (body_at-inside b n whole body here) ∙ le-leb _ _ (omega (arith, number-inside b n))),
+    tt,
   );
 }

@@ -1,4 +1,5 @@
 pub mod Assignments
+pub mod Deep
 pub mod Defined
 pub mod Examples
 pub mod Fated
@@ -8,6 +9,7 @@ pub mod Leading
 pub mod Located
 pub mod Patched
 pub mod Places
+pub mod Reached
 pub mod Reaching
 pub mod Renamed
 pub mod Staying
