@@ -21,7 +21,7 @@ use Rattle.rdl_scope.proofs.Levelled.{body-deeper}
 use Rattle.rdl_rewrite.specs.Fates.{item_patches, fate_patches}
 use Rattle.rdl_rewrite.specs.declared.fate.Fate.{Fate}
 use Rattle.rdl_rewrite.specs.declared.fate.Fate.TheVariants.{Kept, Dropped, Given}
-use Rattle.rdl_rewrite.proofs.Leading.{Leads, leads-none, leads-append, leads-inside, leads-delete, leads-exchange, body_at-map_body}
+use Rattle.rdl_rewrite.proofs.Leading.{Leads, leads-none, leads-append, leads-inside, leads-delete, leads-exchange, body_at-map_body, to_next}
 
 -- ---- An item behind others.
 
@@ -111,9 +111,6 @@ abbrev pub Apt : (List ℕ → Item → Fate) → Type 0
 Apt f = (at : List ℕ) (x : Item) (part : Part) → f at x ≡ Given part → has_part part x ≡ true
 
 -- ---- The patches lead there.
-
-to_next : (b : List ℕ) (whole : Items) (ps : List Patch) (new next : Items) → new ≡ next → Leads b whole ps new → Leads b whole ps next
-to_next b whole ps new next e led = subst (λ t. Leads b whole ps t) e led
 
 listed : (pre : List Item) (x : Item) (rest : Items) → body_of pre x rest ≡ items_of (pre ++ list_of (add x rest))
 listed pre x rest = ap (λ ys. items_of (pre ++ ys)) (sym (list_of-add x rest))

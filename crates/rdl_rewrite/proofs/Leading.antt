@@ -77,6 +77,9 @@ pub record Leads (b : List ℕ) (whole : Items) (ps : List Patch) (new : Items) 
   pub made : image ps whole ≡ map_body b (λ _. new) whole
   pub fit : AllFit ps whole
 
+pub to_next : (b : List ℕ) (whole : Items) (ps : List Patch) (new next : Items) → new ≡ next → Leads b whole ps new → Leads b whole ps next
+to_next b whole ps new next e led = subst (λ t. Leads b whole ps t) e led
+
 pub leads-none : (b : List ℕ) (whole body : Items) → body_at b whole ≡ Some body → Leads b whole [] body
 leads-none b whole body here = record {
   made = sym (map_body-cong b (λ _. body) (λ x. x) whole body here refl ∙ map_body-same b whole);
