@@ -7,6 +7,7 @@ pub mod Fates
 pub mod Found
 pub mod Leading
 pub mod Located
+pub mod Made
 pub mod OneBody
 pub mod Patched
 pub mod Places

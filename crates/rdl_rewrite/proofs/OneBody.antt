@@ -182,8 +182,8 @@ set_yields way whole body s property value here level = record {
   new = set s property value body;
   made = refl;
   leads = to_next way whole _ _ _ (set-put (position (assigns s property) (list_of body)) s property value body)
-  (set_leads way whole body (assigns s property) value (up_to_last (is_sort s) (list_of body)) (assignment s property value) here level
-  (assigns-value s property value) (last_within (is_sort s) (list_of body)) (assignment-flat s property value));
+      (set_leads way whole body (assigns s property) value (up_to_last (is_sort s) (list_of body)) (assignment s property value) here level
+      (assigns-value s property value) (last_within (is_sort s) (list_of body)) (assignment-flat s property value));
 }
 
 and-parts : (x y : Bool) → (x && y) ≡ true → (x ≡ true) × (y ≡ true)
@@ -212,8 +212,8 @@ assign_yields way whole body target property value here level = record {
   new = assigned target property value body;
   made = refl;
   leads = to_next way whole _ _ _ (assigned-put (position (assigns_to target property) (list_of body)) target property value body)
-  (set_leads way whole body (assigns_to target property) value (length (list_of body)) (Dynamic target property value) here level
-  (assigns_to-value target property value) (omega arith) refl);
+      (set_leads way whole body (assigns_to target property) value (length (list_of body)) (Dynamic target property value) here level
+      (assigns_to-value target property value) (omega arith) refl);
 }
 
 -- where a list has an item of this number
@@ -253,7 +253,7 @@ reshape_yields way whole body n change here ok = by_item (slice_get (list_of bod
       new = replace_item n (Instance (change s) of) body;
       made = refl;
       leads = to_next way whole _ _ _ (exchange-replace n (OfShell (change s)) body (Instance s of) (Instance (change s) of) got refl)
-      (leads-exchange way n (OfShell (change s)) whole body (Instance s of) here got refl);
+          (leads-exchange way n (OfShell (change s)) whole body (Instance s of) here got refl);
     }
     by_item (Some (Own p v)) got h = cc
     by_item (Some (Default p v)) got h = cc
