@@ -1,25 +1,14 @@
 -- A description nests as deep as what stands inside it, and deeper.
-use Rattle.std.proofs.Common.{◌≡◌, ◌≤◌, ◌<◌, ◌+◌, ℕ, suc, max, Bool, true, false, cond, List, [], ◌∷◌, ◌++◌, length, take, drop, Some, None, Option, refl, ap, sym, ◌∙◌, subst, arith}
-use Rattle.std.specs.Prelude.{Result, Ok, Err, is_ok, nat_le}
-use Rattle.std.specs.List.{list_all}
-use Rattle.std.proofs.lemmas.Bool.{leb-false}
-use Rattle.rdl_tree.specs.Items.{Items, no_items}
-use Rattle.rdl_tree.specs.View.{add, items_of, list_of}
+use Rattle.std.proofs.Common.{◌≡◌, ◌≤◌, ◌+◌, ℕ, List, length, Some, Option, ap, sym, subst, arith}
+use Rattle.std.specs.Prelude.{Result, Err}
+use Rattle.rdl_tree.specs.Items.{Items}
 use Rattle.rdl_tree.specs.Address.{body_at, map_body}
 use Rattle.rdl_tree.specs.Depth.{depth}
-use Rattle.rdl_tree.specs.Find.{find}
-use Rattle.rdl_tree.specs.declared.description.Item.{Item}
-use Rattle.rdl_tree.specs.declared.path.Segment.{Segment}
-use Rattle.rdl_tree.proofs.Rounds.{items_of-list_of}
-use Rattle.rdl_tree.proofs.Sizes.{depth-append, depth-add}
 use Rattle.rdl_scope.proofs.Depths.{depth-body_at}
-use Rattle.rdl_rewrite.specs.Change.{is_component, taken, insert_items, added, added_at, edited_body}
-use Rattle.rdl_rewrite.specs.Place.{place_number}
-use Rattle.rdl_rewrite.specs.Refuses.{Refuses, IsTooDeep}
+use Rattle.rdl_rewrite.specs.Refuses.{Refuses}
 use Rattle.rdl_rewrite.specs.Rewritten.{put_body, change_body, at_body}
 use Rattle.rdl_rewrite.specs.declared.edit.Refusal.{Refusal}
 use Rattle.rdl_rewrite.specs.declared.edit.Refusal.TheVariants.{NoSuchPath, ThroughNamedType, NoSuchSibling, NameTaken, Reserved, InUse, NotSet, NotAnInstance, NotAddable, TooDeep, Memory}
-use Rattle.rdl_rewrite.specs.declared.place.Place.{Place}
 use Rattle.rdl_rewrite.proofs.Leading.{body_at-map_body}
 
 -- ---- A body in a description.

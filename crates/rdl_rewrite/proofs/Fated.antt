@@ -1,10 +1,9 @@
 -- The patches of fates lead to the items that the fates leave.
-use Rattle.std.proofs.Common.{◌≡◌, ℕ, zero, suc, ◌+◌, ◌-◌, ◌≤◌, ◌<◌, Bool, true, false, cond, List, [], ◌∷◌, ◌++◌, length, Some, None, Option, refl, ap, sym, subst, ◌∙◌, arith, append_assoc, length-append}
-use Rattle.std.proofs.lemmas.List.{append-nil}
+use Rattle.std.proofs.Common.{◌≡◌, ℕ, suc, ◌-◌, true, List, [], ◌∷◌, ◌++◌, length, Some, refl, ap, sym, subst, ◌∙◌, arith, append_assoc, length-append}
 use Rattle.std.proofs.lemmas.List.Edits.{remove-append_right}
 use Rattle.std.specs.Prelude.{slice_get, slice_set, option_and_then, option_map}
 use Rattle.std.specs.List.{remove}
-use Rattle.rdl_tree.specs.Items.{Items, no_items, plain, holder, Plain, named, own, default, dynamic, Holder, define, anonymous}
+use Rattle.rdl_tree.specs.Items.{Items, no_items, plain, holder, Holder, define, anonymous}
 use Rattle.rdl_tree.specs.View.{add, items_of, list_of, plain_item, holder_item, own_body}
 use Rattle.rdl_tree.specs.Address.{inner, map_inner, body_at, map_body}
 use Rattle.rdl_tree.specs.Edit.{remove_item}
@@ -15,7 +14,6 @@ use Rattle.rdl_tree.specs.declared.description.Of.TheVariants.{Named, Anonymous}
 use Rattle.rdl_tree.specs.declared.part.Part.{Part}
 use Rattle.rdl_tree.specs.declared.part.Part.TheVariants.{OfShell, OfValue, OfTarget, OfType, OfDefine}
 use Rattle.rdl_tree.specs.declared.patch.Patch.{Patch}
-use Rattle.rdl_tree.specs.declared.patch.Patch.TheVariants.{Delete, Exchange}
 use Rattle.rdl_tree.proofs.Rounds.{list_of-items_of, items_of-list_of, list_of-add, inner-items_of}
 use Rattle.rdl_scope.proofs.Levelled.{body-deeper}
 use Rattle.rdl_rewrite.specs.Fates.{item_patches, fate_patches}

@@ -17,7 +17,7 @@ use Rattle.rdl_scope.specs.Types.{item, type_of, type_from}
 use Rattle.rdl_scope.specs.Target.{through}
 use Rattle.rdl_scope.specs.Walk.{is_definition}
 use Rattle.rdl_rewrite.specs.Addresses.{same, leads_to, passes_by}
-use Rattle.rdl_rewrite.specs.Fates.{given_if, fate_in_removal, fate_in_renaming, fate_of_type, fate, fate_patches}
+use Rattle.rdl_rewrite.specs.Fates.{given_if, fate_in_renaming, fate}
 use Rattle.rdl_rewrite.specs.declared.fate.Fate.{Fate}
 use Rattle.rdl_rewrite.specs.declared.fate.Fate.TheVariants.{Kept, Dropped, Given}
 use Rattle.rdl_rewrite.specs.Removal.{goes, staying}

@@ -1,9 +1,9 @@
 -- What patches of one body lead to, or of the bodies inside it.
-use Rattle.std.proofs.Common.{◌≡◌, ℕ, zero, suc, ◌+◌, ◌-◌, ◌<◌, ◌≤◌, Bool, true, false, cond, IsTrue, List, [], ◌∷◌, ◌++◌, length, get_or, take, drop, Some, None, Option, refl, ap, sym, subst, ◌∙◌, arith, length-append}
+use Rattle.std.proofs.Common.{◌≡◌, ℕ, zero, suc, ◌+◌, ◌-◌, ◌<◌, ◌≤◌, Bool, true, List, [], ◌∷◌, ◌++◌, length, take, Some, None, Option, refl, ap, sym, subst, ◌∙◌, arith, length-append}
 use Rattle.std.proofs.Math.Seq.{take-append_seam, get_or-append_seam}
 use Rattle.std.proofs.lemmas.Bool.{le-leb}
 use Rattle.std.proofs.lemmas.Bool.Decides.{Decides-ltb}
-use Rattle.std.specs.Prelude.{nat_le, nat_lt, is_some, slice_get, slice_index, option_and_then, option_map, ◌&&◌}
+use Rattle.std.specs.Prelude.{is_some, slice_get, slice_index, option_and_then, ◌&&◌}
 use Rattle.rdl_tree.specs.Items.{Items, no_items, plain, holder}
 use Rattle.rdl_tree.specs.View.{add, list_of}
 use Rattle.rdl_tree.specs.Address.{holder_of, number_of, inner, map_inner, body_at, map_body}
@@ -11,7 +11,7 @@ use Rattle.rdl_tree.specs.Depth.{depth}
 use Rattle.rdl_tree.specs.Edit.{insert_item, remove_item, shift_item}
 use Rattle.rdl_tree.specs.ItemAt.{item_at}
 use Rattle.rdl_tree.specs.Part.{has_part, with_part_at}
-use Rattle.rdl_tree.specs.Patch.{patched, image, fits, AllFit, length_of, has_place, has_item, has_part_of, is_level}
+use Rattle.rdl_tree.specs.Patch.{patched, image, AllFit, length_of, has_place, has_item, has_part_of}
 use Rattle.rdl_tree.specs.declared.description.Item.{Item}
 use Rattle.rdl_tree.specs.declared.part.Part.{Part}
 use Rattle.rdl_tree.specs.declared.patch.Patch.{Patch}

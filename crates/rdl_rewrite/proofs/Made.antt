@@ -1,5 +1,5 @@
 -- The patches of an edit fit and make what the edit makes; or what it makes nests too deep.
-use Rattle.std.proofs.Common.{◌≡◌, ◌≤◌, ◌<◌, ◌+◌, ℕ, max, eqb, Bool, true, false, cond, List, [], ◌∷◌, ◌++◌, length, take, drop, Some, None, Option, refl, ap, sym, subst, ◌∙◌, arith}
+use Rattle.std.proofs.Common.{◌≡◌, ◌≤◌, ◌<◌, ◌+◌, ℕ, Bool, true, false, cond, List, [], ◌++◌, length, take, drop, Some, None, Option, refl, ap, sym, subst, ◌∙◌, arith}
 use Rattle.std.specs.Prelude.{Result, Ok, Err, is_ok, nat_le, ◌==◌}
 use Rattle.std.specs.List.{list_all}
 use Rattle.std.proofs.lemmas.Bool.{leb-true, leb-false}
@@ -18,12 +18,12 @@ use Rattle.rdl_rewrite.specs.Assignment.{assigns}
 use Rattle.rdl_rewrite.specs.Change.{is_component, taken, insert_items, added, added_at, edited_body}
 use Rattle.rdl_rewrite.specs.Dynamics.{assigns_to}
 use Rattle.rdl_rewrite.specs.Fates.{fate, fate_patches}
-use Rattle.rdl_rewrite.specs.Patches.{patches, patches_on, patches_in, body_patches, item_edit_patches, stands_level}
+use Rattle.rdl_rewrite.specs.Patches.{patches_on, patches_in, body_patches, stands_level}
 use Rattle.rdl_rewrite.specs.Place.{place_number}
 use Rattle.rdl_rewrite.specs.Refuses.{IsTooDeep}
 use Rattle.rdl_rewrite.specs.Removal.{is_in_use, goes, staying, removed}
 use Rattle.rdl_rewrite.specs.Renaming.{is_taken, is_reserved, renamed_items, renamed}
-use Rattle.rdl_rewrite.specs.Rewritten.{path_of, put_body, change_body, at_body, of_item, by_way, rewritten}
+use Rattle.rdl_rewrite.specs.Rewritten.{path_of, put_body, change_body, at_body, by_way, rewritten}
 use Rattle.rdl_rewrite.specs.Shell.{edited_shell}
 use Rattle.rdl_rewrite.specs.declared.assignment.Sort.TheVariants as sort
 use Rattle.rdl_rewrite.specs.declared.edit.Edit.{Edit}
@@ -36,7 +36,6 @@ use Rattle.rdl_scope.specs.Types.{item}
 use Rattle.rdl_rewrite.proofs.Deep.{depth-put}
 use Rattle.rdl_rewrite.proofs.Fated.{Apt, fated, fated_whole}
 use Rattle.rdl_rewrite.proofs.Fates.{staying-fated, renamed-fated, apt_removal, apt_renaming}
-use Rattle.rdl_rewrite.proofs.Leading.{Leads}
 use Rattle.rdl_rewrite.proofs.OneBody.{Yields, add_yields, move_yields, set_yields, assign_yields, clear_yields, unassign_yields, reshape_yields}
 
 -- the description expected is what the patches lead to, and they fit

@@ -1,10 +1,9 @@
 -- What the patches of an edit of one body lead to.
-use Rattle.std.proofs.Common.{◌≡◌, ◌≤◌, ◌<◌, ◌+◌, ℕ, zero, suc, max, Bool, true, false, cond, List, [], ◌∷◌, ◌++◌, length, get_or, take, drop, Some, None, Option, refl, ap, sym, subst, ◌∙◌, arith, append_assoc, length-append, option_map}
-use Rattle.std.specs.Prelude.{Result, Ok, Err, is_ok, slice_get, slice_set, nat_le, bytes_eq, ◌&&◌}
+use Rattle.std.proofs.Common.{◌≡◌, ◌≤◌, ◌<◌, ◌+◌, ℕ, suc, Bool, true, false, cond, List, [], ◌∷◌, ◌++◌, length, get_or, take, drop, Some, None, Option, refl, ap, sym, ◌∙◌, arith, append_assoc, length-append, option_map}
+use Rattle.std.specs.Prelude.{Result, Ok, Err, is_ok, slice_get, slice_set, bytes_eq, ◌&&◌}
 use Rattle.std.specs.List.{list_all, position, insert, remove}
 use Rattle.std.specs.Cmp.Lexicographic.{pointwise}
 use Rattle.std.proofs.Math.Seq.{take-append_seam, drop-append_seam}
-use Rattle.std.proofs.lemmas.Bool.{leb-true}
 use Rattle.std.proofs.lemmas.List.{length-take, take-append-drop}
 use Rattle.std.proofs.lemmas.List.Edits.{length-remove}
 use Rattle.std.proofs.lemmas.List.Quantifiers.{position-Some}

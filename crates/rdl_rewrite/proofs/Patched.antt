@@ -1,23 +1,22 @@
 -- The patches of edits of small maps, and what they weigh, by computing.
-use Rattle.std.proofs.Common.{◌≡◌, ℕ, List, [], ◌∷◌, Some, None, refl}
+use Rattle.std.proofs.Common.{◌≡◌, List, [], ◌∷◌, Some, refl}
 use Rattle.std.specs.Prelude.{codes}
-use Rattle.rdl_tree.specs.Items.{Items, no_items, plain, holder, dynamic}
+use Rattle.rdl_tree.specs.Items.{Items, no_items}
 use Rattle.rdl_tree.specs.Patch.{inverses}
 use Rattle.rdl_tree.specs.PatchWeight.{patches_weight, taken}
 use Rattle.rdl_tree.specs.Shell.{bare_shell}
-use Rattle.rdl_tree.specs.declared.description.Item.TheVariants.{Own, Default, Dynamic, Instance}
+use Rattle.rdl_tree.specs.declared.description.Item.TheVariants.{Default, Dynamic, Instance}
 use Rattle.rdl_tree.specs.declared.description.Of.TheVariants.{Anonymous}
 use Rattle.rdl_tree.specs.declared.part.Part.TheVariants.{OfShell, OfValue, OfTarget, OfType, OfDefine}
 use Rattle.rdl_tree.specs.declared.patch.Patch.{Patch}
 use Rattle.rdl_tree.specs.declared.patch.Patch.TheVariants.{Insert, Delete, Shift, Exchange}
-use Rattle.rdl_tree.specs.declared.path.Segment.TheVariants.{Def, Inst}
-use Rattle.rdl_tree.specs.declared.shell.Kind.TheVariants.{Reg, Field}
-use Rattle.rdl_tree.specs.declared.value.Value.TheVariants.{Number, Word as Worded}
-use Rattle.rdl_tree.specs.declared.value.Word.TheVariants.{R}
-use Rattle.rdl_rewrite.specs.declared.place.Place.TheVariants.{First, Last, After}
+use Rattle.rdl_tree.specs.declared.path.Segment.TheVariants.{Inst}
+use Rattle.rdl_tree.specs.declared.shell.Kind.TheVariants.{Field}
+use Rattle.rdl_tree.specs.declared.value.Value.TheVariants.{Number}
+use Rattle.rdl_rewrite.specs.declared.place.Place.TheVariants.{Last, After}
 use Rattle.rdl_rewrite.specs.declared.edit.Edit.TheVariants as edit
 use Rattle.rdl_rewrite.specs.Patches.{patches}
-use Rattle.rdl_rewrite.proofs.Examples.{field, held, reg, top, to_top}
+use Rattle.rdl_rewrite.proofs.Examples.{held, reg, top, to_top}
 use Rattle.rdl_rewrite.proofs.Reaching.{used, to_t, new_name, nested, of_g, target_g}
 
 -- ---- Of one item.

@@ -1,7 +1,6 @@
-use Rattle.std.proofs.Common.{◌≡◌, ◌≤◌, ◌+◌, ◌-◌, length, drop, take, take_all, ap, sym, ◌∙◌, arith, option_map, length-drop}
+use Rattle.std.proofs.Common.{◌≤◌, ◌+◌, ◌-◌, length, drop, take_all, ap, sym, ◌∙◌, arith, option_map, length-drop}
 use Rattle.std.specs.List.{position}
 use Rattle.rdl_tree.specs.Find.{is_named}
-use Rattle.rdl_tree.specs.declared.description.Item.{Item}
 use Rattle.rdl_rewrite.proofs.Places.{before_it, behind_it}
 use Rattle.rdl_rewrite.proofs.place.position_among.Goals as goal
 

@@ -1,4 +1,4 @@
-use Rattle.std.proofs.Common.{◌≡◌, ◌+◌, ◌-◌, length, Some, None, ap, sym, ◌∙◌, arith, option_map}
+use Rattle.std.proofs.Common.{◌≡◌, ◌+◌, ◌-◌, length, Some, ap, sym, ◌∙◌, arith, option_map}
 use Rattle.std.specs.List.{position, remove}
 use Rattle.std.proofs.lemmas.List.Edits.{length-remove}
 use Rattle.rdl_tree.specs.Find.{is_named}

@@ -6,7 +6,7 @@ use Rattle.rdl_scope.proofs.Depths.{depth-body_at}
 use Rattle.rdl_rewrite.specs.Fates.{fate}
 use Rattle.rdl_rewrite.proofs.Defined.{count-item}
 use Rattle.rdl_rewrite.proofs.Located.{body_at-item, item_met, count-own}
-use Rattle.rdl_rewrite.proofs.Reached.{reached_first, reached_more, reached_done, reached_inside}
+use Rattle.rdl_rewrite.proofs.Reached.{reached_first, reached_more}
 use Rattle.rdl_rewrite.proofs.reach.Reach.+reach.Goals as goal
 
 pub push_body-push_item-requires : goal.push_body-push_item-requires
