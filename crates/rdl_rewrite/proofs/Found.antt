@@ -72,7 +72,7 @@ definition-type_at (i ∷ path) t name a e = within (λ b. definition-type_at pa
     within ih (Some b) g h = deeper b g (type_at path b name) (ih b) h
 
 -- no reference to a name leads to what isn't a definition of it
-unled-name : (d : Items) (way at t : List ℕ) → is_definition t (item way d) ≡ false → leads_to way (type_at at d t) ≡ false
+pub unled-name : (d : Items) (way at t : List ℕ) → is_definition t (item way d) ≡ false → leads_to way (type_at at d t) ≡ false
 unled-name d way at t fails = by_case (type_at at d t) refl
   where
     by_case : (o : Option (List ℕ)) → type_at at d t ≡ o → leads_to way o ≡ false

@@ -1,9 +1,17 @@
 pub mod Assignments
+pub mod Deep
 pub mod Defined
 pub mod Examples
+pub mod Fated
+pub mod Fates
 pub mod Found
+pub mod Leading
 pub mod Located
+pub mod Made
+pub mod OneBody
+pub mod Patched
 pub mod Places
+pub mod Reached
 pub mod Reaching
 pub mod Renamed
 pub mod Staying

@@ -16,16 +16,16 @@ use Rattle.rdl_rewrite.proofs.Examples.{held, of_type, top, to_top, field, reg}
 
 -- ---- reg T { field {} e; field {} f; }; addrmap top { T u; T v; u.f->reset = 1; T w; v.f->reset = 0; v.e->sw = r; };
 
-abbrev set : List ℕ → List ℕ → List ℕ → Value → Items → Items
+abbrev pub set : List ℕ → List ℕ → List ℕ → Value → Items → Items
 set instance inside property value rest = plain (dynamic (instance ∷ inside ∷ []) property value) rest
 
-abbrev defined : List ℕ → Items → Items → Items
+abbrev pub defined : List ℕ → Items → Items → Items
 defined name body rest = holder (define name Reg) body rest
 
-abbrev both : Items
+abbrev pub both : Items
 both = held (codes "e") Field no_items (field (codes "f"))
 
-abbrev used : List ℕ → Items
+abbrev pub used : List ℕ → Items
 used type =
     defined type both
     (top
@@ -36,7 +36,7 @@ used type =
     (set (codes "v") (codes "f") (codes "reset") (Number 0)
     (set (codes "v") (codes "e") (codes "sw") (Worded R) no_items)))))))
 
-abbrev to_t : List Segment → List Segment
+abbrev pub to_t : List Segment → List Segment
 to_t rest = Def (codes "T") ∷ rest
 
 -- the assignments to the field go with it, whatever body they stand in
@@ -69,7 +69,7 @@ removed_root = refl
 
 -- ---- Names.
 
-abbrev new_name : List ℕ
+abbrev pub new_name : List ℕ
 new_name = codes "U"
 
 -- every reference to the definition gets the name
@@ -121,14 +121,14 @@ renamed_outside = refl
 
 -- ---- Assignments from outside.
 
-abbrev nested : Items → Items
+abbrev pub nested : Items → Items
 nested rest =
     top (held (codes "g") Regfile (reg (codes "q") (set (codes "q") (codes "f") (codes "reset") (Number 2) no_items)) rest)
 
-abbrev of_g : ℕ → Items → Items
+abbrev pub of_g : ℕ → Items → Items
 of_g n rest = plain (dynamic (codes "g" ∷ codes "q" ∷ codes "f" ∷ []) (codes "reset") (Number n)) rest
 
-abbrev target_g : List (List ℕ)
+abbrev pub target_g : List (List ℕ)
 target_g = codes "g" ∷ codes "q" ∷ codes "f" ∷ []
 
 assigned_last : rewritten (nested (reg (codes "h") no_items)) (edit.Assign (to_top []) target_g (codes "reset") (Number 3)) ≡ Ok (nested (reg (codes "h") (of_g 3 no_items)))

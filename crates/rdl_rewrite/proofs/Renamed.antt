@@ -83,7 +83,7 @@ names-kept way name (a ∷ path) (n ∷ names) e =
     let apart = or-false (same a way) _ e in
     ap (λ o. cond o name n ∷ renamed_names way name path names) apart.0 ∙ ap (λ ns. n ∷ ns) (names-kept way name path names apart.1)
 
-target-kept : (way name : List ℕ) (o : Option (List (List ℕ))) (target : List (List ℕ)) → passes_by way o ≡ false → renamed_target way name o target ≡ target
+pub target-kept : (way name : List ℕ) (o : Option (List (List ℕ))) (target : List (List ℕ)) → passes_by way o ≡ false → renamed_target way name o target ≡ target
 target-kept way name None target e = refl
 target-kept way name (Some path) target e = names-kept way name path target e
 

@@ -2,7 +2,9 @@ pub mod Addresses
 pub mod Assignment
 pub mod Change
 pub mod Dynamics
+pub mod Fates
 pub mod Names
+pub mod Patches
 pub mod Place
 pub mod Refuses
 pub mod Removal

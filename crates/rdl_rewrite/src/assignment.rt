@@ -1,13 +1,18 @@
 //! The assignments of a body to properties: its own and its defaults.
-ghost use Rattle.std.specs.Prelude.{◌≡◌, Ok, IfOk, IfErr};
+ghost use Rattle.std.specs.Prelude.{◌≡◌, ◌<◌, length, true, is_ok, IfOk, IfErr};
 ghost use Rattle.std.specs.List.{position};
 ghost use Rattle.rdl_tree.specs.View.{list_of};
-ghost use Rattle.rdl_rewrite.specs.Assignment.{is_sort, assigns, assignment, up_to_last, set, cleared};
+ghost use Rattle.rdl_rewrite.specs.Assignment.{is_sort, assigns, assignment, up_to_last, cleared};
+ghost use Rattle.rdl_rewrite.specs.Patches.{set_property, drop_at};
 ghost use Rattle.rdl_rewrite.specs.Refuses.{Refuses};
 
 use crate::edit::Refusal;
+use crate::patch::one;
 use rdl_text::name::Name;
+use rdl_tree::address::Address;
 use rdl_tree::description::{Body, Item};
+use rdl_tree::part::Part;
+use rdl_tree::patch::Patch;
 use rdl_tree::value::Value;
 use std::alloc::{AllocError, Global};
 
@@ -71,37 +76,47 @@ impl Sort {
     }
 }
 
-/// Assigns the property, where it is assigned before or behind the last assignment of the sort.
+/// Gives the property's assignment in the body on the way the value, or puts a new one behind the last of its sort.
 pub fn set(
     alloc: Global,
+    way: &Address,
     sort: Sort,
     property: &Name,
     value: &Value,
-    body: &mut Body,
-) -> Result<(), Refusal>
-    ensures made { IfOk result (λ _. body.new ≡ set sort property.now value.now body.old) }
-    ensures refused { IfErr result (λ refusal. refusal ≡ Refusal.Memory) }
+    body: &Body,
+) -> Result<Vec<Patch>, AllocError>
+    requires room { length way.now < 17 }
+    ensures { IfOk result (λ ps. ps.items ≡ set_property way.now sort property.now value.now (list_of body.now)) }
 {
-    let item = sort.item(property.try_copy(alloc)?, value.try_copy(alloc)?);
+    let value = value.try_copy(alloc)?;
     match sort.position(property, body) {
-        Some(number) => {
-            let _old = body.replace(number, item);
+        Some(number) => one(
+            alloc,
+            Patch::Exchange(way.inside(number), Part::OfValue(value)),
+        ),
+        None => {
+            let at = way.inside(sort.end(body.as_slice()));
+            let item = sort.item(property.try_copy(alloc)?, value);
+            one(alloc, Patch::Insert(at, item))
         }
-        None => body.insert(sort.end(body.as_slice()), item)?,
     }
-    Ok(())
 }
 
-/// Takes the property's assignment out.
-pub fn clear(sort: Sort, property: &Name, body: &mut Body) -> Result<(), Refusal>
-    ensures made { IfOk result (λ _. cleared sort property.now body.old ≡ Ok body.new) }
-    ensures refused { IfErr result (λ refusal. Refuses (cleared sort property.now body.old) refusal) }
+/// Takes the property's assignment out of the body on the way.
+pub fn clear(
+    alloc: Global,
+    way: &Address,
+    sort: Sort,
+    property: &Name,
+    body: &Body,
+) -> Result<Vec<Patch>, Refusal>
+    requires room { length way.now < 17 }
+    ensures which { IfOk result (λ ps. ps.items ≡ drop_at way.now (position (assigns sort property.now) (list_of body.now))) }
+    ensures accepted { IfOk result (λ _. is_ok (cleared sort property.now body.now) ≡ true) }
+    ensures refused { IfErr result (λ refusal. Refuses (cleared sort property.now body.now) refusal) }
 {
     match sort.position(property, body) {
-        Some(number) => {
-            let _old = body.remove(number);
-            Ok(())
-        }
+        Some(number) => Ok(one(alloc, Patch::Delete(way.inside(number)))?),
         None => Err(Refusal::NotSet),
     }
 }

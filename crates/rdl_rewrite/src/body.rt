@@ -1,17 +1,23 @@
-//! What an edit makes of one body.
-ghost use Rattle.std.specs.Prelude.{◌≡◌, ◌≤◌, ◌++◌, length, Ok, IfOk, IfErr};
+//! The patches of an edit of one body.
+ghost use Rattle.std.specs.Prelude.{◌≡◌, ◌<◌, ◌+◌, ◌^◌, length, true, is_ok, IfOk, IfErr};
 ghost use Rattle.std.specs.List.{list_all};
+ghost use Rattle.rdl_tree.specs.Edit.{remove_item};
 ghost use Rattle.rdl_tree.specs.View.{list_of};
-ghost use Rattle.rdl_rewrite.specs.Change.{is_component, taken, insert_items, added, moved, edited_body};
+ghost use Rattle.rdl_rewrite.specs.Change.{is_component, taken, added, moved, edited_body};
+ghost use Rattle.rdl_rewrite.specs.Patches.{inserts, inserts_at, move, body_patches};
+ghost use Rattle.rdl_rewrite.specs.Place.{place_number};
 ghost use Rattle.rdl_rewrite.specs.Refuses.{Refuses};
 
 use crate::assignment::{Sort, clear, set};
 use crate::dynamics::{assign, unassign};
 use crate::edit::{Edit, Refusal};
 use crate::names::{definition_taken, instance_taken};
+use crate::patch::one;
 use crate::place::Place;
 use crate::shell::reshape;
+use rdl_tree::address::Address;
 use rdl_tree::description::{Body, Item};
+use rdl_tree::patch::Patch;
 use std::alloc::{AllocError, Global};
 
 fn are_components(items: &Body) -> bool
@@ -29,38 +35,37 @@ fn are_taken(alloc: Global, whole: &Body, new: &Body, body: &Body) -> Result<boo
     instance_taken(alloc, new, body)
 }
 
-/// Puts copies of the items behind the others.
-fn push_copies(alloc: Global, all: &mut Vec<Item>, items: &[Item]) -> Result<(), AllocError>
-    ensures { IfOk result (λ _. all.new.items ≡ all.old.items ++ items.now) }
+/// Puts copies of the items into the body on the way, the first where it gets this number.
+fn inserts(
+    alloc: Global,
+    way: &Address,
+    number: usize,
+    items: &[Item],
+) -> Result<Vec<Patch>, AllocError>
+    requires room { length way.now < 17 }
+    requires numbers { number + length items.now < 2 ^ 64 }
+    ensures { IfOk result (λ ps. ps.items ≡ inserts way.now number items.now) }
 {
-    'items: for item in items {
-        all.push(item.try_copy(alloc)?)?;
+    let mut patches = Vec::with_capacity(alloc, items.len())?;
+    'items: for (i, item) in items.iter().enumerate() {
+        let copy = item.try_copy(alloc)?;
+        patches.push(Patch::Insert(way.inside(number + i), copy))?;
     }
-    Ok(())
-}
-
-/// The items of the body, with copies of the new ones from this number on.
-fn with_items(alloc: Global, number: usize, new: &Body, body: &Body) -> Result<Body, AllocError>
-    requires { number ≤ length (list_of body.now) }
-    ensures { IfOk result (λ all. all ≡ insert_items number new.now body.now) }
-{
-    let old = body.as_slice();
-    let mut all = Vec::new(alloc);
-    push_copies(alloc, &mut all, &old[..number])?;
-    push_copies(alloc, &mut all, new.as_slice())?;
-    push_copies(alloc, &mut all, &old[number..])?;
-    Ok(Body::from_vec(all))
+    Ok(patches)
 }
 
 fn add(
     alloc: Global,
     whole: &Body,
+    way: &Address,
     place: &Place,
     new: &Body,
-    body: &mut Body,
-) -> Result<(), Refusal>
-    ensures made { IfOk result (λ _. added whole.now place.now new.now body.old ≡ Ok body.new) }
-    ensures refused { IfErr result (λ refusal. Refuses (added whole.now place.now new.now body.old) refusal) }
+    body: &Body,
+) -> Result<Vec<Patch>, Refusal>
+    requires room { length way.now < 17 }
+    ensures which { IfOk result (λ ps. ps.items ≡ inserts_at way.now (place_number place.now (list_of body.now)) (list_of new.now)) }
+    ensures accepted { IfOk result (λ _. is_ok (added whole.now place.now new.now body.now) ≡ true) }
+    ensures refused { IfErr result (λ refusal. Refuses (added whole.now place.now new.now body.now) refusal) }
 {
     if !are_components(new) {
         return Err(Refusal::NotAddable);
@@ -71,53 +76,67 @@ fn add(
     if are_taken(alloc, whole, new, body)? {
         return Err(Refusal::NameTaken);
     }
-    *body = with_items(alloc, number, new, body)?;
-    Ok(())
+    let _old = body.as_slice();
+    Ok(inserts(alloc, way, number, new.as_slice())?)
 }
 
-/// Takes the item out and puts it in again among the others.
-fn shift(number: usize, place: &Place, body: &mut Body) -> Result<(), Refusal>
-    ensures made { IfOk result (λ _. moved place.now number body.old ≡ Ok body.new) }
-    ensures refused { IfErr result (λ refusal. Refuses (moved place.now number body.old) refusal) }
+/// Takes the item of this number out of the body on the way and puts it in again among the others.
+fn shift(
+    alloc: Global,
+    way: &Address,
+    number: usize,
+    place: &Place,
+    body: &Body,
+) -> Result<Vec<Patch>, Refusal>
+    requires room { length way.now < 17 }
+    ensures which { IfOk result (λ ps. ps.items ≡ move way.now number (place_number place.now (list_of (remove_item number body.now)))) }
+    ensures accepted { IfOk result (λ _. is_ok (moved place.now number body.now) ≡ true) }
+    ensures refused { IfErr result (λ refusal. Refuses (moved place.now number body.now) refusal) }
 {
     if number >= body.len() {
         return Err(Refusal::NotAnInstance);
     }
-    let item = body.remove(number);
-    match place.number(body) {
-        Some(to) => Ok(body.insert(to, item)?),
+    match place.number_among(number, body) {
+        Some(to) => Ok(one(alloc, Patch::Shift(way.inside(number), to))?),
         None => Err(Refusal::NoSuchSibling),
     }
 }
 
-/// Changes the body as the edit says. The number is that of the item, for an edit of an item; `whole` is the whole
+/// The patches for the body on the way. The number is that of the item, for an edit of an item; `whole` is the whole
 /// description.
-pub fn edit_body(
+pub fn body_patches(
     alloc: Global,
     whole: &Body,
+    way: &Address,
     number: usize,
     edit: &Edit,
-    body: &mut Body,
-) -> Result<(), Refusal>
-    ensures made { IfOk result (λ _. edited_body whole.now number edit.now body.old ≡ Ok body.new) }
-    ensures refused { IfErr result (λ refusal. Refuses (edited_body whole.now number edit.now body.old) refusal) }
+    body: &Body,
+) -> Result<Vec<Patch>, Refusal>
+    requires room { length way.now < 17 }
+    ensures which { IfOk result (λ ps. ps.items ≡ body_patches way.now number edit.now body.now) }
+    ensures accepted { IfOk result (λ _. is_ok (edited_body whole.now number edit.now body.now) ≡ true) }
+    ensures refused { IfErr result (λ refusal. Refuses (edited_body whole.now number edit.now body.now) refusal) }
 {
     match edit {
-        Edit::Add(_, place, new) => add(alloc, whole, place, new, body),
-        Edit::Move(_, place) => shift(number, place, body),
-        Edit::Resize(..) => reshape(alloc, edit, number, body),
-        Edit::SetBits(..) => reshape(alloc, edit, number, body),
-        Edit::SetAddress(..) => reshape(alloc, edit, number, body),
-        Edit::SetStride(..) => reshape(alloc, edit, number, body),
-        Edit::SetAlign(..) => reshape(alloc, edit, number, body),
-        Edit::SetReset(..) => reshape(alloc, edit, number, body),
-        Edit::SetOwn(_, property, value) => set(alloc, Sort::Own, property, value, body),
-        Edit::SetDefault(_, property, value) => set(alloc, Sort::Default, property, value, body),
-        Edit::ClearOwn(_, property) => clear(Sort::Own, property, body),
-        Edit::ClearDefault(_, property) => clear(Sort::Default, property, body),
-        Edit::Assign(_, target, property, value) => assign(alloc, target, property, value, body),
-        Edit::Unassign(_, target, property) => unassign(target, property, body),
-        Edit::Remove(..) => reshape(alloc, edit, number, body),
-        Edit::Rename(..) => reshape(alloc, edit, number, body),
+        Edit::Add(_, place, new) => add(alloc, whole, way, place, new, body),
+        Edit::Move(_, place) => shift(alloc, way, number, place, body),
+        Edit::Resize(..) => reshape(alloc, way, number, edit, body),
+        Edit::SetBits(..) => reshape(alloc, way, number, edit, body),
+        Edit::SetAddress(..) => reshape(alloc, way, number, edit, body),
+        Edit::SetStride(..) => reshape(alloc, way, number, edit, body),
+        Edit::SetAlign(..) => reshape(alloc, way, number, edit, body),
+        Edit::SetReset(..) => reshape(alloc, way, number, edit, body),
+        Edit::SetOwn(_, property, value) => Ok(set(alloc, way, Sort::Own, property, value, body)?),
+        Edit::SetDefault(_, property, value) => {
+            Ok(set(alloc, way, Sort::Default, property, value, body)?)
+        }
+        Edit::ClearOwn(_, property) => clear(alloc, way, Sort::Own, property, body),
+        Edit::ClearDefault(_, property) => clear(alloc, way, Sort::Default, property, body),
+        Edit::Assign(_, target, property, value) => {
+            Ok(assign(alloc, way, target, property, value, body)?)
+        }
+        Edit::Unassign(_, target, property) => unassign(alloc, way, target, property, body),
+        Edit::Remove(..) => reshape(alloc, way, number, edit, body),
+        Edit::Rename(..) => reshape(alloc, way, number, edit, body),
     }
 }

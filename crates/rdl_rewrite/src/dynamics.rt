@@ -1,13 +1,18 @@
 //! The assignments of a body to what stands inside its instances.
-ghost use Rattle.std.specs.Prelude.{◌≡◌, Ok, IfOk, IfErr};
+ghost use Rattle.std.specs.Prelude.{◌≡◌, ◌<◌, length, true, is_ok, IfOk, IfErr};
 ghost use Rattle.std.specs.List.{position};
 ghost use Rattle.rdl_tree.specs.View.{list_of};
-ghost use Rattle.rdl_rewrite.specs.Dynamics.{assigns_to, assigned, unassigned};
+ghost use Rattle.rdl_rewrite.specs.Dynamics.{assigns_to, unassigned};
+ghost use Rattle.rdl_rewrite.specs.Patches.{set_dynamic, drop_at};
 ghost use Rattle.rdl_rewrite.specs.Refuses.{Refuses};
 
 use crate::edit::Refusal;
+use crate::patch::one;
 use rdl_text::name::Name;
+use rdl_tree::address::Address;
 use rdl_tree::description::{Body, Item};
+use rdl_tree::part::Part;
+use rdl_tree::patch::Patch;
 use rdl_tree::target::Target;
 use rdl_tree::value::Value;
 use std::alloc::{AllocError, Global};
@@ -45,37 +50,48 @@ fn dynamic(
     Ok(Item::Dynamic(target.try_copy(alloc)?, property, value))
 }
 
-/// Assigns the target's property, where it is assigned before or behind all items.
+/// Gives the assignment of the target's property in the body on the way the value, or puts a new one behind all items.
 pub fn assign(
     alloc: Global,
+    way: &Address,
     target: &Target,
     property: &Name,
     value: &Value,
-    body: &mut Body,
-) -> Result<(), Refusal>
-    ensures made { IfOk result (λ _. body.new ≡ assigned target.now property.now value.now body.old) }
-    ensures refused { IfErr result (λ refusal. refusal ≡ Refusal.Memory) }
+    body: &Body,
+) -> Result<Vec<Patch>, AllocError>
+    requires room { length way.now < 17 }
+    ensures { IfOk result (λ ps. ps.items ≡ set_dynamic way.now target.now property.now value.now (list_of body.now)) }
 {
-    let item = dynamic(alloc, target, property, value)?;
     match position_of(target, property, body) {
         Some(number) => {
-            let _old = body.replace(number, item);
+            let value = value.try_copy(alloc)?;
+            one(
+                alloc,
+                Patch::Exchange(way.inside(number), Part::OfValue(value)),
+            )
         }
-        None => body.insert(body.len(), item)?,
+        None => {
+            let item = dynamic(alloc, target, property, value)?;
+            one(alloc, Patch::Insert(way.inside(body.len()), item))
+        }
     }
-    Ok(())
 }
 
-/// Takes the assignment of the target's property out.
-pub fn unassign(target: &Target, property: &Name, body: &mut Body) -> Result<(), Refusal>
-    ensures made { IfOk result (λ _. unassigned target.now property.now body.old ≡ Ok body.new) }
-    ensures refused { IfErr result (λ refusal. Refuses (unassigned target.now property.now body.old) refusal) }
+/// Takes the assignment of the target's property out of the body on the way.
+pub fn unassign(
+    alloc: Global,
+    way: &Address,
+    target: &Target,
+    property: &Name,
+    body: &Body,
+) -> Result<Vec<Patch>, Refusal>
+    requires room { length way.now < 17 }
+    ensures which { IfOk result (λ ps. ps.items ≡ drop_at way.now (position (assigns_to target.now property.now) (list_of body.now))) }
+    ensures accepted { IfOk result (λ _. is_ok (unassigned target.now property.now body.now) ≡ true) }
+    ensures refused { IfErr result (λ refusal. Refuses (unassigned target.now property.now body.now) refusal) }
 {
     match position_of(target, property, body) {
-        Some(number) => {
-            let _old = body.remove(number);
-            Ok(())
-        }
+        Some(number) => Ok(one(alloc, Patch::Delete(way.inside(number)))?),
         None => Err(Refusal::NotSet),
     }
 }

@@ -72,6 +72,8 @@ pub enum Refusal {
     NotAnInstance,
     /// X8: a new item is neither a definition nor an instance.
     NotAddable,
+    /// The edited description would nest over 16 deep.
+    TooDeep,
     /// X10: no memory.
     Memory,
 }

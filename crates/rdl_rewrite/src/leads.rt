@@ -3,7 +3,7 @@ ghost use Rattle.std.specs.Prelude.{◌≡◌, Some, option_copied};
 ghost use Rattle.std.specs.List.{list_any};
 ghost use Rattle.rdl_scope.specs.Types.{item, type_of};
 ghost use Rattle.rdl_scope.specs.Walk.{is_definition, is_instance, reference_of};
-ghost use Rattle.rdl_rewrite.specs.Addresses.{leads_to};
+ghost use Rattle.rdl_rewrite.specs.Addresses.{same, leads_to};
 
 use rdl_scope::types::type_of;
 use rdl_text::name::Name;
@@ -70,6 +70,13 @@ pub(crate) fn is_at(way: &Address, at: Option<&Address>) -> bool
         Some(at) => at == way,
         None => false,
     }
+}
+
+/// Whether one of these addresses is the way.
+pub(crate) fn is_on(way: &Address, path: &[Address]) -> bool
+    ensures { result ≡ list_any (λ at. same at way.now) path.now }
+{
+    path.iter().any(|at| at == way)
 }
 
 /// Whether this item, at its address, is an instance whose type is the taken item, the one on the way. Only a reference

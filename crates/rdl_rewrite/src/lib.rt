@@ -1,13 +1,16 @@
-//! What an edit makes of a description, or why it is refused before the new description is judged.
+//! The patches that make an edit of a description, or why it is refused before the edited description is judged.
 #![tactic(auto)]
 
 mod assignment;
 mod body;
 mod dynamics;
 pub mod edit;
+mod fate;
 mod leads;
 mod names;
+mod patch;
 pub mod place;
+mod reach;
 mod removal;
 mod renaming;
 pub mod rewrite;

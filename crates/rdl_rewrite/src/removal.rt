@@ -1,23 +1,25 @@
 //! What goes with an item that is taken out.
-ghost use Rattle.std.specs.Prelude.{◌≡◌, ◌≤◌, ◌<◌, ◌++◌, ◌∷◌, [], length, false, Some, Ok, IfOk, IfErr, option_copied};
+ghost use Rattle.std.specs.Prelude.{◌≡◌, ◌≤◌, ◌<◌, ◌++◌, ◌∷◌, [], length, true, is_ok, Some, None, IfOk, IfErr, option_copied};
 ghost use Rattle.std.specs.List.{list_any};
-ghost use Rattle.rdl_tree.specs.Items.{no_items, holder, define, anonymous};
+ghost use Rattle.rdl_tree.specs.Items.{no_items};
 ghost use Rattle.rdl_tree.specs.View.{add};
-ghost use Rattle.rdl_tree.specs.Address.{body_at, map_inner};
+ghost use Rattle.rdl_tree.specs.Address.{body_at};
 ghost use Rattle.rdl_tree.specs.Depth.{depth};
 ghost use Rattle.rdl_scope.specs.Types.{item, type_of};
 ghost use Rattle.rdl_scope.specs.Target.{through};
-ghost use Rattle.rdl_rewrite.specs.Addresses.{same, leads_to, passes_by, addresses};
-ghost use Rattle.rdl_rewrite.specs.Removal.{is_in_use, goes, staying, removed};
+ghost use Rattle.rdl_rewrite.specs.Addresses.{leads_to, passes_by, addresses};
+ghost use Rattle.rdl_rewrite.specs.Fates.{fate_in_removal, fate, fate_patches};
+ghost use Rattle.rdl_rewrite.specs.Removal.{is_in_use, goes, removed};
 ghost use Rattle.rdl_rewrite.specs.Refuses.{Refuses};
 
 use crate::edit::Refusal;
-use crate::leads::{is_instance_of_any, item_at, leads_to};
+use crate::fate::Fate;
+use crate::leads::{is_instance_of_any, is_on, item_at, leads_to};
+use crate::reach::Reach;
 use rdl_scope::targets::through;
-use rdl_text::name::Name;
 use rdl_tree::address::Address;
-use rdl_tree::description::{Body, Component, Description, Item, Of};
-use rdl_tree::shell::{Kind, Shell};
+use rdl_tree::description::{Body, Description, Item};
+use rdl_tree::patch::Patch;
 use std::alloc::{AllocError, Global};
 
 /// Whether the type of an instance in this body, at its address, is the item on the way.
@@ -81,12 +83,6 @@ fn is_in_use(whole: &Description, way: &Address, taken: Option<&Item>) -> bool
     }
 }
 
-fn is_on(way: &Address, path: &[Address]) -> bool
-    ensures { result ≡ list_any (λ at. same at way.now) path.now }
-{
-    path.iter().any(|at| at == way)
-}
-
 /// Whether the target of the item at this address passes the item on the way.
 fn passes_by(
     alloc: Global,
@@ -133,95 +129,42 @@ fn goes(
     }
 }
 
-fn definition(alloc: Global, name: &Name, kind: Kind, body: Body) -> Result<Item, AllocError>
-    ensures { IfOk result (λ new. add new no_items ≡ holder (define name.now kind) body no_items) }
-{
-    let component = Component { kind, body };
-    Ok(Item::Define(name.try_copy(alloc)?, component))
-}
-
-fn anonymous(alloc: Global, shell: &Shell, kind: Kind, body: Body) -> Result<Item, AllocError>
-    ensures { IfOk result (λ new. add new no_items ≡ holder (anonymous shell.now kind) body no_items) }
-{
-    let component = Component { kind, body };
-    Ok(Item::Instance(shell.try_copy(alloc)?, Of::Anonymous(component)))
-}
-
-/// A copy of the item, with this body in the place of its component's own.
-fn with_body(alloc: Global, found: &Item, body: Body) -> Result<Item, AllocError>
-    ensures { IfOk result (λ new. add new no_items ≡ map_inner 0 (λ _. body) (add found.now no_items)) }
-{
-    match found {
-        Item::Define(name, component) => definition(alloc, name, component.kind, body),
-        Item::Instance(shell, Of::Anonymous(component)) => {
-            anonymous(alloc, shell, component.kind, body)
-        }
-        _ => found.try_copy(alloc),
-    }
-}
-
-/// A copy of this body, at its address, without what goes.
-#[cycle(staying)]
-fn staying(
+/// What becomes of this item, at its address, where the one on the way is taken out.
+pub(crate) fn fate(
     alloc: Global,
     whole: &Description,
     way: &Address,
-    taken: Option<&Item>,
     at: &Address,
-    body: &Body,
-) -> Result<Body, AllocError>
-    requires nesting { depth whole.now.items ≤ 16 }
-    requires taken { option_copied taken ≡ item way.now whole.now.items }
-    requires here { body_at at.now whole.now.items ≡ Some body.now }
-    ensures { IfOk result (λ new. new ≡ staying (goes whole.now.items way.now) at.now 0 body.now) }
-{
-    let mut items = Vec::new(alloc);
-    'items: for (number, found) in body.as_slice().iter().enumerate() {
-        if !goes(alloc, whole, way, taken, &at.inside(number), found)? {
-            items.push(item_staying(alloc, whole, way, taken, at, number, found)?)?;
-        }
-    }
-    Ok(Body::from_vec(items))
-}
-
-/// A copy of this item, which stays, of this number in the body at the address.
-#[cycle(staying)]
-fn item_staying(
-    alloc: Global,
-    whole: &Description,
-    way: &Address,
-    taken: Option<&Item>,
-    at: &Address,
-    number: usize,
     found: &Item,
-) -> Result<Item, AllocError>
+) -> Result<Fate, AllocError>
     requires nesting { depth whole.now.items ≤ 16 }
-    requires taken { option_copied taken ≡ item way.now whole.now.items }
-    requires room { length at.now < 17 }
-    requires here { item (at.now ++ number ∷ []) whole.now.items ≡ Some found.now }
-    requires stays { goes whole.now.items way.now (at.now ++ number ∷ []) ≡ false }
-    ensures { IfOk result (λ new. add new no_items ≡ staying (goes whole.now.items way.now) at.now number (add found.now no_items)) }
-{
-    match found.own_body() {
-        Some(body) => {
-            let rest = staying(alloc, whole, way, taken, &at.inside(number), body)?;
-            with_body(alloc, found, rest)
-        }
-        None => found.try_copy(alloc),
-    }
-}
-
-/// The description without the item, and without the assignments whose target passes it. A definition to which a
-/// reference leads is refused.
-pub fn remove(alloc: Global, whole: &Description, way: &Address) -> Result<Description, Refusal>
-    requires nesting { depth whole.now.items ≤ 16 }
-    ensures made { IfOk result (λ new. removed whole.now.items way.now ≡ Ok new.items) }
-    ensures refused { IfErr result (λ refusal. Refuses (removed whole.now.items way.now) refusal) }
+    requires here { item at.now whole.now.items ≡ Some found.now }
+    ensures { IfOk result (λ fate. fate ≡ fate_in_removal whole.now.items way.now at.now) }
 {
     let taken = item_at(&whole.items, way.as_slice());
-    if is_in_use(whole, way, taken) {
+    if goes(alloc, whole, way, taken, at, found)? {
+        Ok(Fate::Dropped)
+    } else {
+        Ok(Fate::Kept)
+    }
+}
+
+/// Takes out the item on the way, and every assignment whose target passes it. A definition to which a reference leads is
+/// refused.
+pub fn remove<'a>(
+    alloc: Global,
+    whole: &'a Description,
+    way: &'a Address,
+) -> Result<Vec<Patch>, Refusal>
+    requires nesting { depth whole.now.items ≤ 16 }
+    ensures which { IfOk result (λ ps. ps.items ≡ fate_patches (fate whole.now.items way.now None) [] 0 whole.now.items) }
+    ensures accepted { IfOk result (λ _. is_ok (removed whole.now.items way.now) ≡ true) }
+    ensures refused { IfErr result (λ refusal. Refuses (removed whole.now.items way.now) refusal) }
+{
+    if is_in_use(whole, way, item_at(&whole.items, way.as_slice())) {
         return Err(Refusal::InUse);
     }
-    let items = staying(alloc, whole, way, taken, &Address::new(), &whole.items)?;
-    Ok(Description { items })
+    let name = None;
+    let reach = Reach { whole, way, name };
+    Ok(reach.patches(alloc)?)
 }

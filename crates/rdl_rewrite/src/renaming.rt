@@ -1,29 +1,29 @@
 //! What follows the name of an item.
-ghost use Rattle.std.specs.Prelude.{◌≡◌, ◌≤◌, ◌<◌, ◌++◌, ◌∷◌, [], length, Some, Ok, IfOk, IfErr, option_copied, if◌then◌else◌};
-ghost use Rattle.std.specs.List.{list_any};
-ghost use Rattle.rdl_tree.specs.Items.{no_items, plain, holder, named, dynamic, define, anonymous};
-ghost use Rattle.rdl_tree.specs.View.{add};
-ghost use Rattle.rdl_tree.specs.Address.{body_at};
+ghost use Rattle.std.specs.Prelude.{◌≡◌, ◌≤◌, [], true, is_ok, Some, IfOk, IfErr, option_copied, if◌then◌else◌};
 ghost use Rattle.rdl_tree.specs.Depth.{depth};
-ghost use Rattle.rdl_scope.specs.Types.{item, type_of};
+ghost use Rattle.rdl_scope.specs.Types.{item};
 ghost use Rattle.rdl_scope.specs.Target.{through};
-ghost use Rattle.rdl_rewrite.specs.Addresses.{leads_to};
+ghost use Rattle.rdl_rewrite.specs.Addresses.{passes_by};
+ghost use Rattle.rdl_rewrite.specs.Fates.{given_if, fate_in_renaming, fate, fate_patches};
 ghost use Rattle.rdl_rewrite.specs.Names.{has_name};
-ghost use Rattle.rdl_rewrite.specs.Renaming.{renamed_names, renamed_target, renamed_shell, renamed_items, is_reserved, names_in, is_taken, renamed};
+ghost use Rattle.rdl_rewrite.specs.Renaming.{renamed_names, renamed_target, is_reserved, names_in, is_taken, renamed};
 ghost use Rattle.rdl_rewrite.specs.Refuses.{Refuses};
 
 use crate::edit::Refusal;
-use crate::leads::{is_at, is_instance_of_any, item_at, leads_to};
+use crate::fate::Fate;
+use crate::leads::{is_at, is_instance_of_any, is_on, item_at, leads_to};
 use crate::names::{defined_names, has_name, instance_names};
+use crate::reach::Reach;
 use crate::rewrite::holder;
 use rdl_parse::class::Class;
 use rdl_scope::targets::through;
 use rdl_text::name::Name;
 use rdl_tree::address::Address;
-use rdl_tree::description::{Body, Component, Description, Item, Of};
-use rdl_tree::shell::{Kind, Shell};
+use rdl_tree::description::{Body, Description, Item, Of};
+use rdl_tree::part::Part;
+use rdl_tree::patch::Patch;
+use rdl_tree::shell::Shell;
 use rdl_tree::target::Target;
-use rdl_tree::value::Value;
 use std::alloc::{AllocError, Global};
 
 fn chosen<'a>(is_it: bool, name: &'a Name, old: &'a Name) -> &'a Name
@@ -50,139 +50,93 @@ fn renamed_names(
     Ok(new)
 }
 
-/// The target of the assignment at this address.
-fn renamed_target(
+/// The definition gets the name if it is the item on the way.
+fn definition_fate(alloc: Global, is_it: bool, name: &Name) -> Result<Fate, AllocError>
+    ensures { IfOk result (λ fate. fate ≡ given_if is_it (Part.OfDefine name.now)) }
+{
+    if is_it {
+        Ok(Fate::Given(Part::OfDefine(name.try_copy(alloc)?)))
+    } else {
+        Ok(Fate::Kept)
+    }
+}
+
+/// The type gets the name if it is the item on the way.
+fn type_fate(alloc: Global, is_it: bool, name: &Name) -> Result<Fate, AllocError>
+    ensures { IfOk result (λ fate. fate ≡ given_if is_it (Part.OfType name.now)) }
+{
+    if is_it {
+        Ok(Fate::Given(Part::OfType(name.try_copy(alloc)?)))
+    } else {
+        Ok(Fate::Kept)
+    }
+}
+
+/// The instance gets the name.
+fn shell_fate(alloc: Global, name: &Name, shell: &Shell) -> Result<Fate, AllocError>
+    ensures { IfOk result (λ fate. fate ≡ Fate.Given (Part.OfShell (record shell.now { name = name.now }))) }
+{
+    let mut new = shell.try_copy(alloc)?;
+    new.name = name.try_copy(alloc)?;
+    Ok(Fate::Given(Part::OfShell(new)))
+}
+
+/// The target of the assignment at this address gets the name where it passes the item on the way.
+fn target_fate(
     alloc: Global,
     whole: &Description,
     way: &Address,
     name: &Name,
     at: &Address,
     target: &Target,
-) -> Result<Target, AllocError>
+) -> Result<Fate, AllocError>
     requires { depth whole.now.items ≤ 16 }
-    ensures { IfOk result (λ new. new ≡ renamed_target way.now name.now (through whole.now.items at.now) target.now) }
+    ensures { IfOk result (λ fate. fate ≡ given_if (passes_by way.now (through whole.now.items at.now)) (Part.OfTarget (renamed_target way.now name.now (through whole.now.items at.now) target.now))) }
 {
-    match through(alloc, whole, at)? {
-        Some(path) => {
-            let names = renamed_names(alloc, way, name, path.as_slice(), target.names())?;
-            Ok(Target::from_vec(names))
-        }
-        None => target.try_copy(alloc),
+    let Some(path) = through(alloc, whole, at)? else {
+        return Ok(Fate::Kept);
+    };
+    if !is_on(way, path.as_slice()) {
+        return Ok(Fate::Kept);
     }
+    let names = renamed_names(alloc, way, name, path.as_slice(), target.names())?;
+    Ok(Fate::Given(Part::OfTarget(Target::from_vec(names))))
 }
 
-/// The shell of the instance at this address.
-fn renamed_shell(
-    alloc: Global,
-    way: &Address,
-    name: &Name,
-    at: &Address,
-    shell: &Shell,
-) -> Result<Shell, AllocError>
-    ensures { IfOk result (λ new. new ≡ renamed_shell way.now name.now at.now shell.now) }
-{
-    let mut new = shell.try_copy(alloc)?;
-    if at == way {
-        new.name = name.try_copy(alloc)?;
-    }
-    Ok(new)
-}
-
-fn definition(alloc: Global, name: &Name, kind: Kind, body: Body) -> Result<Item, AllocError>
-    ensures { IfOk result (λ new. add new no_items ≡ holder (define name.now kind) body no_items) }
-{
-    let component = Component { kind, body };
-    Ok(Item::Define(name.try_copy(alloc)?, component))
-}
-
-fn anonymous(shell: Shell, kind: Kind, body: Body) -> Item
-    ensures { add result no_items ≡ holder (anonymous shell kind) body no_items }
-{
-    Item::Instance(shell, Of::Anonymous(Component { kind, body }))
-}
-
-fn named(alloc: Global, shell: Shell, name: &Name) -> Result<Item, AllocError>
-    ensures { IfOk result (λ new. add new no_items ≡ plain (named shell name.now) no_items) }
-{
-    Ok(Item::Instance(shell, Of::Named(name.try_copy(alloc)?)))
-}
-
-fn dynamic(
-    alloc: Global,
-    target: Target,
-    property: &Name,
-    value: &Value,
-) -> Result<Item, AllocError>
-    ensures { IfOk result (λ new. add new no_items ≡ plain (dynamic target property.now value.now) no_items) }
-{
-    let property = property.try_copy(alloc)?;
-    Ok(Item::Dynamic(target, property, value.try_copy(alloc)?))
-}
-
-/// The body at this address.
-#[cycle(renamed)]
-fn renamed_body(
+/// What becomes of this item, at its address, where the one on the way gets the name. Only a target with the name of a
+/// renamed instance is searched.
+pub(crate) fn fate(
     alloc: Global,
     whole: &Description,
     way: &Address,
     name: &Name,
     at: &Address,
-    body: &Body,
-) -> Result<Body, AllocError>
+    found: &Item,
+) -> Result<Fate, AllocError>
     requires nesting { depth whole.now.items ≤ 16 }
-    requires here { body_at at.now whole.now.items ≡ Some body.now }
-    ensures { IfOk result (λ new. new ≡ renamed_items whole.now.items way.now name.now at.now 0 body.now) }
+    requires here { item at.now whole.now.items ≡ Some found.now }
+    ensures { IfOk result (λ fate. fate ≡ fate_in_renaming whole.now.items way.now name.now at.now found.now) }
 {
-    let mut items = Vec::new(alloc);
-    'items: for (number, old) in body.as_slice().iter().enumerate() {
-        items.push(renamed_item(alloc, whole, way, name, at, number, old)?)?;
-    }
-    Ok(Body::from_vec(items))
-}
-
-/// The item of this number in the body at the address.
-#[cycle(renamed)]
-fn renamed_item(
-    alloc: Global,
-    whole: &Description,
-    way: &Address,
-    name: &Name,
-    at: &Address,
-    number: usize,
-    old: &Item,
-) -> Result<Item, AllocError>
-    requires nesting { depth whole.now.items ≤ 16 }
-    requires room { length at.now < 17 }
-    requires here { item (at.now ++ number ∷ []) whole.now.items ≡ Some old.now }
-    ensures { IfOk result (λ new. add new no_items ≡ renamed_items whole.now.items way.now name.now at.now number (add old.now no_items)) }
-{
-    let address = at.inside(number);
-    match old {
-        Item::Define(old_name, component) => {
-            let body = renamed_body(alloc, whole, way, name, &address, &component.body)?;
-            let new_name = chosen(address == *way, name, old_name);
-            definition(alloc, new_name, component.kind, body)
-        }
-        Item::Instance(shell, Of::Anonymous(component)) => {
-            let body = renamed_body(alloc, whole, way, name, &address, &component.body)?;
-            let shell = renamed_shell(alloc, way, name, &address, shell)?;
-            Ok(anonymous(shell, component.kind, body))
-        }
-        Item::Instance(shell, Of::Named(reference)) => {
-            let taken = item_at(&whole.items, way.as_slice());
-            let shell = renamed_shell(alloc, way, name, &address, shell)?;
-            let new_name = chosen(leads_to(whole, way, taken, &address, old), name, reference);
-            named(alloc, shell, new_name)
-        }
-        Item::Dynamic(target, property, value) => {
-            let taken = item_at(&whole.items, way.as_slice());
-            if !is_instance_of_any(taken, target.names()) {
-                return old.try_copy(alloc);
+    let taken = item_at(&whole.items, way.as_slice());
+    match found {
+        Item::Define(..) => definition_fate(alloc, at == way, name),
+        Item::Instance(shell, of) => {
+            if at == way {
+                return shell_fate(alloc, name, shell);
             }
-            let target = renamed_target(alloc, whole, way, name, &address, target)?;
-            dynamic(alloc, target, property, value)
+            match of {
+                Of::Named(_) => type_fate(alloc, leads_to(whole, way, taken, at, found), name),
+                Of::Anonymous(_) => Ok(Fate::Kept),
+            }
         }
-        _ => old.try_copy(alloc),
+        Item::Dynamic(target, ..) => {
+            if !is_instance_of_any(taken, target.names()) {
+                return Ok(Fate::Kept);
+            }
+            target_fate(alloc, whole, way, name, at, target)
+        }
+        Item::Own(..) => Ok(Fate::Kept),
+        Item::Default(..) => Ok(Fate::Kept),
     }
 }
 
@@ -222,15 +176,16 @@ fn is_taken(
     }
 }
 
-/// The description with the name given to the item, and to every reference and target that stands for it.
-pub fn rename(
+/// Gives the name to the item on the way, and to every reference and target that stands for it.
+pub fn rename<'a>(
     alloc: Global,
-    whole: &Description,
-    way: &Address,
-    name: &Name,
-) -> Result<Description, Refusal>
+    whole: &'a Description,
+    way: &'a Address,
+    name: &'a Name,
+) -> Result<Vec<Patch>, Refusal>
     requires nesting { depth whole.now.items ≤ 16 }
-    ensures made { IfOk result (λ new. renamed whole.now.items way.now name.now ≡ Ok new.items) }
+    ensures which { IfOk result (λ ps. ps.items ≡ fate_patches (fate whole.now.items way.now (Some name.now)) [] 0 whole.now.items) }
+    ensures accepted { IfOk result (λ _. is_ok (renamed whole.now.items way.now name.now) ≡ true) }
     ensures refused { IfErr result (λ refusal. Refuses (renamed whole.now.items way.now name.now) refusal) }
 {
     if is_taken(alloc, whole, way, name)? {
@@ -239,6 +194,7 @@ pub fn rename(
     if is_reserved(name) {
         return Err(Refusal::Reserved);
     }
-    let items = renamed_body(alloc, whole, way, name, &Address::new(), &whole.items)?;
-    Ok(Description { items })
+    let name = Some(name);
+    let reach = Reach { whole, way, name };
+    Ok(reach.patches(alloc)?)
 }

@@ -1,12 +1,17 @@
-//! The shell of an instance, changed where it stands.
-ghost use Rattle.std.specs.Prelude.{◌≡◌, Ok, Err, IfOk, IfErr};
+//! The shell of an instance, with one part of it changed.
+ghost use Rattle.std.specs.Prelude.{◌≡◌, ◌<◌, ◌++◌, ◌∷◌, [], length, true, is_ok, slice_get, IfOk, IfErr};
+ghost use Rattle.rdl_tree.specs.View.{list_of};
+ghost use Rattle.rdl_rewrite.specs.Patches.{reshape};
 ghost use Rattle.rdl_rewrite.specs.Shell.{edited_shell, reshaped};
 ghost use Rattle.rdl_rewrite.specs.Refuses.{Refuses};
 
 use crate::edit::{Edit, Refusal};
+use crate::patch::one;
+use rdl_tree::address::Address;
 use rdl_tree::description::{Body, Item};
 use rdl_tree::dims::Dims;
 use rdl_tree::part::Part;
+use rdl_tree::patch::Patch;
 use rdl_tree::shell::Shell;
 use std::alloc::{AllocError, Global};
 
@@ -42,15 +47,25 @@ fn edited_shell(alloc: Global, edit: &Edit, shell: &Shell) -> Result<Shell, Allo
     Ok(new)
 }
 
-/// Gives the instance of this number the part of its shell.
-pub fn reshape(alloc: Global, edit: &Edit, number: usize, body: &mut Body) -> Result<(), Refusal>
-    ensures made { IfOk result (λ _. reshaped (edited_shell edit.now) number body.old ≡ Ok body.new) }
-    ensures refused { IfErr result (λ refusal. Refuses (reshaped (edited_shell edit.now) number body.old) refusal) }
+/// Gives the instance of this number in the body on the way the part of its shell.
+pub fn reshape(
+    alloc: Global,
+    way: &Address,
+    number: usize,
+    edit: &Edit,
+    body: &Body,
+) -> Result<Vec<Patch>, Refusal>
+    requires room { length way.now < 17 }
+    ensures which { IfOk result (λ ps. ps.items ≡ reshape (edited_shell edit.now) (way.now ++ number ∷ []) (slice_get (list_of body.now) number)) }
+    ensures accepted { IfOk result (λ _. is_ok (reshaped (edited_shell edit.now) number body.now) ≡ true) }
+    ensures refused { IfErr result (λ refusal. Refuses (reshaped (edited_shell edit.now) number body.now) refusal) }
 {
     let Some(Item::Instance(shell, _)) = body.item(number) else {
         return Err(Refusal::NotAnInstance);
     };
     let new = edited_shell(alloc, edit, shell)?;
-    let _old = body.exchange(number, Part::OfShell(new));
-    Ok(())
+    Ok(one(
+        alloc,
+        Patch::Exchange(way.inside(number), Part::OfShell(new)),
+    )?)
 }

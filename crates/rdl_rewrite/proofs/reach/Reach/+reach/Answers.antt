@@ -1,0 +1,40 @@
+use Rattle.std.proofs.Common.{◌*◌, ◌+◌, ◌<◌, length, reverse, option_copied, ap, sym, ◌∙◌, arith}
+use Rattle.rdl_tree.specs.Address.{body_at}
+use Rattle.rdl_tree.specs.Items.{count}
+use Rattle.rdl_tree.proofs.Sizes.{item_count}
+use Rattle.rdl_scope.proofs.Depths.{depth-body_at}
+use Rattle.rdl_rewrite.specs.Fates.{fate}
+use Rattle.rdl_rewrite.proofs.Defined.{count-item}
+use Rattle.rdl_rewrite.proofs.Located.{body_at-item, item_met, count-own}
+use Rattle.rdl_rewrite.proofs.Reached.{reached_first, reached_more}
+use Rattle.rdl_rewrite.proofs.reach.Reach.+reach.Goals as goal
+
+pub push_body-push_item-requires : goal.push_body-push_item-requires
+push_body-push_item-requires t c =
+    let d = c.args.self.now.whole.now.items in
+    let at = c.args.at.now in
+    let body = c.args.body.now in
+    let xs = c.as_slice-found-items.result.now in
+    let x = c.found-item.result in
+    let h = count-item xs c.items.number x body c.items-test.true c.found-item.is c.as_slice-found-items.ensures in
+    let less : 2 * item_count x < t = omega (arith, h, c.decreases) in
+    let room : length at < 17 = omega (arith, depth-body_at at d body c.requires.here, c.requires.nesting) in
+    (less, (c.requires.nesting, (room, item_met at c.items.number d body xs x c.requires.here c.as_slice-found-items.ensures c.items-test.true c.found-item.is)))
+
+pub push_body-items-init : goal.push_body-items-init
+push_body-items-init t c =
+    reached_first (fate c.args.self.now.whole.now.items c.args.self.now.way.now (option_copied c.args.self.now.name)) c.args.at.now c.args.body.now c.as_slice-found-items.result.now
+    (reverse c.args.patches.now.items) c.as_slice-found-items.ensures
+
+pub push_body-items-preserved : goal.push_body-items-preserved
+push_body-items-preserved t c =
+    reached_more (fate c.args.self.now.whole.now.items c.args.self.now.way.now (option_copied c.args.self.now.name)) c.args.at.now c.items.number c.as_slice-found-items.result.now
+    c.found-item.result _ (reverse c.items.patches.items) (reverse c.push_item.new.patches.items) c.items-test.true c.found-item.is c.in_ok-push_item.ensures c.items.invariant
+
+pub push_item-push_body-requires : goal.push_item-push_body-requires
+push_item-push_body-requires t c =
+    let d = c.args.self.now.whole.now.items in
+    let held = sym c.in-Some.ensures in
+    let h = count-own c.args.found.now c.in-Some.body.now held in
+    let less : 2 * count c.in-Some.body.now + 1 < t = omega (arith, h, c.decreases) in
+    (less, (c.requires.nesting, ap (λ a. body_at a d) c.inside-address.ensures ∙ body_at-item _ d c.args.found.now c.requires.here ∙ held))

@@ -1,0 +1,43 @@
+//! What becomes of an item where an edit reaches every body.
+ghost use Rattle.std.specs.Prelude.{◌≡◌, ◌++◌, [], reverse, IfOk};
+ghost use Rattle.rdl_rewrite.specs.Fates.{is_dropped, item_patches};
+
+use rdl_tree::address::Address;
+use rdl_tree::part::Part;
+use rdl_tree::patch::Patch;
+use std::alloc::AllocError;
+
+/// What becomes of an item.
+#[derive(Debug, Drop)]
+pub enum Fate {
+    /// It stays as it is.
+    Kept,
+    /// It goes, and with it what stands inside it.
+    Dropped,
+    /// It gets the part in the place of its own.
+    Given(Part),
+}
+
+impl Fate {
+    /// Whether what stands inside the item goes with it.
+    pub(crate) fn is_dropped(&self) -> bool
+        ensures { result ≡ is_dropped self.now }
+    {
+        match self {
+            Fate::Dropped => true,
+            Fate::Kept => false,
+            Fate::Given(_) => false,
+        }
+    }
+
+    /// The item's own patch behind the others, if there is one.
+    pub(crate) fn push_to(self, at: &Address, patches: &mut Vec<Patch>) -> Result<(), AllocError>
+        ensures { IfOk result (λ _. reverse patches.new.items ≡ item_patches at.now self [] ++ reverse patches.old.items) }
+    {
+        match self {
+            Fate::Kept => Ok(()),
+            Fate::Dropped => Ok(patches.push(Patch::Delete(at.copy()))?),
+            Fate::Given(part) => Ok(patches.push(Patch::Exchange(at.copy(), part))?),
+        }
+    }
+}

@@ -1,0 +1,97 @@
+//! The patches of an edit that reaches every body.
+ghost use Rattle.std.specs.Prelude.{◌≡◌, ◌≤◌, ◌<◌, ◌++◌, ◌∷◌, [], length, reverse, Some, IfOk, option_copied};
+ghost use Rattle.rdl_tree.specs.Items.{no_items};
+ghost use Rattle.rdl_tree.specs.View.{add};
+ghost use Rattle.rdl_tree.specs.Address.{body_at};
+ghost use Rattle.rdl_tree.specs.Depth.{depth};
+ghost use Rattle.rdl_scope.specs.Types.{item};
+ghost use Rattle.rdl_rewrite.specs.Fates.{fate, fate_patches};
+
+use crate::fate::Fate;
+use crate::{removal, renaming};
+use rdl_text::name::Name;
+use rdl_tree::address::Address;
+use rdl_tree::description::{Body, Description, Item};
+use rdl_tree::patch::Patch;
+use std::alloc::{AllocError, Global};
+
+/// An edit that reaches every body: the item on the way gets the name, or is taken out.
+#[derive(Drop)]
+pub(crate) struct Reach<'a> {
+    pub whole: &'a Description,
+    pub way: &'a Address,
+    /// None where the item is taken out.
+    pub name: Option<&'a Name>,
+}
+
+impl<'a> Reach<'a> {
+    /// What becomes of this item, at its address.
+    fn fate(&self, alloc: Global, at: &Address, found: &Item) -> Result<Fate, AllocError>
+        requires nesting { depth self.now.whole.now.items ≤ 16 }
+        requires here { item at.now self.now.whole.now.items ≡ Some found.now }
+        ensures { IfOk result (λ new. new ≡ fate self.now.whole.now.items self.now.way.now (option_copied self.now.name) at.now found.now) }
+    {
+        match self.name {
+            Some(name) => renaming::fate(alloc, self.whole, self.way, name, at, found),
+            None => removal::fate(alloc, self.whole, self.way, at, found),
+        }
+    }
+
+    /// Pushes the patches for this body, at its address, those of each item before those of the items inside it.
+    #[cycle(reach)]
+    fn push_body(
+        &self,
+        alloc: Global,
+        at: &Address,
+        body: &Body,
+        patches: &mut Vec<Patch>,
+    ) -> Result<(), AllocError>
+        requires nesting { depth self.now.whole.now.items ≤ 16 }
+        requires here { body_at at.now self.now.whole.now.items ≡ Some body.now }
+        ensures { IfOk result (λ _. reverse patches.new.items ≡ fate_patches (fate self.now.whole.now.items self.now.way.now (option_copied self.now.name)) at.now 0 body.now ++ reverse patches.old.items) }
+    {
+        'items: for (number, found) in body.as_slice().iter().enumerate() {
+            self.push_item(alloc, at, number, found, patches)?;
+        }
+        Ok(())
+    }
+
+    /// Pushes the patches for the item of this number in the body at the address.
+    #[cycle(reach)]
+    fn push_item(
+        &self,
+        alloc: Global,
+        at: &Address,
+        number: usize,
+        found: &Item,
+        patches: &mut Vec<Patch>,
+    ) -> Result<(), AllocError>
+        requires nesting { depth self.now.whole.now.items ≤ 16 }
+        requires room { length at.now < 17 }
+        requires here { item (at.now ++ number ∷ []) self.now.whole.now.items ≡ Some found.now }
+        ensures { IfOk result (λ _. reverse patches.new.items ≡ fate_patches (fate self.now.whole.now.items self.now.way.now (option_copied self.now.name)) at.now number (add found.now no_items) ++ reverse patches.old.items) }
+    {
+        let address = at.inside(number);
+        let fate = self.fate(alloc, &address, found)?;
+        let goes = fate.is_dropped();
+        fate.push_to(&address, patches)?;
+        if goes {
+            return Ok(());
+        }
+        match found.own_body() {
+            Some(body) => self.push_body(alloc, &address, body, patches),
+            None => Ok(()),
+        }
+    }
+
+    /// The patches for all items, the last item's first.
+    pub(crate) fn patches(&self, alloc: Global) -> Result<Vec<Patch>, AllocError>
+        requires nesting { depth self.now.whole.now.items ≤ 16 }
+        ensures { IfOk result (λ ps. ps.items ≡ fate_patches (fate self.now.whole.now.items self.now.way.now (option_copied self.now.name)) [] 0 self.now.whole.now.items) }
+    {
+        let mut patches = Vec::new(alloc);
+        self.push_body(alloc, &Address::new(), &self.whole.items, &mut patches)?;
+        patches.reverse();
+        Ok(patches)
+    }
+}
