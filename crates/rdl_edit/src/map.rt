@@ -13,7 +13,7 @@ use journal_core::invertible::Invertible;
 use rdl_elab::elaborate::elaborate;
 use rdl_elab::row::Rows;
 use rdl_rewrite::edit::Edit;
-use rdl_rewrite::patches::patches;
+use rdl_rewrite::rewrite::patches;
 use rdl_text::name::Name;
 use rdl_tree::description::Description;
 use rdl_tree::fault::Fault;
