@@ -1,7 +1,10 @@
 pub mod Changes
 pub mod Components
+pub mod Edits
+pub mod Places
 pub mod Rests
 pub mod Rounds
 pub mod Sizes
 pub mod Steps
+pub mod Undone
 pub mod Ways

@@ -1,0 +1,127 @@
+-- A patch that fits is taken back by its inverse, which fits where it led.
+use Rattle.std.proofs.Common.{◌≡◌, ℕ, zero, suc, ◌+◌, ◌-◌, ◌<◌, ◌≤◌, Bool, true, false, List, [], ◌∷◌, ◌++◌, length, Option, Some, None, refl, ap, sym, ◌∙◌, arith, nat_lt, nat_le}
+use Rattle.std.specs.Prelude.{insert, remove, slice_get, slice_set, is_some, IsTrue, option_map, ◌&&◌}
+use Rattle.std.proofs.lemmas.Bool.{false≢true, and_parts, and_from, ltb-true, leb-true, lt-ltb, le-leb}
+use Rattle.std.proofs.lemmas.List.Edits.{length-insert, length-remove}
+use Rattle.rdl_tree.specs.Items.{Items}
+use Rattle.rdl_tree.specs.View.{items_of, list_of}
+use Rattle.rdl_tree.specs.Address.{holder_of, number_of, body_at, map_body}
+use Rattle.rdl_tree.specs.ItemAt.{item_at}
+use Rattle.rdl_tree.specs.Edit.{insert_item, remove_item, shift_item, put_back}
+use Rattle.rdl_tree.specs.Part.{has_part, with_part, part_of, with_part_at, put_at}
+use Rattle.rdl_tree.specs.Patch.{patched, fits, inverse, insert_again, exchange_again, is_level, has_place, has_item, has_part_of, length_of}
+use Rattle.rdl_tree.specs.declared.description.Item.{Item}
+use Rattle.rdl_tree.specs.declared.description.Item.TheVariants.{Define, Instance, Own, Default, Dynamic}
+use Rattle.rdl_tree.specs.declared.description.Of.TheVariants.{Named, Anonymous}
+use Rattle.rdl_tree.specs.declared.part.Part.{Part}
+use Rattle.rdl_tree.specs.declared.part.Part.TheVariants.{OfShell, OfValue, OfTarget, OfType, OfDefine}
+use Rattle.rdl_tree.specs.declared.patch.Patch.{Patch}
+use Rattle.rdl_tree.specs.declared.patch.Patch.TheVariants.{Insert, Delete, Shift, Exchange}
+use Rattle.rdl_tree.proofs.Rounds.{list_of-items_of, items_of-list_of}
+use Rattle.rdl_tree.proofs.Edits.{remove-insert, get-insert, insert-remove, get-set, set-back, get-within, get-some, length-moved, length-set}
+use Rattle.rdl_tree.proofs.Places.{place-whole, holder-place, number-place, length-holder, Stands, stands, found_at, the_item, map_body-twice, body_at-map, map_body-undone}
+
+-- ---- Changes of a body, taken back.
+
+pub insert-taken : (n : ℕ) (x : Item) (b : Items) → n ≤ length (list_of b) → remove_item n (insert_item n x b) ≡ b
+insert-taken n x b h =
+    ap (λ (l : List Item). items_of (remove l n)) (list_of-items_of (insert (list_of b) n x)) ∙ ap items_of (remove-insert (list_of b) n x h) ∙ items_of-list_of b
+
+pub remove-taken : (n : ℕ) (x : Item) (b : Items) → slice_get (list_of b) n ≡ Some x → insert_item n x (remove_item n b) ≡ b
+remove-taken n x b e =
+    ap (λ (l : List Item). items_of (insert l n x)) (list_of-items_of (remove (list_of b) n)) ∙ ap items_of (insert-remove (list_of b) n x e) ∙ items_of-list_of b
+
+-- where there is an item to move
+pub shift_is : (from to : ℕ) (b : Items) (x : Item) → slice_get (list_of b) from ≡ Some x → shift_item from to b ≡ items_of (insert (remove (list_of b) from) to x)
+shift_is from to b x e = ap (λ o. items_of (put_back to (remove (list_of b) from) o)) e
+
+-- where it is then
+moved-within : (from to : ℕ) (b : Items) (x : Item) → slice_get (list_of b) from ≡ Some x → to < length (list_of b) → to ≤ length (remove (list_of b) from)
+moved-within from to b x e h = omega (arith, length-remove (list_of b) from (get-within (list_of b) from x e))
+
+pub shift-found : (from to : ℕ) (b : Items) (x : Item) → slice_get (list_of b) from ≡ Some x → to < length (list_of b) → slice_get (list_of (shift_item from to b)) to ≡ Some x
+shift-found from to b x e h =
+    ap (λ c. slice_get (list_of c) to) (shift_is from to b x e) ∙ ap (λ (l : List Item). slice_get l to) (list_of-items_of (insert (remove (list_of b) from) to x))
+    ∙ get-insert (remove (list_of b) from) to x (moved-within from to b x e h)
+
+pub shift-taken : (from to : ℕ) (b : Items) (x : Item) → slice_get (list_of b) from ≡ Some x → to < length (list_of b) → shift_item to from (shift_item from to b) ≡ b
+shift-taken from to b x e h =
+    let out : List Item = remove (list_of b) from in
+    let there : list_of (shift_item from to b) ≡ insert out to x = ap list_of (shift_is from to b x e) ∙ list_of-items_of (insert out to x) in
+    shift_is to from (shift_item from to b) x (shift-found from to b x e h)
+    ∙ ap (λ (l : List Item). items_of (insert (remove l to) from x)) there
+    ∙ ap (λ (l : List Item). items_of (insert l from x)) (remove-insert out to x (moved-within from to b x e h))
+    ∙ ap items_of (insert-remove (list_of b) from x e) ∙ items_of-list_of b
+
+pub shift-length : (from to : ℕ) (b : Items) (x : Item) → slice_get (list_of b) from ≡ Some x → to < length (list_of b) → length (list_of (shift_item from to b)) ≡ length (list_of b)
+shift-length from to b x e h =
+    ap (λ c. length (list_of c)) (shift_is from to b x e) ∙ ap length (list_of-items_of (insert (remove (list_of b) from) to x))
+    ∙ length-moved (list_of b) from to x (get-within (list_of b) from x e) h
+
+-- ---- Parts of an item.
+
+pub part-taken : (new : Part) (x : Item) → IsTrue (has_part new x) → with_part (part_of new x) (with_part new x) ≡ x
+part-taken (OfShell new) (Instance s o) h = refl
+part-taken (OfValue new) (Own p v) h = refl
+part-taken (OfValue new) (Default p v) h = refl
+part-taken (OfValue new) (Dynamic t p v) h = refl
+part-taken (OfTarget new) (Dynamic t p v) h = refl
+part-taken (OfType new) (Instance s (Named t)) h = refl
+part-taken (OfDefine new) (Define n c) h = refl
+part-taken new x h = cc
+
+pub part-again : (new : Part) (x : Item) → IsTrue (has_part new x) → part_of (part_of new x) (with_part new x) ≡ new
+part-again (OfShell new) (Instance s o) h = refl
+part-again (OfValue new) (Own p v) h = refl
+part-again (OfValue new) (Default p v) h = refl
+part-again (OfValue new) (Dynamic t p v) h = refl
+part-again (OfTarget new) (Dynamic t p v) h = refl
+part-again (OfType new) (Instance s (Named t)) h = refl
+part-again (OfDefine new) (Define n c) h = refl
+part-again new x h = cc
+
+pub part-fits : (new : Part) (x : Item) → IsTrue (has_part new x) → IsTrue (has_part (part_of new x) (with_part new x))
+part-fits (OfShell new) (Instance s o) h = refl
+part-fits (OfValue new) (Own p v) h = refl
+part-fits (OfValue new) (Default p v) h = refl
+part-fits (OfValue new) (Dynamic t p v) h = refl
+part-fits (OfTarget new) (Dynamic t p v) h = refl
+part-fits (OfType new) (Instance s (Named t)) h = refl
+part-fits (OfDefine new) (Define n c) h = refl
+part-fits new x h = cc
+
+pub exchange_is : (n : ℕ) (new : Part) (b : Items) (x : Item) → slice_get (list_of b) n ≡ Some x → with_part_at n new b ≡ items_of (slice_set (list_of b) n (with_part new x))
+exchange_is n new b x e = ap (λ o. items_of (put_at n (option_map (with_part new) o) (list_of b))) e
+
+pub exchange-found : (n : ℕ) (new : Part) (b : Items) (x : Item) → slice_get (list_of b) n ≡ Some x → slice_get (list_of (with_part_at n new b)) n ≡ Some (with_part new x)
+exchange-found n new b x e =
+    ap (λ c. slice_get (list_of c) n) (exchange_is n new b x e) ∙ ap (λ (l : List Item). slice_get l n) (list_of-items_of (slice_set (list_of b) n (with_part new x)))
+    ∙ get-set (list_of b) n x (with_part new x) e
+
+pub exchange-taken : (n : ℕ) (new : Part) (b : Items) (x : Item) → slice_get (list_of b) n ≡ Some x → IsTrue (has_part new x) → with_part_at n (part_of new x) (with_part_at n new b) ≡ b
+exchange-taken n new b x e h =
+    let there : list_of (with_part_at n new b) ≡ slice_set (list_of b) n (with_part new x) = ap list_of (exchange_is n new b x e) ∙ list_of-items_of (slice_set (list_of b) n (with_part new x)) in
+    exchange_is n (part_of new x) (with_part_at n new b) (with_part new x) (exchange-found n new b x e)
+    ∙ ap (λ (l : List Item). items_of (slice_set l n (with_part (part_of new x) (with_part new x)))) there
+    ∙ ap (λ y. items_of (slice_set (slice_set (list_of b) n (with_part new x)) n y)) (part-taken new x h)
+    ∙ ap items_of (set-back (list_of b) n x (with_part new x) e) ∙ items_of-list_of b
+
+-- ---- What it says that a patch fits.
+
+-- the body into which an item goes
+pub record HasBody (n : ℕ) (o : Option Items) (ok : ℕ → ℕ → Type 0) : Type 0 where
+  pub body : Items
+  pub held : o ≡ Some body
+  pub within : ok n (length (list_of body))
+
+pub place_in : (n : ℕ) (o : Option Items) → IsTrue (has_place n (length_of o)) → HasBody n o (λ n m. n ≤ m)
+place_in n None h = absurd (false≢true h)
+place_in n (Some b) h = record { body = b; held = refl; within = leb-true _ _ h }
+
+pub item_in : (n : ℕ) (o : Option Items) → IsTrue (has_item n (length_of o)) → HasBody n o (λ n m. n < m)
+item_in n None h = absurd (false≢true h)
+item_in n (Some b) h = record { body = b; held = refl; within = ltb-true _ _ h }
+
+pub part_in : (part : Part) (o : Option Item) → IsTrue (has_part_of part o) → (x : Item) × (o ≡ Some x) × IsTrue (has_part part x)
+part_in part None h = absurd (false≢true h)
+part_in part (Some x) h = (x, refl, h)
