@@ -1,0 +1,67 @@
+//! Patches applied one after another, and the way back.
+ghost use Rattle.std.specs.Prelude.{◌≡◌, ◌++◌, [], ◌∷◌, ◌+◌, ◌≤◌, IsTrue, IfOk, IfErr, OnOk, OnErr, true, is_ok, length, reverse, vec_capacity};
+ghost use Rattle.rdl_tree.specs.Patch.{patched, fits, image, inverse, inverses, AllFit};
+ghost use Rattle.rdl_tree.specs.Way.{is_placed, is_ready, are_ready, backs, patches_back as way_patches, is_sound, has_rooms};
+ghost use Rattle.rdl_tree.specs.Step.{IsStep};
+
+use crate::description::Description;
+use crate::patch::Patch;
+use crate::step::step_back;
+use crate::way::{Step, WayBack};
+use std::alloc::Global;
+
+/// Applies the patches, from the first to the last. Where memory is refused, it goes back and gives the same patches.
+pub(crate) fn walk(
+    description: &mut Description,
+    alloc: Global,
+    patches: Vec<Patch>,
+) -> Result<WayBack, Vec<Patch>>
+    requires { AllFit patches.items description.old.items }
+    ensures turned { OnOk result (description.new.items ≡ image patches.items description.old.items) }
+    ensures kept { IfOk result (λ way. way_patches way ≡ inverses patches.items description.old.items) }
+    ensures goes_back { IfOk result (λ way. image (way_patches way) description.new.items ≡ description.old.items) }
+    ensures goes_on { IfOk result (λ way. inverses (way_patches way) description.new.items ≡ patches.items) }
+    ensures sound { IfOk result (λ way. IsTrue (is_sound description.new.items way)) }
+    ensures refused { IfErr result (λ same. same.items ≡ patches.items) }
+    ensures stays { OnErr result (description.new ≡ description.old) }
+{
+    Err(patches)
+}
+
+/// The patches of the way, in the order in which they lead back.
+pub(crate) fn patches_back(way: WayBack) -> Vec<Patch>
+    requires { IsTrue (has_rooms way) }
+    ensures { result.items ≡ way_patches way }
+{
+    let WayBack { mut steps, mut room } = way;
+    'steps: while let Some(step) = steps.pop() {
+        room.push(step.back).unwrap();
+    }
+    room
+}
+
+/// Goes back all the way, and gives the patches that lead on again.
+pub(crate) fn go_back(description: &mut Description, way: WayBack) -> Vec<Patch>
+    requires { IsTrue (is_sound description.old.items way) }
+    ensures back { description.new.items ≡ image (way_patches way) description.old.items }
+    ensures patches { result.items ≡ inverses (way_patches way) description.old.items }
+{
+    let WayBack { steps, mut room } = way;
+    steps_back(description, steps, &mut room);
+    room.reverse();
+    room
+}
+
+/// Takes all steps, the last one first, and puts the patches that take each of them back behind those in the room.
+fn steps_back(description: &mut Description, steps: Vec<Step>, room: &mut Vec<Patch>)
+    requires ready { IsTrue (are_ready (reverse steps.items) description.old.items) }
+    requires room { length room.old.items + length steps.items ≤ vec_capacity room.old }
+    ensures back { description.new.items ≡ image (backs (reverse steps.items)) description.old.items }
+    ensures patches { reverse room.new.items ≡ inverses (backs (reverse steps.items)) description.old.items ++ reverse room.old.items }
+{
+    let mut steps = steps;
+    'steps: while let Some(step) = steps.pop() {
+        let patch = step_back(description, step);
+        room.push(patch).unwrap();
+    }
+}
