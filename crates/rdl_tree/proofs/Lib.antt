@@ -2,6 +2,7 @@ pub mod Changes
 pub mod Components
 pub mod Edits
 pub mod Places
+pub mod Reached
 pub mod Rests
 pub mod Rounds
 pub mod Sizes
