@@ -1,3 +1,4 @@
+pub mod Backs
 pub mod Changes
 pub mod Components
 pub mod Edits
@@ -6,6 +7,7 @@ pub mod Reached
 pub mod Rests
 pub mod Rounds
 pub mod Sizes
+pub mod Stepped
 pub mod Steps
 pub mod Undone
 pub mod Ways

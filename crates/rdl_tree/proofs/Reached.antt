@@ -12,7 +12,7 @@ use Rattle.rdl_tree.specs.declared.description.Item.{Item}
 use Rattle.rdl_tree.specs.declared.part.Part.{Part}
 use Rattle.rdl_tree.specs.declared.patch.Patch.{Patch}
 use Rattle.rdl_tree.specs.declared.patch.Patch.TheVariants.{Insert, Exchange}
-use Rattle.rdl_tree.proofs.Changes.{map_body-cong}
+use Rattle.rdl_tree.proofs.Changes.{map_body-cong, map_body-same}
 use Rattle.rdl_tree.proofs.Edits.{get-within}
 use Rattle.rdl_tree.proofs.Places.{Stands, stands, found_at, the_item}
 use Rattle.rdl_tree.proofs.Undone.{part_in}
@@ -61,3 +61,7 @@ again_part part old at p n t b e h k g f =
     let x = part_in part (item_at at t) e in
     let same : part_of part x.0 ≡ old = (let whole : Some (part_of part x.0) ≡ Some old = ap (option_map (part_of part)) (sym (lent_item at p n t b x.0 x.1 h k g)) ∙ sym f in cc) in
     ap (exchange_again at part) x.1 ∙ ap (λ z. Exchange at z ∷ []) same
+
+-- the body that was lent stays
+pub unchanged_at : (p : List ℕ) (t b c : Items) → body_at p t ≡ Some b → c ≡ b → map_body p (λ _. c) t ≡ t
+unchanged_at p t b c e h = map_body-cong p (λ _. c) (λ d. d) t b e h ∙ map_body-same p t

@@ -4,6 +4,7 @@ ghost use Rattle.rdl_tree.specs.Items.{Items};
 
 use crate::description::Item;
 use crate::patch::Patch;
+use std::alloc::Global;
 
 /// A patch that takes another one back. Where it puts an item in, there is room for the body in which it does.
 #[derive(Drop)]
@@ -11,6 +12,18 @@ pub struct Step {
     pub(crate) back: Patch,
     pub(crate) room: Vec<Item>,
     ghost empty: { length room.items ≡ 0 },
+}
+
+impl Step {
+    /// A step for which there is no room.
+    pub(crate) fn new(alloc: Global, back: Patch) -> Step
+        ensures { result.back ≡ back }
+    {
+        Step {
+            back,
+            room: Vec::new(alloc),
+        }
+    }
 }
 
 /// What leads back from a description.
