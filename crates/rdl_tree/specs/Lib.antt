@@ -19,6 +19,7 @@ pub mod Shell
 pub mod Step
 pub mod Turned
 pub mod View
+pub mod Walk
 pub mod Way
 pub mod Weight
 pub mod Word

@@ -2,11 +2,11 @@
 ghost use Rattle.std.specs.Prelude.{◌≡◌, ◌++◌, [], ◌∷◌, ◌+◌, ◌≤◌, IsTrue, IfOk, IfErr, OnOk, OnErr, true, is_ok, length, reverse, vec_capacity};
 ghost use Rattle.rdl_tree.specs.Patch.{patched, fits, image, inverse, inverses, AllFit};
 ghost use Rattle.rdl_tree.specs.Way.{is_placed, is_ready, are_ready, backs, patches_back as way_patches, is_sound, has_rooms};
-ghost use Rattle.rdl_tree.specs.Step.{IsStep};
+ghost use Rattle.rdl_tree.specs.Walk.{IsUnderWay};
 
 use crate::description::Description;
 use crate::patch::Patch;
-use crate::step::step_back;
+use crate::step::{apply, step_back};
 use crate::way::{Step, WayBack};
 use std::alloc::Global;
 
@@ -25,7 +25,45 @@ pub(crate) fn walk(
     ensures refused { IfErr result (λ same. same.items ≡ patches.items) }
     ensures stays { OnErr result (description.new ≡ description.old) }
 {
+    let mut patches = patches;
+    let Ok(mut steps) = Vec::with_capacity(alloc, patches.len()) else {
+        return Err(patches);
+    };
+    patches.reverse();
+    advance(description, alloc, &mut patches, &mut steps);
+    if patches.is_empty() {
+        return Ok(WayBack {
+            steps,
+            room: patches,
+        });
+    }
+    steps_back(description, steps, &mut patches);
+    patches.reverse();
     Err(patches)
+}
+
+/// Applies the patches, from the last to the first, as long as memory can be had.
+fn advance(
+    description: &mut Description,
+    alloc: Global,
+    patches: &mut Vec<Patch>,
+    steps: &mut Vec<Step>,
+)
+    requires fit { AllFit (reverse patches.old.items) description.old.items }
+    requires none { length steps.old.items ≡ 0 }
+    requires room { length patches.old.items ≤ vec_capacity steps.old }
+    ensures way { IsUnderWay steps.new.items description.new.items description.old.items patches.new.items (reverse patches.old.items) }
+    ensures room { length patches.new.items + length steps.new.items ≤ vec_capacity patches.new }
+{
+    'patches: while let Some(patch) = patches.pop() {
+        match apply(description, alloc, patch) {
+            Ok(step) => steps.push(step).unwrap(),
+            Err(same) => {
+                patches.push(same).unwrap();
+                return;
+            }
+        }
+    }
 }
 
 /// The patches of the way, in the order in which they lead back.

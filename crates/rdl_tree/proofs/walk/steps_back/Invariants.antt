@@ -2,7 +2,7 @@ use Rattle.std.proofs.Common.{◌≡◌, ◌++◌, ◌+◌, ◌≤◌, length}
 use Rattle.std.specs.Prelude.{reverse, vec_capacity}
 use Rattle.rdl_tree.specs.Patch.{image, inverses}
 use Rattle.rdl_tree.specs.Way.{backs}
-use Rattle.rdl_tree.proofs.Backs.{IsOnWay}
+use Rattle.rdl_tree.specs.Walk.{IsOnWay}
 use Rattle.rdl_tree.proofs.walk.steps_back.Given as goal
 
 abbrev pub invariant-steps : goal.invariant-steps
