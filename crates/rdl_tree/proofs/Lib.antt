@@ -2,6 +2,9 @@ pub mod Backs
 pub mod Changes
 pub mod Components
 pub mod Edits
+pub mod Nesting
+pub mod PatchWeights
+pub mod Patching
 pub mod Places
 pub mod Reached
 pub mod Rests

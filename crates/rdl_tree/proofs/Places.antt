@@ -1,5 +1,5 @@
 -- An address is that of a body and a number, and what a change of the body at an address does there.
-use Rattle.std.proofs.Common.{◌≡◌, ℕ, zero, suc, ◌+◌, ◌-◌, ◌<◌, ◌≤◌, Bool, true, false, List, [], ◌∷◌, ◌++◌, length, take, take_all, Option, Some, None, refl, ap, sym, ◌∙◌, arith, length-append}
+use Rattle.std.proofs.Common.{◌≡◌, ℕ, zero, suc, ◌+◌, ◌-◌, ◌<◌, List, [], ◌∷◌, ◌++◌, length, take, Option, Some, None, refl, ap, sym, ◌∙◌, arith, length-append}
 use Rattle.std.specs.Prelude.{option_and_then, slice_get, slice_index, is_some, IsTrue}
 use Rattle.std.proofs.lemmas.Bool.{false≢true}
 use Rattle.rdl_tree.specs.Items.{Items, no_items, plain, holder}

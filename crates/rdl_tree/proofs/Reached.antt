@@ -1,20 +1,18 @@
 -- What is known of an item at an address, once the body that holds it is lent.
-use Rattle.std.proofs.Common.{◌≡◌, ℕ, zero, suc, ◌<◌, ◌≤◌, Bool, true, false, List, [], ◌∷◌, length, Option, Some, None, refl, ap, sym, ◌∙◌, arith, subst}
-use Rattle.std.specs.Prelude.{slice_get, is_some, IsTrue, IsSomeAnd, option_and_then, option_map}
-use Rattle.std.proofs.lemmas.Bool.{false≢true, and_parts, ltb-true, leb-true}
+use Rattle.std.proofs.Common.{◌≡◌, ℕ, ◌<◌, List, [], ◌∷◌, length, Option, Some, None, ap, sym, ◌∙◌, subst}
+use Rattle.std.specs.Prelude.{slice_get, is_some, IsTrue, IsSomeAnd, option_map}
 use Rattle.rdl_tree.specs.Items.{Items}
 use Rattle.rdl_tree.specs.View.{list_of}
 use Rattle.rdl_tree.specs.Address.{holder_of, number_of, body_at, map_body}
 use Rattle.rdl_tree.specs.ItemAt.{item_at}
 use Rattle.rdl_tree.specs.Part.{has_part, part_of, part_at}
-use Rattle.rdl_tree.specs.Patch.{has_place, has_item, has_part_of, length_of, insert_again, exchange_again}
+use Rattle.rdl_tree.specs.Patch.{has_part_of, insert_again, exchange_again}
 use Rattle.rdl_tree.specs.declared.description.Item.{Item}
 use Rattle.rdl_tree.specs.declared.part.Part.{Part}
-use Rattle.rdl_tree.specs.declared.patch.Patch.{Patch}
 use Rattle.rdl_tree.specs.declared.patch.Patch.TheVariants.{Insert, Exchange}
 use Rattle.rdl_tree.proofs.Changes.{map_body-cong, map_body-same}
 use Rattle.rdl_tree.proofs.Edits.{get-within}
-use Rattle.rdl_tree.proofs.Places.{Stands, stands, found_at, the_item}
+use Rattle.rdl_tree.proofs.Places.{stands, the_item}
 use Rattle.rdl_tree.proofs.Undone.{part_in}
 
 -- a change of the body that was lent

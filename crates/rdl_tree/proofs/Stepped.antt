@@ -1,6 +1,6 @@
 -- A patch that was applied has a step back that is ready.
-use Rattle.std.proofs.Common.{◌≡◌, ℕ, ◌+◌, ◌<◌, List, [], ◌∷◌, ◌++◌, length, Option, Some, None, refl, ap, sym, ◌∙◌, arith, subst, nat_lt}
-use Rattle.std.specs.Prelude.{slice_get, remove, is_some, IsTrue, IfOk, OnOk, Result, Ok, Err, vec_capacity}
+use Rattle.std.proofs.Common.{◌≡◌, ℕ, ◌<◌, List, [], ◌∷◌, length, Some, ap, sym, ◌∙◌, arith}
+use Rattle.std.specs.Prelude.{remove, is_some, IsTrue, IfOk, OnOk, Result, Ok, Err, vec_capacity}
 use Rattle.std.proofs.lemmas.Bool.{and_from, lt-ltb}
 use Rattle.std.proofs.lemmas.List.Edits.{length-remove}
 use Rattle.rdl_tree.specs.Items.{Items}
@@ -40,5 +40,5 @@ room_again at t new q room h e f g =
     let long : length (list_of s.body) ≡ room = (let whole : Some (length (list_of s.body)) ≡ Some room = ap length_of (sym s.held) ∙ g in cc) in
     let held : body_at (holder_of at) new ≡ Some (remove_item n s.body) = ap (body_at (holder_of at)) e ∙ body_at-map (holder_of at) (remove_item n) t s.body s.held in
     let short : length (list_of (remove_item n s.body)) < room =
-        omega (arith, ap length (list_of-items_of (remove (list_of s.body) n)), length-remove (list_of s.body) n (get-within (list_of s.body) n x.0 s.found)) in
+    omega (arith, ap length (list_of-items_of (remove (list_of s.body) n)), length-remove (list_of s.body) n (get-within (list_of s.body) n x.0 s.found)) in
     ap (λ p. has_room p room new) (sym same) ∙ ap (λ o. is_below (length_of o) room) held ∙ lt-ltb _ _ short

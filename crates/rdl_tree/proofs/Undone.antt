@@ -1,8 +1,8 @@
 -- A patch that fits is taken back by its inverse, which fits where it led.
-use Rattle.std.proofs.Common.{◌≡◌, ℕ, zero, suc, ◌+◌, ◌-◌, ◌<◌, ◌≤◌, Bool, true, false, List, [], ◌∷◌, ◌++◌, length, Option, Some, None, refl, ap, sym, ◌∙◌, arith, subst, length-append, nat_le}
-use Rattle.std.specs.Prelude.{insert, remove, slice_get, slice_set, is_some, IsTrue, option_map, ◌&&◌}
+use Rattle.std.proofs.Common.{◌≡◌, ℕ, ◌<◌, ◌≤◌, List, [], ◌∷◌, ◌++◌, length, Option, Some, None, refl, ap, sym, ◌∙◌, arith, subst, length-append, nat_le}
+use Rattle.std.specs.Prelude.{insert, remove, slice_get, slice_set, is_some, IsTrue, option_map}
 use Rattle.std.proofs.lemmas.Bool.{false≢true, and_parts, and_from, ltb-true, leb-true, lt-ltb, le-leb}
-use Rattle.std.proofs.lemmas.List.Edits.{length-insert, length-remove}
+use Rattle.std.proofs.lemmas.List.Edits.{length-remove}
 use Rattle.rdl_tree.specs.Items.{Items}
 use Rattle.rdl_tree.specs.View.{items_of, list_of}
 use Rattle.rdl_tree.specs.Address.{holder_of, number_of, body_at, map_body}
@@ -10,17 +10,17 @@ use Rattle.rdl_tree.specs.ItemAt.{item_at}
 use Rattle.rdl_tree.specs.Edit.{insert_item, remove_item, shift_item, put_back}
 use Rattle.rdl_tree.specs.Part.{has_part, with_part, part_of, with_part_at, put_at}
 use Rattle.rdl_tree.specs.Way.{is_placed}
-use Rattle.rdl_tree.specs.Patch.{patched, fits, inverse, insert_again, exchange_again, is_level, has_place, has_item, has_part_of, length_of}
+use Rattle.rdl_tree.specs.Patch.{patched, fits, inverse, insert_again, exchange_again, has_place, has_item, has_part_of, length_of}
 use Rattle.rdl_tree.specs.declared.description.Item.{Item}
 use Rattle.rdl_tree.specs.declared.description.Item.TheVariants.{Define, Instance, Own, Default, Dynamic}
-use Rattle.rdl_tree.specs.declared.description.Of.TheVariants.{Named, Anonymous}
+use Rattle.rdl_tree.specs.declared.description.Of.TheVariants.{Named}
 use Rattle.rdl_tree.specs.declared.part.Part.{Part}
 use Rattle.rdl_tree.specs.declared.part.Part.TheVariants.{OfShell, OfValue, OfTarget, OfType, OfDefine}
 use Rattle.rdl_tree.specs.declared.patch.Patch.{Patch}
 use Rattle.rdl_tree.specs.declared.patch.Patch.TheVariants.{Insert, Delete, Shift, Exchange}
 use Rattle.rdl_tree.proofs.Rounds.{list_of-items_of, items_of-list_of}
-use Rattle.rdl_tree.proofs.Edits.{remove-insert, get-insert, insert-remove, get-set, set-back, get-within, get-some, length-moved, length-set}
-use Rattle.rdl_tree.proofs.Places.{place-whole, holder-place, number-place, length-holder, Stands, stands, found_at, the_item, map_body-twice, body_at-map, map_body-undone}
+use Rattle.rdl_tree.proofs.Edits.{remove-insert, get-insert, insert-remove, get-set, set-back, get-within, length-moved}
+use Rattle.rdl_tree.proofs.Places.{place-whole, holder-place, number-place, stands, found_at, the_item, body_at-map, map_body-undone}
 
 -- ---- Changes of a body, taken back.
 
@@ -145,7 +145,7 @@ undoes-insert at x t h =
     let b = place_in (number_of at) (body_at (holder_of at) t) parts.1 in
     let one : 0 < length at = not_empty at (and_parts _ _ parts.0).0 in
     let there : slice_get (list_of (insert_item (number_of at) x b.body)) (number_of at) ≡ Some x =
-        ap (λ (l : List Item). slice_get l (number_of at)) (list_of-items_of (insert (list_of b.body) (number_of at) x)) ∙ get-insert (list_of b.body) (number_of at) x b.within in
+    ap (λ (l : List Item). slice_get l (number_of at)) (list_of-items_of (insert (list_of b.body) (number_of at) x)) ∙ get-insert (list_of b.body) (number_of at) x b.within in
     let item : item_at at (patched (Insert at x) t) ≡ Some x = found_at at (patched (Insert at x) t) (insert_item (number_of at) x b.body) x one (body_at-map (holder_of at) (insert_item (number_of at) x) t b.body b.held) there in record {
       is_inverse = refl;
       back = map_body-undone (holder_of at) (insert_item (number_of at) x) (remove_item (number_of at)) t b.body b.held (insert-taken (number_of at) x b.body b.within);
@@ -159,7 +159,7 @@ undoes-delete at x t e =
     let n = number_of at in
     let held : body_at (holder_of at) (patched (Delete at) t) ≡ Some (remove_item n s.body) = body_at-map (holder_of at) (remove_item n) t s.body s.held in
     let long : n ≤ length (list_of (remove_item n s.body)) =
-        omega (arith, ap length (list_of-items_of (remove (list_of s.body) n)), length-remove (list_of s.body) n (get-within (list_of s.body) n x s.found), get-within (list_of s.body) n x s.found) in record {
+    omega (arith, ap length (list_of-items_of (remove (list_of s.body) n)), length-remove (list_of s.body) n (get-within (list_of s.body) n x s.found), get-within (list_of s.body) n x s.found) in record {
       is_inverse = ap (insert_again at) e;
       back = map_body-undone (holder_of at) (remove_item n) (insert_item n x) t s.body s.held (remove-taken n x s.body s.found);
       again = refl;
@@ -194,7 +194,7 @@ undoes-exchange at part x t e h =
     let n = number_of at in
     let p = holder_of at in
     let item : item_at at (patched (Exchange at part) t) ≡ Some (with_part part x) =
-        found_at at (patched (Exchange at part) t) (with_part_at n part s.body) (with_part part x) s.within (body_at-map p (with_part_at n part) t s.body s.held) (exchange-found n part s.body x s.found) in record {
+    found_at at (patched (Exchange at part) t) (with_part_at n part s.body) (with_part part x) s.within (body_at-map p (with_part_at n part) t s.body s.held) (exchange-found n part s.body x s.found) in record {
       is_inverse = ap (exchange_again at part) e;
       back = map_body-undone p (with_part_at n part) (with_part_at n (part_of part x)) t s.body s.held (exchange-taken n part s.body x s.found h);
       again = ap (exchange_again at (part_of part x)) item ∙ ap (λ q. Exchange at q ∷ []) (part-again part x h);

@@ -10,6 +10,8 @@ pub mod dims;
 pub mod edit;
 pub mod fault;
 pub mod find;
+pub mod fits;
+pub mod laws;
 pub mod part;
 pub mod patch;
 pub mod path;

@@ -37,7 +37,7 @@ pub(crate) fn walk(
             room: patches,
         });
     }
-    steps_back(description, steps, &mut patches);
+    steps_back(description, &mut steps, &mut patches);
     patches.reverse();
     Err(patches)
 }
@@ -71,33 +71,28 @@ pub(crate) fn patches_back(way: WayBack) -> Vec<Patch>
     requires { IsTrue (has_rooms way) }
     ensures { result.items ≡ way_patches way }
 {
-    let WayBack { mut steps, mut room } = way;
+    let WayBack {
+        mut steps,
+        mut room,
+    } = way;
     'steps: while let Some(step) = steps.pop() {
         room.push(step.back).unwrap();
     }
     room
 }
 
-/// Goes back all the way, and gives the patches that lead on again.
-pub(crate) fn go_back(description: &mut Description, way: WayBack) -> Vec<Patch>
-    requires { IsTrue (is_sound description.old.items way) }
-    ensures back { description.new.items ≡ image (way_patches way) description.old.items }
-    ensures patches { result.items ≡ inverses (way_patches way) description.old.items }
-{
-    let WayBack { steps, mut room } = way;
-    steps_back(description, steps, &mut room);
-    room.reverse();
-    room
-}
-
 /// Takes all steps, the last one first, and puts the patches that take each of them back behind those in the room.
-fn steps_back(description: &mut Description, steps: Vec<Step>, room: &mut Vec<Patch>)
-    requires ready { IsTrue (are_ready (reverse steps.items) description.old.items) }
-    requires room { length room.old.items + length steps.items ≤ vec_capacity room.old }
-    ensures back { description.new.items ≡ image (backs (reverse steps.items)) description.old.items }
-    ensures patches { reverse room.new.items ≡ inverses (backs (reverse steps.items)) description.old.items ++ reverse room.old.items }
+pub(crate) fn steps_back(
+    description: &mut Description,
+    steps: &mut Vec<Step>,
+    room: &mut Vec<Patch>,
+)
+    requires ready { IsTrue (are_ready (reverse steps.old.items) description.old.items) }
+    requires room { length room.old.items + length steps.old.items ≤ vec_capacity room.old }
+    ensures back { description.new.items ≡ image (backs (reverse steps.old.items)) description.old.items }
+    ensures patches { reverse room.new.items ≡ inverses (backs (reverse steps.old.items)) description.old.items ++ reverse room.old.items }
+    ensures none { steps.new.items ≡ [] }
 {
-    let mut steps = steps;
     'steps: while let Some(step) = steps.pop() {
         let patch = step_back(description, step);
         room.push(patch).unwrap();

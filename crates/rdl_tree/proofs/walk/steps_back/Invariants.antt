@@ -1,4 +1,4 @@
-use Rattle.std.proofs.Common.{◌≡◌, ◌++◌, ◌+◌, ◌≤◌, length}
+use Rattle.std.proofs.Common.{◌++◌, ◌+◌, ◌≤◌, length}
 use Rattle.std.specs.Prelude.{reverse, vec_capacity}
 use Rattle.rdl_tree.specs.Patch.{image, inverses}
 use Rattle.rdl_tree.specs.Way.{backs}
