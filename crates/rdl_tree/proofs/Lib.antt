@@ -3,6 +3,7 @@ pub mod Changes
 pub mod Components
 pub mod Edits
 pub mod Nesting
+pub mod PatchExamples
 pub mod PatchWeights
 pub mod Patching
 pub mod Places
