@@ -12,7 +12,7 @@ map_inner-same (suc i) (plain p rest) = ap (plain p) (map_inner-same i rest)
 map_inner-same (suc i) (holder h body rest) = ap (holder h body) (map_inner-same i rest)
 
 -- two changes that agree on the body that is there are one
-map_inner-cong : (i : ℕ) (t : Items) (f g : Items → Items) → ((b : Items) → inner i t ≡ Some b → f b ≡ g b) → map_inner i f t ≡ map_inner i g t
+pub map_inner-cong : (i : ℕ) (t : Items) (f g : Items → Items) → ((b : Items) → inner i t ≡ Some b → f b ≡ g b) → map_inner i f t ≡ map_inner i g t
 map_inner-cong i no_items f g h = refl
 map_inner-cong zero (plain p rest) f g h = refl
 map_inner-cong zero (holder k body rest) f g h = ap (λ b. holder k b rest) (h body refl)

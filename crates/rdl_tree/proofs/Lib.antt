@@ -1,7 +1,17 @@
+pub mod Backs
 pub mod Changes
 pub mod Components
+pub mod Edits
+pub mod Nesting
+pub mod PatchExamples
+pub mod PatchWeights
+pub mod Patching
+pub mod Places
+pub mod Reached
 pub mod Rests
 pub mod Rounds
 pub mod Sizes
+pub mod Stepped
 pub mod Steps
+pub mod Undone
 pub mod Ways

@@ -16,6 +16,10 @@ pub mod Patch
 pub mod PatchWeight
 pub mod Properties
 pub mod Shell
+pub mod Step
+pub mod Turned
 pub mod View
+pub mod Walk
+pub mod Way
 pub mod Weight
 pub mod Word

@@ -1,5 +1,6 @@
 //! Where an item stands.
 ghost use Rattle.std.specs.Prelude.{◌≡◌, ◌==◌, ℕ, ◌<◌, ◌≤◌, List, [], ◌∷◌, ◌++◌, length, take};
+ghost use Rattle.rdl_tree.specs.Address.{holder_of, number_of};
 
 use std::fmt;
 use std::marker::Model;
@@ -75,6 +76,28 @@ impl Address {
             numbers,
             len: self.len + 1,
         }
+    }
+
+    /// The address of the body that holds the item at this address.
+    pub fn holder(&self) -> Address
+        requires { 0 < length self.now }
+        ensures { result ≡ holder_of self.now }
+    {
+        let mut holder = Address::new();
+        let numbers = self.as_slice();
+        'numbers: for number in &numbers[..numbers.len() - 1] {
+            holder.push(*number);
+        }
+        holder
+    }
+
+    /// The number, in that body, of the item at this address.
+    pub fn number(&self) -> usize
+        requires { 0 < length self.now }
+        ensures { result ≡ number_of self.now }
+    {
+        let numbers = self.as_slice();
+        numbers[numbers.len() - 1]
     }
 
     pub fn copy(&self) -> Address

@@ -41,7 +41,9 @@ impl Item {
             }
             (Item::Define(name, _), Part::OfDefine(new)) => Part::OfDefine(mem::replace(name, new)),
             (Item::Own(_, value), Part::OfValue(new)) => Part::OfValue(mem::replace(value, new)),
-            (Item::Default(_, value), Part::OfValue(new)) => Part::OfValue(mem::replace(value, new)),
+            (Item::Default(_, value), Part::OfValue(new)) => {
+                Part::OfValue(mem::replace(value, new))
+            }
             (Item::Dynamic(_, _, value), Part::OfValue(new)) => {
                 Part::OfValue(mem::replace(value, new))
             }

@@ -2,8 +2,11 @@
 ghost use Rattle.std.specs.Prelude.{◌≡◌, ◌+◌, ℕ, sum_by, length};
 ghost use Rattle.rdl_tree.specs.Weight.{weight, capped, value_weight};
 ghost use Rattle.rdl_tree.specs.ItemWeight.{item_weight};
+ghost use Rattle.rdl_tree.specs.PatchWeight.{part_weight, patch_weight};
 
 use crate::description::{Body, Description, Item, Of};
+use crate::part::Part;
+use crate::patch::Patch;
 use crate::target::Target;
 use crate::value::Value;
 
@@ -75,6 +78,34 @@ impl Target {
             sum = sum.saturating_add(name.len() as u64);
         }
         sum
+    }
+}
+
+impl Part {
+    /// The bytes of the part's texts.
+    pub fn weight(&self) -> u64
+        ensures { result ≡ capped (part_weight self.now) }
+    {
+        match self {
+            Part::OfShell(shell) => shell.name.len() as u64,
+            Part::OfValue(value) => value.weight(),
+            Part::OfTarget(target) => target.weight(),
+            Part::OfType(name) | Part::OfDefine(name) => name.len() as u64,
+        }
+    }
+}
+
+impl Patch {
+    /// 1, the count of the patch's numbers, and the weight of its item or the bytes of its part's texts.
+    pub fn weight(&self) -> u64
+        ensures { result ≡ capped (patch_weight self.now) }
+    {
+        match self {
+            Patch::Insert(address, item) => one_and(address.len() as u64, item.weight(), 0),
+            Patch::Delete(address) => one_and(address.len() as u64, 0, 0),
+            Patch::Shift(address, _) => one_and(address.len() as u64, 1, 0),
+            Patch::Exchange(address, part) => one_and(address.len() as u64, part.weight(), 0),
+        }
     }
 }
 
