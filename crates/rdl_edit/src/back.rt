@@ -1,5 +1,7 @@
 //! What takes a step of the map back.
 ghost use Rattle.std.specs.Prelude.{◌≡◌};
+ghost use Rattle.rdl_tree.specs.PatchWeight.{patches_weight};
+ghost use Rattle.rdl_tree.specs.Weight.{capped};
 
 use rdl_tree::patch::Patch;
 use std::marker::Model;
@@ -35,6 +37,17 @@ impl Back {
     {
         let Back { patches } = self;
         patches
+    }
+
+    /// What is kept: for each patch 1, its numbers, and the weight of its item or the bytes of its part's texts.
+    pub fn weight(&self) -> u64
+        ensures { result ≡ capped (patches_weight self.now) }
+    {
+        let mut sum = 0u64;
+        for patch in &self.patches {
+            sum = sum.saturating_add(patch.weight());
+        }
+        sum
     }
 
     /// The patches, in the order in which they are applied.

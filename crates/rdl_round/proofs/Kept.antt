@@ -3,7 +3,7 @@ use Rattle.std.proofs.Common.{◌≡◌, ℕ, suc, Bool, true, false, cond, if�
 use Rattle.std.specs.List.{list_all}
 use Rattle.std.specs.Prelude.{◌==◌}
 use Rattle.std.proofs.lemmas.List.Elements.{All-append, All-take, All-drop}
-use Rattle.rdl_tree.specs.Address.{body_at}
+use Rattle.rdl_tree.specs.Address.{holder_of, number_of, body_at}
 use Rattle.rdl_tree.specs.Edit.{remove_item}
 use Rattle.rdl_tree.specs.Find.{find}
 use Rattle.rdl_tree.specs.Items.{Items, no_items, plain, holder, Plain, named, own, default, dynamic, Holder, anonymous}
@@ -16,7 +16,6 @@ use Rattle.rdl_tree.specs.declared.shell.Kind.{Kind}
 use Rattle.rdl_tree.specs.declared.shell.Shell.{Shell}
 use Rattle.rdl_tree.specs.declared.value.Value.{Value}
 use Rattle.rdl_scope.specs.Types.{item}
-use Rattle.rdl_rewrite.specs.Addresses.{holder_of, number_of}
 use Rattle.rdl_rewrite.specs.Assignment.{is_sort, assigns, up_to_last, assignment, set_at, cleared_at}
 use Rattle.rdl_rewrite.specs.Change.{is_component, taken, insert_items, added_at, put_in, moved_item, edited_body}
 use Rattle.rdl_rewrite.specs.Dynamics.{assigns_to, assigned_at, unassigned_at}

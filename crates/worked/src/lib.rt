@@ -3,6 +3,8 @@
 #![tactic(auto)]
 
 #[cfg(test)]
+mod backs;
+#[cfg(test)]
 mod edits;
 #[cfg(test)]
 mod header;
