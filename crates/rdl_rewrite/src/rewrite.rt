@@ -52,11 +52,11 @@ fn patches_on(
     if way.is_empty() {
         return Err(Refusal::NotAnInstance);
     }
-    item_patches(alloc, whole, way, edit)
+    item_edit_patches(alloc, whole, way, edit)
 }
 
 /// The patches of an edit of the item at the address.
-fn item_patches(
+fn item_edit_patches(
     alloc: Global,
     whole: &Description,
     way: &Address,
