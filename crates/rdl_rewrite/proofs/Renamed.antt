@@ -1,13 +1,10 @@
 -- What follows a new name, name by name.
-use Rattle.std.proofs.Common.{◌≡◌, ◌≤◌, ℕ, Bool, true, false, cond, ◌||◌, List, [], ◌∷◌, ◌++◌, length, drop, Some, None, Option, refl, ap, sym, ◌∙◌}
+use Rattle.std.proofs.Common.{◌≡◌, ◌≤◌, ℕ, false, cond, List, [], ◌∷◌, ◌++◌, length, drop, Some, None, Option, refl, ap, sym, ◌∙◌}
 use Rattle.std.proofs.lemmas.List.{append-nil, drop_all}
 use Rattle.std.specs.List.{list_any}
 use Rattle.rdl_rewrite.specs.Addresses.{same, passes_by}
 use Rattle.rdl_rewrite.specs.Renaming.{renamed_names, renamed_target}
-
-or-false : (x y : Bool) → (x || y) ≡ false → (x ≡ false) × (y ≡ false)
-or-false true y e = cc
-or-false false y e = (refl, e)
+use Rattle.rdl_rewrite.proofs.Found.{or-false}
 
 -- ---- The names of a target.
 
