@@ -42,9 +42,9 @@ plain-stays : (o : Bool) (p : Plain) (rest : Items) → cond o rest (plain p res
 plain-stays true p rest = refl
 plain-stays false p rest = sym (add-plain p rest)
 
-holder-stays : (o : Bool) (h : Holder) (old body rest : Items) → cond o rest (holder h body rest) ≡ left_by (cond o Dropped Kept) (holder_item h body) rest
-holder-stays true h old body rest = refl
-holder-stays false h old body rest = sym (add-holder h body rest)
+holder-stays : (o : Bool) (h : Holder) (body rest : Items) → cond o rest (holder h body rest) ≡ left_by (cond o Dropped Kept) (holder_item h body) rest
+holder-stays true h body rest = refl
+holder-stays false h body rest = sym (add-holder h body rest)
 
 pub staying-fated : (whole : Items) (way b : List ℕ) (n : ℕ) (t : Items) → staying (goes whole way) b n t ≡ fated (fate whole way None) b n t
 staying-fated whole way b n no_items = refl
@@ -54,7 +54,7 @@ staying-fated whole way b n (plain p rest) =
 staying-fated whole way b n (holder h body rest) =
     ap (λ r. cond (goes whole way (b ++ n ∷ [])) r (holder h (staying (goes whole way) (b ++ n ∷ []) 0 body) r)) (staying-fated whole way b (suc n) rest)
     ∙ ap (λ k. cond (goes whole way (b ++ n ∷ [])) (fated (fate whole way None) b (suc n) rest) (holder h k (fated (fate whole way None) b (suc n) rest))) (staying-fated whole way (b ++ n ∷ []) 0 body)
-    ∙ holder-stays (goes whole way (b ++ n ∷ [])) h body (fated (fate whole way None) (b ++ n ∷ []) 0 body) (fated (fate whole way None) b (suc n) rest)
+    ∙ holder-stays (goes whole way (b ++ n ∷ [])) h (fated (fate whole way None) (b ++ n ∷ []) 0 body) (fated (fate whole way None) b (suc n) rest)
 
 apt-if : (o : Bool) (x : Item) (part : Part) → cond o Dropped Kept ≡ Given part → has_part part x ≡ true
 apt-if true x part e = cc

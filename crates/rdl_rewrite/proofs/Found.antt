@@ -29,7 +29,7 @@ same-apart p at way holds fails = by_case (same at way) refl
         let one : at ≡ way = (bytes_eq-Decides at way).0 e in
         sym holds ∙ ap p one ∙ fails
 
-or-false : (x y : Bool) → (x || y) ≡ false → (x ≡ false) × (y ≡ false)
+pub or-false : (x y : Bool) → (x || y) ≡ false → (x ≡ false) × (y ≡ false)
 or-false true y e = cc
 or-false false y e = (refl, e)
 

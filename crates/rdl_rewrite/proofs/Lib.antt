@@ -14,4 +14,3 @@ pub mod Places
 pub mod Reached
 pub mod Reaching
 pub mod Renamed
-pub mod Staying

@@ -11,12 +11,8 @@ pub position_below : (p : Item → Bool) (xs : List Item) (i : ℕ) → position
 position_below p [] i e = cc
 position_below p (x ∷ xs) i e = (position-Some p (x ∷ xs) i x e).0
 
--- the number in the rest of a list
-behind : ℕ → Option ℕ → Option ℕ
-behind n o = option_map (λ i. n + i) o
-
-first-passes : (l n : ℕ) → cond {A = Option ℕ} (ltb 0 (suc n)) (Some 0) None ≡ Some 0
-first-passes l n = grind (arith, nat_tests)
+first-passes : (n : ℕ) → cond {A = Option ℕ} (ltb 0 (suc n)) (Some 0) None ≡ Some 0
+first-passes n = grind (arith, nat_tests)
 
 later-passes : (l n : ℕ) → cond (ltb (1 + l) (suc n)) (Some (1 + l)) None ≡ option_map (λ i. 1 + i) (cond (ltb l n) (Some l) None)
 later-passes l n = by_case (ltb l n) refl
@@ -29,7 +25,7 @@ position-cons : (p : Item → Bool) (x : Item) (xs : List Item) → position p (
 position-cons p x xs = by_case (p x) refl
   where
     by_case : (b : Bool) → p x ≡ b → position p (x ∷ xs) ≡ cond b (Some 0) (option_map (λ i. 1 + i) (position p xs))
-    by_case true e = ap (λ b. cond (ltb (cond (not b) (1 + position_or_len p xs) 0) (length (x ∷ xs))) (Some (cond (not b) (1 + position_or_len p xs) 0)) None) e ∙ first-passes 0 (length xs)
+    by_case true e = ap (λ b. cond (ltb (cond (not b) (1 + position_or_len p xs) 0) (length (x ∷ xs))) (Some (cond (not b) (1 + position_or_len p xs) 0)) None) e ∙ first-passes (length xs)
     by_case false e = ap (λ b. cond (ltb (cond (not b) (1 + position_or_len p xs) 0) (length (x ∷ xs))) (Some (cond (not b) (1 + position_or_len p xs) 0)) None) e ∙ later-passes (position_or_len p xs) (length xs)
 
 map-or : (a b : Option ℕ) (n m : ℕ) → 1 + n ≡ m → option_map (λ i. 1 + i) (option_or a (option_map (λ i. n + i) b)) ≡ option_or (option_map (λ i. 1 + i) a) (option_map (λ i. m + i) b)

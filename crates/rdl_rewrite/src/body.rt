@@ -76,6 +76,7 @@ fn add(
     if are_taken(alloc, whole, new, body)? {
         return Err(Refusal::NameTaken);
     }
+    // A slice is shorter than half of all numbers, so no new number is too large.
     let _old = body.as_slice();
     Ok(inserts(alloc, way, number, new.as_slice())?)
 }

@@ -2,53 +2,14 @@
 ghost use Rattle.std.specs.Prelude.{◌≡◌, Some, option_copied};
 ghost use Rattle.std.specs.List.{list_any};
 ghost use Rattle.rdl_scope.specs.Types.{item, type_of};
-ghost use Rattle.rdl_scope.specs.Walk.{is_definition, is_instance, reference_of};
+ghost use Rattle.rdl_scope.specs.Walk.{is_instance};
 ghost use Rattle.rdl_rewrite.specs.Addresses.{same, leads_to};
 
-use rdl_scope::types::type_of;
+use rdl_scope::targets::is_instance;
+use rdl_scope::types::{defines, reference, type_of};
 use rdl_text::name::Name;
 use rdl_tree::address::Address;
-use rdl_tree::description::{Body, Description, Item, Of};
-
-/// The item at this address of the body.
-pub(crate) fn item_at<'a>(body: &'a Body, path: &[usize]) -> Option<&'a Item>
-    ensures { option_copied result ≡ item path.now body.now }
-{
-    match path {
-        [] => None,
-        [number] => body.item(*number),
-        [number, rest @ ..] => item_at(body.inner(*number)?, rest),
-    }
-}
-
-/// The name of the type to which the item refers.
-fn reference(found: &Item) -> Option<&Name>
-    ensures { option_copied result ≡ reference_of found.now }
-{
-    match found {
-        Item::Instance(_, Of::Named(name)) => Some(name),
-        _ => None,
-    }
-}
-
-/// Whether the item is a definition of this name.
-pub(crate) fn is_definition(taken: Option<&Item>, name: &Name) -> bool
-    ensures { result ≡ is_definition name.now (option_copied taken.entry) }
-{
-    match taken {
-        Some(Item::Define(defined, _)) => defined == name,
-        _ => false,
-    }
-}
-
-fn is_instance(taken: Option<&Item>, name: &Name) -> bool
-    ensures { result ≡ is_instance name.now (option_copied taken.entry) }
-{
-    match taken {
-        Some(Item::Instance(shell, _)) => &shell.name == name,
-        _ => false,
-    }
-}
+use rdl_tree::description::{Description, Item};
 
 /// Whether the item is an instance that has one of these names.
 pub(crate) fn is_instance_of_any(taken: Option<&Item>, names: &[Name]) -> bool
@@ -92,8 +53,8 @@ pub(crate) fn leads_to(
     requires here { item at.now whole.now.items ≡ Some found.now }
     ensures { result ≡ leads_to way.now (type_of whole.now.items at.now) }
 {
-    match reference(found) {
-        Some(name) => is_definition(taken, name) && is_at(way, type_of(whole, at).as_ref()),
+    match reference(Some(found)) {
+        Some(name) => defines(taken, name) && is_at(way, type_of(whole, at).as_ref()),
         None => false,
     }
 }

@@ -14,9 +14,10 @@ ghost use Rattle.rdl_rewrite.specs.Refuses.{Refuses};
 
 use crate::edit::Refusal;
 use crate::fate::Fate;
-use crate::leads::{is_instance_of_any, is_on, item_at, leads_to};
+use crate::leads::{is_instance_of_any, is_on, leads_to};
 use crate::reach::Reach;
 use rdl_scope::targets::through;
+use rdl_scope::types::item_at;
 use rdl_tree::address::Address;
 use rdl_tree::description::{Body, Description, Item};
 use rdl_tree::patch::Patch;

@@ -11,12 +11,13 @@ ghost use Rattle.rdl_rewrite.specs.Refuses.{Refuses};
 
 use crate::edit::Refusal;
 use crate::fate::Fate;
-use crate::leads::{is_at, is_instance_of_any, is_on, item_at, leads_to};
+use crate::leads::{is_at, is_instance_of_any, is_on, leads_to};
 use crate::names::{defined_names, has_name, instance_names};
 use crate::reach::Reach;
 use crate::rewrite::holder;
 use rdl_parse::class::Class;
 use rdl_scope::targets::through;
+use rdl_scope::types::item_at;
 use rdl_text::name::Name;
 use rdl_tree::address::Address;
 use rdl_tree::description::{Body, Description, Item, Of};

@@ -18,7 +18,7 @@ use rdl_tree::patch::Patch;
 use std::alloc::Global;
 
 /// The patches that make the edit, one for each item that it inserts, drops, moves or sets; or the edit's first refusal.
-/// The description is nested at most 16 deep, as every map's, and so is the edited one.
+/// The description nests at most 16 deep, as every map's does. An edit after which it would nest deeper is refused.
 pub fn patches(alloc: Global, description: &Description, edit: &Edit) -> Result<Vec<Patch>, Refusal>
     requires nesting { depth description.now.items ≤ 16 }
     ensures made { IfOk result (λ ps. rewritten description.now.items edit.now ≡ Ok (image ps.items description.now.items)) }
@@ -52,11 +52,11 @@ fn patches_on(
     if way.is_empty() {
         return Err(Refusal::NotAnInstance);
     }
-    item_patches(alloc, whole, way, edit)
+    item_edit_patches(alloc, whole, way, edit)
 }
 
 /// The patches of an edit of the item at the address.
-fn item_patches(
+fn item_edit_patches(
     alloc: Global,
     whole: &Description,
     way: &Address,

@@ -11,7 +11,8 @@ use rdl_tree::address::Address;
 use rdl_tree::description::{Body, Description, Item};
 use std::alloc::{AllocError, Global};
 
-fn is_instance(item: Option<&Item>, name: &Name) -> bool
+/// Whether the item is an instance of this name.
+pub fn is_instance(item: Option<&Item>, name: &Name) -> bool
     ensures { result ≡ is_instance name.now (option_copied item.entry) }
 {
     match item {

@@ -12,7 +12,8 @@ use rdl_text::name::Name;
 use rdl_tree::address::Address;
 use rdl_tree::description::{Body, Component, Description, Item, Of};
 
-fn defines(item: Option<&Item>, name: &Name) -> bool
+/// Whether the item is a definition of this name.
+pub fn defines(item: Option<&Item>, name: &Name) -> bool
     ensures { result ≡ is_definition name.now (option_copied item.entry) }
 {
     match item {
@@ -68,7 +69,8 @@ fn found(body: &Body, path: &[usize], name: &Name) -> Option<(usize, usize)>
     place
 }
 
-pub(crate) fn item_at<'a>(body: &'a Body, path: &[usize]) -> Option<&'a Item>
+/// The item at this address of the body.
+pub fn item_at<'a>(body: &'a Body, path: &[usize]) -> Option<&'a Item>
     ensures { option_copied result ≡ item path.now body.now }
 {
     match path {
@@ -92,7 +94,7 @@ pub(crate) fn prefix(path: &[usize], depth: usize) -> Address
 }
 
 /// The name of the type to which the item refers.
-fn reference(item: Option<&Item>) -> Option<&Name>
+pub fn reference(item: Option<&Item>) -> Option<&Name>
     ensures { option_copied result ≡ option_and_then reference_of (option_copied item.entry) }
 {
     match item {
