@@ -1,6 +1,6 @@
 -- What takes a step of the map back: patches, one for each item that the step touched.
 -- own: SystemRDL 2.0 has no edits.
-use Rattle.std.specs.Prelude.{◌≡◌, ◌≤◌, ℕ, ◌+◌, ◌*◌, List, length}
+use Rattle.std.specs.Prelude.{◌≡◌, ◌≤◌, ◌+◌, ◌*◌, List, length}
 use Rattle.rdl_tree.specs.Items.{Items}
 use Rattle.rdl_tree.specs.Patch.{AllFit, image}
 use Rattle.rdl_tree.specs.PatchWeight.{patches_weight, taken}

@@ -1,10 +1,9 @@
-use Rattle.std.proofs.Common.{rules, ◌∙◌, ap, sym, subst}
+use Rattle.std.proofs.Common.{rules, ◌∙◌, sym, subst}
 use Rattle.std.specs.Prelude.{option_copied, Err, ◌≡◌, ◌⊎◌}
-use Rattle.rdl_tree.specs.Items.{Items}
 use Rattle.rdl_tree.specs.Patch.{image}
 use Rattle.rdl_elab.specs.Faults.{elaborated}
 use Rattle.rdl_scope.specs.ItemFaults.{out_of_memory}
-use Rattle.rdl_edit.specs.Step.{State, IsJudged}
+use Rattle.rdl_edit.specs.Step.{IsJudged}
 use Rattle.rdl_edit.proofs.WaysBack.{way-back, cheap, judged}
 use Rattle.rdl_edit.proofs.turning.turn.Goals as goal
 

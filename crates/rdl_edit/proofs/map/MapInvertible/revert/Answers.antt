@@ -1,7 +1,7 @@
-use Rattle.std.proofs.Common.{rules, ◌≡◌, ◌∙◌, subst, sym, ap}
+use Rattle.std.proofs.Common.{◌∙◌, subst, sym, ap}
 use Rattle.rdl_tree.specs.Items.{Items}
 use Rattle.rdl_tree.specs.Patch.{image}
-use Rattle.rdl_edit.specs.Step.{State, HasRows}
+use Rattle.rdl_edit.specs.Step.{HasRows}
 use Rattle.rdl_edit.specs.Backs.{prior}
 use Rattle.rdl_edit.proofs.map.MapInvertible.revert.Goals as goal
 use Rattle.rdl_edit.proofs.map.MapInvertible.revert.Goals.{in-Ok, in-Err}
