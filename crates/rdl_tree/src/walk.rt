@@ -1,7 +1,7 @@
 //! Patches applied one after another, and the way back.
-ghost use Rattle.std.specs.Prelude.{◌≡◌, ◌++◌, [], ◌∷◌, ◌+◌, ◌≤◌, IsTrue, IfOk, IfErr, OnOk, OnErr, true, is_ok, length, reverse, vec_capacity};
-ghost use Rattle.rdl_tree.specs.Patch.{patched, fits, image, inverse, inverses, AllFit};
-ghost use Rattle.rdl_tree.specs.Way.{is_placed, is_ready, are_ready, backs, patches_back as way_patches, is_sound, has_rooms};
+ghost use Rattle.std.specs.Prelude.{◌≡◌, ◌++◌, [], ◌+◌, ◌≤◌, IsTrue, IfOk, IfErr, OnOk, OnErr, length, reverse, vec_capacity};
+ghost use Rattle.rdl_tree.specs.Patch.{image, inverses, AllFit};
+ghost use Rattle.rdl_tree.specs.Way.{are_ready, backs, patches_back as way_patches, is_sound, has_rooms};
 ghost use Rattle.rdl_tree.specs.Walk.{IsUnderWay};
 
 use crate::description::Description;
