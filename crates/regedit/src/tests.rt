@@ -15,6 +15,7 @@ mod faults;
 mod files;
 mod headers;
 mod history;
+mod hostile;
 mod layouts;
 mod limits;
 mod lines;
