@@ -14,7 +14,6 @@ use crate::fate::Fate;
 use crate::leads::{is_at, is_instance_of_any, is_on, leads_to};
 use crate::names::{defined_names, has_name, instance_names};
 use crate::reach::Reach;
-use crate::rewrite::holder;
 use rdl_parse::class::Class;
 use rdl_scope::targets::through;
 use rdl_scope::types::item_at;
@@ -172,7 +171,7 @@ fn is_taken(
         Some(Item::Define(..)) => {
             Ok(has_name(defined_names(alloc, &whole.items)?.as_slice(), name))
         }
-        Some(Item::Instance(..)) => is_in(alloc, name, whole.body(&holder(way))),
+        Some(Item::Instance(..)) => is_in(alloc, name, whole.body(&way.holder())),
         _ => Ok(false),
     }
 }

@@ -1,6 +1,6 @@
 //! The patches that make an edit.
 ghost use Rattle.std.specs.Prelude.{◌≡◌, ◌<◌, ◌≤◌, Ok, IfOk, IfErr, true, is_ok, length};
-ghost use Rattle.rdl_tree.specs.Address.{holder_of, number_of, body_at};
+ghost use Rattle.rdl_tree.specs.Address.{body_at};
 ghost use Rattle.rdl_tree.specs.Depth.{depth};
 ghost use Rattle.rdl_tree.specs.Patch.{image, AllFit};
 ghost use Rattle.rdl_rewrite.specs.Change.{edited_body};
@@ -71,7 +71,7 @@ fn item_edit_patches(
     match edit {
         Edit::Remove(_) => remove(alloc, whole, way),
         Edit::Rename(_, name) => rename(alloc, whole, way, name),
-        _ => patches_in(alloc, whole, &holder(way), number(way), edit),
+        _ => patches_in(alloc, whole, &way.holder(), way.number(), edit),
     }
 }
 
@@ -102,26 +102,4 @@ fn stands_level(way: &Address, edit: &Edit) -> bool
         Edit::Add(_, _, new) => new.depth().saturating_add(way.len() as u64) <= 16,
         _ => true,
     }
-}
-
-/// The address of the body that holds the item.
-pub(crate) fn holder(address: &Address) -> Address
-    requires { 0 < length address.now }
-    ensures { result ≡ holder_of address.now }
-{
-    let mut holder = Address::new();
-    let numbers = address.as_slice();
-    'numbers: for number in &numbers[..numbers.len() - 1] {
-        holder.push(*number);
-    }
-    holder
-}
-
-/// The number of the item in the body that holds it.
-fn number(address: &Address) -> usize
-    requires { 0 < length address.now }
-    ensures { result ≡ number_of address.now }
-{
-    let numbers = address.as_slice();
-    numbers[numbers.len() - 1]
 }
