@@ -147,7 +147,6 @@ named-value-good n =
 
 property-value-good : (p : Property) → IfSome (property_value p) IsValue
 property-value-good property.Sw = tt
-property-value-good property.Hw = tt
 property-value-good p = tt
 
 word-value-good : (w : ValueWord) → IfSome (word_value w) IsValue
