@@ -16,3 +16,5 @@ pub mod Faultless
 pub mod Stepped
 pub mod Back
 pub mod Parsed
+pub mod Brought
+pub mod Scripted

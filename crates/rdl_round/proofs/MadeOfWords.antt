@@ -32,13 +32,13 @@ use Rattle.rdl_round.proofs.Parts.{inside-quoted}
 
 -- ---- The words of a text are well spelled, as the grammar sees them too.
 
-abbrev IsWell : Symbol → Type 0
+abbrev pub IsWell : Symbol → Type 0
 IsWell (name n) = IsName n
 IsWell (number n) = IsNumber n
 IsWell (text t) = IsRaw t
 IsWell w = Unit {0}
 
-abbrev AreWell : List Symbol → Type 0
+abbrev pub AreWell : List Symbol → Type 0
 AreWell [] = Unit {0}
 AreWell (w ∷ ws) = IsWell w × AreWell ws
 
@@ -58,7 +58,7 @@ kind-well (kinds.Number n) source h b = b
 kind-well kinds.Text source h b = subst IsRaw (sym (ap inside h.1.quoted ∙ inside-quoted h.0)) h.1.raw
 kind-well (kinds.Mark m) source h b = tt
 
-symbols-well : (ws : List Word) → AreWellSpelled ws → AreWell (symbols ws)
+pub symbols-well : (ws : List Word) → AreWellSpelled ws → AreWell (symbols ws)
 symbols-well [] h = tt
 symbols-well (w ∷ ws) h = (kind-well w.kind w.source h.0.0 h.0.1, symbols-well ws h.1)
 

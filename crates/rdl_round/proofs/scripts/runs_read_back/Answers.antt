@@ -1,0 +1,11 @@
+use Rattle.rdl_round.proofs.Scripted.{run-reads-back, place-of-run-reads-back, output-reads-back}
+use Rattle.rdl_round.proofs.scripts.runs_read_back.Goals as goal
+
+pub returns-clause-all : goal.returns-clause-all
+returns-clause-all c = run-reads-back
+
+pub returns-clause-current : goal.returns-clause-current
+returns-clause-current c = place-of-run-reads-back
+
+pub returns-clause-written : goal.returns-clause-written
+returns-clause-written c = output-reads-back

@@ -1,0 +1,51 @@
+//! Laws of what the lines of a script bring, and so of the maps to which a script leads.
+ghost use Rattle.std.specs.Prelude.{◌≡◌, ◌≤◌, ℕ, Bool, List, length, Option, Ok, All};
+ghost use Rattle.journal_core.specs.History.{History, IsAt};
+ghost use Rattle.rdl_tree.specs.View.{items_of};
+ghost use Rattle.rdl_tree.specs.declared.description.Item.{Item};
+ghost use Rattle.rdl_tree.specs.declared.path.Segment.{Segment};
+ghost use Rattle.rdl_parse.specs.Faults.{max_text};
+ghost use Rattle.rdl_parse.specs.FirstFault.{parse_reading};
+ghost use Rattle.rdl_parse.specs.Places.{Located};
+ghost use Rattle.rdl_rewrite.specs.declared.edit.Edit.{Edit};
+ghost use Rattle.rdl_rewrite.specs.declared.edit.Edit.TheVariants.{Add};
+ghost use Rattle.rdl_rewrite.specs.declared.place.Place.{Place};
+ghost use Rattle.rdl_edit.specs.Step.{State};
+ghost use Rattle.rdl_script.specs.Commands.{edit, add, command_of, lines_of};
+ghost use Rattle.rdl_run.specs.Answers.{Serves};
+ghost use Rattle.rdl_run.specs.Opening.{Opens};
+ghost use Rattle.rdl_run.specs.Output.{Output, one_map, RunsScript};
+ghost use Rattle.rdl_run.specs.Readings.{ReadsItems};
+ghost use Rattle.rdl_round.specs.Histories.{ReadsBack, IsWritable, Action, Follows, BringWords};
+ghost use Rattle.rdl_round.specs.NewParts.{IsEditOfWords, IsEditSpellable};
+
+/// The edit that a line asks for brings only what is made of words and what a text can spell. Of an `add` the text has to
+/// be read first: with the items that it spells, whichever they are, this is so of the `add` too.
+pub fn script_edits_bring_words()
+    ensures of_edit { (line : List ℕ) (e : Edit) → command_of line ≡ edit e → IsEditOfWords e × IsEditSpellable e }
+    ensures of_add { (line : List ℕ) (path : List Segment) (place : Place) (text : List ℕ) (items : List Item) → command_of line ≡ add path place text
+        → ReadsItems text items → IsEditOfWords (Add path place (items_of items)) × IsEditSpellable (Add path place (items_of items)) }
+{}
+
+/// So the lines of a script do nothing to a history but accepted edits, undos and redos, and these bring only words.
+pub fn scripts_bring_words()
+    ensures { (old new : History State) (lines : List (List ℕ)) (text : List ℕ) (refuses : Bool) → Serves old lines text refuses new
+        → (actions : List Action) × BringWords actions × Follows old actions new }
+{}
+
+/// A history of maps that can be written and read back stays one, whatever the lines of a script say.
+pub fn scripts_keep_maps_writable()
+    ensures { (old new : History State) (lines : List (List ℕ)) (text : List ℕ) (refuses : Bool) → All (λ s. IsWritable s.description) old.states
+        → Serves old lines text refuses new → All (λ s. IsWritable s.description) new.states }
+{}
+
+/// So from a map that was opened each map to which a script leads reads back: that at the place, those before it, and those
+/// that can be redone. The text that a run leaves as its map is read as the map to which the script led, if it isn't too long.
+pub fn runs_read_back()
+    ensures all { (option : Option (List ℕ)) (map : List ℕ) (first : State) (limit : ℕ) (script replies : List ℕ) (refuses : Bool) (last : History State)
+        → Opens option map first → Serves (one_map limit first) (lines_of script) replies refuses last → All (λ s. ReadsBack s.description) last.states }
+    ensures current { (option : Option (List ℕ)) (map : List ℕ) (first : State) (limit : ℕ) (script replies : List ℕ) (refuses : Bool) (last : History State) (now : State)
+        → Opens option map first → Serves (one_map limit first) (lines_of script) replies refuses last → IsAt last now → ReadsBack now.description }
+    ensures written { (option : Option (List ℕ)) (limit : ℕ) (map script : List ℕ) (out : Output) (ran : RunsScript option limit map script out)
+        → length out.rdl ≤ max_text → (p : Located) × (parse_reading out.rdl ≡ Ok (ran.runs.now.description, p)) }
+{}
