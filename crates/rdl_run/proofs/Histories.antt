@@ -127,11 +127,14 @@ module _ (old : History') (g : IsGood old) where
   edit-step e room s at (Err refusal) is = record {
     reply = not_done (OfEdit refusal);
     new = old;
-    answers = (record {
-      room = room;
-      refused = record { at = s; stood = at; refused = step-refuses s e refusal is };
-      real = λ m. step-real s e (is ∙ ap (λ (r : Refusal). let q : Result State Refusal = Err r in q) m);
-    }, refl);
+    answers = (
+      record {
+        room = room;
+        refused = record { at = s; stood = at; refused = step-refuses s e refusal is };
+        real = λ m. step-real s e (is ∙ ap (λ (r : Refusal). let q : Result State Refusal = Err r in q) m);
+      },
+      refl,
+    );
   }
 
   edit-room : (e : Edit) (full : Bool) → nat_eq old.place old.limit ≡ full → AnsweredEdit old e
