@@ -7,7 +7,6 @@ use Rattle.journal_core.specs.History.{IsAt, after_edit, after_undo, after_redo}
 use Rattle.rdl_list.specs.ListText.{list_lines}
 use Rattle.rdl_edit.specs.Step.{State, HasRows, step}
 use Rattle.rdl_edit.specs.declared.edit.Refusal.{Refusal}
-use Rattle.rdl_edit.specs.declared.edit.Refusal.TheVariants as refusals
 use Rattle.rdl_rewrite.specs.declared.edit.Edit.{Edit}
 use Rattle.rdl_rewrite.specs.declared.edit.Edit.TheVariants.{Add}
 use Rattle.rdl_rewrite.specs.declared.place.Place.{Place}
@@ -113,9 +112,6 @@ record AnsweredEdit (old : History') (e : Edit) : Type 0 where
   reply : Said
   new : History'
   answers : AnswersEdit old e reply new
-
-fails : Refusal → Result State Refusal
-fails refusal = Err refusal
 
 module _ (old : History') (g : IsGood old) where
   edit-step : (e : Edit) → old.place ≢ old.limit → (s : State) → IsAt old s → (r : Result State Refusal) → step s e ≡ r → AnsweredEdit old e

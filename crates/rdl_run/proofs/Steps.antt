@@ -1,5 +1,5 @@
 -- A step of an edit is never refused for want of memory, and leads to a map that has rows.
-use Rattle.std.proofs.Common.{◌≡◌, ℕ, Bool, true, false, cond, List, [], length, ◌==◌, Option, Some, None, Result, Ok, Err, refl, sym, ap, ◌∙◌, subst}
+use Rattle.std.proofs.Common.{◌≡◌, ℕ, Bool, true, false, cond, List, [], length, ◌==◌, Option, Some, None, Result, Ok, Err, refl, subst}
 use Rattle.std.specs.Prelude.{◌-◌, slice_get, slice_index}
 use Rattle.std.specs.List.{list_all, position}
 use Rattle.rdl_elab.specs.Faults.{elaborated}
@@ -16,15 +16,14 @@ use Rattle.rdl_tree.specs.declared.fault.Fault.{Fault}
 use Rattle.rdl_tree.specs.declared.path.PathFault.{PathFault}
 use Rattle.rdl_tree.specs.declared.path.PathFault.TheVariants as path_fault
 use Rattle.rdl_tree.specs.declared.shell.Shell.{Shell}
-use Rattle.rdl_rewrite.specs.Assignment.{assigns, cleared, cleared_at}
-use Rattle.rdl_rewrite.specs.Change.{is_component, taken, insert_items, added_at, added, put_in, moved_item, moved, edited_body}
-use Rattle.rdl_rewrite.specs.Dynamics.{assigns_to, unassigned, unassigned_at}
+use Rattle.rdl_rewrite.specs.Assignment.{cleared_at}
+use Rattle.rdl_rewrite.specs.Change.{is_component, taken, insert_items, added_at, added, put_in, moved_item, edited_body}
+use Rattle.rdl_rewrite.specs.Dynamics.{assigns_to, unassigned_at}
 use Rattle.rdl_rewrite.specs.Place.{place_number}
 use Rattle.rdl_rewrite.specs.Removal.{is_in_use, staying, goes, removed}
 use Rattle.rdl_rewrite.specs.Renaming.{is_taken, is_reserved, renamed_items, renamed}
 use Rattle.rdl_rewrite.specs.Rewritten.{rewritten, is_of_item, by_way, of_item, at_body, change_body, put_body, path_of, refusal_of as of_path}
-use Rattle.rdl_rewrite.specs.Shell.{reshaped, reshaped_at, edited_shell}
-use Rattle.rdl_rewrite.specs.declared.assignment.Sort.{Sort}
+use Rattle.rdl_rewrite.specs.Shell.{reshaped_at, edited_shell}
 use Rattle.rdl_rewrite.specs.declared.edit.Edit.{Edit}
 use Rattle.rdl_rewrite.specs.declared.edit.Edit.TheVariants.{Add, Remove, Rename, Move, SetOwn, SetDefault, ClearOwn, ClearDefault, Assign, Unassign}
 use Rattle.rdl_rewrite.specs.declared.edit.Refusal.{Refusal as Early}
@@ -126,9 +125,6 @@ rewritten-real : (whole : Items) (e : Edit) → Real (rewritten whole e)
 rewritten-real whole e = by_way-real (find (path_of e) whole) whole e
 
 -- ---- Steps.
-
-abbrev refuses : Refusal → Result State Refusal
-refuses refusal = Err refusal
 
 abbrev IsReal : Refusal → Type 0
 IsReal refusals.Memory = ⊥

@@ -1,5 +1,5 @@
 -- From the parts of a run that stopped to what its outputs hold.
-use Rattle.std.proofs.Common.{◌≡◌, ◌≢◌, ◌⊎◌, inl, inr, ℕ, Bool, List, [], ◌++◌, length, take, Option, None, Some, Result, Ok, Err, IfErr, IsErrAnd, refl, sym, ap, ◌∙◌, subst, append-nil}
+use Rattle.std.proofs.Common.{◌≡◌, ◌≢◌, inl, inr, ℕ, Bool, List, [], ◌++◌, length, take, Option, None, Some, Result, Ok, Err, IfErr, IsErrAnd, refl, sym, ap, ◌∙◌, subst, append-nil}
 use Rattle.std.specs.Io.KnownBytes.{Appends}
 use Rattle.std.proofs.KnownBytes.{Appends-nil, Appends-trans}
 use Rattle.std.proofs.Math.Seq.{take-append_seam}
@@ -8,7 +8,7 @@ use Rattle.rdl_edit.specs.Step.{State, HasRows}
 use Rattle.rdl_script.specs.Commands.{lines_of}
 use Rattle.rdl_run.specs.Answers.{History', Serves}
 use Rattle.rdl_run.specs.Closing.{Closes}
-use Rattle.rdl_run.specs.Faulted.{IsWholeLines, Leaves, LeavesLines, FaultedFrom, Faulted, Wrote, StopsServing}
+use Rattle.rdl_run.specs.Faulted.{IsWholeLines, Leaves, LeavesLines, FaultedFrom, Faulted, StopsServing}
 use Rattle.rdl_run.specs.Known.{Gives, AppendsFront}
 use Rattle.rdl_run.specs.Opening.{Opens, RefusesToOpen}
 use Rattle.rdl_run.specs.Output.{Output, Outputs, Runs, one_map}

@@ -1,5 +1,5 @@
 -- Each text is read or refused.
-use Rattle.std.proofs.Common.{◌≡◌, ◌⊎◌, inl, inr, ℕ, ◌<◌, ◌≤◌, Bool, true, false, List, length, Option, Result, Ok, Err, refl, sym, ap, ◌∙◌, arith, IsUtf8}
+use Rattle.std.proofs.Common.{◌≡◌, ◌⊎◌, inl, inr, ℕ, ◌≤◌, Bool, true, false, List, length, Option, Result, Ok, Err, refl, sym, ap, ◌∙◌, IsUtf8}
 use Rattle.std.specs.Prelude.{nat_lt}
 use Rattle.std.specs.Str.{is_utf8}
 use Rattle.std.specs.Str.Lossy.{utf8_valid_len}
@@ -23,7 +23,6 @@ use Rattle.rdl_parse.specs.Symbol.{symbols}
 use Rattle.rdl_parse.specs.declared.fault.Fault.{Fault}
 use Rattle.rdl_parse.specs.declared.fault.Fault.TheVariants as faults
 use Rattle.rdl_parse.specs.declared.fault.ParseFault.{ParseFault}
-use Rattle.rdl_parse.specs.declared.fault.ParseFaultKind.{ParseFaultKind}
 use Rattle.rdl_parse.specs.declared.fault.ParseFaultKind.TheVariants.{Words}
 use Rattle.rdl_parse.specs.declared.fault.Stop.TheVariants as stops
 use Rattle.rdl_parse.proofs.Answered.{text-found, text-refused, statement-found, statement-refused}

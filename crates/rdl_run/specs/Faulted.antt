@@ -9,11 +9,12 @@ use Rattle.rdl_run.specs.Output.{Output, Outputs, Runs, IsOutput}
 use Rattle.rdl_run.specs.declared.status.RunFault.{RunFault}
 use Rattle.rdl_run.specs.declared.status.RunFault.TheVariants.{Read, Write, Memory, TooLong, Interrupted}
 
--- no line, or some that each end with a line feed
+-- it ends with a line feed
 pub record EndsLine (text : List ℕ) : Type 0 where
   pub before : List ℕ
   pub ends : text ≡ before ++ newline
 
+-- no line, or some whole ones
 abbrev pub IsWholeLines : List ℕ → Type 0
 IsWholeLines text = (text ≡ []) ⊎ EndsLine text
 
