@@ -17,7 +17,6 @@ use Rattle.rdl_run.specs.Known.{concat}
 use Rattle.rdl_run.specs.Messages.{reply_text, line_refusal_text}
 use Rattle.rdl_run.specs.Replies.{Said, done, listed, not_done}
 use Rattle.rdl_run.specs.declared.reply.LineRefusal.{LineRefusal}
-use Rattle.rdl_run.specs.declared.reply.LineRefusal.TheVariants as lines
 
 ended : (text : List ℕ) → EndsLine (text ++ newline)
 ended text = record { before = text; ends = refl }

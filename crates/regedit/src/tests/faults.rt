@@ -90,7 +90,7 @@ fn read_zeros(rt: &HostRuntime, len: usize) -> Result<usize, RunFault> {
     }
 }
 
-// At a small limit, since the inputs' own makes for a slow test.
+// At a small limit, up to which all is read.
 #[test]
 fn inputs_that_are_too_long(rt: HostRuntime) {
     assert!(rt; read_zeros(&rt, 10_000) == Ok(10_000));
