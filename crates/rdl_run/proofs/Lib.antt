@@ -1,7 +1,13 @@
 pub mod Closings
+pub mod Continued
+pub mod Histories
 pub mod Opened
 pub mod Pieces
 pub mod RunLemmas
 pub mod ScriptLines
 pub mod SoFar
+pub mod Steps
+pub mod Stopped
+pub mod Texts
+pub mod WholeLines
 pub mod Written

@@ -1,7 +1,7 @@
 -- The first line of a script, and what stands behind it.
 use Rattle.std.proofs.Common.{◌≡◌, ℕ, suc, ◌+◌, ◌≤◌, ◌<◌, true, false, not, nat_eq, List, [], ◌∷◌, length, take, drop, refl, sym, ap, ◌∙◌, subst, ◌-◌, arith}
 use Rattle.std.specs.Prelude.{cond}
-use Rattle.std.specs.List.{prefix_len, slice_split, onto_first}
+use Rattle.std.specs.List.{prefix_len, onto_first}
 use Rattle.std.proofs.lemmas.List.{take_rest}
 use Rattle.rdl_script.specs.Commands.{lines_of}
 use Rattle.rdl_run.specs.ScriptLines.{is_in_line}

@@ -1,5 +1,6 @@
 pub mod Answers
 pub mod Closing
+pub mod Faulted
 pub mod Known
 pub mod Messages
 pub mod Opening
@@ -7,4 +8,5 @@ pub mod OpeningFaults
 pub mod Output
 pub mod ReadingFaults
 pub mod Readings
+pub mod Replies
 pub mod ScriptLines

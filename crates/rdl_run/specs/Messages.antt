@@ -1,5 +1,5 @@
 -- The texts of messages. Own.
-use Rattle.std.specs.Prelude.{ℕ, ◌+◌, ◌-◌, ◌^◌, min, List, [], ◌++◌, codes, string_bytes}
+use Rattle.std.specs.Prelude.{ℕ, ◌+◌, ◌-◌, ◌^◌, min, List, [], ◌++◌, codes}
 use Rattle.std.specs.Fmt.{decimal}
 use Rattle.rdl_text.specs.Place.{line, column}
 use Rattle.rdl_text.specs.declared.fault.FaultKind.{FaultKind as WordsFault}
@@ -13,10 +13,9 @@ use Rattle.rdl_tree.specs.AddressText.{address_text}
 use Rattle.rdl_tree.specs.declared.fault.FaultKind.{FaultKind}
 use Rattle.rdl_tree.specs.declared.fault.FaultKind.TheVariants as kinds
 use Rattle.rdl_write.specs.Texts.{newline}
+use Rattle.rdl_run.specs.Replies.{Said, done, listed, not_done}
 use Rattle.rdl_run.specs.declared.reply.LineRefusal.{LineRefusal}
 use Rattle.rdl_run.specs.declared.reply.LineRefusal.TheVariants as lines
-use Rattle.rdl_run.specs.declared.reply.Reply.{Reply}
-use Rattle.rdl_run.specs.declared.reply.Reply.TheVariants as replies
 use Rattle.rdl_script.specs.declared.request.CommandFault.{CommandFault}
 use Rattle.rdl_script.specs.declared.request.CommandFault.TheVariants as commands
 
@@ -110,10 +109,10 @@ line_refusal_text lines.NothingToRedo = codes "J3 nothing to redo"
 abbrev pub script_line : ℕ → List ℕ → List ℕ
 script_line number what = codes "script:" ++ decimal number ++ codes ": " ++ what ++ newline
 
-unfoldable pub reply_text : ℕ → Reply → List ℕ
-reply_text number replies.Done = []
-reply_text number (replies.Listed text) = string_bytes text
-reply_text number (replies.Refused refusal) = script_line number (line_refusal_text refusal)
+unfoldable pub reply_text : ℕ → Said → List ℕ
+reply_text number done = []
+reply_text number (listed text) = text
+reply_text number (not_done refusal) = script_line number (line_refusal_text refusal)
 
 -- the message of a map that is refused
 abbrev pub map_line : (line column : ℕ) → List ℕ → List ℕ

@@ -40,12 +40,14 @@ fn status_of(refused: bool) -> Status
 }
 
 impl Closing {
-    ghost use Rattle.std.specs.Prelude.{string_bytes, IfOk};
+    ghost use Rattle.std.specs.Prelude.{string_bytes, IfOk, IsOkUnless};
     ghost use Rattle.rdl_run.specs.Closing.{Closes};
+    ghost use Rattle.rdl_run.specs.declared.status.RunFault.{RunFault};
 
     /// Makes both texts of the map to which a script led, or the message in place of the header.
     pub fn of(alloc: Global, map: &Map, refused: bool) -> Result<Closing, RunFault>
-        ensures { IfOk result (λ c. Closes map.now refused (string_bytes c.message) (string_bytes c.rdl) (string_bytes c.header) c.status) }
+        ensures closes { IfOk result (λ c. Closes map.now refused (string_bytes c.message) (string_bytes c.rdl) (string_bytes c.header) c.status) }
+        ensures fault { IsOkUnless result RunFault.Memory }
     {
         let rdl = rdl(alloc, map.description())?;
         let rows = map.rows(alloc)?;

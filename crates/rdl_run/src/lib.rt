@@ -3,6 +3,7 @@
 
 mod closing;
 pub mod input;
+pub mod laws;
 mod open;
 pub mod output;
 mod reading;

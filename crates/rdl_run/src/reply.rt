@@ -1,6 +1,7 @@
 //! What a line of a script is answered.
 ghost use Rattle.std.specs.Prelude.{◌≡◌, ◌++◌, ◌+◌, ◌<◌, ◌^◌, string_bytes, IfOk, OnOk};
 ghost use Rattle.rdl_run.specs.Answers.{is_refused};
+ghost use Rattle.rdl_run.specs.Replies.{said};
 ghost use Rattle.rdl_run.specs.Messages.{
   words_fault_text,
   parse_fault_text,
@@ -52,7 +53,7 @@ pub enum Reply {
 
 impl Reply {
     pub fn is_refused(&self) -> bool
-        ensures { result ≡ is_refused self.now }
+        ensures { result ≡ is_refused (said self.now) }
     {
         matches!(self, Reply::Refused(_))
     }
@@ -198,7 +199,7 @@ fn push_line_refusal(text: &mut String, refusal: &LineRefusal) -> Result<(), All
 /// The message of a line of the script, which counts from 1.
 #[tactic(auto, unfolding(crate::specs::Messages::reply_text))]
 pub fn reply_text(alloc: Global, number: usize, reply: Reply) -> Result<String, AllocError>
-    ensures { IfOk result (λ text. string_bytes text ≡ reply_text number reply) }
+    ensures { IfOk result (λ text. string_bytes text ≡ reply_text number (said reply)) }
 {
     match reply {
         Reply::Done => Ok(String::new(alloc)),

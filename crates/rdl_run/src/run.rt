@@ -1,5 +1,7 @@
 //! A whole run, from two inputs to three outputs.
-ghost use Rattle.std.specs.Prelude.{◌^◌, ◌<◌, length, IfOk};
+ghost use Rattle.std.specs.Prelude.{◌^◌, ◌<◌, length, IfOk, IfErr};
+ghost use Rattle.rdl_edit.specs.Step.{HasRows};
+ghost use Rattle.rdl_run.specs.Faulted.{Faulted, FaultedFrom};
 ghost use Rattle.rdl_run.specs.Output.{Ran, RanFrom};
 
 use crate::closing::Closing;
@@ -38,7 +40,10 @@ fn run_script<R: Write, H: Write, E: Write>(
     messages: &mut E,
 ) -> Result<Status, RunFault>
     requires { length script.now < 2 ^ 32 }
-    ensures { IfOk result (RanFrom history map script.now
+    ensures ran { IfOk result (RanFrom history map script.now
+        (record { messages = E.contents messages.old; rdl = R.contents rdl.old; header = H.contents header.old })
+        (record { messages = E.contents messages.new; rdl = R.contents rdl.new; header = H.contents header.new })) }
+    ensures faulted { HasRows map → IfErr result (FaultedFrom history map script.now
         (record { messages = E.contents messages.old; rdl = R.contents rdl.old; header = H.contents header.old })
         (record { messages = E.contents messages.new; rdl = R.contents rdl.new; header = H.contents header.new })) }
 {
@@ -63,6 +68,9 @@ pub fn run<M: Read, S: Read, R: Write, H: Write, E: Write>(
     messages: &mut E,
 ) -> Result<Status, RunFault>
     ensures ran { IfOk result (Ran options.now.top options.now.history (M.remaining map.old) (S.remaining script.old)
+        (record { messages = E.contents messages.old; rdl = R.contents rdl.old; header = H.contents header.old })
+        (record { messages = E.contents messages.new; rdl = R.contents rdl.new; header = H.contents header.new })) }
+    ensures faulted { IfErr result (Faulted options.now.top options.now.history (M.remaining map.old) (S.remaining script.old)
         (record { messages = E.contents messages.old; rdl = R.contents rdl.old; header = H.contents header.old })
         (record { messages = E.contents messages.new; rdl = R.contents rdl.new; header = H.contents header.new })) }
 {

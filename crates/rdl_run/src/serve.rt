@@ -11,6 +11,8 @@ ghost use Rattle.rdl_run.specs.Answers.{Answers, AnswersAdd, AnswersEdit, IsList
 ghost use Rattle.rdl_script.specs.Commands.{undo, redo, lines_of, lines_left};
 ghost use Rattle.rdl_run.specs.ScriptLines.{is_in_line, left_len};
 ghost use Rattle.rdl_script.specs.Seen.{seen};
+ghost use Rattle.rdl_run.specs.Replies.{said};
+ghost use Rattle.rdl_run.specs.Faulted.{StopsServing};
 
 use crate::output::write_whole;
 use crate::reading::{ReadingFault, items_of};
@@ -40,7 +42,7 @@ fn make(alloc: Global, journal: &mut Journal<Map>, edit: Edit) -> Result<(), Edi
 }
 
 fn edit(alloc: Global, journal: &mut Journal<Map>, edit: Edit) -> Result<Reply, RunFault>
-    ensures answers { IfOk result (λ reply. AnswersEdit journal.old edit reply journal.new) }
+    ensures answers { IfOk result (λ reply. AnswersEdit journal.old edit (said reply) journal.new) }
     ensures fault { IsOkUnless result RunFault.Memory }
 {
     match make(alloc, journal, edit) {
@@ -60,7 +62,7 @@ fn add(
     place: Place,
     text: &[u8],
 ) -> Result<Reply, RunFault>
-    ensures answers { IfOk result (λ reply. AnswersAdd journal.old path place text.now reply journal.new) }
+    ensures answers { IfOk result (λ reply. AnswersAdd journal.old path place text.now (said reply) journal.new) }
     ensures fault { IsOkUnless result RunFault.Memory }
 {
     match items_of(alloc, text) {
@@ -75,7 +77,7 @@ fn add(
 }
 
 fn undo(alloc: Global, journal: &mut Journal<Map>) -> Result<Reply, RunFault>
-    ensures answers { IfOk result (λ reply. Answers journal.old undo reply journal.new) }
+    ensures answers { IfOk result (λ reply. Answers journal.old undo (said reply) journal.new) }
     ensures fault { IsOkUnless result RunFault.Memory }
 {
     match journal.undo(alloc) {
@@ -86,7 +88,7 @@ fn undo(alloc: Global, journal: &mut Journal<Map>) -> Result<Reply, RunFault>
 }
 
 fn redo(alloc: Global, journal: &mut Journal<Map>) -> Result<Reply, RunFault>
-    ensures answers { IfOk result (λ reply. Answers journal.old redo reply journal.new) }
+    ensures answers { IfOk result (λ reply. Answers journal.old redo (said reply) journal.new) }
     ensures fault { IsOkUnless result RunFault.Memory }
 {
     match journal.redo(alloc) {
@@ -98,7 +100,7 @@ fn redo(alloc: Global, journal: &mut Journal<Map>) -> Result<Reply, RunFault>
 
 /// The lines of the rows of a map.
 fn list(alloc: Global, map: &Map) -> Result<Reply, RunFault>
-    ensures lists { IfOk result (IsListOf map.now) }
+    ensures lists { IfOk result (λ reply. IsListOf map.now (said reply)) }
     ensures fault { IsOkUnless result RunFault.Memory }
 {
     let Ok(rows) = map.rows(alloc) else {
@@ -116,7 +118,7 @@ pub fn serve(
     journal: &mut Journal<Map>,
     request: Request<'_>,
 ) -> Result<Reply, RunFault>
-    ensures answers { IfOk result (λ reply. Answers journal.old (seen request.entry) reply journal.new) }
+    ensures answers { IfOk result (λ reply. Answers journal.old (seen request.entry) (said reply) journal.new) }
     ensures fault { IsOkUnless result RunFault.Memory }
 {
     match request {
@@ -188,6 +190,7 @@ pub fn serve_all<E: Write>(
     requires few { interrupts.old ≤ 1000 }
     ensures served { IfOk result (λ refused. (text : List ℕ) × (Serves journal.old (lines_of script.now) text refused journal.new) × (Appends (E.contents messages.old) (E.contents messages.new) text)) }
     ensures fault { IfErr result (λ fault. (fault ≡ RunFault.Memory) ⊎ (fault ≡ RunFault.Write)) }
+    ensures stopped { IfErr result (StopsServing journal.old (lines_of script.now) (E.contents messages.old) (E.contents messages.new)) }
     ensures interrupts { interrupts.new ≤ 1000 }
 {
     let mut number = 0usize;

@@ -22,6 +22,7 @@ mod lines;
 mod map_faults;
 mod maps;
 mod mission;
+mod stops;
 mod words;
 mod worked;
 

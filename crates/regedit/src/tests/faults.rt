@@ -90,11 +90,28 @@ fn read_zeros(rt: &HostRuntime, len: usize) -> Result<usize, RunFault> {
     }
 }
 
-// At a small limit, since the inputs' own makes for a slow test.
+// At a small limit, up to which all is read.
 #[test]
 fn inputs_that_are_too_long(rt: HostRuntime) {
     assert!(rt; read_zeros(&rt, 10_000) == Ok(10_000));
     assert!(rt; read_zeros(&rt, 10_001) == Err(RunFault::TooLong));
+}
+
+fn run_zeros(rt: &HostRuntime, map: usize, script: usize) -> Result<Status, RunFault> {
+    let mut messages: Vec<u8> = Vec::new(rt.alloc());
+    run_with(
+        rt.alloc(),
+        &mut Zeros(map),
+        &mut Zeros(script),
+        &mut messages,
+    )
+}
+
+// The script is read before the map is found to be no text.
+#[test]
+fn inputs_of_over_64_mebibytes(rt: HostRuntime) {
+    assert!(rt; run_zeros(&rt, 67_108_865, 0) == Err(RunFault::TooLong));
+    assert!(rt; run_zeros(&rt, 1, 67_108_865) == Err(RunFault::TooLong));
 }
 
 fn undo_into(rt: &HostRuntime, room: usize, fails: bool) -> Result<Status, RunFault> {

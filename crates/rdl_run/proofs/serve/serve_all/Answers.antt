@@ -3,8 +3,9 @@ use Rattle.std.specs.Prelude.{◌||◌}
 use Rattle.std.specs.Option.{option_copied}
 use Rattle.std.specs.Io.KnownBytes.{Appends}
 use Rattle.std.proofs.KnownBytes.{Appends-nil}
+use Rattle.rdl_run.specs.Known.{AppendsFront}
 use Rattle.rdl_run.specs.ScriptLines.{left_len}
-use Rattle.rdl_run.proofs.SoFar.{SoFar, nothing_yet, one_more}
+use Rattle.rdl_run.proofs.SoFar.{SoFar, nothing_yet, one_more, stopped_writing}
 use Rattle.rdl_run.proofs.serve.serve_all.Goals as goal
 use Rattle.rdl_run.proofs.serve.serve_all.Goals.{then-refused, else-refused}
 
@@ -40,3 +41,15 @@ lines-preserved g c =
       room = omega (arith, room, c.split_line.ensures.less);
       few = c.write_whole.ensures.interrupts;
     }
+
+pub returns-then-is_err-clause-stopped : goal.returns-then-is_err-clause-stopped
+returns-then-is_err-clause-stopped g c =
+    let contents = g.E.Write.contents in
+    let bytes = c.in-Some.bytes.now in
+    let rest : option_copied c.lines.rest ≡ Some bytes = ap option_copied c.in-Some.is in
+    let written : AppendsFront (contents c.lines.messages) (contents c.write_whole.new.writer) c.as_bytes.result.now = search rules in
+    let wrote : AppendsFront (contents c.lines.messages) (contents c.write_whole.new.writer) (string_bytes c.in-Ok.said.0) =
+    subst (AppendsFront (contents c.lines.messages) (contents c.write_whole.new.writer)) c.as_bytes.ensures.value written in
+    let so_far = subst (λ o. SoFar c.args.journal.now c.args.script.now o c.lines.number (contents c.args.messages.now) (contents c.lines.messages) c.lines.refused c.lines.journal) rest c.lines.invariant.so_far in
+    stopped_writing c.args.journal.now c.lines.journal c.serve_line.new.journal c.args.script.now bytes _ _ (option_copied c.split_line.result.1) c.lines.number _ (contents c.lines.messages) _ c.lines.refused c.in-Ok.said.1
+    so_far c.split_line.ensures.lines c.in-Ok.ensures.replied wrote

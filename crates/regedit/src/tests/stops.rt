@@ -1,0 +1,247 @@
+//! Runs that stop at each of their reads and writes, and what the outputs hold then.
+use super::worked::{USED, USED_WRITTEN};
+use super::{Written, assert_ends, assert_rdl, write};
+use rdl_run::run::{Options, run};
+use rdl_run::status::{RunFault, Status};
+use std::alloc::Global;
+use std::io;
+use std::io::{ErrorKind, Read, Write};
+use std::process::Abort;
+use std::test::Fail;
+
+const SCRIPT: &str = "rename /$T U\nrename /$U top\nundo\n";
+
+const MESSAGES: &str = "script:2: X3 name taken\n";
+
+/// More calls than any of these runs makes.
+const MANY: usize = 1_000_000;
+
+/// A reader of one byte a call, that fails after so many.
+#[derive(Drop)]
+struct Trickle<'a> {
+    calls: usize,
+    rest: &'a [u8],
+}
+
+impl Read for Trickle<'_> {
+    fn read(&mut self, buffer: &mut [u8]) -> io::Result<usize> {
+        if self.calls == 0 {
+            return Err(io::Error::from(ErrorKind::Other));
+        }
+        self.calls -= 1;
+        let count = buffer.len().min(1);
+        self.rest.read(&mut buffer[..count])
+    }
+}
+
+/// A writer that is interrupted so often, and takes one byte a call until it has taken so many.
+#[derive(Drop)]
+struct Drip {
+    interrupts: usize,
+    room: usize,
+    taken: Vec<u8>,
+}
+
+impl Drip {
+    fn new(alloc: Global, room: usize) -> Drip {
+        Drip {
+            interrupts: 0,
+            room,
+            taken: Vec::new(alloc),
+        }
+    }
+}
+
+impl Write for Drip {
+    fn write(&mut self, bytes: &[u8]) -> io::Result<usize> {
+        if self.interrupts > 0 {
+            self.interrupts -= 1;
+            return Err(io::Error::from(ErrorKind::Interrupted));
+        }
+        if self.room == 0 {
+            return Err(io::Error::from(ErrorKind::Other));
+        }
+        self.room -= 1;
+        let count = bytes.len().min(1);
+        self.taken.write(&bytes[..count])
+    }
+
+    fn flush(&mut self) -> io::Result<()> {
+        Ok(())
+    }
+}
+
+/// The writers of a run.
+#[derive(Drop)]
+struct Drips {
+    messages: Drip,
+    rdl: Drip,
+    header: Drip,
+}
+
+/// How many calls the two readers answer.
+type Calls = (usize, usize);
+
+/// How many bytes the messages, the map and the header take.
+type Rooms = (usize, usize, usize);
+
+fn writers(alloc: Global, rooms: Rooms) -> Drips {
+    Drips {
+        messages: Drip::new(alloc, rooms.0),
+        rdl: Drip::new(alloc, rooms.1),
+        header: Drip::new(alloc, rooms.2),
+    }
+}
+
+fn run_into(alloc: Global, calls: Calls, drips: &mut Drips) -> Result<Status, RunFault> {
+    let options = Options {
+        top: None,
+        history: 10_000,
+    };
+    let mut map = Trickle {
+        calls: calls.0,
+        rest: USED.as_bytes(),
+    };
+    let mut script = Trickle {
+        calls: calls.1,
+        rest: SCRIPT.as_bytes(),
+    };
+    run(
+        alloc,
+        &mut map,
+        &mut script,
+        &options,
+        &mut drips.rdl,
+        &mut drips.header,
+        &mut drips.messages,
+    )
+}
+
+/// Asserts that an output holds the first so many bytes of the whole text.
+fn assert_front(rt: &impl Abort, drip: &Drip, whole: &[u8], len: usize) {
+    assert!(rt; drip.taken.len() == len);
+    assert!(rt; whole.starts_with(drip.taken.as_slice()));
+}
+
+/// Asserts how a run ends, and how many bytes its outputs then hold.
+fn assert_holds(
+    rt: &impl Abort,
+    alloc: Global,
+    whole: &Written,
+    run: (Calls, Rooms),
+    ends: Result<Status, RunFault>,
+    held: Rooms,
+) {
+    let mut drips = writers(alloc, run.1);
+    assert!(rt; run_into(alloc, run.0, &mut drips) == ends);
+    assert_front(rt, &drips.messages, whole.messages.as_slice(), held.0);
+    assert_front(rt, &drips.rdl, whole.rdl.as_slice(), held.1);
+    assert_front(rt, &drips.header, whole.header.as_slice(), held.2);
+}
+
+const READ: Calls = (MANY, MANY);
+
+const TAKEN: Rooms = (MANY, MANY, MANY);
+
+fn lens(whole: &Written) -> Rooms {
+    (whole.messages.len(), whole.rdl.len(), whole.header.len())
+}
+
+fn whole(rt: &impl Abort, alloc: Global) -> Result<Written, Fail> {
+    let whole = write(alloc, USED, SCRIPT)?;
+    assert_ends(rt, &whole, USED, Status::LineRefused, MESSAGES)?;
+    assert_rdl(rt, &whole, USED, USED_WRITTEN)?;
+    Ok(whole)
+}
+
+// A reader answers once more, at its end.
+#[test]
+fn at_no_read_of_one_byte(rt: HostRuntime) -> Result<(), Fail> {
+    let whole = whole(&rt, rt.alloc())?;
+    let read = (USED.len() + 1, SCRIPT.len() + 1);
+    let held = lens(&whole);
+    assert_holds(
+        &rt,
+        rt.alloc(),
+        &whole,
+        (read, held),
+        Ok(Status::LineRefused),
+        held,
+    );
+    Ok(())
+}
+
+#[test]
+fn at_each_read_of_the_map(rt: HostRuntime) -> Result<(), Fail> {
+    let whole = whole(&rt, rt.alloc())?;
+    for calls in 0..USED.len() + 1 {
+        let run = ((calls, MANY), TAKEN);
+        assert_holds(&rt, rt.alloc(), &whole, run, Err(RunFault::Read), (0, 0, 0));
+    }
+    Ok(())
+}
+
+#[test]
+fn at_each_read_of_the_script(rt: HostRuntime) -> Result<(), Fail> {
+    let whole = whole(&rt, rt.alloc())?;
+    for calls in 0..SCRIPT.len() + 1 {
+        let run = ((MANY, calls), TAKEN);
+        assert_holds(&rt, rt.alloc(), &whole, run, Err(RunFault::Read), (0, 0, 0));
+    }
+    Ok(())
+}
+
+#[test]
+fn at_each_write_of_the_messages(rt: HostRuntime) -> Result<(), Fail> {
+    let whole = whole(&rt, rt.alloc())?;
+    let all = lens(&whole);
+    for room in 0..all.0 {
+        let run = (READ, (room, MANY, MANY));
+        let held = (room, 0, 0);
+        assert_holds(&rt, rt.alloc(), &whole, run, Err(RunFault::Write), held);
+    }
+    Ok(())
+}
+
+#[test]
+fn at_each_write_of_the_map(rt: HostRuntime) -> Result<(), Fail> {
+    let whole = whole(&rt, rt.alloc())?;
+    let all = lens(&whole);
+    for room in 0..all.1 {
+        let run = (READ, (MANY, room, MANY));
+        let held = (all.0, room, 0);
+        assert_holds(&rt, rt.alloc(), &whole, run, Err(RunFault::Write), held);
+    }
+    Ok(())
+}
+
+#[test]
+fn at_each_write_of_the_header(rt: HostRuntime) -> Result<(), Fail> {
+    let whole = whole(&rt, rt.alloc())?;
+    let all = lens(&whole);
+    for room in 0..all.2 {
+        let run = (READ, (MANY, MANY, room));
+        let held = (all.0, all.1, room);
+        assert_holds(&rt, rt.alloc(), &whole, run, Err(RunFault::Write), held);
+    }
+    Ok(())
+}
+
+fn run_interrupted(alloc: Global, interrupts: Rooms) -> Result<Status, RunFault> {
+    let mut drips = writers(alloc, TAKEN);
+    drips.messages.interrupts = interrupts.0;
+    drips.rdl.interrupts = interrupts.1;
+    drips.header.interrupts = interrupts.2;
+    run_into(alloc, READ, &mut drips)
+}
+
+// Each output may be interrupted 1,000 times.
+#[test]
+fn at_too_many_interruptions(rt: HostRuntime) {
+    let alloc = rt.alloc();
+    assert!(rt; run_interrupted(alloc, (1_000, 1_000, 1_000)) == Ok(Status::LineRefused));
+    let cases = [(1_001, 0, 0), (0, 1_001, 0), (0, 0, 1_001)];
+    for interrupts in cases {
+        assert!(rt; run_interrupted(alloc, interrupts) == Err(RunFault::Write));
+    }
+}
