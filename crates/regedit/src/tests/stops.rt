@@ -1,5 +1,5 @@
 //! Runs that stop at each of their reads and writes, and what the outputs hold then.
-use super::worked::{USED, USED_WRITTEN};
+use super::worked::{FOUR_LINES, FOUR_WRITTEN, THREE};
 use super::{Written, assert_ends, assert_rdl, write};
 use rdl_run::run::{Options, run};
 use rdl_run::status::{RunFault, Status};
@@ -9,9 +9,7 @@ use std::io::{ErrorKind, Read, Write};
 use std::process::Abort;
 use std::test::Fail;
 
-const SCRIPT: &str = "rename /$T U\nrename /$U top\nundo\n";
-
-const MESSAGES: &str = "script:2: X3 name taken\n";
+const SCRIPT: &str = "add /$top after a reg { field {} g; } x;\nundo\nredo\nlist\n";
 
 /// More calls than any of these runs makes.
 const MANY: usize = 1_000_000;
@@ -100,7 +98,7 @@ fn run_into(alloc: Global, calls: Calls, drips: &mut Drips) -> Result<Status, Ru
     };
     let mut map = Trickle {
         calls: calls.0,
-        rest: USED.as_bytes(),
+        rest: THREE.as_bytes(),
     };
     let mut script = Trickle {
         calls: calls.1,
@@ -148,9 +146,9 @@ fn lens(whole: &Written) -> Rooms {
 }
 
 fn whole(rt: &impl Abort, alloc: Global) -> Result<Written, Fail> {
-    let whole = write(alloc, USED, SCRIPT)?;
-    assert_ends(rt, &whole, USED, Status::LineRefused, MESSAGES)?;
-    assert_rdl(rt, &whole, USED, USED_WRITTEN)?;
+    let whole = write(alloc, THREE, SCRIPT)?;
+    assert_ends(rt, &whole, THREE, Status::Accepted, FOUR_LINES)?;
+    assert_rdl(rt, &whole, THREE, FOUR_WRITTEN)?;
     Ok(whole)
 }
 
@@ -158,14 +156,14 @@ fn whole(rt: &impl Abort, alloc: Global) -> Result<Written, Fail> {
 #[test]
 fn at_no_read_of_one_byte(rt: HostRuntime) -> Result<(), Fail> {
     let whole = whole(&rt, rt.alloc())?;
-    let read = (USED.len() + 1, SCRIPT.len() + 1);
+    let read = (THREE.len() + 1, SCRIPT.len() + 1);
     let held = lens(&whole);
     assert_holds(
         &rt,
         rt.alloc(),
         &whole,
         (read, held),
-        Ok(Status::LineRefused),
+        Ok(Status::Accepted),
         held,
     );
     Ok(())
@@ -174,7 +172,7 @@ fn at_no_read_of_one_byte(rt: HostRuntime) -> Result<(), Fail> {
 #[test]
 fn at_each_read_of_the_map(rt: HostRuntime) -> Result<(), Fail> {
     let whole = whole(&rt, rt.alloc())?;
-    for calls in 0..USED.len() + 1 {
+    for calls in 0..THREE.len() + 1 {
         let run = ((calls, MANY), TAKEN);
         assert_holds(&rt, rt.alloc(), &whole, run, Err(RunFault::Read), (0, 0, 0));
     }
@@ -239,7 +237,7 @@ fn run_interrupted(alloc: Global, interrupts: Rooms) -> Result<Status, RunFault>
 #[test]
 fn at_too_many_interruptions(rt: HostRuntime) {
     let alloc = rt.alloc();
-    assert!(rt; run_interrupted(alloc, (1_000, 1_000, 1_000)) == Ok(Status::LineRefused));
+    assert!(rt; run_interrupted(alloc, (1_000, 1_000, 1_000)) == Ok(Status::Accepted));
     let cases = [(1_001, 0, 0), (0, 1_001, 0), (0, 0, 1_001)];
     for interrupts in cases {
         assert!(rt; run_interrupted(alloc, interrupts) == Err(RunFault::Write));

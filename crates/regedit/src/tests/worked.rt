@@ -11,7 +11,7 @@ type Listing = (&'static str, &'static str, &'static str);
 /// A map, a script, and the messages and the map that it leads to.
 type Case = (&'static str, &'static str, &'static str, &'static str);
 
-const THREE: &str = "addrmap top {
+pub(super) const THREE: &str = "addrmap top {
 reg { field {} f[8] = 0x5; } a;
 reg { field {} f; } b;
 reg { field {} f[7:4]; } c;
@@ -45,7 +45,7 @@ const WITHOUT_B: &str = "addrmap top {
 };
 ";
 
-const FOUR_LINES: &str = "0x0 addrmap top size 0x10
+pub(super) const FOUR_LINES: &str = "0x0 addrmap top size 0x10
 0x0 reg top.a size 0x4
 [7:0] field top.a.f reset 0x5
 0x4 reg top.x size 0x4
@@ -56,7 +56,7 @@ const FOUR_LINES: &str = "0x0 addrmap top size 0x10
 [7:4] field top.c.f
 ";
 
-const FOUR_WRITTEN: &str = "addrmap top {
+pub(super) const FOUR_WRITTEN: &str = "addrmap top {
     reg {
         field {
         } f[8] = 0x5;
@@ -76,10 +76,10 @@ const FOUR_WRITTEN: &str = "addrmap top {
 };
 ";
 
-pub(super) const USED: &str = "reg T { field {} e; field {} f; };
+const USED: &str = "reg T { field {} e; field {} f; };
 addrmap top { T u; T v; u.f->reset = 1; T w; v.f->reset = 0; v.e->sw = r; };";
 
-pub(super) const USED_WRITTEN: &str = "reg T {
+const USED_WRITTEN: &str = "reg T {
     field {
     } e;
     field {
