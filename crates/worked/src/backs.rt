@@ -1,53 +1,65 @@
-//! What takes a step of a map back: how many patches, where, and what they weigh.
+//! What takes a step of a map back: how many patches, where, and what they weigh; and patches that are tried.
+ghost use Rattle.std.specs.Prelude.{◌≡◌, [], ◌∷◌, IsTrue, IfOk};
+ghost use Rattle.rdl_tree.specs.Patch.{fits};
+
+use crate::assert_same;
 use crate::parse::description;
-use crate::tree::path;
+use crate::tree::{address, path};
 use journal_core::invertible::Invertible;
 use rdl_edit::back::Back;
+use rdl_edit::edit::Refusal;
 use rdl_edit::map::Map;
 use rdl_rewrite::edit::Edit;
+use rdl_tree::address::Address;
+use rdl_tree::description::Description;
 use rdl_tree::patch::Patch;
 use rdl_write::rdl;
 use std::alloc::{AllocError, Global};
 use std::process::Abort;
 use std::test::Fail;
 
-/// The patch in one line: what it does, and where.
-fn patch_text(alloc: Global, patch: &Patch) -> Result<String, Fail> {
-    Ok(match patch {
-        Patch::Insert(at, _) => format!(in alloc; "insert {at}")?,
-        Patch::Delete(at) => format!(in alloc; "delete {at}")?,
-        Patch::Shift(at, to) => format!(in alloc; "shift {at} {to}")?,
-        Patch::Exchange(at, _) => format!(in alloc; "exchange {at}")?,
-    })
+/// What the patch does, and where.
+fn parts(patch: &Patch) -> (&'static str, &Address) {
+    match patch {
+        Patch::Insert(at, _) => ("insert", at),
+        Patch::Delete(at) => ("delete", at),
+        Patch::Shift(at, _) => ("shift", at),
+        Patch::Exchange(at, _) => ("exchange", at),
+    }
 }
 
-fn patches_text(alloc: Global, back: &Back) -> Result<String, Fail> {
+/// The patch in one line.
+fn push_patch(text: &mut String, patch: &Patch) -> Result<(), AllocError> {
+    let (what, at) = parts(patch);
+    write!(text, "{what} {at}\n")
+}
+
+fn patches_text(alloc: Global, patches: &[Patch]) -> Result<String, AllocError> {
     let mut text = String::new(alloc);
-    for patch in back.patches() {
-        text.push_str(patch_text(alloc, patch)?.as_str())?;
-        text.push_str("\n")?;
+    for patch in patches {
+        push_patch(&mut text, patch)?;
     }
     Ok(text)
 }
 
-fn assert_text(rt: &impl Abort, found: &str, want: &str) {
-    assert!(rt; found == want, "{found} for {want}");
+fn push_weight(text: &mut String, weight: u64) -> Result<(), AllocError> {
+    write!(text, "weight {weight}")
 }
 
-fn assert_back(
-    rt: &impl Abort,
-    alloc: Global,
-    back: &Back,
-    patches: &str,
-    weight: u64,
-) -> Result<(), Fail> {
-    assert_text(rt, patches_text(alloc, back)?.as_str(), patches);
-    assert!(rt; back.weight() == weight, "{} for {weight}", back.weight());
-    Ok(())
+/// The patches, a line each, and what they weigh.
+fn back_text(alloc: Global, back: &Back) -> Result<String, AllocError> {
+    let mut text = patches_text(alloc, back.patches())?;
+    push_weight(&mut text, back.weight())?;
+    Ok(text)
+}
+
+/// Makes the edit, and lets it go.
+fn make(alloc: Global, map: &mut Map, edit: Edit) -> Result<Back, Refusal> {
+    map.apply(alloc, &edit)
 }
 
 fn removed(alloc: Global, map: &mut Map, at: &str) -> Result<Back, Fail> {
-    match map.apply(alloc, &Edit::Remove(path(alloc, at)?)) {
+    match make(alloc, map, Edit::Remove(path(alloc, at)?)) {
         Ok(back) => Ok(back),
         Err(_) => Err(Fail::new("is refused")),
     }
@@ -60,21 +72,36 @@ fn reverted(alloc: Global, map: &mut Map, back: Back) -> Result<Back, Fail> {
     }
 }
 
+fn assert_back(rt: &impl Abort, alloc: Global, back: &Back, want: &str) -> Result<(), AllocError> {
+    assert_same(rt, back_text(alloc, back)?.as_str(), want, "the way");
+    Ok(())
+}
+
+fn assert_map(
+    rt: &impl Abort,
+    alloc: Global,
+    description: &Description,
+    want: &str,
+) -> Result<(), AllocError> {
+    assert_same(rt, rdl(alloc, description)?.as_str(), want, "the map");
+    Ok(())
+}
+
 /// Removes the item, and takes that back: each way has these patches and this weight, and the map is as it was.
 fn assert_there_and_back(
     rt: &impl Abort,
     alloc: Global,
     map: &mut Map,
     at: &str,
-    back: (&str, u64),
-    forward: (&str, u64),
+    back: &str,
+    forward: &str,
 ) -> Result<(), Fail> {
     let before = rdl(alloc, map.description())?;
     let way_back = removed(alloc, map, at)?;
-    assert_back(rt, alloc, &way_back, back.0, back.1)?;
+    assert_back(rt, alloc, &way_back, back)?;
     let way_forward = reverted(alloc, map, way_back)?;
-    assert_back(rt, alloc, &way_forward, forward.0, forward.1)?;
-    assert_text(rt, rdl(alloc, map.description())?.as_str(), before.as_str());
+    assert_back(rt, alloc, &way_forward, forward)?;
+    assert_map(rt, alloc, map.description(), before.as_str())?;
     Ok(())
 }
 
@@ -91,15 +118,19 @@ fn of_a_field_with_its_assignments(rt: HostRuntime) -> Result<(), Fail> {
         alloc,
         &mut map,
         "/$T/f",
-        ("insert 0.1\ninsert 1.2\ninsert 1.4\n", 27),
-        ("delete 1.4\ndelete 1.2\ndelete 0.1\n", 9),
+        "insert 0.1\ninsert 1.2\ninsert 1.4\nweight 27",
+        "delete 1.4\ndelete 1.2\ndelete 0.1\nweight 9",
     )
+}
+
+fn push_register(text: &mut String, number: usize) -> Result<(), AllocError> {
+    write!(text, "reg {{ field {{}} f; }} r{number};")
 }
 
 fn with_registers(alloc: Global, count: usize) -> Result<String, AllocError> {
     let mut text = String::from_str(alloc, "addrmap top {")?;
     for number in 0..count {
-        text.push_str(format!(in alloc; "reg {{ field {{}} f; }} r{number};")?.as_str())?;
+        push_register(&mut text, number)?;
     }
     text.push_str("};")?;
     Ok(text)
@@ -116,7 +147,127 @@ fn of_one_register_of_a_thousand(rt: HostRuntime) -> Result<(), Fail> {
         alloc,
         &mut map,
         "/$top/r0",
-        ("insert 0.0\n", 8),
-        ("delete 0.0\n", 3),
+        "insert 0.0\nweight 8",
+        "delete 0.0\nweight 3",
     )
+}
+
+// ---- Patches that are tried.
+
+fn one(alloc: Global, patch: Patch) -> Result<Vec<Patch>, AllocError>
+    ensures { IfOk result (λ patches. patches.items ≡ patch ∷ []) }
+{
+    let mut patches = Vec::new(alloc);
+    patches.push(patch)?;
+    Ok(patches)
+}
+
+/// Applies the patch, keeps what it made, and gives what leads back.
+fn kept(alloc: Global, description: &mut Description, patch: Patch) -> Result<Vec<Patch>, Fail>
+    requires { IsTrue (fits patch description.old.items) }
+{
+    let patches = one(alloc, patch)?;
+    match description.turn(alloc, patches) {
+        Ok(turned) => Ok(turned.keep()),
+        Err(_) => Err(Fail::new("no memory")),
+    }
+}
+
+/// Applies the patch, brings the description back, and gives what leads on.
+fn tried(alloc: Global, description: &mut Description, patch: Patch) -> Result<Vec<Patch>, Fail>
+    requires { IsTrue (fits patch description.old.items) }
+{
+    let patches = one(alloc, patch)?;
+    match description.turn(alloc, patches) {
+        Ok(mut turned) => Ok(turned.back()),
+        Err(_) => Err(Fail::new("no memory")),
+    }
+}
+
+fn kept_if_fit(
+    alloc: Global,
+    description: &mut Description,
+    patch: Patch,
+) -> Result<Vec<Patch>, Fail> {
+    if description.fits(&patch) {
+        kept(alloc, description, patch)
+    } else {
+        Err(Fail::new("does not fit"))
+    }
+}
+
+fn tried_if_fit(
+    alloc: Global,
+    description: &mut Description,
+    patch: Patch,
+) -> Result<Vec<Patch>, Fail> {
+    if description.fits(&patch) {
+        tried(alloc, description, patch)
+    } else {
+        Err(Fail::new("does not fit"))
+    }
+}
+
+/// Applies what came back, which is one patch.
+fn kept_again(
+    alloc: Global,
+    description: &mut Description,
+    mut back: Vec<Patch>,
+) -> Result<Vec<Patch>, Fail> {
+    match back.pop() {
+        Some(patch) => kept_if_fit(alloc, description, patch),
+        None => Err(Fail::new("no patch")),
+    }
+}
+
+/// What came back, and the map as it is.
+fn assert_turned(
+    rt: &impl Abort,
+    alloc: Global,
+    description: &Description,
+    patches: Vec<Patch>,
+    texts: (&str, &str),
+) -> Result<Vec<Patch>, AllocError> {
+    let text = patches_text(alloc, patches.as_slice())?;
+    assert_same(rt, text.as_str(), texts.0, "what came back");
+    assert_map(rt, alloc, description, texts.1)?;
+    Ok(patches)
+}
+
+const TWO: &str = "reg A {
+    field {
+    } f;
+};
+addrmap top {
+    A a;
+};
+";
+
+const ONE: &str = "addrmap top {
+    A a;
+};
+";
+
+fn first() -> Patch {
+    Patch::Delete(address(&[0]))
+}
+
+#[test]
+fn of_a_patch_that_is_kept(rt: HostRuntime) -> Result<(), Fail> {
+    let alloc = rt.alloc();
+    let mut map = description(alloc, TWO)?;
+    let back = kept_if_fit(alloc, &mut map, first())?;
+    let back = assert_turned(&rt, alloc, &map, back, ("insert 0\n", ONE))?;
+    let on = kept_again(alloc, &mut map, back)?;
+    assert_turned(&rt, alloc, &map, on, ("delete 0\n", TWO))?;
+    Ok(())
+}
+
+#[test]
+fn of_a_patch_that_is_tried(rt: HostRuntime) -> Result<(), Fail> {
+    let alloc = rt.alloc();
+    let mut map = description(alloc, TWO)?;
+    let on = tried_if_fit(alloc, &mut map, first())?;
+    assert_turned(&rt, alloc, &map, on, ("delete 0\n", TWO))?;
+    Ok(())
 }

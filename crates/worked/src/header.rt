@@ -1,8 +1,10 @@
 //! The headers of maps.
+use crate::assert_same;
 use crate::layouts::elaborated;
 use rdl_elab::row::Row;
 use rdl_header::{HeaderFault, header};
 use std::alloc::Global;
+use std::process::Abort;
 use std::test::Fail;
 
 /// The header of the rows, or the name that is defined twice.
@@ -85,17 +87,22 @@ fn headers() -> &'static [(&'static str, &'static str)] {
     &HEADERS
 }
 
-fn have_header(alloc: Global, rows: &[Row], want: &str) -> Result<bool, Fail> {
-    Ok(header_of(alloc, rows)?.as_str() == want)
+fn assert_header(rt: &impl Abort, alloc: Global, map: &str, want: &str) -> Result<(), Fail> {
+    let rows = elaborated(alloc, map)?;
+    assert_same(rt, header_of(alloc, rows.as_slice())?.as_str(), want, map);
+    Ok(())
 }
 
-// Without rows it is empty.
 #[test]
 fn defines_each_name_once(rt: HostRuntime) -> Result<(), Fail> {
-    assert!(rt; have_header(rt.alloc(), &[], "")?);
     for (map, want) in headers() {
-        let rows = elaborated(rt.alloc(), map)?;
-        assert!(rt; have_header(rt.alloc(), rows.as_slice(), want)?, "{want}");
+        assert_header(&rt, rt.alloc(), map, want)?;
     }
+    Ok(())
+}
+
+#[test]
+fn is_empty_without_rows(rt: HostRuntime) -> Result<(), Fail> {
+    assert_same(&rt, header_of(rt.alloc(), &[])?.as_str(), "", "no rows");
     Ok(())
 }

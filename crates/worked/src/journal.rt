@@ -42,19 +42,26 @@ fn make(alloc: Global, journal: &mut Journal<Numbers>, call: &Call) -> &'static 
     }
 }
 
+fn has_list(journal: &Journal<Numbers>, list: &[u64], undo_len: usize, redo_len: usize) -> bool {
+    journal.map().as_slice() == list
+        && journal.undo_len() == undo_len
+        && journal.redo_len() == redo_len
+}
+
+fn is_answered(alloc: Global, journal: &mut Journal<Numbers>, step: &Step) -> bool {
+    let (call, answer, list, undo_len, redo_len) = step;
+    make(alloc, journal, call) == *answer && has_list(journal, list, *undo_len, *redo_len)
+}
+
 /// Makes the calls on an empty list, and looks at what stands behind each.
 fn follow(rt: &impl Abort, alloc: Global, limit: u32, steps: &[Step]) {
     let mut journal = Journal::new(alloc, Numbers::new(alloc), limit);
-    for (call, answer, list, undo_len, redo_len) in steps {
+    for step in steps {
         assert!(rt;
-            make(alloc, &mut journal, call) == *answer,
-            "{answer} is wanted"
+            is_answered(alloc, &mut journal, step),
+            "{} is wanted",
+            step.1
         );
-        assert!(rt;
-            journal.map().as_slice() == *list,
-            "the list behind {answer}"
-        );
-        assert!(rt; journal.undo_len() == *undo_len && journal.redo_len() == *redo_len);
     }
 }
 

@@ -1,4 +1,5 @@
 //! Layouts and rows: each part on its own, and whole maps as they are elaborated.
+use crate::assert_same;
 use crate::list::listed;
 use crate::map::rows_or_fault;
 use rdl_elab::bits::bits;
@@ -171,10 +172,14 @@ const LISTED: [(&str, &str); 6] = [
     ),
 ];
 
+fn listed_maps() -> &'static [(&'static str, &'static str)] {
+    &LISTED
+}
+
 #[test]
 fn lays_out_each_instance(rt: HostRuntime) -> Result<(), Fail> {
-    for (map, want) in LISTED.iter() {
-        assert_eq!(rt; listed(rt.alloc(), map)?.as_str(), *want);
+    for (map, want) in listed_maps() {
+        assert_same(&rt, listed(rt.alloc(), map)?.as_str(), want, map);
     }
     Ok(())
 }
@@ -224,9 +229,13 @@ const HELD: [(&str, usize, Property, Held); 14] = [
     (REACHED, 7, Property::Reset, Held::Nothing),
 ];
 
+fn held_values() -> &'static [(&'static str, usize, Property, Held)] {
+    &HELD
+}
+
 #[test]
 fn holds_values(rt: HostRuntime) -> Result<(), Fail> {
-    for (map, number, property, held) in HELD.iter() {
+    for (map, number, property, held) in held_values() {
         let rows = elaborated(rt.alloc(), map)?;
         assert!(rt;
             holds(&rows, *number, *property, held),
@@ -267,14 +276,20 @@ regfile T9 { T8 a; T8 b; T8 c; };
 addrmap top { T9 x; };
 ";
 
+/// Whether the list has so many lines, and begins and ends with these.
+fn has_ends(list: &str, lines: usize, first: &str, last: &str) -> bool {
+    list.lines().count() == lines && list.starts_with(first) && list.ends_with(last)
+}
+
 // nine levels of three instances each: 3^9 registers of four bytes and their fields, and what is around them
 #[test]
 fn makes_the_rows_of_nine_levels(rt: HostRuntime) -> Result<(), Fail> {
     let list = listed(rt.alloc(), NINE_LEVELS)?;
-    assert!(rt; list.lines().count() == 49_208);
-    assert!(rt; list.starts_with("0x0 addrmap top size 0x1338C\n"));
     assert!(rt;
-        list.ends_with(
+        has_ends(
+            &list,
+            49_208,
+            "0x0 addrmap top size 0x1338C\n",
             "0x13388 reg top.x.c.c.c.c.c.c.c.c.c size 0x4\n[0:0] field top.x.c.c.c.c.c.c.c.c.c.f\n"
         )
     );
@@ -317,13 +332,17 @@ fn has_line(list: &str, number: usize, line: &str) -> bool {
     list.lines().nth(number) == Some(line)
 }
 
+fn is_descending(list: &str) -> bool {
+    list.lines().count() == 2_003
+        && has_line(list, 1, "0x3E80 reg top.r0 size 0x4")
+        && has_line(list, 2_000, "0x8 reg top.r1999 size 0x4")
+        && has_line(list, 2_001, "0xC reg top.r2000 size 0x4")
+}
+
 #[test]
 fn takes_registers_that_go_down(rt: HostRuntime) -> Result<(), Fail> {
     let list = listed_descending(rt.alloc(), 12)?;
-    assert!(rt; list.lines().count() == 2_003);
-    assert!(rt; has_line(&list, 1, "0x3E80 reg top.r0 size 0x4"));
-    assert!(rt; has_line(&list, 2_000, "0x8 reg top.r1999 size 0x4"));
-    assert!(rt; has_line(&list, 2_001, "0xC reg top.r2000 size 0x4"));
+    assert!(rt; is_descending(&list));
     Ok(())
 }
 
@@ -332,7 +351,12 @@ fn takes_registers_that_go_down(rt: HostRuntime) -> Result<(), Fail> {
 fn refuses_what_overlaps_registers_that_go_down(rt: HostRuntime) -> Result<(), Fail> {
     for more in [5, 16_003, 8_000].iter() {
         let list = listed_descending(rt.alloc(), *more)?;
-        assert!(rt; list.as_str() == "E20 at 0.2000", "at {more}");
+        assert_same(
+            &rt,
+            list.as_str(),
+            "E20 at 0.2000",
+            "registers that go down",
+        );
     }
     Ok(())
 }
@@ -370,6 +394,10 @@ const BESIDE_SHARED_BITS: [(&str, &str); 8] = [
     ("{} e[39:31]", "E22 at 0.0.5"),
 ];
 
+fn beside_shared_bits() -> &'static [(&'static str, &'static str)] {
+    &BESIDE_SHARED_BITS
+}
+
 /// What is listed of the field beside the four, or the fault.
 fn behind_shared_bits(list: &str) -> &str {
     list.strip_prefix(SHARED_BITS).unwrap_or(list)
@@ -377,9 +405,9 @@ fn behind_shared_bits(list: &str) -> &str {
 
 #[test]
 fn judges_fields_beside_shared_bits(rt: HostRuntime) -> Result<(), Fail> {
-    for (more, want) in BESIDE_SHARED_BITS.iter() {
+    for (more, want) in beside_shared_bits() {
         let list = sharing(rt.alloc(), more)?;
-        assert!(rt; behind_shared_bits(&list) == *want, "at {more}");
+        assert_same(&rt, behind_shared_bits(&list), want, more);
     }
     Ok(())
 }

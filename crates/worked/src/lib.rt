@@ -27,3 +27,13 @@ mod scope;
 mod text;
 #[cfg(test)]
 mod tree;
+
+#[cfg(test)]
+use std::process::Abort;
+
+/// Asserts that the texts are the same, with what they are of in the message. An assertion with a message of its own is
+/// dear to prove, and `assert_eq!` the dearest, so this one serves all tests.
+#[cfg(test)]
+fn assert_same(rt: &impl Abort, found: &str, want: &str, of: &str) {
+    assert!(rt; found == want, "{found} for {want} of {of}");
+}

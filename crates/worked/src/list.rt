@@ -1,11 +1,12 @@
 //! The lines of rows made by hand, and of maps.
+use crate::assert_same;
 use crate::map::rows_or_fault;
 use crate::rows::bytes;
 use rdl_elab::row::Row;
 use rdl_list::list_text;
 use rdl_tree::fault::Fault;
 use rdl_tree::shell::Kind;
-use std::alloc::Global;
+use std::alloc::{AllocError, Global};
 use std::slice;
 use std::test::Fail;
 
@@ -34,7 +35,7 @@ fn shows_fields_by_their_bits(rt: HostRuntime) -> Result<(), Fail> {
 [63:63] field top.r.g reset 0x0
 [9:9] field top.r.h
 ";
-    assert!(rt; listed(rt.alloc(), FIELDS)?.as_str() == want);
+    assert_same(&rt, listed(rt.alloc(), FIELDS)?.as_str(), want, FIELDS);
     Ok(())
 }
 
@@ -72,21 +73,35 @@ const INSTANCES: [Instance; 3] = [
     ),
 ];
 
-fn are_listed(alloc: Global, rows: &[Row], want: &str) -> Result<bool, Fail> {
-    Ok(list_text(alloc, rows)?.as_str() == want)
+fn instances() -> &'static [Instance] {
+    &INSTANCES
 }
 
-fn is_line_of(alloc: Global, instance: &Instance) -> Result<bool, Fail> {
-    let (names, kind, base, sizes, want) = instance;
+fn row_line(alloc: Global, row: Row) -> Result<String, AllocError> {
+    list_text(alloc, slice::from_ref(&row))
+}
+
+fn line_of(alloc: Global, instance: &Instance) -> Result<String, Fail> {
+    let (names, kind, base, sizes, _) = instance;
     let row = bytes(alloc, names, *kind, *base, sizes)?;
-    are_listed(alloc, slice::from_ref(&row), want)
+    Ok(row_line(alloc, row)?)
 }
 
 #[test]
 fn shows_instances_by_their_bytes(rt: HostRuntime) -> Result<(), Fail> {
-    assert!(rt; are_listed(rt.alloc(), &[], "")?);
-    for instance in INSTANCES.iter() {
-        assert!(rt; is_line_of(rt.alloc(), instance)?);
+    for instance in instances() {
+        assert_same(
+            &rt,
+            line_of(rt.alloc(), instance)?.as_str(),
+            instance.4,
+            "the row",
+        );
     }
+    Ok(())
+}
+
+#[test]
+fn shows_nothing_without_rows(rt: HostRuntime) -> Result<(), Fail> {
+    assert_same(&rt, list_text(rt.alloc(), &[])?.as_str(), "", "no rows");
     Ok(())
 }

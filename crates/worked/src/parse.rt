@@ -64,11 +64,17 @@ const FORMS_AT: [(usize, usize); 12] = [
     (7, 1),
 ];
 
+fn forms_at() -> &'static [(usize, usize)] {
+    &FORMS_AT
+}
+
 #[test]
 fn each_form_has_its_place(rt: HostRuntime) {
     match parse(rt.alloc(), FORMS) {
         Ok((description, places)) => {
-            assert!(rt; description.items.len() == FORMS_AT.len() && are_places(&places, &FORMS_AT))
+            assert!(rt;
+                description.items.len() == forms_at().len() && are_places(&places, forms_at())
+            )
         }
         Err(_) => assert!(rt; false),
     }
@@ -100,9 +106,12 @@ fn is_dynamic_true(item: Option<&Item>) -> bool {
 #[test]
 fn parts_are_read(rt: HostRuntime) -> Result<(), Fail> {
     let description = description(rt.alloc(), FORMS)?;
-    assert!(rt; is_internal_with_parts(description.items.item(4)));
-    assert!(rt; is_default_word(description.items.item(8)));
-    assert!(rt; is_dynamic_true(description.items.item(11)));
+    let items = &description.items;
+    assert!(rt;
+        is_internal_with_parts(items.item(4))
+            && is_default_word(items.item(8))
+            && is_dynamic_true(items.item(11))
+    );
     Ok(())
 }
 
@@ -125,9 +134,13 @@ const REFUSED: [(&str, u8, usize); 16] = [
     ("}", 9, 1),
 ];
 
+fn refused() -> &'static [(&'static str, u8, usize)] {
+    &REFUSED
+}
+
 #[test]
 fn faults_have_their_places(rt: HostRuntime) {
-    for (text, number, column) in REFUSED.iter() {
+    for (text, number, column) in refused() {
         assert!(rt;
             fault(rt.alloc(), text) == (*number, *column),
             "the fault of {text}"
@@ -148,9 +161,13 @@ const ACCEPTED: [&str; 10] = [
     "addrmap m { regfile { reg { field { sw = r; } f; } r; } rf[2]; };",
 ];
 
+fn accepted() -> &'static [&'static str] {
+    &ACCEPTED
+}
+
 #[test]
 fn texts_of_the_language_are_accepted(rt: HostRuntime) {
-    for text in ACCEPTED.iter() {
+    for text in accepted() {
         assert!(rt; fault(rt.alloc(), text) == (0, 0), "the fault of {text}");
     }
 }
@@ -196,10 +213,15 @@ fn sixteen_levels_and_65536_items_are_accepted(rt: HostRuntime) -> Result<(), Fa
     Ok(())
 }
 
+/// 100,001 copies of 10,000 items.
+fn many_copies(alloc: Global) -> Result<String, AllocError> {
+    let body = repeated(alloc, "reg {", "a;", 10_000, "} x")?;
+    repeated(alloc, &body, ",x", 100_000, ";")
+}
+
 #[test]
 fn copies_past_the_limit_are_not_made(rt: HostRuntime) -> Result<(), Fail> {
-    let body = repeated(rt.alloc(), "reg {", "a;", 10_000, "} x")?;
-    let text = repeated(rt.alloc(), &body, ",x", 100_000, ";")?;
+    let text = many_copies(rt.alloc())?;
     assert!(rt; fault(rt.alloc(), &text) == (12, text.len()));
     Ok(())
 }
@@ -212,9 +234,17 @@ fn items(alloc: Global, text: &str) -> Result<usize, (u8, usize)> {
     }
 }
 
+type Items = (&'static str, Result<usize, (u8, usize)>);
+
+const STATEMENTS: [Items; 3] = [
+    ("reg { field {} f; } a, b;", Ok(2)),
+    ("T a; T b;", Err((9, 5))),
+    (" // none", Err((10, 8))),
+];
+
 #[test]
 fn one_statement_is_an_item(rt: HostRuntime) {
-    assert!(rt; items(rt.alloc(), "reg { field {} f; } a, b;") == Ok(2));
-    assert!(rt; items(rt.alloc(), "T a; T b;") == Err((9, 5)));
-    assert!(rt; items(rt.alloc(), " // none") == Err((10, 8)));
+    for (text, want) in STATEMENTS.iter() {
+        assert!(rt; items(rt.alloc(), text) == *want, "the items of {text}");
+    }
 }

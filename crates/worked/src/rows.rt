@@ -4,7 +4,7 @@ use rdl_elab::row_values::RowValues;
 use rdl_text::name::Name;
 use rdl_tree::dims::Dims;
 use rdl_tree::shell::Kind;
-use std::alloc::Global;
+use std::alloc::{AllocError, Global};
 use std::rc::Rc;
 use std::test::Fail;
 
@@ -22,6 +22,33 @@ fn path(alloc: Global, names: &[&str]) -> Result<RowPath, Fail> {
     Ok(RowPath::new(around, Name::new(alloc, last)?))
 }
 
+fn extent(alloc: Global, sizes: &[u64]) -> Result<Extent, AllocError> {
+    let sizes = Vec::from_slice(alloc, sizes)?;
+    Ok(Extent {
+        offset: 0,
+        size: 12,
+        dims: Dims::from_vec(sizes),
+        stride: 32,
+    })
+}
+
+fn placed(
+    alloc: Global,
+    names: RowPath,
+    kind: Kind,
+    base: u64,
+    extent: Extent,
+) -> Result<Row, AllocError> {
+    let values = RowValues::from_vec(alloc, Vec::new(alloc))?;
+    Ok(Row {
+        names,
+        kind,
+        base,
+        place: Place::Bytes(extent),
+        values,
+    })
+}
+
 /// A row without any values, of elements of 12 bytes, each 32 behind the one before.
 pub(crate) fn bytes(
     alloc: Global,
@@ -30,17 +57,6 @@ pub(crate) fn bytes(
     base: u64,
     sizes: &[u64],
 ) -> Result<Row, Fail> {
-    let extent = Extent {
-        offset: 0,
-        size: 12,
-        dims: Dims::from_vec(Vec::from_slice(alloc, sizes)?),
-        stride: 32,
-    };
-    Ok(Row {
-        names: path(alloc, names)?,
-        kind,
-        base,
-        place: Place::Bytes(extent),
-        values: RowValues::from_vec(alloc, Vec::new(alloc))?,
-    })
+    let names = path(alloc, names)?;
+    Ok(placed(alloc, names, kind, base, extent(alloc, sizes)?)?)
 }

@@ -1,4 +1,5 @@
 //! Types, targets, values and the first fault of items, of small descriptions.
+use crate::assert_same;
 use crate::parse::description;
 use crate::tree::address;
 use rdl_scope::faults::check;
@@ -48,10 +49,14 @@ const VERDICTS: [(&str, &str); 13] = [
     (TWO_TARGETS, "none"),
 ];
 
+fn verdicts() -> &'static [(&'static str, &'static str)] {
+    &VERDICTS
+}
+
 #[test]
 fn judges_each_fault(rt: HostRuntime) -> Result<(), Fail> {
-    for (text, wanted) in VERDICTS.iter() {
-        assert_eq!(rt; verdict(rt.alloc(), text)?.as_str(), *wanted);
+    for (text, wanted) in verdicts() {
+        assert_same(&rt, verdict(rt.alloc(), text)?.as_str(), wanted, text);
     }
     Ok(())
 }
@@ -66,6 +71,10 @@ const TYPES: [(&str, &[usize], &[usize]); 3] = [
     (SHADOWED, &[1, 0, 2], &[1, 0, 1]),
 ];
 
+fn types() -> &'static [(&'static str, &'static [usize], &'static [usize])] {
+    &TYPES
+}
+
 fn has_type(description: &Description, instance: &[usize], definition: &[usize]) -> bool {
     match type_of(description, &address(instance)) {
         Some(found) => found.as_slice() == definition,
@@ -75,7 +84,7 @@ fn has_type(description: &Description, instance: &[usize], definition: &[usize])
 
 #[test]
 fn finds_types_from_their_definitions_on(rt: HostRuntime) -> Result<(), Fail> {
-    for (text, instance, definition) in TYPES.iter() {
+    for (text, instance, definition) in types() {
         let description = description(rt.alloc(), text)?;
         assert!(rt; has_type(&description, instance, definition), "in {text}");
     }
@@ -124,6 +133,18 @@ fn shown(alloc: Global, value: Option<Value>) -> Result<String, AllocError> {
     }
 }
 
+fn value_in(
+    alloc: Global,
+    description: &Description,
+    top: usize,
+    path: &str,
+    property: &str,
+) -> Result<Option<Value>, Fail> {
+    let path = names(alloc, path)?;
+    let top = address(&[top]);
+    Ok(value(alloc, description, &top, path.as_slice(), property)?)
+}
+
 fn value_of(
     alloc: Global,
     text: &str,
@@ -132,14 +153,7 @@ fn value_of(
     property: &str,
 ) -> Result<String, Fail> {
     let description = description(alloc, text)?;
-    let path = names(alloc, path)?;
-    let found = value(
-        alloc,
-        &description,
-        &address(&[top]),
-        path.as_slice(),
-        property,
-    )?;
+    let found = value_in(alloc, &description, top, path, property)?;
     Ok(shown(alloc, found)?)
 }
 
@@ -182,11 +196,21 @@ const VALUES: [(&str, usize, &str, &str, &str); 9] = [
     (SHADOWED, 1, "g.v", "regwidth", "32"),
 ];
 
+fn values() -> &'static [(
+    &'static str,
+    usize,
+    &'static str,
+    &'static str,
+    &'static str,
+)] {
+    &VALUES
+}
+
 #[test]
 fn takes_the_outermost_assignment_or_the_nearest_default(rt: HostRuntime) -> Result<(), Fail> {
-    for (text, top, path, property, wanted) in VALUES.iter() {
+    for (text, top, path, property, wanted) in values() {
         let found = value_of(rt.alloc(), text, *top, path, property)?;
-        assert_eq!(rt; found.as_str(), *wanted, "of {path} in {text}");
+        assert_same(&rt, found.as_str(), wanted, path);
     }
     Ok(())
 }

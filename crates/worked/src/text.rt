@@ -1,4 +1,5 @@
 //! Each row of the table of words, each fault with its place, and places.
+use crate::assert_same;
 use rdl_text::fault::TextFault;
 use rdl_text::list::Tokens;
 use rdl_text::name::{Name, NameFault};
@@ -125,13 +126,14 @@ fn one_word() -> &'static [(&'static str, TokenKind)] {
     &ONE_WORD
 }
 
+fn is_one_word(alloc: Global, text: &str, kind: TokenKind) -> Result<bool, TextFault> {
+    are_words(alloc, text, &[(kind, 0, text)])
+}
+
 #[test]
 fn numbers_and_strings(rt: HostRuntime) -> Result<(), Fail> {
     for (text, kind) in one_word() {
-        assert!(rt;
-            are_words(rt.alloc(), text, &[(*kind, 0, text)])?,
-            "the kind of {text}"
-        );
+        assert!(rt; is_one_word(rt.alloc(), text, *kind)?, "the kind of {text}");
     }
     Ok(())
 }
@@ -140,8 +142,10 @@ fn numbers_and_strings(rt: HostRuntime) -> Result<(), Fail> {
 fn identifiers_have_255_letters_at_most(rt: HostRuntime) -> Result<(), Fail> {
     let longer = "a".repeat(rt.alloc(), 256)?;
     let longest = &longer[..255];
-    assert!(rt; are_words(rt.alloc(), longest, &[(TokenKind::Identifier, 0, longest)])?);
-    assert!(rt; fault(rt.alloc(), &longer) == (7, 0));
+    assert!(rt;
+        are_words(rt.alloc(), longest, &[(TokenKind::Identifier, 0, longest)])?
+            && fault(rt.alloc(), &longer) == (7, 0)
+    );
     Ok(())
 }
 
@@ -192,12 +196,17 @@ fn inside<'a>(words: &Tokens<'a>, index: usize) -> Option<&'a str> {
     words.get(index)?.raw()
 }
 
+// The word with the quotes, the inside without them, and none of another word.
+fn is_string_inside(words: &Tokens<'_>) -> bool {
+    is_word(words, 2, &(TokenKind::Text, 2, "\"a\\\"é\""))
+        && inside(words, 2) == Some("a\\\"é")
+        && inside(words, 1) == None
+}
+
 #[test]
 fn strings_alone_have_an_inside(rt: HostRuntime) -> Result<(), Fail> {
     let words = tokens(rt.alloc(), "x=\"a\\\"é\";")?;
-    assert!(rt; is_word(&words, 2, &(TokenKind::Text, 2, "\"a\\\"é\"")));
-    assert!(rt; inside(&words, 2) == Some("a\\\"é"), "without the quotes");
-    assert!(rt; inside(&words, 1) == None);
+    assert!(rt; is_string_inside(&words));
     Ok(())
 }
 
@@ -214,15 +223,18 @@ fn are_equal(alloc: Global, left: &str, right: &str) -> Result<bool, NameFault> 
     Ok(left == right)
 }
 
+fn shown_name(alloc: Global, text: &str) -> Result<String, Fail> {
+    Ok(Name::new(alloc, text)?.to_string(alloc)?)
+}
+
 #[test]
 fn names(rt: HostRuntime) -> Result<(), Fail> {
-    assert!(rt; is_kept(rt.alloc(), "a_1", 3)?);
-    assert!(rt; !are_equal(rt.alloc(), "a_1", "a_2")?);
-    assert!(rt;
-        Name::new(rt.alloc(), "a_1")?
-            .to_string(rt.alloc())?
-            .as_str()
-            == "a_1"
+    assert!(rt; is_kept(rt.alloc(), "a_1", 3)? && !are_equal(rt.alloc(), "a_1", "a_2")?);
+    assert_same(
+        &rt,
+        shown_name(rt.alloc(), "a_1")?.as_str(),
+        "a_1",
+        "a name",
     );
     Ok(())
 }
@@ -246,11 +258,15 @@ fn is_kept_raw(alloc: Global, text: &str, length: usize) -> Result<bool, NameFau
     Ok(raw == copy && raw.len() == length)
 }
 
+fn shown_raw(alloc: Global, text: &str) -> Result<String, Fail> {
+    Ok(Raw::new(alloc, text)?.to_string(alloc)?)
+}
+
 #[test]
 fn raw_strings(rt: HostRuntime) -> Result<(), Fail> {
     let text = "a\\\"\né";
     assert!(rt; is_kept_raw(rt.alloc(), text, 6)?);
-    assert!(rt; Raw::new(rt.alloc(), text)?.to_string(rt.alloc())?.as_str() == text);
+    assert_same(&rt, shown_raw(rt.alloc(), text)?.as_str(), text, "a string");
     Ok(())
 }
 

@@ -28,7 +28,7 @@ const SHARED_TYPE: &str =
 const ONE_NAME: &str = "reg u {}; addrmap top { regfile u {}; u x; regfile { u y; } u; u u; };";
 
 /// A segment as it is written: `$T` or `u`.
-pub(crate) fn segment(alloc: Global, part: &str) -> Result<Segment, NameFault> {
+fn segment(alloc: Global, part: &str) -> Result<Segment, NameFault> {
     match part.strip_prefix("$") {
         Some(rest) => Ok(Segment::Def(Name::new(alloc, rest)?)),
         None => Ok(Segment::Inst(Name::new(alloc, part)?)),
@@ -148,30 +148,37 @@ fn shows(alloc: Global, map: &Description, part: &str) -> Result<bool, Fail> {
     Ok(shown(alloc, map)?.contains(part))
 }
 
+/// Whether the map and its second item are copied, and the map shows this part.
+fn are_copied(alloc: Global, map: &Description, part: &str) -> Result<bool, Fail> {
+    Ok(
+        is_copied_whole(alloc, map)?
+            && is_copied(alloc, map.items.item(1))?
+            && shows(alloc, map, part)?,
+    )
+}
+
 fn assert_copied(
     rt: &impl Abort,
     alloc: Global,
-    map: &Description,
+    text: &str,
     part: &str,
+    count: u64,
+    depth: u64,
 ) -> Result<(), Fail> {
-    assert!(rt; is_copied_whole(alloc, map)?);
-    assert!(rt; is_copied(alloc, map.items.item(1))?);
-    assert!(rt; shows(alloc, map, part)?);
+    let map = description(alloc, text)?;
+    assert!(rt; map.count() == count && map.depth() == depth && are_copied(alloc, &map, part)?);
     Ok(())
 }
 
 // T, bits, sw, top, all, desc, regwidth and all.bits->swmod; sw stands between two pairs of braces.
 #[test]
 fn copies_and_counts_each_form(rt: HostRuntime) -> Result<(), Fail> {
-    let map = description(rt.alloc(), EVERY_FORM)?;
-    assert!(rt; map.count() == 8 && map.depth() == 2);
-    assert_copied(&rt, rt.alloc(), &map, "External")
+    assert_copied(&rt, rt.alloc(), EVERY_FORM, "External", 8, 2)
 }
 
 #[test]
 fn copies_a_shared_type(rt: HostRuntime) -> Result<(), Fail> {
-    let map = description(rt.alloc(), SHARED_TYPE)?;
-    assert_copied(&rt, rt.alloc(), &map, "Dynamic")
+    assert_copied(&rt, rt.alloc(), SHARED_TYPE, "Dynamic", 10, 2)
 }
 
 fn instance_of(alloc: Global, of: &str, text: &str) -> Result<Item, NameFault> {
@@ -185,29 +192,41 @@ fn put_first(alloc: Global, body: &mut Body) -> Result<(), Fail> {
     Ok(())
 }
 
-// None at a named type, and none past the end.
-fn assert_no_bodies(rt: &impl Abort, map: &mut Description) {
-    assert!(rt; map.body(&address(&[1, 2, 0])).is_none());
-    assert!(rt; map.body_mut(&address(&[1, 2, 0])).is_none());
-    assert!(rt; map.body_mut(&address(&[1, 2, 7])).is_none());
+fn has_no_body(map: &mut Description, at: &Address) -> bool {
+    map.body(at).is_none() && map.body_mut(at).is_none()
 }
 
-fn assert_changes(rt: &impl Abort, alloc: Global, map: &mut Description) -> Result<(), Fail> {
-    assert!(rt; map.weight() == 2 + 4 + 2 + 3 + 2 + 3 + 3);
-    match map.body_mut(&address(&[1, 2])) {
-        Some(body) => put_first(alloc, body)?,
-        None => assert!(rt; false),
-    }
-    assert!(rt; map.weight() == 19 + 7);
-    assert!(rt; map.body(&address(&[1, 2])).map(Body::len) == Some(2));
+// None at a named type, and none past the end.
+#[test]
+fn has_no_bodies_at_other_items(rt: HostRuntime) -> Result<(), Fail> {
+    let mut map = description(rt.alloc(), ONE_NAME)?;
+    assert!(rt;
+        has_no_body(&mut map, &address(&[1, 2, 0])) && has_no_body(&mut map, &address(&[1, 2, 7]))
+    );
     Ok(())
+}
+
+fn change(alloc: Global, map: &mut Description) -> Result<(), Fail> {
+    match map.body_mut(&address(&[1, 2])) {
+        Some(body) => put_first(alloc, body),
+        None => Err(Fail::new("no body")),
+    }
+}
+
+fn weighs(map: &Description, length: usize, weight: u64) -> bool {
+    match map.body(&address(&[1, 2])) {
+        Some(body) => body.len() == length && map.weight() == weight,
+        None => false,
+    }
 }
 
 #[test]
 fn changes_one_body(rt: HostRuntime) -> Result<(), Fail> {
     let mut map = description(rt.alloc(), ONE_NAME)?;
-    assert_no_bodies(&rt, &mut map);
-    assert_changes(&rt, rt.alloc(), &mut map)
+    let weighs_before = weighs(&map, 1, 2 + 4 + 2 + 3 + 2 + 3 + 3);
+    change(rt.alloc(), &mut map)?;
+    assert!(rt; weighs_before && weighs(&map, 2, 19 + 7));
+    Ok(())
 }
 
 fn is_instance(item: &Item, name: &str) -> bool {
@@ -231,21 +250,26 @@ fn weight(item: Item) -> u64 {
     item.weight()
 }
 
-// Puts the last of four items before the one before it, and takes the second one out.
-fn assert_moves(rt: &impl Abort, body: &mut Body) -> Result<(), Fail> {
-    assert!(rt; body.len() == 4);
+/// Puts the last of four items before the one before it.
+fn moved(body: &mut Body) -> Result<bool, AllocError> {
+    if body.len() != 4 {
+        return Ok(false);
+    }
     let last = body.remove(3);
     body.insert(2, last)?;
-    assert!(rt; are_instances(body, &["a", "b", "d", "c"]));
-    assert!(rt; body.len() == 4 && weight(body.remove(1)) == 3);
-    assert!(rt; are_instances(body, &["a", "d", "c"]));
-    Ok(())
+    Ok(are_instances(body, &["a", "b", "d", "c"]))
+}
+
+/// Takes the second of four items out.
+fn removed(body: &mut Body) -> bool {
+    body.len() == 4 && weight(body.remove(1)) == 3 && are_instances(body, &["a", "d", "c"])
 }
 
 #[test]
 fn inserts_and_removes_items(rt: HostRuntime) -> Result<(), Fail> {
     let mut map = description(rt.alloc(), "T a; T b; T c; T d;")?;
-    assert_moves(&rt, &mut map.items)
+    assert!(rt; moved(&mut map.items)? && removed(&mut map.items));
+    Ok(())
 }
 
 // 65,536 items, those of the innermost body at level 16.
@@ -258,17 +282,28 @@ fn largest(alloc: Global) -> Result<String, AllocError> {
 #[test]
 fn drops_the_largest(rt: HostRuntime) -> Result<(), Fail> {
     let map = description(rt.alloc(), &largest(rt.alloc())?)?;
-    assert!(rt; map.weight() == 65536 * 2);
-    assert!(rt; map.body(&address(&[0; 16])).is_some());
+    assert!(rt; map.weight() == 65536 * 2 && map.body(&address(&[0; 16])).is_some());
     Ok(())
 }
 
 // The row of `alignment`: address maps and register files, powers of two up to 2^40, in the layout.
+fn stands_on_files(property: Property) -> bool {
+    property.on(Kind::Regfile) && !property.on(Kind::Reg)
+}
+
+fn takes_powers_of_two(property: Property) -> bool {
+    property.takes(&Value::Number(1 << 40)) && !property.takes(&Value::Number(3))
+}
+
+fn is_of_layouts(property: Property) -> bool {
+    property.layout() && !property.dynamic() && property.built_in().is_none()
+}
+
 #[test]
 fn reads_the_table_of_properties(rt: HostRuntime) {
-    assert!(rt; property("stickybit") == Some(Property::Stickybit) && property("Reset") == None);
     let alignment = Property::Alignment;
-    assert!(rt; alignment.on(Kind::Regfile) && !alignment.on(Kind::Reg));
-    assert!(rt; alignment.takes(&Value::Number(1 << 40)) && !alignment.takes(&Value::Number(3)));
-    assert!(rt; alignment.layout() && !alignment.dynamic() && alignment.built_in().is_none());
+    assert!(rt;
+        stands_on_files(alignment) && takes_powers_of_two(alignment) && is_of_layouts(alignment)
+    );
+    assert!(rt; property("stickybit") == Some(Property::Stickybit) && property("Reset") == None);
 }
