@@ -1,6 +1,7 @@
 //! What takes a step of a map back: how many patches, where, and what they weigh; and patches that are tried.
 ghost use Rattle.std.specs.Prelude.{◌≡◌, [], ◌∷◌, IsTrue, IfOk};
 ghost use Rattle.rdl_tree.specs.Patch.{fits};
+ghost use Rattle.rdl_edit.specs.Backs.{Fits};
 
 use crate::assert_same;
 use crate::parse::description;
@@ -54,18 +55,24 @@ fn back_text(alloc: Global, back: &Back) -> Result<String, AllocError> {
 }
 
 /// Makes the edit, and lets it go.
-fn make(alloc: Global, map: &mut Map, edit: Edit) -> Result<Back, Refusal> {
+fn make(alloc: Global, map: &mut Map, edit: Edit) -> Result<Back, Refusal>
+    ensures { IfOk result (λ back. Fits map.new back) }
+{
     map.apply(alloc, &edit)
 }
 
-fn removed(alloc: Global, map: &mut Map, at: &str) -> Result<Back, Fail> {
+fn removed(alloc: Global, map: &mut Map, at: &str) -> Result<Back, Fail>
+    ensures { IfOk result (λ back. Fits map.new back) }
+{
     match make(alloc, map, Edit::Remove(path(alloc, at)?)) {
         Ok(back) => Ok(back),
         Err(_) => Err(Fail::new("is refused")),
     }
 }
 
-fn reverted(alloc: Global, map: &mut Map, back: Back) -> Result<Back, Fail> {
+fn reverted(alloc: Global, map: &mut Map, back: Back) -> Result<Back, Fail>
+    requires { Fits map.old back }
+{
     match map.revert(alloc, back) {
         Ok(forward) => Ok(forward),
         Err(_) => Err(Fail::new("no memory")),

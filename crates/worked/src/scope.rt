@@ -1,4 +1,7 @@
 //! Types, targets, values and the first fault of items, of small descriptions.
+ghost use Rattle.std.specs.Prelude.{◌≤◌};
+ghost use Rattle.rdl_tree.specs.Depth.{depth};
+
 use crate::assert_same;
 use crate::parse::description;
 use crate::tree::address;
@@ -139,7 +142,9 @@ fn value_in(
     top: usize,
     path: &str,
     property: &str,
-) -> Result<Option<Value>, Fail> {
+) -> Result<Option<Value>, Fail>
+    requires { depth description.now.items ≤ 16 }
+{
     let path = names(alloc, path)?;
     let top = address(&[top]);
     Ok(value(alloc, description, &top, path.as_slice(), property)?)
