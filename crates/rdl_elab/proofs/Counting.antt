@@ -3,7 +3,8 @@ use Rattle.std.proofs.Common.{◌≡◌, ℕ, zero, suc, ◌+◌, ◌-◌, ◌*�
 use Rattle.std.specs.Prelude.{max, min, unwrap_or}
 use Rattle.std.proofs.lemmas.Bool.{cases_lt}
 use Rattle.rdl_tree.specs.declared.shell.Shell.{Shell}
-use Rattle.rdl_tree.specs.declared.shell.Kind.TheVariants.{Regfile, Reg}
+use Rattle.rdl_tree.specs.declared.shell.Kind.{Kind}
+use Rattle.rdl_tree.specs.declared.shell.Kind.TheVariants.{Addrmap, Regfile, Reg, Field}
 use Rattle.rdl_elab.specs.declared.layout.Mode.{Mode}
 use Rattle.rdl_elab.specs.declared.layout.Mode.TheVariants.{Compact, Regalign, Fullalign}
 use Rattle.rdl_elab.specs.declared.layout.Placement.{Placement}
@@ -18,6 +19,7 @@ use Rattle.rdl_elab.specs.Bits.{bits_from}
 use Rattle.rdl_elab.specs.Layouts.{placement, field_bits, member, container, laid_out}
 use Rattle.rdl_elab.specs.Capped.{capped, capped_span, capped_layout}
 use Rattle.rdl_elab.specs.Inside.{counted, shown_placement}
+use Rattle.rdl_elab.specs.LaidOut.{shown_member}
 use Rattle.rdl_elab.proofs.CappedNumbers.{Alike, over, next_alike}
 use Rattle.rdl_elab.proofs.Placing.{to_span, greatest_capped}
 use Rattle.rdl_elab.proofs.KeptLayouts.{power_alike, max_alike}
@@ -128,3 +130,19 @@ pub register-taken : (v : LayoutValues) (m : Mode) (xs : List (Shell × Layout))
     → ◌≡◌ {A = Layout} (record { size = capped (bytes_of v.regwidth); access = bytes_of v.accesswidth; spans = spans }) (capped_layout (laid_out Reg v m (map member xs)))
 register-taken v m xs fs spans e g =
     ap (λ ss. record { size = capped (bytes_of v.regwidth); access = bytes_of v.accesswidth; spans = ss }) (g ∙ ap (λ bs. map capped_span (bits_from 0 bs)) (e ∙ sym (bits-of xs)))
+
+-- so are members
+placements-shown : (xs : List (Shell × Layout)) → map (λ (i : Member). i.placement) (map shown_member xs) ≡ map shown_placement xs
+placements-shown [] = refl
+placements-shown (x ∷ xs) = ap (λ ps. shown_placement x ∷ ps) (placements-shown xs)
+
+bits-shown : (xs : List (Shell × Layout)) → map (λ (i : Member). i.bits) (map shown_member xs) ≡ map field_bits xs
+bits-shown [] = refl
+bits-shown (x ∷ xs) = ap (λ fs. field_bits x ∷ fs) (bits-shown xs)
+
+pub members-shown : (k : Kind) (v : LayoutValues) (m : Mode) (xs : List (Shell × Layout)) → capped_layout (laid_out k v m (map shown_member xs)) ≡ capped_layout (laid_out k v m (map member xs))
+members-shown Addrmap v m xs = ap (λ ps. capped_layout (container v.alignment m ps)) (placements-shown xs) ∙ container-taken v m xs (map shown_placement xs) refl
+members-shown Regfile v m xs = ap (λ ps. capped_layout (container v.alignment m ps)) (placements-shown xs) ∙ container-taken v m xs (map shown_placement xs) refl
+members-shown Reg v m xs =
+    ap (λ fs. capped_layout (record { size = bytes_of v.regwidth; access = bytes_of v.accesswidth; spans = bits_from 0 fs })) (bits-shown xs ∙ sym (bits-of xs))
+members-shown Field v m xs = refl

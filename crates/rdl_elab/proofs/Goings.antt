@@ -135,7 +135,7 @@ parts-add e b n (Own p v) rest = refl
 parts-add e b n (Default p v) rest = refl
 parts-add e b n (Dynamic t p v) rest = refl
 
-standing-add : (e : Standing) (b : List ℕ) (n : ℕ) (x : Item) (rest : Items) → standing e b n (add x rest) ≡ standing (after_item (b ++ n ∷ []) x e) b (suc n) rest
+pub standing-add : (e : Standing) (b : List ℕ) (n : ℕ) (x : Item) (rest : Items) → standing e b n (add x rest) ≡ standing (after_item (b ++ n ∷ []) x e) b (suc n) rest
 standing-add e b n (Define m c) rest = refl
 standing-add e b n (Instance s (Named t)) rest = refl
 standing-add e b n (Instance s (Anonymous c)) rest = refl
@@ -232,6 +232,12 @@ pub own-room : (t : Items) (n : ℕ) (xs : List Item) (x : Item) (k : Component)
 own-room t n xs x k root at e h is own r a room =
     omega (arith, own-depth x k own, depth-one n xs x (slice_get-get_or xs n x h ∙ ap Some (sym is)), ap (λ zs. depth (items_of zs)) e, ap depth (items_of-list_of t), ap length a, length-append root (n ∷ []), ap length r, room)
 
+pub item-taken : (xs : List Item) (i : ℕ) (x : Item) → i < length xs → x ≡ get_or xs i x → take (i + 1) xs ≡ take i xs ++ x ∷ []
+item-taken xs i x h is = take_more xs i x h ∙ ap (λ y. take i xs ++ y ∷ []) (sym is)
+
+pub item-place : (at below : List ℕ) (xs : List Item) (i : ℕ) → i < length xs → below ≡ at ++ i ∷ [] → at ++ (0 + length (take i xs)) ∷ [] ≡ below
+item-place at below xs i h b = let n : 0 + length (take i xs) ≡ i = omega (arith, length-take i xs) in ap (λ k. at ++ k ∷ []) n ∙ sym b
+
 -- what stands goes on to stand
 module _ (d : Items) where
   pub stands-first : (w : Walk) → w.types ≡ [] → w.defaults ≡ [] → Stands d w nothing
@@ -302,10 +308,10 @@ module _ (d : Items) where
   -- one more item
   module _ (at below : List ℕ) (xs : List Item) (i : ℕ) (x : Item) (h : i < length xs) (is : x ≡ get_or xs i x) (b : below ≡ at ++ i ∷ []) (e : Standing) where
     taken : take (i + 1) xs ≡ take i xs ++ x ∷ []
-    taken = take_more xs i x h ∙ ap (λ y. take i xs ++ y ∷ []) (sym is)
+    taken = item-taken xs i x h is
 
     place : at ++ (0 + length (take i xs)) ∷ [] ≡ below
-    place = let n : 0 + length (take i xs) ≡ i = omega (arith, length-take i xs) in ap (λ k. at ++ k ∷ []) n ∙ sym b
+    place = item-place at below xs i h b
 
     pub stands-next : (new : Walk) → Stands d new (after_item below x (standing e at 0 (items_of (take i xs)))) → Stands d new (standing e at 0 (items_of (take (i + 1) xs)))
     stands-next new g =

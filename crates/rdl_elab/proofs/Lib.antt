@@ -15,8 +15,10 @@ pub mod RangeSearches
 pub mod RangesKept
 pub mod Telling
 pub mod Counting
+pub mod SameMembers
 pub mod Insides
 pub mod Goings
+pub mod Writing
 pub mod Roots
 pub mod DefaultStacks
 pub mod ValueLists

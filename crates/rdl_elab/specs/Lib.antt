@@ -15,6 +15,8 @@ pub mod Finished
 pub mod KeptRows
 pub mod SiblingRanges
 pub mod Inside
+pub mod LaidOut
+pub mod Written
 pub mod Stands
 pub mod TypeStacks
 pub mod Tops

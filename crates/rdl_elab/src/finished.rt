@@ -1,4 +1,5 @@
 //! Components that are laid out.
+use crate::laid_out::SharedLayouts;
 use crate::layout::{Layout, LayoutValues, Mode};
 use crate::reaches::Assignment;
 use crate::row_values::ComponentValues;
@@ -175,7 +176,9 @@ pub(crate) struct Finished<'a> {
     /// The dynamic assignments in its body.
     pub assignments: Vec<Assignment<'a>>,
     pub parts: Vec<Part<'a>>,
-    pub layouts: Layouts,
+    pub layouts: SharedLayouts,
+    /// The key of its layouts, if they were kept before.
+    pub key: Option<usize>,
     /// The names of the longest path below it, at most 16.
     pub levels: usize,
     /// The rows below it, at most 65,536.

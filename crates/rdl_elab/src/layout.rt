@@ -60,7 +60,7 @@ pub struct Layout {
 }
 
 /// What the place of an instance in an address map or a register file depends on.
-#[derive(Clone, Copy, Debug)]
+#[derive(Clone, Copy, Debug, PartialEq, Eq)]
 pub struct Placement {
     /// The size of one element, in bytes.
     pub size: u64,
@@ -78,7 +78,7 @@ pub struct Placement {
 }
 
 /// What the bits of a field in its register depend on.
-#[derive(Clone, Copy, Debug)]
+#[derive(Clone, Copy, Debug, PartialEq, Eq)]
 pub struct FieldBits {
     /// How many bits it has where it has no range.
     pub width: u64,
@@ -88,14 +88,14 @@ pub struct FieldBits {
 
 /// What the layout of a component takes of one of its instances: of a register file, address map or register the
 /// placement, of a field the bits.
-#[derive(Clone, Copy, Debug)]
+#[derive(Clone, Copy, Debug, PartialEq, Eq)]
 pub struct Member {
     pub placement: Placement,
     pub bits: FieldBits,
 }
 
 /// The values of a component on which its layout depends.
-#[derive(Clone, Copy, Debug)]
+#[derive(Clone, Copy, Debug, PartialEq, Eq)]
 pub struct LayoutValues {
     /// How the instances of an address map are aligned.
     pub addressing: Mode,

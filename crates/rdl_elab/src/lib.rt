@@ -8,6 +8,7 @@ mod defaults;
 pub mod elaborate;
 mod finished;
 mod instances;
+mod laid_out;
 pub mod laws;
 pub mod layout;
 pub mod place;

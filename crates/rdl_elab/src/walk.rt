@@ -1,17 +1,21 @@
 //! The walk that lays out components, once for all their instances.
 ghost use Rattle.std.specs.Prelude.{◌≡◌, ℕ, ◌∷◌, ◌++◌, ◌+◌, ◌≤◌, [], length, Some, IfOk, IfSome};
 ghost use Rattle.std.specs.Option.{is_some};
+ghost use Rattle.std.specs.List.{AllZip};
 ghost use Rattle.rdl_tree.specs.Depth.{depth};
 ghost use Rattle.rdl_tree.specs.declared.description.Item.TheVariants.{Instance};
 ghost use Rattle.rdl_tree.specs.View.{items_of};
 ghost use Rattle.rdl_scope.specs.Closed.{Made, Parts, Standing, component, head_at, lookup, nothing, parts, standing};
 ghost use Rattle.rdl_elab.specs.Finished.{IsFinished, IsKept, AreParts};
+ghost use Rattle.slab.specs.Slab.{get};
+ghost use Rattle.rdl_elab.specs.Written.{written, item_written, all_written, Finishes, IsLaidOut};
 ghost use Rattle.rdl_elab.specs.Stands.{made_at, after_item, item_parts, in_list, placed, LeadsTo, Stands, Grows, IsBehind};
 
 use crate::built_ins::BuiltIns;
 use crate::defaults::Defaults;
 use crate::finished::{Finished, Part};
-use crate::instances::{first_empty, layouts, levels, rows};
+use crate::instances::{first_empty, levels, rows};
+use crate::laid_out::{Before, SharedLayouts, take_layouts};
 use crate::reaches::assignments;
 use crate::shared::share;
 use crate::types::Types;
@@ -21,6 +25,7 @@ use rdl_text::name::Name;
 use rdl_tree::address::Address;
 use rdl_tree::description::{Component, Description, Item, Of};
 use rdl_tree::shell::Shell;
+use slab::Slab;
 use std::alloc::{AllocError, Global};
 
 /// Components that are laid out, each after those of its instances, and the number of one of them.
@@ -54,10 +59,12 @@ fn finished<'a>(
     component: &'a Component,
     parts: Vec<Part<'a>>,
     walk: &Walk<'a>,
+    before: &Before,
 ) -> Result<Finished<'a>, AllocError>
     requires { depth description.now.items ≤ 16 }
     ensures kept { IfOk result (λ f. (e : Standing) (inside : Parts) (n : ℕ) → walk.now.defaults ≡ e.defaults → AreParts description.now.items walk.now.components.items n parts.entry.items inside → IsKept description.now.items f (record { head = head_at at.now component.now.kind component.now.body e; parts = inside })) }
     ensures parts { IfOk result (λ f. f.parts ≡ parts.entry) }
+    ensures before { IfOk result (λ f. IfSome f.key (λ k. get before.now.layouts.now k ≡ Some f.layouts)) }
 {
     let kind = component.kind;
     let body = &component.body;
@@ -65,14 +72,15 @@ fn finished<'a>(
     let values = layout_values(body, &walk.defaults);
     let shown = shown_values(alloc, kind, body, &walk.defaults, &walk.built_ins)?;
     let assignments = assignments(alloc, description, at, body)?;
-    let layouts = layouts(alloc, kind, values, parts.as_slice(), components)?;
+    let taken = take_layouts(alloc, kind, values, parts.as_slice(), components, before)?;
     let first_empty = first_empty(alloc, parts.as_slice(), components)?;
     Ok(Finished {
         kind,
         values,
         shown,
         assignments,
-        layouts,
+        layouts: taken.layouts,
+        key: taken.key,
         levels: levels(parts.as_slice(), components),
         rows: rows(parts.as_slice(), components),
         first_empty,
@@ -82,13 +90,14 @@ fn finished<'a>(
 
 /// Lays out the component of the item at this address. What stands before the item stays.
 #[cycle(walk)]
-#[tactic(auto, using(crate::proofs::Goings::goings))]
+#[tactic(auto, using(crate::proofs::Goings::goings, crate::proofs::Writing::writings))]
 fn finish<'a>(
     alloc: Global,
     description: &'a Description,
     at: &Address,
     component: &'a Component,
     walk: &mut Walk<'a>,
+    before: &Before,
 ) -> Result<usize, AllocError>
     requires nesting { depth description.now.items ≤ 16 }
     requires room { length at.now + depth component.now.body ≤ 16 }
@@ -96,20 +105,21 @@ fn finish<'a>(
     ensures types { IfOk result (λ k. walk.new.types ≡ walk.old.types) }
     ensures defaults { IfOk result (λ k. walk.new.defaults ≡ walk.old.defaults) }
     ensures components { IfOk result (λ k. Grows walk.old.components.items walk.new.components.items) }
+    ensures finishes { IfOk result (λ k. (e : Standing) → Stands description.now.items walk.old e → Finishes before.now.layouts.now walk.old.components.items walk.new.components.items (written e at.now 0 component.now.body ++ made_at e at.now component.now ∷ [])) }
 {
     let types = walk.types.len();
     let defaults = walk.defaults.len();
-    let parts = walk_items(alloc, description, at, component.body.as_slice(), walk)?;
+    let parts = walk_items(alloc, description, at, component.body.as_slice(), walk, before)?;
     walk.types.truncate(types)?;
     walk.defaults.truncate(defaults);
-    let finished = finished(alloc, description, at, component, parts, walk)?;
+    let finished = finished(alloc, description, at, component, parts, walk, before)?;
     let number = walk.components.len();
     walk.components.push(finished)?;
     Ok(number)
 }
 
 /// The instance of a type, if the type stands.
-#[tactic(auto, using(crate::proofs::Goings::goings))]
+#[tactic(auto, using(crate::proofs::Goings::goings, crate::proofs::Writing::writings))]
 fn named_part<'a>(shell: &'a Shell, name: &Name, types: &Types) -> Option<Found<'a>>
     ensures { LeadsTo shell.now (lookup name.now types.now) result }
 {
@@ -119,7 +129,7 @@ fn named_part<'a>(shell: &'a Shell, name: &Name, types: &Types) -> Option<Found<
 
 /// Lays out the component of the instance that is this item of the body at this address, if it has one of its own.
 #[cycle(walk)]
-#[tactic(auto, using(crate::proofs::Goings::goings))]
+#[tactic(auto, using(crate::proofs::Goings::goings, crate::proofs::Writing::writings))]
 fn walk_instance<'a>(
     alloc: Global,
     description: &'a Description,
@@ -128,16 +138,18 @@ fn walk_instance<'a>(
     shell: &'a Shell,
     of: &'a Of,
     walk: &mut Walk<'a>,
+    before: &Before,
 ) -> Result<Option<Found<'a>>, AllocError>
     requires nesting { depth description.now.items ≤ 16 }
     requires room { length at.now + depth (items_of (Instance shell.now of.now ∷ [])) ≤ 16 }
     ensures part { IfOk result (λ f. (e : Standing) → Stands description.now.items walk.old e → AreParts description.now.items walk.new.components.items (length walk.new.components.items) (in_list (placed (at.now ++ number ∷ []) f)) (item_parts e (at.now ++ number ∷ []) (Instance shell.now of.now))) }
     ensures stands { IfOk result (λ f. (e : Standing) → Stands description.now.items walk.old e → Stands description.now.items walk.new e) }
     ensures behind { IfOk result (λ f. IsBehind walk.old walk.new) }
+    ensures finishes { IfOk result (λ f. (e : Standing) → Stands description.now.items walk.old e → Finishes before.now.layouts.now walk.old.components.items walk.new.components.items (item_written e (at.now ++ number ∷ []) (Instance shell.now of.now))) }
 {
     match of {
         Of::Anonymous(component) => {
-            let component = finish(alloc, description, &at.inside(number), component, walk)?;
+            let component = finish(alloc, description, &at.inside(number), component, walk, before)?;
             Ok(Some(Found { shell, component }))
         }
         Of::Named(name) => Ok(named_part(shell, name, &walk.types)),
@@ -146,7 +158,7 @@ fn walk_instance<'a>(
 
 /// Lays out what this item of the body at this address holds, and goes on behind it. What is found is an instance.
 #[cycle(walk)]
-#[tactic(auto, using(crate::proofs::Goings::goings))]
+#[tactic(auto, using(crate::proofs::Goings::goings, crate::proofs::Writing::writings))]
 fn walk_item<'a>(
     alloc: Global,
     description: &'a Description,
@@ -154,21 +166,23 @@ fn walk_item<'a>(
     number: usize,
     item: &'a Item,
     walk: &mut Walk<'a>,
+    before: &Before,
 ) -> Result<Option<Found<'a>>, AllocError>
     requires nesting { depth description.now.items ≤ 16 }
     requires room { length at.now + depth (items_of (item.now ∷ [])) ≤ 16 }
     ensures part { IfOk result (λ f. (e : Standing) → Stands description.now.items walk.old e → AreParts description.now.items walk.new.components.items (length walk.new.components.items) (in_list (placed (at.now ++ number ∷ []) f)) (item_parts e (at.now ++ number ∷ []) item.now)) }
     ensures stands { IfOk result (λ f. (e : Standing) → Stands description.now.items walk.old e → Stands description.now.items walk.new (after_item (at.now ++ number ∷ []) item.now e)) }
     ensures behind { IfOk result (λ f. IsBehind walk.old walk.new) }
+    ensures finishes { IfOk result (λ f. (e : Standing) → Stands description.now.items walk.old e → Finishes before.now.layouts.now walk.old.components.items walk.new.components.items (item_written e (at.now ++ number ∷ []) item.now)) }
 {
     match item {
         Item::Define(name, component) => {
-            let component = finish(alloc, description, &at.inside(number), component, walk)?;
+            let component = finish(alloc, description, &at.inside(number), component, walk, before)?;
             walk.types.push(name, component)?;
             Ok(None)
         }
         Item::Instance(shell, of) => {
-            walk_instance(alloc, description, at, number, shell, of, walk)
+            walk_instance(alloc, description, at, number, shell, of, walk, before)
         }
         Item::Default(name, value) => {
             walk.defaults.push(name, value)?;
@@ -181,24 +195,26 @@ fn walk_item<'a>(
 /// Lays out what these first items of the body at this address hold, and goes on behind them. The parts are those of
 /// the instances.
 #[cycle(walk)]
-#[tactic(auto, using(crate::proofs::Goings::goings))]
+#[tactic(auto, using(crate::proofs::Goings::goings, crate::proofs::Writing::writings))]
 fn walk_items<'a>(
     alloc: Global,
     description: &'a Description,
     at: &Address,
     items: &'a [Item],
     walk: &mut Walk<'a>,
+    before: &Before,
 ) -> Result<Vec<Part<'a>>, AllocError>
     requires nesting { depth description.now.items ≤ 16 }
     requires room { length at.now + depth (items_of items.now) ≤ 16 }
     ensures parts { IfOk result (λ ps. (e : Standing) → Stands description.now.items walk.old e → AreParts description.now.items walk.new.components.items (length walk.new.components.items) ps.items (parts e at.now 0 (items_of items.now))) }
     ensures stands { IfOk result (λ ps. (e : Standing) → Stands description.now.items walk.old e → Stands description.now.items walk.new (standing e at.now 0 (items_of items.now))) }
     ensures behind { IfOk result (λ ps. IsBehind walk.old walk.new) }
+    ensures finishes { IfOk result (λ ps. (e : Standing) → Stands description.now.items walk.old e → Finishes before.now.layouts.now walk.old.components.items walk.new.components.items (written e at.now 0 (items_of items.now))) }
 {
     let mut parts = Vec::with_capacity(alloc, items.len())?;
     let mut shared = None;
     for (i, item) in items.iter().enumerate() {
-        if let Some(found) = walk_item(alloc, description, at, i, item, walk)? {
+        if let Some(found) = walk_item(alloc, description, at, i, item, walk, before)? {
             let around = share(alloc, at, &mut shared)?;
             parts.push(Part::new(around, i, found.shell, found.component))?;
         }
@@ -213,6 +229,7 @@ impl<'a> Walk<'a> {
     fn new(alloc: Global) -> Result<Walk<'a>, AllocError>
         ensures types { IfOk result (λ walk. walk.types ≡ []) }
         ensures defaults { IfOk result (λ walk. walk.defaults ≡ []) }
+        ensures components { IfOk result (λ walk. walk.components.items ≡ []) }
     {
         Ok(Walk {
             types: Types::new(alloc),
@@ -231,6 +248,7 @@ fn finish_behind<'a>(
     n: usize,
     component: &'a Component,
     walk: &mut Walk<'a>,
+    before: &Before,
 ) -> Result<usize, AllocError>
     requires nesting { depth description.now.items ≤ 16 }
     requires room { depth (items_of items.now) ≤ 16 }
@@ -238,8 +256,8 @@ fn finish_behind<'a>(
     ensures { IfOk result (λ k. Stands description.now.items walk.old nothing → IsFinished description.now.items walk.new.components.items k (made_at (standing nothing [] 0 (items_of items.now)) (n ∷ []) component.now)) }
 {
     let root = Address::new();
-    walk_items(alloc, description, &root, items, walk)?;
-    finish(alloc, description, &root.inside(n), component, walk)
+    walk_items(alloc, description, &root, items, walk, before)?;
+    finish(alloc, description, &root.inside(n), component, walk, before)
 }
 
 /// Lays out the component of item `n` of the root body.
@@ -260,9 +278,39 @@ pub(crate) fn lay_out_item<'a>(
         return Ok(None);
     };
     let mut walk = Walk::new(alloc)?;
-    let number = finish_behind(alloc, description, &items[..n], n, component, &mut walk)?;
+    let none = Slab::new(alloc);
+    let before = Before {
+        layouts: &none,
+        keys: &[],
+    };
+    let number = finish_behind(
+        alloc,
+        description,
+        &items[..n],
+        n,
+        component,
+        &mut walk,
+        &before,
+    )?;
     Ok(Some(Walked {
         components: walk.components,
         number,
     }))
+}
+
+/// Lays out all components of the description, used or not, each behind those inside it. Layouts that are kept stay
+/// where nothing has changed of what they were made of.
+pub(crate) fn lay_out_all<'a>(
+    alloc: Global,
+    description: &'a Description,
+    before: &Before,
+) -> Result<Vec<Finished<'a>>, AllocError>
+    requires { depth description.now.items ≤ 16 }
+    ensures { IfOk result (λ components. AllZip (IsLaidOut before.now.layouts.now) components.items (all_written description.now.items)) }
+{
+    let mut walk = Walk::new(alloc)?;
+    let root = Address::new();
+    let items = description.items.as_slice();
+    walk_items(alloc, description, &root, items, &mut walk, before)?;
+    Ok(walk.components)
 }

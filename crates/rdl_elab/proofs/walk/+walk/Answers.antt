@@ -1,6 +1,7 @@
 use Rattle.std.proofs.Common.{◌≡◌, ℕ, ◌∷◌, ◌+◌, ◌-◌, ◌*◌, ◌<◌, List, [], length, take, drop, ◌++◌, refl, ap, sym, subst, ◌∙◌, arith}
 use Rattle.std.specs.Prelude.{IfSome}
 use Rattle.rdl_tree.specs.View.{items_of}
+use Rattle.rdl_tree.proofs.Rounds.{items_of-list_of}
 use Rattle.rdl_tree.specs.declared.shell.Shell.{Shell}
 use Rattle.rdl_tree.specs.declared.description.Item.{Item}
 use Rattle.rdl_tree.specs.declared.description.Of.{Of}
@@ -11,6 +12,7 @@ use Rattle.rdl_elab.specs.declared.walk.Walk.{Walk}
 use Rattle.rdl_elab.specs.Finished.{AreParts, IsFinished}
 use Rattle.rdl_elab.specs.Stands.{made_at, after_item, item_parts, in_list, placed, Stands}
 use Rattle.rdl_elab.proofs.Goings.{append_nil, grows-on, grows-push, item-room, body-room, stands-grow, stands-define, finished-part, named-part, made-last, stands-next, parts-next, behind-on}
+use Rattle.rdl_elab.proofs.Writing.{finishes-next, finishes-made, laid-out}
 use Rattle.rdl_elab.proofs.walk.+walk.Goals as goal
 use Rattle.rdl_elab.proofs.walk.+walk.Goals.{walk_items-in-Some+in_ok-around+in_ok-push, walk_items-in_default}
 
@@ -91,6 +93,9 @@ walk_items-loop-i-preserved t c =
           stands-next d b at xs i c.index-items-i.result c.loop-i-test.true c.index-items-i.is refl e new
           (all.stands (standing e b 0 (items_of (take i xs))) (c.loop-i.invariant.stands e h));
       shared = shared;
+      finishes = λ e h.
+          finishes-next c.args.before.now.layouts.now c.args.walk.now.components.items c.loop-i.walk.components.items new.components.items b at xs i c.index-items-i.result c.loop-i-test.true c.index-items-i.is refl e
+          (c.loop-i.invariant.finishes e h) (all.finishes (standing e b 0 (items_of (take i xs))) (c.loop-i.invariant.stands e h));
       behind = behind-on c.args.walk.now c.loop-i.walk new c.loop-i.invariant.behind all.behind;
     }
 
@@ -121,3 +126,19 @@ walk_instance-returns-in-Named-clause-part t c = λ e h.
     let fs = c.args.walk.now.components.items in
     subst (λ (o : Of). AreParts d fs (length fs) (in_list (placed at c.named_part.result)) (item_parts e at (Instance c.args.shell.now o))) (sym c.in-Named.is)
     (named-part d fs at c.args.shell.now c.in-Named.name c.named_part.result c.args.walk.now.types e.types h.types c.named_part.ensures)
+
+pub finish-returns-clause-finishes : goal.finish-returns-clause-finishes
+finish-returns-clause-finishes t c = λ e h.
+    let d = c.args.description.now.items in
+    let before = c.args.before.now.layouts.now in
+    let at = c.args.at.now in
+    let k = c.args.component.now in
+    let mid = c.walk_items.new.walk.components.items in
+    let f = c.in_ok-finished.finished in
+    let xs = c.as_slice.result.now in
+    let behind = c.in_ok-parts.ensures.behind in
+    let long = c.walk_items.new.walk.defaults in
+    let defaults = c.truncate-2.ensures ∙ ap (λ n. drop (length long - n) long) c.len-defaults.ensures ∙ behind.defaults.same ∙ h.defaults in
+    let are = subst (λ t. AreParts d mid (length mid) c.in_ok-parts.parts.items (parts e at 0 t)) (ap items_of c.as_slice.ensures ∙ items_of-list_of k.body) (c.in_ok-parts.ensures.parts e h) in
+    finishes-made before c.args.walk.now.components.items mid c.push.new.self.items at k e xs f c.as_slice.ensures c.in_ok-push.ensures.items (c.in_ok-parts.ensures.finishes e h)
+    (laid-out before d f (made_at e at k) (c.in_ok-finished.ensures.kept e (parts e at 0 k.body) (length mid) defaults are) c.in_ok-finished.ensures.before)

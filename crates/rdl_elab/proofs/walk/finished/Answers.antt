@@ -9,8 +9,8 @@ use Rattle.rdl_elab.proofs.Powers.{alignment-power}
 use Rattle.rdl_elab.proofs.Insides.{layouts-are, levels-kept, rows-kept, empty-kept}
 use Rattle.rdl_elab.proofs.walk.finished.Goals as goal
 
-pub layouts-requires : goal.layouts-requires
-layouts-requires c =
+pub take_layouts-requires : goal.take_layouts-requires
+take_layouts-requires c =
     let h : Head = record { at = []; kind = c.args.component.now.kind; body = c.args.component.now.body; defaults = c.args.walk.now.defaults } in
     subst (λ (v : LayoutValues). IsAlignment v.alignment) (sym (c.layout_values-values.ensures h refl refl)) (alignment-power (head_value h))
 
@@ -26,7 +26,7 @@ returns-clause-kept c = λ e inside n same are.
       values = c.layout_values-values.ensures h refl (sym same);
       shown = c.in_ok-shown.ensures h refl refl (sym same);
       assignments = c.in_ok-assignments.ensures;
-      layouts = layouts-are d fs n c.as_slice.result.now inside h c.layout_values-values.result c.in_ok-layouts.layouts (c.layout_values-values.ensures h refl (sym same)) (moved c.as_slice.result.now c.as_slice.ensures.value) c.in_ok-layouts.ensures;
+      layouts = layouts-are d fs n c.as_slice.result.now inside h c.layout_values-values.result c.in_ok-taken.taken.layouts (c.layout_values-values.ensures h refl (sym same)) (moved c.as_slice.result.now c.as_slice.ensures.value) c.in_ok-taken.ensures.layouts;
       levels = c.levels.ensures ∙ levels-kept d fs n c.as_slice-3.result.now inside (moved c.as_slice-3.result.now c.as_slice-3.ensures.value);
       rows = c.rows.ensures ∙ rows-kept d fs n c.as_slice-4.result.now inside (moved c.as_slice-4.result.now c.as_slice-4.ensures.value);
       first_empty = c.in_ok-first_empty.ensures ∙ empty-kept d fs n c.as_slice-2.result.now inside (moved c.as_slice-2.result.now c.as_slice-2.ensures.value);

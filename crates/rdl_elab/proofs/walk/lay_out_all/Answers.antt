@@ -1,0 +1,26 @@
+use Rattle.std.proofs.Common.{◌≡◌, ◌+◌, ◌≤◌, ◌++◌, List, [], length, ap, sym, subst, ◌∙◌, arith, rules}
+use Rattle.std.specs.List.{AllZip}
+use Rattle.rdl_tree.specs.Depth.{depth}
+use Rattle.rdl_tree.specs.View.{items_of}
+use Rattle.rdl_tree.proofs.Rounds.{items_of-list_of}
+use Rattle.rdl_scope.specs.Closed.{nothing}
+use Rattle.rdl_elab.specs.declared.finished.Finished.{Finished}
+use Rattle.rdl_elab.specs.Written.{written, all_written, Finishes, IsLaidOut}
+use Rattle.rdl_elab.proofs.Goings.{stands-first}
+use Rattle.rdl_elab.proofs.walk.lay_out_all.Goals as goal
+
+pub walk_items-requires-clause-room : goal.walk_items-requires-clause-room
+walk_items-requires-clause-room c =
+    omega (arith, ap length c.new-root.ensures, ap (λ ys. depth (items_of ys)) c.as_slice-items.ensures, ap depth (items_of-list_of c.args.description.now.items), c.requires)
+
+pub returns : goal.returns
+returns c =
+    let d = c.args.description.now.items in
+    let before = c.args.before.now.layouts.now in
+    let new = c.walk_items.new.walk.components.items in
+    let first = stands-first d c.in_ok-walk.walk c.in_ok-walk.ensures.types c.in_ok-walk.ensures.defaults in
+    let all = c.in_ok-walk_items.ensures.finishes nothing first in
+    let whole = subst (λ t. Finishes before c.in_ok-walk.walk.components.items new (written nothing [] 0 t)) (ap items_of c.as_slice-items.ensures ∙ items_of-list_of d)
+    (subst (λ b. Finishes before c.in_ok-walk.walk.components.items new (written nothing b 0 (items_of c.as_slice-items.result.now))) c.new-root.ensures all) in
+    subst (λ (fs : List Finished). AllZip (IsLaidOut before) fs (all_written d))
+    (sym (whole.is ∙ ap (λ (fs : List Finished). fs ++ whole.more) c.in_ok-walk.ensures.components)) whole.are

@@ -1,0 +1,61 @@
+-- All components written in a description, used or not, each behind those inside it, and their layouts as they are kept.
+-- own: SystemRDL 2.0 has no order of components; a body's layout depends on the components before it and inside it.
+use Rattle.std.specs.Prelude.{◌≡◌, ℕ, suc, List, [], ◌∷◌, ◌++◌, map, Option, Some, None, IfSome, option_and_then}
+use Rattle.std.specs.List.{AllZip}
+use Rattle.slab.specs.Slab.{Slab, get}
+use Rattle.rdl_tree.specs.Items.{Items, no_items, plain, holder}
+use Rattle.rdl_tree.specs.Component.{holder_kind}
+use Rattle.rdl_tree.specs.declared.shell.Kind.{Kind}
+use Rattle.rdl_tree.specs.declared.shell.Kind.TheVariants.{Addrmap, Regfile, Reg, Field}
+use Rattle.rdl_scope.specs.Closed.{Made, Standing, head_at, parts, after_plain, after_holder, nothing, component}
+use Rattle.rdl_tree.specs.declared.description.Item.{Item}
+use Rattle.rdl_tree.specs.declared.description.Item.TheVariants.{Define, Instance, Own, Default, Dynamic}
+use Rattle.rdl_tree.specs.declared.description.Of.TheVariants.{Named, Anonymous}
+use Rattle.rdl_elab.specs.Stands.{made_at}
+use Rattle.rdl_elab.specs.declared.layout.Mode.{Mode}
+use Rattle.rdl_elab.specs.declared.layout.Mode.TheVariants.{Compact, Regalign, Fullalign}
+use Rattle.rdl_elab.specs.declared.layout.Layout.{Layout}
+use Rattle.rdl_elab.specs.declared.finished.Finished.{Finished}
+use Rattle.rdl_elab.specs.Kept.{Layouts}
+use Rattle.rdl_elab.specs.Layouts.{layout}
+use Rattle.rdl_elab.specs.Capped.{capped_layout}
+
+-- those among the items from number n on of the body at b
+abbrev pub written : Standing → List ℕ → ℕ → Items → List Made
+written e b n no_items = []
+written e b n (plain p rest) = written (after_plain p e) b (suc n) rest
+written e b n (holder h body rest) =
+    written e (b ++ n ∷ []) 0 body
+    ++ record { head = head_at (b ++ n ∷ []) (holder_kind h) body e; parts = parts e (b ++ n ∷ []) 0 body }
+    ∷ written (after_holder h (b ++ n ∷ []) body (parts e (b ++ n ∷ []) 0 body) e) b (suc n) rest
+
+abbrev pub all_written : Items → List Made
+all_written d = written nothing [] 0 d
+
+-- the component that an item holds, behind those inside it
+abbrev pub item_written : Standing → List ℕ → Item → List Made
+item_written e at (Define n c) = written e at 0 c.body ++ made_at e at c ∷ []
+item_written e at (Instance s (Named t)) = []
+item_written e at (Instance s (Anonymous c)) = written e at 0 c.body ++ made_at e at c ∷ []
+item_written e at (Own p v) = []
+item_written e at (Default p v) = []
+item_written e at (Dynamic t p v) = []
+
+-- the layouts of a component, as they are kept
+abbrev pub layouts_kept : Made → Layouts
+layouts_kept c =
+    record { compact = capped_layout (layout Compact c); regalign = capped_layout (layout Regalign c); fullalign = capped_layout (layout Fullalign c) }
+
+abbrev pub all_layouts : Items → List Layouts
+all_layouts d = map layouts_kept (all_written d)
+
+-- a finished component has the layouts of this one; if they were kept before, then under its key
+pub record IsLaidOut (before : Slab Layouts) (f : Finished) (c : Made) : Type 0 where
+  pub layouts : f.layouts ≡ layouts_kept c
+  pub kept : IfSome f.key (λ k. get before k ≡ Some f.layouts)
+
+-- a walk has finished these components, one after another
+pub record Finishes (before : Slab Layouts) (old new : List Finished) (cs : List Made) : Type 0 where
+  pub more : List Finished
+  pub is : new ≡ old ++ more
+  pub are : AllZip (IsLaidOut before) more cs
