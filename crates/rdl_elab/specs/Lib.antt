@@ -17,6 +17,7 @@ pub mod SiblingRanges
 pub mod Inside
 pub mod LaidOut
 pub mod Written
+pub mod AllKept
 pub mod Stands
 pub mod TypeStacks
 pub mod Tops

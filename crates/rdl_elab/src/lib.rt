@@ -8,6 +8,7 @@ mod defaults;
 pub mod elaborate;
 mod finished;
 mod instances;
+pub mod kept;
 mod laid_out;
 pub mod laws;
 pub mod layout;

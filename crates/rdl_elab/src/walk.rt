@@ -109,7 +109,14 @@ fn finish<'a>(
 {
     let types = walk.types.len();
     let defaults = walk.defaults.len();
-    let parts = walk_items(alloc, description, at, component.body.as_slice(), walk, before)?;
+    let parts = walk_items(
+        alloc,
+        description,
+        at,
+        component.body.as_slice(),
+        walk,
+        before,
+    )?;
     walk.types.truncate(types)?;
     walk.defaults.truncate(defaults);
     let finished = finished(alloc, description, at, component, parts, walk, before)?;
@@ -149,7 +156,14 @@ fn walk_instance<'a>(
 {
     match of {
         Of::Anonymous(component) => {
-            let component = finish(alloc, description, &at.inside(number), component, walk, before)?;
+            let component = finish(
+                alloc,
+                description,
+                &at.inside(number),
+                component,
+                walk,
+                before,
+            )?;
             Ok(Some(Found { shell, component }))
         }
         Of::Named(name) => Ok(named_part(shell, name, &walk.types)),
@@ -177,7 +191,14 @@ fn walk_item<'a>(
 {
     match item {
         Item::Define(name, component) => {
-            let component = finish(alloc, description, &at.inside(number), component, walk, before)?;
+            let component = finish(
+                alloc,
+                description,
+                &at.inside(number),
+                component,
+                walk,
+                before,
+            )?;
             walk.types.push(name, component)?;
             Ok(None)
         }

@@ -1,0 +1,48 @@
+-- What is kept of a description's layouts from one description to the next.
+-- own: SystemRDL 2.0 says how components are laid out, and nothing of edits.
+use Rattle.std.specs.Prelude.{◌≡◌, ℕ, ◌+◌, ◌*◌, List, [], ◌∷◌, map, length, sum_by, Option, Some, None, Result, Ok, Err, option_and_then}
+use Rattle.rdl_tree.specs.Items.{Items}
+use Rattle.rdl_tree.specs.declared.shell.Kind.{Kind}
+use Rattle.rdl_tree.specs.declared.shell.Kind.TheVariants.{Addrmap, Regfile, Reg, Field}
+use Rattle.rdl_scope.specs.Closed.{Parts, no_parts, part, Made, component}
+use Rattle.rdl_elab.specs.declared.layout.Mode.{Mode}
+use Rattle.rdl_elab.specs.declared.layout.Layout.{Layout}
+use Rattle.rdl_elab.specs.declared.row.Row.{Row}
+use Rattle.rdl_elab.specs.Kept.{Layouts}
+use Rattle.rdl_elab.specs.Layouts.{layout}
+use Rattle.rdl_elab.specs.Capped.{capped_layout}
+use Rattle.rdl_elab.specs.Faults.{elaborated}
+use Rattle.rdl_elab.specs.Written.{all_written, all_layouts}
+
+-- the layouts of all components, each behind those inside it; the name that was asked of the top; and how many instances were placed
+-- when they were laid out last, once for each mode
+pub record KeptLayouts : Type 0 where
+  pub layouts : List Layouts
+  pub top : Option (List ℕ)
+  pub placed : ℕ
+
+-- they are those of this description, which has no fault
+pub record AreOf (d : Items) (k : KeptLayouts) : Type 0 where
+  pub layouts : k.layouts ≡ all_layouts d
+  pub rows : List Row
+  pub faultless : elaborated d k.top ≡ Ok rows
+
+-- the layout of a component; a field has none
+abbrev pub shown_layout : Kind → Layout → Option Layout
+shown_layout Addrmap l = Some l
+shown_layout Regfile l = Some l
+shown_layout Reg l = Some l
+shown_layout Field l = None
+
+-- the layout of the component that the item at this address holds
+abbrev pub layout_at : Items → List ℕ → Mode → Option Layout
+layout_at d a m = option_and_then (λ (c : Made). shown_layout c.head.kind (capped_layout (layout m c))) (component d a)
+
+-- how many instances a component has
+abbrev pub how_many : Parts → ℕ
+how_many no_parts = 0
+how_many (part at s h inside rest) = 1 + how_many rest
+
+-- how many all components together have
+abbrev pub all_instances : Items → ℕ
+all_instances d = sum_by (λ (c : Made). how_many c.parts) (all_written d)
