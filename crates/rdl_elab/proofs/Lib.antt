@@ -37,3 +37,7 @@ pub mod SameRows
 pub mod SameLevels
 pub mod FieldsInside
 pub mod KeptAnswers
+pub mod Storing
+pub mod Numbering
+pub mod FoundLayouts
+pub mod AllTaken

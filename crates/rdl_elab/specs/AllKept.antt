@@ -1,14 +1,17 @@
 -- What is kept of a description's layouts from one description to the next.
 -- own: SystemRDL 2.0 says how components are laid out, and nothing of edits.
-use Rattle.std.specs.Prelude.{◌≡◌, ℕ, ◌+◌, ◌*◌, List, [], ◌∷◌, map, length, sum_by, Option, Some, None, Result, Ok, Err, option_and_then}
+use Rattle.std.specs.Prelude.{◌≡◌, ℕ, ◌+◌, ◌*◌, List, [], ◌∷◌, map, length, sum_by, Option, Some, None, Result, Ok, Err, option_and_then, Bool, true, false}
 use Rattle.rdl_tree.specs.Items.{Items}
 use Rattle.rdl_tree.specs.declared.shell.Kind.{Kind}
 use Rattle.rdl_tree.specs.declared.shell.Kind.TheVariants.{Addrmap, Regfile, Reg, Field}
+use Rattle.rdl_tree.specs.declared.description.Component.{Component}
 use Rattle.rdl_scope.specs.Closed.{Parts, no_parts, part, Made, component}
 use Rattle.rdl_elab.specs.declared.layout.Mode.{Mode}
 use Rattle.rdl_elab.specs.declared.layout.Layout.{Layout}
 use Rattle.rdl_elab.specs.declared.row.Row.{Row}
 use Rattle.rdl_elab.specs.Kept.{Layouts}
+use Rattle.rdl_elab.specs.declared.laid_out.Taken.{Taken}
+use Rattle.rdl_elab.specs.declared.finished.Finished.{Finished}
 use Rattle.rdl_elab.specs.Layouts.{layout}
 use Rattle.rdl_elab.specs.Capped.{capped_layout}
 use Rattle.rdl_elab.specs.Faults.{elaborated}
@@ -34,6 +37,17 @@ shown_layout Regfile l = Some l
 shown_layout Reg l = Some l
 shown_layout Field l = None
 
+-- whether there is a component that has one
+abbrev pub has_layout_by : Kind → Bool
+has_layout_by Addrmap = true
+has_layout_by Regfile = true
+has_layout_by Reg = true
+has_layout_by Field = false
+
+abbrev pub has_layout : Option Component → Bool
+has_layout None = false
+has_layout (Some c) = has_layout_by c.kind
+
 -- the layout of the component that the item at this address holds
 abbrev pub layout_at : Items → List ℕ → Mode → Option Layout
 layout_at d a m = option_and_then (λ (c : Made). shown_layout c.head.kind (capped_layout (layout m c))) (component d a)
@@ -46,3 +60,15 @@ how_many (part at s h inside rest) = 1 + how_many rest
 -- how many all components together have
 abbrev pub all_instances : Items → ℕ
 all_instances d = sum_by (λ (c : Made). how_many c.parts) (all_written d)
+
+-- what is taken over of a finished component
+pub record TakesOver (t : Taken) (f : Finished) : Type 0 where
+  pub layouts : t.layouts ≡ f.layouts
+  pub key : t.key ≡ f.key
+
+-- the spans of a component's layouts, and those that are new
+abbrev pub all_spans : Layouts → ℕ
+all_spans l = length l.compact.spans + length l.regalign.spans + length l.fullalign.spans
+
+abbrev pub new_spans : Finished → ℕ
+new_spans f = elim f.key [ None ↦ all_spans f.layouts | Some k ↦ 0 ]

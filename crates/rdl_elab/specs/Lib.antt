@@ -18,6 +18,8 @@ pub mod Inside
 pub mod LaidOut
 pub mod Written
 pub mod AllKept
+pub mod Numbers
+pub mod Stored
 pub mod Stands
 pub mod TypeStacks
 pub mod Tops

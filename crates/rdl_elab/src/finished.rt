@@ -76,7 +76,7 @@ impl<'a> Part<'a> {
 }
 
 /// One layout for each mode.
-#[derive(Drop)]
+#[derive(Debug, Drop)]
 pub(crate) struct ThreeLayouts {
     pub compact: Layout,
     pub regalign: Layout,
@@ -84,7 +84,8 @@ pub(crate) struct ThreeLayouts {
 }
 
 impl ThreeLayouts {
-    ghost use Rattle.std.specs.Prelude.{◌≡◌};
+    ghost use Rattle.std.specs.Prelude.{◌≡◌, ◌≤◌};
+    ghost use Rattle.rdl_elab.specs.AllKept.{all_spans};
     ghost use Rattle.rdl_elab.specs.EachMode.{of_three};
     ghost use Rattle.rdl_elab.specs.Finished.{under};
 
@@ -97,17 +98,26 @@ impl ThreeLayouts {
             Mode::Fullalign => &self.fullalign,
         }
     }
+
+    fn placed(&self) -> u64
+        ensures { result ≤ all_spans (of_three self.now) }
+    {
+        self.compact
+            .placed()
+            .saturating_add(self.regalign.placed())
+            .saturating_add(self.fullalign.placed())
+    }
 }
 
 /// The layouts under the three modes, of which most components have but one.
-#[derive(Drop)]
+#[derive(Debug, Drop)]
 pub(crate) enum EachMode {
     Same(Layout),
     Own(Box<ThreeLayouts>),
 }
 
 /// The layouts of a component, one for each mode under which it may stand. A contract sees the three.
-#[derive(Drop)]
+#[derive(Debug, Drop)]
 pub(crate) struct Layouts {
     each: EachMode,
 }
@@ -123,7 +133,8 @@ impl Model for Layouts {
 }
 
 impl Layouts {
-    ghost use Rattle.std.specs.Prelude.{◌≡◌, true, IfOk};
+    ghost use Rattle.std.specs.Prelude.{◌≡◌, ◌≤◌, true, IfOk};
+    ghost use Rattle.rdl_elab.specs.AllKept.{all_spans};
     ghost use Rattle.rdl_elab.specs.declared.layout.Mode.{Mode};
     ghost use Rattle.rdl_elab.specs.declared.layout.Mode.TheVariants.{Compact};
     ghost use Rattle.rdl_elab.specs.EachMode.{of_three};
@@ -152,6 +163,16 @@ impl Layouts {
         match &self.each {
             EachMode::Same(layout) => layout,
             EachMode::Own(three) => three.under(mode),
+        }
+    }
+
+    /// How many spans they have.
+    pub(crate) fn placed(&self) -> u64
+        ensures { result ≤ all_spans self.now }
+    {
+        match &self.each {
+            EachMode::Same(layout) => layout.placed(),
+            EachMode::Own(three) => three.placed(),
         }
     }
 

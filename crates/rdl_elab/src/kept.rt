@@ -1,29 +1,32 @@
 //! Layouts that are kept from one description to the next.
-ghost use Rattle.std.specs.Prelude.{◌≡◌, ◌⊎◌, Ok, Err, IfOk, IfErr, OnOk, OnErr, option_copied};
+ghost use Rattle.std.specs.Prelude.{◌≡◌, ◌⊎◌, ◌*◌, ◌≤◌, Ok, Err, IfOk, IfErr, OnOk, OnErr, map, sum_by, option_map, option_copied};
+ghost use Rattle.slab.specs.Slab.{get, SameValues};
+ghost use Rattle.rdl_tree.specs.Depth.{depth};
 ghost use Rattle.rdl_scope.specs.ItemFaults.{out_of_memory};
+ghost use Rattle.rdl_scope.specs.Types.{component_at};
 ghost use Rattle.rdl_elab.specs.Faults.{elaborated};
-ghost use Rattle.rdl_elab.specs.AllKept.{AreOf};
+ghost use Rattle.rdl_elab.specs.Stored.{IsStored, AreTaken};
+ghost use Rattle.std.specs.List.{AllZip};
+ghost use Rattle.std.specs.String.{string_bytes};
+ghost use Rattle.rdl_elab.specs.AllKept.{TakesOver, new_spans, has_layout};
 
+use crate::elaborate::elaborate;
+use crate::finished::Finished;
+use crate::laid_out::{Before, Taken};
+use crate::layout::{Layout, Mode};
+use crate::numbers::number;
 use crate::row::Rows;
+use crate::stored::Stored;
+use crate::walk::lay_out_all;
+use rdl_scope::types::own_component;
 use rdl_tree::address::Address;
 use rdl_tree::description::Description;
 use rdl_tree::fault::{Fault, FaultKind};
+use rdl_tree::shell::Kind;
+use slab::Slab;
 use std::alloc::{AllocError, Global};
-
-/// STUB: The layouts of all components of a description, used or not. A contract sees the record of specs/.
-#[derive(Debug, Drop)]
-pub struct Kept {
-    placed: u64,
-}
-
-impl std::marker::Model for Kept {
-    ghost use Rattle.std.specs.Prelude.{List, [], Option, None};
-    ghost use Rattle.rdl_elab.specs.AllKept.{KeptLayouts};
-
-    ghost Value = { KeptLayouts };
-
-    ghost view = { λ k. record { layouts = []; top = None; placed = k.placed } };
-}
+use std::marker::Model;
+use std::string::String;
 
 fn no_memory() -> Fault
     ensures { result ≡ out_of_memory }
@@ -34,19 +37,146 @@ fn no_memory() -> Fault
     }
 }
 
+/// What is taken over of a finished component.
+fn take_over(finished: Finished) -> Taken
+    ensures layouts { result.layouts ≡ finished.entry.layouts }
+    ensures key { result.key ≡ finished.entry.key }
+{
+    Taken {
+        layouts: finished.layouts,
+        key: finished.key,
+    }
+}
+
+fn all_taken(alloc: Global, components: Vec<Finished>) -> Result<Vec<Taken>, AllocError>
+    ensures { IfOk result (λ ts. AllZip TakesOver ts.items components.entry.items) }
+{
+    let mut all = Vec::with_capacity(alloc, components.len())?;
+    for finished in components {
+        all.push(take_over(finished))?;
+    }
+    Ok(all)
+}
+
+/// How many instances were placed for these components, once for each mode in which they were.
+fn all_placed(components: &[Finished]) -> u64
+    ensures { result ≤ sum_by new_spans components.now }
+{
+    let mut placed = 0u64;
+    for finished in components {
+        if finished.key.is_none() {
+            placed = placed.saturating_add(finished.layouts.placed());
+        }
+    }
+    placed
+}
+
+fn text_of(alloc: Global, name: Option<&str>) -> Result<Option<String>, AllocError>
+    ensures { IfOk result (λ text. option_map string_bytes text ≡ option_copied name.entry) }
+{
+    match name {
+        Some(name) => Ok(Some(String::from_str(alloc, name)?)),
+        None => Ok(None),
+    }
+}
+
+/// Whether the item at this address holds a component that has a layout.
+fn has_layout(description: &Description, body: &Address) -> bool
+    ensures { result ≡ has_layout (component_at description.now.items body.now) }
+{
+    match description.item(body) {
+        Some(item) => match own_component(item) {
+            Some(component) => component.kind != Kind::Field,
+            None => false,
+        },
+        None => false,
+    }
+}
+
+/// The layouts of all components of a description, used or not, and how many instances were placed for them. A contract
+/// sees the record of specs/.
+#[derive(Debug, Drop)]
+pub struct Kept {
+    stored: Stored,
+    top: Option<String>,
+    placed: u64,
+}
+
+impl Model for Kept {
+    ghost use Rattle.std.specs.Prelude.{option_map};
+    ghost use Rattle.std.specs.String.{string_bytes};
+    ghost use Rattle.rdl_elab.specs.AllKept.{KeptLayouts};
+    ghost use Rattle.rdl_elab.specs.Stored.{IsStored, layouts_under};
+
+    ghost Value = { KeptLayouts };
+
+    ghost view = { λ k. record { layouts = layouts_under k.stored.layouts k.stored.keys.items; top = option_map string_bytes k.top; placed = k.placed } };
+
+    ghost invariant = { λ k. IsStored k.stored.layouts k.stored.keys.items (layouts_under k.stored.layouts k.stored.keys.items) };
+}
+
 impl Kept {
-    ghost use Rattle.std.specs.Prelude.{◌≡◌, ◌⊎◌, Ok, Err, IfOk, IfErr, OnOk, OnErr, option_copied};
+    ghost use Rattle.std.specs.Prelude.{◌≡◌, ◌≤◌, ◌*◌, ◌⊎◌, [], Ok, Err, IfOk, IfErr, OnOk, OnErr, option_copied};
+    ghost use Rattle.rdl_tree.specs.Depth.{depth};
     ghost use Rattle.rdl_scope.specs.ItemFaults.{out_of_memory};
     ghost use Rattle.rdl_elab.specs.Faults.{elaborated};
-    ghost use Rattle.rdl_elab.specs.AllKept.{AreOf};
+    ghost use Rattle.rdl_elab.specs.Written.{all_layouts};
+    ghost use Rattle.rdl_elab.specs.AllKept.{AreOf, layout_at, all_instances};
+
+    fn empty(alloc: Global) -> Kept
+        ensures { result.layouts ≡ [] }
+    {
+        Kept {
+            stored: Stored {
+                layouts: Slab::new(alloc),
+                keys: Vec::new(alloc),
+            },
+            top: None,
+            placed: 0,
+        }
+    }
+
+    /// Lays out all components of this description, and takes over what stands under these keys where it was made of the
+    /// same.
+    fn lay_out(
+        &mut self,
+        alloc: Global,
+        description: &Description,
+        top: Option<&str>,
+        keys: &[Option<usize>],
+    ) -> Result<(), AllocError>
+        requires { depth description.now.items ≤ 16 }
+        ensures layouts { OnOk result (self.new.layouts ≡ all_layouts description.now.items) }
+        ensures top { OnOk result (self.new.top ≡ option_copied top.entry) }
+        ensures placed { OnOk result (self.new.placed ≤ 3 * all_instances description.now.items) }
+        ensures err { OnErr result (self.new ≡ self.old) }
+    {
+        let top = text_of(alloc, top)?;
+        let before = Before {
+            layouts: &self.stored.layouts,
+            keys,
+        };
+        let components = lay_out_all(alloc, description, &before)?;
+        let placed = all_placed(components.as_slice());
+        let taken = all_taken(alloc, components)?;
+        self.stored.replace(alloc, taken)?;
+        self.top = top;
+        self.placed = placed;
+        Ok(())
+    }
 
     /// Lays out all components of a description without a fault. Otherwise its first fault.
     pub fn of(alloc: Global, description: &Description, top: Option<&str>) -> Result<Kept, Fault>
         ensures layouts { IfOk result (λ kept. AreOf description.now.items kept) }
         ensures top { IfOk result (λ kept. kept.top ≡ option_copied top.entry) }
+        ensures placed { IfOk result (λ kept. kept.placed ≤ 3 * all_instances description.now.items) }
         ensures refused { IfErr result (λ fault. (elaborated description.now.items (option_copied top.entry) ≡ Err fault) ⊎ (fault ≡ out_of_memory)) }
     {
-        Err(no_memory())
+        let mut kept = Kept::empty(alloc);
+        match kept.relay(alloc, description, top, &[]) {
+            Ok(()) => Ok(kept),
+            Err(fault) => Err(fault),
+        }
     }
 
     /// Lays out this description instead, and places only what has changed.
@@ -59,10 +189,15 @@ impl Kept {
     ) -> Result<(), Fault>
         ensures layouts { OnOk result (AreOf description.now.items self.new) }
         ensures top { OnOk result (self.new.top ≡ option_copied top.entry) }
+        ensures placed { OnOk result (self.new.placed ≤ 3 * all_instances description.now.items) }
         ensures refused { IfErr result (λ fault. (elaborated description.now.items (option_copied top.entry) ≡ Err fault) ⊎ (fault ≡ out_of_memory)) }
         ensures err { OnErr result (self.new ≡ self.old) }
     {
-        Err(no_memory())
+        elaborate(alloc, description, top)?;
+        match self.lay_out(alloc, description, top, &[]) {
+            Ok(()) => Ok(()),
+            Err(_) => Err(no_memory()),
+        }
     }
 
     /// The rows of the description that was laid out last.
@@ -70,7 +205,26 @@ impl Kept {
         requires { AreOf description.now.items self.now }
         ensures { IfOk result (λ rows. elaborated description.now.items self.now.top ≡ Ok rows) }
     {
-        Err(AllocError)
+        let top = self.top.as_ref().map(|top| top.as_str());
+        match elaborate(alloc, description, top) {
+            Ok(rows) => Ok(rows),
+            Err(_) => Err(AllocError),
+        }
+    }
+
+    /// The layout of the component of the item at this address, in the description that was laid out last. There is none
+    /// where the item holds no component, and none of a field.
+    pub fn layout(&self, description: &Description, body: &Address, mode: Mode) -> Option<&Layout>
+        requires { AreOf description.now.items self.now }
+        ensures { option_copied result ≡ layout_at description.now.items body.now mode }
+    {
+        if !has_layout(description, body) {
+            return None;
+        }
+        match number(&description.items, body.as_slice()) {
+            Some(number) if number < self.stored.len() => self.stored.layout(number, mode),
+            _ => None,
+        }
     }
 
     /// How many instances were placed when the layouts were laid out last, once for each mode in which they were.

@@ -54,7 +54,7 @@ fn each_members(
 
 /// The layouts of a component, with its kind, its values and what they take of its instances. A contract sees the
 /// layouts.
-#[derive(Drop)]
+#[derive(Debug, Drop)]
 pub(crate) struct LaidOut {
     kind: Kind,
     values: LayoutValues,
@@ -95,7 +95,7 @@ impl LaidOut {
 }
 
 /// Layouts that several share. A contract sees the layouts.
-#[derive(Drop)]
+#[derive(Debug, Drop)]
 pub(crate) struct SharedLayouts {
     laid_out: Rc<LaidOut>,
 }
@@ -109,7 +109,8 @@ impl Model for SharedLayouts {
 }
 
 impl SharedLayouts {
-    ghost use Rattle.std.specs.Prelude.{◌≡◌, true, IfOk};
+    ghost use Rattle.std.specs.Prelude.{◌≡◌, ◌≤◌, true, IfOk};
+    ghost use Rattle.rdl_elab.specs.AllKept.{all_spans};
     ghost use Rattle.rdl_elab.specs.declared.layout.Mode.{Mode};
     ghost use Rattle.rdl_elab.specs.declared.layout.Mode.TheVariants.{Compact};
     ghost use Rattle.rdl_elab.specs.Finished.{under};
@@ -141,6 +142,13 @@ impl SharedLayouts {
         ensures { result.now ≡ under mode self.now }
     {
         self.laid_out.as_ref().layouts.under(mode)
+    }
+
+    /// How many instances were placed for them.
+    pub(crate) fn placed(&self) -> u64
+        ensures { result ≤ all_spans self.now }
+    {
+        self.laid_out.as_ref().layouts.placed()
     }
 
     /// Whether it is known that the mode makes no difference.
@@ -175,7 +183,7 @@ fn candidate_for<'a>(before: &Before<'a>, number: usize) -> Option<Candidate<'a>
 }
 
 /// The layouts of a component, and their key if they were kept before.
-#[derive(Drop)]
+#[derive(Debug, Drop)]
 pub(crate) struct Taken {
     pub layouts: SharedLayouts,
     pub key: Option<usize>,
