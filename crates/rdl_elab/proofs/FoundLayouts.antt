@@ -1,11 +1,10 @@
 -- The layout of the component at an address stands at the component's number.
-use Rattle.std.proofs.Common.{◌≡◌, ℕ, zero, suc, ◌<◌, ◌^◌, ◌-◌, Bool, true, false, List, [], ◌∷◌, map, length, Option, Some, None, refl, ap, sym, ◌∙◌, arith}
+use Rattle.std.proofs.Common.{◌≡◌, ℕ, zero, suc, ◌<◌, ◌^◌, true, false, List, [], ◌∷◌, map, length, Option, Some, None, refl, ap, sym, ◌∙◌, arith}
 use Rattle.std.specs.Prelude.{option_map, option_and_then, slice_get}
 use Rattle.rdl_tree.specs.Items.{Items}
 use Rattle.rdl_tree.specs.Weight.{capped}
 use Rattle.rdl_tree.specs.declared.shell.Kind.{Kind}
 use Rattle.rdl_tree.specs.declared.shell.Kind.TheVariants.{Addrmap, Regfile, Reg, Field}
-use Rattle.rdl_tree.specs.declared.description.Component.{Component}
 use Rattle.rdl_scope.specs.Types.{component_at}
 use Rattle.rdl_scope.specs.Closed.{Made, component, nothing, IsAsFound}
 use Rattle.slab.specs.Slab.{Slab, get}

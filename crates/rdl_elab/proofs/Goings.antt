@@ -220,7 +220,7 @@ body-room at t xs e room = omega (arith, ap (λ ys. depth (items_of ys)) e, ap d
 pub first-room : (t : Items) (xs ys : List Item) (n : ℕ) → xs ≡ list_of t → ys ≡ take n xs → depth t ≤ 16 → depth (items_of ys) ≤ 16
 first-room t xs ys n e g h = omega (arith, ap (λ zs. depth (items_of zs)) g, depth-take n xs, ap (λ zs. depth (items_of zs)) e, ap depth (items_of-list_of t))
 
-own-depth : (x : Item) (k : Component) → own_component x ≡ Some k → depth k.body + 1 ≤ depth (items_of (x ∷ []))
+pub own-depth : (x : Item) (k : Component) → own_component x ≡ Some k → depth k.body + 1 ≤ depth (items_of (x ∷ []))
 own-depth (Define n c) k e = let same : c ≡ k = cc in omega (arith, ap (λ (c : Component). depth c.body) same)
 own-depth (Instance s (Named t)) k e = cc
 own-depth (Instance s (Anonymous c)) k e = let same : c ≡ k = cc in omega (arith, ap (λ (c : Component). depth c.body) same)

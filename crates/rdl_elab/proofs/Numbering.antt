@@ -1,9 +1,9 @@
 -- A component stands at its number among those that are written.
-use Rattle.std.proofs.Common.{◌≡◌, ℕ, zero, suc, ◌+◌, ◌-◌, ◌*◌, ◌^◌, ◌≤◌, ◌<◌, List, [], ◌∷◌, ◌++◌, length, take, get_or, Option, Some, None, ◌==◌, false, refl, ap, sym, subst, ◌∙◌, arith, length-append}
+use Rattle.std.proofs.Common.{◌≡◌, ℕ, zero, suc, ◌+◌, ◌-◌, ◌^◌, ◌≤◌, ◌<◌, List, [], ◌∷◌, ◌++◌, length, take, get_or, Option, Some, None, ◌==◌, false, refl, ap, sym, ◌∙◌, arith, length-append}
 use Rattle.std.specs.Prelude.{min, slice_get, option_map, option_and_then}
 use Rattle.std.proofs.lemmas.List.{take_more, take_all}
 use Rattle.std.proofs.lemmas.List.Sums.{get_or-le-sum_by}
-use Rattle.rdl_tree.specs.Items.{Items, no_items, plain, holder, Plain, named, own, default, dynamic, Holder, define, anonymous}
+use Rattle.rdl_tree.specs.Items.{Items, no_items, plain, holder, named, own, default, dynamic, Holder, define, anonymous}
 use Rattle.rdl_tree.specs.View.{add, items_of, list_of}
 use Rattle.rdl_tree.specs.Items.{count}
 use Rattle.rdl_tree.proofs.Rounds.{items_of-list_of}

@@ -1,19 +1,12 @@
 -- What `==` says of what layouts are made of: where it answers true, both are the same.
-use Rattle.std.proofs.Common.{◌≡◌, ℕ, List, [], ◌∷◌, Bool, true, false, ◌&&◌, ◌==◌, refl, ap, sym, ◌∙◌, Option, Some, None}
+use Rattle.std.proofs.Common.{◌≡◌, ℕ, [], ◌∷◌, Bool, true, false, ◌&&◌, ◌==◌, refl, ap, Option, Some, None}
 use mathlib.Core.Bool.{beq}
 use Rattle.std.specs.Option.{option_eq}
 use Rattle.std.specs.Cmp.{unsigned_Decides, booleans_Decides}
 use Rattle.std.specs.Cmp.Lexicographic.{pointwise}
-use Rattle.rdl_tree.specs.declared.shell.Kind.{Kind}
 use Rattle.rdl_tree.specs.declared.shell.Kind.TheVariants.{Addrmap, Regfile, Reg, Field}
 use Rattle.rdl_tree.specs.contracts.shell.KindPartialEq.TheImpl as of_kind
-use Rattle.rdl_elab.specs.declared.layout.Mode.{Mode}
 use Rattle.rdl_elab.specs.declared.layout.Mode.TheVariants.{Compact, Regalign, Fullalign}
-use Rattle.rdl_elab.specs.declared.layout.Placement.{Placement}
-use Rattle.rdl_elab.specs.declared.layout.FieldBits.{FieldBits}
-use Rattle.rdl_elab.specs.declared.layout.Member.{Member}
-use Rattle.rdl_elab.specs.declared.layout.LayoutValues.{LayoutValues}
-use Rattle.rdl_elab.specs.declared.laid_out.EachMember.{EachMember}
 use Rattle.rdl_elab.specs.contracts.layout.ModePartialEq.TheImpl as of_mode
 use Rattle.rdl_elab.specs.contracts.layout.PlacementPartialEq.TheImpl as of_placement
 use Rattle.rdl_elab.specs.contracts.layout.FieldBitsPartialEq.TheImpl as of_bits

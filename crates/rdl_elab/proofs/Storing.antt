@@ -1,6 +1,6 @@
 -- What stands under keys goes on to stand there.
-use Rattle.std.proofs.Common.{◌≡◌, ℕ, zero, suc, ◌+◌, ◌≤◌, ◌<◌, List, [], ◌∷◌, ◌++◌, get_or, map, length, refl, ap, sym, ◌∙◌, arith, Option, Some, None}
-use Rattle.std.specs.Prelude.{All, IfSome}
+use Rattle.std.proofs.Common.{◌≡◌, ℕ, suc, List, [], ◌∷◌, get_or, map, length, refl, ap, arith, Option, Some, None}
+use Rattle.std.specs.Prelude.{IfSome}
 use Rattle.slab.specs.Slab.{Slab, get}
 use Rattle.rdl_elab.specs.Kept.{Layouts}
 use Rattle.rdl_elab.specs.declared.laid_out.Taken.{Taken}

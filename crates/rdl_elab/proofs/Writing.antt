@@ -1,6 +1,6 @@
 -- A walk finishes the components that are written, one after another.
-use Rattle.std.proofs.Common.{◌≡◌, ℕ, zero, suc, ◌+◌, ◌<◌, List, [], ◌∷◌, ◌++◌, length, take, get_or, refl, ap, sym, subst, ◌∙◌, arith, append_assoc}
-use Rattle.std.specs.Prelude.{Option, Some, IfSome}
+use Rattle.std.proofs.Common.{◌≡◌, ℕ, suc, ◌+◌, ◌<◌, List, [], ◌∷◌, ◌++◌, length, take, get_or, refl, ap, sym, subst, ◌∙◌, arith, append_assoc}
+use Rattle.std.specs.Prelude.{Some, IfSome}
 use Rattle.std.specs.List.{AllZip}
 use Rattle.slab.specs.Slab.{Slab, get}
 use Rattle.rdl_tree.specs.Items.{Items, no_items}

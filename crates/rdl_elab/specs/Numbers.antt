@@ -1,6 +1,6 @@
 -- The number of a component among all components of a description, each behind those inside it.
 -- own: SystemRDL 2.0 has no order of components.
-use Rattle.std.specs.Prelude.{ℕ, zero, suc, ◌+◌, List, [], ◌∷◌, Option, Some, None, option_map, option_and_then}
+use Rattle.std.specs.Prelude.{ℕ, zero, suc, ◌+◌, List, [], ◌∷◌, Option, None, option_map, option_and_then}
 use Rattle.rdl_tree.specs.Items.{Items, no_items, plain, holder}
 use Rattle.rdl_tree.specs.Address.{inner}
 

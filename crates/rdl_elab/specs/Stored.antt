@@ -1,6 +1,6 @@
 -- Layouts under their keys.
 -- own: how they are kept.
-use Rattle.std.specs.Prelude.{◌≡◌, ℕ, List, map, All, Option, Some, IfSome}
+use Rattle.std.specs.Prelude.{◌≡◌, ℕ, List, map, All, Some, IfSome}
 use Rattle.std.specs.List.{filter_map}
 use Rattle.slab.specs.Slab.{Slab, get}
 use Rattle.rdl_elab.specs.Kept.{Layouts}

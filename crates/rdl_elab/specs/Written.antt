@@ -1,20 +1,16 @@
 -- All components written in a description, used or not, each behind those inside it, and their layouts as they are kept.
 -- own: SystemRDL 2.0 has no order of components; a body's layout depends on the components before it and inside it.
-use Rattle.std.specs.Prelude.{◌≡◌, ℕ, suc, List, [], ◌∷◌, ◌++◌, map, Option, Some, None, IfSome, option_and_then}
+use Rattle.std.specs.Prelude.{◌≡◌, ℕ, suc, List, [], ◌∷◌, ◌++◌, map, Some, IfSome}
 use Rattle.std.specs.List.{AllZip}
 use Rattle.slab.specs.Slab.{Slab, get}
 use Rattle.rdl_tree.specs.Items.{Items, no_items, plain, holder}
 use Rattle.rdl_tree.specs.Component.{holder_kind}
-use Rattle.rdl_tree.specs.declared.shell.Kind.{Kind}
-use Rattle.rdl_tree.specs.declared.shell.Kind.TheVariants.{Addrmap, Regfile, Reg, Field}
-use Rattle.rdl_scope.specs.Closed.{Made, Standing, head_at, parts, after_plain, after_holder, nothing, component}
+use Rattle.rdl_scope.specs.Closed.{Made, Standing, head_at, parts, after_plain, after_holder, nothing}
 use Rattle.rdl_tree.specs.declared.description.Item.{Item}
 use Rattle.rdl_tree.specs.declared.description.Item.TheVariants.{Define, Instance, Own, Default, Dynamic}
 use Rattle.rdl_tree.specs.declared.description.Of.TheVariants.{Named, Anonymous}
 use Rattle.rdl_elab.specs.Stands.{made_at}
-use Rattle.rdl_elab.specs.declared.layout.Mode.{Mode}
 use Rattle.rdl_elab.specs.declared.layout.Mode.TheVariants.{Compact, Regalign, Fullalign}
-use Rattle.rdl_elab.specs.declared.layout.Layout.{Layout}
 use Rattle.rdl_elab.specs.declared.finished.Finished.{Finished}
 use Rattle.rdl_elab.specs.Kept.{Layouts}
 use Rattle.rdl_elab.specs.Layouts.{layout}

@@ -12,6 +12,7 @@ ghost use Rattle.rdl_elab.specs.AllKept.{TakesOver, new_spans, has_layout};
 
 use crate::elaborate::elaborate;
 use crate::finished::Finished;
+use crate::kept_names::{KeptName, names_of, stand_ins};
 use crate::laid_out::{Before, Taken};
 use crate::layout::{Layout, Mode};
 use crate::numbers::number;
@@ -98,6 +99,7 @@ fn has_layout(description: &Description, body: &Address) -> bool
 #[derive(Debug, Drop)]
 pub struct Kept {
     stored: Stored,
+    names: Vec<KeptName>,
     top: Option<String>,
     placed: u64,
 }
@@ -131,6 +133,7 @@ impl Kept {
                 layouts: Slab::new(alloc),
                 keys: Vec::new(alloc),
             },
+            names: Vec::new(alloc),
             top: None,
             placed: 0,
         }
@@ -152,6 +155,7 @@ impl Kept {
         ensures err { OnErr result (self.new ≡ self.old) }
     {
         let top = text_of(alloc, top)?;
+        let names = names_of(alloc, description)?;
         let before = Before {
             layouts: &self.stored.layouts,
             keys,
@@ -160,9 +164,30 @@ impl Kept {
         let placed = all_placed(components.as_slice());
         let taken = all_taken(alloc, components)?;
         self.stored.replace(alloc, taken)?;
+        self.names = names;
         self.top = top;
         self.placed = placed;
         Ok(())
+    }
+
+    /// The same, with the keys of those for which the components stand.
+    fn follow(
+        &mut self,
+        alloc: Global,
+        description: &Description,
+        top: Option<&str>,
+        bodies: &[Address],
+    ) -> Result<(), AllocError>
+        requires { depth description.now.items ≤ 16 }
+        ensures layouts { OnOk result (self.new.layouts ≡ all_layouts description.now.items) }
+        ensures top { OnOk result (self.new.top ≡ option_copied top.entry) }
+        ensures placed { OnOk result (self.new.placed ≤ 3 * all_instances description.now.items) }
+        ensures err { OnErr result (self.new ≡ self.old) }
+    {
+        let names = self.names.as_slice();
+        let keys = self.stored.keys.as_slice();
+        let keys = stand_ins(alloc, names, keys, description, bodies)?;
+        self.lay_out(alloc, description, top, keys.as_slice())
     }
 
     /// Lays out all components of a description without a fault. Otherwise its first fault.
@@ -179,7 +204,10 @@ impl Kept {
         }
     }
 
-    /// Lays out this description instead, and places only what has changed.
+    /// Lays out this description instead, and places anew the instances of those components alone of which something has
+    /// changed that their layout is made of. In these bodies, and in those with another number of definitions and
+    /// instances, each of them stands for the kept one of its name, and in others for the one at its place. A component
+    /// that stands for another one than its own is laid out anew.
     pub fn relay(
         &mut self,
         alloc: Global,
@@ -194,7 +222,7 @@ impl Kept {
         ensures err { OnErr result (self.new ≡ self.old) }
     {
         elaborate(alloc, description, top)?;
-        match self.lay_out(alloc, description, top, &[]) {
+        match self.follow(alloc, description, top, bodies) {
             Ok(()) => Ok(()),
             Err(_) => Err(no_memory()),
         }

@@ -9,6 +9,7 @@ pub mod elaborate;
 mod finished;
 mod instances;
 pub mod kept;
+mod kept_names;
 mod laid_out;
 pub mod laws;
 pub mod layout;

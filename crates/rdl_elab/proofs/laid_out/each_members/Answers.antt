@@ -1,6 +1,5 @@
-use Rattle.std.proofs.Common.{◌≡◌, ◌++◌, ◌∷◌, [], map, ap, sym, ◌∙◌}
+use Rattle.std.proofs.Common.{◌∷◌, [], map, ap, sym, ◌∙◌}
 use Rattle.std.proofs.lemmas.List.{map-append}
-use Rattle.rdl_elab.specs.declared.layout.Mode.{Mode}
 use Rattle.rdl_elab.specs.Finished.{under}
 use Rattle.rdl_elab.specs.LaidOut.{member_under, shown_member}
 use Rattle.rdl_elab.proofs.Insides.{taken-some, taken-none}

@@ -1,4 +1,4 @@
-use Rattle.std.proofs.Common.{◌≡◌, List, map, ap, sym, ◌∙◌}
+use Rattle.std.proofs.Common.{List, ap, sym, ◌∙◌}
 use Rattle.rdl_elab.specs.declared.layout.Member.{Member}
 use Rattle.rdl_elab.specs.Layouts.{mode_inside, laid_out}
 use Rattle.rdl_elab.specs.Capped.{capped_layout}

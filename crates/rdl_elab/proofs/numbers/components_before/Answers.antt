@@ -1,7 +1,6 @@
-use Rattle.std.proofs.Common.{List, length, take, ap, ◌∙◌}
-use Rattle.std.specs.Prelude.{min}
+use Rattle.std.proofs.Common.{List, take, ap, ◌∙◌}
 use Rattle.std.proofs.lemmas.List.{take_min}
-use Rattle.rdl_tree.specs.View.{items_of, list_of}
+use Rattle.rdl_tree.specs.View.{items_of}
 use Rattle.rdl_tree.specs.Weight.{capped}
 use Rattle.rdl_tree.specs.declared.description.Item.{Item}
 use Rattle.rdl_elab.specs.Numbers.{components}

@@ -1,10 +1,9 @@
-use Rattle.std.proofs.Common.{◌≡◌, List, [], ◌∷◌, ◌++◌, ℕ, length, take, Some, None, refl, ap, sym, subst, ◌∙◌, arith}
+use Rattle.std.proofs.Common.{◌≡◌, [], ◌∷◌, take, Some, None, refl, ap, sym, subst}
 use Rattle.std.specs.Option.{is_some}
 use Rattle.rdl_tree.specs.View.{items_of}
 use Rattle.rdl_scope.specs.Closed.{nothing, standing}
-use Rattle.rdl_elab.specs.declared.walk.Walk.{Walk}
 use Rattle.rdl_elab.specs.Finished.{IsFinished}
-use Rattle.rdl_elab.specs.Stands.{made_at, Stands}
+use Rattle.rdl_elab.specs.Stands.{made_at}
 use Rattle.rdl_elab.proofs.Goings.{stands-first, first-room, own-room}
 use Rattle.rdl_elab.proofs.Roots.{root-past, root-item}
 use Rattle.rdl_elab.proofs.walk.lay_out_item.Goals as goal

@@ -1,11 +1,11 @@
-use Rattle.std.proofs.Common.{◌≡◌, List, map, ap, sym, subst, ◌∙◌, arith}
+use Rattle.std.proofs.Common.{List, map, ap, sym, subst, ◌∙◌, arith}
 use Rattle.std.specs.Prelude.{sum_by}
 use Rattle.rdl_elab.specs.declared.finished.Finished.{Finished}
 use Rattle.rdl_elab.specs.AllKept.{new_spans}
 use Rattle.rdl_elab.specs.Kept.{Layouts}
 use Rattle.rdl_elab.specs.declared.laid_out.Taken.{Taken}
-use Rattle.rdl_elab.specs.Written.{all_written, all_layouts}
-use Rattle.rdl_elab.specs.Stored.{IsStored, layouts_under}
+use Rattle.rdl_elab.specs.Written.{all_written}
+use Rattle.rdl_elab.specs.Stored.{IsStored}
 use Rattle.rdl_elab.proofs.AllTaken.{all-taken, layouts-taken, under-stored, all-placed}
 use Rattle.rdl_elab.proofs.kept.Kept.lay_out.Goals as goal
 

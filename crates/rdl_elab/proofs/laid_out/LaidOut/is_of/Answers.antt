@@ -1,4 +1,4 @@
-use Rattle.std.proofs.Common.{◌≡◌, List, Bool, true, false, map, ap, sym, ◌∙◌}
+use Rattle.std.proofs.Common.{◌≡◌, List, true, false, map, ap, sym, ◌∙◌}
 use Rattle.rdl_tree.specs.declared.shell.Kind.{Kind}
 use Rattle.rdl_elab.specs.declared.layout.Mode.{Mode}
 use Rattle.rdl_elab.specs.declared.layout.LayoutValues.{LayoutValues}
