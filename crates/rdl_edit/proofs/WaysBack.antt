@@ -28,18 +28,11 @@ pub has-rows : (s : State) (k : KeptLayouts) → Keeps s k → HasRows s
 has-rows s k h =
     record { rows = h.layouts.rows; are = subst (λ (o : Option (List ℕ)). elaborated s.description o ≡ Ok h.layouts.rows) h.top h.layouts.faultless }
 
-pub keeps-along : (d e : Items) (o p : Option (List ℕ)) (k l : KeptLayouts) → d ≡ e → o ≡ p → k ≡ l
-    → Keeps (record { description = d; option = o }) k → Keeps (record { description = e; option = p }) l
-keeps-along d e o p k l is-d is-o is-k h =
-    subst (λ t. Keeps (record { description = t; option = p }) l) is-d
-    (subst (λ t. Keeps (record { description = d; option = t }) l) is-o
-    (subst (Keeps (record { description = d; option = o })) is-k h))
-
 -- the layouts that were kept before a step are those to which its way back leads
 pub fits-back : (old new : Items) (o : Option (List ℕ)) (k : KeptLayouts) (back : List Patch)
     → IsWayBack old new back → Keeps (record { description = old; option = o }) k → Fits (record { description = new; option = o }) back
 fits-back old new o k back way h =
     record {
-        applicable = way.applicable;
-        has_rows = subst (λ t. HasRows (record { description = t; option = o })) (sym way.leads) (has-rows (record { description = old; option = o }) k h)
+      applicable = way.applicable;
+      has_rows = subst (λ t. HasRows (record { description = t; option = o })) (sym way.leads) (has-rows (record { description = old; option = o }) k h);
     }

@@ -146,9 +146,11 @@ impl Invertible for Map {
         ensures err { OnErr result (self.new ≡ self.old) }
     {
         let name = text_of(self.name.as_ref());
-        match again(alloc, &mut self.description, &mut self.kept, name, back.into_vec()) {
-            Ok(forward) => Ok(Back::from_vec(forward)),
-            Err(same) => Err(Back::from_vec(same)),
-        }
+        let patches = back.into_vec();
+        let forward = match again(alloc, &mut self.description, &mut self.kept, name, patches) {
+            Ok(forward) => forward,
+            Err(same) => return Err(Back::from_vec(same)),
+        };
+        Ok(Back::from_vec(forward))
     }
 }

@@ -11,4 +11,3 @@ pub returns-in-Ok-relay-clause-cost : goal.returns-in-Ok-relay-clause-cost
 returns-in-Ok-relay-clause-cost c =
     cheap c.args.patches.items c.keep.result.items c.args.description.now.items c.requires.fit c.requires.nesting
     (c.keep.ensures.patches ∙ c.in-Ok.ensures.kept)
-

@@ -1,4 +1,4 @@
-use Rattle.std.proofs.Common.{◌∙◌, sym, subst}
+use Rattle.std.proofs.Common.{sym, subst}
 use Rattle.rdl_edit.specs.Backs.{Fits}
 use Rattle.rdl_edit.specs.Step.{State}
 use Rattle.rdl_edit.proofs.WaysBack.{fits-back}
