@@ -1,20 +1,18 @@
--- The inverses of patches are the way back, and they are cheap; and how a map that has a fault is refused.
-use Rattle.std.proofs.Common.{◌≡◌, ◌≤◌, ◌⊎◌, inl, inr, Bool, true, false, List, refl, ap, sym, subst, ◌∙◌, true≢false}
-use Rattle.std.specs.Prelude.{Err, if◌then◌else◌}
+-- The inverses of patches are the way back, and they are cheap; and a map whose layouts are kept has rows.
+use Rattle.std.proofs.Common.{◌≡◌, ◌≤◌, List, ℕ, sym, subst}
+use Rattle.std.specs.Prelude.{Ok, Option}
 use Rattle.rdl_tree.specs.Items.{Items}
 use Rattle.rdl_tree.specs.Depth.{depth}
 use Rattle.rdl_tree.specs.Patch.{AllFit, image, inverses}
-use Rattle.rdl_tree.specs.declared.fault.Fault.{Fault}
 use Rattle.rdl_tree.specs.declared.patch.Patch.{Patch}
 use Rattle.rdl_tree.proofs.Patching.{image-inverses, length-inverses}
 use Rattle.rdl_tree.proofs.Nesting.{AllFit-inverses}
 use Rattle.rdl_tree.proofs.PatchWeights.{weight-inverses}
-use Rattle.rdl_scope.specs.ItemFaults.{out_of_memory}
+use Rattle.rdl_elab.specs.AllKept.{KeptLayouts}
 use Rattle.rdl_elab.specs.Faults.{elaborated}
-use Rattle.rdl_edit.specs.Backs.{IsWayBack, IsCheap}
-use Rattle.rdl_edit.specs.Faults.{is_memory, refused}
-use Rattle.rdl_edit.specs.Step.{State, IsJudged}
-use Rattle.rdl_edit.specs.declared.edit.Refusal.TheVariants.{Faulty, Memory}
+use Rattle.rdl_edit.specs.Backs.{IsWayBack, IsCheap, Fits}
+use Rattle.rdl_edit.specs.Keeping.{Keeps}
+use Rattle.rdl_edit.specs.Step.{State, HasRows}
 
 pub way-back : (ps back : List Patch) (old new : Items) → AllFit ps old → depth old ≤ 16 → new ≡ image ps old → back ≡ inverses ps old → IsWayBack old new back
 way-back ps back old new fit deep n b =
@@ -26,11 +24,15 @@ pub cheap : (ps back : List Patch) (old : Items) → AllFit ps old → depth old
 cheap ps back old fit deep b =
     subst (IsCheap ps old) (sym b) (record { as_many = length-inverses ps old fit; light = weight-inverses ps old fit deep })
 
-judged-if : (s : State) (fault : Fault) (wanted : Bool) → is_memory fault.kind ≡ wanted
-    → (elaborated s.description s.option ≡ Err fault) ⊎ (fault ≡ out_of_memory) → IsJudged s (if wanted then Memory else Faulty fault)
-judged-if s fault true e h = tt
-judged-if s fault false e (inl p) = p
-judged-if s fault false e (inr p) = absurd (true≢false (sym (ap (λ f. is_memory f.kind) p) ∙ e))
+pub has-rows : (s : State) (k : KeptLayouts) → Keeps s k → HasRows s
+has-rows s k h =
+    record { rows = h.layouts.rows; are = subst (λ (o : Option (List ℕ)). elaborated s.description o ≡ Ok h.layouts.rows) h.top h.layouts.faultless }
 
-pub judged : (s : State) (fault : Fault) → (elaborated s.description s.option ≡ Err fault) ⊎ (fault ≡ out_of_memory) → IsJudged s (refused fault)
-judged s fault h = judged-if s fault (is_memory fault.kind) refl h
+-- the layouts that were kept before a step are those to which its way back leads
+pub fits-back : (old new : Items) (o : Option (List ℕ)) (k : KeptLayouts) (back : List Patch)
+    → IsWayBack old new back → Keeps (record { description = old; option = o }) k → Fits (record { description = new; option = o }) back
+fits-back old new o k back way h =
+    record {
+      applicable = way.applicable;
+      has_rows = subst (λ t. HasRows (record { description = t; option = o })) (sym way.leads) (has-rows (record { description = old; option = o }) k h);
+    }

@@ -1,3 +1,4 @@
 pub mod Backs
 pub mod Step
 pub mod Faults
+pub mod Keeping

@@ -2,6 +2,7 @@
 ghost use Rattle.std.specs.Prelude.{◌≡◌, ◌⊎◌, Ok, Err, IfOk, IfErr, OnOk, OnErr, option_copied};
 ghost use Rattle.rdl_elab.specs.Faults.{elaborated};
 ghost use Rattle.rdl_scope.specs.ItemFaults.{out_of_memory};
+ghost use Rattle.rdl_elab.specs.AllKept.{AreOf};
 ghost use Rattle.rdl_edit.specs.Step.{HasRows, Leads, Refuses};
 ghost use Rattle.rdl_edit.specs.Backs.{prior, Fits, IsCheap};
 ghost use Rattle.rdl_rewrite.specs.Patches.{patches};
@@ -10,7 +11,7 @@ use crate::back::Back;
 use crate::edit::Refusal;
 use crate::turning::{again, turn};
 use journal_core::invertible::Invertible;
-use rdl_elab::elaborate::elaborate;
+use rdl_elab::kept::Kept;
 use rdl_elab::row::Rows;
 use rdl_rewrite::edit::Edit;
 use rdl_rewrite::rewrite::patches;
@@ -20,15 +21,18 @@ use rdl_tree::fault::Fault;
 use std::alloc::{AllocError, Global};
 use std::marker::Model;
 
-/// A map that has rows, with the name that the option asks of its top. A contract sees a `State`.
+/// A map that has rows, with the name that the option asks of its top, and the layouts of all its components. A contract
+/// sees a `State`.
 #[derive(Debug, Drop)]
 pub struct Map {
     description: Description,
     name: Option<Name>,
+    kept: Kept,
 }
 
 impl Model for Map {
-    ghost use Rattle.rdl_edit.specs.Step.{State, HasRows};
+    ghost use Rattle.rdl_edit.specs.Step.{State};
+    ghost use Rattle.rdl_edit.specs.Keeping.{Keeps};
     ghost use Rattle.rdl_tree.specs.contracts.description.Body as body;
     ghost use Rattle.std.specs.Coded.{codes};
 
@@ -38,7 +42,7 @@ impl Model for Map {
 
     ghost view = { λ m. record { description = m.description.items; option = m.name } };
 
-    ghost invariant = { λ m. HasRows (record { description = m.description.items; option = m.name }) };
+    ghost invariant = { λ m. Keeps (record { description = m.description.items; option = m.name }) m.kept };
 }
 
 fn text_of(name: Option<&Name>) -> Option<&str>
@@ -57,8 +61,12 @@ impl Map {
         ensures accepted { IfOk result (λ _. HasRows (record { description = description.items; option = name })) }
         ensures refused { IfErr result (λ fault. (elaborated description.items name ≡ Err fault) ⊎ (fault ≡ out_of_memory)) }
     {
-        match elaborate(alloc, &description, text_of(name.as_ref())) {
-            Ok(_) => Ok(Map { description, name }),
+        match Kept::of(alloc, &description, text_of(name.as_ref())) {
+            Ok(kept) => Ok(Map {
+                description,
+                name,
+                kept,
+            }),
             Err(fault) => Err(fault),
         }
     }
@@ -69,14 +77,24 @@ impl Map {
         &self.description
     }
 
-    /// The rows, laid out anew.
+    /// The layouts of all its components.
+    pub fn kept(&self) -> &Kept
+        ensures layouts { AreOf self.now.description result.now }
+        ensures top { result.now.top ≡ self.now.option }
+    {
+        &self.kept
+    }
+
+    /// How many instances the last step placed, once for each mode: it was the opening, or an accepted edit, undo or redo.
+    pub fn placed(&self) -> u64 {
+        self.kept.placed()
+    }
+
+    /// The rows, made of the layouts that are kept.
     pub fn rows(&self, alloc: Global) -> Result<Rows, AllocError>
         ensures { IfOk result (λ rows. elaborated self.now.description self.now.option ≡ Ok rows) }
     {
-        match elaborate(alloc, &self.description, text_of(self.name.as_ref())) {
-            Ok(rows) => Ok(rows),
-            Err(_) => Err(AllocError),
-        }
+        self.kept.rows(alloc, &self.description)
     }
 }
 
@@ -113,7 +131,8 @@ impl Invertible for Map {
     {
         let patches = patches(alloc, &self.description, edit)?;
         let name = text_of(self.name.as_ref());
-        Ok(Back::from_vec(turn(alloc, &mut self.description, name, patches)?))
+        let back = turn(alloc, &mut self.description, &mut self.kept, name, patches)?;
+        Ok(Back::from_vec(back))
     }
 
     /// Takes a step back. What leads forward again has as many patches.
@@ -126,9 +145,12 @@ impl Invertible for Map {
         ensures handed { IfErr result (λ same. same ≡ back) }
         ensures err { OnErr result (self.new ≡ self.old) }
     {
-        match again(alloc, &mut self.description, back.into_vec()) {
-            Ok(forward) => Ok(Back::from_vec(forward)),
-            Err(same) => Err(Back::from_vec(same)),
-        }
+        let name = text_of(self.name.as_ref());
+        let patches = back.into_vec();
+        let forward = match again(alloc, &mut self.description, &mut self.kept, name, patches) {
+            Ok(forward) => forward,
+            Err(same) => return Err(Back::from_vec(same)),
+        };
+        Ok(Back::from_vec(forward))
     }
 }

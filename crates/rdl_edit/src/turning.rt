@@ -1,17 +1,20 @@
-//! Patches applied to a description where the map that they make has rows.
+//! Patches applied to a description, and its layouts laid out after them, where the map that they make has rows.
 ghost use Rattle.std.specs.Prelude.{◌≡◌, ◌≤◌, IfOk, IfErr, OnOk, OnErr, option_copied};
+ghost use Rattle.rdl_elab.specs.AllKept.{AreOf};
 ghost use Rattle.rdl_tree.specs.Depth.{depth};
 ghost use Rattle.rdl_tree.specs.Patch.{AllFit, image};
 ghost use Rattle.rdl_edit.specs.Backs.{IsWayBack, IsCheap};
 ghost use Rattle.rdl_edit.specs.Faults.{refused};
-ghost use Rattle.rdl_edit.specs.Step.{HasRows, IsJudged};
+ghost use Rattle.rdl_edit.specs.Step.{IsJudged};
+ghost use Rattle.rdl_edit.specs.Keeping.{Keeps};
 
 use crate::edit::{Refusal, is_memory};
-use rdl_elab::elaborate::elaborate;
+use rdl_elab::kept::Kept;
+use rdl_tree::address::Address;
 use rdl_tree::description::Description;
 use rdl_tree::fault::Fault;
 use rdl_tree::patch::Patch;
-use std::alloc::Global;
+use std::alloc::{AllocError, Global};
 
 /// A map that has this fault is refused, where memory wasn't wanted.
 fn refused(fault: Fault) -> Refusal
@@ -24,28 +27,44 @@ fn refused(fault: Fault) -> Refusal
     }
 }
 
-/// Applies the patches, and answers what takes them back. Where the map that they make has a fault, the description is
-/// as before.
+/// The bodies in which a patch moves an item.
+fn reordered(alloc: Global, patches: &[Patch]) -> Result<Vec<Address>, AllocError> {
+    let mut bodies = Vec::new(alloc);
+    for patch in patches {
+        if let Patch::Shift(address, _) = patch {
+            if !address.is_empty() {
+                bodies.push(address.holder())?;
+            }
+        }
+    }
+    Ok(bodies)
+}
+
+/// Applies the patches, and answers what takes them back. Where the map that they make has a fault, the description and
+/// its layouts are as before.
 pub(crate) fn turn(
     alloc: Global,
     description: &mut Description,
+    kept: &mut Kept,
     name: Option<&str>,
     patches: Vec<Patch>,
 ) -> Result<Vec<Patch>, Refusal>
     requires nesting { depth description.old.items ≤ 16 }
     requires fit { AllFit patches.items description.old.items }
     ensures made { OnOk result (description.new.items ≡ image patches.items description.old.items) }
-    ensures accepted { OnOk result (HasRows (record { description = description.new.items; option = option_copied name.entry })) }
+    ensures keeps { OnOk result (Keeps (record { description = description.new.items; option = option_copied name.entry }) kept.new) }
     ensures back { IfOk result (λ back. IsWayBack description.old.items description.new.items back.items) }
     ensures cost { IfOk result (λ back. IsCheap patches.items description.old.items back.items) }
     ensures refused { IfErr result (IsJudged (record { description = image patches.items description.old.items; option = option_copied name.entry })) }
     ensures err { OnErr result (description.new.items ≡ description.old.items) }
+    ensures unmoved { OnErr result (kept.new ≡ kept.old) }
 {
+    let bodies = reordered(alloc, patches.as_slice())?;
     let Ok(mut turned) = description.turn(alloc, patches) else {
         return Err(Refusal::Memory);
     };
-    match elaborate(alloc, turned.description(), name) {
-        Ok(_) => Ok(turned.keep()),
+    match kept.relay(alloc, turned.description(), name, bodies.as_slice()) {
+        Ok(()) => Ok(turned.keep()),
         Err(fault) => {
             let _patches = turned.back();
             Err(refused(fault))
@@ -53,22 +72,34 @@ pub(crate) fn turn(
     }
 }
 
-/// Applies patches that lead to a map that has rows, and answers what takes them back.
+/// Applies patches that lead to a map that has rows, and answers what takes them back. Where memory is refused, the same
+/// patches come back, and the description and its layouts are as before.
 pub(crate) fn again(
     alloc: Global,
     description: &mut Description,
+    kept: &mut Kept,
+    name: Option<&str>,
     patches: Vec<Patch>,
 ) -> Result<Vec<Patch>, Vec<Patch>>
     requires nesting { depth description.old.items ≤ 16 }
     requires fit { AllFit patches.items description.old.items }
     ensures made { OnOk result (description.new.items ≡ image patches.items description.old.items) }
+    ensures keeps { OnOk result (Keeps (record { description = description.new.items; option = option_copied name.entry }) kept.new) }
     ensures back { IfOk result (λ back. IsWayBack description.old.items description.new.items back.items) }
     ensures cost { IfOk result (λ back. IsCheap patches.items description.old.items back.items) }
     ensures handed { IfErr result (λ same. same.items ≡ patches.items) }
     ensures err { OnErr result (description.new.items ≡ description.old.items) }
+    ensures unmoved { OnErr result (kept.new ≡ kept.old) }
 {
-    match description.turn(alloc, patches) {
-        Ok(turned) => Ok(turned.keep()),
-        Err(same) => Err(same),
+    let Ok(bodies) = reordered(alloc, patches.as_slice()) else {
+        return Err(patches);
+    };
+    let mut turned = match description.turn(alloc, patches) {
+        Ok(turned) => turned,
+        Err(same) => return Err(same),
+    };
+    match kept.relay(alloc, turned.description(), name, bodies.as_slice()) {
+        Ok(()) => Ok(turned.keep()),
+        Err(_) => Err(turned.back()),
     }
 }
