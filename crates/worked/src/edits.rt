@@ -18,7 +18,7 @@ use std::process::Abort;
 use std::str;
 use std::test::Fail;
 
-fn opened(alloc: Global, text: &str, limit: u32) -> Result<Journal<Map>, Fail> {
+pub(crate) fn opened(alloc: Global, text: &str, limit: u32) -> Result<Journal<Map>, Fail> {
     let map = Map::open(alloc, description(alloc, text)?, None)?;
     Ok(Journal::new(alloc, map, limit))
 }
@@ -119,7 +119,11 @@ fn served(
 
 /// What a line answers: nothing where it is accepted. Beside the lines of a script there is `write`, the map as it is
 /// written.
-fn answer(alloc: Global, journal: &mut Journal<Map>, line: &str) -> Result<String, AllocError> {
+pub(crate) fn answer(
+    alloc: Global,
+    journal: &mut Journal<Map>,
+    line: &str,
+) -> Result<String, AllocError> {
     if line == "write" {
         rdl(alloc, journal.map().description())
     } else {

@@ -34,7 +34,7 @@ fn are_starts(spans: &[Span], starts: &[u64]) -> bool {
             .all(|(span, start)| span.start == *start)
 }
 
-fn is_laid_out(layout: &Layout, starts: &[u64], size: u64) -> bool {
+pub(crate) fn is_laid_out(layout: &Layout, starts: &[u64], size: u64) -> bool {
     layout.size == size && are_starts(layout.spans.as_slice(), starts)
 }
 

@@ -11,6 +11,8 @@ mod header;
 #[cfg(test)]
 mod journal;
 #[cfg(test)]
+mod kept;
+#[cfg(test)]
 mod layouts;
 #[cfg(test)]
 mod list;

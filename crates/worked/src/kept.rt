@@ -1,0 +1,119 @@
+//! Layouts that a map keeps: how many instances a step places anew, and what is lent.
+use crate::edits::{answer, opened};
+use crate::layouts::is_laid_out;
+use crate::tree::address;
+use journal_core::journal::Journal;
+use rdl_edit::map::Map;
+use rdl_elab::layout::Mode;
+use std::alloc::{AllocError, Global};
+use std::test::Fail;
+
+/// A register file of a thousand registers, another one of one register, and both in one map.
+fn two_files(alloc: Global) -> Result<String, AllocError> {
+    let mut text = String::from_str(alloc, "regfile A { reg R { field {} f; };\n")?;
+    for i in 0..1000u32 {
+        write!(text, "R r{i};\n")?;
+    }
+    text.push_str("};\nregfile B { reg { field {} f; } x; };\naddrmap top { A a; B b; };\n")?;
+    Ok(text)
+}
+
+/// Lines of a script, and how many instances each places at most, once for each mode.
+const STEPS: [(&str, u64); 9] = [
+    ("resize /$B/x [2]", 9),
+    ("rename /$B/x y", 0),
+    ("undo", 0),
+    ("redo", 0),
+    ("assign /$top b.y.f reset 1", 0),
+    ("undo", 0),
+    ("redo", 0),
+    ("set /$B name \"second\"", 0),
+    ("reset /$B/y/f 1", 0),
+];
+
+fn placed_by(alloc: Global, journal: &mut Journal<Map>, line: &str) -> Result<u64, Fail> {
+    let answer = answer(alloc, journal, line)?;
+    if !answer.is_empty() {
+        return Err(Fail::new("is refused"));
+    }
+    Ok(journal.map().placed())
+}
+
+// both register files and the map have 3 instances outside the first, which has a thousand
+#[test]
+fn relay_places_everything(rt: HostRuntime) -> Result<(), Fail> {
+    let text = two_files(rt.alloc())?;
+    let mut journal = opened(rt.alloc(), text.as_str(), 100)?;
+    for (line, most) in STEPS.iter() {
+        let placed = placed_by(rt.alloc(), &mut journal, line)?;
+        assert!(rt; placed <= *most, "{placed} placed by {line}");
+    }
+    Ok(())
+}
+
+/// The starts and the size of the layout of the component at this address, under a mode.
+fn has_layout(map: &Map, at: &[usize], mode: Mode, starts: &[u64], size: u64) -> bool {
+    match map.kept().layout(map.description(), &address(at), mode) {
+        Some(layout) => is_laid_out(layout, starts, size),
+        None => false,
+    }
+}
+
+const THREE: &str =
+    "addrmap top { reg { field {} f; } a; reg { regwidth = 64; accesswidth = 32; field {} f; } b; reg { field {} f; } c[20]; };";
+
+/// Lines, the starts of what the map has then, in its order, and its size.
+const MOVED: [(&str, [u64; 3], u64); 3] = [
+    ("move /$top/b first", [0, 8, 0xC], 0x5C),
+    ("undo", [0, 8, 0x10], 0x60),
+    ("redo", [0, 8, 0xC], 0x5C),
+];
+
+// registers of 32 and of 64 bits, and twenty of 32, each aligned by its size
+#[test]
+fn lends_the_layout_of_each_place(rt: HostRuntime) -> Result<(), Fail> {
+    let mut journal = opened(rt.alloc(), THREE, 100)?;
+    for (line, starts, size) in MOVED.iter() {
+        placed_by(rt.alloc(), &mut journal, line)?;
+        let is_lent = has_layout(journal.map(), &[0], Mode::Compact, starts, *size);
+        assert!(rt; is_lent, "{line}");
+    }
+    Ok(())
+}
+
+/// A register and a register file of three, aligned by their sizes.
+const NESTED: &str =
+    "addrmap top { reg { field {} f; } r; regfile { reg { field {} f; } a; reg { field {} f; } b; reg { field {} f; } c; } g; };";
+
+/// Addresses, the starts of what is inside, and the size.
+const INSIDE: [(&[usize], &[u64], u64); 3] = [
+    (&[0], &[0, 0xC], 0x18),
+    (&[0, 1], &[0, 4, 8], 0xC),
+    (&[0, 1, 2], &[0], 4),
+];
+
+#[test]
+fn lends_the_layouts_inside(rt: HostRuntime) -> Result<(), Fail> {
+    let journal = opened(rt.alloc(), NESTED, 100)?;
+    for (at, starts, size) in INSIDE.iter() {
+        let is_lent = has_layout(journal.map(), at, Mode::Regalign, starts, *size);
+        assert!(rt; is_lent);
+    }
+    Ok(())
+}
+
+/// A field, an item that isn't there, and the root.
+const NONE: [&[usize]; 3] = [&[0, 0, 0], &[7], &[]];
+
+#[test]
+fn lends_no_layout_of_a_field(rt: HostRuntime) -> Result<(), Fail> {
+    let journal = opened(rt.alloc(), NESTED, 100)?;
+    let map = journal.map();
+    for at in NONE.iter() {
+        let layout = map
+            .kept()
+            .layout(map.description(), &address(at), Mode::Compact);
+        assert!(rt; layout.is_none());
+    }
+    Ok(())
+}
