@@ -1,5 +1,5 @@
 //! Each call that takes memory, while a growth may be refused: it answers want of memory or what it answers with ample
-//! memory, and what it was to change stands as before. There are tests alone.
+//! memory, and what it was to change stands as before. Beside the tests stand only patches that are applied.
 #![tactic(auto)]
 
 #[cfg(test)]
@@ -8,6 +8,7 @@ mod calls;
 mod examples;
 #[cfg(test)]
 mod history;
+pub mod patches;
 #[cfg(test)]
 mod runs;
 #[cfg(test)]

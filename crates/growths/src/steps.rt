@@ -1,6 +1,6 @@
 //! A step of the map and the way back, and patches that turn a description. Where memory is wanted, the map stands as
 //! before, what takes it back is handed over again, and the same call then succeeds.
-ghost use Rattle.std.specs.Prelude.{◌≡◌, ◌≤◌, IfOk, IfErr, IfSome, OnErr};
+ghost use Rattle.std.specs.Prelude.{◌≤◌, IfOk, IfSome};
 ghost use Rattle.rdl_edit.specs.Backs.{Fits};
 ghost use Rattle.rdl_tree.specs.Depth.{depth};
 ghost use Rattle.rdl_tree.specs.Patch.{AllFit};
@@ -11,6 +11,7 @@ use crate::examples::{
     THREE, THREE_WRITTEN, UNASSIGNED_WRITTEN,
 };
 use crate::history::items;
+use crate::patches::{kept, tried};
 use crate::{Answer, assert_answered, is_same};
 use journal_core::invertible::Invertible;
 use rdl_edit::back::Back;
@@ -200,39 +201,6 @@ fn of_a_map_lead_there_and_back(rt: HostRuntime) {
 }
 
 // ---- Patches.
-
-/// Applies the patches, and keeps what they made.
-fn kept(
-    alloc: Global,
-    description: &mut Description,
-    patches: Vec<Patch>,
-) -> Result<Vec<Patch>, Vec<Patch>>
-    requires { AllFit patches.items description.old.items }
-    ensures handed { IfErr result (λ same. same.items ≡ patches.items) }
-    ensures err { OnErr result (description.new.items ≡ description.old.items) }
-{
-    match description.turn(alloc, patches) {
-        Ok(turned) => Ok(turned.keep()),
-        Err(same) => Err(same),
-    }
-}
-
-/// Applies the patches, and brings the description back.
-fn tried(
-    alloc: Global,
-    description: &mut Description,
-    patches: Vec<Patch>,
-) -> Result<Vec<Patch>, Vec<Patch>>
-    requires { AllFit patches.items description.old.items }
-    ensures ok { IfOk result (λ same. same.items ≡ patches.items) }
-    ensures handed { IfErr result (λ same. same.items ≡ patches.items) }
-    ensures unchanged { description.new.items ≡ description.old.items }
-{
-    match description.turn(alloc, patches) {
-        Ok(mut turned) => Ok(turned.back()),
-        Err(same) => Err(same),
-    }
-}
 
 /// What stands where patches were refused: the description and the patches.
 fn is_handed_over(
