@@ -21,7 +21,7 @@ use rdl_tree::path::Path;
 use rdl_write::rdl;
 use std::alloc::{AllocError, Global};
 use std::process::Abort;
-use std::str;
+use std::{mem, str};
 
 fn refusal_text(refusal: &Refusal) -> &'static str {
     match refusal {
@@ -142,18 +142,28 @@ fn standing(alloc: Global, journal: &Journal<Map>) -> Answer {
     }
 }
 
-/// What a line answers, asked again where memory was wanted and all stands as before.
-fn asked(alloc: Global, journal: &mut Journal<Map>, line: &str) -> Answer {
+/// Asks for the answer to a line again, if memory was wanted for the first time, and all stands as before.
+fn asked_again(
+    alloc: Global,
+    journal: &mut Journal<Map>,
+    line: &str,
+    before: &Answer,
+    was_wanted: &mut bool,
+) -> Answer {
+    if mem::replace(was_wanted, true) {
+        String::from_str(alloc, "want of memory that nothing refused")
+    } else if is_same(before, &standing(alloc, journal)) {
+        answer(alloc, journal, line)
+    } else {
+        String::from_str(alloc, "a change")
+    }
+}
+
+fn asked(alloc: Global, journal: &mut Journal<Map>, line: &str, was_wanted: &mut bool) -> Answer {
     let before = standing(alloc, journal);
     match answer(alloc, journal, line) {
         Ok(text) => Ok(text),
-        Err(_) => {
-            if is_same(&before, &standing(alloc, journal)) {
-                answer(alloc, journal, line)
-            } else {
-                String::from_str(alloc, "a change")
-            }
-        }
+        Err(_) => asked_again(alloc, journal, line, &before, was_wanted),
     }
 }
 
@@ -168,8 +178,9 @@ fn opened(alloc: Global, text: &str, limit: u32) -> Result<Journal<Map>, AllocEr
 type Step = (&'static str, &'static str);
 
 fn follow_on(rt: &impl Abort, alloc: Global, mut journal: Journal<Map>, steps: &[Step]) {
+    let mut was_wanted = false;
     for (line, want) in steps {
-        let found = asked(alloc, &mut journal, line);
+        let found = asked(alloc, &mut journal, line, &mut was_wanted);
         assert_answered(rt, &found, want, line);
     }
 }
