@@ -199,15 +199,21 @@ fn open_answer(alloc: Global, text: &str) -> Answer {
     }
 }
 
-fn rows_of(alloc: Global, map: &Map) -> Answer {
+/// The map of a text. `open_answer` looks at the fault of another.
+pub(crate) fn opened(alloc: Global, text: &str) -> Result<Map, AllocError> {
+    match Map::open(alloc, description(alloc, text)?, None) {
+        Ok(map) => Ok(map),
+        Err(_) => Err(AllocError),
+    }
+}
+
+/// The lines of the map's rows.
+pub(crate) fn lines(alloc: Global, map: &Map) -> Answer {
     list_text(alloc, map.rows(alloc)?.as_slice())
 }
 
 fn rows_answer(alloc: Global, text: &str) -> Answer {
-    match Map::open(alloc, description(alloc, text)?, None) {
-        Ok(map) => rows_of(alloc, &map),
-        Err(fault) => fault_answer(alloc, &fault),
-    }
+    lines(alloc, &opened(alloc, text)?)
 }
 
 /// The header, or the name that is defined twice.

@@ -1,6 +1,6 @@
 //! The history of a map under lines of a script. Where memory is wanted, what stood stands, and the same line is then
 //! answered as with ample memory.
-use crate::calls::{description, shown};
+use crate::calls::{lines, opened, shown};
 use crate::examples::{
     BARE_LINES, FOUR_LINES, FOUR_WRITTEN, NESTED, NESTED_LINES, NESTED_WRITTEN, REMOVED_WRITTEN,
     RENAMED_WRITTEN, SHARED, SHARED_LINES, SHARED_WRITTEN, THREE, THREE_LINES, THREE_WRITTEN,
@@ -11,7 +11,6 @@ use journal_core::fault::{EditFault, StepFault};
 use journal_core::journal::Journal;
 use rdl_edit::edit::Refusal;
 use rdl_edit::map::Map;
-use rdl_list::list_text;
 use rdl_parse::parse::parse_item;
 use rdl_rewrite::edit::Edit;
 use rdl_rewrite::place::Place;
@@ -94,15 +93,11 @@ fn step_answer(alloc: Global, answer: Result<(), StepFault>, nothing: &str) -> A
     }
 }
 
-fn list_answer(alloc: Global, map: &Map) -> Answer {
-    list_text(alloc, map.rows(alloc)?.as_slice())
-}
-
 fn request_answer(alloc: Global, journal: &mut Journal<Map>, request: Request<'_>) -> Answer {
     match request {
         Request::Undo => step_answer(alloc, journal.undo(alloc), "J2"),
         Request::Redo => step_answer(alloc, journal.redo(alloc), "J3"),
-        Request::List => list_answer(alloc, journal.map()),
+        Request::List => lines(alloc, journal.map()),
         Request::Edit(edit) => edit_answer(alloc, journal, edit),
         Request::Add(path, place, text) => add_answer(alloc, journal, path, place, text),
         _ => String::from_str(alloc, "asks for nothing"),
@@ -167,11 +162,8 @@ fn asked(alloc: Global, journal: &mut Journal<Map>, line: &str, was_wanted: &mut
     }
 }
 
-fn opened(alloc: Global, text: &str, limit: u32) -> Result<Journal<Map>, AllocError> {
-    match Map::open(alloc, description(alloc, text)?, None) {
-        Ok(map) => Ok(Journal::new(alloc, map, limit)),
-        Err(_) => Err(AllocError),
-    }
+fn begun(alloc: Global, text: &str, limit: u32) -> Result<Journal<Map>, AllocError> {
+    Ok(Journal::new(alloc, opened(alloc, text)?, limit))
 }
 
 /// A line, and what it answers.
@@ -187,9 +179,9 @@ fn follow_on(rt: &impl Abort, alloc: Global, mut journal: Journal<Map>, steps: &
 
 /// Looks at the answer to each line on the text's map.
 fn follow(rt: &impl Abort, alloc: Global, text: &str, limit: u32, steps: &[Step]) {
-    let mut journal = opened(alloc, text, limit);
+    let mut journal = begun(alloc, text, limit);
     if journal.is_err() {
-        journal = opened(alloc, text, limit);
+        journal = begun(alloc, text, limit);
     }
     match journal {
         Ok(journal) => follow_on(rt, alloc, journal, steps),

@@ -5,7 +5,7 @@ ghost use Rattle.rdl_edit.specs.Backs.{Fits};
 ghost use Rattle.rdl_tree.specs.Depth.{depth};
 ghost use Rattle.rdl_tree.specs.Patch.{AllFit};
 
-use crate::calls::{description, shown};
+use crate::calls::{description, opened, shown};
 use crate::examples::{
     FOUR_WRITTEN, NESTED, NESTED_WRITTEN, REMOVED_WRITTEN, RENAMED_WRITTEN, SHARED, SHARED_WRITTEN,
     THREE, THREE_WRITTEN, UNASSIGNED_WRITTEN,
@@ -153,13 +153,6 @@ fn there_and_back(
     let back = made(rt, alloc, map, edit, case.3)?;
     let forward = taken(rt, alloc, map, back, case.1)?;
     taken(rt, alloc, map, forward, case.3)
-}
-
-fn opened(alloc: Global, text: &str) -> Result<Map, AllocError> {
-    match Map::open(alloc, description(alloc, text)?, None) {
-        Ok(map) => Ok(map),
-        Err(_) => Err(AllocError),
-    }
 }
 
 fn is_there_and_back(rt: &impl Abort, alloc: Global, case: &Case) -> Result<bool, AllocError> {
