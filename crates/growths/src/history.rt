@@ -1,0 +1,288 @@
+//! The history of a map under lines of a script. Where memory is wanted, what stood stands, and the same line is then
+//! answered as with ample memory.
+use crate::calls::{lines, opened, shown};
+use crate::examples::{
+    BARE_LINES, FOUR_LINES, FOUR_WRITTEN, NESTED, NESTED_LINES, NESTED_WRITTEN, REMOVED_WRITTEN,
+    RENAMED_WRITTEN, SHARED, SHARED_LINES, SHARED_WRITTEN, THREE, THREE_LINES, THREE_WRITTEN,
+    UNASSIGNED_LINES, UNASSIGNED_WRITTEN,
+};
+use crate::{Answer, assert_answered, is_same};
+use journal_core::fault::{EditFault, StepFault};
+use journal_core::journal::Journal;
+use rdl_edit::edit::Refusal;
+use rdl_edit::map::Map;
+use rdl_parse::parse::parse_item;
+use rdl_rewrite::edit::Edit;
+use rdl_rewrite::place::Place;
+use rdl_script::request::{Request, request_of};
+use rdl_tree::description::Body;
+use rdl_tree::path::Path;
+use rdl_write::rdl;
+use std::alloc::{AllocError, Global};
+use std::process::Abort;
+use std::{mem, str};
+
+fn refusal_text(refusal: &Refusal) -> &'static str {
+    match refusal {
+        Refusal::NoSuchPath => "X1 P1",
+        Refusal::ThroughNamedType => "X1 P2",
+        Refusal::NotAnInstance => "X7",
+        Refusal::NotAddable => "X8",
+        Refusal::NoSuchSibling => "X2",
+        Refusal::NameTaken => "X3",
+        Refusal::Reserved => "X4",
+        Refusal::InUse => "X5",
+        Refusal::NotSet => "X6",
+        Refusal::Faulty(_) => "X9",
+        Refusal::Memory => "X10",
+    }
+}
+
+/// A refusal; X10 is want of memory.
+fn refusal_answer(alloc: Global, refusal: &Refusal) -> Answer {
+    match refusal {
+        Refusal::Faulty(fault) => {
+            format!(in alloc; "X9 E{} at {}", fault.kind.number(), fault.address)
+        }
+        Refusal::Memory => Err(AllocError),
+        _ => String::from_str(alloc, refusal_text(refusal)),
+    }
+}
+
+/// Makes the edit, and lets it go.
+fn make(alloc: Global, journal: &mut Journal<Map>, edit: Edit) -> Result<(), EditFault<Refusal>> {
+    journal.edit(alloc, &edit)
+}
+
+fn edit_answer(alloc: Global, journal: &mut Journal<Map>, edit: Edit) -> Answer {
+    match make(alloc, journal, edit) {
+        Ok(()) => Ok(String::new(alloc)),
+        Err(EditFault::Full) => String::from_str(alloc, "J1"),
+        Err(EditFault::Refused(refusal)) => refusal_answer(alloc, &refusal),
+        Err(EditFault::Memory) => Err(AllocError),
+    }
+}
+
+/// The items of one statement. A text that spells none answers no line of these.
+pub(crate) fn items(alloc: Global, text: &[u8]) -> Result<Body, AllocError> {
+    let Ok(text) = str::from_utf8(text) else {
+        return Err(AllocError);
+    };
+    match parse_item(alloc, text) {
+        Ok(items) => Ok(Body::from_vec(items)),
+        Err(_) => Err(AllocError),
+    }
+}
+
+fn add_answer(
+    alloc: Global,
+    journal: &mut Journal<Map>,
+    path: Path,
+    place: Place,
+    text: &[u8],
+) -> Answer {
+    let items = items(alloc, text)?;
+    edit_answer(alloc, journal, Edit::Add(path, place, items))
+}
+
+fn step_answer(alloc: Global, answer: Result<(), StepFault>, nothing: &str) -> Answer {
+    match answer {
+        Ok(()) => Ok(String::new(alloc)),
+        Err(StepFault::Nothing) => String::from_str(alloc, nothing),
+        Err(StepFault::Memory) => Err(AllocError),
+    }
+}
+
+fn request_answer(alloc: Global, journal: &mut Journal<Map>, request: Request<'_>) -> Answer {
+    match request {
+        Request::Undo => step_answer(alloc, journal.undo(alloc), "J2"),
+        Request::Redo => step_answer(alloc, journal.redo(alloc), "J3"),
+        Request::List => lines(alloc, journal.map()),
+        Request::Edit(edit) => edit_answer(alloc, journal, edit),
+        Request::Add(path, place, text) => add_answer(alloc, journal, path, place, text),
+        _ => String::from_str(alloc, "asks for nothing"),
+    }
+}
+
+fn counts(alloc: Global, journal: &Journal<Map>) -> Answer {
+    format!(in alloc; "{} {}", journal.undo_len(), journal.redo_len())
+}
+
+/// What a line answers: nothing where it is accepted. Beside the lines of a script there are `write`, the map as it is
+/// written, and `count`, how many edits can be undone and redone.
+fn answer(alloc: Global, journal: &mut Journal<Map>, line: &str) -> Answer {
+    match line {
+        "write" => rdl(alloc, journal.map().description()),
+        "count" => counts(alloc, journal),
+        _ => {
+            let request = request_of(alloc, line.as_bytes())?;
+            request_answer(alloc, journal, request)
+        }
+    }
+}
+
+/// The whole description and all rows, and how many edits can be undone and redone.
+fn seen(alloc: Global, journal: &Journal<Map>) -> Answer {
+    let map = journal.map();
+    let mut text = shown(alloc, map.description())?;
+    text.push_str(&shown(alloc, &map.rows(alloc)?)?)?;
+    text.push_str(&counts(alloc, journal)?)?;
+    Ok(text)
+}
+
+fn standing(alloc: Global, journal: &Journal<Map>) -> Answer {
+    match seen(alloc, journal) {
+        Ok(text) => Ok(text),
+        Err(_) => seen(alloc, journal),
+    }
+}
+
+/// Asks for the answer to a line again, if memory was wanted for the first time, and all stands as before.
+fn asked_again(
+    alloc: Global,
+    journal: &mut Journal<Map>,
+    line: &str,
+    before: &Answer,
+    was_wanted: &mut bool,
+) -> Answer {
+    if mem::replace(was_wanted, true) {
+        String::from_str(alloc, "want of memory that nothing refused")
+    } else if is_same(before, &standing(alloc, journal)) {
+        answer(alloc, journal, line)
+    } else {
+        String::from_str(alloc, "a change")
+    }
+}
+
+fn asked(alloc: Global, journal: &mut Journal<Map>, line: &str, was_wanted: &mut bool) -> Answer {
+    let before = standing(alloc, journal);
+    match answer(alloc, journal, line) {
+        Ok(text) => Ok(text),
+        Err(_) => asked_again(alloc, journal, line, &before, was_wanted),
+    }
+}
+
+fn begun(alloc: Global, text: &str, limit: u32) -> Result<Journal<Map>, AllocError> {
+    Ok(Journal::new(alloc, opened(alloc, text)?, limit))
+}
+
+/// A line, and what it answers.
+type Step = (&'static str, &'static str);
+
+fn follow_on(rt: &impl Abort, alloc: Global, mut journal: Journal<Map>, steps: &[Step]) {
+    let mut was_wanted = false;
+    for (line, want) in steps {
+        let found = asked(alloc, &mut journal, line, &mut was_wanted);
+        assert_answered(rt, &found, want, line);
+    }
+}
+
+/// Looks at the answer to each line on the text's map.
+fn follow(rt: &impl Abort, alloc: Global, text: &str, limit: u32, steps: &[Step]) {
+    let mut journal = begun(alloc, text, limit);
+    if journal.is_err() {
+        journal = begun(alloc, text, limit);
+    }
+    match journal {
+        Ok(journal) => follow_on(rt, alloc, journal, steps),
+        Err(_) => assert!(rt; false, "no map"),
+    }
+}
+
+const ADD: [Step; 18] = [
+    ("add /$top after a reg { field {} g; } x;", ""),
+    ("count", "1 0"),
+    ("undo", ""),
+    ("count", "0 1"),
+    ("list", THREE_LINES),
+    ("redo", ""),
+    ("list", FOUR_LINES),
+    ("write", FOUR_WRITTEN),
+    ("undo", ""),
+    ("undo", "J2"),
+    ("write", THREE_WRITTEN),
+    ("remove /$top/a", ""),
+    ("count", "1 0"),
+    ("redo", "J3"),
+    ("remove /$top/b", "J1"),
+    ("undo", ""),
+    ("redo", ""),
+    ("count", "1 0"),
+];
+
+fn add() -> &'static [Step] {
+    &ADD
+}
+
+#[test]
+fn of_an_addition(rt: HostRuntime) {
+    follow(&rt, rt.alloc(), THREE, 1, add());
+}
+
+const REMOVE: [Step; 9] = [
+    ("remove /$T/f", ""),
+    ("write", REMOVED_WRITTEN),
+    ("undo", ""),
+    ("count", "0 1"),
+    ("write", SHARED_WRITTEN),
+    ("list", SHARED_LINES),
+    ("redo", ""),
+    ("write", REMOVED_WRITTEN),
+    ("count", "1 0"),
+];
+
+fn remove() -> &'static [Step] {
+    &REMOVE
+}
+
+#[test]
+fn of_a_removal(rt: HostRuntime) {
+    follow(&rt, rt.alloc(), SHARED, 10_000, remove());
+}
+
+const UNASSIGN: [Step; 15] = [
+    ("list", NESTED_LINES),
+    ("unassign /$top g.q.f reset", ""),
+    ("list", UNASSIGNED_LINES),
+    ("write", UNASSIGNED_WRITTEN),
+    ("unassign /$top/g q.f reset", ""),
+    ("list", BARE_LINES),
+    ("unassign /$top/g q.f reset", "X6"),
+    ("undo", ""),
+    ("list", UNASSIGNED_LINES),
+    ("undo", ""),
+    ("count", "0 2"),
+    ("write", NESTED_WRITTEN),
+    ("redo", ""),
+    ("redo", ""),
+    ("list", BARE_LINES),
+];
+
+fn unassign() -> &'static [Step] {
+    &UNASSIGN
+}
+
+#[test]
+fn of_assignments(rt: HostRuntime) {
+    follow(&rt, rt.alloc(), NESTED, 10_000, unassign());
+}
+
+const RENAME: [Step; 8] = [
+    ("rename /$T U", ""),
+    ("write", RENAMED_WRITTEN),
+    ("rename /$U top", "X3"),
+    ("count", "1 0"),
+    ("undo", ""),
+    ("write", SHARED_WRITTEN),
+    ("redo", ""),
+    ("write", RENAMED_WRITTEN),
+];
+
+fn rename() -> &'static [Step] {
+    &RENAME
+}
+
+#[test]
+fn of_a_renaming(rt: HostRuntime) {
+    follow(&rt, rt.alloc(), SHARED, 10_000, rename());
+}

@@ -1,0 +1,117 @@
+//! Command lines.
+use crate::{Answer, assert_answered};
+use command_line::line::{Line, LineFault};
+use command_line::words::line;
+use std::alloc::{AllocError, Global};
+
+fn top_text(line: &Line) -> &str {
+    match &line.top {
+        Some(name) => name.as_str(),
+        None => "none",
+    }
+}
+
+fn line_text(alloc: Global, line: &Line) -> Answer {
+    let mut text = String::from_str(alloc, "L0")?;
+    for part in [&line.map, &line.script, &line.rdl, &line.header] {
+        text.push_str(" ")?;
+        text.push_str(part.as_str())?;
+    }
+    write!(text, " {} {}", top_text(line), line.history)?;
+    Ok(text)
+}
+
+/// The line's parts, or why it is none; L4 is want of memory.
+fn answer(alloc: Global, words: &[&str]) -> Answer {
+    match line(alloc, words) {
+        Ok(line) => line_text(alloc, &line),
+        Err(LineFault::Help(help)) => format!(in alloc; "L1 {help}"),
+        Err(LineFault::Refused(mistake)) => format!(in alloc; "L2 {mistake}"),
+        Err(LineFault::BadTop) => String::from_str(alloc, "L3"),
+        Err(LineFault::Memory) => Err(AllocError),
+    }
+}
+
+const NO_RDL: &str = "L2 error: the following required arguments were not provided:
+  --rdl <OUT>
+
+Usage: regedit --rdl <OUT> --header <OUT> <MAP> <SCRIPT>
+
+For more information, try '--help'.
+";
+
+const NO_HISTORY: &str = "L2 error: invalid value '0' for '--history <N>': 0 is not in 1..=1000000
+
+For more information, try '--help'.
+";
+
+const THREE_FILES: &str = "L2 error: unexpected argument 't' found
+
+Usage: regedit [OPTIONS] --rdl <OUT> --header <OUT> <MAP> <SCRIPT>
+
+For more information, try '--help'.
+";
+
+const HELP: &str = "L1 Edits a register map by a script, and writes the map and its C header
+
+Usage: regedit [OPTIONS] --rdl <OUT> --header <OUT> <MAP> <SCRIPT>
+
+Arguments:
+  <MAP>     The register map to edit
+  <SCRIPT>  The edits, one on each line
+
+Options:
+      --rdl <OUT>     Where the edited map is written
+      --header <OUT>  Where the C header is written
+      --top <NAME>    The address map of the root that is the top; with none, the last one
+      --history <N>   How many changes can be undone, from 1 to 1000000 [default: 10000]
+  -h, --help          Print help
+";
+
+const LINES: [(&[&str], &str); 7] = [
+    (
+        &["m", "s", "--rdl", "r", "--header", "h"],
+        "L0 m s r h none 10000",
+    ),
+    (
+        &[
+            "--top",
+            "t",
+            "m",
+            "--history",
+            "7",
+            "s",
+            "--rdl",
+            "r",
+            "--header",
+            "h",
+        ],
+        "L0 m s r h t 7",
+    ),
+    (
+        &["m", "s", "--rdl", "r", "--header", "h", "--top", "9x"],
+        "L3",
+    ),
+    (&["m", "s", "--header", "h"], NO_RDL),
+    (
+        &["m", "s", "--rdl", "r", "--header", "h", "--history", "0"],
+        NO_HISTORY,
+    ),
+    (&["m", "s", "t", "--rdl", "r", "--header", "h"], THREE_FILES),
+    (&["--help"], HELP),
+];
+
+fn lines() -> &'static [(&'static [&'static str], &'static str)] {
+    &LINES
+}
+
+#[test]
+fn of_a_command_line_answer(rt: HostRuntime) {
+    for (words, want) in lines() {
+        let mut found = answer(rt.alloc(), words);
+        if found.is_err() {
+            found = answer(rt.alloc(), words);
+        }
+        assert_answered(&rt, &found, want, "a line");
+    }
+}
