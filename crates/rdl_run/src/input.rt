@@ -10,7 +10,7 @@ use std::alloc::Global;
 use std::io::{ErrorKind, Read};
 
 /// All the bytes of a reader that wasn't asked before.
-fn read_counted<R: Read>(
+pub(crate) fn read_counted<R: Read>(
     alloc: Global,
     input: &mut CountedReader<'_, R>,
     limit: usize,

@@ -10,7 +10,10 @@ use crate::status::RunFault;
 use std::io::Write;
 
 /// Writes all the bytes.
-fn write_counted<W: Write>(output: &mut CountedWriter<'_, W>, bytes: &[u8]) -> Result<(), RunFault>
+pub(crate) fn write_counted<W: Write>(
+    output: &mut CountedWriter<'_, W>,
+    bytes: &[u8],
+) -> Result<(), RunFault>
     requires asked { IsOpen output.old.counts }
     ensures ok { OnOk result (Appends (W.contents output.old.writer.now) (W.contents output.new.writer.now) bytes.now) }
     ensures err { OnErr result (AppendsFront (W.contents output.old.writer.now) (W.contents output.new.writer.now) bytes.now) }
