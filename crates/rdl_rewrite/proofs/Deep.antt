@@ -1,11 +1,11 @@
 -- A description nests as deep as what stands inside it, and deeper.
-use Rattle.std.proofs.Common.{◌≡◌, ◌≤◌, ◌+◌, ℕ, List, length, Some, Option, ap, sym, subst, arith}
-use Rattle.std.specs.Prelude.{Result, Err}
+use Rattle.std.proofs.Common.{◌≡◌, ◌≢◌, ◌≤◌, ◌+◌, inl, ℕ, List, length, Some, Option, IfErr, IsErrAnd, ap, sym, subst}
+use Rattle.std.specs.Prelude.{Result, Ok, Err}
 use Rattle.rdl_tree.specs.Items.{Items}
 use Rattle.rdl_tree.specs.Address.{body_at, map_body}
 use Rattle.rdl_tree.specs.Depth.{depth}
 use Rattle.rdl_scope.proofs.Depths.{depth-body_at}
-use Rattle.rdl_rewrite.specs.Refuses.{Refuses}
+use Rattle.rdl_rewrite.specs.Refuses.{Refuses, RefusesEdit}
 use Rattle.rdl_rewrite.specs.Rewritten.{put_body, change_body, at_body}
 use Rattle.rdl_rewrite.specs.declared.edit.Refusal.{Refusal}
 use Rattle.rdl_rewrite.specs.declared.edit.Refusal.TheVariants.{NoSuchPath, ThroughNamedType, NoSuchSibling, NameTaken, Reserved, InUse, NotSet, NotAnInstance, NotAddable, TooDeep, Memory}
@@ -29,14 +29,21 @@ refuses_put way whole body r InUse here h = refused_at r InUse way whole h
 refuses_put way whole body r NotSet here h = refused_at r NotSet way whole h
 refuses_put way whole body r NotAnInstance here h = refused_at r NotAnInstance way whole h
 refuses_put way whole body r NotAddable here h = refused_at r NotAddable way whole h
-refuses_put way whole body r TooDeep here h = record {
-  new = map_body way (λ _. h.new) whole;
-  made = ap (put_body way whole) h.made;
-  deep = let d = depth-put way whole body h.new here in let e = h.deep in omega arith;
-}
+refuses_put way whole body r TooDeep here h = absurd h
 refuses_put way whole body r Memory here h = tt
 
 -- what refuses the change of a body refuses that of the whole
 pub refuses_body : (way : List ℕ) (whole body : Items) (change : Items → Result Items Refusal) (refusal : Refusal) → body_at way whole ≡ Some body → Refuses (change body) refusal → Refuses (at_body way whole change) refusal
 refuses_body way whole body change refusal here h =
     subst (λ (o : Option Items). Refuses (change_body way whole change o) refusal) (sym here) (refuses_put way whole body (change body) refusal here h)
+
+-- ---- A refusal handed on.
+
+pub handed_refused : {X : Type 0} (r : Result X Refusal) (refusal : Refusal) (way : List ℕ) (whole body : Items) (change : Items → Result Items Refusal) → body_at way whole ≡ Some body
+    → IsErrAnd r (λ f. f ≡ refusal) → Refuses (change body) refusal → IfErr r (λ f. RefusesEdit whole (at_body way whole change) f)
+handed_refused (Ok x) refusal way whole body change here h refused = absurd h
+handed_refused (Err f) refusal way whole body change here h refused =
+    inl (subst (Refuses (at_body way whole change)) (sym h) (refuses_body way whole body change refusal here refused))
+
+pub handed_not_deep : {X : Type 0} (r : Result X Refusal) (refusal : Refusal) (expected : Result Items Refusal) → IsErrAnd r (λ f. f ≡ refusal) → Refuses expected refusal → r ≢ Err TooDeep
+handed_not_deep r refusal expected h refused deep = subst (Refuses expected) (sym (subst (λ q. IsErrAnd q (λ f. f ≡ refusal)) deep h)) refused

@@ -1,6 +1,6 @@
 -- The patches of an edit that isn't refused: one for each item that it inserts, drops, moves or sets.
 -- own: SystemRDL 2.0 has no edits.
-use Rattle.std.specs.Prelude.{ℕ, suc, ◌+◌, Bool, true, nat_le, if◌then◌else◌, List, [], ◌∷◌, ◌++◌, length, Option, Some, None, Result, Ok, Err, slice_get}
+use Rattle.std.specs.Prelude.{ℕ, suc, ◌+◌, if◌then◌else◌, List, [], ◌∷◌, ◌++◌, length, Option, Some, None, Result, Ok, Err, slice_get}
 use Rattle.std.specs.List.{position}
 use Rattle.rdl_tree.specs.Items.{Items}
 use Rattle.rdl_tree.specs.View.{list_of}
@@ -8,7 +8,6 @@ use Rattle.rdl_tree.specs.Address.{holder_of, number_of, body_at}
 use Rattle.rdl_tree.specs.Depth.{depth}
 use Rattle.rdl_tree.specs.Edit.{remove_item}
 use Rattle.rdl_tree.specs.Find.{find}
-use Rattle.rdl_tree.specs.Limits.{max_depth}
 use Rattle.rdl_tree.specs.declared.description.Item.{Item}
 use Rattle.rdl_tree.specs.declared.description.Item.TheVariants.{Instance, Dynamic}
 use Rattle.rdl_tree.specs.declared.part.Part.TheVariants.{OfShell, OfValue}
@@ -94,9 +93,22 @@ patches_on (Ok way) whole e = if is_of_item e then item_edit_patches whole way e
 abbrev pub patches : (whole : Items) → Edit → List Patch
 patches whole e = patches_on (find (path_of e) whole) whole e
 
--- ---- How deep the new items stand.
+-- ---- How deep an edit reaches: the level of the innermost body that it looks into, changes or puts in.
 
--- their innermost bodies are at level 16 at most
-abbrev pub stands_level : (way : List ℕ) → Edit → Bool
-stands_level way (Add path place new) = nat_le (length way + depth new) max_depth
-stands_level way e = true
+-- it changes the body on the way
+abbrev pub level_in : (way : List ℕ) → Edit → ℕ
+level_in way (Add path place new) = length way + depth new
+level_in way e = length way
+
+-- removing and renaming look into every body
+abbrev pub item_edit_level : (whole : Items) → (way : List ℕ) → Edit → ℕ
+item_edit_level whole way (Remove path) = depth whole
+item_edit_level whole way (Rename path name) = depth whole
+item_edit_level whole way e = level_in (holder_of way) e
+
+abbrev pub level_on : Result (List ℕ) PathFault → (whole : Items) → Edit → ℕ
+level_on (Err fault) whole e = 0
+level_on (Ok way) whole e = if is_of_item e then item_edit_level whole way e else level_in way e
+
+abbrev pub level : (whole : Items) → Edit → ℕ
+level whole e = level_on (find (path_of e) whole) whole e

@@ -72,7 +72,7 @@ pub enum Refusal {
     NotAnInstance,
     /// X8: a new item is neither a definition nor an instance.
     NotAddable,
-    /// The edited description would nest over 16 deep.
+    /// The edited description would nest over 16 deep, or the description does as it is.
     TooDeep,
     /// X10: no memory.
     Memory,

@@ -1,5 +1,5 @@
 //! What goes with an item that is taken out.
-ghost use Rattle.std.specs.Prelude.{◌≡◌, ◌≤◌, ◌<◌, ◌++◌, ◌∷◌, [], length, true, is_ok, Some, None, IfOk, IfErr, option_copied};
+ghost use Rattle.std.specs.Prelude.{◌≡◌, ◌≤◌, ◌<◌, ◌++◌, ◌∷◌, [], length, true, is_ok, Some, None, IfOk, IfErr, IsErrOf, option_copied};
 ghost use Rattle.std.specs.List.{list_any};
 ghost use Rattle.rdl_tree.specs.Items.{no_items};
 ghost use Rattle.rdl_tree.specs.View.{add};
@@ -10,7 +10,8 @@ ghost use Rattle.rdl_scope.specs.Target.{through};
 ghost use Rattle.rdl_rewrite.specs.Addresses.{leads_to, passes_by, addresses};
 ghost use Rattle.rdl_rewrite.specs.Fates.{fate_in_removal, fate, fate_patches};
 ghost use Rattle.rdl_rewrite.specs.Removal.{is_in_use, goes, removed};
-ghost use Rattle.rdl_rewrite.specs.Refuses.{Refuses};
+ghost use Rattle.rdl_rewrite.specs.Refuses.{RefusesEdit};
+ghost use Rattle.rdl_rewrite.specs.declared.edit.Refusal.{Refusal};
 
 use crate::edit::Refusal;
 use crate::fate::Fate;
@@ -157,11 +158,15 @@ pub fn remove<'a>(
     whole: &'a Description,
     way: &'a Address,
 ) -> Result<Vec<Patch>, Refusal>
-    requires nesting { depth whole.now.items ≤ 16 }
     ensures which { IfOk result (λ ps. ps.items ≡ fate_patches (fate whole.now.items way.now None) [] 0 whole.now.items) }
     ensures accepted { IfOk result (λ _. is_ok (removed whole.now.items way.now) ≡ true) }
-    ensures refused { IfErr result (λ refusal. Refuses (removed whole.now.items way.now) refusal) }
+    ensures level { IfOk result (λ _. depth whole.now.items ≤ 16) }
+    ensures too_deep { IsErrOf result Refusal.TooDeep → 16 < depth whole.now.items }
+    ensures refused { IfErr result (λ refusal. RefusesEdit whole.now.items (removed whole.now.items way.now) refusal) }
 {
+    if whole.depth() > 16 {
+        return Err(Refusal::TooDeep);
+    }
     if is_in_use(whole, way, item_at(&whole.items, way.as_slice())) {
         return Err(Refusal::InUse);
     }

@@ -1,5 +1,5 @@
 //! What follows the name of an item.
-ghost use Rattle.std.specs.Prelude.{◌≡◌, ◌≤◌, [], true, is_ok, Some, IfOk, IfErr, option_copied, if◌then◌else◌};
+ghost use Rattle.std.specs.Prelude.{◌≡◌, ◌≤◌, ◌<◌, [], true, is_ok, Some, IfOk, IfErr, IsErrOf, option_copied, if◌then◌else◌};
 ghost use Rattle.rdl_tree.specs.Depth.{depth};
 ghost use Rattle.rdl_scope.specs.Types.{item};
 ghost use Rattle.rdl_scope.specs.Target.{through};
@@ -7,7 +7,8 @@ ghost use Rattle.rdl_rewrite.specs.Addresses.{passes_by};
 ghost use Rattle.rdl_rewrite.specs.Fates.{given_if, fate_in_renaming, fate, fate_patches};
 ghost use Rattle.rdl_rewrite.specs.Names.{has_name};
 ghost use Rattle.rdl_rewrite.specs.Renaming.{renamed_names, renamed_target, is_reserved, names_in, is_taken, renamed};
-ghost use Rattle.rdl_rewrite.specs.Refuses.{Refuses};
+ghost use Rattle.rdl_rewrite.specs.Refuses.{RefusesEdit};
+ghost use Rattle.rdl_rewrite.specs.declared.edit.Refusal.{Refusal};
 
 use crate::edit::Refusal;
 use crate::fate::Fate;
@@ -183,11 +184,15 @@ pub fn rename<'a>(
     way: &'a Address,
     name: &'a Name,
 ) -> Result<Vec<Patch>, Refusal>
-    requires nesting { depth whole.now.items ≤ 16 }
     ensures which { IfOk result (λ ps. ps.items ≡ fate_patches (fate whole.now.items way.now (Some name.now)) [] 0 whole.now.items) }
     ensures accepted { IfOk result (λ _. is_ok (renamed whole.now.items way.now name.now) ≡ true) }
-    ensures refused { IfErr result (λ refusal. Refuses (renamed whole.now.items way.now name.now) refusal) }
+    ensures level { IfOk result (λ _. depth whole.now.items ≤ 16) }
+    ensures too_deep { IsErrOf result Refusal.TooDeep → 16 < depth whole.now.items }
+    ensures refused { IfErr result (λ refusal. RefusesEdit whole.now.items (renamed whole.now.items way.now name.now) refusal) }
 {
+    if whole.depth() > 16 {
+        return Err(Refusal::TooDeep);
+    }
     if is_taken(alloc, whole, way, name)? {
         return Err(Refusal::NameTaken);
     }

@@ -9,5 +9,6 @@ pub mod SoFar
 pub mod Steps
 pub mod Stopped
 pub mod Texts
+pub mod WholeInput
 pub mod WholeLines
 pub mod Written

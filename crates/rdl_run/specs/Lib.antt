@@ -10,3 +10,4 @@ pub mod ReadingFaults
 pub mod Readings
 pub mod Replies
 pub mod ScriptLines
+pub mod Turns

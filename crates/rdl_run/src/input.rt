@@ -1,27 +1,35 @@
 //! Reading an input whole.
-ghost use Rattle.std.specs.Prelude.{◌≡◌, ◌≢◌, ◌^◌, ◌<◌, ◌≤◌, length, Err, IfOk, OnOk, IfSome, IsErrOf};
+ghost use Rattle.std.specs.Prelude.{◌≡◌, ◌≢◌, ◌^◌, ◌<◌, ◌≤◌, ◌+◌, length, Err, IfOk, OnOk, IfSome, IsErrOf};
 ghost use Rattle.std.specs.Io.KnownBytes.{IsAtEnd};
 ghost use Rattle.rdl_run.specs.Known.{Gives};
 ghost use Rattle.rdl_run.specs.declared.status.RunFault.{RunFault};
 
+use crate::counted::CountedReader;
 use crate::status::{MOST_INTERRUPTS, RunFault};
 use std::alloc::Global;
 use std::io::{ErrorKind, Read};
 
-/// All the bytes of a reader. It makes at most `limit + 1_001` reads.
-pub fn read_whole<R: Read>(alloc: Global, reader: &mut R, limit: usize) -> Result<Vec<u8>, RunFault>
-    requires { limit < 2 ^ 32 }
-    ensures bytes { IfOk result (λ bytes. Gives (R.remaining reader.old) bytes.items) }
-    ensures end { OnOk result (IsAtEnd (R.remaining reader.new)) }
+/// All the bytes of a reader that wasn't asked before.
+pub(crate) fn read_counted<R: Read>(
+    alloc: Global,
+    input: &mut CountedReader<'_, R>,
+    limit: usize,
+) -> Result<Vec<u8>, RunFault>
+    requires limit { limit < 2 ^ 32 }
+    requires fresh { input.old.reads ≡ 0 }
+    ensures bytes { IfOk result (λ bytes. Gives (R.remaining input.old.reader.now) bytes.items) }
+    ensures end { OnOk result (IsAtEnd (R.remaining input.new.reader.now)) }
     ensures bound { IfOk result (λ bytes. length bytes.items ≤ limit) }
-    ensures too_long { IsErrOf result RunFault.TooLong → IfSome (R.remaining reader.old) (λ xs. limit < length xs) }
+    ensures too_long { IsErrOf result RunFault.TooLong → IfSome (R.remaining input.old.reader.now) (λ xs. limit < length xs) }
     ensures no_write { result ≢ Err RunFault.Write }
+    ensures reads { input.new.reads ≤ limit + 1001 }
+    ensures same_reference { input.new.reader.ghost_name ≡ input.old.reader.ghost_name }
 {
     let mut bytes = Vec::new(alloc);
     let mut interrupts = 0usize;
     let mut buffer = [0u8; 4096];
     for _turn in 0..limit + MOST_INTERRUPTS + 1 {
-        match reader.read(&mut buffer) {
+        match input.read(&mut buffer) {
             Ok(0) => return Ok(bytes),
             Ok(n) => {
                 if n > limit - bytes.len() {
@@ -43,4 +51,17 @@ pub fn read_whole<R: Read>(alloc: Global, reader: &mut R, limit: usize) -> Resul
         }
     }
     unreachable!()
+}
+
+/// All the bytes of a reader.
+pub fn read_whole<R: Read>(alloc: Global, reader: &mut R, limit: usize) -> Result<Vec<u8>, RunFault>
+    requires { limit < 2 ^ 32 }
+    ensures bytes { IfOk result (λ bytes. Gives (R.remaining reader.old) bytes.items) }
+    ensures end { OnOk result (IsAtEnd (R.remaining reader.new)) }
+    ensures bound { IfOk result (λ bytes. length bytes.items ≤ limit) }
+    ensures too_long { IsErrOf result RunFault.TooLong → IfSome (R.remaining reader.old) (λ xs. limit < length xs) }
+    ensures no_write { result ≢ Err RunFault.Write }
+{
+    let mut input = CountedReader::new(reader);
+    read_counted(alloc, &mut input, limit)
 }

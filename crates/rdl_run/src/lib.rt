@@ -2,6 +2,7 @@
 #![tactic(auto)]
 
 mod closing;
+mod counted;
 pub mod input;
 pub mod laws;
 mod open;

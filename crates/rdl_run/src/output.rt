@@ -1,14 +1,40 @@
 //! Writing a text whole.
-ghost use Rattle.std.specs.Prelude.{◌≡◌, ◌≤◌, OnOk, OnErr, IsOkUnless};
+ghost use Rattle.std.specs.Prelude.{◌≡◌, ◌≤◌, ◌+◌, length, OnOk, OnErr, IsOkUnless};
 ghost use Rattle.std.specs.Io.KnownBytes.{Appends};
 ghost use Rattle.rdl_run.specs.Known.{AppendsFront};
+ghost use Rattle.rdl_run.specs.Turns.{IsOpen};
 ghost use Rattle.rdl_run.specs.declared.status.RunFault.{RunFault};
 
-use crate::status::{MOST_INTERRUPTS, RunFault};
-use std::io::{ErrorKind, Write};
+use crate::counted::{CountedWriter, Outcome};
+use crate::status::RunFault;
+use std::io::Write;
 
-/// Writes all the bytes. Each write takes a byte, or is one of at most 1,001 that are interrupted on this output, or
-/// ends it.
+/// Writes all the bytes.
+pub(crate) fn write_counted<W: Write>(
+    output: &mut CountedWriter<'_, W>,
+    bytes: &[u8],
+) -> Result<(), RunFault>
+    requires asked { IsOpen output.old.counts }
+    ensures ok { OnOk result (Appends (W.contents output.old.writer.now) (W.contents output.new.writer.now) bytes.now) }
+    ensures err { OnErr result (AppendsFront (W.contents output.old.writer.now) (W.contents output.new.writer.now) bytes.now) }
+    ensures fault { IsOkUnless result RunFault.Write }
+    ensures takes { output.new.counts.takes ≤ output.old.counts.takes + length bytes.now }
+    ensures few { output.new.counts.interrupts ≤ 1000 }
+    ensures asked { OnOk result (IsOpen output.new.counts) }
+    ensures same_reference { output.new.writer.ghost_name ≡ output.old.writer.ghost_name }
+{
+    let mut at = 0;
+    while at < bytes.len() {
+        match output.write(&bytes[at..]) {
+            Outcome::Took(n) => at += n,
+            Outcome::Interrupted => {}
+            Outcome::Ended => return Err(RunFault::Write),
+        }
+    }
+    Ok(())
+}
+
+/// Writes all the bytes on an output that was interrupted so often.
 pub fn write_whole<W: Write>(
     writer: &mut W,
     interrupts: &mut usize,
@@ -20,18 +46,8 @@ pub fn write_whole<W: Write>(
     ensures fault { IsOkUnless result RunFault.Write }
     ensures interrupts { interrupts.new ≤ 1000 }
 {
-    let mut at = 0;
-    while at < bytes.len() {
-        match writer.write(&bytes[at..]) {
-            Ok(0) => return Err(RunFault::Write),
-            Ok(n) => at += n,
-            Err(e) => {
-                if e.kind() != ErrorKind::Interrupted || *interrupts == MOST_INTERRUPTS {
-                    return Err(RunFault::Write);
-                }
-                *interrupts += 1;
-            }
-        }
-    }
-    Ok(())
+    let mut output = CountedWriter::new(writer, *interrupts);
+    let written = write_counted(&mut output, bytes);
+    *interrupts = output.interrupts();
+    written
 }

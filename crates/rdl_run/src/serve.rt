@@ -13,8 +13,10 @@ ghost use Rattle.rdl_run.specs.ScriptLines.{is_in_line, left_len};
 ghost use Rattle.rdl_script.specs.Seen.{seen};
 ghost use Rattle.rdl_run.specs.Replies.{said};
 ghost use Rattle.rdl_run.specs.Faulted.{StopsServing};
+ghost use Rattle.rdl_run.specs.Turns.{IsOpen};
 
-use crate::output::write_whole;
+use crate::counted::CountedWriter;
+use crate::output::write_counted;
 use crate::reading::{ReadingFault, items_of};
 use crate::reply::{LineRefusal, Reply, reply_text};
 use crate::status::RunFault;
@@ -183,15 +185,16 @@ pub fn serve_all<E: Write>(
     alloc: Global,
     journal: &mut Journal<Map>,
     script: &[u8],
-    messages: &mut E,
-    interrupts: &mut usize,
+    messages: &mut CountedWriter<'_, E>,
 ) -> Result<bool, RunFault>
     requires length { length script.now < 2 ^ 32 }
-    requires few { interrupts.old ≤ 1000 }
-    ensures served { IfOk result (λ refused. (text : List ℕ) × (Serves journal.old (lines_of script.now) text refused journal.new) × (Appends (E.contents messages.old) (E.contents messages.new) text)) }
+    requires asked { IsOpen messages.old.counts }
+    ensures served { IfOk result (λ refused. (text : List ℕ) × (Serves journal.old (lines_of script.now) text refused journal.new) × (Appends (E.contents messages.old.writer.now) (E.contents messages.new.writer.now) text)) }
     ensures fault { IfErr result (λ fault. (fault ≡ RunFault.Memory) ⊎ (fault ≡ RunFault.Write)) }
-    ensures stopped { IfErr result (StopsServing journal.old (lines_of script.now) (E.contents messages.old) (E.contents messages.new)) }
-    ensures interrupts { interrupts.new ≤ 1000 }
+    ensures stopped { IfErr result (StopsServing journal.old (lines_of script.now) (E.contents messages.old.writer.now) (E.contents messages.new.writer.now)) }
+    ensures few { messages.new.counts.interrupts ≤ 1000 }
+    ensures asked { OnOk result (IsOpen messages.new.counts) }
+    ensures same_reference { messages.new.writer.ghost_name ≡ messages.old.writer.ghost_name }
 {
     let mut number = 0usize;
     let mut refused = false;
@@ -203,7 +206,7 @@ pub fn serve_all<E: Write>(
             Ok(said) => said,
             Err(_) => return Err(RunFault::Memory),
         };
-        if write_whole(messages, interrupts, text.as_bytes()).is_err() {
+        if write_counted(messages, text.as_bytes()).is_err() {
             return Err(RunFault::Write);
         }
         refused = refused || refuses;

@@ -1,14 +1,16 @@
-use Rattle.std.proofs.Common.{◌+◌, ◌≤◌, length}
+use Rattle.std.proofs.Common.{◌≡◌, ◌+◌, ◌≤◌, length}
 use Rattle.std.specs.Option.{option_copied}
 use Rattle.rdl_run.specs.ScriptLines.{left_len}
+use Rattle.rdl_run.specs.Turns.{IsOpen}
 use Rattle.rdl_run.proofs.SoFar.{SoFar}
 use Rattle.rdl_run.proofs.serve.serve_all.Given as goal
 
 abbrev pub invariant-lines : goal.invariant-lines
 invariant-lines g l = record {
-  so_far : SoFar l.fn.journal l.script (option_copied l.rest) l.number (g.E.Write.contents l.fn.messages) (g.E.Write.contents l.messages) l.refused l.journal;
+  so_far : SoFar l.fn.journal l.script (option_copied l.rest) l.number (g.E.Write.contents l.fn.messages.writer.now) (g.E.Write.contents l.messages.writer.now) l.refused l.journal;
   room : l.number + left_len (option_copied l.rest) ≤ length l.script + 1;
-  few : l.interrupts ≤ 1000;
+  asked : IsOpen l.messages.counts;
+  same : l.messages.writer.ghost_name ≡ l.fn.messages.writer.ghost_name;
 }
 
 abbrev pub decreases-lines : goal.decreases-lines

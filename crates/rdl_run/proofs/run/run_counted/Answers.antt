@@ -9,7 +9,7 @@ use Rattle.rdl_run.specs.declared.open.OpenFault.TheVariants.{Refused}
 use Rattle.rdl_run.specs.declared.status.RunFault.TheVariants.{Memory}
 use Rattle.rdl_run.proofs.RunLemmas.{refused_run}
 use Rattle.rdl_run.proofs.Stopped.{outputs, went, not_write, memory≢write, unwritten, failed_refusal}
-use Rattle.rdl_run.proofs.run.run.Goals as goal
+use Rattle.rdl_run.proofs.run.run_counted.Goals as goal
 
 pub returns-in-Err-Refused-clause-ran : goal.returns-in-Err-Refused-clause-ran
 returns-in-Err-Refused-clause-ran g c =
@@ -19,17 +19,17 @@ returns-in-Err-Refused-clause-ran g c =
     let refused : RefusesToOpen c.args.options.now.top c.in_ok-map_bytes.map_bytes.items (string_bytes c.in-Err-Refused.message) =
     subst (λ o. RefusesToOpen o c.in_ok-map_bytes.map_bytes.items (string_bytes c.in-Err-Refused.message)) c.as_ref.ensures.value
     (subst (λ bytes. RefusesToOpen (option_copied c.as_ref.result) bytes (string_bytes c.in-Err-Refused.message)) c.as_slice.ensures.value refusal) in
-    let wrote : Appends (contents c.args.messages.now) (contents c.write_whole.new.writer) (string_bytes c.in-Err-Refused.message) =
-    subst (λ m. Appends (contents c.args.messages.now) (contents c.write_whole.new.writer) (string_bytes m)) c.in-Err-Refused.message-is
-    (subst (Appends (contents c.args.messages.now) (contents c.write_whole.new.writer)) c.as_bytes.ensures.value c.in_ok-write_whole-in-Err-Refused.ensures.ok) in
+    let wrote : Appends (contents c.args.messages.now.writer.now) (contents c.write_counted.new.output.writer.now) (string_bytes c.in-Err-Refused.message) =
+    subst (λ m. Appends (contents c.args.messages.now.writer.now) (contents c.write_counted.new.output.writer.now) (string_bytes m)) c.in-Err-Refused.message-is
+    (subst (Appends (contents c.args.messages.now.writer.now) (contents c.write_counted.new.output.writer.now)) c.as_bytes.ensures.value c.in_ok-write_counted-in-Err-Refused.ensures.ok) in
     refused_run c.args.options.now.top c.args.options.now.history _ _ _ _ _ _ _ _ _ c.in_ok-map_bytes.ensures.bytes c.in_ok-script_bytes.ensures.bytes refused wrote
 
 pub returns-in_err-map_bytes-clause-faulted : goal.returns-in_err-map_bytes-clause-faulted
 returns-in_err-map_bytes-clause-faulted g c =
     let options = c.args.options.now in
-    let map = g.M.Read.remaining c.args.map.now in
-    let script = g.S.Read.remaining c.args.script.now in
-    let all = outputs (g.E.Write.contents c.args.messages.now) (g.R.Write.contents c.args.rdl.now) (g.H.Write.contents c.args.header.now) in
+    let map = g.M.Read.remaining c.args.map.now.reader.now in
+    let script = g.S.Read.remaining c.args.script.now.reader.now in
+    let all = outputs (g.E.Write.contents c.args.messages.now.writer.now) (g.R.Write.contents c.args.rdl.now.writer.now) (g.H.Write.contents c.args.header.now.writer.now) in
     let fault = c.in_err-map_bytes.field-0.0 in
     went c.from_residual.result fault (Faulted options.top options.history map script all all) c.from_residual.ensures.1
     (unwritten options.top options.history map script fault all (not_write fault c.in_err-map_bytes.ensures.no_write))
@@ -37,36 +37,36 @@ returns-in_err-map_bytes-clause-faulted g c =
 pub returns-in_err-script_bytes-clause-faulted : goal.returns-in_err-script_bytes-clause-faulted
 returns-in_err-script_bytes-clause-faulted g c =
     let options = c.args.options.now in
-    let map = g.M.Read.remaining c.args.map.now in
-    let script = g.S.Read.remaining c.args.script.now in
-    let all = outputs (g.E.Write.contents c.args.messages.now) (g.R.Write.contents c.args.rdl.now) (g.H.Write.contents c.args.header.now) in
+    let map = g.M.Read.remaining c.args.map.now.reader.now in
+    let script = g.S.Read.remaining c.args.script.now.reader.now in
+    let all = outputs (g.E.Write.contents c.args.messages.now.writer.now) (g.R.Write.contents c.args.rdl.now.writer.now) (g.H.Write.contents c.args.header.now.writer.now) in
     let fault = c.in_err-script_bytes.field-0.0 in
     went c.from_residual-in_err-script_bytes.result fault (Faulted options.top options.history map script all all) c.from_residual-in_err-script_bytes.ensures.1
     (unwritten options.top options.history map script fault all (not_write fault c.in_err-script_bytes.ensures.no_write))
 
-pub returns-in_err-write_whole-in-Err-Refused-clause-faulted : goal.returns-in_err-write_whole-in-Err-Refused-clause-faulted
-returns-in_err-write_whole-in-Err-Refused-clause-faulted g c =
+pub returns-in_err-write_counted-in-Err-Refused-clause-faulted : goal.returns-in_err-write_counted-in-Err-Refused-clause-faulted
+returns-in_err-write_counted-in-Err-Refused-clause-faulted g c =
     let options = c.args.options.now in
-    let map = g.M.Read.remaining c.args.map.now in
-    let script = g.S.Read.remaining c.args.script.now in
-    let m = g.E.Write.contents c.args.messages.now in
-    let m' = g.E.Write.contents c.write_whole.new.writer in
-    let r = g.R.Write.contents c.args.rdl.now in
-    let h = g.H.Write.contents c.args.header.now in
+    let map = g.M.Read.remaining c.args.map.now.reader.now in
+    let script = g.S.Read.remaining c.args.script.now.reader.now in
+    let m = g.E.Write.contents c.args.messages.now.writer.now in
+    let m' = g.E.Write.contents c.write_counted.new.output.writer.now in
+    let r = g.R.Write.contents c.args.rdl.now.writer.now in
+    let h = g.H.Write.contents c.args.header.now.writer.now in
     let refusal : IfRefusedToOpen (Refused c.in-Err-Refused.message) (RefusesToOpen (option_copied c.as_ref.result) c.as_slice.result.now) =
     subst (λ f. IfRefusedToOpen f (RefusesToOpen (option_copied c.as_ref.result) c.as_slice.result.now)) c.in-Err-Refused.field-0-is c.in-Err-Refused.ensures.refused in
     let refused : RefusesToOpen options.top c.in_ok-map_bytes.map_bytes.items (string_bytes c.in-Err-Refused.message) =
     subst (λ o. RefusesToOpen o c.in_ok-map_bytes.map_bytes.items (string_bytes c.in-Err-Refused.message)) c.as_ref.ensures.value
     (subst (λ bytes. RefusesToOpen (option_copied c.as_ref.result) bytes (string_bytes c.in-Err-Refused.message)) c.as_slice.ensures.value refusal) in
     let wrote : AppendsFront m m' (string_bytes c.in-Err-Refused.message) =
-    subst (λ text. AppendsFront m m' (string_bytes text)) c.in-Err-Refused.message-is (subst (AppendsFront m m') c.as_bytes.ensures.value c.in_err-write_whole-in-Err-Refused.ensures.err) in
+    subst (λ text. AppendsFront m m' (string_bytes text)) c.in-Err-Refused.message-is (subst (AppendsFront m m') c.as_bytes.ensures.value c.in_err-write_counted-in-Err-Refused.ensures.err) in
     let stopped = Faulted options.top options.history map script (outputs m r h) (outputs m' r h) in
-    went c.from_residual-in_err-write_whole-in-Err-Refused.result c.in_err-write_whole-in-Err-Refused.field-0.0 stopped c.from_residual-in_err-write_whole-in-Err-Refused.ensures.1
-    (subst stopped (sym c.in_err-write_whole-in-Err-Refused.ensures.fault)
+    went c.from_residual-in_err-write_counted-in-Err-Refused.result c.in_err-write_counted-in-Err-Refused.field-0.0 stopped c.from_residual-in_err-write_counted-in-Err-Refused.ensures.1
+    (subst stopped (sym c.in_err-write_counted-in-Err-Refused.ensures.fault)
     (failed_refusal options.top options.history map script _ _ _ m m' r h c.in_ok-map_bytes.ensures.bytes c.in_ok-script_bytes.ensures.bytes refused wrote))
 
 pub returns-clause-faulted : goal.returns-clause-faulted
 returns-clause-faulted g c =
     let options = c.args.options.now in
-    let all = outputs (g.E.Write.contents c.args.messages.now) (g.R.Write.contents c.args.rdl.now) (g.H.Write.contents c.args.header.now) in
-    unwritten options.top options.history (g.M.Read.remaining c.args.map.now) (g.S.Read.remaining c.args.script.now) Memory all memory≢write
+    let all = outputs (g.E.Write.contents c.args.messages.now.writer.now) (g.R.Write.contents c.args.rdl.now.writer.now) (g.H.Write.contents c.args.header.now.writer.now) in
+    unwritten options.top options.history (g.M.Read.remaining c.args.map.now.reader.now) (g.S.Read.remaining c.args.script.now.reader.now) Memory all memory≢write

@@ -1,0 +1,108 @@
+//! Readers and writers that are asked through a count.
+ghost use Rattle.std.specs.Prelude.{◌≡◌, ◌≤◌, ◌<◌, ◌+◌, ◌^◌, false};
+ghost use Rattle.std.specs.Io.{ReadsAtMost};
+ghost use Rattle.std.specs.Io.KnownBytes.{ReadConsumes};
+ghost use Rattle.rdl_run.specs.Turns.{Counted, IsOpen, WritesOnce};
+
+use crate::status::MOST_INTERRUPTS;
+use std::io;
+use std::io::{ErrorKind, Read, Write};
+
+/// A reader, and how often it was asked.
+#[derive(Drop)]
+pub(crate) struct CountedReader<'a, R> {
+    reader: &'a mut R,
+    reads: usize,
+}
+
+impl<'a, R: Read> CountedReader<'a, R> {
+    pub(crate) fn new(reader: &'a mut R) -> CountedReader<'a, R>
+        ensures { result ≡ record { reader = reader.entry; reads = 0 } }
+    {
+        CountedReader { reader, reads: 0 }
+    }
+
+    /// Asks the reader once.
+    pub(crate) fn read(&mut self, buffer: &mut [u8]) -> io::Result<usize>
+        requires room { self.old.reads + 1 < 2 ^ 64 }
+        ensures bound { ReadsAtMost result buffer.new }
+        ensures bytes { ReadConsumes (R.remaining self.old.reader.now) (R.remaining self.new.reader.now) result buffer.new }
+        ensures counted { self.new.reads ≡ self.old.reads + 1 }
+        ensures same_reference { self.new.reader.ghost_name ≡ self.old.reader.ghost_name }
+    {
+        self.reads += 1;
+        self.reader.read(buffer)
+    }
+}
+
+/// What became of one write.
+#[derive(Clone, Copy, Debug, Drop)]
+pub(crate) enum Outcome {
+    /// It took so many bytes, one at least.
+    Took(usize),
+    /// It was interrupted, and may be tried again.
+    Interrupted,
+    /// It took nothing, and is the last.
+    Ended,
+}
+
+/// How often a writer was asked: writes that took a byte, counted up to the greatest number; writes that were
+/// interrupted; and whether one has ended the output.
+#[derive(Clone, Copy, Debug, Drop)]
+pub(crate) struct Counts {
+    takes: u64,
+    interrupts: usize,
+    ended: bool,
+}
+
+/// A writer, and how often it was asked.
+#[derive(Drop)]
+pub(crate) struct CountedWriter<'a, W> {
+    writer: &'a mut W,
+    counts: Counts,
+}
+
+impl<'a, W: Write> CountedWriter<'a, W> {
+    /// A writer that was interrupted so often.
+    pub(crate) fn new(writer: &'a mut W, interrupts: usize) -> CountedWriter<'a, W>
+        ensures { result ≡ record { writer = writer.entry; counts = record { takes = 0; interrupts = interrupts; ended = false } } }
+    {
+        let counts = Counts {
+            takes: 0,
+            interrupts,
+            ended: false,
+        };
+        CountedWriter { writer, counts }
+    }
+
+    pub(crate) fn interrupts(&self) -> usize
+        ensures { result ≡ self.now.counts.interrupts }
+    {
+        self.counts.interrupts
+    }
+
+    /// Writes once. An output that was interrupted 1,000 times ends where it is interrupted again.
+    pub(crate) fn write(&mut self, bytes: &[u8]) -> Outcome
+        requires asked { IsOpen self.old.counts }
+        ensures wrote { WritesOnce (W.contents self.old.writer.now) (W.contents self.new.writer.now) bytes.now result }
+        ensures counted { Counted self.old.counts self.new.counts result }
+        ensures same_reference { self.new.writer.ghost_name ≡ self.old.writer.ghost_name }
+        ensures few { self.new.counts.interrupts ≤ 1000 }
+    {
+        match self.writer.write(bytes) {
+            Ok(n) if n > 0 => {
+                self.counts.takes = self.counts.takes.saturating_add(1);
+                return Outcome::Took(n);
+            }
+            Err(e) if e.kind() == ErrorKind::Interrupted => {
+                if self.counts.interrupts < MOST_INTERRUPTS {
+                    self.counts.interrupts += 1;
+                    return Outcome::Interrupted;
+                }
+            }
+            _ => {}
+        }
+        self.counts.ended = true;
+        Outcome::Ended
+    }
+}
