@@ -90,7 +90,7 @@ impl Map {
         self.kept.placed()
     }
 
-    /// The rows, made of the layouts that are kept.
+    /// The rows, made anew.
     pub fn rows(&self, alloc: Global) -> Result<Rows, AllocError>
         ensures { IfOk result (λ rows. elaborated self.now.description self.now.option ≡ Ok rows) }
     {
