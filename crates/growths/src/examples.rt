@@ -298,3 +298,9 @@ pub(crate) const BARE_LINES: &str = "0x0 addrmap top size 0x4
 0x0 reg top.g.q size 0x4
 [7:0] field top.g.q.f reset 0x1
 ";
+
+/// Two register files in one map.
+pub(crate) const TWO_FILES: &str = "regfile A { reg R { field {} f; }; R r0; R r1; R r2; };
+regfile B { reg { field {} f; } x; };
+addrmap top { A a; B b; };
+";

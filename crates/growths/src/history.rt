@@ -4,7 +4,7 @@ use crate::calls::{lines, opened, shown};
 use crate::examples::{
     BARE_LINES, FOUR_LINES, FOUR_WRITTEN, NESTED, NESTED_LINES, NESTED_WRITTEN, REMOVED_WRITTEN,
     RENAMED_WRITTEN, SHARED, SHARED_LINES, SHARED_WRITTEN, THREE, THREE_LINES, THREE_WRITTEN,
-    UNASSIGNED_LINES, UNASSIGNED_WRITTEN,
+    TWO_FILES, UNASSIGNED_LINES, UNASSIGNED_WRITTEN,
 };
 use crate::{Answer, assert_answered, is_same};
 use journal_core::fault::{EditFault, StepFault};
@@ -109,11 +109,12 @@ fn counts(alloc: Global, journal: &Journal<Map>) -> Answer {
 }
 
 /// What a line answers: nothing where it is accepted. Beside the lines of a script there are `write`, the map as it is
-/// written, and `count`, how many edits can be undone and redone.
+/// written, `count`, how many edits can be undone and redone, and `placed`, how many instances the last step placed.
 fn answer(alloc: Global, journal: &mut Journal<Map>, line: &str) -> Answer {
     match line {
         "write" => rdl(alloc, journal.map().description()),
         "count" => counts(alloc, journal),
+        "placed" => journal.map().placed().to_string(alloc),
         _ => {
             let request = request_of(alloc, line.as_bytes())?;
             request_answer(alloc, journal, request)
@@ -265,6 +266,29 @@ fn unassign() -> &'static [Step] {
 #[test]
 fn of_assignments(rt: HostRuntime) {
     follow(&rt, rt.alloc(), NESTED, 10_000, unassign());
+}
+
+// What changes no layout places nothing, whether memory was wanted on the way or not.
+const PLACED: [Step; 10] = [
+    ("resize /$B/x [2]", ""),
+    ("rename /$B/x y", ""),
+    ("placed", "0"),
+    ("undo", ""),
+    ("placed", "0"),
+    ("redo", ""),
+    ("placed", "0"),
+    ("assign /$top b.y.f reset 1", ""),
+    ("placed", "0"),
+    ("count", "3 0"),
+];
+
+fn placed() -> &'static [Step] {
+    &PLACED
+}
+
+#[test]
+fn of_kept_layouts(rt: HostRuntime) {
+    follow(&rt, rt.alloc(), TWO_FILES, 10_000, placed());
 }
 
 const RENAME: [Step; 8] = [

@@ -1,10 +1,16 @@
--- A list of states, a place in it, and how far the place may go.
+-- A list of states, a place in it, and how far edits may bring the place. It may begin at any place of a list, so the place
+-- may be past the limit.
 use Rattle.std.specs.Prelude.{◌≡◌, ℕ, slice_get, Some, zero, suc, ◌+◌, ◌-◌, ◌<◌, nat_lt, if◌then◌else◌, List, [], ◌∷◌, ◌++◌, length, take, Some, slice_get}
+use mathlib.Core.List.{reverse}
 
 pub record History (S : Type 0) : Type 0 where
   pub limit : ℕ
   pub states : List S
   pub place : ℕ
+
+-- at the state that is now, between those behind it and those ahead of it, each with the nearest first
+abbrev pub resumed : {S : Type 0} → (limit : ℕ) → (behind : List S) → (now : S) → (ahead : List S) → History S
+resumed limit behind now ahead = record { limit = limit; states = reverse behind ++ now ∷ ahead; place = length behind }
 
 -- what was after the place goes, and the state comes there
 abbrev pub after_edit : {S : Type 0} → History S → S → History S
@@ -38,6 +44,13 @@ after_redos (suc n) h = after_redos n (after_redo h)
 -- this is the state at the place
 abbrev pub IsAt : {S : Type 0} → History S → S → Type 0
 IsAt h s = slice_get h.states h.place ≡ Some s
+
+-- a step leads from one place of a list to another, and fits there
+pub record LeadsBetween {S B : Type 0} (prior : S → B → S) (fits : S → B → Type 0) (states : List S) (from to : ℕ) (step : B) : Type 0 where
+  pub state : S
+  pub stood : slice_get states from ≡ Some state
+  pub fitted : fits state step
+  pub led : slice_get states to ≡ Some (prior state step)
 
 -- a change leads from the state at the place to a new one, which comes after it
 pub record Edits {S C : Type 0} (leads : S → C → S → Type 0) (change : C) (old new : History S) : Type 0 where

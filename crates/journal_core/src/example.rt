@@ -1,7 +1,9 @@
 //! A list whose step back is a whole copy.
-ghost use Rattle.std.specs.Prelude.{◌≡◌, ℕ, ◌++◌, List, [], ◌∷◌, length, IfOk};
+ghost use Rattle.std.specs.Prelude.{◌≡◌, ℕ, ◌++◌, List, [], ◌∷◌, length, map, IfOk};
+ghost use Rattle.journal_core.specs.History.{resumed};
 
 use crate::invertible::Invertible;
+use crate::journal::Journal;
 use std::alloc::{AllocError, Global};
 use std::marker::Model;
 use std::mem;
@@ -44,6 +46,12 @@ impl Numbers {
         Numbers {
             items: Vec::new(alloc),
         }
+    }
+
+    pub fn of(items: Vec<u64>) -> Numbers
+        ensures { result.items.items ≡ items.items }
+    {
+        Numbers { items }
     }
 
     pub fn as_slice(&self) -> &[u64]
@@ -97,4 +105,16 @@ impl Invertible for Numbers {
     fn revert(&mut self, _alloc: Global, back: Vec<u64>) -> Result<Vec<u64>, Vec<u64>> {
         Ok(mem::replace(&mut self.items, back))
     }
+}
+
+/// A history that goes on at a list, between those behind it and those ahead of it, each with the nearest first.
+pub fn between(
+    now: Numbers,
+    limit: u32,
+    behind: Vec<Vec<u64>>,
+    ahead: Vec<Vec<u64>>,
+) -> Journal<Numbers>
+    ensures { result ≡ resumed limit (map (λ list. list.items) behind.items) now.items.items (map (λ list. list.items) ahead.items) }
+{
+    Journal::resume(now, limit, behind, ahead)
 }

@@ -1,9 +1,10 @@
 //! The history.
-ghost use Rattle.std.specs.Prelude.{◌≡◌, ◌+◌, [], ◌∷◌, length, Ok, Err, IfErr, OnOk, OnErr, ◌↔◌};
+ghost use Rattle.std.specs.Prelude.{◌≡◌, ◌+◌, ◌-◌, ◌≤◌, [], ◌∷◌, length, Ok, Err, None, IfErr, IfSome, OnOk, OnErr, ◌↔◌, option_copied, slice_get};
+ghost use mathlib.Core.List.{reverse};
 ghost use Rattle.journal_core.specs.declared.fault.EditFault.{EditFault};
 ghost use Rattle.journal_core.specs.declared.fault.StepFault.TheVariants.{Nothing};
-ghost use Rattle.journal_core.specs.Along.{FitAlong, Steps};
-ghost use Rattle.journal_core.specs.History.{after_undo, after_redo, Edits, IsAt};
+ghost use Rattle.journal_core.specs.Along.{FitAlong, FitInTurn, Steps, led_through};
+ghost use Rattle.journal_core.specs.History.{after_undo, after_redo, resumed, Edits, IsAt, LeadsBetween};
 ghost use Rattle.journal_core.specs.Faults.{Explains};
 
 use crate::fault::{EditFault, StepFault};
@@ -47,6 +48,25 @@ fn take_step<M: Invertible>(
     }
 }
 
+/// The same items, the last one first.
+fn reversed<T>(mut items: Vec<T>) -> Vec<T>
+    ensures { result.items ≡ reverse items.items }
+{
+    items.as_mut_slice().reverse();
+    items
+}
+
+/// The item that stands before `i` others at the end.
+fn from_the_end<T>(items: &[T], i: usize) -> Option<&T>
+    ensures { option_copied result ≡ slice_get (reverse items.now) i }
+{
+    if i < items.len() {
+        Some(&items[items.len() - 1 - i])
+    } else {
+        None
+    }
+}
+
 /// A map with the changes that can be undone and redone. A contract sees a list of states and a place in it.
 #[derive(Drop)]
 pub struct Journal<M: Invertible> {
@@ -57,7 +77,7 @@ pub struct Journal<M: Invertible> {
 }
 
 impl<M: Invertible> Model for Journal<M> {
-    ghost use Rattle.std.specs.Prelude.{ℕ, List, length, ◌++◌, ◌∷◌, ◌+◌, ◌≤◌};
+    ghost use Rattle.std.specs.Prelude.{ℕ, List, length, ◌++◌, ◌∷◌};
     ghost use mathlib.Core.List.{reverse};
     ghost use Rattle.journal_core.specs.Along.{states_along, IsSound};
     ghost use Rattle.journal_core.specs.History.{History};
@@ -70,7 +90,7 @@ impl<M: Invertible> Model for Journal<M> {
       place = length j.done.items;
     } };
 
-    ghost invariant = { λ j. IsSound M.prior M.fits (M.state j.map) j.limit j.done.items j.undone.items };
+    ghost invariant = { λ j. IsSound M.prior M.fits (M.state j.map) j.done.items j.undone.items };
 }
 
 impl<M: Invertible> Journal<M> {
@@ -83,6 +103,21 @@ impl<M: Invertible> Journal<M> {
             limit,
             done: Vec::new(alloc),
             undone: Vec::new(alloc),
+        }
+    }
+
+    /// A history that goes on at the map, with the steps that lead back from it and those that lead on, each list with
+    /// the next to be taken first. There may be more steps back than the limit. It takes no memory.
+    pub fn resume(map: M, limit: u32, undo: Vec<M::Back>, redo: Vec<M::Back>) -> Journal<M>
+        requires undo_fits { FitInTurn M.prior M.fits (M.state map) undo.items }
+        requires redo_fits { FitInTurn M.prior M.fits (M.state map) redo.items }
+        ensures { result ≡ resumed limit (led_through M.prior (M.state map) undo.items) (M.state map) (led_through M.prior (M.state map) redo.items) }
+    {
+        Journal {
+            map,
+            limit,
+            done: reversed(undo),
+            undone: reversed(redo),
         }
     }
 
@@ -107,14 +142,30 @@ impl<M: Invertible> Journal<M> {
         self.undone.len()
     }
 
+    /// The step back that is taken after `i` others.
+    pub fn undo_at(&self, i: usize) -> Option<&M::Back>
+        ensures none { (self.now.place ≤ i) ↔ (option_copied result ≡ None) }
+        ensures leads { IfSome result (λ back. LeadsBetween M.prior M.fits self.now.states (self.now.place - i) (self.now.place - i - 1) back.now) }
+    {
+        from_the_end(self.done.as_slice(), i)
+    }
+
+    /// The step on that is taken after `i` others.
+    pub fn redo_at(&self, i: usize) -> Option<&M::Back>
+        ensures none { (length self.now.states ≤ self.now.place + i + 1) ↔ (option_copied result ≡ None) }
+        ensures leads { IfSome result (λ step. LeadsBetween M.prior M.fits self.now.states (self.now.place + i) (self.now.place + i + 1) step.now) }
+    {
+        from_the_end(self.undone.as_slice(), i)
+    }
+
     /// Makes a change, after which nothing can be redone.
     pub fn edit(&mut self, alloc: Global, change: &M::Change) -> Result<(), EditFault<M::Refusal>>
         ensures ok { OnOk result (Edits M.leads change.now self.old self.new) }
-        ensures full { self.old.place ≡ self.old.limit → result ≡ Err EditFault.Full }
+        ensures full { self.old.limit ≤ self.old.place → result ≡ Err EditFault.Full }
         ensures fault { IfErr result (Explains M.refuses change.now self.old) }
         ensures err { OnErr result (self.new ≡ self.old) }
     {
-        if self.done.len() == self.limit as usize {
+        if self.done.len() >= self.limit as usize {
             return Err(EditFault::Full);
         }
         if self.done.reserve(1).is_err() {

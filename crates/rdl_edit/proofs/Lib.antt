@@ -1,1 +1,2 @@
 pub mod WaysBack
+pub mod Walking

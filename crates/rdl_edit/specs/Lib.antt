@@ -2,3 +2,5 @@ pub mod Backs
 pub mod Step
 pub mod Faults
 pub mod Keeping
+pub mod Resuming
+pub mod Ways

@@ -4,4 +4,5 @@
 pub mod back;
 pub mod edit;
 pub mod map;
+mod resuming;
 mod turning;

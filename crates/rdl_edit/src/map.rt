@@ -1,14 +1,18 @@
 //! The map that a history keeps.
-ghost use Rattle.std.specs.Prelude.{◌≡◌, ◌⊎◌, Ok, Err, IfOk, IfErr, OnOk, OnErr, option_copied};
+ghost use Rattle.std.specs.Prelude.{◌≡◌, ◌⊎◌, map, None, Some, Ok, Err, IfOk, IfErr, OnOk, OnErr, option_copied};
 ghost use Rattle.rdl_elab.specs.Faults.{elaborated};
 ghost use Rattle.rdl_scope.specs.ItemFaults.{out_of_memory};
 ghost use Rattle.rdl_elab.specs.AllKept.{AreOf};
 ghost use Rattle.rdl_edit.specs.Step.{HasRows, Leads, Refuses};
+ghost use Rattle.journal_core.specs.Along.{FitInTurn};
+ghost use Rattle.rdl_tree.specs.declared.session.SessionFault.{SessionFault};
 ghost use Rattle.rdl_edit.specs.Backs.{prior, Fits, IsCheap};
+ghost use Rattle.rdl_edit.specs.Resuming.{session_fault};
 ghost use Rattle.rdl_rewrite.specs.Patches.{patches};
 
 use crate::back::Back;
 use crate::edit::Refusal;
+use crate::resuming::{Direction, backs, opened, visit};
 use crate::turning::{again, turn};
 use journal_core::invertible::Invertible;
 use rdl_elab::kept::Kept;
@@ -18,6 +22,8 @@ use rdl_rewrite::rewrite::patches;
 use rdl_text::name::Name;
 use rdl_tree::description::Description;
 use rdl_tree::fault::Fault;
+use rdl_tree::patch::Patch;
+use rdl_tree::session::SessionFault;
 use std::alloc::{AllocError, Global};
 use std::marker::Model;
 
@@ -45,6 +51,14 @@ impl Model for Map {
     ghost invariant = { λ m. Keeps (record { description = m.description.items; option = m.name }) m.kept };
 }
 
+/// A map with the steps that lead back from it and on, each list with the next one to be taken first.
+#[derive(Debug, Drop)]
+pub struct Resumed {
+    pub map: Map,
+    pub undo: Vec<Back>,
+    pub redo: Vec<Back>,
+}
+
 fn text_of(name: Option<&Name>) -> Option<&str>
     ensures { option_copied result ≡ option_copied name.entry }
 {
@@ -69,6 +83,47 @@ impl Map {
             }),
             Err(fault) => Err(fault),
         }
+    }
+
+    /// Takes the description, with the steps that lead back from it and on, each list with the next one to be taken first.
+    /// Refused where a patch doesn't fit or a map on the way has a fault; what was handed in is dropped then.
+    pub fn resume(
+        alloc: Global,
+        description: Description,
+        name: Option<Name>,
+        undo: Vec<Vec<Patch>>,
+        redo: Vec<Vec<Patch>>,
+    ) -> Result<Resumed, SessionFault>
+        ensures map { IfOk result (λ r. r.map ≡ record { description = description.items; option = name }) }
+        ensures undo { IfOk result (λ r. r.undo.items ≡ map (λ step. step.items) undo.items) }
+        ensures redo { IfOk result (λ r. r.redo.items ≡ map (λ step. step.items) redo.items) }
+        ensures undo_fits { IfOk result (λ r. FitInTurn prior Fits r.map r.undo.items) }
+        ensures redo_fits { IfOk result (λ r. FitInTurn prior Fits r.map r.redo.items) }
+        ensures accepted { IfOk result (λ _. session_fault name description.items (map (λ step. step.items) undo.items) (map (λ step. step.items) redo.items) ≡ None) }
+        ensures refused { IfErr result (λ f. (session_fault name description.items (map (λ step. step.items) undo.items) (map (λ step. step.items) redo.items) ≡ Some f) ⊎ (f ≡ SessionFault.Memory)) }
+    {
+        let mut description = description;
+        let top = text_of(name.as_ref());
+        let kept = match opened(alloc, &description, top) {
+            Ok(kept) => kept,
+            Err(fault) => return Err(fault),
+        };
+        let undo = backs(alloc, undo)?;
+        let redo = backs(alloc, redo)?;
+        let undo = match visit(alloc, &mut description, top, undo, Direction::Undo) {
+            Ok(undo) => undo,
+            Err(fault) => return Err(fault),
+        };
+        let redo = match visit(alloc, &mut description, top, redo, Direction::Redo) {
+            Ok(redo) => redo,
+            Err(fault) => return Err(fault),
+        };
+        let map = Map {
+            description,
+            name,
+            kept,
+        };
+        Ok(Resumed { map, undo, redo })
     }
 
     pub fn description(&self) -> &Description

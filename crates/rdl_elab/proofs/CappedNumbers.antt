@@ -146,12 +146,12 @@ power_capped n m p h g = by_order (cases_lt n (2 ^ 40 + 1))
     by_order (inl l) = let e : m ≡ n = omega arith in ap capped (g ∙ ap power_up e)
     by_order (inr l) = let e : m ≤ power_up m = power_up-ge m in over p (power_up n) (omega arith) (omega (arith, power_up-ge n))
 
-pub full_array : (is_array : Bool) (elements size w m p r : ℕ) → is_array ≡ true → w ≡ min (size * elements) (2 ^ 64 - 1) → m ≡ min w (2 ^ 40 + 1) → IsPowerOfTwo p → m ≤ p → p / 2 < max 1 m
+pub full_array : (is_array : Bool) (elements size w m p r : ℕ) → is_array ≡ true → w ≡ min (size * elements) (2 ^ 128 - 1) → m ≡ min w (2 ^ 40 + 1) → IsPowerOfTwo p → m ≤ p → p / 2 < max 1 m
     → r ≡ min p (2 ^ 40 + 1) → r ≡ capped (full_alignment is_array elements size)
 full_array is_array elements size w m p r is_it f g power h k e =
     e ∙ power_capped (size * elements) m p (within (size * elements) f) (sym (power_up-next m p power h k)) ∙ ap (λ b. capped (full_alignment b elements size)) (sym is_it)
   where
-    within : (n : ℕ) → w ≡ min n (2 ^ 64 - 1) → m ≡ capped n
+    within : (n : ℕ) → w ≡ min n (2 ^ 128 - 1) → m ≡ capped n
     within n f = omega arith
 
 pub start_some : (all : Option ℕ) (m : Mode) (e : ℕ) (p : Placement) (a x w r : ℕ) → p.address ≡ None → p.align ≡ Some a → x ≡ max a 1 → w ≡ min x (2 ^ 40 + 1) → r ≡ capped (next_multiple e w 1)

@@ -29,12 +29,12 @@ abbrev Same : ℕ → ℕ → Type 0
 Same n e = (n ≡ e) ⊎ ((2 ^ 40 + 2 ≤ n) × (2 ^ 40 + 2 ≤ e))
 
 abbrev limited : ℕ → ℕ
-limited e = min e (2 ^ 64 - 1)
+limited e = min e (2 ^ 128 - 1)
 
 limited_same : (e : ℕ) → Same (limited e) e
-limited_same e = by_size (cases_lt e (2 ^ 64))
+limited_same e = by_size (cases_lt e (2 ^ 128))
   where
-    by_size : ((e < 2 ^ 64) ⊎ (2 ^ 64 ≤ e)) → Same (limited e) e
+    by_size : ((e < 2 ^ 128) ⊎ (2 ^ 128 ≤ e)) → Same (limited e) e
     by_size (inl h) = inl (omega arith)
     by_size (inr h) = inr (omega arith, omega arith)
 

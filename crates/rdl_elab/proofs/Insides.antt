@@ -12,12 +12,10 @@ use Rattle.rdl_scope.specs.Closed.{Head, Parts, no_parts, part}
 use Rattle.rdl_elab.specs.declared.layout.Mode.{Mode}
 use Rattle.rdl_elab.specs.declared.layout.Mode.TheVariants.{Compact}
 use Rattle.rdl_elab.specs.declared.layout.Layout.{Layout}
-use Rattle.rdl_elab.specs.declared.layout.LayoutValues.{LayoutValues}
-use Rattle.rdl_elab.proofs.KeptLayouts.{kept-laid_out}
-use Rattle.rdl_elab.specs.Kept.{Layouts, Part}
+use Rattle.rdl_elab.specs.Kept.{Part}
 use Rattle.rdl_elab.specs.declared.finished.Finished.{Finished}
-use Rattle.rdl_elab.specs.Layouts.{values_of, mode_inside, laid_out, layouts, layout, member}
-use Rattle.rdl_elab.specs.Capped.{capped_layout, capped_instance}
+use Rattle.rdl_elab.specs.Layouts.{layouts, layout}
+use Rattle.rdl_elab.specs.Capped.{capped_instance}
 use Rattle.rdl_elab.specs.Faults.{levels, count, is_empty, first_empty}
 use Rattle.rdl_elab.specs.Finished.{under, IsPart, AreParts}
 use Rattle.rdl_elab.specs.Inside.{kept_part, kept_parts, part_levels, kept_levels, part_rows, kept_rows, lacks_parts, part_empty, kept_empty}
@@ -203,13 +201,3 @@ module _ (fs : List Finished) (i : ℕ) (ps : List Part) (p : Part) (o : Option 
       let one : kept_empty fs (drop i ps) ≡ option_or (part_empty p o) r =
       empty-next fs i ps p h ∙ ap (λ (q : Part). option_or (part_empty q (slice_get fs q.component)) r) (sym is) ∙ ap (λ x. option_or (part_empty p x) r) found in
       ap (λ x. option_or x r) g ∙ sym one ∙ inv
-
-pub layouts-are : (d : Items) (fs : List Finished) (n : ℕ) (ps : List Part) (inside : Parts) (h : Head) (v : LayoutValues) (ls : Layouts) → v ≡ values_of h → AreParts d fs n ps inside
-    → ((m : Mode) → under m ls ≡ capped_layout (laid_out h.kind v (mode_inside h.kind v m) (map member (kept_parts (mode_inside h.kind v m) fs ps))))
-    → (m : Mode) → under m ls ≡ capped_layout (layout m (record { head = h; parts = inside }))
-layouts-are d fs n ps inside h v ls e a g m =
-    let w = values_of h in
-    let k = mode_inside h.kind w m in
-    g m ∙ ap (λ (v : LayoutValues). capped_layout (laid_out h.kind v (mode_inside h.kind v m) (map member (kept_parts (mode_inside h.kind v m) fs ps)))) e
-    ∙ ap (λ xs. capped_layout (laid_out h.kind w k (map member xs))) (parts-kept d fs k n ps inside a)
-    ∙ kept-laid_out h.kind w k (layouts k inside)

@@ -1,4 +1,5 @@
 pub mod Examples
+pub mod StandInExamples
 pub mod KeptValues
 pub mod Rounding
 pub mod CappedNumbers
@@ -17,6 +18,8 @@ pub mod Telling
 pub mod Counting
 pub mod SameMembers
 pub mod Insides
+pub mod Making
+pub mod SelfEqual
 pub mod Goings
 pub mod Writing
 pub mod Roots
@@ -41,3 +44,5 @@ pub mod Storing
 pub mod Numbering
 pub mod FoundLayouts
 pub mod AllTaken
+pub mod StandingIn
+pub mod AsBefore

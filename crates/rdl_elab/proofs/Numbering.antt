@@ -19,7 +19,7 @@ use Rattle.rdl_elab.specs.Written.{written}
 use Rattle.rdl_elab.specs.Numbers.{components, components_before, number}
 
 -- how many there are
-components-add : (x : Item) (rest : Items) → components (add x rest) ≡ components (add x no_items) + components rest
+pub components-add : (x : Item) (rest : Items) → components (add x rest) ≡ components (add x no_items) + components rest
 components-add (Define n c) rest = omega arith
 components-add (Instance s (Named t)) rest = omega arith
 components-add (Instance s (Anonymous c)) rest = omega arith

@@ -78,31 +78,35 @@ judged-rows d rows (r ∷ rs) h = by_fault (judged-rows d (rows ++ r.row ∷ [])
     by_fault k None g = k g ∙ append_assoc rows (r.row ∷ []) (map (λ (r : Judged). r.row) rs)
     by_fault k (Some f) g = absurd (some-none g)
 
--- a width is one of four
-width-small : (o : Option ℕ) → width_in o ≤ 64
+-- a width is one of five
+width-small : (o : Option ℕ) → width_in o ≤ 128
 width-small None = omega arith
 width-small (Some n) = by_test (has_form Widths (Number n)) refl
   where
-    one : (k : ℕ) → k ≤ 64 → (n == k) ≡ true → n ≤ 64
+    one : (k : ℕ) → k ≤ 128 → (n == k) ≡ true → n ≤ 128
     one k h e = omega (arith, h, eqb-true n k e)
 
-    two : ((n == 8) ≡ true) ⊎ ((n == 16) ≡ true) → n ≤ 64
+    two : ((n == 8) ≡ true) ⊎ ((n == 16) ≡ true) → n ≤ 128
     two (inl e) = one 8 (omega arith) e
     two (inr e) = one 16 (omega arith) e
 
-    three : ((n == 8 || n == 16) ≡ true) ⊎ ((n == 32) ≡ true) → n ≤ 64
+    three : ((n == 8 || n == 16) ≡ true) ⊎ ((n == 32) ≡ true) → n ≤ 128
     three (inl e) = two (or_cases (n == 8) (n == 16) e)
     three (inr e) = one 32 (omega arith) e
 
-    four : ((n == 8 || n == 16 || n == 32) ≡ true) ⊎ ((n == 64) ≡ true) → n ≤ 64
+    four : ((n == 8 || n == 16 || n == 32) ≡ true) ⊎ ((n == 64) ≡ true) → n ≤ 128
     four (inl e) = three (or_cases (n == 8 || n == 16) (n == 32) e)
     four (inr e) = one 64 (omega arith) e
 
-    by_test : (t : Bool) → has_form Widths (Number n) ≡ t → (if t then n else 0) ≤ 64
-    by_test true e = four (or_cases (n == 8 || n == 16 || n == 32) (n == 64) e)
+    five : ((n == 8 || n == 16 || n == 32 || n == 64) ≡ true) ⊎ ((n == 128) ≡ true) → n ≤ 128
+    five (inl e) = four (or_cases (n == 8 || n == 16 || n == 32) (n == 64) e)
+    five (inr e) = one 128 (omega arith) e
+
+    by_test : (t : Bool) → has_form Widths (Number n) ≡ t → (if t then n else 0) ≤ 128
+    by_test true e = five (or_cases (n == 8 || n == 16 || n == 32 || n == 64) (n == 128) e)
     by_test false e = omega arith
 
-pub bits-small : (h : Head) → (values_of h).regwidth ≤ 64
+pub bits-small : (h : Head) → (values_of h).regwidth ≤ 128
 bits-small h = width-small (number_in (head_value h Regwidth))
 
 -- where nothing is assigned, the values are those that the component has by itself
@@ -118,7 +122,7 @@ module _ (d : Items) (fs : List Finished) where
 
   module _ (b : List ℕ) (a : Around) (before : List (Span × Option Value)) (span : Span) (at : List ℕ) (s : Shell) (h : Head) (within : Parts) (p : Part) (f : Finished)
       (place : p.at ≡ at) (shell : p.shell ≡ s) (k : IsKept d f (record { head = h; parts = within })) (found : IsPartFound d b at s h within)
-      (small : a.bits ≤ 64) (fits : OneFits a.mode a.base span h within) where
+      (small : a.bits ≤ 128) (fits : OneFits a.mode a.base span h within) where
     abbrev l : Layout
     l = layout_of a.mode h within
 
@@ -186,12 +190,12 @@ module _ (d : Items) (fs : List Finished) where
 
   abbrev LevelSame : ℕ → Parts → Type 0
   LevelSame n P = (b : List ℕ) (a : Around) (m : Kind) (before : List (Span × Option Value)) (spans : List Span) (ps : List Part) (bound : ℕ) (rows : List Row)
-      → AreParts d fs bound ps P → ArePartsFound d b P → FieldsIn m P → Fit a.mode a.base spans P → a.bits ≤ 64 → levels P ≤ suc n
+      → AreParts d fs bound ps P → ArePartsFound d b P → FieldsIn m P → Fit a.mode a.base spans P → a.bits ≤ 128 → levels P ≤ suc n
       → told rows (level_rows fs (λ inside ss qs. kept_rows n fs inside ss qs) (around_of b a) (map sibling_of before) (map capped_span spans) ps) ≡ told_judged d rows (rows_in d a before spans P)
 
   -- the same for so many levels
   pub levels-same : (n : ℕ) (P : Parts) → ((k : ℕ) → LevelSame k P) → (b : List ℕ) (a : Around) (m : Kind) (spans : List Span) (ps : List Part) (bound : ℕ) (rows : List Row)
-      → AreParts d fs bound ps P → ArePartsFound d b P → FieldsIn m P → Fit a.mode a.base spans P → a.bits ≤ 64 → levels P ≤ n
+      → AreParts d fs bound ps P → ArePartsFound d b P → FieldsIn m P → Fit a.mode a.base spans P → a.bits ≤ 128 → levels P ≤ n
       → told rows (kept_rows n fs (around_of b a) (map capped_span spans) ps) ≡ told_judged d rows (rows_in d a [] spans P)
   levels-same zero no_parts same b a m spans ps bound rows parts found fields fit small deep = refl
   levels-same zero (part at s h within rest) same b a m spans ps bound rows parts found fields fit small deep = absurd (none (levels within) (levels rest) deep)
@@ -217,7 +221,7 @@ module _ (d : Items) (fs : List Finished) where
   module _ (n : ℕ) (b : List ℕ) (a : Around) (m : Kind) (before : List (Span × Option Value)) (span : Span) (spans : List Span) (at : List ℕ) (s : Shell) (h : Head) (within rest : Parts)
       (p : Part) (ps : List Part) (bound : ℕ)
       (q : IsPart d fs bound p at s (record { head = h; parts = within }) (λ f. AreParts d fs p.component f.parts.items within))
-      (found : IsPartFound d b at s h within) (small : a.bits ≤ 64) (fits : OneFits a.mode a.base span h within)
+      (found : IsPartFound d b at s h within) (small : a.bits ≤ 128) (fits : OneFits a.mode a.base span h within)
       (same-within : (k : ℕ) → LevelSame k within) (same-rest : LevelSame n rest)
       (found-within : ArePartsFound d h.at within) (fields : FieldsIn h.kind within) (deep : levels within ≤ n)
       (parts-rest : AreParts d fs bound ps rest) (found-rest : ArePartsFound d b rest) (fields-rest : FieldsIn m rest) (fit-rest : Fit a.mode a.base spans rest) (deep-rest : levels rest ≤ suc n) where

@@ -39,7 +39,7 @@ span-small : (s : Span) → s.start ≤ s.end → s.end ≤ 2 ^ 40 → capped_sp
 span-small s o h = λ i. record { start = capped-small s.start (omega (arith, o, h)) i; end = capped-small s.end h i }
 
 -- the end of a span is past a register in the kept span too
-past-same : (bits : ℕ) (s : Span) → bits ≤ 64 → nat_lt bits (capped_span s).end ≡ nat_lt bits s.end
+past-same : (bits : ℕ) (s : Span) → bits ≤ 128 → nat_lt bits (capped_span s).end ≡ nat_lt bits s.end
 past-same bits s h = by_order (cases_lt bits s.end)
   where
     by_order : ((bits < s.end) ⊎ (s.end ≤ bits)) → nat_lt bits (capped s.end) ≡ nat_lt bits s.end
@@ -105,7 +105,7 @@ module _ (d : Items) where
     bytes-exact f = (span-small span (omega (arith, f.holds)) (omega (arith, f.room)), capped-small l.size (omega (arith, f.holds, f.room)))
 
     -- a field that ends in its register too
-    field-exact : a.bits ≤ 64 → span.start ≤ span.end → nat_lt a.bits span.end ≡ false → capped_span span ≡ span
+    field-exact : a.bits ≤ 128 → span.start ≤ span.end → nat_lt a.bits span.end ≡ false → capped_span span ≡ span
     field-exact b o e = span-small span o (omega (arith, b, ltb-false a.bits span.end e))
 
     abbrev kept_rest : List (Bool × FaultKind)
@@ -117,7 +117,7 @@ module _ (d : Items) where
     abbrev rest : List (Bool × FaultKind)
     rest = (clashes span r.access before, FieldOverlap) ∷ (is_reset_too_wide (reset_of d r) span, ResetTooWide) ∷ []
 
-    field-fault : a.bits ≤ 64 → span.start ≤ span.end → kept_kind_fault Field (capped_span span) (capped l.size) ≡ kind_fault Field d r
+    field-fault : a.bits ≤ 128 → span.start ≤ span.end → kept_kind_fault Field (capped_span span) (capped l.size) ≡ kind_fault Field d r
     field-fault b o = by_past (nat_lt a.bits span.end) refl
       where
         by_past : (t : Bool) → nat_lt a.bits span.end ≡ t → kept_kind_fault Field (capped_span span) (capped l.size) ≡ kind_fault Field d r
@@ -129,7 +129,7 @@ module _ (d : Items) where
     bytes-fault k f = (λ i. kept_kind_fault k ((bytes-exact f).0 i) ((bytes-exact f).1 i)) ∙ exact-fault k
 
     -- the faults of a row
-    pub fault-same : a.bits ≤ 64 → OneFits a.mode a.base span h within → kept_kind_fault h.kind (capped_span span) (capped l.size) ≡ kind_fault h.kind d r
+    pub fault-same : a.bits ≤ 128 → OneFits a.mode a.base span h within → kept_kind_fault h.kind (capped_span span) (capped l.size) ≡ kind_fault h.kind d r
     fault-same b f = by_kind f.bytes
       where
         by_kind : ((h.kind ≡ Field) ⊎ BytesFit a.mode a.base span h within) → kept_kind_fault h.kind (capped_span span) (capped l.size) ≡ kind_fault h.kind d r
@@ -137,7 +137,7 @@ module _ (d : Items) where
         by_kind (inr g) = bytes-fault h.kind g
 
     -- without a fault the span is exact
-    pub span-exact : a.bits ≤ 64 → OneFits a.mode a.base span h within → kind_fault h.kind d r ≡ None → capped_span span ≡ span
+    pub span-exact : a.bits ≤ 128 → OneFits a.mode a.base span h within → kind_fault h.kind d r ≡ None → capped_span span ≡ span
     span-exact b f n = by_kind f.bytes
       where
         by_past : (t : Bool) → nat_lt a.bits span.end ≡ t → kind_fault Field d r ≡ None → capped_span span ≡ span

@@ -1,6 +1,8 @@
 -- What is kept of a description's layouts from one description to the next.
 -- own: SystemRDL 2.0 says how components are laid out, and nothing of edits.
-use Rattle.std.specs.Prelude.{◌≡◌, ℕ, ◌+◌, List, length, sum_by, Option, Some, None, Ok, option_and_then, Bool, true, false}
+use Rattle.std.specs.Prelude.{◌≡◌, ℕ, ◌+◌, List, length, sum_by, Option, Some, None, Ok, option_and_then, option_map, Bool, true, false, if◌then◌else◌}
+use Rattle.std.specs.List.{AllZip}
+use Rattle.slab.specs.Slab.{Slab, get}
 use Rattle.rdl_tree.specs.Items.{Items}
 use Rattle.rdl_tree.specs.declared.shell.Kind.{Kind}
 use Rattle.rdl_tree.specs.declared.shell.Kind.TheVariants.{Addrmap, Regfile, Reg, Field}
@@ -16,17 +18,22 @@ use Rattle.rdl_elab.specs.Layouts.{layout}
 use Rattle.rdl_elab.specs.Capped.{capped_layout}
 use Rattle.rdl_elab.specs.Faults.{elaborated}
 use Rattle.rdl_elab.specs.Written.{all_written, all_layouts}
+use Rattle.rdl_elab.specs.Kept.{MadeOf}
+use Rattle.rdl_elab.specs.MadeOf.{made_of}
+use Rattle.rdl_elab.specs.StandIns.{stand_ins}
 
--- the layouts of all components, each behind those inside it; the name that was asked of the top; and how many instances were placed
--- when they were laid out last, once for each mode
+-- the layouts of all components, each behind those inside it; the description that was laid out last; the name that was asked of its
+-- top; and how many instances were placed, once for each mode
 pub record KeptLayouts : Type 0 where
   pub layouts : List Layouts
+  pub description : Items
   pub top : Option (List ℕ)
   pub placed : ℕ
 
 -- they are those of this description, which has no fault
 pub record AreOf (d : Items) (k : KeptLayouts) : Type 0 where
   pub layouts : k.layouts ≡ all_layouts d
+  pub description : k.description ≡ d
   pub rows : List Row
   pub faultless : elaborated d k.top ≡ Ok rows
 
@@ -61,9 +68,25 @@ how_many (part at s h inside rest) = 1 + how_many rest
 abbrev pub all_instances : Items → ℕ
 all_instances d = sum_by (λ (c : Made). how_many c.parts) (all_written d)
 
+-- a component is as before if it stands for a kept one that was made of the same
+abbrev pub IsAsBefore : Items → Option (List ℕ) → Made → Type 0
+IsAsBefore old kept c = option_map made_of (option_and_then (component old) kept) ≡ Some (made_of c)
+
+-- every component is as before but for those at these addresses; the items of these bodies stand for the kept ones of their name
+abbrev pub IsAsBeforeBut : (List ℕ → Bool) → Items → List (List ℕ) → Items → Type 0
+IsAsBeforeBut marked old bodies new = AllZip (λ kept (c : Made). marked c.head.at ≡ false → IsAsBefore old kept c) (stand_ins old bodies new) (all_written new)
+
+-- how many instances the components at these addresses have
+abbrev pub instances_at : (List ℕ → Bool) → Items → ℕ
+instances_at marked d = sum_by (λ (c : Made). if marked c.head.at then how_many c.parts else 0) (all_written d)
+
+-- under their key stands what these were made of, but for those at these addresses
+abbrev pub AreFoundBut : (List ℕ → Bool) → Slab MadeOf → List (Option ℕ) → Items → Type 0
+AreFoundBut marked s keys d = AllZip (λ key (c : Made). marked c.head.at ≡ false → option_and_then (get s) key ≡ Some (made_of c)) keys (all_written d)
+
 -- what is taken over of a finished component
 pub record TakesOver (t : Taken) (f : Finished) : Type 0 where
-  pub layouts : t.layouts ≡ f.layouts
+  pub laid_out : t.laid_out ≡ f.laid_out
   pub key : t.key ≡ f.key
 
 -- the spans of a component's layouts, and those that are new

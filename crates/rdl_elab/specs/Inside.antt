@@ -16,7 +16,7 @@ use Rattle.rdl_elab.specs.Finished.{under}
 
 -- a placement whose elements are counted up to a limit
 abbrev pub counted : Placement → Placement
-counted p = record p { elements = min p.elements (2 ^ 64 - 1) }
+counted p = record p { elements = min p.elements (2 ^ 128 - 1) }
 
 -- what is taken of an instance for its place
 abbrev pub shown_placement : Shell × Layout → Placement

@@ -1,8 +1,11 @@
 -- What contracts see of the types that keep components.
 -- own: SystemRDL 2.0 speaks of definitions and instances.
 use Rattle.std.specs.Prelude.{ℕ, List}
+use Rattle.rdl_tree.specs.declared.shell.Kind.{Kind}
 use Rattle.rdl_tree.specs.declared.shell.Shell.{Shell}
+use Rattle.rdl_elab.specs.declared.layout.LayoutValues.{LayoutValues}
 use Rattle.rdl_elab.specs.declared.layout.Layout.{Layout}
+use Rattle.rdl_elab.specs.declared.laid_out.EachMember.{EachMember}
 
 -- an instance: its address, its shell, and the number of its component among the finished ones
 pub record Part : Type 0 where
@@ -15,3 +18,9 @@ pub record Layouts : Type 0 where
   pub compact : Layout
   pub regalign : Layout
   pub fullalign : Layout
+
+-- what the layouts of a component are made of: its kind, its layout values, and what is taken of each instance under each mode
+pub record MadeOf : Type 0 where
+  pub kind : Kind
+  pub values : LayoutValues
+  pub members : List EachMember

@@ -17,6 +17,10 @@ pub mod SiblingRanges
 pub mod Inside
 pub mod LaidOut
 pub mod Written
+pub mod MadeOf
+pub mod StandIns
+pub mod KeptBodies
+pub mod Finishes
 pub mod AllKept
 pub mod Numbers
 pub mod Stored

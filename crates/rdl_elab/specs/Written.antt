@@ -1,8 +1,6 @@
 -- All components written in a description, used or not, each behind those inside it, and their layouts as they are kept.
 -- own: SystemRDL 2.0 has no order of components; a body's layout depends on the components before it and inside it.
-use Rattle.std.specs.Prelude.{◌≡◌, ℕ, suc, List, [], ◌∷◌, ◌++◌, map, Some, IfSome}
-use Rattle.std.specs.List.{AllZip}
-use Rattle.slab.specs.Slab.{Slab, get}
+use Rattle.std.specs.Prelude.{ℕ, suc, List, [], ◌∷◌, ◌++◌, map}
 use Rattle.rdl_tree.specs.Items.{Items, no_items, plain, holder}
 use Rattle.rdl_tree.specs.Component.{holder_kind}
 use Rattle.rdl_scope.specs.Closed.{Made, Standing, head_at, parts, after_plain, after_holder, nothing}
@@ -11,7 +9,6 @@ use Rattle.rdl_tree.specs.declared.description.Item.TheVariants.{Define, Instanc
 use Rattle.rdl_tree.specs.declared.description.Of.TheVariants.{Named, Anonymous}
 use Rattle.rdl_elab.specs.Stands.{made_at}
 use Rattle.rdl_elab.specs.declared.layout.Mode.TheVariants.{Compact, Regalign, Fullalign}
-use Rattle.rdl_elab.specs.declared.finished.Finished.{Finished}
 use Rattle.rdl_elab.specs.Kept.{Layouts}
 use Rattle.rdl_elab.specs.Layouts.{layout}
 use Rattle.rdl_elab.specs.Capped.{capped_layout}
@@ -44,14 +41,3 @@ layouts_kept c =
 
 abbrev pub all_layouts : Items → List Layouts
 all_layouts d = map layouts_kept (all_written d)
-
--- a finished component has the layouts of this one; if they were kept before, then under its key
-pub record IsLaidOut (before : Slab Layouts) (f : Finished) (c : Made) : Type 0 where
-  pub layouts : f.layouts ≡ layouts_kept c
-  pub kept : IfSome f.key (λ k. get before k ≡ Some f.layouts)
-
--- a walk has finished these components, one after another
-pub record Finishes (before : Slab Layouts) (old new : List Finished) (cs : List Made) : Type 0 where
-  pub more : List Finished
-  pub is : new ≡ old ++ more
-  pub are : AllZip (IsLaidOut before) more cs

@@ -4,7 +4,8 @@ ghost use Rattle.rdl_elab.specs.Bits.{bits_of, bits_from};
 ghost use Rattle.rdl_elab.specs.Capped.{capped_span};
 
 use crate::layout::{FieldBits, Span, Spans};
-use crate::round::LIMIT;
+use crate::round::{LIMIT, capped};
+use rdl_text::token::Number;
 use std::alloc::{AllocError, Global};
 
 /// The bits of a field, where this is the bit one past the field before it.
@@ -13,12 +14,12 @@ fn bits_of(next: u64, field: FieldBits) -> Span
 {
     match field.range {
         Some((high, low)) => Span {
-            start: low.min(LIMIT),
-            end: high.saturating_add(1).max(low).min(LIMIT),
+            start: capped(low),
+            end: capped(high.saturating_add(1).max(low)),
         },
         None => Span {
             start: next.min(LIMIT),
-            end: next.saturating_add(field.width).min(LIMIT),
+            end: capped(Number::from(next).saturating_add(field.width)),
         },
     }
 }

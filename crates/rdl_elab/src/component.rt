@@ -8,7 +8,7 @@ ghost use Rattle.rdl_elab.specs.Capped.{capped, capped_layout, IsAlignment};
 use crate::bits::bits;
 use crate::layout::{FieldBits, Layout, LayoutValues, Member, Mode, Placement, Spans};
 use crate::place::place;
-use crate::round::LIMIT;
+use crate::round::{LIMIT, capped};
 use rdl_tree::shell::Kind;
 use std::alloc::{AllocError, Global};
 
@@ -40,7 +40,7 @@ pub(crate) fn field(alloc: Global, values: LayoutValues) -> Layout
     ensures { result ≡ record { size = capped values.fieldwidth; access = 0; spans = [] } }
 {
     Layout {
-        size: values.fieldwidth.min(LIMIT),
+        size: capped(values.fieldwidth),
         access: 0,
         spans: Spans::from_vec(Vec::new(alloc)),
     }

@@ -19,6 +19,7 @@ use crate::rows::{Around, add_rows};
 use crate::walk::{Walked, lay_out_item};
 use rdl_scope::faults::check;
 use rdl_text::name::Name;
+use rdl_text::token::Number;
 use rdl_tree::address::Address;
 use rdl_tree::description::{Description, Item};
 use rdl_tree::dims::Dims;
@@ -148,7 +149,7 @@ fn top_row(alloc: Global, name: &Name, top: &Finished) -> Result<Row, AllocError
             offset: 0,
             size,
             dims: Dims::new(alloc),
-            stride: size,
+            stride: Number::from(size),
         }),
         values: RowValues::of(top.shown.share()?),
     })

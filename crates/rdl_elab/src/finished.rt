@@ -1,5 +1,5 @@
 //! Components that are laid out.
-use crate::laid_out::SharedLayouts;
+use crate::laid_out::{SharedLaidOut, SharedLayouts};
 use crate::layout::{Layout, LayoutValues, Mode};
 use crate::reaches::Assignment;
 use crate::row_values::ComponentValues;
@@ -198,6 +198,8 @@ pub(crate) struct Finished<'a> {
     pub assignments: Vec<Assignment<'a>>,
     pub parts: Vec<Part<'a>>,
     pub layouts: SharedLayouts,
+    /// The same layouts, with what they were made of.
+    pub laid_out: SharedLaidOut,
     /// The key of its layouts, if they were kept before.
     pub key: Option<usize>,
     /// The names of the longest path below it, at most 16.

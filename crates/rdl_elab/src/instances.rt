@@ -17,6 +17,7 @@ use crate::layout::{FieldBits, Layout, LayoutValues, Member, Mode, Placement};
 use crate::place::place;
 use crate::shared::SharedAddress;
 use rdl_scope::shells::product;
+use rdl_text::token::Number;
 use rdl_tree::shell::{Kind, Shell};
 use std::alloc::{AllocError, Global};
 
@@ -45,7 +46,7 @@ fn field_bits(shell: &Shell, layout: &Layout) -> FieldBits
     ensures { result ≡ field_bits (shell.now, layout.now) }
 {
     let width = match shell.dims.as_slice() {
-        [] => layout.size,
+        [] => Number::from(layout.size),
         [width, ..] => *width,
     };
     FieldBits {

@@ -1,5 +1,5 @@
 //! Layouts that are kept from one description to the next.
-ghost use Rattle.std.specs.Prelude.{◌≡◌, ◌⊎◌, ◌*◌, ◌≤◌, Ok, Err, IfOk, IfErr, OnOk, OnErr, map, sum_by, option_map, option_copied};
+ghost use Rattle.std.specs.Prelude.{◌≡◌, ◌⊎◌, ◌*◌, ◌≤◌, ℕ, Bool, List, Ok, Err, IfOk, IfErr, OnOk, OnErr, map, sum_by, option_map, option_copied};
 ghost use Rattle.slab.specs.Slab.{get, SameValues};
 ghost use Rattle.rdl_tree.specs.Depth.{depth};
 ghost use Rattle.rdl_scope.specs.ItemFaults.{out_of_memory};
@@ -8,20 +8,21 @@ ghost use Rattle.rdl_elab.specs.Faults.{elaborated};
 ghost use Rattle.rdl_elab.specs.Stored.{IsStored, AreTaken};
 ghost use Rattle.std.specs.List.{AllZip};
 ghost use Rattle.std.specs.String.{string_bytes};
-ghost use Rattle.rdl_elab.specs.AllKept.{TakesOver, new_spans, has_layout};
+ghost use Rattle.rdl_elab.specs.MadeOf.{all_made};
+ghost use Rattle.rdl_elab.specs.AllKept.{TakesOver, new_spans, has_layout, all_instances, instances_at, AreFoundBut};
 
 use crate::elaborate::elaborate;
 use crate::finished::Finished;
-use crate::kept_names::{KeptName, names_of, stand_ins};
 use crate::laid_out::{Before, Taken};
 use crate::layout::{Layout, Mode};
 use crate::numbers::number;
 use crate::row::Rows;
+use crate::stand_ins::stand_ins;
 use crate::stored::Stored;
 use crate::walk::lay_out_all;
 use rdl_scope::types::own_component;
 use rdl_tree::address::Address;
-use rdl_tree::description::Description;
+use rdl_tree::description::{Body, Description};
 use rdl_tree::fault::{Fault, FaultKind};
 use rdl_tree::shell::Kind;
 use slab::Slab;
@@ -40,11 +41,11 @@ fn no_memory() -> Fault
 
 /// What is taken over of a finished component.
 fn take_over(finished: Finished) -> Taken
-    ensures layouts { result.layouts ≡ finished.entry.layouts }
+    ensures laid_out { result.laid_out ≡ finished.entry.laid_out }
     ensures key { result.key ≡ finished.entry.key }
 {
     Taken {
-        layouts: finished.layouts,
+        laid_out: finished.laid_out,
         key: finished.key,
     }
 }
@@ -94,83 +95,86 @@ fn has_layout(description: &Description, body: &Address) -> bool
     }
 }
 
+/// Lays out all components of this description instead of those that are stored, and takes over what stands under these
+/// keys where it was made of the same. The number of instances that were placed.
+fn lay_out(
+    alloc: Global,
+    stored: &mut Stored,
+    description: &Description,
+    keys: &[Option<usize>],
+) -> Result<u64, AllocError>
+    requires { depth description.now.items ≤ 16 }
+    ensures stored { OnOk result (IsStored stored.new.layouts stored.new.keys.items (all_made description.now.items)) }
+    ensures placed { IfOk result (λ placed. placed ≤ 3 * all_instances description.now.items) }
+    ensures few { IfOk result (λ placed. (marked : List ℕ → Bool) → AreFoundBut marked stored.old.layouts keys.now description.now.items → placed ≤ 3 * instances_at marked description.now.items) }
+    ensures layouts { OnErr result (SameValues stored.old.layouts stored.new.layouts) }
+    ensures keys { OnErr result (stored.new.keys ≡ stored.old.keys) }
+{
+    let before = Before {
+        layouts: &stored.layouts,
+        keys,
+    };
+    let components = lay_out_all(alloc, description, &before)?;
+    let placed = all_placed(components.as_slice());
+    let taken = all_taken(alloc, components)?;
+    stored.replace(alloc, taken)?;
+    Ok(placed)
+}
+
 /// The layouts of all components of a description, used or not, and how many instances were placed for them. A contract
 /// sees the record of specs/.
 #[derive(Debug, Drop)]
 pub struct Kept {
     stored: Stored,
-    names: Vec<KeptName>,
+    description: Description,
     top: Option<String>,
     placed: u64,
 }
 
 impl Model for Kept {
-    ghost use Rattle.std.specs.Prelude.{option_map};
+    ghost use Rattle.std.specs.Prelude.{map, option_map};
     ghost use Rattle.std.specs.String.{string_bytes};
     ghost use Rattle.rdl_elab.specs.AllKept.{KeptLayouts};
-    ghost use Rattle.rdl_elab.specs.Stored.{IsStored, layouts_under};
+    ghost use Rattle.rdl_elab.specs.MadeOf.{all_made, layouts_made};
+    ghost use Rattle.rdl_elab.specs.Stored.{IsStored, all_under};
 
     ghost Value = { KeptLayouts };
 
-    ghost view = { λ k. record { layouts = layouts_under k.stored.layouts k.stored.keys.items; top = option_map string_bytes k.top; placed = k.placed } };
+    ghost use Rattle.std.specs.Coded.{codes};
+    ghost use Rattle.rdl_tree.specs.Codes.{coded_items};
 
-    ghost invariant = { λ k. IsStored k.stored.layouts k.stored.keys.items (layouts_under k.stored.layouts k.stored.keys.items) };
+    ghost coded = { Prim.hlevel (codes, coded_items) };
+
+    ghost view = { λ k. record { layouts = map layouts_made (all_under k.stored.layouts k.stored.keys.items); description = k.description.items; top = option_map string_bytes k.top; placed = k.placed } };
+
+    ghost invariant = { λ k. IsStored k.stored.layouts k.stored.keys.items (all_made k.description.items) };
 }
 
 impl Kept {
-    ghost use Rattle.std.specs.Prelude.{◌≡◌, ◌≤◌, ◌*◌, ◌⊎◌, [], Ok, Err, IfOk, IfErr, OnOk, OnErr, option_copied};
+    ghost use Rattle.std.specs.Prelude.{◌≡◌, ◌≤◌, ◌*◌, ◌⊎◌, ℕ, Bool, List, Ok, Err, IfOk, IfErr, OnOk, OnErr, option_copied};
     ghost use Rattle.rdl_tree.specs.Depth.{depth};
     ghost use Rattle.rdl_scope.specs.ItemFaults.{out_of_memory};
     ghost use Rattle.rdl_elab.specs.Faults.{elaborated};
     ghost use Rattle.rdl_elab.specs.Written.{all_layouts};
-    ghost use Rattle.rdl_elab.specs.AllKept.{AreOf, layout_at, all_instances};
+    ghost use Rattle.rdl_elab.specs.AllKept.{AreOf, IsAsBeforeBut, layout_at, all_instances, instances_at};
 
-    fn empty(alloc: Global) -> Kept
-        ensures { result.layouts ≡ [] }
-    {
+    /// Nothing is kept.
+    fn empty(alloc: Global) -> Kept {
         Kept {
             stored: Stored {
                 layouts: Slab::new(alloc),
                 keys: Vec::new(alloc),
             },
-            names: Vec::new(alloc),
+            description: Description {
+                items: Body::new(alloc),
+            },
             top: None,
             placed: 0,
         }
     }
 
-    /// Lays out all components of this description, and takes over what stands under these keys where it was made of the
-    /// same.
-    fn lay_out(
-        &mut self,
-        alloc: Global,
-        description: &Description,
-        top: Option<&str>,
-        keys: &[Option<usize>],
-    ) -> Result<(), AllocError>
-        requires { depth description.now.items ≤ 16 }
-        ensures layouts { OnOk result (self.new.layouts ≡ all_layouts description.now.items) }
-        ensures top { OnOk result (self.new.top ≡ option_copied top.entry) }
-        ensures placed { OnOk result (self.new.placed ≤ 3 * all_instances description.now.items) }
-        ensures err { OnErr result (self.new ≡ self.old) }
-    {
-        let top = text_of(alloc, top)?;
-        let names = names_of(alloc, description)?;
-        let before = Before {
-            layouts: &self.stored.layouts,
-            keys,
-        };
-        let components = lay_out_all(alloc, description, &before)?;
-        let placed = all_placed(components.as_slice());
-        let taken = all_taken(alloc, components)?;
-        self.stored.replace(alloc, taken)?;
-        self.names = names;
-        self.top = top;
-        self.placed = placed;
-        Ok(())
-    }
-
-    /// The same, with the keys of those for which the components stand.
+    /// Lays out all components of this description, and takes over the layouts of those for which they stand where these
+    /// were made of the same.
     fn follow(
         &mut self,
         alloc: Global,
@@ -180,14 +184,21 @@ impl Kept {
     ) -> Result<(), AllocError>
         requires { depth description.now.items ≤ 16 }
         ensures layouts { OnOk result (self.new.layouts ≡ all_layouts description.now.items) }
+        ensures description { OnOk result (self.new.description ≡ description.now.items) }
         ensures top { OnOk result (self.new.top ≡ option_copied top.entry) }
         ensures placed { OnOk result (self.new.placed ≤ 3 * all_instances description.now.items) }
+        ensures few { OnOk result ((marked : List ℕ → Bool) → IsAsBeforeBut marked self.old.description bodies.now description.now.items → self.new.placed ≤ 3 * instances_at marked description.now.items) }
         ensures err { OnErr result (self.new ≡ self.old) }
     {
-        let names = self.names.as_slice();
+        let top = text_of(alloc, top)?;
+        let copy = description.try_copy(alloc)?;
         let keys = self.stored.keys.as_slice();
-        let keys = stand_ins(alloc, names, keys, description, bodies)?;
-        self.lay_out(alloc, description, top, keys.as_slice())
+        let keys = stand_ins(alloc, &self.description, keys, description, bodies)?;
+        let placed = lay_out(alloc, &mut self.stored, description, keys.as_slice())?;
+        self.description = copy;
+        self.top = top;
+        self.placed = placed;
+        Ok(())
     }
 
     /// Lays out all components of a description without a fault. Otherwise its first fault.
@@ -204,10 +215,10 @@ impl Kept {
         }
     }
 
-    /// Lays out this description instead, and places anew the instances of those components alone of which something has
-    /// changed that their layout is made of. In these bodies, and in those with another number of definitions and
-    /// instances, each of them stands for the kept one of its name, and in others for the one at its place. A component
-    /// that stands for another one than its own is laid out anew.
+    /// Lays out this description instead, and places anew the instances of those components alone that stand for no kept
+    /// one, or for one of which something has changed that its layout is made of. In these bodies, and in those with
+    /// another number of definitions and instances, each of them stands for the kept one of its name, and in others for
+    /// the one at its place.
     pub fn relay(
         &mut self,
         alloc: Global,
@@ -218,6 +229,7 @@ impl Kept {
         ensures layouts { OnOk result (AreOf description.now.items self.new) }
         ensures top { OnOk result (self.new.top ≡ option_copied top.entry) }
         ensures placed { OnOk result (self.new.placed ≤ 3 * all_instances description.now.items) }
+        ensures few { OnOk result ((marked : List ℕ → Bool) → IsAsBeforeBut marked self.old.description bodies.now description.now.items → self.new.placed ≤ 3 * instances_at marked description.now.items) }
         ensures refused { IfErr result (λ fault. (elaborated description.now.items (option_copied top.entry) ≡ Err fault) ⊎ (fault ≡ out_of_memory)) }
         ensures err { OnErr result (self.new ≡ self.old) }
     {

@@ -1,12 +1,14 @@
 //! The layouts of a component with what they were made of, so that they can stay where nothing of that changes.
-ghost use Rattle.std.specs.Prelude.{◌≡◌, true, map, Some, IfOk, IfSome};
+ghost use Rattle.std.specs.Prelude.{◌≡◌, map, length, Some, IfOk, IfSome, option_map};
+ghost use Rattle.std.specs.Option.{IsSome};
 ghost use Rattle.slab.specs.Slab.{get};
 ghost use Rattle.rdl_elab.specs.declared.layout.Mode.{Mode};
-ghost use Rattle.rdl_elab.specs.Layouts.{member, mode_inside, laid_out};
-ghost use Rattle.rdl_elab.specs.Capped.{capped_layout, IsAlignment};
+ghost use Rattle.rdl_elab.specs.declared.laid_out.Candidate.{Candidate};
+ghost use Rattle.rdl_elab.specs.Capped.{IsAlignment};
 ghost use Rattle.rdl_elab.specs.Finished.{under};
 ghost use Rattle.rdl_elab.specs.Inside.{kept_parts};
 ghost use Rattle.rdl_elab.specs.LaidOut.{member_under, shown_member};
+ghost use Rattle.rdl_elab.specs.Finishes.{kept_for};
 
 use crate::finished::{Finished, Layouts, Part};
 use crate::instances::{layouts, member};
@@ -52,52 +54,10 @@ fn each_members(
     Ok(members)
 }
 
-/// The layouts of a component, with its kind, its values and what they take of its instances. A contract sees the
-/// layouts.
-#[derive(Debug, Drop)]
-pub(crate) struct LaidOut {
-    kind: Kind,
-    values: LayoutValues,
-    members: Vec<EachMember>,
-    layouts: Layouts,
-}
-
-impl Model for LaidOut {
-    ghost use Rattle.std.specs.Prelude.{◌≡◌, map};
-    ghost use Rattle.rdl_elab.specs.declared.layout.Mode.{Mode};
-    ghost use Rattle.rdl_elab.specs.Kept.{Layouts};
-    ghost use Rattle.rdl_elab.specs.Layouts.{mode_inside, laid_out};
-    ghost use Rattle.rdl_elab.specs.Capped.{capped_layout};
-    ghost use Rattle.rdl_elab.specs.Finished.{under};
-    ghost use Rattle.rdl_elab.specs.LaidOut.{member_under};
-
-    ghost Value = { Layouts };
-
-    ghost view = { λ l. l.layouts };
-
-    ghost invariant = { λ l. (m : Mode) → let n = mode_inside l.kind l.values m in under m l.layouts ≡ capped_layout (laid_out l.kind l.values n (map (member_under n) l.members.items)) };
-}
-
-impl LaidOut {
-    ghost use Rattle.std.specs.Prelude.{◌≡◌, true, map};
-    ghost use Rattle.rdl_elab.specs.declared.layout.Mode.{Mode};
-    ghost use Rattle.rdl_elab.specs.Layouts.{mode_inside, laid_out};
-    ghost use Rattle.rdl_elab.specs.Capped.{capped_layout};
-    ghost use Rattle.rdl_elab.specs.Finished.{under};
-    ghost use Rattle.rdl_elab.specs.LaidOut.{member_under};
-
-    /// Whether they were made of these.
-    fn is_of(&self, kind: Kind, values: LayoutValues, members: &[EachMember]) -> bool
-        ensures { result ≡ true → (m : Mode) → let n = mode_inside kind values m in under m self.now ≡ capped_layout (laid_out kind values n (map (member_under n) members.now)) }
-    {
-        self.kind == kind && self.values == values && self.members.as_slice() == members
-    }
-}
-
 /// Layouts that several share. A contract sees the layouts.
 #[derive(Debug, Drop)]
 pub(crate) struct SharedLayouts {
-    laid_out: Rc<LaidOut>,
+    layouts: Rc<Layouts>,
 }
 
 impl Model for SharedLayouts {
@@ -105,7 +65,7 @@ impl Model for SharedLayouts {
 
     ghost Value = { Layouts };
 
-    ghost view = { λ s. s.laid_out.value };
+    ghost view = { λ s. s.layouts.value };
 }
 
 impl SharedLayouts {
@@ -115,11 +75,11 @@ impl SharedLayouts {
     ghost use Rattle.rdl_elab.specs.declared.layout.Mode.TheVariants.{Compact};
     ghost use Rattle.rdl_elab.specs.Finished.{under};
 
-    fn new(alloc: Global, laid_out: LaidOut) -> Result<SharedLayouts, AllocError>
-        ensures { IfOk result (λ shared. shared ≡ laid_out) }
+    fn new(alloc: Global, layouts: Layouts) -> Result<SharedLayouts, AllocError>
+        ensures { IfOk result (λ shared. shared ≡ layouts) }
     {
         Ok(SharedLayouts {
-            laid_out: Rc::new(alloc, laid_out)?,
+            layouts: Rc::new(alloc, layouts)?,
         })
     }
 
@@ -128,6 +88,99 @@ impl SharedLayouts {
         ensures { IfOk result (λ shared. shared ≡ self.now) }
     {
         Ok(SharedLayouts {
+            layouts: self.layouts.clone()?,
+        })
+    }
+
+    pub(crate) fn under(&self, mode: Mode) -> &Layout
+        ensures { result.now ≡ under mode self.now }
+    {
+        self.layouts.as_ref().under(mode)
+    }
+
+    /// How many instances were placed for them.
+    pub(crate) fn placed(&self) -> u64
+        ensures { result ≤ all_spans self.now }
+    {
+        self.layouts.as_ref().placed()
+    }
+
+    /// Whether it is known that the mode makes no difference.
+    pub(crate) fn is_same(&self) -> bool
+        ensures { result ≡ true → (m : Mode) → under m self.now ≡ under Compact self.now }
+    {
+        self.layouts.as_ref().is_same()
+    }
+}
+
+/// The layouts of a component, with its kind, its values and what they take of its instances. A contract sees what they
+/// are made of.
+#[derive(Debug, Drop)]
+struct LaidOut {
+    kind: Kind,
+    values: LayoutValues,
+    members: Vec<EachMember>,
+    layouts: SharedLayouts,
+}
+
+impl Model for LaidOut {
+    ghost use Rattle.std.specs.Prelude.{◌≡◌};
+    ghost use Rattle.rdl_elab.specs.declared.layout.Mode.{Mode};
+    ghost use Rattle.rdl_elab.specs.Finished.{under};
+    ghost use Rattle.rdl_elab.specs.Kept.{MadeOf};
+    ghost use Rattle.rdl_elab.specs.MadeOf.{layout_made};
+
+    ghost Value = { MadeOf };
+
+    ghost view = { λ l. record { kind = l.kind; values = l.values; members = l.members.items } };
+
+    ghost invariant = { λ l. (m : Mode) → under m l.layouts ≡ layout_made m (record { kind = l.kind; values = l.values; members = l.members.items }) };
+}
+
+impl LaidOut {
+    ghost use Rattle.std.specs.Prelude.{◌≡◌, ◌↔◌, true};
+
+    /// Whether they were made of these.
+    fn is_of(&self, kind: Kind, values: LayoutValues, members: &[EachMember]) -> bool
+        ensures { result ≡ true ↔ self.now ≡ record { kind = kind; values = values; members = members.now } }
+    {
+        self.kind == kind && self.values == values && self.members.as_slice() == members
+    }
+}
+
+/// Layouts with what they were made of, which several share. A contract sees what they are made of.
+#[derive(Debug, Drop)]
+pub(crate) struct SharedLaidOut {
+    laid_out: Rc<LaidOut>,
+}
+
+impl Model for SharedLaidOut {
+    ghost use Rattle.rdl_elab.specs.Kept.{MadeOf};
+
+    ghost Value = { MadeOf };
+
+    ghost view = { λ s. s.laid_out.value };
+}
+
+impl SharedLaidOut {
+    ghost use Rattle.std.specs.Prelude.{◌≡◌, IfOk};
+    ghost use Rattle.rdl_elab.specs.declared.layout.Mode.{Mode};
+    ghost use Rattle.rdl_elab.specs.Finished.{under};
+    ghost use Rattle.rdl_elab.specs.MadeOf.{layout_made};
+
+    fn new(alloc: Global, laid_out: LaidOut) -> Result<SharedLaidOut, AllocError>
+        ensures { IfOk result (λ shared. shared ≡ laid_out) }
+    {
+        Ok(SharedLaidOut {
+            laid_out: Rc::new(alloc, laid_out)?,
+        })
+    }
+
+    /// The same, for one more.
+    fn share(&self) -> Result<SharedLaidOut, AllocError>
+        ensures { IfOk result (λ shared. shared ≡ self.now) }
+    {
+        Ok(SharedLaidOut {
             laid_out: self.laid_out.clone()?,
         })
     }
@@ -138,31 +191,24 @@ impl SharedLayouts {
         self.laid_out.as_ref()
     }
 
+    /// Its layouts, for one more.
+    pub(crate) fn layouts(&self) -> Result<SharedLayouts, AllocError>
+        ensures { IfOk result (λ layouts. (m : Mode) → under m layouts ≡ layout_made m self.now) }
+    {
+        self.laid_out.as_ref().layouts.share()
+    }
+
     pub(crate) fn under(&self, mode: Mode) -> &Layout
-        ensures { result.now ≡ under mode self.now }
+        ensures { result.now ≡ layout_made mode self.now }
     {
         self.laid_out.as_ref().layouts.under(mode)
-    }
-
-    /// How many instances were placed for them.
-    pub(crate) fn placed(&self) -> u64
-        ensures { result ≤ all_spans self.now }
-    {
-        self.laid_out.as_ref().layouts.placed()
-    }
-
-    /// Whether it is known that the mode makes no difference.
-    pub(crate) fn is_same(&self) -> bool
-        ensures { result ≡ true → (m : Mode) → under m self.now ≡ under Compact self.now }
-    {
-        self.laid_out.as_ref().layouts.is_same()
     }
 }
 
 /// Layouts that are kept, and for each component, by its number, the key of those that may be its own.
 #[derive(Clone, Copy)]
 pub(crate) struct Before<'a> {
-    pub layouts: &'a Slab<SharedLayouts>,
+    pub layouts: &'a Slab<SharedLaidOut>,
     pub keys: &'a [Option<usize>],
 }
 
@@ -170,23 +216,49 @@ pub(crate) struct Before<'a> {
 #[derive(Clone, Copy)]
 struct Candidate<'a> {
     key: usize,
-    layouts: &'a SharedLayouts,
+    laid_out: &'a SharedLaidOut,
 }
 
 /// The layouts that are kept for the component of this number, if there are any.
 fn candidate_for<'a>(before: &Before<'a>, number: usize) -> Option<Candidate<'a>>
-    ensures { IfSome result (λ c. get before.now.layouts.now c.key ≡ Some c.layouts.now) }
+    ensures key { IfSome result (λ c. get before.now.layouts.now c.key ≡ Some c.laid_out.now) }
+    ensures is { option_map (λ (c : Candidate). c.laid_out.now) result ≡ kept_for before.now number }
 {
     let key = (*before.keys.get(number)?)?;
-    let layouts = before.layouts.get(key)?;
-    Some(Candidate { key, layouts })
+    let laid_out = before.layouts.get(key)?;
+    Some(Candidate { key, laid_out })
 }
 
-/// The layouts of a component, and their key if they were kept before.
+/// The layouts of a component with what they were made of, and their key if they were kept before.
 #[derive(Debug, Drop)]
 pub(crate) struct Taken {
-    pub layouts: SharedLayouts,
+    pub laid_out: SharedLaidOut,
     pub key: Option<usize>,
+}
+
+/// Those that are kept for the component of this number, if they were made of these.
+fn take_kept(
+    before: &Before,
+    number: usize,
+    kind: Kind,
+    values: LayoutValues,
+    members: &[EachMember],
+) -> Result<Option<Taken>, AllocError>
+    ensures made { IfOk result (λ taken. IfSome taken (λ t. t.laid_out ≡ record { kind = kind; values = values; members = members.now })) }
+    ensures kept { IfOk result (λ taken. IfSome taken (λ t. IfSome t.key (λ k. get before.now.layouts.now k ≡ Some t.laid_out))) }
+    ensures key { IfOk result (λ taken. IfSome taken (λ t. IsSome t.key)) }
+    ensures taken { IfOk result (λ taken. kept_for before.now number ≡ Some (record { kind = kind; values = values; members = members.now }) → IsSome taken) }
+{
+    let Some(kept) = candidate_for(before, number) else {
+        return Ok(None);
+    };
+    if !kept.laid_out.as_laid_out().is_of(kind, values, members) {
+        return Ok(None);
+    }
+    Ok(Some(Taken {
+        laid_out: kept.laid_out.share()?,
+        key: Some(kept.key),
+    }))
 }
 
 /// New layouts of a component of this kind with these values and these instances.
@@ -197,19 +269,19 @@ fn new_layouts(
     members: Vec<EachMember>,
     parts: &[Part],
     components: &[Finished],
-) -> Result<SharedLayouts, AllocError>
+) -> Result<SharedLaidOut, AllocError>
     requires alignment { IsAlignment values.alignment }
     requires members { (m : Mode) → map (member_under m) members.items ≡ map shown_member (kept_parts m components.now parts.now) }
-    ensures { IfOk result (λ ls. (m : Mode) → let n = mode_inside kind values m in under m ls ≡ capped_layout (laid_out kind values n (map member (kept_parts n components.now parts.now)))) }
+    ensures { IfOk result (λ new. new ≡ record { kind = kind; values = values; members = members.items }) }
 {
     let layouts = layouts(alloc, kind, values, parts, components)?;
     let laid_out = LaidOut {
         kind,
         values,
         members,
-        layouts,
+        layouts: SharedLayouts::new(alloc, layouts)?,
     };
-    SharedLayouts::new(alloc, laid_out)
+    SharedLaidOut::new(alloc, laid_out)
 }
 
 /// The layouts of a component of this kind with these values and these instances: those that are kept for its number, if
@@ -223,22 +295,20 @@ pub(crate) fn take_layouts(
     before: &Before,
 ) -> Result<Taken, AllocError>
     requires { IsAlignment values.alignment }
-    ensures layouts { IfOk result (λ t. (m : Mode) → let n = mode_inside kind values m in under m t.layouts ≡ capped_layout (laid_out kind values n (map member (kept_parts n components.now parts.now)))) }
-    ensures kept { IfOk result (λ t. IfSome t.key (λ k. get before.now.layouts.now k ≡ Some t.layouts)) }
+    ensures kind { IfOk result (λ t. t.laid_out.kind ≡ kind) }
+    ensures values { IfOk result (λ t. t.laid_out.values ≡ values) }
+    ensures members { IfOk result (λ t. (m : Mode) → map (member_under m) t.laid_out.members ≡ map shown_member (kept_parts m components.now parts.now)) }
+    ensures kept { IfOk result (λ t. IfSome t.key (λ k. get before.now.layouts.now k ≡ Some t.laid_out)) }
+    ensures taken { IfOk result (λ t. kept_for before.now (length components.now) ≡ Some t.laid_out → IsSome t.key) }
 {
     let members = each_members(alloc, parts, components)?;
-    if let Some(kept) = candidate_for(before, components.len()) {
-        if kept
-            .layouts
-            .as_laid_out()
-            .is_of(kind, values, members.as_slice())
-        {
-            return Ok(Taken {
-                layouts: kept.layouts.share()?,
-                key: Some(kept.key),
-            });
-        }
+    let number = components.len();
+    if let Some(taken) = take_kept(before, number, kind, values, members.as_slice())? {
+        return Ok(taken);
     }
-    let layouts = new_layouts(alloc, kind, values, members, parts, components)?;
-    Ok(Taken { layouts, key: None })
+    let laid_out = new_layouts(alloc, kind, values, members, parts, components)?;
+    Ok(Taken {
+        laid_out,
+        key: None,
+    })
 }

@@ -1,5 +1,5 @@
 //! What the definitions have in common. Each function here is a law: it does nothing when it runs.
-ghost use Rattle.std.specs.Prelude.{◌≡◌, ◌++◌, ◌∷◌, [], ℕ, List, map, Option, Some, None, true};
+ghost use Rattle.std.specs.Prelude.{◌≡◌, ◌++◌, ◌∷◌, [], ℕ, List, map, Option, Some, None, true, false};
 ghost use Rattle.rdl_tree.specs.Items.{Items};
 ghost use Rattle.rdl_tree.specs.declared.shell.Kind.{Kind};
 ghost use Rattle.rdl_tree.specs.declared.shell.Shell.{Shell};
@@ -25,6 +25,7 @@ ghost use Rattle.rdl_elab.specs.Shown.{shown_values};
 ghost use Rattle.rdl_elab.specs.Reaches.{reaches, reaches_at, behind, along, reached, values_along};
 ghost use Rattle.rdl_elab.specs.Found.{ArePartsFound};
 ghost use Rattle.rdl_elab.specs.Faults.{overlap, SharesANumber};
+ghost use Rattle.rdl_elab.specs.AllKept.{IsAsBeforeBut, instances_at};
 
 /// An instance without `@` begins at the least number that is at least the end of the instance before it and a multiple
 /// of each of its alignments; and an array in fullalign is aligned by the least power of two that holds it.
@@ -79,4 +80,11 @@ pub fn values_are_along()
     ensures row { (d : Items) (path : List (List ℕ)) (at : List ℕ) (s : Shell) (o : Of) (h : Head) (inside : Parts) → item at d ≡ Some (Instance s o) → component d h.at ≡ Some (record { head = h; parts = inside }) → values_along h.kind s.reset (along d [] (path ++ at ∷ [])) (shown_values h) ≡ row_values d (path ++ at ∷ []) h }
     ensures alone { (h : Head) → values_along h.kind None [] (shown_values h) ≡ shown_values h }
     ensures top { (d : Items) (a : List ℕ) (c : Made) → component d a ≡ Some c → shown_values c.head ≡ row_values d [] c.head }
+{}
+
+/// Where nothing has changed, every component is as before, whichever bodies are named. So to lay out the same description
+/// again places nothing.
+pub fn unchanged_is_as_before()
+    ensures before { (d : Items) (bodies : List (List ℕ)) → IsAsBeforeBut (λ a. false) d bodies d }
+    ensures none { (d : Items) → instances_at (λ a. false) d ≡ 0 }
 {}

@@ -1,5 +1,6 @@
 //! Layouts of components.
 
+use rdl_text::token::Number;
 use std::marker::Model;
 
 /// How the instances of an address map are aligned.
@@ -77,24 +78,24 @@ pub struct Placement {
     pub size: u64,
     /// The widest access to a register inside, in bytes.
     pub access: u64,
-    pub elements: u64,
+    pub elements: Number,
     /// Whether the instance has dims, be it `[1]`.
     pub is_array: bool,
     /// The number behind `@`.
-    pub address: Option<u64>,
+    pub address: Option<Number>,
     /// The number behind `+=`.
-    pub stride: Option<u64>,
+    pub stride: Option<Number>,
     /// The number behind `%=`.
-    pub align: Option<u64>,
+    pub align: Option<Number>,
 }
 
 /// What the bits of a field in its register depend on.
 #[derive(Clone, Copy, Debug, PartialEq, Eq)]
 pub struct FieldBits {
     /// How many bits it has where it has no range.
-    pub width: u64,
+    pub width: Number,
     /// Its `[high:low]`, the high bit first.
-    pub range: Option<(u64, u64)>,
+    pub range: Option<(Number, Number)>,
 }
 
 /// What the layout of a component takes of one of its instances: of a register file, address map or register the
@@ -110,9 +111,9 @@ pub struct Member {
 pub struct LayoutValues {
     /// How the instances of an address map are aligned.
     pub addressing: Mode,
-    pub alignment: Option<u64>,
+    pub alignment: Option<Number>,
     /// In bits, as the next two.
     pub regwidth: u64,
     pub accesswidth: u64,
-    pub fieldwidth: u64,
+    pub fieldwidth: Number,
 }

@@ -32,7 +32,7 @@ fn item_components(item: &Item) -> usize
 }
 
 /// How many are written in these items.
-fn components_in(items: &[Item]) -> usize
+pub(crate) fn components_in(items: &[Item]) -> usize
     ensures { result ≡ capped (components (items_of items.now)) }
 {
     let mut sum = 0usize;

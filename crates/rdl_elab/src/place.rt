@@ -6,15 +6,16 @@ ghost use Rattle.rdl_elab.specs.Layouts.{container};
 ghost use Rattle.rdl_elab.specs.Capped.{capped, capped_layout, IsAlignment};
 
 use crate::layout::{Layout, Mode, Placement, Span, Spans};
-use crate::round::{LIMIT, next_multiple};
+use crate::round::{LIMIT, capped, next_multiple};
+use rdl_text::token::Number;
 use std::alloc::{AllocError, Global};
 
 #[tactic(auto, using(crate::proofs::CappedNumbers::caps))]
-fn full_alignment(is_array: bool, elements: u64, size: u64) -> u64
+fn full_alignment(is_array: bool, elements: Number, size: u64) -> u64
     ensures { result ≡ capped (full_alignment is_array elements size) }
 {
     if is_array {
-        let whole = size.saturating_mul(elements).min(LIMIT);
+        let whole = capped(Number::from(size).saturating_mul(elements));
         whole.next_power_of_two().min(LIMIT)
     } else {
         size.min(LIMIT)
@@ -34,15 +35,15 @@ fn mode_alignment(mode: Mode, item: Placement) -> u64
 
 /// The start of an instance, in a component with this `alignment`, where the instance before it ends here.
 #[tactic(auto, using(crate::proofs::CappedNumbers::caps))]
-fn start_of(alignment: Option<u64>, mode: Mode, end: u64, item: Placement) -> u64
+fn start_of(alignment: Option<Number>, mode: Mode, end: u64, item: Placement) -> u64
     requires alignment { IsAlignment alignment }
     requires end { end ≤ 2 ^ 40 + 1 }
     ensures { result ≡ capped (start_of alignment mode end item) }
 {
     match item.address {
-        Some(address) => address.min(LIMIT),
+        Some(address) => capped(address),
         None => match item.align {
-            Some(align) => next_multiple(end, align.max(1).min(LIMIT), 1),
+            Some(align) => next_multiple(end, capped(align.max(1)), 1),
             None => {
                 let around = alignment.unwrap_or(1);
                 next_multiple(end, mode_alignment(mode, item).max(1), around)
@@ -55,12 +56,11 @@ fn start_of(alignment: Option<u64>, mode: Mode, end: u64, item: Placement) -> u6
 fn end_of(start: u64, item: Placement) -> u64
     ensures { result ≡ capped (end_of start item) }
 {
-    let stride = item.stride.unwrap_or(item.size);
+    let size = Number::from(item.size);
+    let stride = item.stride.unwrap_or(size);
     let before = item.elements.saturating_sub(1).saturating_mul(stride);
-    start
-        .saturating_add(before)
-        .saturating_add(item.size)
-        .min(LIMIT)
+    let last = Number::from(start).saturating_add(before);
+    capped(last.saturating_add(size))
 }
 
 /// An address map or a register file with these instances in it, one after the other. Numbers over 2^40 are kept as
@@ -68,7 +68,7 @@ fn end_of(start: u64, item: Placement) -> u64
 #[tactic(auto, using(crate::proofs::Placing::placings))]
 pub fn place(
     alloc: Global,
-    alignment: Option<u64>,
+    alignment: Option<Number>,
     mode: Mode,
     items: &[Placement],
 ) -> Result<Layout, AllocError>

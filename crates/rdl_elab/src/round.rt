@@ -4,12 +4,21 @@ ghost use Rattle.std.specs.Int.{IsPowerOfTwo};
 ghost use Rattle.rdl_elab.specs.Rounding.{IsStep, next_multiple};
 ghost use Rattle.rdl_elab.specs.Capped.{capped};
 
+use rdl_text::token::Number;
+
 /// One more than the greatest size that matters.
 pub const LIMIT: u64 = 1_099_511_627_777;
 
+/// The number, or the limit where it is over that.
+pub(crate) fn capped(number: Number) -> u64
+    ensures { result ≡ capped number }
+{
+    number.min(Number::from(LIMIT)) as u64
+}
+
 #[tactic(auto, using(crate::proofs::Rounding::rounds))]
 /// A number of which each common multiple is a multiple, and which is one itself or beyond the limit.
-fn common_step(first: u64, second: u64) -> u64
+fn common_step(first: u64, second: Number) -> u64
     requires first { 0 < first }
     requires small { first ≤ 2 ^ 40 + 1 }
     requires positive { 0 < second }
@@ -20,7 +29,7 @@ fn common_step(first: u64, second: u64) -> u64
 {
     let mut step = first;
     while step < LIMIT {
-        if step % second == 0 {
+        if Number::from(step) % second == 0 {
             return step;
         }
         step += step;
@@ -30,7 +39,7 @@ fn common_step(first: u64, second: u64) -> u64
 
 #[tactic(auto, using(crate::proofs::Rounding::rounds))]
 /// The least number at or above `end` that is a multiple of both.
-pub fn next_multiple(end: u64, first: u64, second: u64) -> u64
+pub fn next_multiple(end: u64, first: u64, second: Number) -> u64
     requires end { end ≤ 2 ^ 40 + 1 }
     requires first { 0 < first }
     requires small { first ≤ 2 ^ 40 + 1 }

@@ -4,6 +4,7 @@ ghost use Rattle.std.specs.Prelude.{◌≡◌, length, slice_get, option_copied}
 use crate::layout::Span;
 use crate::row_values::RowValues;
 use rdl_text::name::Name;
+use rdl_text::token::Number;
 use rdl_tree::dims::Dims;
 use rdl_tree::property::Property;
 use rdl_tree::shell::Kind;
@@ -75,7 +76,7 @@ pub struct Extent {
     /// The sizes of an array, the outermost first; none for a single instance.
     pub dims: Dims,
     /// The distance of the elements, in bytes.
-    pub stride: u64,
+    pub stride: Number,
 }
 
 /// Where a row lies.

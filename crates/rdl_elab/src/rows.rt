@@ -16,6 +16,7 @@ use crate::row_values::{ComponentValues, RowValues};
 use crate::siblings::{Sibling, Siblings, as_sibling, is_reset_too_wide};
 use crate::values::row_values;
 use rdl_text::name::Name;
+use rdl_text::token::Number;
 use rdl_tree::address::Address;
 use rdl_tree::fault::{Fault, FaultKind};
 use rdl_tree::property::Property;
@@ -63,7 +64,7 @@ fn extent(alloc: Global, shell: &Shell, span: Span, size: u64) -> Result<Extent,
         offset: span.start,
         size,
         dims: shell.dims.try_copy(alloc)?,
-        stride: shell.stride.unwrap_or(size),
+        stride: shell.stride.unwrap_or(Number::from(size)),
     })
 }
 
@@ -98,7 +99,7 @@ fn longer(alloc: Global, names: &[Name], name: &Name) -> Result<Rc<Vec<Name>>, A
 fn values(
     alloc: Global,
     kind: Kind,
-    reset: Option<u64>,
+    reset: Option<Number>,
     reaching: &[Assignment],
     own: &ComponentValues,
 ) -> Result<RowValues, AllocError>
@@ -159,6 +160,7 @@ fn row(
 fn is_stride_too_small(shell: &Shell, size: u64) -> bool
     ensures { result ≡ nat_lt (unwrap_or shell.now.stride size) size }
 {
+    let size = Number::from(size);
     shell.stride.unwrap_or(size) < size
 }
 

@@ -6,6 +6,7 @@ ghost use Rattle.rdl_elab.specs.SiblingRanges.{AreApart, AreRanges, AreRangesIfK
 ghost use Rattle.rdl_elab.specs.declared.siblings.Sibling.{Sibling};
 
 use crate::layout::Span;
+use rdl_text::token::Number;
 use rdl_tree::value::{Value, Word};
 use std::alloc::{AllocError, Global};
 use std::collections::BTreeMap;
@@ -208,10 +209,10 @@ pub fn may_share(first: Option<&Value>, second: Option<&Value>) -> bool
 
 /// Whether the number has more bits than this.
 #[tactic(auto, using(crate::proofs::WideNumbers::within_word))]
-fn is_wider(number: u64, width: u64) -> bool
+fn is_wider(number: Number, width: u64) -> bool
     ensures { result ≡ nat_le (2 ^ width) number }
 {
-    if width >= 64 {
+    if width >= 128 {
         return false;
     }
     1 << width <= number
@@ -229,7 +230,7 @@ pub(crate) fn as_sibling(span: Span, access: Option<&Value>) -> Sibling
 }
 
 /// Whether a field's reset has more bits than the field.
-pub fn is_reset_too_wide(reset: Option<u64>, bits: Span) -> bool
+pub fn is_reset_too_wide(reset: Option<Number>, bits: Span) -> bool
     ensures { result ≡ is_reset_too_wide reset bits }
 {
     match reset {

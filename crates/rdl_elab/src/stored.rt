@@ -4,7 +4,7 @@ ghost use Rattle.std.specs.Vec.{vec_capacity, vec_len};
 ghost use Rattle.slab.specs.Slab.{get, HasRoomFor, SameValues};
 ghost use Rattle.rdl_elab.specs.Stored.{IsStored, IsTaken, AreTaken, Stays};
 
-use crate::laid_out::{SharedLayouts, Taken};
+use crate::laid_out::{SharedLaidOut, Taken};
 use crate::layout::{Layout, Mode};
 use slab::Slab;
 use std::alloc::{AllocError, Global};
@@ -12,7 +12,7 @@ use std::alloc::{AllocError, Global};
 /// Layouts under keys, and the keys of the layouts of all components in their order.
 #[derive(Debug, Drop)]
 pub(crate) struct Stored {
-    pub layouts: Slab<SharedLayouts>,
+    pub layouts: Slab<SharedLaidOut>,
     pub keys: Vec<usize>,
 }
 
@@ -33,7 +33,7 @@ fn used_keys(alloc: Global, len: usize, taken: &[Taken]) -> Result<Vec<bool>, Al
 }
 
 /// Removes what stands under the key, if the key isn't marked.
-fn remove_unmarked(layouts: &mut Slab<SharedLayouts>, key: usize, marks: &[bool])
+fn remove_unmarked(layouts: &mut Slab<SharedLaidOut>, key: usize, marks: &[bool])
     ensures kept { (k : ℕ) → slice_get marks.now k ≡ Some true → get layouts.new k ≡ get layouts.old k }
     ensures room { (more : ℕ) → HasRoomFor layouts.old more → HasRoomFor layouts.new more }
 {
@@ -46,7 +46,7 @@ fn remove_unmarked(layouts: &mut Slab<SharedLayouts>, key: usize, marks: &[bool]
 }
 
 /// Removes what stands under those of the keys that aren't marked.
-fn remove_unused(layouts: &mut Slab<SharedLayouts>, keys: &[usize], marks: &[bool])
+fn remove_unused(layouts: &mut Slab<SharedLaidOut>, keys: &[usize], marks: &[bool])
     ensures kept { (k : ℕ) → slice_get marks.now k ≡ Some true → get layouts.new k ≡ get layouts.old k }
     ensures room { (more : ℕ) → HasRoomFor layouts.old more → HasRoomFor layouts.new more }
 {
@@ -56,27 +56,27 @@ fn remove_unused(layouts: &mut Slab<SharedLayouts>, keys: &[usize], marks: &[boo
 }
 
 /// Puts it in where it wasn't kept before, and answers its key.
-fn put(layouts: &mut Slab<SharedLayouts>, one: Taken) -> usize
+fn put(layouts: &mut Slab<SharedLaidOut>, one: Taken) -> usize
     requires room { HasRoomFor layouts.old 1 }
     requires kept { IsTaken layouts.old one }
-    ensures put { get layouts.new result ≡ Some one.layouts }
+    ensures put { get layouts.new result ≡ Some one.laid_out }
     ensures others { Stays layouts.old layouts.new }
     ensures room { (more : ℕ) → HasRoomFor layouts.old (more + 1) → HasRoomFor layouts.new more }
 {
     match one.key {
         Some(key) => key,
-        None => layouts.insert_reserved(one.layouts),
+        None => layouts.insert_reserved(one.laid_out),
     }
 }
 
 /// Puts in what wasn't kept before, and answers the keys of all.
-fn put_all(layouts: &mut Slab<SharedLayouts>, taken: Vec<Taken>, keys: &mut Vec<usize>)
+fn put_all(layouts: &mut Slab<SharedLaidOut>, taken: Vec<Taken>, keys: &mut Vec<usize>)
     requires room { HasRoomFor layouts.old (length taken.items) }
     requires keys { length taken.items ≤ vec_capacity keys.old }
     requires empty { keys.old.items ≡ [] }
     requires count { vec_len taken ≡ length taken.items }
     requires kept { AreTaken layouts.old taken.items }
-    ensures { map (get layouts.new) keys.new.items ≡ map (λ t. Some t.layouts) taken.items }
+    ensures { map (get layouts.new) keys.new.items ≡ map (λ t. Some t.laid_out) taken.items }
 {
     for one in taken {
         let key = put(layouts, one);
@@ -86,8 +86,8 @@ fn put_all(layouts: &mut Slab<SharedLayouts>, taken: Vec<Taken>, keys: &mut Vec<
 
 impl Stored {
     ghost use Rattle.std.specs.Prelude.{◌≡◌, List, map, length, slice_get, option_copied, option_map, option_and_then, Some, OnOk, OnErr};
-    ghost use Rattle.rdl_elab.specs.Finished.{under};
-    ghost use Rattle.rdl_elab.specs.Kept.{Layouts};
+    ghost use Rattle.rdl_elab.specs.Kept.{MadeOf};
+    ghost use Rattle.rdl_elab.specs.MadeOf.{layout_made};
     ghost use Rattle.slab.specs.Slab.{get, SameValues};
     ghost use Rattle.rdl_elab.specs.Stored.{IsStored, IsTaken, AreTaken, Stays};
 
@@ -98,7 +98,7 @@ impl Stored {
         self.keys.as_slice().len()
     }
 
-    fn get(&self, number: usize) -> Option<&SharedLayouts>
+    fn get(&self, number: usize) -> Option<&SharedLaidOut>
         ensures { option_copied result ≡ option_and_then (get self.now.layouts) (slice_get self.now.keys.items number) }
     {
         match self.keys.get(number) {
@@ -109,10 +109,10 @@ impl Stored {
 
     /// The layout of the component of this number.
     pub(crate) fn layout(&self, number: usize, mode: Mode) -> Option<&Layout>
-        ensures { (all : List Layouts) → IsStored self.now.layouts self.now.keys.items all → option_copied result ≡ option_map (under mode) (slice_get all number) }
+        ensures { (all : List MadeOf) → IsStored self.now.layouts self.now.keys.items all → option_copied result ≡ option_map (layout_made mode) (slice_get all number) }
     {
         match self.get(number) {
-            Some(layouts) => Some(layouts.under(mode)),
+            Some(laid_out) => Some(laid_out.under(mode)),
             None => None,
         }
     }
@@ -120,7 +120,7 @@ impl Stored {
     /// Keeps these instead. What stood under keys that none of them has is removed, and its keys are used again.
     pub(crate) fn replace(&mut self, alloc: Global, taken: Vec<Taken>) -> Result<(), AllocError>
         requires { AreTaken self.old.layouts taken.items }
-        ensures ok { OnOk result (IsStored self.new.layouts self.new.keys.items (map (λ t. t.layouts) taken.items)) }
+        ensures ok { OnOk result (IsStored self.new.layouts self.new.keys.items (map (λ t. t.laid_out) taken.items)) }
         ensures layouts { OnErr result (SameValues self.old.layouts self.new.layouts) }
         ensures keys { OnErr result (self.new.keys ≡ self.old.keys) }
     {

@@ -63,11 +63,11 @@ fn power_in(number: Option<Number>) -> Option<Number>
     }
 }
 
-fn width_in(number: Option<Number>) -> Number
+fn width_in(number: Option<Number>) -> u64
     ensures { result ≡ width_in number }
 {
     match number {
-        Some(n) if Form::Widths.has(&Value::Number(n)) => n,
+        Some(n) if Form::Widths.has(&Value::Number(n)) => n as u64,
         _ => 0,
     }
 }

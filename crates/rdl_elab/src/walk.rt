@@ -1,14 +1,15 @@
 //! The walk that lays out components, once for all their instances.
 ghost use Rattle.std.specs.Prelude.{◌≡◌, ℕ, ◌∷◌, ◌++◌, ◌+◌, ◌≤◌, [], length, Some, IfOk, IfSome};
-ghost use Rattle.std.specs.Option.{is_some};
-ghost use Rattle.std.specs.List.{AllZip};
+ghost use Rattle.std.specs.Option.{is_some, IsSome};
 ghost use Rattle.rdl_tree.specs.Depth.{depth};
 ghost use Rattle.rdl_tree.specs.declared.description.Item.TheVariants.{Instance};
 ghost use Rattle.rdl_tree.specs.View.{items_of};
 ghost use Rattle.rdl_scope.specs.Closed.{Made, Parts, Standing, component, head_at, lookup, nothing, parts, standing};
 ghost use Rattle.rdl_elab.specs.Finished.{IsFinished, IsKept, AreParts};
 ghost use Rattle.slab.specs.Slab.{get};
-ghost use Rattle.rdl_elab.specs.Written.{written, item_written, all_written, Finishes, IsLaidOut};
+ghost use Rattle.rdl_elab.specs.Written.{written, item_written, all_written};
+ghost use Rattle.rdl_elab.specs.MadeOf.{made_of};
+ghost use Rattle.rdl_elab.specs.Finishes.{kept_for, AreLaidOut, Finishes};
 ghost use Rattle.rdl_elab.specs.Stands.{made_at, after_item, item_parts, in_list, placed, LeadsTo, Stands, Grows, IsBehind};
 
 use crate::built_ins::BuiltIns;
@@ -64,7 +65,9 @@ fn finished<'a>(
     requires { depth description.now.items ≤ 16 }
     ensures kept { IfOk result (λ f. (e : Standing) (inside : Parts) (n : ℕ) → walk.now.defaults ≡ e.defaults → AreParts description.now.items walk.now.components.items n parts.entry.items inside → IsKept description.now.items f (record { head = head_at at.now component.now.kind component.now.body e; parts = inside })) }
     ensures parts { IfOk result (λ f. f.parts ≡ parts.entry) }
-    ensures before { IfOk result (λ f. IfSome f.key (λ k. get before.now.layouts.now k ≡ Some f.layouts)) }
+    ensures made { IfOk result (λ f. (e : Standing) (inside : Parts) (n : ℕ) → walk.now.defaults ≡ e.defaults → AreParts description.now.items walk.now.components.items n parts.entry.items inside → f.laid_out ≡ made_of (record { head = head_at at.now component.now.kind component.now.body e; parts = inside })) }
+    ensures before { IfOk result (λ f. IfSome f.key (λ k. get before.now.layouts.now k ≡ Some f.laid_out)) }
+    ensures taken { IfOk result (λ f. kept_for before.now (length walk.now.components.items) ≡ Some f.laid_out → IsSome f.key) }
 {
     let kind = component.kind;
     let body = &component.body;
@@ -73,13 +76,15 @@ fn finished<'a>(
     let shown = shown_values(alloc, kind, body, &walk.defaults, &walk.built_ins)?;
     let assignments = assignments(alloc, description, at, body)?;
     let taken = take_layouts(alloc, kind, values, parts.as_slice(), components, before)?;
+    let layouts = taken.laid_out.layouts()?;
     let first_empty = first_empty(alloc, parts.as_slice(), components)?;
     Ok(Finished {
         kind,
         values,
         shown,
         assignments,
-        layouts: taken.layouts,
+        layouts,
+        laid_out: taken.laid_out,
         key: taken.key,
         levels: levels(parts.as_slice(), components),
         rows: rows(parts.as_slice(), components),
@@ -105,7 +110,7 @@ fn finish<'a>(
     ensures types { IfOk result (λ k. walk.new.types ≡ walk.old.types) }
     ensures defaults { IfOk result (λ k. walk.new.defaults ≡ walk.old.defaults) }
     ensures components { IfOk result (λ k. Grows walk.old.components.items walk.new.components.items) }
-    ensures finishes { IfOk result (λ k. (e : Standing) → Stands description.now.items walk.old e → Finishes before.now.layouts.now walk.old.components.items walk.new.components.items (written e at.now 0 component.now.body ++ made_at e at.now component.now ∷ [])) }
+    ensures finishes { IfOk result (λ k. (e : Standing) → Stands description.now.items walk.old e → Finishes before.now walk.old.components.items walk.new.components.items (written e at.now 0 component.now.body ++ made_at e at.now component.now ∷ [])) }
 {
     let types = walk.types.len();
     let defaults = walk.defaults.len();
@@ -152,7 +157,7 @@ fn walk_instance<'a>(
     ensures part { IfOk result (λ f. (e : Standing) → Stands description.now.items walk.old e → AreParts description.now.items walk.new.components.items (length walk.new.components.items) (in_list (placed (at.now ++ number ∷ []) f)) (item_parts e (at.now ++ number ∷ []) (Instance shell.now of.now))) }
     ensures stands { IfOk result (λ f. (e : Standing) → Stands description.now.items walk.old e → Stands description.now.items walk.new e) }
     ensures behind { IfOk result (λ f. IsBehind walk.old walk.new) }
-    ensures finishes { IfOk result (λ f. (e : Standing) → Stands description.now.items walk.old e → Finishes before.now.layouts.now walk.old.components.items walk.new.components.items (item_written e (at.now ++ number ∷ []) (Instance shell.now of.now))) }
+    ensures finishes { IfOk result (λ f. (e : Standing) → Stands description.now.items walk.old e → Finishes before.now walk.old.components.items walk.new.components.items (item_written e (at.now ++ number ∷ []) (Instance shell.now of.now))) }
 {
     match of {
         Of::Anonymous(component) => {
@@ -187,7 +192,7 @@ fn walk_item<'a>(
     ensures part { IfOk result (λ f. (e : Standing) → Stands description.now.items walk.old e → AreParts description.now.items walk.new.components.items (length walk.new.components.items) (in_list (placed (at.now ++ number ∷ []) f)) (item_parts e (at.now ++ number ∷ []) item.now)) }
     ensures stands { IfOk result (λ f. (e : Standing) → Stands description.now.items walk.old e → Stands description.now.items walk.new (after_item (at.now ++ number ∷ []) item.now e)) }
     ensures behind { IfOk result (λ f. IsBehind walk.old walk.new) }
-    ensures finishes { IfOk result (λ f. (e : Standing) → Stands description.now.items walk.old e → Finishes before.now.layouts.now walk.old.components.items walk.new.components.items (item_written e (at.now ++ number ∷ []) item.now)) }
+    ensures finishes { IfOk result (λ f. (e : Standing) → Stands description.now.items walk.old e → Finishes before.now walk.old.components.items walk.new.components.items (item_written e (at.now ++ number ∷ []) item.now)) }
 {
     match item {
         Item::Define(name, component) => {
@@ -230,7 +235,7 @@ fn walk_items<'a>(
     ensures parts { IfOk result (λ ps. (e : Standing) → Stands description.now.items walk.old e → AreParts description.now.items walk.new.components.items (length walk.new.components.items) ps.items (parts e at.now 0 (items_of items.now))) }
     ensures stands { IfOk result (λ ps. (e : Standing) → Stands description.now.items walk.old e → Stands description.now.items walk.new (standing e at.now 0 (items_of items.now))) }
     ensures behind { IfOk result (λ ps. IsBehind walk.old walk.new) }
-    ensures finishes { IfOk result (λ ps. (e : Standing) → Stands description.now.items walk.old e → Finishes before.now.layouts.now walk.old.components.items walk.new.components.items (written e at.now 0 (items_of items.now))) }
+    ensures finishes { IfOk result (λ ps. (e : Standing) → Stands description.now.items walk.old e → Finishes before.now walk.old.components.items walk.new.components.items (written e at.now 0 (items_of items.now))) }
 {
     let mut parts = Vec::with_capacity(alloc, items.len())?;
     let mut shared = None;
@@ -327,7 +332,7 @@ pub(crate) fn lay_out_all<'a>(
     before: &Before,
 ) -> Result<Vec<Finished<'a>>, AllocError>
     requires { depth description.now.items ≤ 16 }
-    ensures { IfOk result (λ components. AllZip (IsLaidOut before.now.layouts.now) components.items (all_written description.now.items)) }
+    ensures { IfOk result (λ components. AreLaidOut before.now 0 components.items (all_written description.now.items)) }
 {
     let mut walk = Walk::new(alloc)?;
     let root = Address::new();

@@ -1,9 +1,6 @@
 -- The search for a name that is defined twice, among macros and those behind them.
-use Rattle.std.proofs.Common.{◌≡◌, ℕ, ◌+◌, ◌<◌, Bool, true, false, List, [], ◌∷◌, ◌++◌, Option, None, Some, length, get_or, take, drop, refl, ap, subst, sym, ◌∙◌, append_assoc, append-nil}
+use Rattle.std.proofs.Common.{◌≡◌, ℕ, Bool, true, false, List, [], ◌∷◌, ◌++◌, Option, None, Some, refl, ap, sym, ◌∙◌, append_assoc, append-nil}
 use Rattle.std.specs.Prelude.{if◌then◌else◌}
-use Rattle.std.specs.List.{flat_map}
-use Rattle.std.proofs.lemmas.Grind.{flat_map-append}
-use Rattle.std.proofs.lemmas.List.{drop_more, take_more, take-append-drop}
 use Rattle.rdl_header.specs.declared.text.HeaderFault.{HeaderFault}
 use Rattle.rdl_header.specs.declared.text.HeaderFault.TheVariants.{Clash, Memory}
 use Rattle.rdl_header.specs.Defines.{IsAdded, IsClash}
@@ -31,37 +28,14 @@ clash-stays before [] rest name h = cc
 clash-stays before (m ∷ ms) rest name h =
     here-or-later (is_defined m.name before) m.name name _ _ (clash-stays (before ++ m ∷ []) ms rest name) h
 
-clash-ahead : (before ms rest : List Macro) (f : HeaderFault) → IsClash before ms f → IsClash before (ms ++ rest) f
+pub clash-ahead : (before ms rest : List Macro) (f : HeaderFault) → IsClash before ms f → IsClash before (ms ++ rest) f
 clash-ahead before ms rest (Clash name) h = clash-stays before ms rest _ h
 clash-ahead before ms rest Memory h = h
 
-clash-later : (before ms now rest : List Macro) (f : HeaderFault) → IsAdded before ms now → IsClash now rest f → IsClash before (ms ++ rest) f
+pub clash-later : (before ms now rest : List Macro) (f : HeaderFault) → IsAdded before ms now → IsClash now rest f → IsClash before (ms ++ rest) f
 clash-later before ms now rest (Clash name) added h = clash-passed before ms rest added.1 ∙ ap (λ xs. clash_behind xs rest) (sym added.0) ∙ h
 clash-later before ms now rest Memory added h = h
 
-added-later : (before ms now rest new : List Macro) → IsAdded before ms now → IsAdded now rest new → IsAdded before (ms ++ rest) new
+pub added-later : (before ms now rest new : List Macro) → IsAdded before ms now → IsAdded now rest new → IsAdded before (ms ++ rest) new
 added-later before ms now rest new added h =
     (h.0 ∙ ap (λ xs. xs ++ rest) added.0 ∙ append_assoc before ms rest, clash-passed before ms rest added.1 ∙ ap (λ xs. clash_behind xs rest) (sym added.0) ∙ h.1)
-
--- ---- The macros of one row more.
-
-module _ {R : Type 0} (of : R → List Macro) (before now : List Macro) (i : ℕ) (rows : List R) (row : R) (h : i < length rows) (item : row ≡ get_or rows i row) (added : IsAdded before (flat_map of (take i rows)) now) where
-  pub row_added : (new : List Macro) → IsAdded now (of row) new → IsAdded before (flat_map of (take (i + 1) rows)) new
-  row_added new here =
-      let taken : flat_map of (take i rows) ++ of row ≡ flat_map of (take (i + 1) rows) =
-      ap (λ xs. flat_map of (take i rows) ++ xs) (sym (append-nil (of row)))
-      ∙ sym (flat_map-append of (take i rows) (row ∷ []))
-      ∙ ap (flat_map of) (ap (λ x. take i rows ++ x ∷ []) item ∙ sym (take_more rows i row h))
-      in
-      subst (λ ms. IsAdded before ms new) taken (added-later before (flat_map of (take i rows)) now (of row) new added here)
-
-  pub row_clash : (f : HeaderFault) → IsClash now (of row) f → IsClash before (flat_map of rows) f
-  row_clash f here =
-      let rest = flat_map of (drop (i + 1) rows) in
-      let from : row ∷ drop (i + 1) rows ≡ drop i rows = ap (λ x. x ∷ drop (i + 1) rows) item ∙ sym (drop_more rows i row h) in
-      let all : flat_map of (take i rows) ++ (of row ++ rest) ≡ flat_map of rows =
-      sym (flat_map-append of (take i rows) (row ∷ drop (i + 1) rows))
-      ∙ ap (λ xs. flat_map of (take i rows ++ xs)) from
-      ∙ ap (flat_map of) (take-append-drop i rows)
-      in
-      subst (λ ms. IsClash before ms f) all (clash-later before (flat_map of (take i rows)) now (of row ++ rest) f added (clash-ahead now (of row) rest f here))

@@ -1,7 +1,8 @@
 -- The C header of a map's rows: its macros, their lines, and when two of them clash. Own; the macros of a field end as those of
 -- PeakRDL-cheader.
-use Rattle.std.specs.Prelude.{ℕ, Bool, ◌-◌, ◌*◌, ◌^◌, min, List, [], ◌∷◌, ◌++◌, Option, None, Some, Result, Ok, Err, codes, bytes_eq, if◌then◌else◌}
+use Rattle.std.specs.Prelude.{ℕ, zero, suc, Bool, ◌+◌, ◌-◌, ◌*◌, ◌/◌, ◌%◌, ◌^◌, nat_lt, min, List, [], ◌∷◌, ◌++◌, Option, None, Some, Result, Ok, Err, codes, bytes_eq, if◌then◌else◌}
 use Rattle.std.specs.Fmt.{decimal}
+use Rattle.std.specs.Int.{div_ceil}
 use Rattle.std.specs.List.{flat_map, list_any}
 use Rattle.rdl_tree.specs.declared.property.Property.TheVariants.{Reset}
 use Rattle.rdl_scope.specs.ItemFaults.{product}
@@ -32,9 +33,21 @@ hexadecimal_macro path ending n = record { name = path ++ ending; value = hexade
 abbrev pub decimal_macro : (path : List ℕ) → (ending : List ℕ) → ℕ → Macro
 decimal_macro path ending n = record { name = path ++ ending; value = decimal n }
 
--- a number of 64 bits, the greatest of them for any that is greater; no map has rows with a greater one
+-- a number of 128 bits, the greatest of them for any that is greater; no map has rows with a greater one
 abbrev pub capped : ℕ → ℕ
-capped n = min n (2 ^ 64 - 1)
+capped n = min n (2 ^ 128 - 1)
+
+-- of a number in words of 32 bits the i-th, the lowest first
+abbrev pub word : (n : ℕ) → (i : ℕ) → ℕ
+word n i = n / 2 ^ (32 * i) % 2 ^ 32
+
+-- a macro for each of the first words of a number, the lowest first; its name ends with the number of the word
+abbrev pub word_macro : (path : List ℕ) → (ending : List ℕ) → (n : ℕ) → (i : ℕ) → Macro
+word_macro path ending n i = hexadecimal_macro path (ending ++ decimal i) (word n i)
+
+abbrev pub word_macros : (path : List ℕ) → (ending : List ℕ) → (n : ℕ) → (count : ℕ) → List Macro
+word_macros path ending n zero = []
+word_macros path ending n (suc i) = word_macros path ending n i ++ word_macro path ending n i ∷ []
 
 -- how many elements an array has, and how far they lie apart
 abbrev pub array_macros : (path : List ℕ) → (dims : List ℕ) → (stride : ℕ) → List Macro
@@ -57,24 +70,46 @@ width span = span.end - span.start
 abbrev pub mask : Span → ℕ
 mask span = capped ((2 ^ width span - 1) * 2 ^ span.start)
 
--- the reset isn't shifted
-abbrev pub reset_macros : (path : List ℕ) → Option ℕ → List Macro
-reset_macros path None = []
-reset_macros path (Some n) = hexadecimal_macro path (codes "_reset") n ∷ []
+-- in a register of so many bytes; where it has over 64 bits, in four words
+abbrev pub mask_macros : (path : List ℕ) → (register : ℕ) → Span → List Macro
+mask_macros path register span =
+    if nat_lt 8 register then word_macros path (codes "_bm") (mask span) 4
+    else hexadecimal_macro path (codes "_bm") (mask span) ∷ []
 
-unfoldable pub bits_macros : (path : List ℕ) → Span → (reset : Option ℕ) → List Macro
-bits_macros path span reset =
-    hexadecimal_macro path (codes "_bm") (mask span)
-    ∷ decimal_macro path (codes "_bp") span.start
+-- the reset isn't shifted; that of a field of over 64 bits stands in as many words as the field needs
+abbrev pub reset_macros : (path : List ℕ) → (width : ℕ) → Option ℕ → List Macro
+reset_macros path width None = []
+reset_macros path width (Some n) =
+    if nat_lt 64 width then word_macros path (codes "_reset") n (div_ceil width 32)
+    else hexadecimal_macro path (codes "_reset") n ∷ []
+
+-- where the bits begin, how many they are, and the reset
+unfoldable pub width_macros : (path : List ℕ) → Span → (reset : Option ℕ) → List Macro
+width_macros path span reset =
+    decimal_macro path (codes "_bp") span.start
     ∷ decimal_macro path (codes "_bw") (width span)
-    ∷ reset_macros path reset
+    ∷ reset_macros path (width span) reset
 
-abbrev pub macros_at : Row → Place → List Macro
-macros_at row (Bytes extent) = bytes_macros (path_text row.names) row.base extent
-macros_at row (Bits span) = bits_macros (path_text row.names) span (number_in (value_under Reset row.values))
+abbrev pub bits_macros : (path : List ℕ) → (register : ℕ) → Span → (reset : Option ℕ) → List Macro
+bits_macros path register span reset = mask_macros path register span ++ width_macros path span reset
 
-abbrev pub macros_of : Row → List Macro
-macros_of row = macros_at row row.place
+-- those of a row; a field stands in a register of so many bytes
+abbrev pub macros_at : (register : ℕ) → Row → Place → List Macro
+macros_at register row (Bytes extent) = bytes_macros (path_text row.names) row.base extent
+macros_at register row (Bits span) = bits_macros (path_text row.names) register span (number_in (value_under Reset row.values))
+
+abbrev pub macros_of : (register : ℕ) → Row → List Macro
+macros_of register row = macros_at register row row.place
+
+-- the bytes of the register in which the fields behind a row stand, if there are any: fields stand behind their register
+abbrev pub register_behind : (register : ℕ) → Place → ℕ
+register_behind register (Bytes extent) = extent.size
+register_behind register (Bits span) = register
+
+-- those of rows, one after the other
+abbrev pub macros_below : (register : ℕ) → List Row → List Macro
+macros_below register [] = []
+macros_below register (row ∷ rows) = macros_of register row ++ macros_below (register_behind register row.place) rows
 
 -- the macro that is defined wherever the header has been read, of the first row, which is the top
 abbrev pub guard : Row → Macro
@@ -83,7 +118,7 @@ guard top = record { name = path_text top.names ++ codes "_H"; value = [] }
 -- the guard, then those of the rows below the top
 abbrev pub macros : List Row → List Macro
 macros [] = []
-macros (top ∷ rows) = guard top ∷ flat_map macros_of rows
+macros (top ∷ rows) = guard top ∷ macros_below 0 rows
 
 -- ---- The text.
 

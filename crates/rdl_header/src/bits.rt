@@ -3,6 +3,7 @@ ghost use Rattle.std.specs.Prelude.{◌≡◌, ◌-◌, ◌^◌, ◌≤◌};
 ghost use Rattle.rdl_header.specs.HeaderText.{width, mask};
 
 use rdl_elab::layout::Span;
+use rdl_text::token::Number;
 
 /// How many bits the field has.
 pub(crate) fn width(span: &Span) -> u64
@@ -12,27 +13,27 @@ pub(crate) fn width(span: &Span) -> u64
 }
 
 /// The number of so many ones.
-fn ones(count: u64) -> u64
-    requires { count ≤ 64 }
+fn ones(count: u64) -> Number
+    requires { count ≤ 128 }
     ensures { result ≡ 2 ^ count - 1 }
 {
-    if count == 64 {
-        u64::MAX
+    if count == 128 {
+        Number::MAX
     } else {
         (1 << count) - 1
     }
 }
 
-/// Ones where the field has its bits; `u64::MAX` for a field that isn't within 64 bits.
+/// Ones where the field has its bits; `Number::MAX` for a field that isn't within 128 bits.
 #[tactic(auto, using(crate::proofs::Masks::masks))]
-pub(crate) fn mask(span: &Span) -> u64
+pub(crate) fn mask(span: &Span) -> Number
     ensures { result ≡ mask span.now }
 {
     if span.end <= span.start {
         0
-    } else if span.end <= 64 {
+    } else if span.end <= 128 {
         ones(span.end) - ones(span.start)
     } else {
-        u64::MAX
+        Number::MAX
     }
 }

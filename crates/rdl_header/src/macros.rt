@@ -2,7 +2,8 @@
 ghost use Rattle.std.specs.Prelude.{◌≡◌, ◌++◌, [], ◌∷◌, string_bytes, IfOk, OnOk, MatchResult};
 ghost use Rattle.std.specs.List.{flat_map};
 ghost use Rattle.rdl_header.specs.Defines.{IsAdded, IsClash, Adds};
-ghost use Rattle.rdl_header.specs.HeaderText.{path_text, array_macros, bytes_macros, reset_macros, bits_macros, macros_of, guard, macros};
+ghost use Rattle.rdl_header.specs.HeaderText.{path_text, array_macros, bytes_macros, word_macros, mask_macros, reset_macros, width_macros, bits_macros, macros_of, register_behind, macros_below, guard, macros};
+ghost use Rattle.std.specs.Fmt.{decimal};
 
 use crate::bits::{mask, width};
 use crate::defines::Defines;
@@ -12,7 +13,11 @@ use rdl_elab::row::{Extent, Place, Row, RowPath};
 use rdl_scope::shells::product;
 use rdl_text::token::Number;
 use rdl_tree::property::Property;
+use rdl_write::push_decimal;
 use std::alloc::{AllocError, Global};
+
+/// One more than the greatest word of a number that needs several.
+const WORD: Number = 1 << 32;
 
 /// Appends the names from the top with two underscores between them.
 fn push_path(text: &mut String, path: &RowPath) -> Result<(), AllocError>
@@ -31,6 +36,15 @@ fn path(alloc: Global, row: &Row) -> Result<String, AllocError>
 {
     let mut text = String::new(alloc);
     push_path(&mut text, &row.names)?;
+    Ok(text)
+}
+
+/// The ending with the number of a word behind it.
+fn numbered(alloc: Global, ending: &str, index: u64) -> Result<String, AllocError>
+    ensures { IfOk result (λ text. string_bytes text ≡ ending.now ++ decimal index) }
+{
+    let mut text = String::from_str(alloc, ending)?;
+    push_decimal(&mut text, Number::from(index))?;
     Ok(text)
 }
 
@@ -58,60 +72,132 @@ fn add_bytes(
     alloc: Global,
     defines: &mut Defines,
     path: &str,
-    base: Number,
+    base: u64,
     extent: &Extent,
 ) -> Result<(), HeaderFault>
     ensures { Adds defines.old (bytes_macros path.now base extent.now) defines.new result }
 {
-    defines.push_hexadecimal(alloc, path, "_base", base)?;
-    defines.push_hexadecimal(alloc, path, "_offset", extent.offset)?;
-    defines.push_hexadecimal(alloc, path, "_size", extent.size)?;
+    defines.push_hexadecimal(alloc, path, "_base", Number::from(base))?;
+    defines.push_hexadecimal(alloc, path, "_offset", Number::from(extent.offset))?;
+    defines.push_hexadecimal(alloc, path, "_size", Number::from(extent.size))?;
     let dims = extent.dims.as_slice();
     add_array(alloc, defines, path, dims, extent.stride)
 }
 
-fn add_reset(
+/// The macros of the first words of a number, of 32 bits each, the lowest first.
+fn add_words(
     alloc: Global,
     defines: &mut Defines,
     path: &str,
-    reset: Option<Number>,
+    ending: &str,
+    number: Number,
+    count: u64,
 ) -> Result<(), HeaderFault>
-    ensures { Adds defines.old (reset_macros path.now reset) defines.new result }
+    ensures { Adds defines.old (word_macros path.now ending.now number count) defines.new result }
 {
-    if let Some(number) = reset {
-        defines.push_hexadecimal(alloc, path, "_reset", number)?;
+    let mut rest = number;
+    'words: for index in 0..count {
+        let numbered = numbered(alloc, ending, index)?;
+        defines.push_hexadecimal(alloc, path, numbered.as_str(), rest % WORD)?;
+        rest /= WORD;
     }
     Ok(())
 }
 
-/// The macros of a field.
-#[tactic(auto, unfolding(crate::specs::HeaderText::bits_macros))]
-fn add_bits(
+/// The macros of the bits that a field has, in a register of so many bytes.
+fn add_mask(
+    alloc: Global,
+    defines: &mut Defines,
+    path: &str,
+    register: u64,
+    span: &Span,
+) -> Result<(), HeaderFault>
+    ensures { Adds defines.old (mask_macros path.now register span.now) defines.new result }
+{
+    if register > 8 {
+        add_words(alloc, defines, path, "_bm", mask(span), 4)
+    } else {
+        defines.push_hexadecimal(alloc, path, "_bm", mask(span))
+    }
+}
+
+/// The macros of the reset of a field of so many bits.
+fn add_reset(
+    alloc: Global,
+    defines: &mut Defines,
+    path: &str,
+    width: u64,
+    reset: Option<Number>,
+) -> Result<(), HeaderFault>
+    ensures { Adds defines.old (reset_macros path.now width reset) defines.new result }
+{
+    match reset {
+        Some(number) if width > 64 => {
+            add_words(alloc, defines, path, "_reset", number, width.div_ceil(32))
+        }
+        Some(number) => defines.push_hexadecimal(alloc, path, "_reset", number),
+        None => Ok(()),
+    }
+}
+
+/// The macros of a field behind that of its bits.
+#[tactic(auto, unfolding(crate::specs::HeaderText::width_macros))]
+fn add_width(
     alloc: Global,
     defines: &mut Defines,
     path: &str,
     span: &Span,
     reset: Option<Number>,
 ) -> Result<(), HeaderFault>
-    ensures { Adds defines.old (bits_macros path.now span.now reset) defines.new result }
+    ensures { Adds defines.old (width_macros path.now span.now reset) defines.new result }
 {
-    defines.push_hexadecimal(alloc, path, "_bm", mask(span))?;
-    defines.push_decimal(alloc, path, "_bp", span.start)?;
-    defines.push_decimal(alloc, path, "_bw", width(span))?;
-    add_reset(alloc, defines, path, reset)
+    let width = width(span);
+    defines.push_decimal(alloc, path, "_bp", Number::from(span.start))?;
+    defines.push_decimal(alloc, path, "_bw", Number::from(width))?;
+    add_reset(alloc, defines, path, width, reset)
 }
 
-/// Puts the macros of a row behind the others.
-fn add_row(alloc: Global, defines: &mut Defines, row: &Row) -> Result<(), HeaderFault>
-    ensures { Adds defines.old (macros_of row.now) defines.new result }
+/// The macros of a field.
+fn add_bits(
+    alloc: Global,
+    defines: &mut Defines,
+    path: &str,
+    register: u64,
+    span: &Span,
+    reset: Option<Number>,
+) -> Result<(), HeaderFault>
+    ensures { Adds defines.old (bits_macros path.now register span.now reset) defines.new result }
+{
+    add_mask(alloc, defines, path, register, span)?;
+    add_width(alloc, defines, path, span, reset)
+}
+
+/// Puts the macros of a row behind the others. A field stands in a register of so many bytes.
+fn add_row(
+    alloc: Global,
+    defines: &mut Defines,
+    register: u64,
+    row: &Row,
+) -> Result<(), HeaderFault>
+    ensures { Adds defines.old (macros_of register row.now) defines.new result }
 {
     let path = path(alloc, row)?;
     match &row.place {
         Place::Bytes(extent) => add_bytes(alloc, defines, path.as_str(), row.base, extent),
         Place::Bits(span) => {
             let reset = row.values.number(Property::Reset);
-            add_bits(alloc, defines, path.as_str(), span, reset)
+            add_bits(alloc, defines, path.as_str(), register, span, reset)
         }
+    }
+}
+
+/// The bytes of the register in which the fields behind a row stand.
+fn register_behind(register: u64, place: &Place) -> u64
+    ensures { result ≡ register_behind register place.now }
+{
+    match place {
+        Place::Bytes(extent) => extent.size,
+        Place::Bits(_) => register,
     }
 }
 
@@ -126,10 +212,12 @@ fn add_guard(alloc: Global, defines: &mut Defines, top: &Row) -> Result<(), Head
 
 /// Puts the macros of these rows behind the others.
 fn add_rows(alloc: Global, defines: &mut Defines, rows: &[Row]) -> Result<(), HeaderFault>
-    ensures { Adds defines.old (flat_map macros_of rows.now) defines.new result }
+    ensures { Adds defines.old (macros_below 0 rows.now) defines.new result }
 {
+    let mut register = 0u64;
     'rows: for row in rows {
-        add_row(alloc, defines, row)?;
+        add_row(alloc, defines, register, row)?;
+        register = register_behind(register, &row.place);
     }
     Ok(())
 }

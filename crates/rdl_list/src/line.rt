@@ -51,7 +51,7 @@ fn push_reset(text: &mut String, reset: Option<Number>) -> Result<(), AllocError
 fn push_head(text: &mut String, row: &Row) -> Result<(), AllocError>
     ensures { OnOk result (string_bytes text.new ≡ string_bytes text.old ++ head_text row.now) }
 {
-    push_hexadecimal(text, row.base)?;
+    push_hexadecimal(text, Number::from(row.base))?;
     write!(text, " {} ", kind_text(row.kind))?;
     push_path(text, &row.names)
 }
@@ -61,7 +61,7 @@ fn push_extent(text: &mut String, extent: &Extent) -> Result<(), AllocError>
     ensures { OnOk result (string_bytes text.new ≡ string_bytes text.old ++ extent_text extent.now) }
 {
     push_dims(text, extent.dims.as_slice())?;
-    push_part(text, "size", extent.size)?;
+    push_part(text, "size", Number::from(extent.size))?;
     push_stride(text, &extent.dims, extent.stride)
 }
 

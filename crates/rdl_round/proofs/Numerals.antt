@@ -9,7 +9,7 @@ use Rattle.std.proofs.lemmas.Bool.{ne_eqb}
 use Rattle.std.proofs.lemmas.Bool.Decides.{nat_tests}
 use Rattle.rdl_text.specs.Name.{is_rest}
 use Rattle.rdl_text.specs.Number.{value, is_underscore}
-use Rattle.std.proofs.lemmas.Fmt.{digits_is_IsNumeral, decimal_is_IsNumeral}
+use Rattle.std.proofs.lemmas.Fmt.{digits_is_IsNumeral, decimal_is_IsNumeral_wide}
 use Rattle.std.proofs.lemmas.List.{length-append}
 use Rattle.rdl_text.specs.Rows.{byte, is_digit_rest, decimal_len, hexadecimal_len, width_len, verilog_len}
 use Rattle.rdl_text.specs.Word.{word}
@@ -109,12 +109,12 @@ decimal-long d cs rest h e =
 front-range : (xs ys : List ℕ) → slice_range (xs ++ ys) 0 (length xs) ≡ xs
 front-range xs ys = let k : length xs - 0 ≡ length xs = omega arith in rw k (take_front xs ys)
 
-decimal-found : (n d : ℕ) (cs rest : List ℕ) → AllDigits 10 (d ∷ cs) → digits_value 10 (d ∷ cs) ≡ n → n < 2 ^ 64 → is_rest (byte rest 0) ≡ false
+decimal-found : (n d : ℕ) (cs rest : List ℕ) → AllDigits 10 (d ∷ cs) → digits_value 10 (d ∷ cs) ≡ n → n < 2 ^ 128 → is_rest (byte rest 0) ≡ false
     → decimal (d ∷ (cs ++ rest)) ≡ Some (record { len = suc (length cs); kind = Ok (kinds.Number n) })
 unfolding decimal
 decimal-found n d cs rest h e small s =
     let v : value 10 (slice_range (d ∷ (cs ++ rest)) 0 (suc (length cs))) ≡ n = ap (value 10) (front-range (d ∷ cs) rest) ∙ worth 10 (d ∷ cs) (omega arith) h ∙ e in
-    rw (decimal-long d cs rest h s, v, lt-true n (2 ^ 64) small) (candidate_some (suc (length cs)) (Ok (kinds.Number n)) (omega arith))
+    rw (decimal-long d cs rest h s, v, lt-true n (2 ^ 128) small) (candidate_some (suc (length cs)) (Ok (kinds.Number n)) (omega arith))
 
 no-first : (x : ℕ) (a d : Bool) → cond (a && (false || false) && d) x 0 ≡ 0
 no-first x true d = refl
@@ -148,7 +148,7 @@ width-is ds rest h e =
     let n : digit_value (byte rest 0) ≡ 36 = no-digit (byte rest 0) e in
     run-digits 10 (λ c. is_digit c 10) ds rest (λ c k. lt-true (digit_value c) 10 k) h (lt-false (digit_value (byte rest 0)) 10 (omega (arith, n)))
 
-digits-word : (at n : ℕ) (ds rest : List ℕ) → 0 < length ds → AllDigits 10 ds → digits_value 10 ds ≡ n → n < 2 ^ 64 → Stops rest
+digits-word : (at n : ℕ) (ds rest : List ℕ) → 0 < length ds → AllDigits 10 ds → digits_value 10 ds ≡ n → n < 2 ^ 128 → Stops rest
     → words_from 0 at (ds ++ rest) ≡ before (word (kinds.Number n) at ds) (words_from 0 (at + length ds) rest)
 digits-word at n [] rest some h e small s = absurd (omega arith)
 digits-word at n (d ∷ cs) rest some h e small s =
@@ -160,9 +160,9 @@ digits-word at n (d ∷ cs) rest some h e small s =
     ∙ rw (decimal-found n d cs rest h e small s.0, no-hexadecimal t x.0 x.1, no-verilog t tick) refl in
     front-word at (d ∷ cs) rest (kinds.Number n) h.0 found (omega arith)
 
-pub decimal-part : (n : ℕ) → n < 2 ^ 64 → Part Stops (shown.decimal n) (λ ws. number n ∷ ws)
+pub decimal-part : (n : ℕ) → n < 2 ^ 128 → Part Stops (shown.decimal n) (λ ws. number n ∷ ws)
 decimal-part n small rest ws s c =
-    let k = decimal_is_IsNumeral n small in
+    let k = decimal_is_IsNumeral_wide n (omega arith) in
     cut-word (kinds.Number n) (shown.decimal n) rest ws (λ at. digits-word at n (shown.decimal n) rest k.0.0 k.0.1 k.1 small s) c
 
 -- ---- Hexadecimal numbers.
@@ -180,15 +180,15 @@ hexadecimal-long d cs rest h e =
 behind-range : (xs ys : List ℕ) → slice_range (48 ∷ 120 ∷ (xs ++ ys)) 2 (length (48 ∷ 120 ∷ xs)) ≡ xs
 behind-range xs ys = let k : length (48 ∷ 120 ∷ xs) - 2 ≡ length xs = omega arith in rw k (take_front xs ys)
 
-hexadecimal-found : (n d : ℕ) (cs rest : List ℕ) → AllDigits 16 (d ∷ cs) → digits_value 16 (d ∷ cs) ≡ n → n < 2 ^ 64 → is_rest (byte rest 0) ≡ false
+hexadecimal-found : (n d : ℕ) (cs rest : List ℕ) → AllDigits 16 (d ∷ cs) → digits_value 16 (d ∷ cs) ≡ n → n < 2 ^ 128 → is_rest (byte rest 0) ≡ false
     → hexadecimal (48 ∷ 120 ∷ d ∷ (cs ++ rest)) ≡ Some (record { len = length (48 ∷ 120 ∷ d ∷ cs); kind = Ok (kinds.Number n) })
 unfolding hexadecimal
 hexadecimal-found n d cs rest h e small s =
     let v : value 16 (slice_range (48 ∷ 120 ∷ d ∷ (cs ++ rest)) 2 (length (48 ∷ 120 ∷ d ∷ cs))) ≡ n = ap (value 16) (behind-range (d ∷ cs) rest) ∙ worth 16 (d ∷ cs) (omega arith) h ∙ e in
     let long : hexadecimal_len (48 ∷ 120 ∷ d ∷ (cs ++ rest)) ≡ length (48 ∷ 120 ∷ d ∷ cs) = hexadecimal-long d cs rest h s ∙ omega arith in
-    rw (long, v, lt-true n (2 ^ 64) small) (candidate_some (length (48 ∷ 120 ∷ d ∷ cs)) (Ok (kinds.Number n)) (omega arith))
+    rw (long, v, lt-true n (2 ^ 128) small) (candidate_some (length (48 ∷ 120 ∷ d ∷ cs)) (Ok (kinds.Number n)) (omega arith))
 
-hexadecimal-word : (at n : ℕ) (ds rest : List ℕ) → 0 < length ds → AllDigits 16 ds → digits_value 16 ds ≡ n → n < 2 ^ 64 → Stops rest
+hexadecimal-word : (at n : ℕ) (ds rest : List ℕ) → 0 < length ds → AllDigits 16 ds → digits_value 16 ds ≡ n → n < 2 ^ 128 → Stops rest
     → words_from 0 at (48 ∷ 120 ∷ (ds ++ rest)) ≡ before (word (kinds.Number n) at (48 ∷ 120 ∷ ds)) (words_from 0 (at + length (48 ∷ 120 ∷ ds)) rest)
 hexadecimal-word at n [] rest some h e small s = absurd (omega arith)
 hexadecimal-word at n (d ∷ cs) rest some h e small s =
@@ -198,7 +198,7 @@ hexadecimal-word at n (d ∷ cs) rest some h e small s =
     ∙ rw (front-zero (d ∷ (cs ++ rest)), hexadecimal-found n d cs rest h e small s.0, no-verilog t (λ q. absurd (omega arith)), lt-true 1 (length (48 ∷ 120 ∷ d ∷ cs)) (omega arith)) refl in
     front-word at (48 ∷ 120 ∷ d ∷ cs) rest (kinds.Number n) (omega arith) found (omega arith)
 
-pub hexadecimal-part : (n : ℕ) → n < 2 ^ 64 → Part Stops (written.hexadecimal n) (λ ws. number n ∷ ws)
+pub hexadecimal-part : (n : ℕ) → n < 2 ^ 128 → Part Stops (written.hexadecimal n) (λ ws. number n ∷ ws)
 hexadecimal-part n small rest ws s c =
     let k = digits_is_IsNumeral 16 true (omega arith) (omega arith) n (omega arith) in
     cut-word (kinds.Number n) (written.hexadecimal n) rest ws (λ at. hexadecimal-word at n (shown.digits 16 true n) rest k.0.0 k.0.1 k.1 small s) c

@@ -1,7 +1,7 @@
 -- A history each of whose states has rows answers each command, and stays one.
-use Rattle.std.proofs.Common.{◌≡◌, ◌≢◌, ◌⊎◌, inl, inr, ℕ, zero, suc, ◌+◌, ◌<◌, Bool, true, false, cond, List, [], ◌∷◌, ◌++◌, length, take, Some, Result, Ok, Err, refl, sym, ap, ◌∙◌, subst, arith, length-append}
+use Rattle.std.proofs.Common.{◌≡◌, ◌≢◌, ◌⊎◌, inl, inr, ℕ, zero, suc, ◌+◌, ◌<◌, ◌≤◌, Bool, true, false, cond, List, [], ◌∷◌, ◌++◌, length, take, Some, Result, Ok, Err, refl, sym, ap, ◌∙◌, subst, arith, length-append}
 use Rattle.std.specs.Prelude.{slice_get, nat_lt, nat_eq}
-use Rattle.std.proofs.lemmas.Bool.{ltb-true, eqb-true, eqb-false}
+use Rattle.std.proofs.lemmas.Bool.{ltb-true, eqb-true, eqb-false, cases_lt}
 use Rattle.std.proofs.lemmas.List.{length-take}
 use Rattle.journal_core.specs.History.{IsAt, after_edit, after_undo, after_redo}
 use Rattle.rdl_list.specs.ListText.{list_lines}
@@ -114,7 +114,7 @@ record AnsweredEdit (old : History') (e : Edit) : Type 0 where
   answers : AnswersEdit old e reply new
 
 module _ (old : History') (g : IsGood old) where
-  edit-step : (e : Edit) → old.place ≢ old.limit → (s : State) → IsAt old s → (r : Result State Refusal) → step s e ≡ r → AnsweredEdit old e
+  edit-step : (e : Edit) → old.place < old.limit → (s : State) → IsAt old s → (r : Result State Refusal) → step s e ≡ r → AnsweredEdit old e
   edit-step e room s at (Ok to) is = record {
     reply = done;
     new = after_edit old to;
@@ -133,14 +133,14 @@ module _ (old : History') (g : IsGood old) where
     );
   }
 
-  edit-room : (e : Edit) (full : Bool) → nat_eq old.place old.limit ≡ full → AnsweredEdit old e
-  edit-room e true is = record { reply = not_done HistoryFull; new = old; answers = (eqb-true old.place old.limit is, refl) }
-  edit-room e false is =
+  edit-room : (e : Edit) → (old.place < old.limit) ⊎ (old.limit ≤ old.place) → AnsweredEdit old e
+  edit-room e (inr full) = record { reply = not_done HistoryFull; new = old; answers = (full, refl) }
+  edit-room e (inl room) =
       let p = good-at old g in
-      edit-step e (eqb-false old.place old.limit is) p.now p.at (step p.now e) refl
+      edit-step e room p.now p.at (step p.now e) refl
 
   answered-edit : (e : Edit) → AnsweredEdit old e
-  answered-edit e = edit-room e (nat_eq old.place old.limit) refl
+  answered-edit e = edit-room e (cases_lt old.place old.limit)
 
   as-add : (path : List Segment) (place : Place) (text : List ℕ) (new : History') (r : Said) → AnswersItems old path place text r new → AnswersAdd old path place text r new
   as-add path place text new (not_done (Text fault)) a = absurd a.answers

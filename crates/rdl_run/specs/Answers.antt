@@ -1,5 +1,5 @@
 -- What each line of a script does to the history, and the run of a whole script. Own.
-use Rattle.std.specs.Prelude.{◌≡◌, ◌≢◌, ℕ, ◌+◌, Bool, true, false, List, [], ◌∷◌, length}
+use Rattle.std.specs.Prelude.{◌≡◌, ◌≢◌, ℕ, ◌+◌, ◌<◌, ◌≤◌, Bool, true, false, List, [], ◌∷◌, length}
 use Rattle.std.specs.List.{list_any}
 use Rattle.journal_core.specs.History.{History, IsAt, Edits, after_undo, after_redo}
 use Rattle.rdl_script.specs.Commands.{Command, nothing, undo, redo, list, edit, add, refused, command_of}
@@ -26,19 +26,19 @@ History' = History State
 
 -- the edit is made, where there is room; what could be redone is dropped
 pub record Made (old : History') (e : Edit) (new : History') : Type 0 where
-  pub room : old.place ≢ old.limit
+  pub room : old.place < old.limit
   pub made : Edits Leads e old new
 
 -- it is refused at the place, not for want of memory
 pub record NotMade (old : History') (e : Edit) (refusal : Refusal) : Type 0 where
-  pub room : old.place ≢ old.limit
+  pub room : old.place < old.limit
   pub refused : history.Refuses edits.Refuses e old refusal
   pub real : refusal ≢ Memory
 
 -- an edit: a full history is judged before the map
 abbrev pub AnswersEdit : History' → Edit → Said → History' → Type 0
 AnswersEdit old e done new = Made old e new
-AnswersEdit old e (not_done HistoryFull) new = (old.place ≡ old.limit) × (new ≡ old)
+AnswersEdit old e (not_done HistoryFull) new = (old.limit ≤ old.place) × (new ≡ old)
 AnswersEdit old e (not_done (OfEdit refusal)) new = NotMade old e refusal × (new ≡ old)
 AnswersEdit old e r new = ⊥
 

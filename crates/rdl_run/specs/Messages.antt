@@ -24,7 +24,7 @@ abbrev pub words_fault_text : WordsFault → List ℕ
 words_fault_text words.BadCharacter = codes "S1 bad character"
 words_fault_text words.UnendedComment = codes "S2 unended comment"
 words_fault_text words.UnendedString = codes "S3 unended string"
-words_fault_text words.NumberTooLarge = codes "S4 number over 64 bits"
+words_fault_text words.NumberTooLarge = codes "S4 number over 128 bits"
 words_fault_text words.ValueTooWide = codes "S5 Verilog value does not fit its width"
 words_fault_text words.WidthOutOfRange = codes "S6 Verilog width out of range"
 words_fault_text words.IdentifierTooLong = codes "S7 identifier too long"

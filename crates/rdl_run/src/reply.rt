@@ -20,6 +20,7 @@ use rdl_edit::edit::Refusal;
 use rdl_parse::fault::{ParseFault, ParseFaultKind};
 use rdl_script::request::CommandFault;
 use rdl_text::fault::FaultKind as WordsFault;
+use rdl_text::token::Number;
 use rdl_tree::fault::FaultKind;
 use rdl_write::push_decimal;
 use std::alloc::{AllocError, Global};
@@ -66,7 +67,7 @@ fn words_fault_text(fault: WordsFault) -> &'static str
         WordsFault::BadCharacter => "S1 bad character",
         WordsFault::UnendedComment => "S2 unended comment",
         WordsFault::UnendedString => "S3 unended string",
-        WordsFault::NumberTooLarge => "S4 number over 64 bits",
+        WordsFault::NumberTooLarge => "S4 number over 128 bits",
         WordsFault::ValueTooWide => "S5 Verilog value does not fit its width",
         WordsFault::WidthOutOfRange => "S6 Verilog width out of range",
         WordsFault::IdentifierTooLong => "S7 identifier too long",
@@ -178,7 +179,7 @@ fn push_text_refusal(text: &mut String, fault: ParseFault) -> Result<(), AllocEr
     text.push_str("C4 text refused: ")?;
     text.push_str(parse_fault_text(fault.kind))?;
     text.push_str(" at column ")?;
-    push_decimal(text, add_column(fault.offset) as u64)?;
+    push_decimal(text, add_column(fault.offset) as Number)?;
     Ok(())
 }
 

@@ -36,7 +36,7 @@ use std::io::Write;
 /// Makes the edit, and lets it go.
 fn make(alloc: Global, journal: &mut Journal<Map>, edit: Edit) -> Result<(), EditFault<Refusal>>
     ensures ok { OnOk result (Edits Leads edit journal.old journal.new) }
-    ensures full { journal.old.place ≡ journal.old.limit → result ≡ Err EditFault.Full }
+    ensures full { journal.old.limit ≤ journal.old.place → result ≡ Err EditFault.Full }
     ensures fault { IfErr result (Explains Refuses edit journal.old) }
     ensures err { OnErr result (journal.new ≡ journal.old) }
 {

@@ -7,17 +7,17 @@ use Rattle.std.proofs.Math.Nat.{mul_assoc}
 use Rattle.rdl_scope.specs.ItemFaults.{product}
 
 abbrev cap : ℕ → ℕ
-cap n = min n (2 ^ 64 - 1)
+cap n = min n (2 ^ 128 - 1)
 
-small-mul : (a r : ℕ) → a < 2 ^ 64 → cap (cap a * r) ≡ cap (a * r)
+small-mul : (a r : ℕ) → a < 2 ^ 128 → cap (cap a * r) ≡ cap (a * r)
 small-mul a r h = let e : cap a ≡ a = omega arith in ap (λ n. cap (n * r)) e
 
-large-mul : (a r : ℕ) → 2 ^ 64 ≤ a → cap (cap a * r) ≡ cap (a * r)
+large-mul : (a r : ℕ) → 2 ^ 128 ≤ a → cap (cap a * r) ≡ cap (a * r)
 large-mul a zero h = let z : cap a * 0 ≡ a * 0 = omega arith in ap cap z
-large-mul a (suc r) h = let e : cap a ≡ 2 ^ 64 - 1 = omega arith in ap (λ n. cap (n * suc r)) e ∙ omega arith
+large-mul a (suc r) h = let e : cap a ≡ 2 ^ 128 - 1 = omega arith in ap (λ n. cap (n * suc r)) e ∙ omega arith
 
 cap-mul : (a r : ℕ) → cap (cap a * r) ≡ cap (a * r)
-cap-mul a r = elim (cases_lt a (2 ^ 64)) [ inl h ↦ small-mul a r h | inr h ↦ large-mul a r h ]
+cap-mul a r = elim (cases_lt a (2 ^ 128)) [ inl h ↦ small-mul a r h | inr h ↦ large-mul a r h ]
 
 pub product-next : (i : ℕ) (xs : List ℕ) (e : ℕ) → i < length xs → cap (e * product (drop i xs)) ≡ cap (cap (e * get_or xs i 0) * product (drop (i + 1) xs))
 product-next i xs e h =

@@ -46,10 +46,10 @@ fn wrong_part(kind: Kind, shell: &Shell) -> bool
         || dims > 4
 }
 
-/// How many elements an array of these sizes has, at most 2^64 - 1.
+/// How many elements an array of these sizes has, at most 2^128 - 1.
 #[tactic(auto, using(crate::proofs::Products::steps))]
 pub fn product(sizes: &[Number]) -> Number
-    ensures { result ≡ min (product sizes.now) (2 ^ 64 - 1) }
+    ensures { result ≡ min (product sizes.now) (2 ^ 128 - 1) }
 {
     let mut elements: Number = 1;
     for size in sizes {

@@ -243,7 +243,7 @@ faulty_words =
     (codes "address /a ?", refused BadOperands)
     ∷ (codes "address /a 4 /* x", refused BadOperands)
     ∷ (codes "set /a name " ++ 34 ∷ codes "x", refused BadOperands)
-    ∷ (codes "address /a 18446744073709551616", refused BadOperands)
+    ∷ (codes "address /a 340282366920938463463374607431768211456", refused BadOperands)
     ∷ (codes "address /a 2'b100", refused BadOperands)
     ∷ (codes "address /a 0'b0", refused BadOperands)
     ∷ []

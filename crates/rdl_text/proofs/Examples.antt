@@ -50,11 +50,11 @@ unended_string : words (codes "a \"b\\\"") ≡ at UnendedString 2
 unfolding words_from piece longest identifier decimal hexadecimal verilog string mark identifier_len decimal_len hexadecimal_len verilog_len string_len value
 unended_string = refl
 
-large : words (codes " 18446744073709551616") ≡ at NumberTooLarge 1
+large : words (codes " 340282366920938463463374607431768211456") ≡ at NumberTooLarge 1
 unfolding words_from piece longest identifier decimal hexadecimal verilog string mark identifier_len decimal_len hexadecimal_len verilog_len string_len value
 large = refl
 
-largest : words (codes "18446744073709551615") ≡ Ok (word (Number 18446744073709551615) 0 (codes "18446744073709551615") ∷ [])
+largest : words (codes "340282366920938463463374607431768211455") ≡ Ok (word (Number 340282366920938463463374607431768211455) 0 (codes "340282366920938463463374607431768211455") ∷ [])
 unfolding words_from piece longest identifier decimal hexadecimal verilog string mark identifier_len decimal_len hexadecimal_len verilog_len string_len value
 largest = refl
 
@@ -66,7 +66,7 @@ no_width : words (codes "0'b0") ≡ at WidthOutOfRange 0
 unfolding words_from piece longest identifier decimal hexadecimal verilog string mark identifier_len decimal_len hexadecimal_len verilog_len string_len value
 no_width = refl
 
-great_width : words (codes "65'h0") ≡ at WidthOutOfRange 0
+great_width : words (codes "129'h0") ≡ at WidthOutOfRange 0
 unfolding words_from piece longest identifier decimal hexadecimal verilog string mark identifier_len decimal_len hexadecimal_len verilog_len string_len value
 great_width = refl
 

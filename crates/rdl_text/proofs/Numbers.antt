@@ -1,7 +1,8 @@
 -- What digits are worth, one more at a time, and numbers that have too many bits.
-use Rattle.std.proofs.Common.{◌≡◌, ◌≢◌, ℕ, ◌+◌, ◌*◌, ◌^◌, ◌<◌, ◌≤◌, Bool, not, List, [], ◌∷◌, length, get_or, drop, Some, None, refl, ◌∙◌, arith}
+use Rattle.std.proofs.Common.{◌≡◌, ◌≢◌, ℕ, ◌+◌, ◌*◌, ◌^◌, ◌<◌, ◌≤◌, nat_lt, Bool, false, not, List, [], ◌∷◌, length, get_or, drop, Some, None, refl, ◌∙◌, arith}
 use Rattle.std.proofs.Math.Nat.{mul-le-mul_left, le_refl, le_trans}
-use Rattle.std.proofs.lemmas.Bool.{ne_eqb}
+use Rattle.std.proofs.Math.Pow.{pow_mono}
+use Rattle.std.proofs.lemmas.Bool.{ne_eqb, le-ltb}
 use Rattle.std.proofs.lemmas.Bool.Decides.{nat_tests}
 use Rattle.std.proofs.lemmas.List.{at_drop_more}
 use Rattle.std.specs.Char.{digit_value}
@@ -32,6 +33,12 @@ value_after-digit base v i ds h ne = at_drop_more (value_after base v) ds i 0 h 
 
 pub too_large : (v : ℕ) → in_bits v ≡ None → 2 ^ number_bits ≤ v
 too_large v e = grind (arith, nat_tests)
+
+pub past_width : (v w : ℕ) → in_bits v ≡ None → w ≤ number_bits → nat_lt v (2 ^ w) ≡ false
+past_width v w none h =
+    let big : 2 ^ number_bits ≤ v = too_large v none in
+    let low : 2 ^ w ≤ 2 ^ number_bits = pow_mono h in
+    le-ltb v (2 ^ w) (omega arith)
 
 pub in_bits_none : (v : ℕ) → 2 ^ number_bits ≤ v → in_bits v ≡ None
 in_bits_none v h = grind (arith, nat_tests)

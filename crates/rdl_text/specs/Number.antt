@@ -1,12 +1,12 @@
 -- The value of the digits of a number.
--- SystemRDL 2.0, lexical conventions, numbers; the limit of 64 bits is own.
+-- SystemRDL 2.0, lexical conventions, numbers; the limit of 128 bits is own.
 use Rattle.std.specs.Prelude.{ℕ, ◌^◌, Bool, not, nat_eq, nat_lt, if◌then◌else◌, List, Option, Some, None}
 use Rattle.std.specs.List.{filter}
 use Rattle.std.specs.Str.Parse.{digits_value}
 
 -- the bits of a number
 abbrev pub number_bits : ℕ
-number_bits = 64
+number_bits = 128
 
 abbrev pub is_underscore : ℕ → Bool
 is_underscore c = nat_eq c 95

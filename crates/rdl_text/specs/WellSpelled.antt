@@ -1,5 +1,5 @@
 -- Words that are spelled as words of their kind, with numbers that have the bits of a number.
--- SystemRDL 2.0, lexical conventions; the limit of 64 bits is own.
+-- SystemRDL 2.0, lexical conventions; the limit of 128 bits is own.
 use Rattle.std.specs.Prelude.{◌≡◌, ℕ, ◌<◌, ◌^◌, List, [], ◌∷◌, Ok}
 use Rattle.rdl_text.specs.Number.{number_bits}
 use Rattle.rdl_text.specs.Spelling.{IsSpelled}

@@ -32,12 +32,13 @@ decimal s = candidate (decimal_len s) (number (value 10 (slice_range s 0 (decima
 unfoldable pub hexadecimal : List ℕ → Option Candidate
 hexadecimal s = candidate (hexadecimal_len s) (number (value 16 (slice_range s 2 (hexadecimal_len s))))
 
--- a Verilog number: first the width is judged, then whether the value is below two to the power of it
+-- a number whose value must be below two to the power of a width
+abbrev pub within : (width : ℕ) → (value : ℕ) → Result TokenKind FaultKind
+within width value = if nat_lt value (2 ^ width) then Ok (kinds.Number value) else Err ValueTooWide
+
+-- a Verilog number: first the width is judged, then the value
 abbrev pub sized : (width : ℕ) → (value : ℕ) → Result TokenKind FaultKind
-sized width value =
-    if nat_eq width 0 || nat_lt number_bits width then Err WidthOutOfRange
-    else if nat_lt value (2 ^ width) then Ok (kinds.Number value)
-    else Err ValueTooWide
+sized width value = if nat_eq width 0 || nat_lt number_bits width then Err WidthOutOfRange else within width value
 
 unfoldable pub verilog : List ℕ → Option Candidate
 verilog s =

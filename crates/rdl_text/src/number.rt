@@ -1,7 +1,7 @@
 //! The values of numbers.
 ghost use Rattle.std.specs.Prelude.{◌≡◌, ℕ, ◌+◌, ◌*◌, ◌^◌, ◌≤◌, ◌<◌, nat_lt, Option, Some, None};
 ghost use Rattle.rdl_text.specs.Number.{value, in_bits, number_bits};
-ghost use Rattle.rdl_text.specs.Words.{number, sized};
+ghost use Rattle.rdl_text.specs.Words.{number, within, sized};
 
 use crate::bytes::digit_value;
 use crate::fault::FaultKind;
@@ -49,16 +49,24 @@ fn fits(value: Number, width: Number) -> bool
     width >= Number::BITS as Number || value < (1 << width)
 }
 
+/// What a Verilog number of this value is, in a width that a number may have.
+#[tactic(auto, using(crate::proofs::Numbers::past_width))]
+fn within(width: Number, value: Option<Number>) -> Result<TokenKind, FaultKind>
+    requires { width ≤ number_bits }
+    ensures { (v : ℕ) → value ≡ in_bits v → result ≡ within width v }
+{
+    match value {
+        Some(value) if fits(value, width) => Ok(TokenKind::Number(value)),
+        _ => Err(FaultKind::ValueTooWide),
+    }
+}
+
 /// What a Verilog number of this width and value is.
 pub(crate) fn sized(width: Option<Number>, value: Option<Number>) -> Result<TokenKind, FaultKind>
     ensures { (w v : ℕ) → width ≡ in_bits w → value ≡ in_bits v → result ≡ sized w v }
 {
-    match (width, value) {
-        (None, _) => Err(FaultKind::WidthOutOfRange),
-        (Some(width), _) if width == 0 || width > Number::BITS as Number => Err(
-            FaultKind::WidthOutOfRange,
-        ),
-        (Some(width), Some(value)) if fits(value, width) => Ok(TokenKind::Number(value)),
-        _ => Err(FaultKind::ValueTooWide),
+    match width {
+        Some(width) if 0 < width && width <= Number::BITS as Number => within(width, value),
+        _ => Err(FaultKind::WidthOutOfRange),
     }
 }

@@ -7,7 +7,7 @@ ghost use Rattle.rdl_text.specs.Word.{word};
 use std::marker::Model;
 
 /// The width of every number of the language, in one place.
-pub type Number = u64;
+pub type Number = u128;
 
 /// A mark.
 #[derive(Clone, Copy, Debug, PartialEq, Eq)]

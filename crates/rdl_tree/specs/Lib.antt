@@ -15,6 +15,8 @@ pub mod Part
 pub mod Patch
 pub mod PatchWeight
 pub mod Properties
+pub mod SessionFault
+pub mod SessionText
 pub mod Shell
 pub mod Step
 pub mod Turned

@@ -68,10 +68,10 @@ has_form Modes (value.Word w) = is_mode w
 has_form Alignments (value.Number n) = is_power_of_two n && nat_le n (2 ^ 40)
 has_form OnlyTrue (value.Number n) = n == 1
 has_form OnlyTrue (value.Bool b) = b
-has_form Widths (value.Number n) = n == 8 || n == 16 || n == 32 || n == 64
+has_form Widths (value.Number n) = n == 8 || n == 16 || n == 32 || n == 64 || n == 128
 has_form Booleans (value.Number n) = nat_le n 1
 has_form Booleans (value.Bool b) = true
-has_form BitCounts (value.Number n) = nat_le 1 n && nat_le n 64
+has_form BitCounts (value.Number n) = nat_le 1 n && nat_le n 128
 has_form Numbers (value.Number n) = true
 has_form Accesses (value.Word w) = is_access w
 has_form ReadEffects (value.Word w) = is_read_effect w

@@ -18,6 +18,7 @@ pub mod path;
 pub mod properties;
 pub mod property;
 pub mod reach;
+pub mod session;
 pub mod shell;
 pub mod step;
 pub mod target;

@@ -67,11 +67,11 @@ pub enum Form {
     Alignments,
     /// `true` or 1.
     OnlyTrue,
-    /// 8, 16, 32 and 64.
+    /// 8, 16, 32, 64 and 128.
     Widths,
     /// `true`, `false`, 1 and 0.
     Booleans,
-    /// 1 to 64.
+    /// 1 to 128.
     BitCounts,
     Numbers,
     Accesses,
@@ -291,7 +291,7 @@ impl Form {
             (Form::Widths, Value::Number(number)) => is_width(*number),
             (Form::Booleans, Value::Number(number)) => *number <= 1,
             (Form::Booleans, Value::Bool(_)) => true,
-            (Form::BitCounts, Value::Number(number)) => 1 <= *number && *number <= 64,
+            (Form::BitCounts, Value::Number(number)) => 1 <= *number && *number <= 128,
             (Form::Numbers, Value::Number(_)) => true,
             (Form::Accesses, Value::Word(word)) => is_access(*word),
             (Form::ReadEffects, Value::Word(word)) => is_read_effect(*word),
@@ -310,7 +310,7 @@ fn is_alignment(number: Number) -> bool
 fn is_width(number: Number) -> bool
     ensures { result ≡ has_form Form.Widths (Value.Number number) }
 {
-    number == 8 || number == 16 || number == 32 || number == 64
+    number == 8 || number == 16 || number == 32 || number == 64 || number == 128
 }
 
 fn is_mode(word: Word) -> bool

@@ -1,7 +1,7 @@
 -- An item of a body has no more items than the body, so that going down ends.
-use Rattle.std.proofs.Common.{◌≡◌, ℕ, zero, suc, ◌+◌, ◌≤◌, ◌<◌, List, [], ◌∷◌, length, get_or, ap, arith}
-use Rattle.rdl_tree.specs.Items.{Items, no_items, count}
-use Rattle.rdl_tree.specs.View.{add, items_of, list_of}
+use Rattle.std.proofs.Common.{◌≡◌, ℕ, zero, suc, ◌≤◌, ◌<◌, List, [], ◌∷◌, length, get_or, ap, arith}
+use Rattle.rdl_tree.specs.Items.{Items, count}
+use Rattle.rdl_tree.specs.View.{items_of, list_of}
 use Rattle.rdl_tree.specs.declared.description.Item.{Item}
 use Rattle.rdl_tree.proofs.Rounds.{items_of-list_of}
 use Rattle.rdl_tree.proofs.Sizes.{item_count, count-add}

@@ -1,2 +1,4 @@
 pub mod BodyText
 pub mod Counts
+pub mod Hexadecimals
+pub mod SessionParts

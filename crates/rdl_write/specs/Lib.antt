@@ -1,3 +1,4 @@
 pub mod Texts
 pub mod MapText
 pub mod ItemText
+pub mod SessionLines

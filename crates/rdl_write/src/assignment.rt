@@ -27,7 +27,7 @@ fn push_value(text: &mut String, value: &Value) -> Result<(), AllocError>
 
 /// Appends `property = value`.
 #[tactic(auto, unfolding(crate::specs::Texts::assignment_text))]
-pub fn push_assignment(text: &mut String, property: &Name, value: &Value) -> Result<(), AllocError>
+pub fn push_assignment(text: &mut String, property: &str, value: &Value) -> Result<(), AllocError>
     ensures { OnOk result (string_bytes text.new ≡ string_bytes text.old ++ assignment_text property.now value.now) }
 {
     write!(text, "{property} = ")?;

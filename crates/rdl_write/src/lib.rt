@@ -5,8 +5,10 @@ mod assignment;
 mod instance;
 mod map;
 mod number;
+mod written_session;
 
 pub use assignment::push_names;
 pub use instance::{kind_text, push_dims};
 pub use map::rdl;
 pub use number::{push_decimal, push_hexadecimal};
+pub use written_session::session;

@@ -23,7 +23,12 @@ fn deeper(alloc: Global, indent: &str) -> Result<String, AllocError>
 }
 
 #[tactic(auto, unfolding(crate::specs::MapText::statement_line))]
-fn push_named(text: &mut String, indent: &str, shell: &Shell, of: &Name) -> Result<(), AllocError>
+pub fn push_named(
+    text: &mut String,
+    indent: &str,
+    shell: &Shell,
+    of: &str,
+) -> Result<(), AllocError>
     ensures { OnOk result (string_bytes text.new ≡ string_bytes text.old ++ statement_line indent.now (named shell.now of.now)) }
 {
     write!(text, "{indent}{}{of} ", outside_text(shell.outside))?;
@@ -33,10 +38,10 @@ fn push_named(text: &mut String, indent: &str, shell: &Shell, of: &Name) -> Resu
 }
 
 #[tactic(auto, unfolding(crate::specs::MapText::statement_line))]
-fn push_own(
+pub fn push_own(
     text: &mut String,
     indent: &str,
-    property: &Name,
+    property: &str,
     value: &Value,
 ) -> Result<(), AllocError>
     ensures { OnOk result (string_bytes text.new ≡ string_bytes text.old ++ statement_line indent.now (own property.now value.now)) }
@@ -51,7 +56,7 @@ fn push_own(
 fn push_default(
     text: &mut String,
     indent: &str,
-    property: &Name,
+    property: &str,
     value: &Value,
 ) -> Result<(), AllocError>
     ensures { OnOk result (string_bytes text.new ≡ string_bytes text.old ++ statement_line indent.now (default property.now value.now)) }
@@ -63,11 +68,11 @@ fn push_default(
 }
 
 #[tactic(auto, unfolding(crate::specs::MapText::statement_line))]
-fn push_dynamic(
+pub fn push_dynamic(
     text: &mut String,
     indent: &str,
     target: &Target,
-    property: &Name,
+    property: &str,
     value: &Value,
 ) -> Result<(), AllocError>
     ensures { OnOk result (string_bytes text.new ≡ string_bytes text.old ++ statement_line indent.now (dynamic target.now property.now value.now)) }
@@ -135,7 +140,12 @@ fn push_inner(alloc: Global, text: &mut String, indent: &str, body: &Body) -> Re
 }
 
 #[cycle(write)]
-fn push_item(alloc: Global, text: &mut String, indent: &str, item: &Item) -> Result<(), AllocError>
+pub fn push_item(
+    alloc: Global,
+    text: &mut String,
+    indent: &str,
+    item: &Item,
+) -> Result<(), AllocError>
     ensures { OnOk result (string_bytes text.new ≡ string_bytes text.old ++ item_text indent.now item.now) }
 {
     match item {
@@ -149,11 +159,11 @@ fn push_item(alloc: Global, text: &mut String, indent: &str, item: &Item) -> Res
             push_inner(alloc, text, indent, &component.body)?;
             close_instance(text, indent, shell)
         }
-        Item::Instance(shell, Of::Named(name)) => push_named(text, indent, shell, name),
-        Item::Own(property, value) => push_own(text, indent, property, value),
-        Item::Default(property, value) => push_default(text, indent, property, value),
+        Item::Instance(shell, Of::Named(name)) => push_named(text, indent, shell, name.as_str()),
+        Item::Own(property, value) => push_own(text, indent, property.as_str(), value),
+        Item::Default(property, value) => push_default(text, indent, property.as_str(), value),
         Item::Dynamic(target, property, value) => {
-            push_dynamic(text, indent, target, property, value)
+            push_dynamic(text, indent, target, property.as_str(), value)
         }
     }
 }

@@ -1,17 +1,37 @@
 //! Numbers as they are written.
-ghost use Rattle.std.specs.Prelude.{◌≡◌, ◌++◌, string_bytes, OnOk};
-ghost use Rattle.std.specs.Fmt.{decimal};
+ghost use Rattle.std.specs.Prelude.{◌≡◌, ◌++◌, true, string_bytes, OnOk};
+ghost use Rattle.std.specs.Fmt.{decimal, digits};
 ghost use Rattle.rdl_write.specs.Texts.{hexadecimal};
 
 use itoa::Buffer;
 use rdl_text::token::Number;
 use std::alloc::AllocError;
 
+/// Appends an upper-case digit.
+fn push_digit(text: &mut String, digit: u8) -> Result<(), AllocError>
+    ensures { OnOk result (string_bytes text.new ≡ string_bytes text.old ++ digits 16 true digit) }
+{
+    write!(text, "{digit:X}")
+}
+
+/// Appends the upper-case digits of a number. What `{:X}` writes of a number of 128 bits is stated by no contract.
+#[tactic(auto, using(crate::proofs::Hexadecimals::digits_are))]
+fn push_digits(text: &mut String, number: Number) -> Result<(), AllocError>
+    ensures { OnOk result (string_bytes text.new ≡ string_bytes text.old ++ digits 16 true number) }
+{
+    if number < 16 {
+        return push_digit(text, number as u8);
+    }
+    push_digits(text, number / 16)?;
+    push_digit(text, (number % 16) as u8)
+}
+
 /// Appends a number as `0x` and upper-case digits, without leading zeros.
 pub fn push_hexadecimal(text: &mut String, number: Number) -> Result<(), AllocError>
     ensures { OnOk result (string_bytes text.new ≡ string_bytes text.old ++ hexadecimal number) }
 {
-    write!(text, "0x{number:X}")
+    text.push_str("0x")?;
+    push_digits(text, number)
 }
 
 /// Appends a number as decimal digits.

@@ -1,9 +1,10 @@
 //! The history of a list of numbers.
-use journal_core::example::{Change, Numbers, Refusal};
+use journal_core::example::{Change, Numbers, Refusal, between};
 use journal_core::fault::{EditFault, StepFault};
 use journal_core::journal::Journal;
-use std::alloc::Global;
+use std::alloc::{AllocError, Global};
 use std::process::Abort;
+use std::test::Fail;
 
 /// A call of a history.
 enum Call {
@@ -129,4 +130,70 @@ fn full() -> &'static [Step] {
 #[test]
 fn a_full_history_is_judged_before_the_map(rt: HostRuntime) {
     follow(&rt, rt.alloc(), 1, full());
+}
+
+const GONE_ON: [Step; 5] = [
+    (Call::Push(2), "full", &[1], 1, 1),
+    (Call::Redo, "made", &[1, 2], 2, 0),
+    (Call::Push(3), "full", &[1, 2], 2, 0),
+    (Call::Undo, "made", &[1], 1, 1),
+    (Call::Undo, "made", &[], 0, 2),
+];
+
+fn gone_on() -> &'static [Step] {
+    &GONE_ON
+}
+
+const ROOM_AGAIN: [Step; 3] = [
+    (Call::Undo, "made", &[], 0, 2),
+    (Call::Push(5), "made", &[5], 1, 0),
+    (Call::Redo, "nothing", &[5], 1, 0),
+];
+
+fn room_again() -> &'static [Step] {
+    &ROOM_AGAIN
+}
+
+/// A history with room for one step back, which goes on at `[1]` between `[]` and `[1, 2]`.
+fn resumed(alloc: Global) -> Result<Journal<Numbers>, AllocError> {
+    let now = Numbers::of(vec![in alloc; 1]?);
+    let mut behind = Vec::new(alloc);
+    behind.push(Vec::new(alloc))?;
+    let mut ahead = Vec::new(alloc);
+    ahead.push(vec![in alloc; 1, 2]?)?;
+    Ok(between(now, 1, behind, ahead))
+}
+
+fn follow_on(rt: &impl Abort, alloc: Global, journal: &mut Journal<Numbers>, steps: &[Step]) {
+    for step in steps {
+        assert!(rt; is_answered(alloc, journal, step), "{} is wanted", step.1);
+    }
+}
+
+#[test]
+fn a_history_goes_on_at_any_place(rt: HostRuntime) -> Result<(), Fail> {
+    let alloc = rt.alloc();
+    let mut journal = resumed(alloc)?;
+    follow_on(&rt, alloc, &mut journal, gone_on());
+    let mut other = resumed(alloc)?;
+    follow_on(&rt, alloc, &mut other, room_again());
+    Ok(())
+}
+
+#[test]
+fn steps_are_looked_at_from_the_next_one_on(rt: HostRuntime) -> Result<(), Fail> {
+    let journal = resumed(rt.alloc())?;
+    assert!(rt;
+        journal.undo_at(0).is_some_and(|list| list.is_empty()),
+        "one step back"
+    );
+    assert!(rt; journal.undo_at(1).is_none(), "and no other");
+    assert!(rt;
+        journal
+            .redo_at(0)
+            .is_some_and(|list| list.as_slice() == [1, 2].as_slice()),
+        "one step on"
+    );
+    assert!(rt; journal.redo_at(1).is_none(), "and no other");
+    Ok(())
 }

@@ -7,6 +7,7 @@ use rdl_elab::component::lay_out;
 use rdl_elab::layout::{FieldBits, Layout, LayoutValues, Member, Mode, Placement, Span};
 use rdl_elab::place::place;
 use rdl_elab::row::{Row, Rows};
+use rdl_text::token::Number;
 use rdl_tree::property::Property;
 use rdl_tree::shell::Kind;
 use rdl_tree::value::{Value, Word};
@@ -14,7 +15,7 @@ use std::alloc::{AllocError, Global};
 use std::test::Fail;
 
 /// So many registers of these bytes, each accessed by four bytes.
-fn registers(size: u64, elements: u64) -> Placement {
+fn registers(size: u64, elements: Number) -> Placement {
     Placement {
         size,
         access: 4,
@@ -195,7 +196,7 @@ pub(crate) fn elaborated(alloc: Global, text: &str) -> Result<Rows, &'static str
 /// What a row holds for a property.
 enum Held {
     Nothing,
-    Number(u64),
+    Number(Number),
     Word(Word),
 }
 

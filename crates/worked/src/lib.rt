@@ -22,9 +22,15 @@ mod parse;
 #[cfg(test)]
 mod reaching;
 #[cfg(test)]
+mod read_session;
+#[cfg(test)]
+mod resumed;
+#[cfg(test)]
 mod rows;
 #[cfg(test)]
 mod scope;
+#[cfg(test)]
+mod sessions;
 #[cfg(test)]
 mod text;
 #[cfg(test)]

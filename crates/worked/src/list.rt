@@ -4,6 +4,7 @@ use crate::map::rows_or_fault;
 use crate::rows::bytes;
 use rdl_elab::row::Row;
 use rdl_list::list_text;
+use rdl_text::token::Number;
 use rdl_tree::fault::Fault;
 use rdl_tree::shell::Kind;
 use std::alloc::{AllocError, Global};
@@ -44,7 +45,7 @@ type Instance = (
     &'static [&'static str],
     Kind,
     u64,
-    &'static [u64],
+    &'static [Number],
     &'static str,
 );
 

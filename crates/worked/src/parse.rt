@@ -117,7 +117,11 @@ fn parts_are_read(rt: HostRuntime) -> Result<(), Fail> {
 
 const REFUSED: [(&str, u8, usize); 16] = [
     ("addrmap top { reg { field {} f = 2'h4; } a; };", 5, 34),
-    ("reg { field {} f[64] = 18446744073709551616; } a;", 4, 24),
+    (
+        "reg { field {} f[64] = 340282366920938463463374607431768211456; } a;",
+        4,
+        24,
+    ),
     ("addrmap top { reg {", 10, 20),
     ("T a += 4 @ 8;", 9, 10),
     ("external reg { } internal a;", 9, 18),

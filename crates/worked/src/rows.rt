@@ -2,6 +2,7 @@
 use rdl_elab::row::{Extent, Place, Row, RowPath};
 use rdl_elab::row_values::RowValues;
 use rdl_text::name::Name;
+use rdl_text::token::Number;
 use rdl_tree::dims::Dims;
 use rdl_tree::shell::Kind;
 use std::alloc::{AllocError, Global};
@@ -22,7 +23,7 @@ fn path(alloc: Global, names: &[&str]) -> Result<RowPath, Fail> {
     Ok(RowPath::new(around, Name::new(alloc, last)?))
 }
 
-fn extent(alloc: Global, sizes: &[u64]) -> Result<Extent, AllocError> {
+fn extent(alloc: Global, sizes: &[Number]) -> Result<Extent, AllocError> {
     let sizes = Vec::from_slice(alloc, sizes)?;
     Ok(Extent {
         offset: 0,
@@ -55,7 +56,7 @@ pub(crate) fn bytes(
     names: &[&str],
     kind: Kind,
     base: u64,
-    sizes: &[u64],
+    sizes: &[Number],
 ) -> Result<Row, Fail> {
     let names = path(alloc, names)?;
     Ok(placed(alloc, names, kind, base, extent(alloc, sizes)?)?)

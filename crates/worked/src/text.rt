@@ -107,15 +107,24 @@ const ONE_WORD: [(&str, TokenKind); 16] = [
     ("0", TokenKind::Number(0)),
     ("0017", TokenKind::Number(17)),
     ("1_000__", TokenKind::Number(1000)),
-    ("18446744073709551615", TokenKind::Number(u64::MAX)),
+    (
+        "340282366920938463463374607431768211455",
+        TokenKind::Number(u128::MAX),
+    ),
     ("0xFf", TokenKind::Number(255)),
     ("0X0_1_", TokenKind::Number(1)),
-    ("0xFFFF_FFFF_FFFF_FFFF", TokenKind::Number(u64::MAX)),
+    (
+        "0xFFFF_FFFF_FFFF_FFFF_FFFF_FFFF_FFFF_FFFF",
+        TokenKind::Number(u128::MAX),
+    ),
     ("4'b1_01", TokenKind::Number(5)),
     ("04'B0101", TokenKind::Number(5)),
     ("8'd255", TokenKind::Number(255)),
     ("8'D0_", TokenKind::Number(0)),
-    ("64'hFFFFFFFFFFFFFFFF", TokenKind::Number(u64::MAX)),
+    (
+        "65'h1FFFFFFFFFFFFFFFF",
+        TokenKind::Number(0x1_FFFF_FFFF_FFFF_FFFF),
+    ),
     ("2'H3", TokenKind::Number(3)),
     ("\"\"", TokenKind::Text),
     ("\"a // b\n/* é\"", TokenKind::Text),
@@ -150,12 +159,12 @@ fn identifiers_have_255_letters_at_most(rt: HostRuntime) -> Result<(), Fail> {
 }
 
 const FAULTS: [(&str, u8, usize); 25] = [
-    (" 18446744073709551616", 4, 1),
-    ("a 0x1_0000_0000_0000_0000", 4, 2),
+    (" 340282366920938463463374607431768211456", 4, 1),
+    ("a 0x1_0000_0000_0000_0000_0000_0000_0000_0000", 4, 2),
     (";2'h4", 5, 1),
     ("64'h1_0000_0000_0000_0000", 5, 0),
     ("0'b0", 6, 0),
-    ("65'h0", 6, 0),
+    ("129'h0", 6, 0),
     ("0'b1", 6, 0),
     ("99999999999999999999'h0", 6, 0),
     ("4'h", 1, 1),

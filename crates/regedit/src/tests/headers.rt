@@ -26,7 +26,7 @@ pub(super) const CLASH_WRITTEN: &str = "addrmap top {
 /// A map, a script, and what the script prints and the header has.
 type Case = (&'static str, &'static str, &'static str, &'static str);
 
-const CASES: [Case; 4] = [
+const CASES: [Case; 5] = [
     // the map of the specification that has comments, Verilog numbers and an array
     (
         "// demo
@@ -102,6 +102,41 @@ addrmap top { default regwidth = 32; /* all */ external reg R { field {} f[4'd3:
 #define top__a__f_bp 0
 #define top__a__f_bw 64
 #define top__a__f_reset 0xFFFFFFFFFFFFFFFF
+#endif
+",
+    ),
+    // a register of 128 bits, a reset of 65 and one of 4
+    (
+        "addrmap top { reg { regwidth = 128; field {} f[100:36] = 0x10000000000000001; field {} g[3:0] = 0x5; } a; reg { field {} h; } b; };",
+        "",
+        "",
+        "#ifndef top_H
+#define top_H
+#define top__a_base 0x0
+#define top__a_offset 0x0
+#define top__a_size 0x10
+#define top__a__f_bm0 0x0
+#define top__a__f_bm1 0xFFFFFFF0
+#define top__a__f_bm2 0xFFFFFFFF
+#define top__a__f_bm3 0x1F
+#define top__a__f_bp 36
+#define top__a__f_bw 65
+#define top__a__f_reset0 0x1
+#define top__a__f_reset1 0x0
+#define top__a__f_reset2 0x1
+#define top__a__g_bm0 0xF
+#define top__a__g_bm1 0x0
+#define top__a__g_bm2 0x0
+#define top__a__g_bm3 0x0
+#define top__a__g_bp 0
+#define top__a__g_bw 4
+#define top__a__g_reset 0x5
+#define top__b_base 0x10
+#define top__b_offset 0x10
+#define top__b_size 0x4
+#define top__b__h_bm 0x1
+#define top__b__h_bp 0
+#define top__b__h_bw 1
 #endif
 ",
     ),

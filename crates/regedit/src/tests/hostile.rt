@@ -52,9 +52,9 @@ fn cut_short(rt: HostRuntime) -> Result<(), Fail> {
     Ok(())
 }
 
-const REFUSED: [(&str, &str); 7] = [
+const REFUSED: [(&str, &str); 9] = [
     (
-        "addrmap top { reg { field {} f = 65'h0; } a; };",
+        "addrmap top { reg { field {} f = 129'h0; } a; };",
         "map:1:34: S6 Verilog width out of range\n",
     ),
     (
@@ -63,7 +63,7 @@ const REFUSED: [(&str, &str); 7] = [
     ),
     (
         "addrmap top { reg { field {} f = 0x10000000000000000; } a; };",
-        "map:1:34: S4 number over 64 bits\n",
+        "map:1:30: E23 reset too wide\n",
     ),
     (
         "addrmap top { reg { field {} f = 64'hFFFFFFFFFFFFFFFF; } a; };",
@@ -76,6 +76,14 @@ const REFUSED: [(&str, &str); 7] = [
     (
         "addrmap top { reg { field {} f; } a @ 0x10000000001; };",
         "map:1:35: E12 number out of range\n",
+    ),
+    (
+        "addrmap top { reg { field {} f; } a @ 0x10000000000000000; };",
+        "map:1:35: E12 number out of range\n",
+    ),
+    (
+        "addrmap top { reg { regwidth = 64; field {} f[64] = 18446744073709551616; } a; };",
+        "map:1:45: E23 reset too wide\n",
     ),
     (
         "reg T0 { field {} f; };

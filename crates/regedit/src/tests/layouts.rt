@@ -5,7 +5,7 @@ use std::alloc::Global;
 use std::process::Abort;
 use std::test::Fail;
 
-const WORKED: [(&str, &str); 16] = [
+const WORKED: [(&str, &str); 17] = [
     (
         "addrmap top { addressing = compact; reg {} a; reg { regwidth = 64; accesswidth = 32; } b; reg {} c[20]; };",
         "0x0 addrmap top size 0x5C
@@ -117,6 +117,16 @@ const WORKED: [(&str, &str); 16] = [
         "0x0 addrmap top size 0x8
 0x0 reg top.a size 0x8
 [63:0] field top.a.f reset 0xFFFFFFFFFFFFFFFF
+",
+    ),
+    (
+        "addrmap top { reg { regwidth = 128; field {} f[100:36] = 0x10000000000000001; field {} g[3:0] = 0x5; } a; reg { field {} h; } b; };",
+        "0x0 addrmap top size 0x14
+0x0 reg top.a size 0x10
+[100:36] field top.a.f reset 0x10000000000000001
+[3:0] field top.a.g reset 0x5
+0x10 reg top.b size 0x4
+[0:0] field top.b.h
 ",
     ),
     (

@@ -42,15 +42,15 @@ const REFUSED: [(&str, &str); 47] = [
         "C4 text refused: S3 unended string at column 5",
     ),
     (
-        "add /$top last reg { field {} f = 18446744073709551616; } b;",
-        "C4 text refused: S4 number over 64 bits at column 20",
+        "add /$top last reg { field {} f = 340282366920938463463374607431768211456; } b;",
+        "C4 text refused: S4 number over 128 bits at column 20",
     ),
     (
         "add /$top last 2'h4",
         "C4 text refused: S5 Verilog value does not fit its width at column 1",
     ),
     (
-        "add /$top last 65'h4",
+        "add /$top last 129'h4",
         "C4 text refused: S6 Verilog width out of range at column 1",
     ),
     (

@@ -16,8 +16,8 @@ const REFUSED: [(&str, &str); 19] = [
     ("/* x", "map:1:1: S2 unended comment\n"),
     ("addrmap \"top", "map:1:9: S3 unended string\n"),
     (
-        "addrmap top { reg { field {} f = 18446744073709551616; } a; };",
-        "map:1:34: S4 number over 64 bits\n",
+        "addrmap top { reg { field {} f = 340282366920938463463374607431768211456; } a; };",
+        "map:1:34: S4 number over 128 bits\n",
     ),
     (
         "addrmap top { reg { field {} f = 2'h4; } a; };",

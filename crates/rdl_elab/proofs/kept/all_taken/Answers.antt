@@ -14,7 +14,7 @@ loop-finished-preserved c =
     record {
       done =
           subst (λ (ts : List Taken). AllZip TakesOver ts (yielded ++ one ∷ [])) (sym c.in_ok-push.ensures.items)
-          (takes-push c.loop-finished.all.items yielded t one c.loop-finished.invariant.done (record { layouts = c.take_over.ensures.layouts; key = c.take_over.ensures.key }));
+          (takes-push c.loop-finished.all.items yielded t one c.loop-finished.invariant.done (record { laid_out = c.take_over.ensures.laid_out; key = c.take_over.ensures.key }));
       all = append_assoc yielded (one ∷ []) rest ∙ ap (λ fs. yielded ++ fs) (sym c.in-Some.ensures.steps.0) ∙ c.loop-finished.invariant.all;
       count = omega (arith, length-append yielded (one ∷ []), c.in-Some.ensures.steps.1, c.loop-finished.invariant.count);
     }

@@ -2,6 +2,7 @@ use Rattle.std.proofs.Common.{List, ap, sym, ◌∙◌}
 use Rattle.rdl_elab.specs.declared.layout.Member.{Member}
 use Rattle.rdl_elab.specs.Layouts.{mode_inside, laid_out}
 use Rattle.rdl_elab.specs.Capped.{capped_layout}
+use Rattle.rdl_elab.specs.Finished.{under}
 use Rattle.rdl_elab.specs.Inside.{kept_parts}
 use Rattle.rdl_elab.proofs.Counting.{members-shown}
 use Rattle.rdl_elab.proofs.laid_out.new_layouts.Goals as goal
@@ -11,6 +12,6 @@ invariant_of-laid_out c = λ m.
     let k = c.args.kind in
     let v = c.args.values in
     let n = mode_inside k v m in
-    c.in_ok-layouts.ensures m
+    ap (under m) c.in_ok-new.ensures ∙ c.in_ok-layouts.ensures m
     ∙ sym (members-shown k v n (kept_parts n c.args.components.now c.args.parts.now))
     ∙ sym (ap (λ (ms : List Member). capped_layout (laid_out k v n ms)) (c.requires.members n))

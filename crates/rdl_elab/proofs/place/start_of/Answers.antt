@@ -8,5 +8,5 @@ returns-in-None-align c =
 
 pub returns-in-Some-align : goal.returns-in-Some-align
 returns-in-Some-align c =
-    start_some c.args.alignment c.args.mode c.args.end c.args.item c.in-Some-align.align c.max.result c.min-in-Some-align.result c.next_multiple.result
-    c.in-None.is c.in-Some-align.is c.max.ensures c.min-in-Some-align.ensures c.next_multiple.ensures
+    start_some c.args.alignment c.args.mode c.args.end c.args.item c.in-Some-align.align c.max.result c.capped-in-Some-align.result c.next_multiple.result
+    c.in-None.is c.in-Some-align.is c.max.ensures c.capped-in-Some-align.ensures c.next_multiple.ensures

@@ -3,15 +3,15 @@ use Rattle.std.specs.Prelude.{Option, Some, if◌then◌else◌}
 use Rattle.std.specs.Result.{is_ok}
 use Rattle.std.proofs.lemmas.List.{map-append}
 use Rattle.slab.specs.Slab.{get, HasRoomFor}
-use Rattle.rdl_elab.specs.Kept.{Layouts}
+use Rattle.rdl_elab.specs.Kept.{MadeOf}
 use Rattle.rdl_elab.specs.declared.laid_out.Taken.{Taken}
 use Rattle.rdl_elab.proofs.Goings.{append_nil}
 use Rattle.rdl_elab.specs.Stored.{AreTaken}
 use Rattle.rdl_elab.proofs.Storing.{map-stays, rest-stays, length-zero}
 use Rattle.rdl_elab.proofs.stored.put_all.Goals as goal
 
-abbrev kept_layouts : List Taken → List (Option Layouts)
-kept_layouts = map (λ (t : Taken). Some t.layouts)
+abbrev kept_made : List Taken → List (Option MadeOf)
+kept_made = map (λ (t : Taken). Some t.laid_out)
 
 pub loop-one-preserved : goal.loop-one-preserved
 loop-one-preserved c =
@@ -28,7 +28,7 @@ loop-one-preserved c =
       done =
           ap (map (get new)) pushed ∙ map-append (get new) keys (c.put-key.result ∷ [])
           ∙ (λ i. map-stays old new keys yielded c.put-key.ensures.others c.loop-one.invariant.done i ++ c.put-key.ensures.put i ∷ [])
-          ∙ sym (map-append (λ (t : Taken). Some t.layouts) yielded (one ∷ []));
+          ∙ sym (map-append (λ (t : Taken). Some t.laid_out) yielded (one ∷ []));
       all = append_assoc yielded (one ∷ []) rest ∙ ap (λ ts. yielded ++ ts) (sym here) ∙ c.loop-one.invariant.all;
       count = omega (arith, length-append yielded (one ∷ []), c.in-Some.ensures.steps.1, c.loop-one.invariant.count);
       left = rest-stays old new one rest c.put-key.ensures.others (subst (λ (ts : List Taken). AreTaken old ts) here c.loop-one.invariant.left);
@@ -54,4 +54,4 @@ returns c =
     let none : c.loop-one.one-iterator.rest.items ≡ [] =
     length-zero c.loop-one.one-iterator.rest.items
     (omega (arith, inv.count, c.in-None.ensures.steps.0, ap length inv.all, length-append c.loop-one.yielded c.loop-one.one-iterator.rest.items)) in
-    inv.done ∙ ap kept_layouts (sym (append_nil c.loop-one.yielded) ∙ ap (λ ts. c.loop-one.yielded ++ ts) (sym none) ∙ inv.all)
+    inv.done ∙ ap kept_made (sym (append_nil c.loop-one.yielded) ∙ ap (λ ts. c.loop-one.yielded ++ ts) (sym none) ∙ inv.all)

@@ -7,7 +7,7 @@ use Rattle.rdl_elab.proofs.stored.put_all.Given as goal
 
 abbrev pub invariant-loop-one : goal.invariant-loop-one
 invariant-loop-one l = record {
-  done : map (get l.layouts) l.keys.items ≡ map (λ t. Some t.layouts) l.yielded;
+  done : map (get l.layouts) l.keys.items ≡ map (λ t. Some t.laid_out) l.yielded;
   all : l.yielded ++ l.one-iterator.rest.items ≡ l.fn.taken.items;
   count : length l.yielded + l.one-iterator.rest.len ≡ length l.fn.taken.items;
   left : AreTaken l.layouts l.one-iterator.rest.items;

@@ -94,7 +94,7 @@ walk_items-loop-i-preserved t c =
           (all.stands (standing e b 0 (items_of (take i xs))) (c.loop-i.invariant.stands e h));
       shared = shared;
       finishes = λ e h.
-          finishes-next c.args.before.now.layouts.now c.args.walk.now.components.items c.loop-i.walk.components.items new.components.items b at xs i c.index-items-i.result c.loop-i-test.true c.index-items-i.is refl e
+          finishes-next c.args.before.now c.args.walk.now.components.items c.loop-i.walk.components.items new.components.items b at xs i c.index-items-i.result c.loop-i-test.true c.index-items-i.is refl e
           (c.loop-i.invariant.finishes e h) (all.finishes (standing e b 0 (items_of (take i xs))) (c.loop-i.invariant.stands e h));
       behind = behind-on c.args.walk.now c.loop-i.walk new c.loop-i.invariant.behind all.behind;
     }
@@ -130,7 +130,7 @@ walk_instance-returns-in-Named-clause-part t c = λ e h.
 pub finish-returns-clause-finishes : goal.finish-returns-clause-finishes
 finish-returns-clause-finishes t c = λ e h.
     let d = c.args.description.now.items in
-    let before = c.args.before.now.layouts.now in
+    let before = c.args.before.now in
     let at = c.args.at.now in
     let k = c.args.component.now in
     let mid = c.walk_items.new.walk.components.items in
@@ -141,4 +141,4 @@ finish-returns-clause-finishes t c = λ e h.
     let defaults = c.truncate-2.ensures ∙ ap (λ n. drop (length long - n) long) c.len-defaults.ensures ∙ behind.defaults.same ∙ h.defaults in
     let are = subst (λ t. AreParts d mid (length mid) c.in_ok-parts.parts.items (parts e at 0 t)) (ap items_of c.as_slice.ensures ∙ items_of-list_of k.body) (c.in_ok-parts.ensures.parts e h) in
     finishes-made before c.args.walk.now.components.items mid c.push.new.self.items at k e xs f c.as_slice.ensures c.in_ok-push.ensures.items (c.in_ok-parts.ensures.finishes e h)
-    (laid-out before d f (made_at e at k) (c.in_ok-finished.ensures.kept e (parts e at 0 k.body) (length mid) defaults are) c.in_ok-finished.ensures.before)
+    (laid-out before d (length mid) f (made_at e at k) (c.in_ok-finished.ensures.kept e (parts e at 0 k.body) (length mid) defaults are) (c.in_ok-finished.ensures.made e (parts e at 0 k.body) (length mid) defaults are) c.in_ok-finished.ensures.before c.in_ok-finished.ensures.taken)

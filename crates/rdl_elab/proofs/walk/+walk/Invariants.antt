@@ -4,7 +4,8 @@ use Rattle.rdl_tree.specs.View.{items_of}
 use Rattle.rdl_scope.specs.Closed.{Standing, parts, standing}
 use Rattle.rdl_elab.specs.Finished.{AreParts}
 use Rattle.rdl_elab.specs.Stands.{Stands, IsBehind}
-use Rattle.rdl_elab.specs.Written.{written, Finishes}
+use Rattle.rdl_elab.specs.Written.{written}
+use Rattle.rdl_elab.specs.Finishes.{Finishes}
 use Rattle.rdl_elab.proofs.walk.+walk.Given as goal
 
 abbrev pub decreases-walk_items : goal.decreases-walk_items
@@ -24,6 +25,6 @@ invariant-walk_items-loop-i l = record {
   parts : (e : Standing) → Stands l.description.items l.initial.walk e → AreParts l.description.items l.walk.components.items (length l.walk.components.items) l.parts.items (parts e l.at 0 (items_of (take l.i l.items)));
   stands : (e : Standing) → Stands l.description.items l.initial.walk e → Stands l.description.items l.walk (standing e l.at 0 (items_of (take l.i l.items)));
   shared : IfSome l.shared (λ a. a ≡ l.at);
-  finishes : (e : Standing) → Stands l.description.items l.initial.walk e → Finishes l.before.layouts.now l.initial.walk.components.items l.walk.components.items (written e l.at 0 (items_of (take l.i l.items)));
+  finishes : (e : Standing) → Stands l.description.items l.initial.walk e → Finishes l.before l.initial.walk.components.items l.walk.components.items (written e l.at 0 (items_of (take l.i l.items)));
   behind : IsBehind l.initial.walk l.walk;
 }

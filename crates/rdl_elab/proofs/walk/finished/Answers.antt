@@ -1,12 +1,14 @@
-use Rattle.std.proofs.Common.{◌≡◌, List, [], refl, sym, subst, ◌∙◌}
-use Rattle.rdl_scope.specs.Closed.{Head, head_at, head_value}
+use Rattle.std.proofs.Common.{◌≡◌, List, [], refl, ap, sym, subst, ◌∙◌}
+use Rattle.rdl_scope.specs.Closed.{Head, Made, head_at, head_value}
 use Rattle.rdl_elab.specs.declared.layout.LayoutValues.{LayoutValues}
 use Rattle.rdl_elab.specs.Kept.{Part}
 use Rattle.rdl_elab.specs.declared.finished.Finished.{Finished}
 use Rattle.rdl_elab.specs.Capped.{IsAlignment}
 use Rattle.rdl_elab.specs.Finished.{AreParts}
+use Rattle.rdl_elab.specs.MadeOf.{layout_made}
+use Rattle.rdl_elab.proofs.Making.{layout-made, members-are}
 use Rattle.rdl_elab.proofs.Powers.{alignment-power}
-use Rattle.rdl_elab.proofs.Insides.{layouts-are, levels-kept, rows-kept, empty-kept}
+use Rattle.rdl_elab.proofs.Insides.{levels-kept, rows-kept, empty-kept}
 use Rattle.rdl_elab.proofs.walk.finished.Goals as goal
 
 pub take_layouts-requires : goal.take_layouts-requires
@@ -14,11 +16,24 @@ take_layouts-requires c =
     let h : Head = record { at = []; kind = c.args.component.now.kind; body = c.args.component.now.body; defaults = c.args.walk.now.defaults } in
     subst (λ (v : LayoutValues). IsAlignment v.alignment) (sym (c.layout_values-values.ensures h refl refl)) (alignment-power (head_value h))
 
+pub returns-clause-made : goal.returns-clause-made
+returns-clause-made c = λ e inside n same are.
+    let d = c.args.description.now.items in
+    let fs = c.as_slice-components.result.now in
+    let taken = c.in_ok-taken.taken.laid_out in
+    let h = head_at c.args.at.now c.args.component.now.kind c.args.component.now.body e in
+    let here = subst (λ (gs : List Finished). AreParts d gs n c.as_slice.result.now inside) (sym c.as_slice-components.ensures.value)
+    (subst (λ (qs : List Part). AreParts d c.args.walk.now.components.items n qs inside) (sym c.as_slice.ensures.value) are) in
+    let values = c.in_ok-taken.ensures.values ∙ c.layout_values-values.ensures h refl (sym same) in
+    let members = members-are d fs n c.as_slice.result.now inside taken.members here c.in_ok-taken.ensures.members in
+    λ i. record { kind = c.in_ok-taken.ensures.kind i; values = values i; members = members i }
+
 pub returns-clause-kept : goal.returns-clause-kept
 returns-clause-kept c = λ e inside n same are.
     let d = c.args.description.now.items in
     let fs = c.as_slice-components.result.now in
     let h = head_at c.args.at.now c.args.component.now.kind c.args.component.now.body e in
+    let made : Made = record { head = h; parts = inside } in
     let moved = λ (ps : List Part) (g : ps ≡ c.args.parts.items).
     subst (λ (gs : List Finished). AreParts d gs n ps inside) (sym c.as_slice-components.ensures.value) (subst (λ (qs : List Part). AreParts d c.args.walk.now.components.items n qs inside) (sym g) are) in
     record {
@@ -26,7 +41,7 @@ returns-clause-kept c = λ e inside n same are.
       values = c.layout_values-values.ensures h refl (sym same);
       shown = c.in_ok-shown.ensures h refl refl (sym same);
       assignments = c.in_ok-assignments.ensures;
-      layouts = layouts-are d fs n c.as_slice.result.now inside h c.layout_values-values.result c.in_ok-taken.taken.layouts (c.layout_values-values.ensures h refl (sym same)) (moved c.as_slice.result.now c.as_slice.ensures.value) c.in_ok-taken.ensures.layouts;
+      layouts = λ m. c.in_ok-layouts.ensures m ∙ ap (layout_made m) (returns-clause-made c e inside n same are) ∙ layout-made m made;
       levels = c.levels.ensures ∙ levels-kept d fs n c.as_slice-3.result.now inside (moved c.as_slice-3.result.now c.as_slice-3.ensures.value);
       rows = c.rows.ensures ∙ rows-kept d fs n c.as_slice-4.result.now inside (moved c.as_slice-4.result.now c.as_slice-4.ensures.value);
       first_empty = c.in_ok-first_empty.ensures ∙ empty-kept d fs n c.as_slice-2.result.now inside (moved c.as_slice-2.result.now c.as_slice-2.ensures.value);

@@ -1,11 +1,11 @@
-use Rattle.std.proofs.Common.{◌++◌, List, [], length, ap, sym, subst, ◌∙◌, arith}
-use Rattle.std.specs.List.{AllZip}
+use Rattle.std.proofs.Common.{◌≡◌, ◌++◌, List, [], length, ap, sym, subst, ◌∙◌, arith}
 use Rattle.rdl_tree.specs.Depth.{depth}
 use Rattle.rdl_tree.specs.View.{items_of}
 use Rattle.rdl_tree.proofs.Rounds.{items_of-list_of}
 use Rattle.rdl_scope.specs.Closed.{nothing}
 use Rattle.rdl_elab.specs.declared.finished.Finished.{Finished}
-use Rattle.rdl_elab.specs.Written.{written, all_written, Finishes, IsLaidOut}
+use Rattle.rdl_elab.specs.Written.{written, all_written}
+use Rattle.rdl_elab.specs.Finishes.{AreLaidOut, Finishes}
 use Rattle.rdl_elab.proofs.Goings.{stands-first}
 use Rattle.rdl_elab.proofs.walk.lay_out_all.Goals as goal
 
@@ -16,11 +16,12 @@ walk_items-requires-clause-room c =
 pub returns : goal.returns
 returns c =
     let d = c.args.description.now.items in
-    let before = c.args.before.now.layouts.now in
+    let before = c.args.before.now in
     let new = c.walk_items.new.walk.components.items in
     let first = stands-first d c.in_ok-walk.walk c.in_ok-walk.ensures.types c.in_ok-walk.ensures.defaults in
     let all = c.in_ok-walk_items.ensures.finishes nothing first in
     let whole = subst (λ t. Finishes before c.in_ok-walk.walk.components.items new (written nothing [] 0 t)) (ap items_of c.as_slice-items.ensures ∙ items_of-list_of d)
     (subst (λ b. Finishes before c.in_ok-walk.walk.components.items new (written nothing b 0 (items_of c.as_slice-items.result.now))) c.new-root.ensures all) in
-    subst (λ (fs : List Finished). AllZip (IsLaidOut before) fs (all_written d))
-    (sym (whole.is ∙ ap (λ (fs : List Finished). fs ++ whole.more) c.in_ok-walk.ensures.components)) whole.are
+    let size : length c.in_ok-walk.walk.components.items ≡ 0 = ap length c.in_ok-walk.ensures.components in
+    subst (λ (fs : List Finished). AreLaidOut before 0 fs (all_written d))
+    (sym (whole.is ∙ ap (λ (fs : List Finished). fs ++ whole.more) c.in_ok-walk.ensures.components)) (subst (λ n. AreLaidOut before n whole.more (all_written d)) size whole.are)

@@ -1,8 +1,11 @@
-use Rattle.std.proofs.Common.{take}
-use Rattle.std.specs.List.{flat_map}
+use Rattle.std.proofs.Common.{◌≡◌, take}
 use Rattle.rdl_header.specs.Defines.{IsAdded}
-use Rattle.rdl_header.specs.HeaderText.{macros_of}
+use Rattle.rdl_header.specs.HeaderText.{macros_below}
+use Rattle.rdl_header.proofs.WordMacros.{register_after}
 use Rattle.rdl_header.proofs.macros.add_rows.Given as goal
 
 abbrev pub invariant-rows : goal.invariant-rows
-invariant-rows l = IsAdded l.fn.defines (flat_map macros_of (take l.row-index l.rows)) l.defines
+invariant-rows l = record {
+  inside : l.register ≡ register_after 0 (take l.row-index l.rows);
+  added : IsAdded l.fn.defines (macros_below 0 (take l.row-index l.rows)) l.defines;
+}

@@ -11,7 +11,6 @@ invariant_of-self-in-Ok g c =
     let j = c.self.inside in
     let items : c.push.new.self.items ≡ j.done.items ++ c.in-Ok.back ∷ [] = search rules in
     record {
-      within = search rules;
       done_fit = subst (FitAlong m.prior m.fits (m.state c.apply.new.self)) (sym items)
           (FitAlong-push m.prior m.fits _ _ _ c.in-Ok.ensures.fits (subst (λ s. FitAlong m.prior m.fits s j.done.items) (sym c.in-Ok.ensures.back) c.self.invariant.done_fit));
       undone_fit = subst (FitAlong m.prior m.fits (m.state c.apply.new.self)) (sym c.clear.ensures.items) tt;

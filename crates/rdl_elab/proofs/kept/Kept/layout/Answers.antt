@@ -1,10 +1,10 @@
-use Rattle.std.proofs.Common.{◌<◌, ◌^◌, List, ap, sym, subst, ◌∙◌, arith}
+use Rattle.std.proofs.Common.{◌<◌, ◌^◌, ap, sym, subst, ◌∙◌, arith}
 use Rattle.std.specs.Prelude.{option_map}
 use Rattle.rdl_tree.specs.Weight.{capped}
 use Rattle.rdl_scope.proofs.AsFound.{as_found}
-use Rattle.rdl_elab.specs.Kept.{Layouts}
+use Rattle.rdl_tree.specs.Items.{Items}
 use Rattle.rdl_elab.specs.AllKept.{KeptLayouts}
-use Rattle.rdl_elab.specs.Written.{all_layouts}
+use Rattle.rdl_elab.specs.MadeOf.{all_made}
 use Rattle.rdl_elab.specs.Stored.{IsStored}
 use Rattle.rdl_elab.specs.Numbers.{components, number}
 use Rattle.rdl_elab.proofs.Numbering.{number-less}
@@ -21,10 +21,10 @@ returns-in-Some c =
     let a = c.args.body.now in
     let slab = c.self.inside.stored.layouts in
     let keys = c.self.inside.stored.keys.items in
-    let is : IsStored slab keys (all_layouts d) = subst (λ (ls : List Layouts). IsStored slab keys ls) (ap (λ (k : KeptLayouts). k.layouts) c.self.view_is ∙ c.requires.layouts) c.self.invariant in
+    let is : IsStored slab keys (all_made d) = subst (λ (t : Items). IsStored slab keys (all_made t)) (ap (λ (k : KeptLayouts). k.description) c.self.view_is ∙ c.requires.description) c.self.invariant in
     let small : components d < 2 ^ 64 = omega (arith, few d slab keys c.len.result is c.len.ensures, c.len.type_inv) in
     let at = exact-number d a c.in-Some.number (ap (λ b. option_map capped (number b d)) (sym c.as_slice.ensures.value) ∙ sym c.number.ensures ∙ c.in-Some.is) small in
-    c.layout.ensures (all_layouts d) is ∙ layout-numbered d a c.args.mode c.in-Some.number (as_found d) at (sym c.has_layout.ensures ∙ c.if-not-has_layout.false)
+    c.layout.ensures (all_made d) is ∙ layout-numbered d a c.args.mode c.in-Some.number (as_found d) at (sym c.has_layout.ensures ∙ c.if-not-has_layout.false)
 
 pub returns-in_default : goal.returns-in_default
 returns-in_default c =
@@ -32,7 +32,7 @@ returns-in_default c =
     let a = c.args.body.now in
     let slab = c.self.inside.stored.layouts in
     let keys = c.self.inside.stored.keys.items in
-    let is : IsStored slab keys (all_layouts d) = subst (λ (ls : List Layouts). IsStored slab keys ls) (ap (λ (k : KeptLayouts). k.layouts) c.self.view_is ∙ c.requires.layouts) c.self.invariant in
+    let is : IsStored slab keys (all_made d) = subst (λ (t : Items). IsStored slab keys (all_made t)) (ap (λ (k : KeptLayouts). k.description) c.self.view_is ∙ c.requires.description) c.self.invariant in
     let numbers = ap (λ b. option_map capped (number b d)) (sym c.as_slice.ensures.value) ∙ sym c.number.ensures in
     elim c.in_default.branch [
       | in_default-via-in-Some+else-number-len w ↦

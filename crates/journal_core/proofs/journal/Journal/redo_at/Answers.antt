@@ -1,0 +1,28 @@
+use Rattle.std.proofs.Common.{◌≡◌, ◌+◌, ◌≤◌, ◌↔◌, None, ap, ◌∙◌, subst, arith, option_copied, slice_get, length, IfSome}
+use mathlib.Core.List.{reverse}
+use Rattle.journal_core.specs.History.{LeadsBetween}
+use Rattle.journal_core.proofs.Stacks.{length-states-all}
+use Rattle.journal_core.proofs.Ways.{of_value, within_reverse, past_reverse, on-at}
+use Rattle.journal_core.proofs.journal.Journal.redo_at.Goals as goal
+
+pub returns-clause-none : goal.returns-clause-none
+returns-clause-none g c =
+    let m = g.M.Invertible in
+    let j = c.self.inside in
+    let i = c.args.i in
+    let found : option_copied c.from_the_end.result ≡ slice_get (reverse j.undone.items) i = c.from_the_end.ensures ∙ ap (λ xs. slice_get (reverse xs) i) c.as_slice.ensures.value in
+    let len : length c.args.self.now.states ≡ c.args.self.now.place + (length j.undone.items + 1) =
+    subst (λ h. length h.states ≡ h.place + (length j.undone.items + 1)) c.self.view_is (length-states-all m.prior (m.state j.map) j.done.items j.undone.items) in
+    let past : (length j.undone.items ≤ i) ↔ (option_copied c.from_the_end.result ≡ None) = past_reverse j.undone.items i _ found in
+    (λ h. past.0 (omega (arith, len, h)), λ e. let h : length j.undone.items ≤ i = past.1 e in omega (arith, len, h))
+
+pub returns-clause-leads : goal.returns-clause-leads
+returns-clause-leads g c =
+    let m = g.M.Invertible in
+    let j = c.self.inside in
+    let now = m.state j.map in
+    let i = c.args.i in
+    let found : option_copied c.from_the_end.result ≡ slice_get (reverse j.undone.items) i = c.from_the_end.ensures ∙ ap (λ xs. slice_get (reverse xs) i) c.as_slice.ensures.value in
+    subst (λ h. IfSome c.from_the_end.result (λ step. LeadsBetween m.prior m.fits h.states (h.place + i) (h.place + i + 1) step.now)) c.self.view_is
+    (of_value c.from_the_end.result (slice_get (reverse j.undone.items) i) (LeadsBetween m.prior m.fits _ (length j.done.items + i) (length j.done.items + i + 1)) found
+    (λ b e. on-at m.prior m.fits now j.done.items j.undone.items i b c.self.invariant.undone_fit (within_reverse j.undone.items i b e) e))

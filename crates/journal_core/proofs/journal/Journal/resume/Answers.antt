@@ -1,0 +1,16 @@
+use Rattle.std.proofs.Common.{subst, sym}
+use Rattle.journal_core.specs.Along.{FitAlong}
+use Rattle.journal_core.proofs.Ways.{fit-reverse, resumed-is}
+use Rattle.journal_core.proofs.journal.Journal.resume.Goals as goal
+
+pub invariant_of-result : goal.invariant_of-result
+invariant_of-result g c =
+    let m = g.M.Invertible in
+    let now = m.state c.args.map in
+    record {
+      done_fit = subst (FitAlong m.prior m.fits now) (sym c.reversed.ensures) (fit-reverse m.prior m.fits now c.args.undo.items c.requires.undo_fits);
+      undone_fit = subst (FitAlong m.prior m.fits now) (sym c.reversed-2.ensures) (fit-reverse m.prior m.fits now c.args.redo.items c.requires.redo_fits);
+    }
+
+pub returns : goal.returns
+returns g c = resumed-is g.M.Invertible.prior (g.M.Invertible.state c.args.map) c.args.limit c.args.undo.items c.args.redo.items _ _ c.reversed.ensures c.reversed-2.ensures

@@ -1,0 +1,17 @@
+use Rattle.std.proofs.Common.{◌≡◌, ◌-◌, ap, ◌∙◌, subst, option_copied, slice_get, length, IfSome}
+use mathlib.Core.List.{reverse}
+use Rattle.journal_core.specs.Along.{states_along}
+use Rattle.journal_core.specs.History.{LeadsBetween}
+use Rattle.journal_core.proofs.Ways.{of_value, within_reverse, back-at}
+use Rattle.journal_core.proofs.journal.Journal.undo_at.Goals as goal
+
+pub returns-clause-leads : goal.returns-clause-leads
+returns-clause-leads g c =
+    let m = g.M.Invertible in
+    let j = c.self.inside in
+    let now = m.state j.map in
+    let i = c.args.i in
+    let found : option_copied c.from_the_end.result ≡ slice_get (reverse j.done.items) i = c.from_the_end.ensures ∙ ap (λ xs. slice_get (reverse xs) i) c.as_slice.ensures.value in
+    subst (λ h. IfSome c.from_the_end.result (λ back. LeadsBetween m.prior m.fits h.states (h.place - i) (h.place - i - 1) back.now)) c.self.view_is
+    (of_value c.from_the_end.result (slice_get (reverse j.done.items) i) (LeadsBetween m.prior m.fits _ (length j.done.items - i) (length j.done.items - i - 1)) found
+    (λ b e. back-at m.prior m.fits now j.done.items (reverse (states_along m.prior now j.undone.items)) i b c.self.invariant.done_fit (within_reverse j.done.items i b e) e))

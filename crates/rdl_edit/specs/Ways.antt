@@ -1,0 +1,45 @@
+-- The steps of a session, taken one after another, and what leads home again.
+-- own: SystemRDL 2.0 has no edits.
+use Rattle.std.specs.Prelude.{◌≡◌, ℕ, Bool, true, false, List, [], ◌∷◌, if◌then◌else◌}
+use Rattle.rdl_tree.specs.Items.{Items}
+use Rattle.rdl_tree.specs.Patch.{AllFit, image, inverses}
+use Rattle.rdl_tree.specs.declared.patch.Patch.{Patch}
+use Rattle.rdl_tree.specs.declared.session.Where.TheVariants as where_
+use Rattle.rdl_edit.specs.declared.resuming.Direction.{Direction}
+use Rattle.rdl_edit.specs.declared.resuming.Direction.TheVariants as way
+use Rattle.rdl_tree.specs.declared.fault.Fault.{Fault}
+use Rattle.rdl_tree.specs.declared.session.SessionFault.{SessionFault}
+use Rattle.rdl_tree.specs.declared.session.SessionFault.TheVariants.{PatchMisfits, MapFaulty, Memory}
+use Rattle.rdl_tree.specs.declared.session.Where.{Where}
+use Rattle.rdl_edit.specs.declared.resuming.Stop.{Stop}
+use Rattle.rdl_edit.specs.declared.resuming.Stop.TheVariants as stop
+use Rattle.rdl_edit.specs.Faults.{is_memory}
+
+-- patches stop where one doesn't fit, or for want of memory
+abbrev pub IsMisfit : (fit : Bool) → Stop → Type 0
+IsMisfit fit stop.Misfit = fit ≡ false
+IsMisfit fit stop.Memory = Unit {0}
+
+abbrev pub stop_at : Where → Stop → SessionFault
+stop_at at stop.Misfit = PatchMisfits at
+stop_at at stop.Memory = Memory
+
+-- a map that has this fault at a place is refused, where memory wasn't wanted
+abbrev pub refused : Where → Fault → SessionFault
+refused at fault = if is_memory fault.kind then Memory else MapFaulty at fault
+
+-- ---- Steps, one after another.
+
+abbrev pub place_of : Direction → ℕ → Where
+place_of way.Undo n = where_.Undo n
+place_of way.Redo n = where_.Redo n
+
+-- the patches of each step fit where those before it led
+abbrev pub AllLead : Items → List (List Patch) → Type 0
+AllLead d [] = Unit {0}
+AllLead d (step ∷ steps) = AllFit step d × AllLead (image step d) steps
+
+-- what takes each step back
+abbrev pub ways_along : Items → List (List Patch) → List (List Patch)
+ways_along d [] = []
+ways_along d (step ∷ steps) = inverses step d ∷ ways_along (image step d) steps

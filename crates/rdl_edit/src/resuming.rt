@@ -1,0 +1,294 @@
+//! The places of a session, gone through one after another.
+ghost use Rattle.std.specs.Prelude.{◌≡◌, ◌⊎◌, ◌≤◌, ◌+◌, ◌∷◌, ◌++◌, [], ℕ, IsTrue, false, length, map, None, Some, IfOk, IfErr, OnOk, option_copied};
+ghost use mathlib.Core.List.{reverse};
+ghost use Rattle.rdl_tree.specs.Depth.{depth};
+ghost use Rattle.rdl_tree.specs.Patch.{fits, AllFit, patched, image, inverse, inverses};
+ghost use Rattle.rdl_tree.specs.declared.session.SessionFault.TheVariants.{Memory};
+ghost use Rattle.journal_core.specs.Along.{FitInTurn};
+ghost use Rattle.rdl_edit.specs.Backs.{prior, Fits};
+ghost use Rattle.rdl_edit.specs.Resuming.{all_fit, place_fault, step_fault, steps_fault, place_after};
+ghost use Rattle.rdl_tree.specs.declared.session.Where.TheVariants as where_;
+ghost use Rattle.rdl_edit.specs.Keeping.{Keeps};
+ghost use Rattle.rdl_edit.specs.Step.{HasRows};
+ghost use Rattle.rdl_edit.specs.Ways.{IsMisfit, stop_at, refused, place_of, ways_along, AllLead};
+
+use crate::back::Back;
+use crate::edit::is_memory;
+use rdl_elab::elaborate::elaborate;
+use rdl_elab::kept::Kept;
+use rdl_tree::description::Description;
+use rdl_tree::fault::Fault;
+use rdl_tree::patch::Patch;
+use rdl_tree::session::{SessionFault, Where};
+use std::alloc::{AllocError, Global};
+
+/// Why patches aren't applied.
+#[derive(Clone, Copy, Debug, PartialEq, Eq)]
+enum Stop {
+    Misfit,
+    Memory,
+}
+
+impl From<AllocError> for Stop {
+    ghost use Rattle.rdl_edit.specs.declared.resuming.Stop.{Stop};
+    ghost use Rattle.std.specs.Prelude.{◌≡◌};
+
+    ghost from_gives = { λ _ stop. stop ≡ Stop.Memory };
+
+    fn from(_error: AllocError) -> Stop {
+        Stop::Memory
+    }
+}
+
+fn list_of(alloc: Global, patch: Patch) -> Result<Vec<Patch>, AllocError>
+    ensures { IfOk result (λ patches. patches.items ≡ patch ∷ []) }
+{
+    let mut patches = Vec::with_capacity(alloc, 1)?;
+    patches.push(patch)?;
+    Ok(patches)
+}
+
+/// The same patches, the last one first.
+fn reversed<T>(mut items: Vec<T>) -> Vec<T>
+    ensures { result.items ≡ reverse items.items }
+{
+    items.as_mut_slice().reverse();
+    items
+}
+
+/// Puts the patch of a list of at most one behind the others.
+fn push_only(back: &mut Vec<Patch>, mut inverse: Vec<Patch>) -> Result<(), AllocError>
+    requires { length inverse.items ≤ 1 }
+    ensures { OnOk result (back.new.items ≡ back.old.items ++ inverse.items) }
+{
+    if let Some(patch) = inverse.pop() {
+        back.push(patch)?;
+    }
+    Ok(())
+}
+
+/// Applies a patch, if it fits, and puts what takes it back behind the others.
+fn turn_one(
+    alloc: Global,
+    description: &mut Description,
+    patch: Patch,
+    back: &mut Vec<Patch>,
+) -> Result<(), Stop>
+    ensures fits { OnOk result (IsTrue (fits patch description.old.items)) }
+    ensures made { OnOk result (description.new.items ≡ patched patch description.old.items) }
+    ensures back { OnOk result (back.new.items ≡ back.old.items ++ inverse patch description.old.items) }
+    ensures misfit { IfErr result (IsMisfit (fits patch description.old.items)) }
+{
+    if !description.fits(&patch) {
+        return Err(Stop::Misfit);
+    }
+    let patches = list_of(alloc, patch)?;
+    let Ok(turned) = description.turn(alloc, patches) else {
+        return Err(Stop::Memory);
+    };
+    push_only(back, turned.keep())?;
+    Ok(())
+}
+
+/// Applies patches, each if it fits where those before it led, and answers those that take them back, the last one's
+/// first.
+fn turn_all(
+    alloc: Global,
+    description: &mut Description,
+    patches: Vec<Patch>,
+) -> Result<Vec<Patch>, Stop>
+    ensures fit { OnOk result (AllFit patches.items description.old.items) }
+    ensures made { OnOk result (description.new.items ≡ image patches.items description.old.items) }
+    ensures back { IfOk result (λ back. back.items ≡ inverses patches.items description.old.items) }
+    ensures misfit { IfErr result (IsMisfit (all_fit patches.items description.old.items)) }
+{
+    let mut back = Vec::with_capacity(alloc, patches.len())?;
+    for patch in patches {
+        turn_one(alloc, description, patch, &mut back)?;
+    }
+    Ok(reversed(back))
+}
+
+fn faulty(place: Where, fault: Fault) -> SessionFault
+    ensures { result ≡ refused place fault }
+{
+    if is_memory(fault.kind) {
+        SessionFault::Memory
+    } else {
+        SessionFault::MapFaulty(place, fault)
+    }
+}
+
+/// Judges the map at a place.
+fn judge(
+    alloc: Global,
+    description: &Description,
+    name: Option<&str>,
+    place: Where,
+) -> Result<(), SessionFault>
+    ensures rows { OnOk result (HasRows (record { description = description.now.items; option = option_copied name.entry })) }
+    ensures faultless { OnOk result (place_fault place (option_copied name.entry) description.now.items ≡ None) }
+    ensures refused { IfErr result (λ f. (place_fault place (option_copied name.entry) description.now.items ≡ Some f) ⊎ (f ≡ Memory)) }
+{
+    match elaborate(alloc, description, name) {
+        Ok(_rows) => Ok(()),
+        Err(fault) => Err(faulty(place, fault)),
+    }
+}
+
+fn stopped(place: Where, stop: Stop) -> SessionFault
+    ensures { result ≡ stop_at place stop }
+{
+    match stop {
+        Stop::Misfit => SessionFault::PatchMisfits(place),
+        Stop::Memory => SessionFault::Memory,
+    }
+}
+
+/// Takes a step to a place, and answers the patches that lead back.
+#[tactic(auto, using(crate::proofs::Walking::steps))]
+fn take_step(
+    alloc: Global,
+    description: &mut Description,
+    name: Option<&str>,
+    step: Vec<Patch>,
+    place: Where,
+) -> Result<Vec<Patch>, SessionFault>
+    ensures fits { OnOk result (Fits (record { description = description.old.items; option = option_copied name.entry }) step.items) }
+    ensures made { OnOk result (description.new.items ≡ image step.items description.old.items) }
+    ensures back { IfOk result (λ back. back.items ≡ inverses step.items description.old.items) }
+    ensures faultless { OnOk result (step_fault place (option_copied name.entry) description.old.items step.items ≡ None) }
+    ensures refused { IfErr result (λ f. (step_fault place (option_copied name.entry) description.old.items step.items ≡ Some f) ⊎ (f ≡ Memory)) }
+{
+    let back = match turn_all(alloc, description, step) {
+        Ok(back) => back,
+        Err(stop) => return Err(stopped(place, stop)),
+    };
+    match judge(alloc, description, name, place) {
+        Ok(()) => Ok(back),
+        Err(fault) => Err(fault),
+    }
+}
+
+/// Which way steps lead from the map.
+#[derive(Clone, Copy, Debug, PartialEq, Eq)]
+pub(crate) enum Direction {
+    Undo,
+    Redo,
+}
+
+fn place_of(direction: Direction, number: usize) -> Where
+    ensures { result ≡ place_of direction number }
+{
+    match direction {
+        Direction::Undo => Where::Undo(number),
+        Direction::Redo => Where::Redo(number),
+    }
+}
+
+/// Takes the steps one after another, and answers those that lead home, the last one's first.
+fn go(
+    alloc: Global,
+    description: &mut Description,
+    name: Option<&str>,
+    steps: Vec<Back>,
+    direction: Direction,
+) -> Result<Vec<Back>, SessionFault>
+    ensures fits { OnOk result (FitInTurn prior Fits (record { description = description.old.items; option = option_copied name.entry }) steps.items) }
+    ensures there { OnOk result (description.new.items ≡ place_after description.old.items steps.items) }
+    ensures ways { IfOk result (λ ways. ways.items ≡ reverse (ways_along description.old.items steps.items)) }
+    ensures faultless { OnOk result (steps_fault (place_of direction) (option_copied name.entry) 1 description.old.items steps.items ≡ None) }
+    ensures refused { IfErr result (λ f. (steps_fault (place_of direction) (option_copied name.entry) 1 description.old.items steps.items ≡ Some f) ⊎ (f ≡ Memory)) }
+{
+    let Ok(mut ways) = Vec::with_capacity(alloc, steps.len()) else {
+        return Err(SessionFault::Memory);
+    };
+    for step in steps {
+        let place = place_of(direction, ways.len().saturating_add(1));
+        let way = match take_step(alloc, description, name, step.into_vec(), place) {
+            Ok(way) => Back::from_vec(way),
+            Err(fault) => return Err(fault),
+        };
+        if ways.push(way).is_err() {
+            return Err(SessionFault::Memory);
+        }
+    }
+    Ok(reversed(ways))
+}
+
+/// Takes the steps home, and answers those that lead there again, the first one first.
+fn come_back(
+    alloc: Global,
+    description: &mut Description,
+    ways: Vec<Back>,
+) -> Result<Vec<Back>, AllocError>
+    requires { AllLead description.old.items ways.items }
+    ensures home { OnOk result (description.new.items ≡ place_after description.old.items ways.items) }
+    ensures steps { IfOk result (λ steps. steps.items ≡ reverse (ways_along description.old.items ways.items)) }
+{
+    let mut steps = Vec::with_capacity(alloc, ways.len())?;
+    for way in ways {
+        let Ok(turned) = description.turn(alloc, way.into_vec()) else {
+            return Err(AllocError);
+        };
+        steps.push(Back::from_vec(turned.keep()))?;
+    }
+    Ok(reversed(steps))
+}
+
+/// Goes along the steps and back. The description and the steps are as before.
+pub(crate) fn visit(
+    alloc: Global,
+    description: &mut Description,
+    name: Option<&str>,
+    steps: Vec<Back>,
+    direction: Direction,
+) -> Result<Vec<Back>, SessionFault>
+    requires { depth description.old.items ≤ 16 }
+    ensures fits { OnOk result (FitInTurn prior Fits (record { description = description.old.items; option = option_copied name.entry }) steps.items) }
+    ensures home { OnOk result (description.new.items ≡ description.old.items) }
+    ensures steps { IfOk result (λ same. same.items ≡ steps.items) }
+    ensures faultless { OnOk result (steps_fault (place_of direction) (option_copied name.entry) 1 description.old.items steps.items ≡ None) }
+    ensures refused { IfErr result (λ f. (steps_fault (place_of direction) (option_copied name.entry) 1 description.old.items steps.items ≡ Some f) ⊎ (f ≡ Memory)) }
+{
+    let ways = match go(alloc, description, name, steps, direction) {
+        Ok(ways) => ways,
+        Err(fault) => return Err(fault),
+    };
+    match come_back(alloc, description, ways) {
+        Ok(steps) => Ok(steps),
+        Err(_) => Err(SessionFault::Memory),
+    }
+}
+
+/// The steps as what takes a map back.
+pub(crate) fn backs(alloc: Global, steps: Vec<Vec<Patch>>) -> Result<Vec<Back>, SessionFault>
+    ensures backs { IfOk result (λ backs. backs.items ≡ map (λ step. step.items) steps.items) }
+    ensures refused { IfErr result (λ f. f ≡ Memory) }
+{
+    let Ok(mut backs) = Vec::with_capacity(alloc, steps.len()) else {
+        return Err(SessionFault::Memory);
+    };
+    for step in steps {
+        if backs.push(Back::from_vec(step)).is_err() {
+            return Err(SessionFault::Memory);
+        }
+    }
+    Ok(backs)
+}
+
+/// The layouts of the map that a session holds.
+pub(crate) fn opened(
+    alloc: Global,
+    description: &Description,
+    name: Option<&str>,
+) -> Result<Kept, SessionFault>
+    ensures keeps { IfOk result (Keeps (record { description = description.now.items; option = option_copied name.entry })) }
+    ensures faultless { OnOk result (place_fault where_.Map (option_copied name.entry) description.now.items ≡ None) }
+    ensures refused { IfErr result (λ f. (place_fault where_.Map (option_copied name.entry) description.now.items ≡ Some f) ⊎ (f ≡ Memory)) }
+{
+    match Kept::of(alloc, description, name) {
+        Ok(kept) => Ok(kept),
+        Err(fault) => Err(faulty(Where::Map, fault)),
+    }
+}

@@ -1,0 +1,38 @@
+-- What the layouts of a component are made of. Where that stays the same, so do they.
+-- own: SystemRDL 2.0 says how components are laid out, and nothing of edits.
+use Rattle.std.specs.Prelude.{List, [], ◌∷◌, map}
+use Rattle.rdl_tree.specs.Items.{Items}
+use Rattle.rdl_tree.specs.declared.shell.Shell.{Shell}
+use Rattle.rdl_scope.specs.Closed.{Parts, no_parts, part, Made}
+use Rattle.rdl_elab.specs.declared.layout.Mode.{Mode}
+use Rattle.rdl_elab.specs.declared.layout.Mode.TheVariants.{Compact, Regalign, Fullalign}
+use Rattle.rdl_elab.specs.declared.layout.Layout.{Layout}
+use Rattle.rdl_elab.specs.declared.laid_out.EachMember.{EachMember}
+use Rattle.rdl_elab.specs.Kept.{Layouts, MadeOf}
+use Rattle.rdl_elab.specs.Layouts.{values_of, mode_inside, laid_out, layout}
+use Rattle.rdl_elab.specs.Capped.{capped_layout}
+use Rattle.rdl_elab.specs.LaidOut.{shown_member, member_under}
+use Rattle.rdl_elab.specs.Written.{all_written}
+
+-- what is taken of an instance of this component
+abbrev pub each_member : Shell → Made → EachMember
+each_member s c =
+    record { compact = shown_member (s, capped_layout (layout Compact c)); regalign = shown_member (s, capped_layout (layout Regalign c)); fullalign = shown_member (s, capped_layout (layout Fullalign c)) }
+
+abbrev pub members_of : Parts → List EachMember
+members_of no_parts = []
+members_of (part at s h inside rest) = each_member s (record { head = h; parts = inside }) ∷ members_of rest
+
+abbrev pub made_of : Made → MadeOf
+made_of c = record { kind = c.head.kind; values = values_of c.head; members = members_of c.parts }
+
+-- those of all components, each behind those inside it
+abbrev pub all_made : Items → List MadeOf
+all_made d = map made_of (all_written d)
+
+-- the layouts that are made of this
+abbrev pub layout_made : Mode → MadeOf → Layout
+layout_made m a = let n = mode_inside a.kind a.values m in capped_layout (laid_out a.kind a.values n (map (member_under n) a.members))
+
+abbrev pub layouts_made : MadeOf → Layouts
+layouts_made a = record { compact = layout_made Compact a; regalign = layout_made Regalign a; fullalign = layout_made Fullalign a }

@@ -1,0 +1,25 @@
+-- What a contract sees of the lines that are read.
+-- Own.
+use Rattle.std.specs.Prelude.{map}
+use Rattle.rdl_tree.specs.SessionText.{PatchLines, SessionLines, insert, delete, shift, shell, value, target, type, name}
+use Rattle.rdl_parse.specs.SessionMeaning.{Session as Meant}
+use Rattle.rdl_parse.specs.declared.session.Session.{Session}
+use Rattle.rdl_parse.specs.declared.session_lines.PatchLine.{PatchLine}
+use Rattle.rdl_parse.specs.declared.session_lines.PatchLine.TheVariants.{Insert, Delete, Shift, Shell, Value, Target, OfType, OfDefine}
+use Rattle.rdl_parse.specs.declared.session_lines.Lines.{Lines}
+
+abbrev pub seen : PatchLine → PatchLines
+seen (Insert at text) = insert at text.now
+seen (Delete at) = delete at
+seen (Shift at to) = shift at to
+seen (Shell at text) = shell at text.now
+seen (Value at text) = value at text.now
+seen (Target at text) = target at text.now
+seen (OfType at new) = type at new.now
+seen (OfDefine at new) = name at new.now
+
+abbrev pub seen_lines : Lines → SessionLines
+seen_lines l = record { map = l.map.now; undo = map (λ step. map seen step.items) l.undo.items; redo = map (λ step. map seen step.items) l.redo.items }
+
+abbrev pub seen_session : Session → Meant
+seen_session s = (s.map.items, map (λ step. step.items) s.undo.items, map (λ step. step.items) s.redo.items)
