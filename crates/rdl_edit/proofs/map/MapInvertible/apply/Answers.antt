@@ -1,5 +1,5 @@
-use Rattle.std.proofs.Common.{false, sym, subst}
-use Rattle.rdl_edit.specs.Backs.{Reversal, Fits}
+use Rattle.std.proofs.Common.{sym, subst}
+use Rattle.rdl_edit.specs.Backs.{Fits}
 use Rattle.rdl_edit.specs.Step.{State}
 use Rattle.rdl_edit.proofs.WaysBack.{fits-back}
 use Rattle.rdl_edit.proofs.map.MapInvertible.apply.Goals as goal
@@ -7,6 +7,5 @@ use Rattle.rdl_edit.proofs.map.MapInvertible.apply.Goals as goal
 pub returns-clause-fits : goal.returns-clause-fits
 returns-clause-fits c =
     let new : State = record { description = c.turn.new.description.items; option = c.self.inside.name } in
-    let back : Reversal = record { patches = c.in_ok-back.back.items; read = false } in
     subst (Fits new) (sym c.new.ensures)
-    (fits-back _ _ c.self.inside.name c.self.inside.kept back c.in_ok-back.ensures.back c.self.invariant)
+    (fits-back _ _ c.self.inside.name c.self.inside.kept _ c.in_ok-back.ensures.back c.self.invariant)
