@@ -5,7 +5,7 @@ use Rattle.std.proofs.lemmas.List.{length-map, map-append}
 use Rattle.std.proofs.lemmas.Option.{none-some}
 use Rattle.journal_core.specs.History.{LeadsBetween}
 use Rattle.rdl_tree.specs.declared.patch.Patch.{Patch}
-use Rattle.rdl_edit.specs.Backs.{prior, Fits}
+use Rattle.rdl_edit.specs.Backs.{Reversal, prior, Fits}
 use Rattle.rdl_edit.specs.Step.{State, HasRows}
 use Rattle.rdl_run.specs.Answers.{History'}
 use Rattle.rdl_run.specs.Opening.{AllHaveRows, EachElaborates}
@@ -32,7 +32,7 @@ pub more-seen : {X Y : Type 0} (f : X → Y) (P : ℕ → Y → Type 0) (xs : Li
 more-seen f P xs x h p = subst (EachIs P) (sym (map-append f xs (x ∷ []))) (each-more P (map f xs) (f x) h (subst (λ n. P n (f x)) (sym (length-map xs f)) p))
 
 -- a step of a history leads along its patches
-pub along : (states : List State) (from to : ℕ) (step : List Patch) → LeadsBetween prior Fits states from to step → LeadsAlong states from to step
+pub along : (states : List State) (from to : ℕ) (step : Reversal) → LeadsBetween prior Fits states from to step → LeadsAlong states from to step.patches
 along states from to step b = record { start = b.state; stood = b.stood; fit = b.fitted.applicable; end = prior b.state step; reached = b.led; led = refl }
 
 record Collected {X : Type 0} (P : ℕ → X → Type 0) (n : ℕ) : Type 0 where

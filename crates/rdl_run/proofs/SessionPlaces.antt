@@ -3,7 +3,7 @@ use Rattle.std.proofs.Common.{◌≡◌, ℕ, suc, ◌+◌, ◌<◌, Bool, true,
 use mathlib.Core.List.{reverse}
 use Rattle.std.proofs.lemmas.List.{length-reverse}
 use Rattle.std.proofs.lemmas.Option.{none-some}
-use Rattle.std.specs.Prelude.{if◌then◌else◌}
+use Rattle.std.specs.Prelude.{map, if◌then◌else◌}
 use Rattle.std.specs.Option.{option_or}
 use Rattle.journal_core.specs.Along.{led_through}
 use Rattle.journal_core.proofs.Ways.{reverse-first}
@@ -17,7 +17,7 @@ use Rattle.rdl_tree.specs.declared.session.SessionFault.{SessionFault}
 use Rattle.rdl_tree.specs.declared.session.SessionFault.TheVariants.{PatchMisfits}
 use Rattle.rdl_tree.specs.declared.session.Where.{Where}
 use Rattle.rdl_tree.specs.declared.session.Where.TheVariants as where_
-use Rattle.rdl_edit.specs.Backs.{prior}
+use Rattle.rdl_edit.specs.Backs.{prior, read_back}
 use Rattle.rdl_edit.specs.Resuming.{all_fit, judged, place_fault, step_fault, steps_fault, session_fault}
 use Rattle.rdl_edit.specs.Step.{State, HasRows}
 use Rattle.rdl_run.specs.Opening.{AllHaveRows, EachElaborates}
@@ -42,7 +42,7 @@ step-rows at option d step h = by (all_fit step d) h
     by false k = absurd (none-some (PatchMisfits at) (sym k))
 
 steps-rows : (at : ℕ → Where) (option : Option (List ℕ)) (n : ℕ) (d : Items) (steps : List (List Patch)) → steps_fault at option n d steps ≡ None
-    → AllHaveRows (led_through prior (record { description = d; option = option }) steps)
+    → AllHaveRows (led_through prior (record { description = d; option = option }) (map read_back steps))
 steps-rows at option n d [] h = tt
 steps-rows at option n d (step ∷ steps) h =
     let parts = neither (step_fault (at n) option d step) (steps_fault at option (suc n) (image step d) steps) h in
@@ -63,8 +63,8 @@ session-elaborates option limit d undo redo h =
     let s : State = record { description = d; option = option } in
     let here = neither (place_fault where_.Map option d) (option_or (steps_fault where_.Undo option 1 d undo) (steps_fault where_.Redo option 1 d redo)) h in
     let ways = neither (steps_fault where_.Undo option 1 d undo) (steps_fault where_.Redo option 1 d redo) here.1 in
-    let behind = led_through prior s undo in
-    let ahead = led_through prior s redo in
+    let behind = led_through prior s (map read_back undo) in
+    let ahead = led_through prior s (map read_back redo) in
     record {
       inside = omega (arith, length-append (reverse behind) (s ∷ ahead), length-reverse behind);
       rows = all-append (reverse behind) (s ∷ ahead) (all-reverse behind (steps-rows where_.Undo option 1 d undo ways.0)) (place-rows where_.Map option d here.0, steps-rows where_.Redo option 1 d redo ways.1);

@@ -1,5 +1,5 @@
 -- Sessions: which bytes are one, the history that it opens, and the session of a history at its place. Own.
-use Rattle.std.specs.Prelude.{◌≡◌, ◌⊎◌, ◌≤◌, ◌<◌, ◌+◌, ◌-◌, ℕ, Bool, true, false, List, [], ◌++◌, length, take, slice_get, Option, Some, None, bytes_eq, codes, IsUtf8}
+use Rattle.std.specs.Prelude.{◌≡◌, ◌⊎◌, ◌≤◌, ◌<◌, ◌+◌, ◌-◌, ℕ, Bool, true, false, List, [], ◌++◌, length, map, take, slice_get, Option, Some, None, bytes_eq, codes, IsUtf8}
 use Rattle.journal_core.specs.Along.{led_through}
 use Rattle.journal_core.specs.History.{IsAt, resumed}
 use Rattle.rdl_tree.specs.Items.{Items}
@@ -9,7 +9,7 @@ use Rattle.rdl_tree.specs.declared.patch.Patch.{Patch}
 use Rattle.rdl_tree.specs.declared.session.SessionFault.{SessionFault}
 use Rattle.rdl_tree.specs.declared.session.SessionFault.TheVariants.{NotASession, TooLong}
 use Rattle.rdl_parse.specs.Session.{SpellsSession}
-use Rattle.rdl_edit.specs.Backs.{prior}
+use Rattle.rdl_edit.specs.Backs.{prior, read_back}
 use Rattle.rdl_edit.specs.Resuming.{session_fault}
 use Rattle.rdl_edit.specs.Step.{State, HasRows}
 use Rattle.rdl_write.specs.SessionLines.{session_lines}
@@ -30,7 +30,7 @@ is_session bytes = bytes_eq session_head (take (length session_head) bytes)
 
 -- the history at a map, with the places to which these steps lead, back and on
 abbrev pub history_of : (limit : ℕ) → State → (undo redo : List (List Patch)) → History'
-history_of limit s undo redo = resumed limit (led_through prior s undo) s (led_through prior s redo)
+history_of limit s undo redo = resumed limit (led_through prior s (map read_back undo)) s (led_through prior s (map read_back redo))
 
 -- the bytes are a text that spells this session
 pub record ReadsSession (bytes : List ℕ) (d : Items) (undo redo : List (List Patch)) : Type 0 where
