@@ -46,3 +46,4 @@ pub mod FoundLayouts
 pub mod AllTaken
 pub mod StandingIn
 pub mod AsBefore
+pub mod Reaching

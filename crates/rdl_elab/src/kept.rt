@@ -157,6 +157,7 @@ impl Kept {
     ghost use Rattle.rdl_elab.specs.Faults.{elaborated};
     ghost use Rattle.rdl_elab.specs.Written.{all_layouts};
     ghost use Rattle.rdl_elab.specs.AllKept.{AreOf, IsAsBeforeBut, layout_at, all_instances, instances_at};
+    ghost use Rattle.rdl_elab.specs.Reach.{in_reach, AreUnchangedBut};
 
     /// Nothing is kept.
     fn empty(alloc: Global) -> Kept {
@@ -230,6 +231,7 @@ impl Kept {
         ensures top { OnOk result (self.new.top ≡ option_copied top.entry) }
         ensures placed { OnOk result (self.new.placed ≤ 3 * all_instances description.now.items) }
         ensures few { OnOk result ((marked : List ℕ → Bool) → IsAsBeforeBut marked self.old.description bodies.now description.now.items → self.new.placed ≤ 3 * instances_at marked description.now.items) }
+        ensures reached { OnOk result ((edited : List ℕ → Bool) → AreUnchangedBut edited self.old.description bodies.now description.now.items → self.new.placed ≤ 3 * instances_at (in_reach edited description.now.items) description.now.items) }
         ensures refused { IfErr result (λ fault. (elaborated description.now.items (option_copied top.entry) ≡ Err fault) ⊎ (fault ≡ out_of_memory)) }
         ensures err { OnErr result (self.new ≡ self.old) }
     {
