@@ -47,3 +47,5 @@ pub mod AllTaken
 pub mod StandingIn
 pub mod AsBefore
 pub mod Reaching
+pub mod Skeletons
+pub mod InOrder

@@ -139,7 +139,7 @@ number-back d k c h =
 
 -- ---- There are as many stand-ins as components.
 
-stand-length : (old : Items) (bodies : List (List ℕ)) (b : List ℕ) (kept : Option (List ℕ)) (by_name : Bool) (k n : ℕ) (t : Items) → length (stand_ins_in old bodies b kept by_name k n t) ≡ components t
+pub stand-length : (old : Items) (bodies : List (List ℕ)) (b : List ℕ) (kept : Option (List ℕ)) (by_name : Bool) (k n : ℕ) (t : Items) → length (stand_ins_in old bodies b kept by_name k n t) ≡ components t
 stand-length old bodies b kept by_name k n no_items = refl
 stand-length old bodies b kept by_name k n (plain p rest) = stand-length old bodies b kept by_name (behind k (stand_in by_name (plain_item p) k (kept_items old kept))) (suc n) rest
 stand-length old bodies b kept by_name k n (holder h body rest) =
@@ -150,7 +150,7 @@ stand-length old bodies b kept by_name k n (holder h body rest) =
     let tail = stand_ins_in old bodies b kept by_name (behind k i) (suc n) rest in
     omega (arith, length-append within (at ∷ tail), stand-length old bodies (b ++ n ∷ []) at named 0 0 body, stand-length old bodies b kept by_name (behind k i) (suc n) rest)
 
-zip-at : {X Y : Type 0} (R : X → Y → Type 0) (xs : List X) (ys : List Y) → length xs ≡ length ys → ((k : ℕ) (x : X) (y : Y) → slice_get xs k ≡ Some x → slice_get ys k ≡ Some y → R x y) → AllZip R xs ys
+pub zip-at : {X Y : Type 0} (R : X → Y → Type 0) (xs : List X) (ys : List Y) → length xs ≡ length ys → ((k : ℕ) (x : X) (y : Y) → slice_get xs k ≡ Some x → slice_get ys k ≡ Some y → R x y) → AllZip R xs ys
 zip-at R [] [] e h = tt
 zip-at R [] (y ∷ ys) e h = let no : ⊥ = omega (arith, e) in absurd no
 zip-at R (x ∷ xs) [] e h = let no : ⊥ = omega (arith, e) in absurd no
@@ -170,7 +170,7 @@ same-member s u l k h e = λ i. member-by (h.dims i) (h.range i) (h.address i) (
 same-layout : (c k : Made) → made_of c ≡ made_of k → (m : Mode) → capped_layout (layout m c) ≡ capped_layout (layout m k)
 same-layout c k e m = sym (layout-made m c) ∙ ap (layout_made m) e ∙ layout-made m k
 
-same-each : (s u : Shell) (c k : Made) → SaysTheSame s u → made_of c ≡ made_of k → each_member s c ≡ each_member u k
+pub same-each : (s u : Shell) (c k : Made) → SaysTheSame s u → made_of c ≡ made_of k → each_member s c ≡ each_member u k
 same-each s u c k h e =
     let compact = same-member s u (capped_layout (layout Compact c)) (capped_layout (layout Compact k)) h (same-layout c k e Compact) in
     let regalign = same-member s u (capped_layout (layout Regalign c)) (capped_layout (layout Regalign k)) h (same-layout c k e Regalign) in

@@ -23,6 +23,7 @@ pub mod KeptBodies
 pub mod Finishes
 pub mod AllKept
 pub mod Reach
+pub mod Skeleton
 pub mod Numbers
 pub mod Stored
 pub mod Stands

@@ -27,6 +27,8 @@ ghost use Rattle.rdl_elab.specs.Found.{ArePartsFound};
 ghost use Rattle.rdl_elab.specs.Faults.{overlap, SharesANumber};
 ghost use Rattle.rdl_elab.specs.AllKept.{IsAsBeforeBut, instances_at};
 ghost use Rattle.rdl_elab.specs.Reach.{in_reach, AreUnchangedBut};
+ghost use Rattle.rdl_elab.specs.Written.{all_layouts};
+ghost use Rattle.rdl_elab.specs.Skeleton.{skeleton};
 
 /// An instance without `@` begins at the least number that is at least the end of the instance before it and a multiple
 /// of each of its alignments; and an array in fullalign is aligned by the least power of two that holds it.
@@ -94,4 +96,15 @@ pub fn unchanged_is_as_before()
 /// in reach of the edited bodies.
 pub fn out_of_reach_is_as_before()
     ensures { (edited : List ℕ → Bool) (old : Items) (bodies : List (List ℕ)) (new : Items) → AreUnchangedBut edited old bodies new → IsAsBeforeBut (in_reach edited new) old bodies new }
+{}
+
+/// All layouts of a description are those of its skeleton.
+pub fn layouts_are_of_skeletons()
+    ensures { (d : Items) → all_layouts d ≡ all_layouts (skeleton d) }
+{}
+
+/// Where the skeleton has stayed and no body is named, every component is as before. So to lay such a description out
+/// places nothing.
+pub fn same_skeletons_are_as_before()
+    ensures { (old new : Items) → skeleton old ≡ skeleton new → IsAsBeforeBut (λ a. false) old [] new }
 {}
