@@ -1,2 +1,3 @@
 pub mod WaysBack
 pub mod Walking
+pub mod Staying
