@@ -1,3 +1,4 @@
 pub mod WaysBack
 pub mod Walking
 pub mod Staying
+pub mod StillEdits

@@ -10,6 +10,8 @@ use Rattle.rdl_tree.specs.declared.part.Part.{Part}
 use Rattle.rdl_tree.specs.declared.part.Part.TheVariants.{OfShell}
 use Rattle.rdl_tree.specs.declared.patch.Patch.{Patch}
 use Rattle.rdl_tree.specs.declared.patch.Patch.TheVariants.{Insert, Delete, Shift, Exchange}
+use Rattle.rdl_rewrite.specs.declared.edit.Edit.{Edit}
+use Rattle.rdl_rewrite.specs.declared.edit.Edit.TheVariants.{SetReset, SetOwn, SetDefault, ClearOwn, ClearDefault, Assign, Unassign}
 use Rattle.rdl_elab.specs.Reach.{SaysTheSame}
 use Rattle.rdl_elab.specs.Skeleton.{lays_out}
 
@@ -37,3 +39,15 @@ IsStill (Exchange at new) t = IsSomeAnd (item_at at t) (IsStillPart new)
 abbrev pub AreStill : List Patch → Items → Type 0
 AreStill [] t = Unit {0}
 AreStill (p ∷ ps) t = IsStill p t × AreStill ps (patched p t)
+
+-- an edit that sets a reset, sets or takes out what is assigned to something inside an instance, or an assignment or default of a property
+-- on which no layout depends
+abbrev pub is_still_edit : Edit → Bool
+is_still_edit (SetReset path new) = true
+is_still_edit (SetOwn path property value) = not (lays_out property)
+is_still_edit (SetDefault path property value) = not (lays_out property)
+is_still_edit (ClearOwn path property) = not (lays_out property)
+is_still_edit (ClearDefault path property) = not (lays_out property)
+is_still_edit (Assign path target property value) = true
+is_still_edit (Unassign path target property) = true
+is_still_edit e = false

@@ -1,12 +1,20 @@
 //! What the definitions have in common. Each function here is a law: it does nothing when it runs.
-ghost use Rattle.std.specs.Prelude.{◌≡◌, List};
+ghost use Rattle.std.specs.Prelude.{◌≡◌, true, List};
 ghost use Rattle.rdl_tree.specs.Items.{Items};
 ghost use Rattle.rdl_tree.specs.Patch.{image};
 ghost use Rattle.rdl_tree.specs.declared.patch.Patch.{Patch};
 ghost use Rattle.rdl_elab.specs.Skeleton.{skeleton};
-ghost use Rattle.rdl_edit.specs.Still.{AreStill};
+ghost use Rattle.rdl_edit.specs.Still.{AreStill, is_still_edit};
+ghost use Rattle.rdl_rewrite.specs.Patches.{patches};
+ghost use Rattle.rdl_rewrite.specs.declared.edit.Edit.{Edit};
 
 /// Patches that change nothing on which a layout depends leave the skeleton of the description as it was.
 pub fn still_patches_keep_the_skeleton()
     ensures { (patches : List Patch) (d : Items) → AreStill patches d → skeleton (image patches d) ≡ skeleton d }
+{}
+
+/// The patches of these edits change nothing on which a layout depends: those of a reset, of what is assigned to
+/// something inside an instance, and of assignments and defaults of properties on which no layout depends.
+pub fn still_edits_have_still_patches()
+    ensures { (d : Items) (e : Edit) → is_still_edit e ≡ true → AreStill (patches d e) d }
 {}
