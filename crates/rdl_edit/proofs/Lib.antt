@@ -1,5 +1,6 @@
-pub mod WaysBack
-pub mod Walking
+pub mod NewNames
+pub mod Placings
 pub mod Staying
 pub mod StillEdits
-pub mod NewNames
+pub mod Walking
+pub mod WaysBack

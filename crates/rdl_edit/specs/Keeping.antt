@@ -1,6 +1,6 @@
 -- What a map keeps beside its description: the layouts of its components.
 -- own: SystemRDL 2.0 has no edits.
-use Rattle.std.specs.Prelude.{◌≡◌}
+use Rattle.std.specs.Prelude.{◌≡◌, ℕ}
 use Rattle.rdl_elab.specs.AllKept.{KeptLayouts, AreOf}
 use Rattle.rdl_edit.specs.Step.{State}
 
@@ -8,3 +8,8 @@ use Rattle.rdl_edit.specs.Step.{State}
 pub record Keeps (s : State) (k : KeptLayouts) : Type 0 where
   pub layouts : AreOf s.description k
   pub top : k.top ≡ s.option
+
+-- a map as a contract sees it: its state, and how many instances its last step placed, once for each mode
+pub record Held : Type 0 where
+  pub state : State
+  pub placed : ℕ

@@ -1,7 +1,8 @@
 pub mod Backs
-pub mod Step
 pub mod Faults
 pub mod Keeping
+pub mod Placing
 pub mod Resuming
-pub mod Ways
+pub mod Step
 pub mod Still
+pub mod Ways

@@ -2,10 +2,12 @@
 ghost use Rattle.std.specs.Prelude.{◌≡◌, ◌⊎◌, false, map, None, Some, Ok, Err, IfOk, IfErr, OnOk, OnErr, option_copied};
 ghost use Rattle.rdl_elab.specs.Faults.{elaborated};
 ghost use Rattle.rdl_scope.specs.ItemFaults.{out_of_memory};
-ghost use Rattle.rdl_elab.specs.AllKept.{AreOf};
+ghost use Rattle.rdl_elab.specs.AllKept.{AreOf, all_instances};
 ghost use Rattle.rdl_edit.specs.Step.{HasRows, Leads, Refuses};
 ghost use Rattle.journal_core.specs.Along.{FitInTurn};
 ghost use Rattle.rdl_tree.specs.declared.session.SessionFault.{SessionFault};
+ghost use Rattle.rdl_edit.specs.Placing.{IsFew, KeepsLayouts};
+ghost use Rattle.rdl_edit.specs.Still.{keeps_layouts};
 ghost use Rattle.rdl_edit.specs.Backs.{read_back, prior, Fits, IsCheap};
 ghost use Rattle.rdl_edit.specs.Resuming.{session_fault};
 ghost use Rattle.rdl_rewrite.specs.Patches.{patches};
@@ -28,7 +30,7 @@ use std::alloc::{AllocError, Global};
 use std::marker::Model;
 
 /// A map that has rows, with the name that the option asks of its top, and the layouts of all its components. A contract
-/// sees a `State`.
+/// sees its `State`, and how many instances its last step placed.
 #[derive(Debug, Drop)]
 pub struct Map {
     description: Description,
@@ -37,18 +39,38 @@ pub struct Map {
 }
 
 impl Model for Map {
-    ghost use Rattle.rdl_edit.specs.Step.{State};
-    ghost use Rattle.rdl_edit.specs.Keeping.{Keeps};
+    ghost use Rattle.rdl_edit.specs.Keeping.{Held, Keeps};
     ghost use Rattle.rdl_tree.specs.contracts.description.Body as body;
     ghost use Rattle.std.specs.Coded.{codes};
+
+    ghost Value = { Held };
+
+    ghost coded = { Prim.hlevel (codes, body.the_row.coded) };
+
+    ghost view = { λ m. record { state = record { description = m.description.items; option = m.name }; placed = m.kept.placed } };
+
+    ghost invariant = { λ m. Keeps (record { description = m.description.items; option = m.name }) m.kept };
+}
+
+/// What a contract knows of a map but for its layouts: its description, and the name that the option asks of its top. Code
+/// makes none.
+#[derive(Drop)]
+pub struct MapState {
+    unit: (),
+}
+
+impl Model for MapState {
+    ghost use Rattle.std.specs.Prelude.{None};
+    ghost use Rattle.std.specs.Coded.{codes};
+    ghost use Rattle.rdl_tree.specs.Items.{no_items};
+    ghost use Rattle.rdl_tree.specs.contracts.description.Body as body;
+    ghost use Rattle.rdl_edit.specs.Step.{State};
 
     ghost Value = { State };
 
     ghost coded = { Prim.hlevel (codes, body.the_row.coded) };
 
-    ghost view = { λ m. record { description = m.description.items; option = m.name } };
-
-    ghost invariant = { λ m. Keeps (record { description = m.description.items; option = m.name }) m.kept };
+    ghost view = { λ _. record { description = no_items; option = None } };
 }
 
 /// A map with the steps that lead back from it and on, each list with the next one to be taken first.
@@ -71,7 +93,8 @@ fn text_of(name: Option<&Name>) -> Option<&str>
 impl Map {
     /// Takes the description, and drops it where it has a fault.
     pub fn open(alloc: Global, description: Description, name: Option<Name>) -> Result<Map, Fault>
-        ensures ok { IfOk result (λ m. m ≡ record { description = description.items; option = name }) }
+        ensures ok { IfOk result (λ m. m.state ≡ record { description = description.items; option = name }) }
+        ensures placed { IfOk result (λ m. m.placed ≤ 3 * all_instances description.items) }
         ensures accepted { IfOk result (λ _. HasRows (record { description = description.items; option = name })) }
         ensures refused { IfErr result (λ fault. (elaborated description.items name ≡ Err fault) ⊎ (fault ≡ out_of_memory)) }
     {
@@ -94,11 +117,12 @@ impl Map {
         undo: Vec<Vec<Patch>>,
         redo: Vec<Vec<Patch>>,
     ) -> Result<Resumed, SessionFault>
-        ensures map { IfOk result (λ r. r.map ≡ record { description = description.items; option = name }) }
+        ensures map { IfOk result (λ r. r.map.state ≡ record { description = description.items; option = name }) }
+        ensures placed { IfOk result (λ r. r.map.placed ≤ 3 * all_instances description.items) }
         ensures undo { IfOk result (λ r. r.undo.items ≡ map (λ step. read_back step.items) undo.items) }
         ensures redo { IfOk result (λ r. r.redo.items ≡ map (λ step. read_back step.items) redo.items) }
-        ensures undo_fits { IfOk result (λ r. FitInTurn prior Fits r.map r.undo.items) }
-        ensures redo_fits { IfOk result (λ r. FitInTurn prior Fits r.map r.redo.items) }
+        ensures undo_fits { IfOk result (λ r. FitInTurn prior Fits r.map.state r.undo.items) }
+        ensures redo_fits { IfOk result (λ r. FitInTurn prior Fits r.map.state r.redo.items) }
         ensures accepted { IfOk result (λ _. session_fault name description.items (map (λ step. step.items) undo.items) (map (λ step. step.items) redo.items) ≡ None) }
         ensures refused { IfErr result (λ f. (session_fault name description.items (map (λ step. step.items) undo.items) (map (λ step. step.items) redo.items) ≡ Some f) ⊎ (f ≡ SessionFault.Memory)) }
     {
@@ -127,27 +151,30 @@ impl Map {
     }
 
     pub fn description(&self) -> &Description
-        ensures { result.now.items ≡ self.now.description }
+        ensures { result.now.items ≡ self.now.state.description }
     {
         &self.description
     }
 
     /// The layouts of all its components.
     pub fn kept(&self) -> &Kept
-        ensures layouts { AreOf self.now.description result.now }
-        ensures top { result.now.top ≡ self.now.option }
+        ensures layouts { AreOf self.now.state.description result.now }
+        ensures top { result.now.top ≡ self.now.state.option }
+        ensures placed { result.now.placed ≡ self.now.placed }
     {
         &self.kept
     }
 
     /// How many instances the last step placed, once for each mode: it was the opening, or an accepted edit, undo or redo.
-    pub fn placed(&self) -> u64 {
+    pub fn placed(&self) -> u64
+        ensures { result ≡ self.now.placed }
+    {
         self.kept.placed()
     }
 
     /// The rows, made anew.
     pub fn rows(&self, alloc: Global) -> Result<Rows, AllocError>
-        ensures { IfOk result (λ rows. elaborated self.now.description self.now.option ≡ Ok rows) }
+        ensures { IfOk result (λ rows. elaborated self.now.state.description self.now.state.option ≡ Ok rows) }
     {
         self.kept.rows(alloc, &self.description)
     }
@@ -163,9 +190,9 @@ impl Invertible for Map {
 
     type Refusal = Refusal;
 
-    type State = Map;
+    type State = MapState;
 
-    ghost state = { λ m. m };
+    ghost state = { λ m. m.state };
 
     ghost prior = { prior };
 
@@ -177,12 +204,15 @@ impl Invertible for Map {
 
     /// The step of the edit. What takes it back has one patch for each item that it touched.
     fn apply(&mut self, alloc: Global, edit: &Edit) -> Result<Back, Refusal>
-        ensures leads { OnOk result (Leads self.old edit.now self.new) }
-        ensures fits { IfOk result (λ back. Fits self.new back) }
-        ensures back { IfOk result (λ back. prior self.new back ≡ self.old) }
+        ensures leads { OnOk result (Leads self.old.state edit.now self.new.state) }
+        ensures fits { IfOk result (λ back. Fits self.new.state back) }
+        ensures back { IfOk result (λ back. prior self.new.state back ≡ self.old.state) }
         ensures mark { IfOk result (λ back. back.read ≡ false) }
-        ensures cost { IfOk result (λ back. IsCheap (patches self.old.description edit.now) self.old.description back.patches) }
-        ensures refused { IfErr result (λ refusal. Refuses self.old edit.now refusal) }
+        ensures cost { IfOk result (λ back. IsCheap (patches self.old.state.description edit.now) self.old.state.description back.patches) }
+        ensures few { OnOk result (IsFew self.old.state.description (patches self.old.state.description edit.now) self.new.state.description self.new.placed) }
+        ensures none { OnOk result (keeps_layouts edit.now ≡ true → self.new.placed ≡ 0) }
+        ensures back_keeps { IfOk result (λ back. keeps_layouts edit.now ≡ true → KeepsLayouts back.patches self.new.state.description) }
+        ensures refused { IfErr result (λ refusal. Refuses self.old.state edit.now refusal) }
         ensures err { OnErr result (self.new ≡ self.old) }
     {
         let patches = patches(alloc, &self.description, edit)?;
@@ -193,12 +223,15 @@ impl Invertible for Map {
 
     /// Takes a step back. What leads forward again has as many patches, and the same mark.
     fn revert(&mut self, alloc: Global, back: Back) -> Result<Back, Back>
-        requires { Fits self.old back }
-        ensures leads { OnOk result (self.new ≡ prior self.old back) }
-        ensures fits { IfOk result (λ forward. Fits self.new forward) }
-        ensures back { IfOk result (λ forward. prior self.new forward ≡ self.old) }
+        requires { Fits self.old.state back }
+        ensures leads { OnOk result (self.new.state ≡ prior self.old.state back) }
+        ensures fits { IfOk result (λ forward. Fits self.new.state forward) }
+        ensures back { IfOk result (λ forward. prior self.new.state forward ≡ self.old.state) }
         ensures mark { IfOk result (λ forward. forward.read ≡ back.read) }
-        ensures cost { IfOk result (λ forward. IsCheap back.patches self.old.description forward.patches) }
+        ensures cost { IfOk result (λ forward. IsCheap back.patches self.old.state.description forward.patches) }
+        ensures few { OnOk result (IsFew self.old.state.description back.patches self.new.state.description self.new.placed) }
+        ensures none { OnOk result (KeepsLayouts back.patches self.old.state.description → self.new.placed ≡ 0) }
+        ensures back_keeps { IfOk result (λ forward. KeepsLayouts back.patches self.old.state.description → KeepsLayouts forward.patches self.new.state.description) }
         ensures handed { IfErr result (λ same. same ≡ back) }
         ensures err { OnErr result (self.new ≡ self.old) }
     {

@@ -1,6 +1,7 @@
-use Rattle.std.proofs.Common.{◌≡◌, false, []}
-use Rattle.rdl_edit.specs.Still.{moves_any}
+use Rattle.std.proofs.Common.{◌≡◌, take}
+use Rattle.std.specs.List.{flat_map}
+use Rattle.rdl_edit.specs.Placing.{reordered_by}
 use Rattle.rdl_edit.proofs.turning.reordered.Given as goal
 
 abbrev pub invariant-loop-patch : goal.invariant-loop-patch
-invariant-loop-patch l = moves_any l.patches ≡ false → l.bodies.items ≡ []
+invariant-loop-patch l = l.bodies.items ≡ flat_map reordered_by (take l.patch-index l.patches)
