@@ -3,3 +3,4 @@ pub mod Walking
 pub mod Staying
 pub mod StillEdits
 pub mod NewNames
+pub mod KeepingLayouts
