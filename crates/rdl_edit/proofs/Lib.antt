@@ -1,3 +1,4 @@
+pub mod KeepingLayouts
 pub mod NewNames
 pub mod Placings
 pub mod Staying

@@ -1,51 +1,48 @@
 -- What a step places, and that what takes back a step that keeps all layouts keeps them too.
-use Rattle.std.proofs.Common.{◌≡◌, ℕ, ◌≤◌, ◌*◌, Bool, true, false, ◌||◌, List, [], ◌∷◌, ◌++◌, Option, Some, None, refl, sym, ap, ◌∙◌, subst}
-use Rattle.std.proofs.lemmas.List.Folds.{list_any-append}
+use Rattle.std.proofs.Common.{◌≡◌, ℕ, ◌≤◌, ◌*◌, Bool, true, false, List, [], ◌∷◌, Option, Some, None, Ok, refl, sym, ap, ◌∙◌, subst, is_ok}
 use Rattle.rdl_tree.specs.Items.{Items}
-use Rattle.rdl_tree.specs.ItemAt.{item_at}
-use Rattle.rdl_tree.specs.Patch.{AllFit, patched, image, inverse, inverses, insert_again, exchange_again}
-use Rattle.rdl_tree.specs.Part.{part_of}
-use Rattle.rdl_tree.specs.declared.description.Item.{Item}
-use Rattle.rdl_tree.specs.declared.part.Part.{Part}
+use Rattle.rdl_tree.specs.Patch.{AllFit, image, inverses}
+use Rattle.rdl_tree.specs.declared.fault.Fault.{Fault}
 use Rattle.rdl_tree.specs.declared.patch.Patch.{Patch}
 use Rattle.rdl_tree.specs.declared.patch.Patch.TheVariants.{Insert, Delete, Shift, Exchange}
 use Rattle.rdl_tree.proofs.Patching.{image-inverses}
-use Rattle.rdl_elab.specs.AllKept.{instances_at}
+use Rattle.rdl_scope.specs.ItemFaults.{fault_of}
+use Rattle.rdl_rewrite.specs.Patches.{patches}
+use Rattle.rdl_rewrite.specs.Rewritten.{rewritten}
+use Rattle.rdl_rewrite.specs.declared.edit.Edit.{Edit}
+use Rattle.rdl_elab.specs.AllKept.{KeptLayouts, instances_at}
+use Rattle.rdl_elab.specs.Faults.{unless_fault, elaborated}
 use Rattle.rdl_elab.specs.Reach.{in_reach, AreUnchangedBut}
 use Rattle.rdl_elab.specs.Skeleton.{skeleton}
+use Rattle.rdl_elab.specs.declared.row.Row.{Row}
+use Rattle.rdl_edit.specs.Keeping.{Keeps}
 use Rattle.rdl_edit.specs.Placing.{IsFew, KeepsLayouts, reordered}
-use Rattle.rdl_edit.specs.Still.{is_shift, moves_any}
+use Rattle.rdl_edit.specs.Step.{State}
+use Rattle.rdl_edit.specs.Still.{moves_any, keeps_layouts}
+use Rattle.rdl_edit.proofs.KeepingLayouts.{keeps, moves-none, moves-back}
 
-neither : (a b : Bool) → (a || b) ≡ false → (a ≡ false) × (b ≡ false)
-neither true b e = absurd (let f : true ≡ false = e in cc)
-neither false b e = (refl, e)
+-- a description of which the rows are known has no fault
+pub faultless : (d : Items) (option : Option (List ℕ)) (rows : List Row) → elaborated d option ≡ Ok rows → fault_of d ≡ None
+faultless d option rows e = by (fault_of d) e
+  where
+    by : (o : Option Fault) → unless_fault d option o ≡ Ok rows → o ≡ None
+    by None h = refl
+    by (Some fault) h = absurd (let f : true ≡ false = sym (ap is_ok h) in cc)
 
-again-still : (at : List ℕ) (o : Option Item) → moves_any (insert_again at o) ≡ false
-again-still at None = refl
-again-still at (Some x) = refl
-
-exchange-still : (at : List ℕ) (part : Part) (o : Option Item) → moves_any (exchange_again at part o) ≡ false
-exchange-still at part None = refl
-exchange-still at part (Some x) = refl
-
-inverse-still : (p : Patch) (t : Items) → is_shift p ≡ false → moves_any (inverse p t) ≡ false
-inverse-still (Insert at x) t h = refl
-inverse-still (Delete at) t h = again-still at (item_at at t)
-inverse-still (Shift at to) t h = absurd (let f : true ≡ false = h in cc)
-inverse-still (Exchange at part) t h = exchange-still at part (item_at at t)
-
-inverses-still : (ps : List Patch) (t : Items) → moves_any ps ≡ false → moves_any (inverses ps t) ≡ false
-inverses-still [] t h = refl
-inverses-still (p ∷ ps) t h =
-    let parts = neither (is_shift p) (moves_any ps) h in
-    list_any-append is_shift (inverses ps (patched p t)) (inverse p t)
-    ∙ ap (λ b. b || moves_any (inverse p t)) (inverses-still ps (patched p t) parts.1) ∙ inverse-still p t parts.0
+-- an accepted edit on which no layout depends
+pub edit-keeps : (s : State) (k : KeptLayouts) (e : Edit) (ps : List Patch) → Keeps s k → rewritten s.description e ≡ Ok (image ps s.description) → ps ≡ patches s.description e → keeps_layouts e ≡ true
+    → KeepsLayouts ps s.description
+edit-keeps s k e ps held made which h =
+    let d = s.description in
+    let whole : rewritten d e ≡ Ok (image (patches d e) d) = subst (λ qs. rewritten d e ≡ Ok (image qs d)) which made in
+    let none = faultless d k.top held.layouts.rows held.layouts.faultless in
+    subst (λ qs. KeepsLayouts qs d) (sym which) (record { in_place = moves-none d e h; stays = keeps d e none h whole })
 
 pub back-keeps : (ps back : List Patch) (old new : Items) → AllFit ps old → new ≡ image ps old → back ≡ inverses ps old → KeepsLayouts ps old → KeepsLayouts back new
 back-keeps ps back old new fit made is k =
     subst (KeepsLayouts back) (sym made)
     (subst (λ qs. KeepsLayouts qs (image ps old)) (sym is)
-    (record { in_place = inverses-still ps old k.in_place; stays = ap skeleton (image-inverses ps old fit) ∙ sym k.stays }))
+    (record { in_place = moves-back ps old k.in_place; stays = ap skeleton (image-inverses ps old fit) ∙ sym k.stays }))
 
 -- no item is moved, so no body is named
 none-reordered : (ps : List Patch) → moves_any ps ≡ false → reordered ps ≡ []

@@ -12,7 +12,7 @@ use Rattle.rdl_tree.specs.declared.part.Part.TheVariants.{OfShell}
 use Rattle.rdl_tree.specs.declared.patch.Patch.{Patch}
 use Rattle.rdl_tree.specs.declared.patch.Patch.TheVariants.{Insert, Delete, Shift, Exchange}
 use Rattle.rdl_rewrite.specs.declared.edit.Edit.{Edit}
-use Rattle.rdl_rewrite.specs.declared.edit.Edit.TheVariants.{SetReset, SetOwn, SetDefault, ClearOwn, ClearDefault, Assign, Unassign}
+use Rattle.rdl_rewrite.specs.declared.edit.Edit.TheVariants.{Rename, SetReset, SetOwn, SetDefault, ClearOwn, ClearDefault, Assign, Unassign}
 use Rattle.rdl_elab.specs.Reach.{SaysTheSame}
 use Rattle.rdl_elab.specs.Skeleton.{lays_out}
 
@@ -62,3 +62,8 @@ is_still_edit (ClearDefault path property) = not (lays_out property)
 is_still_edit (Assign path target property value) = true
 is_still_edit (Unassign path target property) = true
 is_still_edit e = false
+
+-- such an edit, or a renaming: no layout changes
+abbrev pub keeps_layouts : Edit → Bool
+keeps_layouts (Rename path name) = true
+keeps_layouts e = is_still_edit e

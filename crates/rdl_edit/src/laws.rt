@@ -1,13 +1,14 @@
 //! What the definitions have in common. Each function here is a law: it does nothing when it runs.
-ghost use Rattle.std.specs.Prelude.{◌≡◌, true, ℕ, List, None, Ok};
+ghost use Rattle.std.specs.Prelude.{◌≡◌, true, false, ℕ, List, None, Ok};
 ghost use Rattle.rdl_tree.specs.Items.{Items};
-ghost use Rattle.rdl_tree.specs.Patch.{image};
+ghost use Rattle.rdl_tree.specs.Patch.{image, inverses};
 ghost use Rattle.rdl_tree.specs.declared.patch.Patch.{Patch};
 ghost use Rattle.rdl_elab.specs.Skeleton.{skeleton};
-ghost use Rattle.rdl_edit.specs.Still.{AreStill, is_still_edit};
+ghost use Rattle.rdl_edit.specs.Still.{AreStill, moves_any, is_still_edit, keeps_layouts};
 ghost use Rattle.rdl_scope.specs.ItemFaults.{fault_of};
 ghost use Rattle.rdl_rewrite.specs.Patches.{patches};
 ghost use Rattle.rdl_rewrite.specs.Renaming.{renamed};
+ghost use Rattle.rdl_rewrite.specs.Rewritten.{rewritten};
 ghost use Rattle.rdl_rewrite.specs.declared.edit.Edit.{Edit};
 
 /// Patches that change nothing on which a layout depends leave the skeleton of the description as it was.
@@ -24,4 +25,12 @@ pub fn still_edits_have_still_patches()
 /// A renaming leaves the skeleton of a description without a fault as it was, since each reference leads where it led.
 pub fn renamings_keep_the_skeleton()
     ensures { (d new : Items) (way name : List ℕ) → fault_of d ≡ None → renamed d way name ≡ Ok new → skeleton new ≡ skeleton d }
+{}
+
+/// Renamings, and edits on which no layout depends: where they are accepted they leave the skeleton as it was, and they
+/// move no item; nor do the patches that take them back. So no layout is laid out again for them.
+pub fn edits_that_keep_layouts()
+    ensures skeleton { (d : Items) (e : Edit) → fault_of d ≡ None → keeps_layouts e ≡ true → rewritten d e ≡ Ok (image (patches d e) d) → skeleton (image (patches d e) d) ≡ skeleton d }
+    ensures moves { (d : Items) (e : Edit) → keeps_layouts e ≡ true → moves_any (patches d e) ≡ false }
+    ensures back { (patches : List Patch) (d : Items) → moves_any patches ≡ false → moves_any (inverses patches d) ≡ false }
 {}
