@@ -63,3 +63,8 @@ module _ (kept d new : Items) (ps : List Patch) (bodies : List (List ℕ)) (plac
 
   pub none-placed : (bodies ≡ [] → skeleton kept ≡ skeleton new → placed ≡ 0) → kept ≡ d → KeepsLayouts ps d → placed ≡ 0
   none-placed h k l = h (named ∙ none-reordered ps l.in_place) (ap skeleton k ∙ sym l.stays ∙ sym (ap skeleton made))
+
+-- the same of a step along these patches, from this description to that one
+pub few-there : (d e new : Items) (ps qs : List Patch) (placed : ℕ) → d ≡ e → qs ≡ ps → new ≡ image qs d → IsFew d qs (image qs d) placed → IsFew e ps new placed
+few-there d e new ps qs placed same which made h =
+    subst (λ t. IsFew t ps new placed) same (subst (λ rs. IsFew d rs new placed) which (subst (λ t. IsFew d qs t placed) (sym made) h))

@@ -1,5 +1,5 @@
 //! The map that a history keeps.
-ghost use Rattle.std.specs.Prelude.{◌≡◌, ◌⊎◌, false, map, None, Some, Ok, Err, IfOk, IfErr, OnOk, OnErr, option_copied};
+ghost use Rattle.std.specs.Prelude.{◌≡◌, ◌⊎◌, ◌≤◌, ◌*◌, true, false, map, None, Some, Ok, Err, IfOk, IfErr, OnOk, OnErr, option_copied};
 ghost use Rattle.rdl_elab.specs.Faults.{elaborated};
 ghost use Rattle.rdl_scope.specs.ItemFaults.{out_of_memory};
 ghost use Rattle.rdl_elab.specs.AllKept.{AreOf, all_instances};

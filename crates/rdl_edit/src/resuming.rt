@@ -1,5 +1,5 @@
 //! The places of a session, gone through one after another.
-ghost use Rattle.std.specs.Prelude.{◌≡◌, ◌⊎◌, ◌≤◌, ◌+◌, ◌∷◌, ◌++◌, [], ℕ, IsTrue, false, length, map, None, Some, IfOk, IfErr, OnOk, option_copied};
+ghost use Rattle.std.specs.Prelude.{◌≡◌, ◌⊎◌, ◌≤◌, ◌+◌, ◌*◌, ◌∷◌, ◌++◌, [], ℕ, IsTrue, false, length, map, None, Some, IfOk, IfErr, OnOk, option_copied};
 ghost use mathlib.Core.List.{reverse};
 ghost use Rattle.rdl_tree.specs.Depth.{depth};
 ghost use Rattle.rdl_tree.specs.Patch.{fits, AllFit, patched, image, inverse, inverses};
@@ -8,6 +8,7 @@ ghost use Rattle.journal_core.specs.Along.{FitInTurn};
 ghost use Rattle.rdl_edit.specs.Backs.{read_back, prior, Fits};
 ghost use Rattle.rdl_edit.specs.Resuming.{all_fit, place_fault, step_fault, steps_fault, place_after};
 ghost use Rattle.rdl_tree.specs.declared.session.Where.TheVariants as where_;
+ghost use Rattle.rdl_elab.specs.AllKept.{all_instances};
 ghost use Rattle.rdl_edit.specs.Keeping.{Keeps};
 ghost use Rattle.rdl_edit.specs.Step.{HasRows};
 ghost use Rattle.rdl_edit.specs.Ways.{IsMisfit, stop_at, refused, place_of, way_back, ways_along, AllLead};
@@ -286,6 +287,7 @@ pub(crate) fn opened(
     name: Option<&str>,
 ) -> Result<Kept, SessionFault>
     ensures keeps { IfOk result (Keeps (record { description = description.now.items; option = option_copied name.entry })) }
+    ensures placed { IfOk result (λ kept. kept.placed ≤ 3 * all_instances description.now.items) }
     ensures faultless { OnOk result (place_fault where_.Map (option_copied name.entry) description.now.items ≡ None) }
     ensures refused { IfErr result (λ f. (place_fault where_.Map (option_copied name.entry) description.now.items ≡ Some f) ⊎ (f ≡ Memory)) }
 {

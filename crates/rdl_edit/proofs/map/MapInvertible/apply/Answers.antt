@@ -1,6 +1,11 @@
-use Rattle.std.proofs.Common.{sym, subst}
+use Rattle.std.proofs.Common.{◌≡◌, Ok, sym, ap, ◌∙◌, subst, rules}
 use Rattle.rdl_edit.specs.Backs.{Fits}
 use Rattle.rdl_edit.specs.Step.{State}
+use Rattle.rdl_tree.specs.Patch.{image}
+use Rattle.rdl_rewrite.specs.Patches.{patches}
+use Rattle.rdl_rewrite.specs.Rewritten.{rewritten}
+use Rattle.rdl_edit.specs.Placing.{KeepsLayouts}
+use Rattle.rdl_edit.proofs.Placings.{few-there, edit-keeps}
 use Rattle.rdl_edit.proofs.WaysBack.{fits-back}
 use Rattle.rdl_edit.proofs.map.MapInvertible.apply.Goals as goal
 
@@ -9,3 +14,28 @@ returns-clause-fits c =
     let new : State = record { description = c.turn.new.description.items; option = c.self.inside.name } in
     subst (Fits new) (sym c.new.ensures)
     (fits-back _ _ c.self.inside.name c.self.inside.kept _ c.in_ok-back.ensures.back c.self.invariant)
+
+pub returns-clause-few : goal.returns-clause-few
+returns-clause-few c =
+    let d = c.self.inside.description.items in
+    let same : d ≡ c.args.self.now.state.description = search rules in
+    let which : c.in_ok-patches.patches.items ≡ patches d c.args.edit.now = search rules in
+    let asked : c.in_ok-patches.patches.items ≡ patches c.args.self.now.state.description c.args.edit.now = which ∙ ap (λ t. patches t c.args.edit.now) same in
+    let laid_out : c.self.inside.kept.description ≡ d = c.self.invariant.layouts.description in
+    few-there d c.args.self.now.state.description c.turn.new.description.items (patches c.args.self.now.state.description c.args.edit.now) c.in_ok-patches.patches.items _ same asked c.in_ok-back.ensures.made (c.in_ok-back.ensures.few laid_out)
+
+pub returns-clause-none : goal.returns-clause-none
+returns-clause-none c = λ h.
+    let s : State = record { description = c.self.inside.description.items; option = c.self.inside.name } in
+    let made : rewritten s.description c.args.edit.now ≡ Ok (image c.in_ok-patches.patches.items s.description) = search rules in
+    let which : c.in_ok-patches.patches.items ≡ patches s.description c.args.edit.now = search rules in
+    c.in_ok-back.ensures.none c.self.invariant.layouts.description (edit-keeps s c.self.inside.kept c.args.edit.now c.in_ok-patches.patches.items c.self.invariant made which h)
+
+pub returns-clause-back_keeps : goal.returns-clause-back_keeps
+returns-clause-back_keeps c = λ h.
+    let s : State = record { description = c.self.inside.description.items; option = c.self.inside.name } in
+    let made : rewritten s.description c.args.edit.now ≡ Ok (image c.in_ok-patches.patches.items s.description) = search rules in
+    let which : c.in_ok-patches.patches.items ≡ patches s.description c.args.edit.now = search rules in
+    let back : c.in_ok-back.back.items ≡ c.new.result.patches = search rules in
+    subst (λ qs. KeepsLayouts qs c.turn.new.description.items) back
+    (c.in_ok-back.ensures.back_keeps (edit-keeps s c.self.inside.kept c.args.edit.now c.in_ok-patches.patches.items c.self.invariant made which h))
