@@ -51,7 +51,7 @@ fn standing(alloc: Global, map: &Map) -> Answer {
 }
 
 fn applied_again(alloc: Global, map: &mut Map, edit: &Edit, before: &Answer) -> Option<Back>
-    ensures { IfSome result (λ back. Fits map.new back) }
+    ensures { IfSome result (λ back. Fits map.new.state back) }
 {
     if !is_same(before, &standing(alloc, map)) {
         return None;
@@ -64,7 +64,7 @@ fn applied_again(alloc: Global, map: &mut Map, edit: &Edit, before: &Answer) -> 
 
 /// Makes the edit, again where memory was wanted and the map stands as before.
 fn applied(alloc: Global, map: &mut Map, edit: &Edit) -> Option<Back>
-    ensures { IfSome result (λ back. Fits map.new back) }
+    ensures { IfSome result (λ back. Fits map.new.state back) }
 {
     let before = standing(alloc, map);
     match map.apply(alloc, edit) {
@@ -84,7 +84,7 @@ fn whole<T: Debug>(alloc: Global, value: &T) -> Answer {
 
 fn reverted_again(alloc: Global, map: &mut Map, same: Back, before: &Answer) -> Option<Back>
     requires { Fits map.old same }
-    ensures { IfSome result (λ back. Fits map.new back) }
+    ensures { IfSome result (λ back. Fits map.new.state back) }
 {
     if !is_same(before, &standing(alloc, map)) {
         return None;
@@ -97,8 +97,8 @@ fn reverted_again(alloc: Global, map: &mut Map, same: Back, before: &Answer) -> 
 
 /// Takes the step, again where memory was wanted, the map stands as before, and the same step was handed over.
 fn reverted(alloc: Global, map: &mut Map, back: Back) -> Option<Back>
-    requires { Fits map.old back }
-    ensures { IfSome result (λ back. Fits map.new back) }
+    requires { Fits map.old.state back }
+    ensures { IfSome result (λ back. Fits map.new.state back) }
 {
     let before = standing(alloc, map);
     let way = whole(alloc, &back);
@@ -123,7 +123,7 @@ fn assert_written(rt: &impl Abort, alloc: Global, description: &Description, wan
 }
 
 fn made(rt: &impl Abort, alloc: Global, map: &mut Map, edit: &Edit, want: &str) -> Option<Back>
-    ensures { IfSome result (λ back. Fits map.new back) }
+    ensures { IfSome result (λ back. Fits map.new.state back) }
 {
     let back = applied(alloc, map, edit)?;
     assert_written(rt, alloc, map.description(), want);
@@ -131,8 +131,8 @@ fn made(rt: &impl Abort, alloc: Global, map: &mut Map, edit: &Edit, want: &str) 
 }
 
 fn taken(rt: &impl Abort, alloc: Global, map: &mut Map, back: Back, want: &str) -> Option<Back>
-    requires { Fits map.old back }
-    ensures { IfSome result (λ back. Fits map.new back) }
+    requires { Fits map.old.state back }
+    ensures { IfSome result (λ back. Fits map.new.state back) }
 {
     let forward = reverted(alloc, map, back)?;
     assert_written(rt, alloc, map.description(), want);

@@ -48,8 +48,8 @@ read-each f [] = refl
 read-each f (x ∷ xs) = ap (λ (ys : List Reversal). read_back (f x) ∷ ys) (read-each f xs)
 
 module _ (option name : Option (List ℕ)) (bytes text : List ℕ) (d : Items) (undo redo : List (List Patch)) (r : Resumed) where
-  pub resumes : IsUtf8 bytes → text ≡ bytes → SpellsSession text d undo redo → name ≡ option → r.map ≡ record { description = d; option = name } → session_fault name d undo redo ≡ None
-      → r.undo.items ≡ map read_back undo → r.redo.items ≡ map read_back redo → FitInTurn prior Fits r.map r.undo.items → FitInTurn prior Fits r.map r.redo.items → ResumesFrom option bytes r
+  pub resumes : IsUtf8 bytes → text ≡ bytes → SpellsSession text d undo redo → name ≡ option → r.map.state ≡ record { description = d; option = name } → session_fault name d undo redo ≡ None
+      → r.undo.items ≡ map read_back undo → r.redo.items ≡ map read_back redo → FitInTurn prior Fits r.map.state r.undo.items → FitInTurn prior Fits r.map.state r.redo.items → ResumesFrom option bytes r
   resumes u same spelled named is faultless undo_is redo_is undo_fits redo_fits = record {
     undo = undo;
     redo = redo;

@@ -12,8 +12,8 @@ pub record ResumesFrom (option : Option (List ℕ)) (bytes : List ℕ) (r : Resu
   pub redo : List (List Patch)
   pub undo_is : r.undo.items ≡ map read_back undo
   pub redo_is : r.redo.items ≡ map read_back redo
-  pub same_option : r.map.option ≡ option
-  pub read : ReadsSession bytes r.map.description undo redo
-  pub faultless : session_fault option r.map.description undo redo ≡ None
-  pub undo_fits : FitInTurn prior Fits r.map r.undo.items
-  pub redo_fits : FitInTurn prior Fits r.map r.redo.items
+  pub same_option : r.map.state.option ≡ option
+  pub read : ReadsSession bytes r.map.state.description undo redo
+  pub faultless : session_fault option r.map.state.description undo redo ≡ None
+  pub undo_fits : FitInTurn prior Fits r.map.state r.undo.items
+  pub redo_fits : FitInTurn prior Fits r.map.state r.redo.items

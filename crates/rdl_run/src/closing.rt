@@ -35,7 +35,7 @@ fn clash_line(alloc: Global, name: &str) -> Result<String, AllocError>
 
 /// The header of a map, or what is said in its place.
 fn header_part(alloc: Global, map: &Map) -> Result<Part, RunFault>
-    ensures heads { IfOk result (λ part. Heads map.now (string_bytes part.message) (string_bytes part.text) part.is_left_out) }
+    ensures heads { IfOk result (λ part. Heads map.now.state (string_bytes part.message) (string_bytes part.text) part.is_left_out) }
     ensures fault { IsOkUnless result RunFault.Memory }
 {
     let rows = map.rows(alloc)?;

@@ -71,7 +71,7 @@ fn copied(alloc: Global, name: Option<&Name>) -> Result<Option<Name>, AllocError
 
 /// The map that the bytes spell, if it has no fault.
 fn open_map(alloc: Global, bytes: &[u8], name: Option<&Name>) -> Result<Map, OpenFault>
-    ensures opens { IfOk result (λ map. Opens (option_copied name.entry) bytes.now map) }
+    ensures opens { IfOk result (λ map. Opens (option_copied name.entry) bytes.now map.state) }
     ensures refused { IfErr result (λ fault. IfRefusedToOpen fault (λ text. RefusedText bytes.now text ⊎ RefusedMap (option_copied name.entry) bytes.now text)) }
 {
     let (description, places) = match map_of(alloc, bytes) {

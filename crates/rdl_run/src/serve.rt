@@ -102,7 +102,7 @@ fn redo(alloc: Global, journal: &mut Journal<Map>) -> Result<Reply, RunFault>
 
 /// The lines of the rows of a map.
 fn list(alloc: Global, map: &Map) -> Result<Reply, RunFault>
-    ensures lists { IfOk result (λ reply. IsListOf map.now (said reply)) }
+    ensures lists { IfOk result (λ reply. IsListOf map.now.state (said reply)) }
     ensures fault { IsOkUnless result RunFault.Memory }
 {
     let Ok(rows) = map.rows(alloc) else {

@@ -56,13 +56,13 @@ fn back_text(alloc: Global, back: &Back) -> Result<String, AllocError> {
 
 /// Makes the edit, and lets it go.
 fn make(alloc: Global, map: &mut Map, edit: Edit) -> Result<Back, Refusal>
-    ensures { IfOk result (λ back. Fits map.new back) }
+    ensures { IfOk result (λ back. Fits map.new.state back) }
 {
     map.apply(alloc, &edit)
 }
 
 fn removed(alloc: Global, map: &mut Map, at: &str) -> Result<Back, Fail>
-    ensures { IfOk result (λ back. Fits map.new back) }
+    ensures { IfOk result (λ back. Fits map.new.state back) }
 {
     match make(alloc, map, Edit::Remove(path(alloc, at)?)) {
         Ok(back) => Ok(back),
@@ -71,7 +71,7 @@ fn removed(alloc: Global, map: &mut Map, at: &str) -> Result<Back, Fail>
 }
 
 fn reverted(alloc: Global, map: &mut Map, back: Back) -> Result<Back, Fail>
-    requires { Fits map.old back }
+    requires { Fits map.old.state back }
 {
     match map.revert(alloc, back) {
         Ok(forward) => Ok(forward),

@@ -16,8 +16,8 @@ use std::alloc::{AllocError, Global};
 use std::test::Fail;
 
 fn resumed(alloc: Global, text: &str) -> Result<Resumed, SessionFault>
-    ensures undo { IfOk result (λ r. FitInTurn prior Fits r.map r.undo.items) }
-    ensures redo { IfOk result (λ r. FitInTurn prior Fits r.map r.redo.items) }
+    ensures undo { IfOk result (λ r. FitInTurn prior Fits r.map.state r.undo.items) }
+    ensures redo { IfOk result (λ r. FitInTurn prior Fits r.map.state r.redo.items) }
 {
     let session = match parse_session(alloc, text) {
         Ok(session) => session,
