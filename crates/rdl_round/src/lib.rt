@@ -4,3 +4,4 @@
 pub mod edits;
 pub mod laws;
 pub mod scripts;
+pub mod sessions;
