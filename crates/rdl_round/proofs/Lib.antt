@@ -24,3 +24,6 @@ pub mod Strings
 pub mod Saved
 pub mod SpelledSessions
 pub mod Inverted
+pub mod Smaller
+pub mod EditPatches
+pub mod EditBrings

@@ -54,7 +54,7 @@ step-of-words old e new led h brings = (stepped IsOfWords old e new led (kept-wo
 step-within : (old : State) (e : Edit) (new : State) → step old e ≡ Ok new → IsOfWords old.description → IsEditOfWords e → IsWithinLimits new.description
 step-within old e new led h brings = fitting new.description (stepped IsOfWords old e new led (kept-words old.description e brings h)).1
 
-step-writable : (old : State) (e : Edit) (new : State) → step old e ≡ Ok new → IsEditOfWords e → IsEditSpellable e → IsWritable old.description → IsWritable new.description
+pub step-writable : (old : State) (e : Edit) (new : State) → step old e ≡ Ok new → IsEditOfWords e → IsEditSpellable e → IsWritable old.description → IsWritable new.description
 step-writable old e new led words spells w =
     record { of_words = step-of-words old e new led w.of_words words; spellable = step-spellable old e new led w.spellable spells; within = step-within old e new led w.of_words words }
 

@@ -1,6 +1,7 @@
 -- Which maps and patches a written session gives back.
 -- own: SystemRDL 2.0 has no sessions.
-use Rattle.std.specs.Prelude.{ℕ, ◌<◌, ◌^◌, List, [], ◌∷◌, All}
+use Rattle.std.specs.Prelude.{ℕ, ◌<◌, ◌^◌, List, [], ◌∷◌, IfSome, All}
+use Rattle.rdl_tree.specs.ItemAt.{item_at}
 use Rattle.rdl_tree.specs.Items.{Items}
 use Rattle.rdl_tree.specs.Limits.{IsWithinLimits}
 use Rattle.rdl_tree.specs.Patch.{patched}
@@ -39,10 +40,15 @@ IsWritablePatch (Exchange at part) = IsItemAddress at × IsWritablePart part
 abbrev pub AreWritable : List (List Patch) → Type 0
 AreWritable steps = All (All IsWritablePatch) steps
 
--- each description on the way of the patches is within the limits
-abbrev pub StaysWithin : List Patch → Items → Type 0
-StaysWithin [] d = IsWithinLimits d
-StaysWithin (patch ∷ patches) d = IsWithinLimits d × StaysWithin patches (patched patch d)
+-- the item that it takes out, as a body of its own, is within the limits
+abbrev pub IsDropWithin : Patch → Items → Type 0
+IsDropWithin (Delete at) d = IfSome (item_at at d) (λ x. IsWithinLimits (items_of (x ∷ [])))
+IsDropWithin patch d = Unit {0}
+
+-- so is each that the patches take out on their way
+abbrev pub AreDropsWithin : List Patch → Items → Type 0
+AreDropsWithin [] d = Unit {0}
+AreDropsWithin (patch ∷ patches) d = IsDropWithin patch d × AreDropsWithin patches (patched patch d)
 
 -- ---- What texts spell.
 

@@ -1,6 +1,7 @@
 //! Laws of written sessions: they are read back.
-ghost use Rattle.std.specs.Prelude.{◌≡◌, ◌<◌, ◌≤◌, ◌∷◌, ◌⊎◌, [], ℕ, List, length, map, All, IsUtf8, MatchResult};
+ghost use Rattle.std.specs.Prelude.{◌≡◌, ◌<◌, ◌≤◌, ◌∷◌, ◌⊎◌, [], ℕ, List, Ok, length, map, All, IsUtf8, MatchResult};
 ghost use Rattle.rdl_tree.specs.Items.{Items};
+ghost use Rattle.rdl_tree.specs.Limits.{IsWithinLimits};
 ghost use Rattle.rdl_tree.specs.Patch.{image, inverses};
 ghost use Rattle.rdl_tree.specs.SessionText.{session_text, max_session};
 ghost use Rattle.rdl_tree.specs.View.{items_of};
@@ -12,9 +13,13 @@ ghost use Rattle.rdl_parse.specs.Parsing.{SpellsItemText};
 ghost use Rattle.rdl_parse.specs.Session.{SpellsSession};
 ghost use Rattle.rdl_write.specs.ItemText.{item_text};
 ghost use Rattle.rdl_write.specs.SessionLines.{session_lines};
+ghost use Rattle.rdl_rewrite.specs.Patches.{patches};
+ghost use Rattle.rdl_rewrite.specs.declared.edit.Edit.{Edit};
+ghost use Rattle.rdl_edit.specs.Step.{State, step};
 ghost use Rattle.rdl_round.specs.Histories.{IsWritable};
+ghost use Rattle.rdl_round.specs.NewParts.{IsEditOfWords, IsEditSpellable};
 ghost use Rattle.rdl_round.specs.OfWords.{IsOfWords};
-ghost use Rattle.rdl_round.specs.Sessions.{IsWritablePatch, AreWritable, StaysWithin, IsSpelledMap, AreSpelled};
+ghost use Rattle.rdl_round.specs.Sessions.{IsWritablePatch, AreWritable, AreDropsWithin, IsSpelledMap, AreSpelled};
 ghost use Rattle.rdl_round.specs.Spellable.{IsSpellable};
 
 use rdl_parse::session::{Session, parse_session};
@@ -55,11 +60,19 @@ pub fn spelled_steps_are_writable()
     ensures steps { (steps : List (List Patch)) → AreSpelled steps → AreWritable steps }
 {}
 
-/// What takes patches back can be written, where they and the description can, and each description on their way is within
-/// the limits; so can the description to which they lead.
+/// What takes patches back can be written, where they and the description can, and each item that they take out on their
+/// way is within the limits. So can the description to which they lead, where that is within the limits.
 pub fn inverses_are_writable()
-    ensures back { (patches : List Patch) (d : Items) → IsWritable d → All IsWritablePatch patches → StaysWithin patches d → All IsWritablePatch (inverses patches d) }
-    ensures place { (patches : List Patch) (d : Items) → IsWritable d → All IsWritablePatch patches → StaysWithin patches d → IsWritable (image patches d) }
+    ensures back { (patches : List Patch) (d : Items) → IsWritable d → All IsWritablePatch patches → AreDropsWithin patches d → All IsWritablePatch (inverses patches d) }
+    ensures place { (patches : List Patch) (d : Items) → IsWritable d → All IsWritablePatch patches → IsWithinLimits (image patches d) → IsWritable (image patches d) }
+{}
+
+/// The patches of an accepted edit can be written, where the map can and what the edit brings, and so can those that take
+/// them back.
+pub fn patches_of_edits_are_writable()
+    ensures on { (old : State) (e : Edit) (new : State) → step old e ≡ Ok new → IsWritable old.description → IsEditOfWords e → IsEditSpellable e → All IsWritablePatch (patches old.description e) }
+    ensures back { (old : State) (e : Edit) (new : State) → step old e ≡ Ok new → IsWritable old.description → IsEditOfWords e → IsEditSpellable e
+        → All IsWritablePatch (inverses (patches old.description e) old.description) }
 {}
 
 /// What `parse_session` answers for the text that `session` wrote: the same map and the same steps, but for want of memory
