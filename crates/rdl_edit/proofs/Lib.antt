@@ -1,2 +1,5 @@
 pub mod WaysBack
 pub mod Walking
+pub mod Staying
+pub mod StillEdits
+pub mod NewNames

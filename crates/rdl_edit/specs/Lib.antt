@@ -4,3 +4,4 @@ pub mod Faults
 pub mod Keeping
 pub mod Resuming
 pub mod Ways
+pub mod Still

@@ -3,6 +3,7 @@
 
 pub mod back;
 pub mod edit;
+pub mod laws;
 pub mod map;
 mod resuming;
 mod turning;

@@ -1,5 +1,7 @@
 //! Patches applied to a description, and its layouts laid out after them, where the map that they make has rows.
-ghost use Rattle.std.specs.Prelude.{◌≡◌, ◌≤◌, IfOk, IfErr, OnOk, OnErr, option_copied};
+ghost use Rattle.std.specs.Prelude.{◌≡◌, ◌≤◌, false, [], IfOk, IfErr, OnOk, OnErr, option_copied};
+ghost use Rattle.rdl_elab.specs.Skeleton.{skeleton};
+ghost use Rattle.rdl_edit.specs.Still.{moves_any};
 ghost use Rattle.rdl_elab.specs.AllKept.{AreOf};
 ghost use Rattle.rdl_tree.specs.Depth.{depth};
 ghost use Rattle.rdl_tree.specs.Patch.{AllFit, image};
@@ -28,7 +30,9 @@ fn refused(fault: Fault) -> Refusal
 }
 
 /// The bodies in which a patch moves an item.
-fn reordered(alloc: Global, patches: &[Patch]) -> Result<Vec<Address>, AllocError> {
+fn reordered(alloc: Global, patches: &[Patch]) -> Result<Vec<Address>, AllocError>
+    ensures { IfOk result (λ bodies. moves_any patches.now ≡ false → bodies.items ≡ []) }
+{
     let mut bodies = Vec::new(alloc);
     for patch in patches {
         if let Patch::Shift(address, _) = patch {
@@ -53,6 +57,7 @@ pub(crate) fn turn(
     requires fit { AllFit patches.items description.old.items }
     ensures made { OnOk result (description.new.items ≡ image patches.items description.old.items) }
     ensures keeps { OnOk result (Keeps (record { description = description.new.items; option = option_copied name.entry }) kept.new) }
+    ensures still { OnOk result (moves_any patches.items ≡ false → skeleton kept.old.description ≡ skeleton (image patches.items description.old.items) → kept.new.placed ≡ 0) }
     ensures back { IfOk result (λ back. IsWayBack description.old.items description.new.items back.items) }
     ensures cost { IfOk result (λ back. IsCheap patches.items description.old.items back.items) }
     ensures refused { IfErr result (IsJudged (record { description = image patches.items description.old.items; option = option_copied name.entry })) }
@@ -85,6 +90,7 @@ pub(crate) fn again(
     requires fit { AllFit patches.items description.old.items }
     ensures made { OnOk result (description.new.items ≡ image patches.items description.old.items) }
     ensures keeps { OnOk result (Keeps (record { description = description.new.items; option = option_copied name.entry }) kept.new) }
+    ensures still { OnOk result (moves_any patches.items ≡ false → skeleton kept.old.description ≡ skeleton (image patches.items description.old.items) → kept.new.placed ≡ 0) }
     ensures back { IfOk result (λ back. IsWayBack description.old.items description.new.items back.items) }
     ensures cost { IfOk result (λ back. IsCheap patches.items description.old.items back.items) }
     ensures handed { IfErr result (λ same. same.items ≡ patches.items) }

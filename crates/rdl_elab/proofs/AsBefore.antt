@@ -22,8 +22,23 @@ use Rattle.rdl_elab.specs.AllKept.{how_many, IsAsBefore, IsAsBeforeBut, instance
 use Rattle.rdl_elab.proofs.StandingIn.{body-inside}
 
 -- an item with a name is found again where it is
-abbrev IsClear : ℕ → ℕ → List Item → Type 0
+abbrev pub IsClear : ℕ → ℕ → List Item → Type 0
 IsClear k n xs = (j : ℕ) (d : Item) → k ≤ j → j < n → has_name (get_or xs j d) ≡ false
+
+pub clear-none : (n : ℕ) (xs : List Item) → IsClear n n xs
+clear-none n xs j x le less = let no : ⊥ = omega (arith, le, less) in absurd no
+
+pub clear-more : (k n : ℕ) (xs : List Item) (y : Item) → slice_get xs n ≡ Some y → has_name y ≡ false → IsClear k n xs → IsClear k (suc n) xs
+clear-more k n xs y is unnamed clear j x le less = by (cases_lt j n)
+  where
+    here : get_or xs n x ≡ y
+    here =
+        let e : Some (get_or xs n x) ≡ Some y = sym (slice_get-get_or xs n x (slice_get_within xs n y is)) ∙ is in
+        cc
+
+    by : ((j < n) ⊎ (n ≤ j)) → has_name (get_or xs j x) ≡ false
+    by (inl h) = clear j x le h
+    by (inr h) = let same : j ≡ n = omega (arith, h, less) in ap (λ i. has_name (get_or xs i x)) same ∙ ap has_name here ∙ unnamed
 
 module _ (test : Item → Bool) (xs : List Item) (k n : ℕ) (x : Item) (le : k ≤ n) (is : slice_get xs n ≡ Some x) (passes : test x ≡ true) (fails : (j : ℕ) (d : Item) → k ≤ j → j < n → test (get_or xs j d) ≡ false) where
   within : n < length xs
@@ -42,14 +57,14 @@ module _ (test : Item → Bool) (xs : List Item) (k n : ℕ) (x : Item) (le : k 
       (λ j h. ap test (get_or-drop k xs j x) ∙ fails (k + j) x (omega arith) (omega (arith, h, le)))
       (λ h. ap test (get_or-drop k xs (n - k) x ∙ ap (λ j. get_or xs j x) same ∙ here x) ∙ passes)
 
-  next-is : next test k xs ≡ Some n
+  pub next-is : next test k xs ≡ Some n
   next-is =
       let same : k + (n - k) ≡ n = omega (arith, le) in
       let found : position test (drop k xs) ≡ Some (n - k) =
       ap (λ m. cond (nat_lt m (length (drop k xs))) (Some m) None) at-first ∙ ap (λ c. cond c (Some (n - k)) None) (lt-ltb (n - k) (length (drop k xs)) less) in
       ap (λ o. option_or (option_map (λ i. k + i) o) (position test xs)) found ∙ ap Some same
 
-holder-named : (h : Holder) (body : Items) → has_name (holder_item h body) ≡ true
+pub holder-named : (h : Holder) (body : Items) → has_name (holder_item h body) ≡ true
 holder-named (define n k) body = refl
 holder-named (anonymous s k) body = refl
 
@@ -178,21 +193,6 @@ module _ (d : Items) (bodies : List (List ℕ)) where
   item-here : (b : List ℕ) (e : Standing) (t : Items) (n : ℕ) (f : Standing) (u : Items) → AreRest b e t n f u → slice_get (list_of t) n ≡ slice_get (list_of u) 0
   item-here b e t n f u h = let same : n ≡ n + 0 = omega arith in ap (slice_get (list_of t)) same ∙ h.items 0
 
-  clear-none : (n : ℕ) (xs : List Item) → IsClear n n xs
-  clear-none n xs j x le less = let no : ⊥ = omega (arith, le, less) in absurd no
-
-  clear-more : (k n : ℕ) (xs : List Item) (y : Item) → slice_get xs n ≡ Some y → has_name y ≡ false → IsClear k n xs → IsClear k (suc n) xs
-  clear-more k n xs y is unnamed clear j x le less = by (cases_lt j n)
-    where
-      here : get_or xs n x ≡ y
-      here =
-          let e : Some (get_or xs n x) ≡ Some y = sym (slice_get-get_or xs n x (slice_get_within xs n y is)) ∙ is in
-          cc
-
-      by : ((j < n) ⊎ (n ≤ j)) → has_name (get_or xs j x) ≡ false
-      by (inl h) = clear j x le h
-      by (inr h) = let same : j ≡ n = omega (arith, h, less) in ap (λ i. has_name (get_or xs i x)) same ∙ ap has_name here ∙ unnamed
-
   same-in : (b : List ℕ) (e : Standing) (t : Items) (n : ℕ) (f : Standing) (u : Items) (by_name : Bool) (k : ℕ) → IsBody b e t → AreRest b e t n f u → k ≤ n → IsClear k n (list_of t)
       → AllZip (IsAsBefore d) (stand_ins_in d bodies b (Some b) by_name k n u) (written f b n u)
   same-in b e t n f no_items by_name k is h le clear = tt
@@ -236,7 +236,7 @@ pub unchanged : (d : Items) (bodies : List (List ℕ)) → IsAsBeforeBut (λ a. 
 unchanged d bodies =
     let root : IsBody d bodies [] nothing d = record { body = refl; components = λ i a. refl } in
     weaker (λ a. false) d (stand_ins d bodies d) (all_written d)
-    (same-in d bodies [] nothing d 0 nothing d (goes_by_name bodies [] (list_of d) (list_of d)) 0 root (all-rest d bodies [] nothing d) (omega arith) (clear-none d bodies 0 (list_of d)))
+    (same-in d bodies [] nothing d 0 nothing d (goes_by_name bodies [] (list_of d) (list_of d)) 0 root (all-rest d bodies [] nothing d) (omega arith) (clear-none 0 (list_of d)))
 
 none-of : (cs : List Made) → sum_by (λ (c : Made). if false then how_many c.parts else 0) cs ≡ 0
 none-of [] = refl

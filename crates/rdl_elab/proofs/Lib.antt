@@ -46,3 +46,6 @@ pub mod FoundLayouts
 pub mod AllTaken
 pub mod StandingIn
 pub mod AsBefore
+pub mod Reaching
+pub mod Skeletons
+pub mod InOrder

@@ -6,7 +6,7 @@ use Rattle.rdl_tree.specs.Properties.{row, property_of, properties}
 use Rattle.rdl_tree.specs.declared.property.Property.{Property}
 use Rattle.rdl_tree.specs.declared.property.Property.TheVariants.{Name}
 
-named-back : (p : Property) → property_of (row p).name ≡ Some p
+pub named-back : (p : Property) → property_of (row p).name ≡ Some p
 unfolding property_of
 named-back Name = refl
 named-back p = refl

@@ -74,18 +74,18 @@ written-length e b n (holder h body rest) =
     omega (arith, length-append (written e (b ++ n ∷ []) 0 body) (here e b n h body ∷ written s b (suc n) rest), written-length e (b ++ n ∷ []) 0 body, written-length s b (suc n) rest)
 
 -- an element of two lists, one behind the other
-at-left : {X : Type 0} (xs ys : List X) (k : ℕ) → k < length xs → slice_get (xs ++ ys) k ≡ slice_get xs k
+pub at-left : {X : Type 0} (xs ys : List X) (k : ℕ) → k < length xs → slice_get (xs ++ ys) k ≡ slice_get xs k
 at-left [] ys k h = let no : ⊥ = omega arith in absurd no
 at-left (x ∷ xs) ys zero h = refl
 at-left (x ∷ xs) ys (suc k) h = at-left xs ys k (omega arith)
 
-at-right : {X : Type 0} (xs ys : List X) (n k : ℕ) → n ≡ length xs + k → slice_get (xs ++ ys) n ≡ slice_get ys k
+pub at-right : {X : Type 0} (xs ys : List X) (n k : ℕ) → n ≡ length xs + k → slice_get (xs ++ ys) n ≡ slice_get ys k
 at-right [] ys n k e = ap (slice_get ys) (omega (arith, e))
 at-right (x ∷ xs) ys zero k e = let no : ⊥ = omega (arith, e) in absurd no
 at-right (x ∷ xs) ys (suc n) k e = at-right xs ys n k (omega (arith, e))
 
 -- behind a component and those inside it
-at-rest : (e : Standing) (b : List ℕ) (n : ℕ) (h : Holder) (body rest : Items) (m k : ℕ) → m ≡ components body + 1 + k
+pub at-rest : (e : Standing) (b : List ℕ) (n : ℕ) (h : Holder) (body rest : Items) (m k : ℕ) → m ≡ components body + 1 + k
     → slice_get (written e b n (holder h body rest)) m ≡ slice_get (written (after_holder h (b ++ n ∷ []) body (parts e (b ++ n ∷ []) 0 body) e) b (suc n) rest) k
 at-rest e b n h body rest m k is =
     let s = after_holder h (b ++ n ∷ []) body (parts e (b ++ n ∷ []) 0 body) e in

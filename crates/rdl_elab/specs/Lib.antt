@@ -22,6 +22,8 @@ pub mod StandIns
 pub mod KeptBodies
 pub mod Finishes
 pub mod AllKept
+pub mod Reach
+pub mod Skeleton
 pub mod Numbers
 pub mod Stored
 pub mod Stands

@@ -151,12 +151,14 @@ impl Model for Kept {
 }
 
 impl Kept {
-    ghost use Rattle.std.specs.Prelude.{◌≡◌, ◌≤◌, ◌*◌, ◌⊎◌, ℕ, Bool, List, Ok, Err, IfOk, IfErr, OnOk, OnErr, option_copied};
+    ghost use Rattle.std.specs.Prelude.{◌≡◌, ◌≤◌, ◌*◌, ◌⊎◌, ℕ, Bool, List, [], Ok, Err, IfOk, IfErr, OnOk, OnErr, option_copied};
     ghost use Rattle.rdl_tree.specs.Depth.{depth};
     ghost use Rattle.rdl_scope.specs.ItemFaults.{out_of_memory};
     ghost use Rattle.rdl_elab.specs.Faults.{elaborated};
     ghost use Rattle.rdl_elab.specs.Written.{all_layouts};
     ghost use Rattle.rdl_elab.specs.AllKept.{AreOf, IsAsBeforeBut, layout_at, all_instances, instances_at};
+    ghost use Rattle.rdl_elab.specs.Reach.{in_reach, AreUnchangedBut};
+    ghost use Rattle.rdl_elab.specs.Skeleton.{skeleton};
 
     /// Nothing is kept.
     fn empty(alloc: Global) -> Kept {
@@ -230,6 +232,8 @@ impl Kept {
         ensures top { OnOk result (self.new.top ≡ option_copied top.entry) }
         ensures placed { OnOk result (self.new.placed ≤ 3 * all_instances description.now.items) }
         ensures few { OnOk result ((marked : List ℕ → Bool) → IsAsBeforeBut marked self.old.description bodies.now description.now.items → self.new.placed ≤ 3 * instances_at marked description.now.items) }
+        ensures reached { OnOk result ((edited : List ℕ → Bool) → AreUnchangedBut edited self.old.description bodies.now description.now.items → self.new.placed ≤ 3 * instances_at (in_reach edited description.now.items) description.now.items) }
+        ensures still { OnOk result (bodies.now ≡ [] → skeleton self.old.description ≡ skeleton description.now.items → self.new.placed ≡ 0) }
         ensures refused { IfErr result (λ fault. (elaborated description.now.items (option_copied top.entry) ≡ Err fault) ⊎ (fault ≡ out_of_memory)) }
         ensures err { OnErr result (self.new ≡ self.old) }
     {

@@ -1,5 +1,5 @@
 //! What the definitions have in common. Each function here is a law: it does nothing when it runs.
-ghost use Rattle.std.specs.Prelude.{◌≡◌, ◌++◌, ◌∷◌, [], ℕ, List, map, Option, Some, None, true, false};
+ghost use Rattle.std.specs.Prelude.{◌≡◌, ◌++◌, ◌∷◌, [], ℕ, Bool, List, map, Option, Some, None, true, false};
 ghost use Rattle.rdl_tree.specs.Items.{Items};
 ghost use Rattle.rdl_tree.specs.declared.shell.Kind.{Kind};
 ghost use Rattle.rdl_tree.specs.declared.shell.Shell.{Shell};
@@ -26,6 +26,9 @@ ghost use Rattle.rdl_elab.specs.Reaches.{reaches, reaches_at, behind, along, rea
 ghost use Rattle.rdl_elab.specs.Found.{ArePartsFound};
 ghost use Rattle.rdl_elab.specs.Faults.{overlap, SharesANumber};
 ghost use Rattle.rdl_elab.specs.AllKept.{IsAsBeforeBut, instances_at};
+ghost use Rattle.rdl_elab.specs.Reach.{in_reach, AreUnchangedBut};
+ghost use Rattle.rdl_elab.specs.Written.{all_layouts};
+ghost use Rattle.rdl_elab.specs.Skeleton.{skeleton};
 
 /// An instance without `@` begins at the least number that is at least the end of the instance before it and a multiple
 /// of each of its alignments; and an array in fullalign is aligned by the least power of two that holds it.
@@ -87,4 +90,21 @@ pub fn values_are_along()
 pub fn unchanged_is_as_before()
     ensures before { (d : Items) (bodies : List (List ℕ)) → IsAsBeforeBut (λ a. false) d bodies d }
     ensures none { (d : Items) → instances_at (λ a. false) d ≡ 0 }
+{}
+
+/// Where every component is unchanged but for those whose bodies are edited, every component is as before but for those
+/// in reach of the edited bodies.
+pub fn out_of_reach_is_as_before()
+    ensures { (edited : List ℕ → Bool) (old : Items) (bodies : List (List ℕ)) (new : Items) → AreUnchangedBut edited old bodies new → IsAsBeforeBut (in_reach edited new) old bodies new }
+{}
+
+/// All layouts of a description are those of its skeleton.
+pub fn layouts_are_of_skeletons()
+    ensures { (d : Items) → all_layouts d ≡ all_layouts (skeleton d) }
+{}
+
+/// Where the skeleton has stayed and no body is named, every component is as before. So to lay such a description out
+/// places nothing.
+pub fn same_skeletons_are_as_before()
+    ensures { (old new : Items) → skeleton old ≡ skeleton new → IsAsBeforeBut (λ a. false) old [] new }
 {}

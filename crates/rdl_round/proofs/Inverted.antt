@@ -72,12 +72,12 @@ good (holder p body rest) h k w = ((h.0, k.0), good body h.1 k.1 (omega (arith, 
 pub map-good : (t : Items) → IsWritable t → IsGood t
 map-good t w = good t w.of_words w.spellable w.within.heavy
 
-of-words : (t : Items) → IsGood t → IsOfWords t
+pub of-words : (t : Items) → IsGood t → IsOfWords t
 of-words no_items g = tt
 of-words (plain p rest) g = (g.0.0.0, of-words rest g.1)
 of-words (holder p body rest) g = (g.0.0, of-words body g.1, of-words rest g.2)
 
-spellable : (t : Items) → IsGood t → IsSpellable t
+pub spellable : (t : Items) → IsGood t → IsSpellable t
 spellable no_items g = tt
 spellable (plain p rest) g = (g.0.0.1, spellable rest g.1)
 spellable (holder p body rest) g = (g.0.1, spellable body g.1, spellable rest g.2)

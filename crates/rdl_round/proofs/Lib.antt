@@ -27,3 +27,4 @@ pub mod Inverted
 pub mod Smaller
 pub mod EditPatches
 pub mod EditBrings
+pub mod Opened

@@ -156,7 +156,7 @@ some-spells spells [] (y ∷ ys) s = absurd s
 some-spells spells (x ∷ xs) [] s = absurd s
 some-spells spells (x ∷ xs) (y ∷ ys) s = ((x, s.0), some-spells spells xs ys s.1)
 
-all-spelled : (lines : List (List PatchLines)) (steps : List (List Patch)) → SpellsSteps lines steps → AreSpelled steps
+pub all-spelled : (lines : List (List PatchLines)) (steps : List (List Patch)) → SpellsSteps lines steps → AreSpelled steps
 all-spelled lines steps s =
     let some = All-from_recursion _ steps (some-spells (SpellsEach SpellsPatch) lines steps s) in
     All-weaker _ (All IsSpelledPatch) (λ (patches : List Patch) (k : (l : List PatchLines) × SpellsEach SpellsPatch l patches). All-from_recursion IsSpelledPatch patches (some-spells SpellsPatch k.0 patches k.1)) steps some
