@@ -89,7 +89,7 @@ module _ (P : Plain → Type 0) (H : Holder → Type 0) where
 
   -- ---- The body at an address, and another there.
 
-  inner-each : (i : ℕ) (t : Items) → Each P H t → IfSome (inner i t) (Each P H)
+  pub inner-each : (i : ℕ) (t : Items) → Each P H t → IfSome (inner i t) (Each P H)
   inner-each i no_items e = tt
   inner-each zero (plain p rest) e = tt
   inner-each zero (holder h body rest) e = e.1

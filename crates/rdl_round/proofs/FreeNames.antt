@@ -46,7 +46,7 @@ pub spellable-free : (t : Items) → IsSpellable t → AreNamesFree t
 spellable-free t h = weaker IsPlain HasFreeNames IsHolder HasFreeName plain-free holder-free t (each-spellable t h)
 
 -- a name that isn't refused is free
-class-free : (c : Class) → not (is_name c) ≡ false → c ≡ classes.Name
+pub class-free : (c : Class) → not (is_name c) ≡ false → c ≡ classes.Name
 class-free classes.Name e = refl
 class-free (classes.Kind k) e = absurd (true≢false e)
 class-free (classes.Outside o) e = absurd (true≢false e)

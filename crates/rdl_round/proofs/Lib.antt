@@ -18,3 +18,13 @@ pub mod Back
 pub mod Parsed
 pub mod Brought
 pub mod Scripted
+pub mod Endings
+pub mod Utf8
+pub mod Strings
+pub mod Saved
+pub mod SpelledSessions
+pub mod Inverted
+pub mod Smaller
+pub mod EditPatches
+pub mod EditBrings
+pub mod Opened

@@ -25,11 +25,11 @@ names-made way name [] names f h = h
 names-made way name (at ∷ path) [] f h = h
 names-made way name (at ∷ path) (n ∷ names) f h = (chosen IsName (same at way) name n f h.0, names-made way name path names f h.1)
 
-target-made : (way name : List ℕ) (o : Option (List (List ℕ))) (target : List (List ℕ)) → IsName name → AreNames target → AreNames (renamed_target way name o target)
+pub target-made : (way name : List ℕ) (o : Option (List (List ℕ))) (target : List (List ℕ)) → IsName name → AreNames target → AreNames (renamed_target way name o target)
 target-made way name None target f h = h
 target-made way name (Some path) target f h = names-made way name path target f h
 
-shell-made : (way name at : List ℕ) (s : Shell) → IsName name → IsShellOfWords s → IsShellOfWords (renamed_shell way name at s)
+pub shell-made : (way name at : List ℕ) (s : Shell) → IsName name → IsShellOfWords s → IsShellOfWords (renamed_shell way name at s)
 shell-made way name at s f h =
     chosen IsShellOfWords (same at way) (record s { name = name }) s
     (record { name = f; dims = h.dims; range = h.range; reset = h.reset; address = h.address; stride = h.stride; align = h.align }) h

@@ -1,5 +1,6 @@
 -- The lines of a script do nothing to a history but accepted edits, undos and redos, and what the edits bring is made of words.
 use Rattle.std.proofs.Common.{◌≡◌, ℕ, Bool, List, [], ◌∷◌, length, ◌≤◌, Option, Ok, All, ◌⊎◌, inl, inr, arith, sym, subst}
+use Rattle.std.proofs.lemmas.List.Elements.{All-weaker}
 use Rattle.journal_core.specs.History.{History, IsAt, Edits, after_undo, after_redo}
 use Rattle.rdl_tree.specs.declared.path.Segment.{Segment}
 use Rattle.rdl_tree.specs.View.{items_of}
@@ -14,11 +15,13 @@ use Rattle.rdl_script.specs.Commands as commands
 use Rattle.rdl_script.specs.Commands.{Command, command_of, lines_of}
 use Rattle.rdl_script.specs.declared.request.CommandFault.{CommandFault}
 use Rattle.rdl_run.specs.Answers.{AnswersEdit, AnswersItems, AnswersAdd, Answers, Run, Serves}
-use Rattle.rdl_run.specs.Opening.{Opens}
-use Rattle.rdl_run.specs.Output.{Output, one_map, RunsScript}
+use Rattle.rdl_run.specs.Opening.{OpensHistory}
+use Rattle.rdl_run.specs.Output.{Output, RunsScript}
+use Rattle.rdl_run.specs.declared.run.Options.{Options}
 use Rattle.rdl_round.specs.Histories.{ReadsBack, IsWritable, Action, edit, undo, redo, Follows, BringWords}
 use Rattle.rdl_round.proofs.Brought.{IsGood, BringsGood, line-good, read-good}
-use Rattle.rdl_round.proofs.Stepped.{followed, all-read-back, place-reads-back}
+use Rattle.rdl_round.proofs.Opened.{opened-writable}
+use Rattle.rdl_round.proofs.Stepped.{followed, reads-back, at-place}
 
 abbrev pub BringsOnly : History State → History State → Type 0
 BringsOnly old new = (actions : List Action) × BringWords actions × Follows old actions new
@@ -97,24 +100,24 @@ served-writable old new lines text refuses all serves =
     let only = served old new lines text refuses serves in
     followed old new only.0 all only.1 only.2
 
--- ---- From a map that was opened.
+-- ---- From a map or a session that was opened.
 
-pub run-reads-back : (option : Option (List ℕ)) (map : List ℕ) (first : State) (limit : ℕ) (script replies : List ℕ) (refuses : Bool) (last : History State)
-    → Opens option map first → Serves (one_map limit first) (lines_of script) replies refuses last → All (λ s. ReadsBack s.description) last.states
-run-reads-back option map first limit script replies refuses last opens serves =
-    let only = served (one_map limit first) last (lines_of script) replies refuses serves in
-    all-read-back map first opens.places limit only.0 last opens.read.spelled opens.whole only.1 only.2
+pub run-reads-back : (option : Option (List ℕ)) (limit : ℕ) (bytes : List ℕ) (first : History State) (script replies : List ℕ) (refuses : Bool) (last : History State)
+    → OpensHistory option limit bytes first → Serves first (lines_of script) replies refuses last → All (λ s. ReadsBack s.description) last.states
+run-reads-back option limit bytes first script replies refuses last opens serves =
+    All-weaker (λ (s : State). IsWritable s.description) (λ s. ReadsBack s.description) (λ s w. reads-back s.description w) last.states
+    (served-writable first last (lines_of script) replies refuses (opened-writable option limit bytes first opens) serves)
 
-pub place-of-run-reads-back : (option : Option (List ℕ)) (map : List ℕ) (first : State) (limit : ℕ) (script replies : List ℕ) (refuses : Bool) (last : History State) (now : State)
-    → Opens option map first → Serves (one_map limit first) (lines_of script) replies refuses last → IsAt last now → ReadsBack now.description
-place-of-run-reads-back option map first limit script replies refuses last now opens serves at =
-    let only = served (one_map limit first) last (lines_of script) replies refuses serves in
-    place-reads-back map first opens.places limit only.0 last now opens.read.spelled opens.whole only.1 only.2 at
+pub place-of-run-reads-back : (option : Option (List ℕ)) (limit : ℕ) (bytes : List ℕ) (first : History State) (script replies : List ℕ) (refuses : Bool) (last : History State) (now : State)
+    → OpensHistory option limit bytes first → Serves first (lines_of script) replies refuses last → IsAt last now → ReadsBack now.description
+place-of-run-reads-back option limit bytes first script replies refuses last now opens serves at =
+    at-place (λ (s : State). ReadsBack s.description) last.states last.place now (run-reads-back option limit bytes first script replies refuses last opens serves) at
 
 -- the map's text that a run leaves is read as the map to which the script led
-pub output-reads-back : (option : Option (List ℕ)) (limit : ℕ) (map script : List ℕ) (out : Output) (ran : RunsScript option limit map script out)
-    → length out.rdl ≤ max_text → (p : Located) × (parse_reading out.rdl ≡ Ok (ran.runs.now.description, p))
-output-reads-back option limit map script out ran =
+pub output-reads-back : (options : Options) (map script : List ℕ) (out : Output) (ran : RunsScript options map script out)
+    → length out.rdl ≤ max_text → (p : Located) × (parse_reading out.rdl ≡ Ok (ran.runs.closes.now.description, p))
+output-reads-back options map script out ran =
     let r = ran.runs in
-    subst (λ text. length text ≤ max_text → (p : Located) × (parse_reading text ≡ Ok (r.now.description, p))) (sym r.closes.rdl_is)
-    (place-of-run-reads-back option map ran.first limit script r.replies r.refuses r.last r.now ran.opens r.serves r.at)
+    let now = r.closes.now in
+    subst (λ text. length text ≤ max_text → (p : Located) × (parse_reading text ≡ Ok (now.description, p))) (sym r.closes.rdl_is)
+    (place-of-run-reads-back options.top options.history map ran.first script r.replies r.refuses r.last now ran.opens r.serves r.closes.at)

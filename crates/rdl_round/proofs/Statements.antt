@@ -15,7 +15,7 @@ use Rattle.rdl_tree.specs.declared.value.Value.{Value}
 use Rattle.rdl_parse.specs.declared.found.Spot.{Spot}
 use Rattle.rdl_parse.specs.Symbol.{Symbol, mark, name, kind}
 use Rattle.rdl_parse.specs.Spelling as grammar
-use Rattle.rdl_parse.specs.Spelling.{Brackets, sizes, range, Inst, Out, nowhere, front, Statement, Statements, none, one, sizes_words, brackets_words, part_words, inst_words, at_front, out_of, said, dims_of, range_of, shell_of, component, prop_symbol, assigned_words, dots_words, Spells}
+use Rattle.rdl_parse.specs.Spelling.{Brackets, sizes, range, Inst, Out, nowhere, front, Statement, Statements, none, one, sizes_words, brackets_words, part_words, inst_words, at_front, out_of, said, dims_of, range_of, shell_of, component, prop_symbol, assigned_words, dots_words, Spells, SpellsItems}
 use Rattle.rdl_round.specs.Spellable.{AreFree, IsProperty, AreBrackets, IsShell, IsPlain, IsHolder, IsSpellable}
 use Rattle.rdl_round.specs.WrittenWords.{assignment_words, dotted_words, outside_words, range_words, shell_words, statement_words, open_words, close_words, body_words, map_words}
 use Rattle.rdl_round.proofs.Classes.{free-is, kind-is, default-is, external-is, internal-is, value-is, prop_of, prop-word-is, prop-text-is}
@@ -186,3 +186,22 @@ items-are (holder k body rest) h =
 
 pub written-words-spell : (d : Items) → IsSpellable d → (at : List Spot) × Spells (map_words d) d at
 written-words-spell d h = (grammar.spots (statements d h) [], (statements d h, words-are d [] h, items-are d h, refl))
+
+-- ---- One item.
+
+plain-spells : (p : Plain) → IsSpellable (plain p no_items) → SpellsItems (map_words (plain p no_items)) (plain_item p ∷ [])
+plain-spells p h = (plain_statement p h.0, plain-words p [] h.0, plain-items p h.0)
+
+holder-spells : (k : Holder) (body : Items) → IsSpellable (holder k body no_items) → SpellsItems (map_words (holder k body no_items)) (holder_item k body ∷ [])
+holder-spells k body h =
+    let inside = statements body h.1 in
+    (holder_statement k inside, holder-words k inside (body_words body) [] h.0 (λ ws. words-are body ws h.1), holder-items k inside body h.0 (items-are body h.1))
+
+-- the words of an item by itself are a statement that stands for it
+pub written-item-spells : (x : Item) → IsSpellable (items_of (x ∷ [])) → SpellsItems (map_words (items_of (x ∷ []))) (x ∷ [])
+written-item-spells (Define n c) h = holder-spells (items.define n c.kind) c.body h
+written-item-spells (Instance s (Named t)) h = plain-spells (items.named s t) h
+written-item-spells (Instance s (Anonymous c)) h = holder-spells (items.anonymous s c.kind) c.body h
+written-item-spells (Own p v) h = plain-spells (items.own p v) h
+written-item-spells (Default p v) h = plain-spells (items.default p v) h
+written-item-spells (Dynamic t p v) h = plain-spells (items.dynamic t p v) h

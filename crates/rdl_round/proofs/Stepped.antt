@@ -54,11 +54,11 @@ step-of-words old e new led h brings = (stepped IsOfWords old e new led (kept-wo
 step-within : (old : State) (e : Edit) (new : State) → step old e ≡ Ok new → IsOfWords old.description → IsEditOfWords e → IsWithinLimits new.description
 step-within old e new led h brings = fitting new.description (stepped IsOfWords old e new led (kept-words old.description e brings h)).1
 
-step-writable : (old : State) (e : Edit) (new : State) → step old e ≡ Ok new → IsEditOfWords e → IsEditSpellable e → IsWritable old.description → IsWritable new.description
+pub step-writable : (old : State) (e : Edit) (new : State) → step old e ≡ Ok new → IsEditOfWords e → IsEditSpellable e → IsWritable old.description → IsWritable new.description
 step-writable old e new led words spells w =
     record { of_words = step-of-words old e new led w.of_words words; spellable = step-spellable old e new led w.spellable spells; within = step-within old e new led w.of_words words }
 
-reads-back : (d : Items) → IsWritable d → ReadsBack d
+pub reads-back : (d : Items) → IsWritable d → ReadsBack d
 reads-back d w short = written-parses d w.of_words w.spellable w.within short
 
 pub edited-reads-back : (text : List ℕ) (old new : State) (p : Located) (e : Edit) → SpellsText text old.description p → IsEditOfWords e → IsEditSpellable e → step old e ≡ Ok new → ReadsBack new.description
@@ -75,7 +75,7 @@ IsStateWritable s = IsWritable s.description
 abbrev pub AreWritable : History State → Type 0
 AreWritable h = All IsStateWritable h.states
 
-at-place : (P : State → Type 0) (xs : List State) (n : ℕ) (s : State) → All P xs → slice_get xs n ≡ Some s → P s
+pub at-place : (P : State → Type 0) (xs : List State) (n : ℕ) (s : State) → All P xs → slice_get xs n ≡ Some s → P s
 at-place P [] n s all e = absurd (none-some s e)
 at-place P (x ∷ xs) zero s all e = subst P (same_Some x s e) (All-head P x xs all)
 at-place P (x ∷ xs) (suc n) s all e = at-place P xs n s (All-tail P x xs all) e
@@ -94,7 +94,7 @@ followed old new (action ∷ actions) all brings follows =
     let next = acted old action actions follows.0 follows.1 brings all in
     followed follows.0 new actions next.0 next.1 follows.2
 
-begun-writable : (text : List ℕ) (start : State) (p : Located) (limit : ℕ) → SpellsText text start.description p → HasRows start → AreWritable (begun limit start)
+pub begun-writable : (text : List ℕ) (start : State) (p : Located) (limit : ℕ) → SpellsText text start.description p → HasRows start → AreWritable (begun limit start)
 begun-writable text start p limit s has =
     let d = start.description in
     let writable : IsWritable d = record {

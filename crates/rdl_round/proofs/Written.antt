@@ -43,7 +43,7 @@ spaced-mark m = join (codes " " ++ mark_spelling m) (codes " ") (λ ws. mark m �
 
 -- ---- Values.
 
-word-name : (w : ValueWord) → IsName (word_text w)
+pub word-name : (w : ValueWord) → IsName (word_text w)
 word-name R = record { short = omega arith; identifier = refl }
 word-name W = record { short = omega arith; identifier = refl }
 word-name Rw = record { short = omega arith; identifier = refl }
@@ -67,7 +67,7 @@ word-name Compact = record { short = omega arith; identifier = refl }
 word-name Regalign = record { short = omega arith; identifier = refl }
 word-name Fullalign = record { short = omega arith; identifier = refl }
 
-truth-name : (b : Bool) → IsName (boolean_text b)
+pub truth-name : (b : Bool) → IsName (boolean_text b)
 truth-name true = record { short = omega arith; identifier = refl }
 truth-name false = record { short = omega arith; identifier = refl }
 

@@ -3,3 +3,4 @@ pub mod Spellable
 pub mod OfWords
 pub mod NewParts
 pub mod Histories
+pub mod Sessions

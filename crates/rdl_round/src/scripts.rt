@@ -13,9 +13,10 @@ ghost use Rattle.rdl_rewrite.specs.declared.place.Place.{Place};
 ghost use Rattle.rdl_edit.specs.Step.{State};
 ghost use Rattle.rdl_script.specs.Commands.{edit, add, command_of, lines_of};
 ghost use Rattle.rdl_run.specs.Answers.{Serves};
-ghost use Rattle.rdl_run.specs.Opening.{Opens};
-ghost use Rattle.rdl_run.specs.Output.{Output, one_map, RunsScript};
+ghost use Rattle.rdl_run.specs.Opening.{OpensHistory};
+ghost use Rattle.rdl_run.specs.Output.{Output, RunsScript};
 ghost use Rattle.rdl_run.specs.Readings.{ReadsItems};
+ghost use Rattle.rdl_run.specs.declared.run.Options.{Options};
 ghost use Rattle.rdl_round.specs.Histories.{ReadsBack, IsWritable, Action, Follows, BringWords};
 ghost use Rattle.rdl_round.specs.NewParts.{IsEditOfWords, IsEditSpellable};
 
@@ -39,13 +40,20 @@ pub fn scripts_keep_maps_writable()
         → Serves old lines text refuses new → All (λ s. IsWritable s.description) new.states }
 {}
 
-/// So from a map that was opened each map to which a script leads reads back: that at the place, those before it, and those
-/// that can be redone. The text that a run leaves as its map is read as the map to which the script led, if it isn't too long.
+/// Each map of a history that was opened can be written and read back, be it opened by a map or by a session.
+pub fn opened_maps_are_writable()
+    ensures { (option : Option (List ℕ)) (limit : ℕ) (bytes : List ℕ) (first : History State) → OpensHistory option limit bytes first
+        → All (λ s. IsWritable s.description) first.states }
+{}
+
+/// So from a map or a session that was opened each map to which a script leads reads back: that at the place, those before
+/// it, and those that can be redone. The text that a run leaves as its map is read as the map to which the script led, if it
+/// isn't too long.
 pub fn runs_read_back()
-    ensures all { (option : Option (List ℕ)) (map : List ℕ) (first : State) (limit : ℕ) (script replies : List ℕ) (refuses : Bool) (last : History State)
-        → Opens option map first → Serves (one_map limit first) (lines_of script) replies refuses last → All (λ s. ReadsBack s.description) last.states }
-    ensures current { (option : Option (List ℕ)) (map : List ℕ) (first : State) (limit : ℕ) (script replies : List ℕ) (refuses : Bool) (last : History State) (now : State)
-        → Opens option map first → Serves (one_map limit first) (lines_of script) replies refuses last → IsAt last now → ReadsBack now.description }
-    ensures written { (option : Option (List ℕ)) (limit : ℕ) (map script : List ℕ) (out : Output) (ran : RunsScript option limit map script out)
-        → length out.rdl ≤ max_text → (p : Located) × (parse_reading out.rdl ≡ Ok (ran.runs.now.description, p)) }
+    ensures all { (option : Option (List ℕ)) (limit : ℕ) (bytes : List ℕ) (first : History State) (script replies : List ℕ) (refuses : Bool) (last : History State)
+        → OpensHistory option limit bytes first → Serves first (lines_of script) replies refuses last → All (λ s. ReadsBack s.description) last.states }
+    ensures current { (option : Option (List ℕ)) (limit : ℕ) (bytes : List ℕ) (first : History State) (script replies : List ℕ) (refuses : Bool) (last : History State) (now : State)
+        → OpensHistory option limit bytes first → Serves first (lines_of script) replies refuses last → IsAt last now → ReadsBack now.description }
+    ensures written { (options : Options) (map script : List ℕ) (out : Output) (ran : RunsScript options map script out)
+        → length out.rdl ≤ max_text → (p : Located) × (parse_reading out.rdl ≡ Ok (ran.runs.closes.now.description, p)) }
 {}

@@ -7,6 +7,7 @@ pub mod Joining
 pub mod Lists
 pub mod Longest
 pub mod Numbers
+pub mod Sources
 pub mod Spanning
 pub mod Spellings
 pub mod Steps

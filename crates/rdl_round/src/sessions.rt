@@ -1,0 +1,95 @@
+//! Laws of written sessions: they are read back.
+ghost use Rattle.std.specs.Prelude.{◌≡◌, ◌<◌, ◌≤◌, ◌∷◌, ◌⊎◌, [], ℕ, List, Ok, length, map, All, IsUtf8, MatchResult};
+ghost use Rattle.rdl_tree.specs.Items.{Items};
+ghost use Rattle.rdl_tree.specs.Limits.{IsWithinLimits};
+ghost use Rattle.rdl_tree.specs.Patch.{image, inverses};
+ghost use Rattle.rdl_tree.specs.SessionText.{session_text, max_session};
+ghost use Rattle.rdl_tree.specs.View.{items_of};
+ghost use Rattle.rdl_tree.specs.declared.description.Item.{Item};
+ghost use Rattle.rdl_tree.specs.declared.patch.Patch.{Patch};
+ghost use Rattle.rdl_tree.specs.declared.session.SessionFault.TheVariants.{TooLong, Memory};
+ghost use Rattle.rdl_parse.specs.Faults.{max_text};
+ghost use Rattle.rdl_parse.specs.Parsing.{SpellsItemText};
+ghost use Rattle.rdl_parse.specs.Session.{SpellsSession};
+ghost use Rattle.rdl_write.specs.ItemText.{item_text};
+ghost use Rattle.rdl_write.specs.SessionLines.{session_lines};
+ghost use Rattle.rdl_rewrite.specs.Patches.{patches};
+ghost use Rattle.rdl_rewrite.specs.declared.edit.Edit.{Edit};
+ghost use Rattle.rdl_edit.specs.Step.{State, step};
+ghost use Rattle.rdl_round.specs.Histories.{IsWritable};
+ghost use Rattle.rdl_round.specs.NewParts.{IsEditOfWords, IsEditSpellable};
+ghost use Rattle.rdl_round.specs.OfWords.{IsOfWords};
+ghost use Rattle.rdl_round.specs.Sessions.{IsWritablePatch, AreWritable, AreDropsWithin, IsSpelledMap, AreSpelled};
+ghost use Rattle.rdl_round.specs.Spellable.{IsSpellable};
+
+use rdl_parse::session::{Session, parse_session};
+use rdl_tree::description::Description;
+use rdl_tree::patch::Patch;
+use rdl_tree::session::SessionFault;
+use rdl_write::session;
+use std::alloc::Global;
+
+/// The text of an item without an indent is exactly one statement, which stands for that item, where the item is made of
+/// words and spellable and the text isn't too long.
+pub fn written_items_read_back()
+    ensures { (x : Item) → IsOfWords (items_of (x ∷ [])) → IsSpellable (items_of (x ∷ [])) → length (item_text [] x) ≤ max_text → SpellsItemText (item_text [] x) (x ∷ []) }
+{}
+
+/// The text of a written session spells the map and the steps that were written, where these can be written and the text
+/// isn't too long. That it is UTF-8 is so of every text that is a `String`.
+pub fn written_sessions_read_back()
+    ensures { (d : Items) (undo redo : List (List Patch)) → IsWritable d → AreWritable undo → AreWritable redo → IsUtf8 (session_text (session_lines d undo redo))
+        → length (session_text (session_lines d undo redo)) ≤ max_session → SpellsSession (session_text (session_lines d undo redo)) d undo redo }
+{}
+
+/// So do the map and the steps that texts spell: no premise is left on them, nor on what is written.
+pub fn spelled_sessions_read_back()
+    ensures { (d : Items) (undo redo : List (List Patch)) → IsSpelledMap d → AreSpelled undo → AreSpelled redo
+        → length (session_text (session_lines d undo redo)) ≤ max_session → SpellsSession (session_text (session_lines d undo redo)) d undo redo }
+{}
+
+/// And so the session that is written of one that was read is read as the same one, however the texts in it were spelled.
+pub fn read_sessions_read_back()
+    ensures { (text : List ℕ) (d : Items) (undo redo : List (List Patch)) → SpellsSession text d undo redo
+        → length (session_text (session_lines d undo redo)) ≤ max_session → SpellsSession (session_text (session_lines d undo redo)) d undo redo }
+{}
+
+/// What texts spell can be written.
+pub fn spelled_steps_are_writable()
+    ensures map { (d : Items) → IsSpelledMap d → IsWritable d }
+    ensures steps { (steps : List (List Patch)) → AreSpelled steps → AreWritable steps }
+{}
+
+/// What takes patches back can be written, where they and the description can, and each item that they take out on their
+/// way is within the limits. So can the description to which they lead, where that is within the limits.
+pub fn inverses_are_writable()
+    ensures back { (patches : List Patch) (d : Items) → IsWritable d → All IsWritablePatch patches → AreDropsWithin patches d → All IsWritablePatch (inverses patches d) }
+    ensures place { (patches : List Patch) (d : Items) → IsWritable d → All IsWritablePatch patches → IsWithinLimits (image patches d) → IsWritable (image patches d) }
+{}
+
+/// The patches of an accepted edit can be written, where the map can and what the edit brings, and so can those that take
+/// them back.
+pub fn patches_of_edits_are_writable()
+    ensures on { (old : State) (e : Edit) (new : State) → step old e ≡ Ok new → IsWritable old.description → IsEditOfWords e → IsEditSpellable e → All IsWritablePatch (patches old.description e) }
+    ensures back { (old : State) (e : Edit) (new : State) → step old e ≡ Ok new → IsWritable old.description → IsEditOfWords e → IsEditSpellable e
+        → All IsWritablePatch (inverses (patches old.description e) old.description) }
+{}
+
+/// What `parse_session` answers for the text that `session` wrote: the same map and the same steps, but for want of memory
+/// and for a text that is too long.
+pub fn written_sessions_are_parsed(
+    alloc: Global,
+    description: &Description,
+    undo: &[&[Patch]],
+    redo: &[&[Patch]],
+) -> Result<Session, SessionFault>
+    ensures { let d = description.now.items in let back = map (λ step. step.now) undo.entry.now in let on = map (λ step. step.now) redo.entry.now in
+        IsWritable d → AreWritable back → AreWritable on
+        → MatchResult result (λ s. (s.map.items ≡ d) × (map (λ step. step.items) s.undo.items ≡ back) × (map (λ step. step.items) s.redo.items ≡ on))
+        (λ f. (f ≡ Memory) ⊎ ((f ≡ TooLong) × (max_session < length (session_text (session_lines d back on))))) }
+{
+    match session(alloc, description, undo, redo) {
+        Ok(text) => parse_session(alloc, text.as_str()),
+        Err(fault) => Err(fault),
+    }
+}
