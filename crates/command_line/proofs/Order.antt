@@ -14,7 +14,7 @@ use Rattle.command_line.proofs.Simple.{simple_command}
 use Rattle.clap.proofs.OnLiterals.{clap_on_literals}
 use Rattle.clap.proofs.SimpleLemmas.{is_false}
 use Rattle.command_line.specs.Arguments.{regedit_command}
-use Rattle.command_line.specs.Plain.{ReadsInOrder, in_order, is_plain}
+use Rattle.command_line.specs.Plain.{ReadsInOrder, ReadsWithSession, is_plain}
 use Rattle.command_line.specs.Words.{AreTaken, found, mistakes}
 
 -- ---- a word that begins with no hyphen is no flag
@@ -127,49 +127,42 @@ module _ (map script rdl header : Text) (plain_map : is_plain map ≡ true) (pla
   unfolding regedit_command clap_on_literals
   to_last = walked_plain rules sixth.held sixth.waiting sixth.position header plain_header
 
-  walk_over : walk rules [] nothing_held (in_order map script rdl header) ≡ last
-  walk_over =
-      ap (λ w. fold (walked rules []) w (script ∷ codes "--rdl" ∷ rdl ∷ codes "--header" ∷ header ∷ [])) to_second
-      ∙ (ap (λ w. fold (walked rules []) w (codes "--rdl" ∷ rdl ∷ codes "--header" ∷ header ∷ [])) to_third
-      ∙ (ap (λ w. fold (walked rules []) w (codes "--header" ∷ header ∷ [])) to_fifth ∙ to_last))
+  -- ---- with more words behind them
 
-  values : found (in_order map script rdl header) ≡ finished rules last.held
-  unfolding regedit_command
-  values = ap (λ (w : Walk). finished rules w.held) walk_over
+  abbrev with : List Text → List Text
+  with more = map ∷ script ∷ codes "--rdl" ∷ rdl ∷ codes "--header" ∷ header ∷ more
 
-  fault_over : walk_fault shape [] start (in_order map script rdl header) ≡ []
+  walk_over : (more : List Text) → walk rules [] nothing_held (with more) ≡ fold (walked rules []) last more
+  walk_over more =
+      ap (λ w. fold (walked rules []) w (script ∷ codes "--rdl" ∷ rdl ∷ codes "--header" ∷ header ∷ more)) to_second
+      ∙ (ap (λ w. fold (walked rules []) w (codes "--rdl" ∷ rdl ∷ codes "--header" ∷ header ∷ more)) to_third
+      ∙ (ap (λ w. fold (walked rules []) w (codes "--header" ∷ header ∷ more)) to_fifth ∙ ap (λ w. fold (walked rules []) w more) to_last))
+
+  fault_over : (more : List Text) → walk_fault shape [] last more ≡ [] → walk_fault shape [] start (with more) ≡ []
   unfolding regedit_command clap_on_literals
-  fault_over =
-      fault_more shape start second map (script ∷ codes "--rdl" ∷ rdl ∷ codes "--header" ∷ header ∷ []) (turn_fault_plain shape nothing_held idle 1 map plain_map) to_second
-      (fault_more shape second third script (codes "--rdl" ∷ rdl ∷ codes "--header" ∷ header ∷ []) (turn_fault_plain shape second.held second.waiting second.position script plain_script) to_third
-      (fault_more shape third fourth (codes "--rdl") (rdl ∷ codes "--header" ∷ header ∷ []) refl refl
-      (fault_more shape fourth fifth rdl (codes "--header" ∷ header ∷ []) (turn_fault_plain shape fourth.held fourth.waiting fourth.position rdl plain_rdl) to_fifth
-      (fault_more shape fifth sixth (codes "--header") (header ∷ []) refl refl
-      (fault_more shape sixth last header [] (turn_fault_plain shape sixth.held sixth.waiting sixth.position header plain_header) to_last refl)))))
+  fault_over more none =
+      fault_more shape start second map (script ∷ codes "--rdl" ∷ rdl ∷ codes "--header" ∷ header ∷ more) (turn_fault_plain shape nothing_held idle 1 map plain_map) to_second
+      (fault_more shape second third script (codes "--rdl" ∷ rdl ∷ codes "--header" ∷ header ∷ more) (turn_fault_plain shape second.held second.waiting second.position script plain_script) to_third
+      (fault_more shape third fourth (codes "--rdl") (rdl ∷ codes "--header" ∷ header ∷ more) refl refl
+      (fault_more shape fourth fifth rdl (codes "--header" ∷ header ∷ more) (turn_fault_plain shape fourth.held fourth.waiting fourth.position rdl plain_rdl) to_fifth
+      (fault_more shape fifth sixth (codes "--header") (header ∷ more) refl refl
+      (fault_more shape sixth last header more (turn_fault_plain shape sixth.held sixth.waiting sixth.position header plain_header) to_last none)))))
 
-  passes_over : walk_passes shape [] start (in_order map script rdl header) ≡ true
+  passes_over : (more : List Text) → walk_passes shape [] last more ≡ true → walk_passes shape [] start (with more) ≡ true
   unfolding regedit_command clap_on_literals
-  passes_over =
-      passes_more shape start second map (script ∷ codes "--rdl" ∷ rdl ∷ codes "--header" ∷ header ∷ []) (turn_passes_plain shape nothing_held idle 1 map plain_map) to_second
-      (passes_more shape second third script (codes "--rdl" ∷ rdl ∷ codes "--header" ∷ header ∷ []) (turn_passes_plain shape second.held second.waiting second.position script plain_script) to_third
-      (passes_more shape third fourth (codes "--rdl") (rdl ∷ codes "--header" ∷ header ∷ []) refl refl
-      (passes_more shape fourth fifth rdl (codes "--header" ∷ header ∷ []) (turn_passes_plain shape fourth.held fourth.waiting fourth.position rdl plain_rdl) to_fifth
-      (passes_more shape fifth sixth (codes "--header") (header ∷ []) refl refl
-      (passes_more shape sixth last header [] (turn_passes_plain shape sixth.held sixth.waiting sixth.position header plain_header) to_last refl)))))
+  passes_over more all =
+      passes_more shape start second map (script ∷ codes "--rdl" ∷ rdl ∷ codes "--header" ∷ header ∷ more) (turn_passes_plain shape nothing_held idle 1 map plain_map) to_second
+      (passes_more shape second third script (codes "--rdl" ∷ rdl ∷ codes "--header" ∷ header ∷ more) (turn_passes_plain shape second.held second.waiting second.position script plain_script) to_third
+      (passes_more shape third fourth (codes "--rdl") (rdl ∷ codes "--header" ∷ header ∷ more) refl refl
+      (passes_more shape fourth fifth rdl (codes "--header" ∷ header ∷ more) (turn_passes_plain shape fourth.held fourth.waiting fourth.position rdl plain_rdl) to_fifth
+      (passes_more shape fifth sixth (codes "--header") (header ∷ more) refl refl
+      (passes_more shape sixth last header more (turn_passes_plain shape sixth.held sixth.waiting sixth.position header plain_header) to_last all)))))
 
   -- what is judged behind the walk
   abbrev judged : Walk → Kinds
   judged w = or_else (entered_fault (built regedit_command) w.stopped)
       (or_else (settle_fault rules shape.args_override_self w.held)
       (or_else (defaults_fault (settled rules w.held).rows rules) (check_fault shape (finished rules w.held) (is_some (entered (built regedit_command) w.stopped)))))
-
-  none_judged : judged last ≡ []
-  unfolding regedit_command clap_on_literals
-  none_judged = refl
-
-  told : mistakes (in_order map script rdl header) ≡ []
-  unfolding regedit_command
-  told = ap₂ or_else fault_over (ap judged walk_over ∙ none_judged)
 
   abbrev passed : Walk → Bool
   passed w = settle_passes rules shape.args_override_self w.held
@@ -178,29 +171,74 @@ module _ (map script rdl header : Text) (plain_map : is_plain map ≡ true) (pla
   abbrev entered_well : Walk → Bool
   entered_well w = entered_passes (built regedit_command) w.stopped
 
-  all_passed : passed last ≡ true
-  unfolding regedit_command clap_on_literals
-  all_passed = refl
+  -- where the walk ends, all is taken, and what is found is finished there
+  module _ (more : List Text) (end : Walk) (ends : fold (walked rules []) last more ≡ end) where
+    all_over : walk rules [] nothing_held (with more) ≡ end
+    all_over = walk_over more ∙ ends
 
-  none_entered : entered_well last ≡ true
-  unfolding regedit_command clap_on_literals
-  none_entered = refl
+    values : found (with more) ≡ finished rules end.held
+    unfolding regedit_command
+    values = ap (λ (w : Walk). finished rules w.held) all_over
 
-  taken : AreTaken (in_order map script rdl header)
-  unfolding regedit_command
-  taken = ap₂ (λ a b. a && b) simple_command
-      (ap₂ (λ a b. a && b) (ap entered_well walk_over ∙ none_entered) (ap₂ (λ a b. a && b) passes_over (ap passed walk_over ∙ all_passed)))
+    told : walk_fault shape [] last more ≡ [] → judged end ≡ [] → mistakes (with more) ≡ []
+    unfolding regedit_command
+    told none none_judged = ap₂ or_else (fault_over more none) (ap judged all_over ∙ none_judged)
+
+    taken : walk_passes shape [] last more ≡ true → entered_well end ≡ true → passed end ≡ true → AreTaken (with more)
+    unfolding regedit_command
+    taken all none_entered all_passed = ap₂ (λ a b. a && b) simple_command
+        (ap₂ (λ a b. a && b) (ap entered_well all_over ∙ none_entered) (ap₂ (λ a b. a && b) (passes_over more all) (ap passed all_over ∙ all_passed)))
 
   pub reads_in_order : ReadsInOrder map script rdl header
   unfolding regedit_command clap_on_literals
   reads_in_order = record {
-    taken = taken;
-    told = told;
-    map_value = ap (first_of (codes "map")) values;
-    script_value = ap (first_of (codes "script")) values;
-    rdl_value = ap (first_of (codes "rdl")) values;
-    header_value = ap (first_of (codes "header")) values;
-    top_value = ap (first_of (codes "top")) values;
-    history_value = ap (first_of (codes "history")) values;
-    session_value = ap (first_of (codes "session")) values;
+    taken = taken [] last refl refl refl refl;
+    told = told [] last refl refl refl;
+    map_value = ap (first_of (codes "map")) (values [] last refl);
+    script_value = ap (first_of (codes "script")) (values [] last refl);
+    rdl_value = ap (first_of (codes "rdl")) (values [] last refl);
+    header_value = ap (first_of (codes "header")) (values [] last refl);
+    top_value = ap (first_of (codes "top")) (values [] last refl);
+    history_value = ap (first_of (codes "history")) (values [] last refl);
+    session_value = ap (first_of (codes "session")) (values [] last refl);
   }
+
+  module _ (session : Text) (plain_session : is_plain session ≡ true) where
+    abbrev asked : List Text
+    asked = codes "--session" ∷ session ∷ []
+
+    abbrev seventh : Walk
+    seventh = walked rules [] last (codes "--session")
+
+    abbrev end : Walk
+    end = behind rules seventh session
+
+    to_end : walked rules [] seventh session ≡ end
+    unfolding regedit_command clap_on_literals
+    to_end = walked_plain rules seventh.held seventh.waiting seventh.position session plain_session
+
+    asked_fault : walk_fault shape [] last asked ≡ []
+    unfolding regedit_command clap_on_literals
+    asked_fault =
+        fault_more shape last seventh (codes "--session") (session ∷ []) refl refl
+        (fault_more shape seventh end session [] (turn_fault_plain shape seventh.held seventh.waiting seventh.position session plain_session) to_end refl)
+
+    asked_passes : walk_passes shape [] last asked ≡ true
+    unfolding regedit_command clap_on_literals
+    asked_passes =
+        passes_more shape last seventh (codes "--session") (session ∷ []) refl refl
+        (passes_more shape seventh end session [] (turn_passes_plain shape seventh.held seventh.waiting seventh.position session plain_session) to_end refl)
+
+    pub reads_with_session : ReadsWithSession map script rdl header session
+    unfolding regedit_command clap_on_literals
+    reads_with_session = record {
+      taken = taken asked end to_end asked_passes refl refl;
+      told = told asked end to_end asked_fault refl;
+      map_value = ap (first_of (codes "map")) (values asked end to_end);
+      script_value = ap (first_of (codes "script")) (values asked end to_end);
+      rdl_value = ap (first_of (codes "rdl")) (values asked end to_end);
+      header_value = ap (first_of (codes "header")) (values asked end to_end);
+      top_value = ap (first_of (codes "top")) (values asked end to_end);
+      history_value = ap (first_of (codes "history")) (values asked end to_end);
+      session_value = ap (first_of (codes "session")) (values asked end to_end);
+    }

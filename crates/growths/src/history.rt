@@ -224,12 +224,7 @@ fn begun(alloc: Global, text: &str, limit: u32) -> Result<Journal<Map>, AllocErr
 pub(crate) type Step = (&'static str, &'static str);
 
 /// Looks at the answer to each line.
-pub(crate) fn follow_on(
-    rt: &impl Abort,
-    alloc: Global,
-    mut journal: Journal<Map>,
-    steps: &[Step],
-) {
+pub(crate) fn follow_on(rt: &impl Abort, alloc: Global, mut journal: Journal<Map>, steps: &[Step]) {
     let mut was_wanted = false;
     for (line, want) in steps {
         let found = asked(alloc, &mut journal, line, &mut was_wanted);

@@ -103,16 +103,7 @@ const LINES: [(&[&str], &str); 8] = [
         "L0 m s r h t 7 none",
     ),
     (
-        &[
-            "m",
-            "s",
-            "--rdl",
-            "r",
-            "--header",
-            "h",
-            "--session",
-            "k",
-        ],
+        &["m", "s", "--rdl", "r", "--header", "h", "--session", "k"],
         "L0 m s r h none 10000 k",
     ),
     (

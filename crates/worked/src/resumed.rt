@@ -13,6 +13,7 @@ use rdl_tree::patch::Patch;
 use rdl_tree::session::{SessionFault, Where};
 use rdl_write::session;
 use std::alloc::{AllocError, Global};
+use std::process::Abort;
 use std::test::Fail;
 
 fn resumed(alloc: Global, text: &str) -> Result<Resumed, SessionFault>
@@ -178,6 +179,17 @@ fn marks(alloc: Global, journal: &Journal<Map>) -> Result<String, AllocError> {
     Ok(text)
 }
 
+fn assert_marks(
+    rt: &impl Abort,
+    alloc: Global,
+    journal: &Journal<Map>,
+    want: &str,
+    behind: &str,
+) -> Result<(), AllocError> {
+    assert_same(rt, marks(alloc, journal)?.as_str(), want, behind);
+    Ok(())
+}
+
 /// Lines that are accepted, and the marks behind each.
 const MARKED: [(&str, &str); 8] = [
     ("redo", "read | "),
@@ -194,14 +206,14 @@ const MARKED: [(&str, &str); 8] = [
 fn a_step_that_was_read_stays_marked(rt: HostRuntime) -> Result<(), Fail> {
     let alloc = rt.alloc();
     let mut journal = history(alloc, ONE_STEP_ON, 100)?;
-    assert_same(&rt, marks(alloc, &journal)?.as_str(), "| read ", "the start");
+    assert_marks(&rt, alloc, &journal, "| read ", "nothing")?;
     for (line, want) in MARKED.iter() {
         let found = answer(alloc, &mut journal, line)?;
         assert_same(&rt, found.as_str(), "", line);
-        assert_same(&rt, marks(alloc, &journal)?.as_str(), want, line);
+        assert_marks(&rt, alloc, &journal, want, line)?;
     }
     let journal = history(alloc, ONE_STEP_BACK, 100)?;
-    assert_same(&rt, marks(alloc, &journal)?.as_str(), "read | ", "the other");
+    assert_marks(&rt, alloc, &journal, "read | ", "nothing")?;
     Ok(())
 }
 
