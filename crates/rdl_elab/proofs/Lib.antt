@@ -49,3 +49,5 @@ pub mod AsBefore
 pub mod Reaching
 pub mod Skeletons
 pub mod InOrder
+pub mod Beside
+pub mod Unedited
