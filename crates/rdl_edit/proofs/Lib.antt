@@ -4,3 +4,5 @@ pub mod Staying
 pub mod StillEdits
 pub mod NewNames
 pub mod KeepingLayouts
+pub mod InOneBody
+pub mod OneBodyEdits

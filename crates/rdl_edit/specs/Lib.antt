@@ -5,3 +5,4 @@ pub mod Keeping
 pub mod Resuming
 pub mod Ways
 pub mod Still
+pub mod Edited
