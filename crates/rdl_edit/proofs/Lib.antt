@@ -6,3 +6,4 @@ pub mod NewNames
 pub mod KeepingLayouts
 pub mod InOneBody
 pub mod OneBodyEdits
+pub mod FewPlaced

@@ -1,8 +1,9 @@
 //! Patches applied to a description, and its layouts laid out after them, where the map that they make has rows.
-ghost use Rattle.std.specs.Prelude.{◌≡◌, ◌≤◌, false, [], IfOk, IfErr, OnOk, OnErr, option_copied};
-ghost use Rattle.rdl_elab.specs.Skeleton.{skeleton};
+ghost use Rattle.std.specs.Prelude.{◌≡◌, ◌≤◌, ◌*◌, ℕ, Bool, false, List, [], IfOk, IfErr, OnOk, OnErr, option_copied};
+ghost use Rattle.rdl_elab.specs.Skeleton.{skeleton, skeleton_beside};
 ghost use Rattle.rdl_edit.specs.Still.{moves_any};
-ghost use Rattle.rdl_elab.specs.AllKept.{AreOf};
+ghost use Rattle.rdl_elab.specs.AllKept.{AreOf, instances_at};
+ghost use Rattle.rdl_elab.specs.Reach.{in_reach};
 ghost use Rattle.rdl_tree.specs.Depth.{depth};
 ghost use Rattle.rdl_tree.specs.Patch.{AllFit, image};
 ghost use Rattle.rdl_edit.specs.Backs.{IsWayBack, IsCheap};
@@ -57,6 +58,7 @@ pub(crate) fn turn(
     requires fit { AllFit patches.items description.old.items }
     ensures made { OnOk result (description.new.items ≡ image patches.items description.old.items) }
     ensures keeps { OnOk result (Keeps (record { description = description.new.items; option = option_copied name.entry }) kept.new) }
+    ensures reached { OnOk result ((edited : List ℕ → Bool) → moves_any patches.items ≡ false → skeleton_beside edited kept.old.description ≡ skeleton_beside edited (image patches.items description.old.items) → kept.new.placed ≤ 3 * instances_at (in_reach edited (image patches.items description.old.items)) (image patches.items description.old.items)) }
     ensures still { OnOk result (moves_any patches.items ≡ false → skeleton kept.old.description ≡ skeleton (image patches.items description.old.items) → kept.new.placed ≡ 0) }
     ensures back { IfOk result (λ back. IsWayBack description.old.items description.new.items back.items) }
     ensures cost { IfOk result (λ back. IsCheap patches.items description.old.items back.items) }
@@ -90,6 +92,7 @@ pub(crate) fn again(
     requires fit { AllFit patches.items description.old.items }
     ensures made { OnOk result (description.new.items ≡ image patches.items description.old.items) }
     ensures keeps { OnOk result (Keeps (record { description = description.new.items; option = option_copied name.entry }) kept.new) }
+    ensures reached { OnOk result ((edited : List ℕ → Bool) → moves_any patches.items ≡ false → skeleton_beside edited kept.old.description ≡ skeleton_beside edited (image patches.items description.old.items) → kept.new.placed ≤ 3 * instances_at (in_reach edited (image patches.items description.old.items)) (image patches.items description.old.items)) }
     ensures still { OnOk result (moves_any patches.items ≡ false → skeleton kept.old.description ≡ skeleton (image patches.items description.old.items) → kept.new.placed ≡ 0) }
     ensures back { IfOk result (λ back. IsWayBack description.old.items description.new.items back.items) }
     ensures cost { IfOk result (λ back. IsCheap patches.items description.old.items back.items) }
