@@ -11,9 +11,9 @@ use Rattle.rdl_tree.specs.declared.property.Property.{Property}
 use Rattle.rdl_tree.specs.declared.property.Property.TheVariants.{Addressing, Alignment, Regwidth, Accesswidth, Fieldwidth}
 use Rattle.rdl_tree.specs.declared.value.Value.{Value}
 use Rattle.rdl_scope.specs.Value.{own_value}
-use Rattle.rdl_scope.specs.Closed.{Parts, no_parts, part, Made, Standing, nothing, lookup, with_type, with_default, with_made, head_at, parts, stated, head_value, component}
+use Rattle.rdl_scope.specs.Closed.{Parts, no_parts, part, Made, Standing, nothing, lookup, with_type, with_default, with_made, head_at, parts, stated, head_value}
 use Rattle.rdl_elab.specs.Layouts.{values_of, number_in as number_of_value, power_in, width_in, mode_in}
-use Rattle.rdl_elab.specs.Numbers.{components, number}
+use Rattle.rdl_elab.specs.Numbers.{components}
 use Rattle.rdl_elab.specs.Written.{written, all_written}
 use Rattle.rdl_elab.specs.Reach.{SaysTheSame}
 use Rattle.rdl_elab.specs.Skeleton.{lays_out, skeleton_shell, number_in, skeleton_type, marked_if, beside_in, skeleton_beside}
