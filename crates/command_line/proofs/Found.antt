@@ -26,7 +26,7 @@ use Rattle.clap.proofs.CallerLemmas.{default_present, entry_by_id, required_has_
 use Rattle.clap.proofs.WalkLemmas.{first_value-rows, one_text-rows}
 use Rattle.command_line.specs.Arguments.{regedit_command}
 use Rattle.command_line.specs.Words.{HasHistory, IsWhole, value}
-use Rattle.command_line.proofs.Simple.{alone, clear_of, local, plain, rule_at, simple, six, strict, the_rule}
+use Rattle.command_line.proofs.Simple.{alone, clear_of, local, plain, rule_at, seven, simple, strict, the_rule}
 
 -- an id that is an entry's has that entry
 found_in : (xs : List Entry) (id : Text) → HasIn xs id → is_some (option_map (λ e. e.1) (find (λ e. bytes_eq e.0.now id) xs)) ≡ true
@@ -99,14 +99,14 @@ module _ (built : Command) (id : Text) (q : ValueParser) (no_group : IsKnownGrou
 
 -- ---- one argument of the program, known by its place
 
-module _ (c : Command) (m : ArgMatches) (is : app_of c ≡ regedit_command) (p : IsParsedFrom c m) (d : Arg) (k : ℕ) (lt : k < 6) (id : Text)
-    (my_id : (the_rule k).id ≡ id) (set : (the_rule k).action ≡ Some Set) (range : (the_rule k).range ≡ None) (clear : clear_of k (the_rule k).id 6 ≡ true)
+module _ (c : Command) (m : ArgMatches) (is : app_of c ≡ regedit_command) (p : IsParsedFrom c m) (d : Arg) (k : ℕ) (lt : k < 7) (id : Text)
+    (my_id : (the_rule k).id ≡ id) (set : (the_rule k).action ≡ Some Set) (range : (the_rule k).range ≡ None) (clear : clear_of k (the_rule k).id 7 ≡ true)
     (named : bytes_eq id [] ≡ false) (help : bytes_eq id (codes "help") ≡ false) (version : bytes_eq id (codes "version") ≡ false) where
   abbrev mine : Arg
   mine = slice_index_or (args_of c) k d
 
   inside : k < length (args_of c)
-  inside = rw (six c is) lt
+  inside = rw (seven c is) lt
 
   rule : rule_of mine ≡ the_rule k
   rule = rule_at c is k d lt
@@ -200,7 +200,7 @@ whole c m is p = record {
     first (x ∷ xs) some = x
 
     d : Arg
-    d = first (args_of c) (rw (six c is) (lit< tt))
+    d = first (args_of c) (rw (seven c is) (lit< tt))
 
     numbered : (text : Text) × (value (codes "history") (rows_of (found_of m)) ≡ Some text)
         × (one_of (codes "history") (rows_of (found_of m)) ≡ Some (without_minus text)) × ((b : Bool) × IsSignedIn (pos 1) (pos 1000000) text)

@@ -202,4 +202,5 @@ module _ (map script rdl header : Text) (plain_map : is_plain map ≡ true) (pla
     header_value = ap (first_of (codes "header")) values;
     top_value = ap (first_of (codes "top")) values;
     history_value = ap (first_of (codes "history")) values;
+    session_value = ap (first_of (codes "session")) values;
   }

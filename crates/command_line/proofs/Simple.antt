@@ -15,7 +15,7 @@ use Rattle.clap.proofs.OnLiterals.{clap_on_literals}
 use Rattle.clap.proofs.FaultLemmas.{free_args}
 use Rattle.clap.proofs.SimpleLemmas.{ready_simple, simple_groups}
 use Rattle.clap.proofs.WalkLemmas.{both}
-use Rattle.command_line.specs.Arguments.{history_rule, operand_rule, output_rule, regedit_command, top_rule}
+use Rattle.command_line.specs.Arguments.{history_rule, operand_rule, output_rule, regedit_command, session_rule, top_rule}
 
 pub simple_command : is_simple regedit_command ≡ true
 unfolding regedit_command clap_on_literals
@@ -28,7 +28,7 @@ free_command = refl
 -- ---- the arguments in their order
 
 abbrev pub the_rules : List Rule
-the_rules = operand_rule (codes "map") ∷ operand_rule (codes "script") ∷ output_rule (codes "rdl") ∷ output_rule (codes "header") ∷ top_rule ∷ history_rule ∷ []
+the_rules = operand_rule (codes "map") ∷ operand_rule (codes "script") ∷ output_rule (codes "rdl") ∷ output_rule (codes "header") ∷ top_rule ∷ history_rule ∷ session_rule ∷ []
 
 abbrev pub the_rule : ℕ → Rule
 the_rule k = slice_index_or the_rules k history_rule
@@ -81,12 +81,12 @@ module _ (c : Command) (is : app_of c ≡ regedit_command) where
   rules : map rule_of (args_of c) ≡ the_rules
   rules = ap (λ (a : App). a.top.rules) is ∙ has_the_rules
 
-  pub six : length (args_of c) ≡ 6
-  six = sym (length-map (args_of c) rule_of) ∙ ap length rules
+  pub seven : length (args_of c) ≡ 7
+  seven = sym (length-map (args_of c) rule_of) ∙ ap length rules
 
   -- the k-th argument
-  pub rule_at : (k : ℕ) (d : Arg) → k < 6 → rule_of (slice_index_or (args_of c) k d) ≡ the_rule k
-  rule_at k d lt = sym (get_or-map rule_of (args_of c) k d history_rule (rw six lt)) ∙ ap (λ rs. slice_index_or rs k history_rule) rules
+  pub rule_at : (k : ℕ) (d : Arg) → k < 7 → rule_of (slice_index_or (args_of c) k d) ≡ the_rule k
+  rule_at k d lt = sym (get_or-map rule_of (args_of c) k d history_rule (rw seven lt)) ∙ ap (λ rs. slice_index_or rs k history_rule) rules
 
   -- nothing in it excludes anything
   pub plain : IsPlain c
@@ -106,10 +106,10 @@ module _ (c : Command) (is : app_of c ≡ regedit_command) where
   strict = ap (λ (a : App). a.top.subcommand_negates_reqs) is ∙ negates_nothing
 
   -- no two of its arguments have one id
-  pub alone : (k : ℕ) (d : Arg) → k < 6 → clear_of k (the_rule k).id 6 ≡ true → (j : ℕ) (e : Arg) → j < length (args_of c)
+  pub alone : (k : ℕ) (d : Arg) → k < 7 → clear_of k (the_rule k).id 7 ≡ true → (j : ℕ) (e : Arg) → j < length (args_of c)
       → bytes_eq (slice_index_or (args_of c) j e).id.now (slice_index_or (args_of c) k d).id.now ≡ true → j ≡ k
   alone k d lt clear j e low same =
-      let below : j < 6 = rw (← six) low in
+      let below : j < 7 = rw (← seven) low in
       let mine = ap (λ (r : Rule). r.id) (rule_at k d lt) in
       let other = ap (λ (r : Rule). r.id) (rule_at j e below) in
-      clear_at k (the_rule k).id 6 j clear below (rw (← other, ← mine) same)
+      clear_at k (the_rule k).id 7 j clear below (rw (← other, ← mine) same)

@@ -1,4 +1,4 @@
--- The arguments of the program as `clap` sees them: two operands and four options. Own.
+-- The arguments of the program as `clap` sees them: two operands and five options. Own.
 use Rattle.std.specs.Prelude.{[], ◌∷◌, Some, true, codes, pos}
 use Rattle.clap.specs.Words.{App, Rule, Text, new_app, new_rule, with_rule}
 use Rattle.clap.specs.declared.builder.action.ArgAction.TheVariants.{Set}
@@ -26,11 +26,15 @@ history_rule = record (new_rule (codes "history")) {
   parser = Some (parser.Signed (pos 1) (pos 1000000));
 }
 
+-- --session OUT
+abbrev pub session_rule : Rule
+session_rule = record (new_rule (codes "session")) { long = Some (codes "session"); action = Some Set; value_names = 1 }
+
 -- the words don't begin with the program's name
 abbrev pub without_name : App → App
 without_name a = record a { top = record a.top { no_binary_name = true } }
 
 unfoldable pub regedit_command : App
-regedit_command = with_rule (with_rule (with_rule (with_rule (with_rule (with_rule (without_name (new_app (codes "regedit")))
+regedit_command = with_rule (with_rule (with_rule (with_rule (with_rule (with_rule (with_rule (without_name (new_app (codes "regedit")))
     (operand_rule (codes "map"))) (operand_rule (codes "script")))
-    (output_rule (codes "rdl"))) (output_rule (codes "header"))) top_rule) history_rule
+    (output_rule (codes "rdl"))) (output_rule (codes "header"))) top_rule) history_rule) session_rule

@@ -21,3 +21,4 @@ pub record ReadsInOrder (map script rdl header : Text) : Type 0 where
   pub header_value : value (codes "header") (found (in_order map script rdl header)) ≡ Some header
   pub top_value : value (codes "top") (found (in_order map script rdl header)) ≡ None
   pub history_value : value (codes "history") (found (in_order map script rdl header)) ≡ Some (codes "10000")
+  pub session_value : value (codes "session") (found (in_order map script rdl header)) ≡ None

@@ -1,5 +1,5 @@
 -- What the words behind the program's name mean. Own; how `clap` finds arguments among words is of its own definitions.
-use Rattle.std.specs.Prelude.{◌≡◌, ◌≢◌, ◌⊎◌, ◌≤◌, ⊤, ℕ, List, [], ◌∷◌, Option, Some, is_some, true, codes, pos, string_bytes, IsSomeAnd, IfSome}
+use Rattle.std.specs.Prelude.{◌≡◌, ◌≢◌, ◌⊎◌, ◌≤◌, ⊤, ℕ, List, [], ◌∷◌, Option, Some, is_some, option_map, true, codes, pos, string_bytes, IsSomeAnd, IfSome}
 use Rattle.std.specs.Str.Parse.{signed_digits_value}
 use Rattle.clap.specs.Words.{Kinds, Row, Text, fault_of, first_of, kind_of, matches_of, one_of, takes, without_minus}
 use Rattle.clap.specs.Values.{IsSignedIn}
@@ -39,6 +39,7 @@ pub record Means (rows : List Row) (line : Line) : Type 0 where
   pub top : value (codes "top") rows ≡ line.top
   pub top_is_name : IfSome line.top IsName
   pub history : NumbersHistory rows line.history
+  pub session : value (codes "session") rows ≡ option_map string_bytes line.session
 
 -- what is told of the words: nothing where `clap` takes them, else the kind of the first thing that it doesn't take, where
 -- `--help` is such a thing

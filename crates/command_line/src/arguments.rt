@@ -1,7 +1,7 @@
 //! The arguments of the program, as `clap` reads them and as its help shows them.
 ghost use Rattle.std.specs.Prelude.{◌≡◌, IfOk, false};
 ghost use Rattle.clap.specs.Words.{app_of, rule_of};
-ghost use Rattle.command_line.specs.Arguments.{history_rule, operand_rule, output_rule, regedit_command, top_rule};
+ghost use Rattle.command_line.specs.Arguments.{history_rule, operand_rule, output_rule, regedit_command, session_rule, top_rule};
 
 use clap::{Arg, ArgAction, Command, value_parser};
 use std::alloc::{AllocError, Global};
@@ -53,6 +53,17 @@ fn history<'a>(alloc: Global) -> Arg<'a>
         .help("How many changes can be undone, from 1 to 1000000")
 }
 
+fn session<'a>(alloc: Global) -> Arg<'a>
+    ensures rule { rule_of result ≡ session_rule }
+    ensures own { result.global ≡ false }
+{
+    Arg::new(alloc, "session")
+        .long("session")
+        .value_name("OUT")
+        .action(ArgAction::Set)
+        .help("Where the session is written: the map with its undos and redos")
+}
+
 /// The command `regedit`, with its help.
 pub fn command<'a>(alloc: Global) -> Result<Command<'a>, AllocError>
     ensures { IfOk result (λ command. app_of command ≡ regedit_command) }
@@ -65,5 +76,6 @@ pub fn command<'a>(alloc: Global) -> Result<Command<'a>, AllocError>
         .arg(output(alloc, "rdl", "Where the edited map is written"))?
         .arg(output(alloc, "header", "Where the C header is written"))?
         .arg(top(alloc))?
-        .arg(history(alloc))
+        .arg(history(alloc))?
+        .arg(session(alloc))
 }

@@ -19,6 +19,8 @@ pub struct Line {
     pub top: Option<Name>,
     /// How many changes can be undone.
     pub history: u32,
+    /// The file to which the session is written, if it is asked for.
+    pub session: Option<String>,
 }
 
 /// Why words are no command line.

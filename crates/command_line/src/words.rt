@@ -1,5 +1,5 @@
 //! From words to a line.
-ghost use Rattle.std.specs.Prelude.{◌≡◌, List, [], Some, map, codes, is_some, true, string_bytes, IfOk, IfErr, IfSome, MatchResult, OnOk};
+ghost use Rattle.std.specs.Prelude.{◌≡◌, List, [], Some, map, codes, is_some, true, string_bytes, IfOk, IfErr, IfSome, MatchResult, OnOk, option_map};
 ghost use Rattle.clap.specs.Words.{found_of, kind_of, rows_of};
 ghost use Rattle.rdl_text.specs.Name.{IsName};
 ghost use Rattle.command_line.specs.Words.{AreTaken, HasHistory, IsBehindClap, IsWhole, Means, NumbersHistory, Refuses, RefusesTop, Tells, found, mistakes, value};
@@ -50,6 +50,15 @@ fn history_of(matches: &ArgMatches<'_>) -> u32
     matches.get_one::<u32>("history").unwrap()
 }
 
+fn session_of(alloc: Global, matches: &ArgMatches<'_>) -> Result<Option<String>, AllocError>
+    ensures { IfOk result (λ session. value (codes "session") (rows_of (found_of matches.now)) ≡ option_map string_bytes session) }
+{
+    let Some(text) = matches.get_str("session") else {
+        return Ok(None);
+    };
+    Ok(Some(String::from_str(alloc, text)?))
+}
+
 fn line_of(alloc: Global, matches: &ArgMatches<'_>) -> Result<Line, LineFault>
     requires { IsWhole (rows_of (found_of matches.now)) }
     ensures ok { IfOk result (Means (rows_of (found_of matches.now))) }
@@ -63,6 +72,7 @@ fn line_of(alloc: Global, matches: &ArgMatches<'_>) -> Result<Line, LineFault>
         header: text_of(alloc, matches, "header")?,
         top,
         history: history_of(matches),
+        session: session_of(alloc, matches)?,
     })
 }
 

@@ -304,3 +304,78 @@ pub(crate) const TWO_FILES: &str = "regfile A { reg R { field {} f; }; R r0; R r
 regfile B { reg { field {} f; } x; };
 addrmap top { A a; B b; };
 ";
+
+/// The session of an empty address map, and a step on that puts a register in.
+pub(crate) const ONE_STEP_ON: &str = "regedit session 1
+map 17
+addrmap top {
+};
+undo 0
+redo 1
+back 1
+insert 0.0 32
+reg {
+    field {
+    } f;
+} a;
+end
+";
+
+pub(crate) const ONE_STEP_LISTED: &str = "0x0 addrmap top size 0x4
+0x0 reg top.a size 0x4
+[0:0] field top.a.f
+";
+
+/// The session behind the step of `ONE_STEP_ON`.
+pub(crate) const ONE_STEP_BACK: &str = "regedit session 1
+map 65
+addrmap top {
+    reg {
+        field {
+        } f;
+    } a;
+};
+undo 1
+back 1
+delete 0.0
+redo 0
+end
+";
+
+/// The session of `ONE_STEP_BACK`, with a second register added.
+pub(crate) const TWO_STEPS_BACK: &str = "regedit session 1
+map 113
+addrmap top {
+    reg {
+        field {
+        } f;
+    } a;
+    reg {
+        field {
+        } g;
+    } b;
+};
+undo 2
+back 1
+delete 0.1
+back 1
+delete 0.0
+redo 0
+end
+";
+
+/// `ONE_STEP_ON` with a field that the register can't hold.
+pub(crate) const STEP_PAST_REGISTER: &str = "regedit session 1
+map 17
+addrmap top {
+};
+undo 0
+redo 1
+back 1
+insert 0.0 36
+reg {
+    field {
+    } f[33];
+} a;
+end
+";

@@ -6,9 +6,11 @@ use crate::examples::{
     RENAMED_WRITTEN, SHARED, SHARED_LINES, SHARED_WRITTEN, THREE, THREE_LINES, THREE_WRITTEN,
     TWO_FILES, UNASSIGNED_LINES, UNASSIGNED_WRITTEN,
 };
+use crate::sessions::session_fault_answer;
 use crate::{Answer, assert_answered, is_same};
 use journal_core::fault::{EditFault, StepFault};
 use journal_core::journal::Journal;
+use rdl_edit::back::Back;
 use rdl_edit::edit::Refusal;
 use rdl_edit::map::Map;
 use rdl_parse::parse::parse_item;
@@ -16,8 +18,9 @@ use rdl_rewrite::edit::Edit;
 use rdl_rewrite::place::Place;
 use rdl_script::request::{Request, request_of};
 use rdl_tree::description::Body;
+use rdl_tree::patch::Patch;
 use rdl_tree::path::Path;
-use rdl_write::rdl;
+use rdl_write::{rdl, session};
 use std::alloc::{AllocError, Global};
 use std::process::Abort;
 use std::{mem, str};
@@ -108,11 +111,49 @@ fn counts(alloc: Global, journal: &Journal<Map>) -> Answer {
     format!(in alloc; "{} {}", journal.undo_len(), journal.redo_len())
 }
 
+fn patches(back: Option<&Back>) -> &[Patch] {
+    match back {
+        Some(back) => back.patches(),
+        None => &[],
+    }
+}
+
+/// The patches of each step back, the next to be taken first.
+fn undos(alloc: Global, journal: &Journal<Map>) -> Result<Vec<&[Patch]>, AllocError> {
+    let mut steps = Vec::new(alloc);
+    for index in 0..journal.undo_len() {
+        steps.push(patches(journal.undo_at(index)))?;
+    }
+    Ok(steps)
+}
+
+/// The patches of each step on, the next to be taken first.
+fn redos(alloc: Global, journal: &Journal<Map>) -> Result<Vec<&[Patch]>, AllocError> {
+    let mut steps = Vec::new(alloc);
+    for index in 0..journal.redo_len() {
+        steps.push(patches(journal.redo_at(index)))?;
+    }
+    Ok(steps)
+}
+
+/// The session of the map and all steps; Z5 is want of memory.
+fn session_answer(alloc: Global, journal: &Journal<Map>) -> Answer {
+    let undo = undos(alloc, journal)?;
+    let redo = redos(alloc, journal)?;
+    let map = journal.map().description();
+    match session(alloc, map, undo.as_slice(), redo.as_slice()) {
+        Ok(text) => Ok(text),
+        Err(fault) => session_fault_answer(alloc, fault),
+    }
+}
+
 /// What a line answers: nothing where it is accepted. Beside the lines of a script there are `write`, the map as it is
-/// written, `count`, how many edits can be undone and redone, and `placed`, how many instances the last step placed.
+/// written, `session`, the session of it and all steps, `count`, how many edits can be undone and redone, and `placed`,
+/// how many instances the last step placed.
 fn answer(alloc: Global, journal: &mut Journal<Map>, line: &str) -> Answer {
     match line {
         "write" => rdl(alloc, journal.map().description()),
+        "session" => session_answer(alloc, journal),
         "count" => counts(alloc, journal),
         "placed" => journal.map().placed().to_string(alloc),
         _ => {
@@ -122,12 +163,24 @@ fn answer(alloc: Global, journal: &mut Journal<Map>, line: &str) -> Answer {
     }
 }
 
-/// The whole description and all rows, and how many edits can be undone and redone.
+/// All steps back and on, each with its patches and its mark.
+fn steps(alloc: Global, journal: &Journal<Map>) -> Answer {
+    let mut text = counts(alloc, journal)?;
+    for index in 0..journal.undo_len() {
+        text.push_str(&shown(alloc, &journal.undo_at(index))?)?;
+    }
+    for index in 0..journal.redo_len() {
+        text.push_str(&shown(alloc, &journal.redo_at(index))?)?;
+    }
+    Ok(text)
+}
+
+/// The whole description and all rows, and all steps back and on.
 fn seen(alloc: Global, journal: &Journal<Map>) -> Answer {
     let map = journal.map();
     let mut text = shown(alloc, map.description())?;
     text.push_str(&shown(alloc, &map.rows(alloc)?)?)?;
-    text.push_str(&counts(alloc, journal)?)?;
+    text.push_str(&steps(alloc, journal)?)?;
     Ok(text)
 }
 
@@ -168,9 +221,15 @@ fn begun(alloc: Global, text: &str, limit: u32) -> Result<Journal<Map>, AllocErr
 }
 
 /// A line, and what it answers.
-type Step = (&'static str, &'static str);
+pub(crate) type Step = (&'static str, &'static str);
 
-fn follow_on(rt: &impl Abort, alloc: Global, mut journal: Journal<Map>, steps: &[Step]) {
+/// Looks at the answer to each line.
+pub(crate) fn follow_on(
+    rt: &impl Abort,
+    alloc: Global,
+    mut journal: Journal<Map>,
+    steps: &[Step],
+) {
     let mut was_wanted = false;
     for (line, want) in steps {
         let found = asked(alloc, &mut journal, line, &mut was_wanted);

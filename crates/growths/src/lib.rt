@@ -12,6 +12,8 @@ pub mod patches;
 #[cfg(test)]
 mod runs;
 #[cfg(test)]
+mod sessions;
+#[cfg(test)]
 mod steps;
 #[cfg(test)]
 mod words;

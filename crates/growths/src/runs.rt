@@ -5,7 +5,7 @@ use crate::examples::{
     THREE_LINES, THREE_WRITTEN,
 };
 use rdl_run::run::{Options, run};
-use rdl_run::status::{RunFault, Status};
+use rdl_run::status::{Missing, RunFault, Status};
 use std::alloc::{AllocError, Global};
 use std::process::Abort;
 
@@ -17,6 +17,8 @@ struct Case {
     messages: &'static str,
     rdl: &'static str,
     header: &'static str,
+    /// The session; with none it isn't asked for.
+    session: &'static str,
 }
 
 /// The outputs, with room for more than any of these runs writes.
@@ -25,6 +27,7 @@ struct Outputs {
     messages: Vec<u8>,
     rdl: Vec<u8>,
     header: Vec<u8>,
+    session: Vec<u8>,
 }
 
 const ROOM: usize = 4_096;
@@ -35,6 +38,7 @@ impl Outputs {
             messages: Vec::with_capacity(alloc, ROOM)?,
             rdl: Vec::with_capacity(alloc, ROOM)?,
             header: Vec::with_capacity(alloc, ROOM)?,
+            session: Vec::with_capacity(alloc, ROOM)?,
         })
     }
 
@@ -42,6 +46,7 @@ impl Outputs {
         self.messages.as_slice() == case.messages.as_bytes()
             && self.rdl.as_slice() == case.rdl.as_bytes()
             && self.header.as_slice() == case.header.as_bytes()
+            && self.session.as_slice() == case.session.as_bytes()
     }
 
     fn are_of_whole_lines(&self, case: &Case) -> bool {
@@ -50,6 +55,7 @@ impl Outputs {
             && (messages.is_empty() || messages.ends_with(b"\n"))
             && self.rdl.is_empty()
             && self.header.is_empty()
+            && self.session.is_empty()
     }
 }
 
@@ -57,6 +63,7 @@ fn run_into(alloc: Global, case: &Case, outputs: &mut Outputs) -> Result<Status,
     let options = Options {
         top: None,
         history: 10_000,
+        session: !case.session.is_empty(),
     };
     run(
         alloc,
@@ -65,6 +72,7 @@ fn run_into(alloc: Global, case: &Case, outputs: &mut Outputs) -> Result<Status,
         &options,
         &mut outputs.rdl,
         &mut outputs.header,
+        &mut outputs.session,
         &mut outputs.messages,
     )
 }
@@ -94,6 +102,7 @@ const ADDED: Case = Case {
     messages: FOUR_LINES,
     rdl: FOUR_WRITTEN,
     header: FOUR_HEADER,
+    session: "",
 };
 
 #[test]
@@ -108,6 +117,7 @@ const UNDONE: Case = Case {
     messages: THREE_LINES,
     rdl: THREE_WRITTEN,
     header: THREE_HEADER,
+    session: "",
 };
 
 #[test]
@@ -122,6 +132,7 @@ const REMOVED: Case = Case {
     messages: "",
     rdl: REMOVED_WRITTEN,
     header: REMOVED_HEADER,
+    session: "",
 };
 
 #[test]
@@ -136,6 +147,7 @@ const UNASSIGNED: Case = Case {
     messages: NESTED_LINES,
     rdl: NESTED_WRITTEN,
     header: NESTED_HEADER,
+    session: "",
 };
 
 #[test]
@@ -150,6 +162,7 @@ const RENAMED: Case = Case {
     messages: "script:2: X3 name taken\n",
     rdl: SHARED_WRITTEN,
     header: SHARED_HEADER,
+    session: "",
 };
 
 #[test]
@@ -173,6 +186,7 @@ script:9: C2 bad operands
     rdl: "reg T {
     field {
     } f;
+    session: "",
 };
 addrmap top {
     T u;
@@ -213,6 +227,65 @@ fn of_refused_lines_are_right(rt: HostRuntime) {
     assert_right(&rt, rt.alloc(), &REFUSED);
 }
 
+const RESUMED: Case = Case {
+    map: "regedit session 1
+map 17
+addrmap top {
+};
+undo 0
+redo 1
+back 1
+insert 0.0 32
+reg {
+    field {
+    } f;
+} a;
+end
+",
+    script: "redo\nlist\n",
+    status: Status::Accepted,
+    messages: "0x0 addrmap top size 0x4
+0x0 reg top.a size 0x4
+[0:0] field top.a.f
+",
+    rdl: "addrmap top {
+    reg {
+        field {
+        } f;
+    } a;
+};
+",
+    header: "#ifndef top_H
+#define top_H
+#define top__a_base 0x0
+#define top__a_offset 0x0
+#define top__a_size 0x4
+#define top__a__f_bm 0x1
+#define top__a__f_bp 0
+#define top__a__f_bw 1
+#endif
+",
+    session: "regedit session 1
+map 65
+addrmap top {
+    reg {
+        field {
+        } f;
+    } a;
+};
+undo 1
+back 1
+delete 0.0
+redo 0
+end
+",
+};
+
+#[test]
+fn of_a_session_are_right(rt: HostRuntime) {
+    assert_right(&rt, rt.alloc(), &RESUMED);
+}
+
 const SHORT: Case = Case {
     map: "addrmap top { reg {",
     script: "list\n",
@@ -220,6 +293,7 @@ const SHORT: Case = Case {
     messages: "map:1:20: S10 unexpected end\n",
     rdl: "",
     header: "",
+    session: "",
 };
 
 const WIDE: Case = Case {
@@ -229,12 +303,13 @@ const WIDE: Case = Case {
     messages: "map:1:30: E23 reset too wide\n",
     rdl: "",
     header: "",
+    session: "",
 };
 
 const CLASHING: Case = Case {
     map: "addrmap top { reg { field {} c; } a__b; reg { field {} b__c; } a; };",
     script: "",
-    status: Status::HeaderClash,
+    status: Status::Incomplete(Missing::Header),
     messages: "header: H1 two macros with one name: top__a__b__c_bm\n",
     rdl: "addrmap top {
     reg {
@@ -245,6 +320,7 @@ const CLASHING: Case = Case {
         field {
         } b__c;
     } a;
+    session: "",
 };
 ",
     header: "",

@@ -11,13 +11,26 @@ fn top_text(line: &Line) -> &str {
     }
 }
 
+fn session_text(line: &Line) -> &str {
+    match &line.session {
+        Some(file) => file.as_str(),
+        None => "none",
+    }
+}
+
 fn line_text(alloc: Global, line: &Line) -> Answer {
     let mut text = String::from_str(alloc, "L0")?;
     for part in [&line.map, &line.script, &line.rdl, &line.header] {
         text.push_str(" ")?;
         text.push_str(part.as_str())?;
     }
-    write!(text, " {} {}", top_text(line), line.history)?;
+    write!(
+        text,
+        " {} {} {}",
+        top_text(line),
+        line.history,
+        session_text(line)
+    )?;
     Ok(text)
 }
 
@@ -61,17 +74,18 @@ Arguments:
   <SCRIPT>  The edits, one on each line
 
 Options:
-      --rdl <OUT>     Where the edited map is written
-      --header <OUT>  Where the C header is written
-      --top <NAME>    The address map of the root that is the top; with none, the last one
-      --history <N>   How many changes can be undone, from 1 to 1000000 [default: 10000]
-  -h, --help          Print help
+      --rdl <OUT>      Where the edited map is written
+      --header <OUT>   Where the C header is written
+      --top <NAME>     The address map of the root that is the top; with none, the last one
+      --history <N>    How many changes can be undone, from 1 to 1000000 [default: 10000]
+      --session <OUT>  Where the session is written: the map with its undos and redos
+  -h, --help           Print help
 ";
 
-const LINES: [(&[&str], &str); 7] = [
+const LINES: [(&[&str], &str); 8] = [
     (
         &["m", "s", "--rdl", "r", "--header", "h"],
-        "L0 m s r h none 10000",
+        "L0 m s r h none 10000 none",
     ),
     (
         &[
@@ -86,7 +100,20 @@ const LINES: [(&[&str], &str); 7] = [
             "--header",
             "h",
         ],
-        "L0 m s r h t 7",
+        "L0 m s r h t 7 none",
+    ),
+    (
+        &[
+            "m",
+            "s",
+            "--rdl",
+            "r",
+            "--header",
+            "h",
+            "--session",
+            "k",
+        ],
+        "L0 m s r h none 10000 k",
     ),
     (
         &["m", "s", "--rdl", "r", "--header", "h", "--top", "9x"],

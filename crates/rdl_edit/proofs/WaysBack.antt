@@ -10,7 +10,7 @@ use Rattle.rdl_tree.proofs.Nesting.{AllFit-inverses}
 use Rattle.rdl_tree.proofs.PatchWeights.{weight-inverses}
 use Rattle.rdl_elab.specs.AllKept.{KeptLayouts}
 use Rattle.rdl_elab.specs.Faults.{elaborated}
-use Rattle.rdl_edit.specs.Backs.{IsWayBack, IsCheap, Fits}
+use Rattle.rdl_edit.specs.Backs.{IsWayBack, IsCheap, Reversal, Fits}
 use Rattle.rdl_edit.specs.Keeping.{Keeps}
 use Rattle.rdl_edit.specs.Step.{State, HasRows}
 
@@ -29,8 +29,8 @@ has-rows s k h =
     record { rows = h.layouts.rows; are = subst (λ (o : Option (List ℕ)). elaborated s.description o ≡ Ok h.layouts.rows) h.top h.layouts.faultless }
 
 -- the layouts that were kept before a step are those to which its way back leads
-pub fits-back : (old new : Items) (o : Option (List ℕ)) (k : KeptLayouts) (back : List Patch)
-    → IsWayBack old new back → Keeps (record { description = old; option = o }) k → Fits (record { description = new; option = o }) back
+pub fits-back : (old new : Items) (o : Option (List ℕ)) (k : KeptLayouts) (back : Reversal)
+    → IsWayBack old new back.patches → Keeps (record { description = old; option = o }) k → Fits (record { description = new; option = o }) back
 fits-back old new o k back way h =
     record {
       applicable = way.applicable;

@@ -12,6 +12,7 @@ use Rattle.rdl_tree.specs.declared.session.SessionFault.{SessionFault}
 use Rattle.rdl_tree.specs.declared.session.SessionFault.TheVariants.{PatchMisfits, MapFaulty}
 use Rattle.rdl_tree.specs.declared.session.Where.{Where}
 use Rattle.rdl_tree.specs.declared.session.Where.TheVariants as where_
+use Rattle.rdl_edit.specs.Backs.{Reversal}
 
 -- whether each patch fits where those before it led
 abbrev pub all_fit : List Patch → Items → Bool
@@ -44,6 +45,6 @@ session_fault option d undo redo =
 -- ---- On the way.
 
 -- where steps lead
-abbrev pub place_after : Items → List (List Patch) → Items
+abbrev pub place_after : Items → List Reversal → Items
 place_after d [] = d
-place_after d (step ∷ steps) = place_after (image step d) steps
+place_after d (step ∷ steps) = place_after (image step.patches d) steps

@@ -3,8 +3,8 @@
 use Rattle.std.specs.Prelude.{◌≡◌, ℕ, Bool, true, false, List, [], ◌∷◌, if◌then◌else◌}
 use Rattle.rdl_tree.specs.Items.{Items}
 use Rattle.rdl_tree.specs.Patch.{AllFit, image, inverses}
-use Rattle.rdl_tree.specs.declared.patch.Patch.{Patch}
 use Rattle.rdl_tree.specs.declared.session.Where.TheVariants as where_
+use Rattle.rdl_edit.specs.Backs.{Reversal}
 use Rattle.rdl_edit.specs.declared.resuming.Direction.{Direction}
 use Rattle.rdl_edit.specs.declared.resuming.Direction.TheVariants as way
 use Rattle.rdl_tree.specs.declared.fault.Fault.{Fault}
@@ -35,11 +35,15 @@ place_of way.Undo n = where_.Undo n
 place_of way.Redo n = where_.Redo n
 
 -- the patches of each step fit where those before it led
-abbrev pub AllLead : Items → List (List Patch) → Type 0
+abbrev pub AllLead : Items → List Reversal → Type 0
 AllLead d [] = Unit {0}
-AllLead d (step ∷ steps) = AllFit step d × AllLead (image step d) steps
+AllLead d (step ∷ steps) = AllFit step.patches d × AllLead (image step.patches d) steps
+
+-- what takes a step back has its mark
+abbrev pub way_back : Items → Reversal → Reversal
+way_back d step = record step { patches = inverses step.patches d }
 
 -- what takes each step back
-abbrev pub ways_along : Items → List (List Patch) → List (List Patch)
+abbrev pub ways_along : Items → List Reversal → List Reversal
 ways_along d [] = []
-ways_along d (step ∷ steps) = inverses step d ∷ ways_along (image step d) steps
+ways_along d (step ∷ steps) = way_back d step ∷ ways_along (image step.patches d) steps

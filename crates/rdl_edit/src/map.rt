@@ -1,12 +1,12 @@
 //! The map that a history keeps.
-ghost use Rattle.std.specs.Prelude.{◌≡◌, ◌⊎◌, map, None, Some, Ok, Err, IfOk, IfErr, OnOk, OnErr, option_copied};
+ghost use Rattle.std.specs.Prelude.{◌≡◌, ◌⊎◌, false, map, None, Some, Ok, Err, IfOk, IfErr, OnOk, OnErr, option_copied};
 ghost use Rattle.rdl_elab.specs.Faults.{elaborated};
 ghost use Rattle.rdl_scope.specs.ItemFaults.{out_of_memory};
 ghost use Rattle.rdl_elab.specs.AllKept.{AreOf};
 ghost use Rattle.rdl_edit.specs.Step.{HasRows, Leads, Refuses};
 ghost use Rattle.journal_core.specs.Along.{FitInTurn};
 ghost use Rattle.rdl_tree.specs.declared.session.SessionFault.{SessionFault};
-ghost use Rattle.rdl_edit.specs.Backs.{prior, Fits, IsCheap};
+ghost use Rattle.rdl_edit.specs.Backs.{read_back, prior, Fits, IsCheap};
 ghost use Rattle.rdl_edit.specs.Resuming.{session_fault};
 ghost use Rattle.rdl_rewrite.specs.Patches.{patches};
 
@@ -85,8 +85,8 @@ impl Map {
         }
     }
 
-    /// Takes the description, with the steps that lead back from it and on, each list with the next one to be taken first.
-    /// Refused where a patch doesn't fit or a map on the way has a fault; what was handed in is dropped then.
+    /// Takes the description, with the steps that lead back from it and on, each list with the next one to be taken first,
+    /// and marks them as read. Refused where a patch doesn't fit or a map on the way has a fault; what was handed in is dropped then.
     pub fn resume(
         alloc: Global,
         description: Description,
@@ -95,8 +95,8 @@ impl Map {
         redo: Vec<Vec<Patch>>,
     ) -> Result<Resumed, SessionFault>
         ensures map { IfOk result (λ r. r.map ≡ record { description = description.items; option = name }) }
-        ensures undo { IfOk result (λ r. r.undo.items ≡ map (λ step. step.items) undo.items) }
-        ensures redo { IfOk result (λ r. r.redo.items ≡ map (λ step. step.items) redo.items) }
+        ensures undo { IfOk result (λ r. r.undo.items ≡ map (λ step. read_back step.items) undo.items) }
+        ensures redo { IfOk result (λ r. r.redo.items ≡ map (λ step. read_back step.items) redo.items) }
         ensures undo_fits { IfOk result (λ r. FitInTurn prior Fits r.map r.undo.items) }
         ensures redo_fits { IfOk result (λ r. FitInTurn prior Fits r.map r.redo.items) }
         ensures accepted { IfOk result (λ _. session_fault name description.items (map (λ step. step.items) undo.items) (map (λ step. step.items) redo.items) ≡ None) }
@@ -180,32 +180,35 @@ impl Invertible for Map {
         ensures leads { OnOk result (Leads self.old edit.now self.new) }
         ensures fits { IfOk result (λ back. Fits self.new back) }
         ensures back { IfOk result (λ back. prior self.new back ≡ self.old) }
-        ensures cost { IfOk result (λ back. IsCheap (patches self.old.description edit.now) self.old.description back) }
+        ensures mark { IfOk result (λ back. back.read ≡ false) }
+        ensures cost { IfOk result (λ back. IsCheap (patches self.old.description edit.now) self.old.description back.patches) }
         ensures refused { IfErr result (λ refusal. Refuses self.old edit.now refusal) }
         ensures err { OnErr result (self.new ≡ self.old) }
     {
         let patches = patches(alloc, &self.description, edit)?;
         let name = text_of(self.name.as_ref());
         let back = turn(alloc, &mut self.description, &mut self.kept, name, patches)?;
-        Ok(Back::from_vec(back))
+        Ok(Back::new(back, false))
     }
 
-    /// Takes a step back. What leads forward again has as many patches.
+    /// Takes a step back. What leads forward again has as many patches, and the same mark.
     fn revert(&mut self, alloc: Global, back: Back) -> Result<Back, Back>
         requires { Fits self.old back }
         ensures leads { OnOk result (self.new ≡ prior self.old back) }
         ensures fits { IfOk result (λ forward. Fits self.new forward) }
         ensures back { IfOk result (λ forward. prior self.new forward ≡ self.old) }
-        ensures cost { IfOk result (λ forward. IsCheap back self.old.description forward) }
+        ensures mark { IfOk result (λ forward. forward.read ≡ back.read) }
+        ensures cost { IfOk result (λ forward. IsCheap back.patches self.old.description forward.patches) }
         ensures handed { IfErr result (λ same. same ≡ back) }
         ensures err { OnErr result (self.new ≡ self.old) }
     {
         let name = text_of(self.name.as_ref());
+        let read = back.read();
         let patches = back.into_vec();
         let forward = match again(alloc, &mut self.description, &mut self.kept, name, patches) {
             Ok(forward) => forward,
-            Err(same) => return Err(Back::from_vec(same)),
+            Err(same) => return Err(Back::new(same, read)),
         };
-        Ok(Back::from_vec(forward))
+        Ok(Back::new(forward, read))
     }
 }

@@ -5,12 +5,12 @@ ghost use Rattle.rdl_tree.specs.Depth.{depth};
 ghost use Rattle.rdl_tree.specs.Patch.{fits, AllFit, patched, image, inverse, inverses};
 ghost use Rattle.rdl_tree.specs.declared.session.SessionFault.TheVariants.{Memory};
 ghost use Rattle.journal_core.specs.Along.{FitInTurn};
-ghost use Rattle.rdl_edit.specs.Backs.{prior, Fits};
+ghost use Rattle.rdl_edit.specs.Backs.{read_back, prior, Fits};
 ghost use Rattle.rdl_edit.specs.Resuming.{all_fit, place_fault, step_fault, steps_fault, place_after};
 ghost use Rattle.rdl_tree.specs.declared.session.Where.TheVariants as where_;
 ghost use Rattle.rdl_edit.specs.Keeping.{Keeps};
 ghost use Rattle.rdl_edit.specs.Step.{HasRows};
-ghost use Rattle.rdl_edit.specs.Ways.{IsMisfit, stop_at, refused, place_of, ways_along, AllLead};
+ghost use Rattle.rdl_edit.specs.Ways.{IsMisfit, stop_at, refused, place_of, way_back, ways_along, AllLead};
 
 use crate::back::Back;
 use crate::edit::is_memory;
@@ -145,27 +145,28 @@ fn stopped(place: Where, stop: Stop) -> SessionFault
     }
 }
 
-/// Takes a step to a place, and answers the patches that lead back.
+/// Takes a step to a place, and answers the one that leads back, with its mark.
 #[tactic(auto, using(crate::proofs::Walking::steps))]
 fn take_step(
     alloc: Global,
     description: &mut Description,
     name: Option<&str>,
-    step: Vec<Patch>,
+    step: Back,
     place: Where,
-) -> Result<Vec<Patch>, SessionFault>
-    ensures fits { OnOk result (Fits (record { description = description.old.items; option = option_copied name.entry }) step.items) }
-    ensures made { OnOk result (description.new.items ≡ image step.items description.old.items) }
-    ensures back { IfOk result (λ back. back.items ≡ inverses step.items description.old.items) }
-    ensures faultless { OnOk result (step_fault place (option_copied name.entry) description.old.items step.items ≡ None) }
-    ensures refused { IfErr result (λ f. (step_fault place (option_copied name.entry) description.old.items step.items ≡ Some f) ⊎ (f ≡ Memory)) }
+) -> Result<Back, SessionFault>
+    ensures fits { OnOk result (Fits (record { description = description.old.items; option = option_copied name.entry }) step) }
+    ensures made { OnOk result (description.new.items ≡ image step.patches description.old.items) }
+    ensures back { IfOk result (λ back. back ≡ way_back description.old.items step) }
+    ensures faultless { OnOk result (step_fault place (option_copied name.entry) description.old.items step.patches ≡ None) }
+    ensures refused { IfErr result (λ f. (step_fault place (option_copied name.entry) description.old.items step.patches ≡ Some f) ⊎ (f ≡ Memory)) }
 {
-    let back = match turn_all(alloc, description, step) {
+    let read = step.read();
+    let back = match turn_all(alloc, description, step.into_vec()) {
         Ok(back) => back,
         Err(stop) => return Err(stopped(place, stop)),
     };
     match judge(alloc, description, name, place) {
-        Ok(()) => Ok(back),
+        Ok(()) => Ok(Back::new(back, read)),
         Err(fault) => Err(fault),
     }
 }
@@ -197,16 +198,16 @@ fn go(
     ensures fits { OnOk result (FitInTurn prior Fits (record { description = description.old.items; option = option_copied name.entry }) steps.items) }
     ensures there { OnOk result (description.new.items ≡ place_after description.old.items steps.items) }
     ensures ways { IfOk result (λ ways. ways.items ≡ reverse (ways_along description.old.items steps.items)) }
-    ensures faultless { OnOk result (steps_fault (place_of direction) (option_copied name.entry) 1 description.old.items steps.items ≡ None) }
-    ensures refused { IfErr result (λ f. (steps_fault (place_of direction) (option_copied name.entry) 1 description.old.items steps.items ≡ Some f) ⊎ (f ≡ Memory)) }
+    ensures faultless { OnOk result (steps_fault (place_of direction) (option_copied name.entry) 1 description.old.items (map (λ step. step.patches) steps.items) ≡ None) }
+    ensures refused { IfErr result (λ f. (steps_fault (place_of direction) (option_copied name.entry) 1 description.old.items (map (λ step. step.patches) steps.items) ≡ Some f) ⊎ (f ≡ Memory)) }
 {
     let Ok(mut ways) = Vec::with_capacity(alloc, steps.len()) else {
         return Err(SessionFault::Memory);
     };
     for step in steps {
         let place = place_of(direction, ways.len().saturating_add(1));
-        let way = match take_step(alloc, description, name, step.into_vec(), place) {
-            Ok(way) => Back::from_vec(way),
+        let way = match take_step(alloc, description, name, step, place) {
+            Ok(way) => way,
             Err(fault) => return Err(fault),
         };
         if ways.push(way).is_err() {
@@ -228,10 +229,11 @@ fn come_back(
 {
     let mut steps = Vec::with_capacity(alloc, ways.len())?;
     for way in ways {
+        let read = way.read();
         let Ok(turned) = description.turn(alloc, way.into_vec()) else {
             return Err(AllocError);
         };
-        steps.push(Back::from_vec(turned.keep()))?;
+        steps.push(Back::new(turned.keep(), read))?;
     }
     Ok(reversed(steps))
 }
@@ -248,8 +250,8 @@ pub(crate) fn visit(
     ensures fits { OnOk result (FitInTurn prior Fits (record { description = description.old.items; option = option_copied name.entry }) steps.items) }
     ensures home { OnOk result (description.new.items ≡ description.old.items) }
     ensures steps { IfOk result (λ same. same.items ≡ steps.items) }
-    ensures faultless { OnOk result (steps_fault (place_of direction) (option_copied name.entry) 1 description.old.items steps.items ≡ None) }
-    ensures refused { IfErr result (λ f. (steps_fault (place_of direction) (option_copied name.entry) 1 description.old.items steps.items ≡ Some f) ⊎ (f ≡ Memory)) }
+    ensures faultless { OnOk result (steps_fault (place_of direction) (option_copied name.entry) 1 description.old.items (map (λ step. step.patches) steps.items) ≡ None) }
+    ensures refused { IfErr result (λ f. (steps_fault (place_of direction) (option_copied name.entry) 1 description.old.items (map (λ step. step.patches) steps.items) ≡ Some f) ⊎ (f ≡ Memory)) }
 {
     let ways = match go(alloc, description, name, steps, direction) {
         Ok(ways) => ways,
@@ -261,16 +263,16 @@ pub(crate) fn visit(
     }
 }
 
-/// The steps as what takes a map back.
+/// The steps of a session as what takes a map back.
 pub(crate) fn backs(alloc: Global, steps: Vec<Vec<Patch>>) -> Result<Vec<Back>, SessionFault>
-    ensures backs { IfOk result (λ backs. backs.items ≡ map (λ step. step.items) steps.items) }
+    ensures backs { IfOk result (λ backs. backs.items ≡ map (λ step. read_back step.items) steps.items) }
     ensures refused { IfErr result (λ f. f ≡ Memory) }
 {
     let Ok(mut backs) = Vec::with_capacity(alloc, steps.len()) else {
         return Err(SessionFault::Memory);
     };
     for step in steps {
-        if backs.push(Back::from_vec(step)).is_err() {
+        if backs.push(Back::new(step, true)).is_err() {
             return Err(SessionFault::Memory);
         }
     }

@@ -14,16 +14,13 @@ use Rattle.rdl_script.specs.Commands.{Command, nothing, undo, redo, list, edit, 
 use Rattle.rdl_tree.specs.View.{items_of}
 use Rattle.rdl_tree.specs.declared.path.Segment.{Segment}
 use Rattle.rdl_run.specs.Answers.{History', Made, AnswersEdit, AnswersItems, AnswersAdd, Answers}
+use Rattle.rdl_run.specs.Opening.{AllHaveRows, EachElaborates}
 use Rattle.rdl_run.specs.Replies.{Said, done, listed, not_done}
 use Rattle.rdl_run.specs.declared.reply.LineRefusal.TheVariants.{Command as OfCommand, Text, Edit as OfEdit, HistoryFull, NothingToUndo, NothingToRedo}
 use Rattle.rdl_run.proofs.Steps.{step-real, step-refuses, step-rows}
 use Rattle.rdl_run.proofs.Texts.{ReadStatement, NoStatement, statement_or_refused}
 
 -- ---- States that have rows.
-
-abbrev pub AllHaveRows : List State → Type 0
-AllHaveRows [] = Unit {0}
-AllHaveRows (s ∷ ss) = HasRows s × AllHaveRows ss
 
 all-take : (n : ℕ) (ss : List State) → AllHaveRows ss → AllHaveRows (take n ss)
 all-take zero ss h = tt
@@ -39,61 +36,57 @@ pub record StateAt (ss : List State) (n : ℕ) : Type 0 where
   pub at : slice_get ss n ≡ Some now
   pub rows : HasRows now
 
-state-at : (ss : List State) (n : ℕ) → AllHaveRows ss → n < length ss → StateAt ss n
+pub state-at : (ss : List State) (n : ℕ) → AllHaveRows ss → n < length ss → StateAt ss n
 state-at [] n h l = absurd (omega (arith, l))
 state-at (s ∷ ss) zero h l = record { now = s; at = refl; rows = h.0 }
 state-at (s ∷ ss) (suc n) h l = let p = state-at ss n h.1 (omega (arith, l)) in record { now = p.now; at = p.at; rows = p.rows }
 
 -- ---- Histories.
 
-pub record IsGood (h : History') : Type 0 where
-  pub inside : h.place < length h.states
-  pub rows : AllHaveRows h.states
-
-pub good-at : (h : History') → IsGood h → StateAt h.states h.place
+pub good-at : (h : History') → EachElaborates h → StateAt h.states h.place
 good-at h g = state-at h.states h.place g.rows g.inside
 
-good-undo : (h : History') → IsGood h → IsGood (after_undo h)
+good-undo : (h : History') → EachElaborates h → EachElaborates (after_undo h)
 good-undo h g = record { inside = omega (arith, g.inside); rows = g.rows }
 
 redo-inside : (b : Bool) (place len : ℕ) → (b ≡ true → place + 1 < len) → place < len → cond b (place + 1) place < len
 redo-inside true place len h l = h refl
 redo-inside false place len h l = l
 
-good-redo : (h : History') → IsGood h → IsGood (after_redo h)
+good-redo : (h : History') → EachElaborates h → EachElaborates (after_redo h)
 good-redo h g = record {
   inside = redo-inside (nat_lt (h.place + 1) (length h.states)) h.place (length h.states) (ltb-true (h.place + 1) (length h.states)) g.inside;
   rows = g.rows;
 }
 
-good-after : (h : History') (to : State) → IsGood h → HasRows to → IsGood (after_edit h to)
+good-after : (h : History') (to : State) → EachElaborates h → HasRows to → EachElaborates (after_edit h to)
 good-after h to g rows = record {
   inside = omega (arith, g.inside, length-append (take (h.place + 1) h.states) (to ∷ []), length-take (h.place + 1) h.states);
   rows = all-more (take (h.place + 1) h.states) to (all-take (h.place + 1) h.states g.rows) rows;
 }
 
-module _ (old new : History') (g : IsGood old) where
-  good-same : new ≡ old → IsGood new
-  good-same e = subst IsGood (sym e) g
+module _ (old new : History') (g : EachElaborates old) where
+  good-same : new ≡ old → EachElaborates new
+  good-same e = subst EachElaborates (sym e) g
 
-  good-made : (e : Edit) → Made old e new → IsGood new
-  good-made e m = subst IsGood (sym m.made.edited) (good-after old m.made.to g (step-rows m.made.from e m.made.to m.made.led))
+  good-made : (e : Edit) → Made old e new → EachElaborates new
+  good-made e m = subst EachElaborates (sym m.made.edited) (good-after old m.made.to g (step-rows m.made.from e m.made.to m.made.led))
 
-  good-edit : (e : Edit) (r : Said) → AnswersEdit old e r new → IsGood new
+  good-edit : (e : Edit) (r : Said) → AnswersEdit old e r new → EachElaborates new
   good-edit e done a = good-made e a
   good-edit e (not_done HistoryFull) a = good-same a.1
   good-edit e (not_done (OfEdit refusal)) a = good-same a.1
   good-edit e r a = absurd a
 
-  good-add : (path : List Segment) (place : Place) (text : List ℕ) (r : Said) → AnswersAdd old path place text r new → IsGood new
+  good-add : (path : List Segment) (place : Place) (text : List ℕ) (r : Said) → AnswersAdd old path place text r new → EachElaborates new
   good-add path place text (not_done (Text fault)) a = good-same a.1
   good-add path place text r a = good-edit (Add path place (items_of a.items)) r a.answers
 
-  pub good-answers : (c : Command) (r : Said) → Answers old c r new → IsGood new
+  pub good-answers : (c : Command) (r : Said) → Answers old c r new → EachElaborates new
   good-answers nothing done a = good-same a
-  good-answers undo done a = subst IsGood (sym a.1) (good-undo old g)
+  good-answers undo done a = subst EachElaborates (sym a.1) (good-undo old g)
   good-answers undo (not_done NothingToUndo) a = good-same a.1
-  good-answers redo done a = subst IsGood (sym a.1) (good-redo old g)
+  good-answers redo done a = subst EachElaborates (sym a.1) (good-redo old g)
   good-answers redo (not_done NothingToRedo) a = good-same a.1
   good-answers list (listed text) a = good-same a.1
   good-answers (edit e) r a = good-edit e r a
@@ -113,7 +106,7 @@ record AnsweredEdit (old : History') (e : Edit) : Type 0 where
   new : History'
   answers : AnswersEdit old e reply new
 
-module _ (old : History') (g : IsGood old) where
+module _ (old : History') (g : EachElaborates old) where
   edit-step : (e : Edit) → old.place < old.limit → (s : State) → IsAt old s → (r : Result State Refusal) → step s e ≡ r → AnsweredEdit old e
   edit-step e room s at (Ok to) is = record {
     reply = done;

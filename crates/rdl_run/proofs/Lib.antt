@@ -1,10 +1,15 @@
+pub mod Bounded
 pub mod Closings
 pub mod Continued
 pub mod Histories
+pub mod Leading
 pub mod Opened
+pub mod Openings
 pub mod Pieces
+pub mod Rebuilding
 pub mod RunLemmas
 pub mod ScriptLines
+pub mod SessionPlaces
 pub mod SoFar
 pub mod Steps
 pub mod Stopped

@@ -1,10 +1,23 @@
--- A map that is opened.
-use Rattle.std.proofs.Common.{◌≡◌, ℕ, List, Option, sym, subst}
+-- A map or a session that is opened, and a session that is refused.
+use Rattle.std.proofs.Common.{◌≡◌, ◌⊎◌, inl, inr, ℕ, List, Option, [], ◌∷◌, Result, Ok, Err, IfOk, None, IsUtf8, refl, sym, ap, ◌∙◌, subst}
+use Rattle.std.specs.Prelude.{map}
+use Rattle.journal_core.specs.Along.{FitInTurn}
+use Rattle.rdl_edit.specs.Backs.{Reversal, prior, read_back, Fits}
+use Rattle.rdl_edit.specs.Resuming.{session_fault}
+use Rattle.rdl_edit.specs.declared.map.Resumed.{Resumed}
 use Rattle.rdl_edit.specs.Step.{State, HasRows}
 use Rattle.rdl_parse.specs.Places.{Located}
 use Rattle.rdl_tree.specs.Items.{Items}
-use Rattle.rdl_run.specs.Opening.{Opens}
+use Rattle.rdl_tree.specs.declared.patch.Patch.{Patch}
+use Rattle.rdl_tree.specs.declared.session.SessionFault.{SessionFault}
+use Rattle.rdl_tree.specs.declared.session.SessionFault.TheVariants.{NotASession, Memory}
+use Rattle.rdl_parse.specs.Session.{SpellsSession}
+use Rattle.rdl_run.specs.Answers.{History'}
+use Rattle.rdl_run.specs.Opening.{Opens, EachElaborates}
 use Rattle.rdl_run.specs.Readings.{ReadsMap}
+use Rattle.rdl_run.specs.Resumed.{ResumesFrom}
+use Rattle.rdl_run.specs.Sessions.{IsNoSession, ReadsSession, FaultySession, OpensSession}
+use Rattle.rdl_run.proofs.Openings.{opened-elaborates}
 
 pub opened : (option name : Option (List ℕ)) (bytes : List ℕ) (d : Items) (places : Located) (m : State) → ReadsMap bytes d places → m ≡ record { description = d; option = name } → HasRows (record { description = d; option = name }) → name ≡ option → Opens option bytes m
 opened option name bytes d places m read is whole same =
@@ -14,3 +27,37 @@ opened option name bytes d places m read is whole same =
       whole = whole;
       same_option = same;
     })
+
+-- a text that spells no session
+pub refused_session : (option : Option (List ℕ)) (bytes text : List ℕ) (fault : SessionFault) → text ≡ bytes
+    → (fault ≡ Memory) ⊎ ((fault ≡ NotASession) × ((d : Items) (undo redo : List (List Patch)) → SpellsSession text d undo redo → ⊥))
+    → (fault ≡ Memory) ⊎ (IsNoSession bytes fault ⊎ FaultySession option bytes fault)
+refused_session option bytes text fault same (inl m) = inl m
+refused_session option bytes text fault same (inr r) =
+    inr (inl (record { none = λ d undo redo read. r.1 d undo redo (subst (λ t. SpellsSession t d undo redo) (sym same) read.spelled); fault_is = r.0 }))
+
+-- what opens as a session elaborates at each place
+pub all-elaborate : {X E : Type 0} (option : Option (List ℕ)) (limit : ℕ) (bytes : List ℕ) (r : Result X E) (seen : X → History') → IfOk r (λ j. OpensSession option limit bytes (seen j))
+    → IfOk r (λ j. EachElaborates (seen j))
+all-elaborate option limit bytes (Ok j) seen o = opened-elaborates option limit bytes (seen j) (inr o)
+all-elaborate option limit bytes (Err e) seen o = tt
+
+-- steps that are read, one after another
+pub read-each : {X : Type 0} (f : X → List Patch) (xs : List X) → map (λ x. read_back (f x)) xs ≡ map read_back (map f xs)
+read-each f [] = refl
+read-each f (x ∷ xs) = ap (λ (ys : List Reversal). read_back (f x) ∷ ys) (read-each f xs)
+
+module _ (option name : Option (List ℕ)) (bytes text : List ℕ) (d : Items) (undo redo : List (List Patch)) (r : Resumed) where
+  pub resumes : IsUtf8 bytes → text ≡ bytes → SpellsSession text d undo redo → name ≡ option → r.map ≡ record { description = d; option = name } → session_fault name d undo redo ≡ None
+      → r.undo.items ≡ map read_back undo → r.redo.items ≡ map read_back redo → FitInTurn prior Fits r.map r.undo.items → FitInTurn prior Fits r.map r.redo.items → ResumesFrom option bytes r
+  resumes u same spelled named is faultless undo_is redo_is undo_fits redo_fits = record {
+    undo = undo;
+    redo = redo;
+    undo_is = undo_is;
+    redo_is = redo_is;
+    same_option = ap (λ (m : State). m.option) is ∙ named;
+    read = subst (λ (m : State). ReadsSession bytes m.description undo redo) (sym is) (record { text = u; spelled = subst (λ t. SpellsSession t d undo redo) same spelled });
+    faultless = ap (λ (m : State). session_fault option m.description undo redo) is ∙ ap (λ o. session_fault o d undo redo) (sym named) ∙ faultless;
+    undo_fits = undo_fits;
+    redo_fits = redo_fits;
+  }

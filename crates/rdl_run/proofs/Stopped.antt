@@ -3,25 +3,22 @@ use Rattle.std.proofs.Common.{◌≡◌, ◌≢◌, inl, inr, ℕ, Bool, List, [
 use Rattle.std.specs.Io.KnownBytes.{Appends}
 use Rattle.std.proofs.KnownBytes.{Appends-nil, Appends-trans}
 use Rattle.std.proofs.Math.Seq.{take-append_seam}
-use Rattle.journal_core.specs.History.{IsAt}
-use Rattle.rdl_edit.specs.Step.{State, HasRows}
 use Rattle.rdl_script.specs.Commands.{lines_of}
 use Rattle.rdl_run.specs.Answers.{History', Serves}
 use Rattle.rdl_run.specs.Closing.{Closes}
 use Rattle.rdl_run.specs.Faulted.{IsWholeLines, Leaves, LeavesLines, FaultedFrom, Faulted, StopsServing}
 use Rattle.rdl_run.specs.Known.{Gives, AppendsFront}
-use Rattle.rdl_run.specs.Opening.{Opens, RefusesToOpen}
-use Rattle.rdl_run.specs.Output.{Output, Outputs, Runs, one_map}
+use Rattle.rdl_run.specs.Opening.{EachElaborates, OpensHistory, RefusesToOpen}
+use Rattle.rdl_run.specs.Output.{Output, Outputs, Runs}
+use Rattle.rdl_run.specs.declared.run.Options.{Options}
 use Rattle.rdl_run.specs.declared.status.RunFault.{RunFault}
 use Rattle.rdl_run.specs.declared.status.RunFault.TheVariants.{Read, Write, Memory, TooLong, Interrupted}
 use Rattle.rdl_run.specs.declared.status.Status.{Status}
 use Rattle.rdl_run.specs.declared.status.Status.TheVariants.{MapRefused}
 use Rattle.rdl_run.proofs.Continued.{Continues, continued, has_output}
+use Rattle.rdl_run.proofs.RunLemmas.{outputs}
 use Rattle.rdl_run.proofs.WholeLines.{run-whole}
 use Rattle.rdl_run.proofs.Written.{AppendsFront-after}
-
-abbrev pub outputs : (messages rdl header : Option (List ℕ)) → Outputs
-outputs messages rdl header = record { messages = messages; rdl = rdl; header = header }
 
 -- the exit of a `?`
 pub went : {X : Type 0} (r : Result X RunFault) (f : RunFault) (P : RunFault → Type 0) → IsErrAnd r (λ g. g ≡ f) → P f → IfErr r P
@@ -43,41 +40,42 @@ front-is whole text after e = ap (take (length text)) e ∙ take-append_seam tex
 
 -- ---- Serving stopped.
 
-module _ (limit : ℕ) (first : State) (script : List ℕ) (m m' r h : Option (List ℕ)) where
-  stopped-lines : (served : List (List ℕ)) (text : List ℕ) (refuses : Bool) (last : History') → Serves (one_map limit first) served text refuses last → (out : Output) (after : List ℕ)
-      → out.messages ≡ text ++ after → Appends m m' text → LeavesLines (outputs m r h) (outputs m' r h) out
+module _ (asked : Bool) (first : History') (script : List ℕ) (m m' r h z : Option (List ℕ)) where
+  stopped-lines : (served : List (List ℕ)) (text : List ℕ) (refuses : Bool) (last : History') → Serves first served text refuses last → (out : Output) (after : List ℕ)
+      → out.messages ≡ text ++ after → Appends m m' text → LeavesLines (outputs m r h z) (outputs m' r h z) out
   stopped-lines served text refuses last s out after e wrote =
       let front = front-is out.messages text after e in
       record {
         len = length text;
-        lines = subst IsWholeLines (sym s.text_is ∙ sym front) (run-whole (one_map limit first) last served s.replies 1 s.ran);
+        lines = subst IsWholeLines (sym s.text_is ∙ sym front) (run-whole first last served s.replies 1 s.ran);
         messages = subst (Appends m m') (sym front) wrote;
         rdl = refl;
         header = refl;
+        session = refl;
       }
 
-  stopped-leaves : (fault : RunFault) (s : StopsServing (one_map limit first) (lines_of script) m m' fault) (c : Continues limit first script s.text) → Leaves fault (outputs m r h) (outputs m' r h) c.out
+  stopped-leaves : (fault : RunFault) (s : StopsServing first (lines_of script) m m' fault) (c : Continues asked first script s.text) → Leaves fault (outputs m r h z) (outputs m' r h z) c.out
   stopped-leaves Memory s c = stopped-lines s.served s.text s.refuses s.last s.serves c.out c.after c.messages s.wrote
   stopped-leaves Write s c = inl (record {
     messages = subst (AppendsFront m m') (sym c.messages) (AppendsFront-after m m m' [] s.text c.after (Appends-nil m) s.wrote);
     rdl = refl;
     header = refl;
+    session = refl;
   })
   stopped-leaves Read s c = absurd s.wrote
   stopped-leaves TooLong s c = absurd s.wrote
   stopped-leaves Interrupted s c = absurd s.wrote
 
-  pub stopped_serving : (fault : RunFault) (before : History') → before ≡ one_map limit first → HasRows first → StopsServing before (lines_of script) m m' fault → FaultedFrom limit first script (outputs m r h) (outputs m' r h) fault
-  stopped_serving fault before e rows stopped =
-      let s : StopsServing (one_map limit first) (lines_of script) m m' fault = subst (λ b. StopsServing b (lines_of script) m m' fault) e stopped in
-      let c = continued limit first script rows s.served s.rest s.parts s.text s.refuses s.last s.serves in
+  pub stopped_serving : (fault : RunFault) → EachElaborates first → StopsServing first (lines_of script) m m' fault → FaultedFrom asked first script (outputs m r h z) (outputs m' r h z) fault
+  stopped_serving fault whole s =
+      let c = continued asked first script whole s.served s.rest s.parts s.text s.refuses s.last s.serves in
       record { out = c.out; runs = c.runs; leaves = stopped-leaves fault s c }
 
   -- all lines were served, and no memory was left to close the run
-  pub stopped_closing : (before last : History') (refuses : Bool) → before ≡ one_map limit first → HasRows first → (text : List ℕ) × Serves before (lines_of script) text refuses last × Appends m m' text
-      → FaultedFrom limit first script (outputs m r h) (outputs m' r h) Memory
-  stopped_closing before last refuses e rows served =
-      stopped_serving Memory before e rows (record {
+  pub stopped_closing : (last : History') (refuses : Bool) → EachElaborates first → (text : List ℕ) × Serves first (lines_of script) text refuses last × Appends m m' text
+      → FaultedFrom asked first script (outputs m r h z) (outputs m' r h z) Memory
+  stopped_closing last refuses whole served =
+      stopped_serving Memory whole (record {
         served = lines_of script;
         rest = [];
         parts = sym (append-nil (lines_of script));
@@ -90,47 +88,55 @@ module _ (limit : ℕ) (first : State) (script : List ℕ) (m m' r h : Option (L
 
 -- ---- A write of what closes the run failed.
 
-module _ (limit : ℕ) (first : State) (script : List ℕ) (refuses : Bool) (status : Status) (before last : History') (now : State) (message rdl header : List ℕ) (m mid : Option (List ℕ))
-    (e : before ≡ one_map limit first) (served : (replies : List ℕ) × Serves before (lines_of script) replies refuses last × Appends m mid replies) (at : IsAt last now) (closes : Closes now refuses message rdl header status) where
+module _ (asked : Bool) (first : History') (script : List ℕ) (refuses : Bool) (status : Status) (last : History') (message rdl header session : List ℕ) (m mid : Option (List ℕ))
+    (served : (replies : List ℕ) × Serves first (lines_of script) replies refuses last × Appends m mid replies) (closes : Closes asked last refuses message rdl header session status) where
   abbrev closing_output : Output
-  closing_output = record { messages = served.0 ++ message; rdl = rdl; header = header; status = status }
+  closing_output = record { messages = served.0 ++ message; rdl = rdl; header = header; session = session; status = status }
 
-  closing-runs : Runs limit first script closing_output
+  closing-runs : Runs asked first script closing_output
   closing-runs = record {
     last = last;
     refuses = refuses;
     replies = served.0;
-    serves = subst (λ b. Serves b (lines_of script) served.0 refuses last) e served.1;
-    now = now;
-    at = at;
+    serves = served.1;
     message = message;
     closes = closes;
     messages = refl;
   }
 
-  pub failed_message : (m' r h : Option (List ℕ)) → AppendsFront mid m' message → FaultedFrom limit first script (outputs m r h) (outputs m' r h) Write
-  failed_message m' r h wrote = record {
+  pub failed_message : (m' r h z : Option (List ℕ)) → AppendsFront mid m' message → FaultedFrom asked first script (outputs m r h z) (outputs m' r h z) Write
+  failed_message m' r h z wrote = record {
     out = closing_output;
     runs = closing-runs;
     leaves = inl (record {
       messages = subst (AppendsFront m m') (ap (λ (t : List ℕ). served.0 ++ t) (append-nil message)) (AppendsFront-after m mid m' served.0 message [] served.2 wrote);
       rdl = refl;
       header = refl;
+      session = refl;
     });
   }
 
-  pub failed_map : (m' r r' h : Option (List ℕ)) → Appends mid m' message → AppendsFront r r' rdl → FaultedFrom limit first script (outputs m r h) (outputs m' r' h) Write
-  failed_map m' r r' h said wrote = record {
+  pub failed_map : (m' r r' h z : Option (List ℕ)) → Appends mid m' message → AppendsFront r r' rdl → FaultedFrom asked first script (outputs m r h z) (outputs m' r' h z) Write
+  failed_map m' r r' h z said wrote = record {
     out = closing_output;
     runs = closing-runs;
-    leaves = inr (inl (record { messages = Appends-trans m mid m' served.0 message served.2 said; rdl = wrote; header = refl }));
+    leaves = inr (inl (record { messages = Appends-trans m mid m' served.0 message served.2 said; rdl = wrote; header = refl; session = refl }));
   }
 
-  pub failed_header : (m' r r' h h' : Option (List ℕ)) → Appends mid m' message → Appends r r' rdl → AppendsFront h h' header → FaultedFrom limit first script (outputs m r h) (outputs m' r' h') Write
-  failed_header m' r r' h h' said wrote_rdl wrote = record {
+  pub failed_header : (m' r r' h h' z : Option (List ℕ)) → Appends mid m' message → Appends r r' rdl → AppendsFront h h' header
+      → FaultedFrom asked first script (outputs m r h z) (outputs m' r' h' z) Write
+  failed_header m' r r' h h' z said wrote_rdl wrote = record {
     out = closing_output;
     runs = closing-runs;
-    leaves = inr (inr (record { messages = Appends-trans m mid m' served.0 message served.2 said; rdl = wrote_rdl; header = wrote }));
+    leaves = inr (inr (inl (record { messages = Appends-trans m mid m' served.0 message served.2 said; rdl = wrote_rdl; header = wrote; session = refl })));
+  }
+
+  pub failed_session : (m' r r' h h' z z' : Option (List ℕ)) → Appends mid m' message → Appends r r' rdl → Appends h h' header → AppendsFront z z' session
+      → FaultedFrom asked first script (outputs m r h z) (outputs m' r' h' z') Write
+  failed_session m' r r' h h' z z' said wrote_rdl wrote_header wrote = record {
+    out = closing_output;
+    runs = closing-runs;
+    leaves = inr (inr (inr (record { messages = Appends-trans m mid m' served.0 message served.2 said; rdl = wrote_rdl; header = wrote_header; session = wrote })));
   }
 
 -- ---- The whole run.
@@ -143,18 +149,18 @@ gives-given : (known : Option (List ℕ)) → Gives known (given known)
 gives-given None = tt
 gives-given (Some bytes) = refl
 
-module _ (option : Option (List ℕ)) (limit : ℕ) (map script : Option (List ℕ)) where
+module _ (options : Options) (map script : Option (List ℕ)) where
   unwritten-leaves : (fault : RunFault) (all : Outputs) (out : Output) → fault ≢ Write → Leaves fault all all out
   unwritten-leaves Read all out h = refl
   unwritten-leaves TooLong all out h = refl
   unwritten-leaves Interrupted all out h = refl
-  unwritten-leaves Memory all out h = record { len = 0; lines = inl refl; messages = Appends-nil all.messages; rdl = refl; header = refl }
+  unwritten-leaves Memory all out h = record { len = 0; lines = inl refl; messages = Appends-nil all.messages; rdl = refl; header = refl; session = refl }
   unwritten-leaves Write all out h = absurd (h refl)
 
   -- nothing was written
-  pub unwritten : (fault : RunFault) (all : Outputs) → fault ≢ Write → Faulted option limit map script all all fault
+  pub unwritten : (fault : RunFault) (all : Outputs) → fault ≢ Write → Faulted options map script all all fault
   unwritten fault all h =
-      let o = has_output option limit (given map) (given script) in
+      let o = has_output options (given map) (given script) in
       record {
         map_bytes = given map;
         script_bytes = given script;
@@ -165,9 +171,9 @@ module _ (option : Option (List ℕ)) (limit : ℕ) (map script : Option (List �
         leaves = unwritten-leaves fault all o.out h;
       }
 
-  -- the script was run from the map that was opened
-  pub faulted_script : (map_bytes script_bytes : List ℕ) (first : State) (old new : Outputs) (fault : RunFault) → Gives map map_bytes → Gives script script_bytes → Opens option map_bytes first
-      → FaultedFrom limit first script_bytes old new fault → Faulted option limit map script old new fault
+  -- the script was run from the history that was opened
+  pub faulted_script : (map_bytes script_bytes : List ℕ) (first : History') (old new : Outputs) (fault : RunFault) → Gives map map_bytes → Gives script script_bytes
+      → OpensHistory options.top options.history map_bytes first → FaultedFrom options.session first script_bytes old new fault → Faulted options map script old new fault
   faulted_script map_bytes script_bytes first old new fault p q opens stopped = record {
     map_bytes = map_bytes;
     script_bytes = script_bytes;
@@ -179,14 +185,14 @@ module _ (option : Option (List ℕ)) (limit : ℕ) (map script : Option (List �
   }
 
   -- the message of a map that is refused wasn't written whole
-  pub failed_refusal : (map_bytes script_bytes message : List ℕ) (m m' r h : Option (List ℕ)) → Gives map map_bytes → Gives script script_bytes → RefusesToOpen option map_bytes message → AppendsFront m m' message
-      → Faulted option limit map script (outputs m r h) (outputs m' r h) Write
-  failed_refusal map_bytes script_bytes message m m' r h p q refused wrote = record {
+  pub failed_refusal : (map_bytes script_bytes message : List ℕ) (m m' r h z : Option (List ℕ)) → Gives map map_bytes → Gives script script_bytes → RefusesToOpen options.top map_bytes message
+      → AppendsFront m m' message → Faulted options map script (outputs m r h z) (outputs m' r h z) Write
+  failed_refusal map_bytes script_bytes message m m' r h z p q refused wrote = record {
     map_bytes = map_bytes;
     script_bytes = script_bytes;
     map_given = p;
     script_given = q;
-    out = record { messages = message; rdl = []; header = []; status = MapRefused };
-    is_output = inl (record { refused = refused; rdl = refl; header = refl; status = refl });
-    leaves = inl (record { messages = wrote; rdl = refl; header = refl });
+    out = record { messages = message; rdl = []; header = []; session = []; status = MapRefused };
+    is_output = inl (record { refused = refused; rdl = refl; header = refl; session = refl; status = refl });
+    leaves = inl (record { messages = wrote; rdl = refl; header = refl; session = refl });
   }

@@ -5,16 +5,12 @@ use Rattle.std.specs.Str.{is_utf8}
 use Rattle.std.specs.Str.Lossy.{utf8_valid_len}
 use Rattle.std.proofs.lemmas.Str.{IsUtf8-from_is_utf8, is_utf8-from_IsUtf8}
 use Rattle.std.proofs.lemmas.Bool.{ltb-true, ltb-false}
-use Rattle.rdl_elab.specs.Faults.{elaborated}
-use Rattle.rdl_elab.specs.declared.row.Row.{Row}
-use Rattle.rdl_edit.specs.Step.{State}
 use Rattle.rdl_text.specs.Word.{Word}
 use Rattle.rdl_text.specs.Words.{words}
 use Rattle.rdl_text.specs.declared.fault.FaultKind.TheVariants.{BadCharacter}
 use Rattle.rdl_text.specs.declared.fault.TextFault.{TextFault}
 use Rattle.rdl_tree.specs.Items.{Items}
 use Rattle.rdl_tree.specs.declared.description.Item.{Item}
-use Rattle.rdl_tree.specs.declared.fault.Fault.{Fault as MapFault}
 use Rattle.rdl_parse.specs.Faults.{max_text, out_of_memory, too_long, words_fault, reading_fault}
 use Rattle.rdl_parse.specs.Parsing.{HasWords, Refuses, RefusesItem}
 use Rattle.rdl_parse.specs.Places.{Located, located}
@@ -26,7 +22,6 @@ use Rattle.rdl_parse.specs.declared.fault.ParseFault.{ParseFault}
 use Rattle.rdl_parse.specs.declared.fault.ParseFaultKind.TheVariants.{Words}
 use Rattle.rdl_parse.specs.declared.fault.Stop.TheVariants as stops
 use Rattle.rdl_parse.proofs.Answered.{text-found, text-refused, statement-found, statement-refused}
-use Rattle.rdl_run.specs.Opening.{Opens, RefusesToOpen, text_line, fault_line}
 use Rattle.rdl_run.specs.Readings.{ReadsMap, ReadsItems, IsNoText, RefusesMap, RefusesItems}
 
 pub record ReadMap (bytes : List ℕ) : Type 0 where
@@ -77,7 +72,7 @@ map-text : (text : List ℕ) → IsUtf8 text → (b : Bool) → nat_lt max_text 
 map-text text u true e = inr (record { fault = too_long; refused = inr (record { text = u; refused = (ltb-true max_text (length text) e, refl) }) })
 map-text text u false e = map-cut text u (ltb-false max_text (length text) e) (words text) refl
 
-map-bytes : (bytes : List ℕ) (b : Bool) → is_utf8 bytes ≡ b → ReadMap bytes ⊎ NoMap bytes
+pub map-bytes : (bytes : List ℕ) (b : Bool) → is_utf8 bytes ≡ b → ReadMap bytes ⊎ NoMap bytes
 map-bytes bytes true e = map-text bytes (IsUtf8-from_is_utf8 bytes e) (nat_lt max_text (length bytes)) refl
 map-bytes bytes false e = inr (record { fault = record { kind = Words BadCharacter; offset = utf8_valid_len bytes }; refused = inl (no-text bytes e) })
 
@@ -107,30 +102,3 @@ statement-bytes bytes false e = inr (record { fault = record { kind = Words BadC
 
 pub statement_or_refused : (bytes : List ℕ) → ReadStatement bytes ⊎ NoStatement bytes
 statement_or_refused bytes = statement-bytes bytes (is_utf8 bytes) refl
-
--- ---- Opening.
-
-pub record Opened (option : Option (List ℕ)) (bytes : List ℕ) : Type 0 where
-  pub first : State
-  pub opens : Opens option bytes first
-
-pub record NotOpened (option : Option (List ℕ)) (bytes : List ℕ) : Type 0 where
-  pub message : List ℕ
-  pub refused : RefusesToOpen option bytes message
-
-opened-read : (option : Option (List ℕ)) (bytes : List ℕ) (r : ReadMap bytes) (q : Result (List Row) MapFault) → elaborated r.d option ≡ q → Opened option bytes ⊎ NotOpened option bytes
-opened-read option bytes r (Ok rows) e = inl (record {
-  first = record { description = r.d; option = option };
-  opens = record { places = r.places; read = r.read; whole = record { rows = rows; are = e }; same_option = refl };
-})
-opened-read option bytes r (Err fault) e = inr (record {
-  message = fault_line r.places fault;
-  refused = inr (record { d = r.d; places = r.places; read = r.read; fault = fault; first = e; is = refl });
-})
-
-opened-bytes : (option : Option (List ℕ)) (bytes : List ℕ) → ReadMap bytes ⊎ NoMap bytes → Opened option bytes ⊎ NotOpened option bytes
-opened-bytes option bytes (inl r) = opened-read option bytes r (elaborated r.d option) refl
-opened-bytes option bytes (inr n) = inr (record { message = text_line bytes n.fault; refused = inl (record { fault = n.fault; refused = n.refused; is = refl }) })
-
-pub opened_or_refused : (option : Option (List ℕ)) (bytes : List ℕ) → Opened option bytes ⊎ NotOpened option bytes
-opened_or_refused option bytes = opened-bytes option bytes (map-bytes bytes (is_utf8 bytes) refl)

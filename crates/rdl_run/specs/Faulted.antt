@@ -1,11 +1,11 @@
 -- What the outputs hold where a run stops with a fault: prefixes of one output of the run. Own.
 use Rattle.std.specs.Prelude.{◌≡◌, ◌⊎◌, ℕ, Bool, List, [], ◌++◌, take, Option}
 use Rattle.std.specs.Io.KnownBytes.{Appends}
-use Rattle.rdl_edit.specs.Step.{State}
 use Rattle.rdl_write.specs.Texts.{newline}
 use Rattle.rdl_run.specs.Answers.{History', Serves}
 use Rattle.rdl_run.specs.Known.{Gives, AppendsFront}
 use Rattle.rdl_run.specs.Output.{Output, Outputs, Runs, IsOutput}
+use Rattle.rdl_run.specs.declared.run.Options.{Options}
 use Rattle.rdl_run.specs.declared.status.RunFault.{RunFault}
 use Rattle.rdl_run.specs.declared.status.RunFault.TheVariants.{Read, Write, Memory, TooLong, Interrupted}
 
@@ -25,24 +25,35 @@ pub record LeavesLines (old new : Outputs) (out : Output) : Type 0 where
   pub messages : Appends old.messages new.messages (take len out.messages)
   pub rdl : new.rdl ≡ old.rdl
   pub header : new.header ≡ old.header
+  pub session : new.session ≡ old.session
 
 -- a write of the messages failed
 pub record LeavesMessages (old new : Outputs) (out : Output) : Type 0 where
   pub messages : AppendsFront old.messages new.messages out.messages
   pub rdl : new.rdl ≡ old.rdl
   pub header : new.header ≡ old.header
+  pub session : new.session ≡ old.session
 
 -- a write of the map failed
 pub record LeavesMap (old new : Outputs) (out : Output) : Type 0 where
   pub messages : Appends old.messages new.messages out.messages
   pub rdl : AppendsFront old.rdl new.rdl out.rdl
   pub header : new.header ≡ old.header
+  pub session : new.session ≡ old.session
 
 -- a write of the header failed
 pub record LeavesHeader (old new : Outputs) (out : Output) : Type 0 where
   pub messages : Appends old.messages new.messages out.messages
   pub rdl : Appends old.rdl new.rdl out.rdl
   pub header : AppendsFront old.header new.header out.header
+  pub session : new.session ≡ old.session
+
+-- a write of the session failed
+pub record LeavesSession (old new : Outputs) (out : Output) : Type 0 where
+  pub messages : Appends old.messages new.messages out.messages
+  pub rdl : Appends old.rdl new.rdl out.rdl
+  pub header : Appends old.header new.header out.header
+  pub session : AppendsFront old.session new.session out.session
 
 -- by the fault: nothing was written where an input wasn't read
 abbrev pub Leaves : RunFault → Outputs → Outputs → Output → Type 0
@@ -50,22 +61,22 @@ Leaves Read old new out = new ≡ old
 Leaves TooLong old new out = new ≡ old
 Leaves Interrupted old new out = new ≡ old
 Leaves Memory old new out = LeavesLines old new out
-Leaves Write old new out = LeavesMessages old new out ⊎ (LeavesMap old new out ⊎ LeavesHeader old new out)
+Leaves Write old new out = LeavesMessages old new out ⊎ (LeavesMap old new out ⊎ (LeavesHeader old new out ⊎ LeavesSession old new out))
 
--- a run of a script stopped, from a map that was opened
-pub record FaultedFrom (limit : ℕ) (first : State) (script : List ℕ) (old new : Outputs) (fault : RunFault) : Type 0 where
+-- a run of a script stopped, from a history that was opened
+pub record FaultedFrom (asked : Bool) (first : History') (script : List ℕ) (old new : Outputs) (fault : RunFault) : Type 0 where
   pub out : Output
-  pub runs : Runs limit first script out
+  pub runs : Runs asked first script out
   pub leaves : Leaves fault old new out
 
 -- a whole run stopped, on bytes that are the readers' where those are known
-pub record Faulted (option : Option (List ℕ)) (limit : ℕ) (map script : Option (List ℕ)) (old new : Outputs) (fault : RunFault) : Type 0 where
+pub record Faulted (options : Options) (map script : Option (List ℕ)) (old new : Outputs) (fault : RunFault) : Type 0 where
   pub map_bytes : List ℕ
   pub script_bytes : List ℕ
   pub map_given : Gives map map_bytes
   pub script_given : Gives script script_bytes
   pub out : Output
-  pub is_output : IsOutput option limit map_bytes script_bytes out
+  pub is_output : IsOutput options map_bytes script_bytes out
   pub leaves : Leaves fault old new out
 
 -- ---- Serving the lines of a script.

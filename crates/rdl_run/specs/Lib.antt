@@ -3,11 +3,14 @@ pub mod Closing
 pub mod Faulted
 pub mod Known
 pub mod Messages
+pub mod Missing
 pub mod Opening
 pub mod OpeningFaults
 pub mod Output
 pub mod ReadingFaults
 pub mod Readings
 pub mod Replies
+pub mod Resumed
 pub mod ScriptLines
+pub mod Sessions
 pub mod Turns

@@ -12,6 +12,10 @@ use Rattle.rdl_parse.specs.declared.fault.ParseFaultKind.TheVariants as texts
 use Rattle.rdl_tree.specs.AddressText.{address_text}
 use Rattle.rdl_tree.specs.declared.fault.FaultKind.{FaultKind}
 use Rattle.rdl_tree.specs.declared.fault.FaultKind.TheVariants as kinds
+use Rattle.rdl_tree.specs.declared.session.SessionFault.{SessionFault}
+use Rattle.rdl_tree.specs.declared.session.SessionFault.TheVariants as sessions
+use Rattle.rdl_tree.specs.declared.session.Where.{Where}
+use Rattle.rdl_tree.specs.declared.session.Where.TheVariants as where_
 use Rattle.rdl_write.specs.Texts.{newline}
 use Rattle.rdl_run.specs.Replies.{Said, done, listed, not_done}
 use Rattle.rdl_run.specs.declared.reply.LineRefusal.{LineRefusal}
@@ -121,3 +125,22 @@ map_line line column what = codes "map:" ++ decimal line ++ codes ":" ++ decimal
 -- the message of two macros that have one name
 abbrev pub clash_line : List ℕ → List ℕ
 clash_line name = codes "header: H1 two macros with one name: " ++ name ++ newline
+
+-- which map of a session is meant
+abbrev pub where_text : Where → List ℕ
+where_text where_.Map = codes "map"
+where_text (where_.Undo number) = codes "undo " ++ decimal number
+where_text (where_.Redo number) = codes "redo " ++ decimal number
+
+-- want of memory ends the run, and has no message
+unfoldable pub session_fault_text : SessionFault → List ℕ
+session_fault_text sessions.NotASession = codes "Z1 not a session"
+session_fault_text (sessions.PatchMisfits place) = codes "Z2 a patch does not fit at " ++ where_text place
+session_fault_text (sessions.MapFaulty place fault) =
+    codes "Z3 a place does not elaborate at " ++ where_text place ++ codes ": " ++ fault_text fault.kind ++ codes " at item " ++ address_text fault.address
+session_fault_text sessions.TooLong = codes "Z4 session too long"
+session_fault_text sessions.Memory = []
+
+-- the message of a session that is refused, or that can't be written
+unfoldable pub session_line : SessionFault → List ℕ
+session_line fault = codes "session: " ++ session_fault_text fault ++ newline

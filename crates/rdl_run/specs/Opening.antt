@@ -1,5 +1,5 @@
--- Opening a map: from its bytes to the map that the history begins with, or the one message of a refused map. Own.
-use Rattle.std.specs.Prelude.{◌≡◌, ◌⊎◌, ℕ, List, Option, None, Some, Err}
+-- Opening a map or a session: from its bytes to the history that begins there, or the one message of a refusal. Own.
+use Rattle.std.specs.Prelude.{◌≡◌, ◌⊎◌, ◌<◌, ℕ, false, List, [], ◌∷◌, length, Option, None, Some, Err}
 use Rattle.rdl_edit.specs.Step.{State, HasRows}
 use Rattle.rdl_elab.specs.Faults.{elaborated}
 use Rattle.rdl_parse.specs.Places.{Located, place_at}
@@ -7,8 +7,10 @@ use Rattle.rdl_parse.specs.declared.fault.ParseFault.{ParseFault}
 use Rattle.rdl_text.specs.Place.{line, column}
 use Rattle.rdl_tree.specs.Items.{Items}
 use Rattle.rdl_tree.specs.declared.fault.Fault.{Fault}
+use Rattle.rdl_run.specs.Answers.{History'}
 use Rattle.rdl_run.specs.Messages.{map_line, parse_fault_text, fault_text}
 use Rattle.rdl_run.specs.Readings.{ReadsMap, RefusesMap}
+use Rattle.rdl_run.specs.Sessions.{OpensSession, RefusedSession, is_session}
 
 -- a message at a place, or at 1:1 where it is of the whole map
 abbrev pub line_at : Option (ℕ × ℕ) → List ℕ → List ℕ
@@ -30,7 +32,32 @@ pub record Opens (option : Option (List ℕ)) (bytes : List ℕ) (s : State) : T
   pub whole : HasRows s
   pub same_option : s.option ≡ option
 
--- they aren't read
+-- a history of the map alone
+abbrev pub one_map : (limit : ℕ) → State → History'
+one_map limit s = record { limit = limit; states = s ∷ []; place = 0 }
+
+pub record OpensMap (option : Option (List ℕ)) (limit : ℕ) (bytes : List ℕ) (h : History') : Type 0 where
+  pub unnamed : is_session bytes ≡ false
+  pub first : State
+  pub opens : Opens option bytes first
+  pub opened : h ≡ one_map limit first
+
+-- the history that a map or a session opens
+abbrev pub OpensHistory : Option (List ℕ) → ℕ → List ℕ → History' → Type 0
+OpensHistory option limit bytes h = OpensMap option limit bytes h ⊎ OpensSession option limit bytes h
+
+-- each place of a history has a map that elaborates
+abbrev pub AllHaveRows : List State → Type 0
+AllHaveRows [] = Unit {0}
+AllHaveRows (s ∷ ss) = HasRows s × AllHaveRows ss
+
+pub record EachElaborates (h : History') : Type 0 where
+  pub inside : h.place < length h.states
+  pub rows : AllHaveRows h.states
+
+-- ---- Refusing to open.
+
+-- the bytes of a map aren't read
 pub record RefusedText (bytes : List ℕ) (message : List ℕ) : Type 0 where
   pub fault : ParseFault
   pub refused : RefusesMap bytes fault
@@ -45,5 +72,9 @@ pub record RefusedMap (option : Option (List ℕ)) (bytes : List ℕ) (message :
   pub first : elaborated d option ≡ Err fault
   pub is : message ≡ fault_line places fault
 
+pub record RefusesToOpenMap (option : Option (List ℕ)) (bytes : List ℕ) (message : List ℕ) : Type 0 where
+  pub unnamed : is_session bytes ≡ false
+  pub refused : RefusedText bytes message ⊎ RefusedMap option bytes message
+
 abbrev pub RefusesToOpen : Option (List ℕ) → List ℕ → List ℕ → Type 0
-RefusesToOpen option bytes message = RefusedText bytes message ⊎ RefusedMap option bytes message
+RefusesToOpen option bytes message = RefusesToOpenMap option bytes message ⊎ RefusedSession option bytes message

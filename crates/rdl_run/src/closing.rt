@@ -1,10 +1,13 @@
 //! How a run closes whose map was not refused.
-ghost use Rattle.std.specs.Prelude.{◌≡◌, string_bytes, if◌then◌else◌, IfOk};
-ghost use Rattle.rdl_run.specs.Closing.{Closes};
+ghost use Rattle.std.specs.Prelude.{◌≡◌, ◌++◌, string_bytes, IfOk, OnOk, IsOkUnless};
+ghost use Rattle.rdl_run.specs.Closing.{Heads, status_of};
 ghost use Rattle.rdl_run.specs.Messages.{clash_line};
-ghost use Rattle.rdl_run.specs.declared.status.Status.TheVariants.{Accepted, LineRefused};
+ghost use Rattle.rdl_run.specs.declared.status.RunFault.{RunFault};
 
-use crate::status::{RunFault, Status};
+use crate::part::Part;
+use crate::saving::session_part;
+use crate::status::{Missing, RunFault, Status};
+use journal_core::journal::Journal;
 use rdl_edit::map::Map;
 use rdl_header::{HeaderFault, header};
 use rdl_write::rdl;
@@ -13,10 +16,11 @@ use std::alloc::{AllocError, Global};
 /// What is written behind the replies of a script, and how the run ended.
 #[derive(Debug, Drop)]
 pub struct Closing {
-    /// What is said of the header, if there is none.
+    /// What is said of the texts that are missing.
     pub message: String,
     pub rdl: String,
     pub header: String,
+    pub session: String,
     pub status: Status,
 }
 
@@ -29,14 +33,40 @@ fn clash_line(alloc: Global, name: &str) -> Result<String, AllocError>
     Ok(text)
 }
 
-fn status_of(refused: bool) -> Status
-    ensures { result ≡ (if refused then LineRefused else Accepted) }
+/// The header of a map, or what is said in its place.
+fn header_part(alloc: Global, map: &Map) -> Result<Part, RunFault>
+    ensures heads { IfOk result (λ part. Heads map.now (string_bytes part.message) (string_bytes part.text) part.is_left_out) }
+    ensures fault { IsOkUnless result RunFault.Memory }
 {
-    if refused {
-        Status::LineRefused
-    } else {
-        Status::Accepted
+    let rows = map.rows(alloc)?;
+    match header(alloc, rows.as_slice()) {
+        Ok(text) => Ok(Part::made(alloc, text)),
+        Err(HeaderFault::Clash(name)) => {
+            let message = clash_line(alloc, name.as_str())?;
+            Ok(Part::left_out(alloc, message))
+        }
+        Err(HeaderFault::Memory) => Err(RunFault::Memory),
     }
+}
+
+fn status_of(is_refused: bool, has_no_header: bool, has_no_session: bool) -> Status
+    ensures { result ≡ status_of is_refused has_no_header has_no_session }
+{
+    match (has_no_header, has_no_session) {
+        (true, true) => Status::Incomplete(Missing::Both),
+        (true, false) => Status::Incomplete(Missing::Header),
+        (false, true) => Status::Incomplete(Missing::Session),
+        (false, false) if is_refused => Status::LineRefused,
+        (false, false) => Status::Accepted,
+    }
+}
+
+/// One text behind another.
+fn joined(mut text: String, more: &String) -> Result<String, AllocError>
+    ensures { IfOk result (λ both. string_bytes both ≡ string_bytes text ++ string_bytes more.now) }
+{
+    text.push_str(more.as_str())?;
+    Ok(text)
 }
 
 impl Closing {
@@ -44,27 +74,27 @@ impl Closing {
     ghost use Rattle.rdl_run.specs.Closing.{Closes};
     ghost use Rattle.rdl_run.specs.declared.status.RunFault.{RunFault};
 
-    /// Makes both texts of the map to which a script led, or the message in place of the header.
-    pub fn of(alloc: Global, map: &Map, refused: bool) -> Result<Closing, RunFault>
-        ensures closes { IfOk result (λ c. Closes map.now refused (string_bytes c.message) (string_bytes c.rdl) (string_bytes c.header) c.status) }
+    /// Makes the texts of the map to which a script led, and of the history if the session is asked for, or the messages in
+    /// their places.
+    pub fn of(
+        alloc: Global,
+        journal: &Journal<Map>,
+        is_refused: bool,
+        has_session: bool,
+    ) -> Result<Closing, RunFault>
+        ensures closes { IfOk result (λ c. Closes has_session journal.now is_refused (string_bytes c.message) (string_bytes c.rdl) (string_bytes c.header) (string_bytes c.session) c.status) }
         ensures fault { IsOkUnless result RunFault.Memory }
     {
-        let rdl = rdl(alloc, map.description())?;
-        let rows = map.rows(alloc)?;
-        match header(alloc, rows.as_slice()) {
-            Ok(header) => Ok(Closing {
-                message: String::new(alloc),
-                rdl,
-                header,
-                status: status_of(refused),
-            }),
-            Err(HeaderFault::Clash(name)) => Ok(Closing {
-                message: clash_line(alloc, name.as_str())?,
-                rdl,
-                header: String::new(alloc),
-                status: Status::HeaderClash,
-            }),
-            Err(HeaderFault::Memory) => Err(RunFault::Memory),
-        }
+        let rdl = rdl(alloc, journal.map().description())?;
+        let header = header_part(alloc, journal.map())?;
+        let session = session_part(alloc, journal, has_session)?;
+        let status = status_of(is_refused, header.is_left_out, session.is_left_out);
+        Ok(Closing {
+            message: joined(header.message, &session.message)?,
+            rdl,
+            header: header.text,
+            session: session.text,
+            status,
+        })
     }
 }

@@ -1,8 +1,16 @@
-//! A law of runs, as the contract of a function that does nothing.
+//! Laws of runs, as contracts of functions that do nothing.
 ghost use Rattle.std.specs.Prelude.{ℕ, List, Option};
+ghost use Rattle.rdl_run.specs.Answers.{History'};
+ghost use Rattle.rdl_run.specs.Opening.{OpensHistory, EachElaborates};
 ghost use Rattle.rdl_run.specs.Output.{Output, IsOutput};
+ghost use Rattle.rdl_run.specs.declared.run.Options.{Options};
 
-/// Each map and each script have an output, whatever their bytes are.
+/// Each map or session and each script have an output, whatever their bytes are.
 pub fn each_run_has_an_output()
-    ensures { (option : Option (List ℕ)) (limit : ℕ) (map script : List ℕ) → (out : Output) × IsOutput option limit map script out }
+    ensures { (options : Options) (map script : List ℕ) → (out : Output) × IsOutput options map script out }
+{}
+
+/// Each place of a history that is opened has a map that elaborates.
+pub fn each_opened_place_elaborates()
+    ensures { (option : Option (List ℕ)) (limit : ℕ) (bytes : List ℕ) (first : History') → OpensHistory option limit bytes first → EachElaborates first }
 {}

@@ -1,21 +1,30 @@
-//! Opening a map.
-ghost use Rattle.std.specs.Prelude.{◌≡◌, Some, None, string_bytes, IfOk, IfErr};
+//! Opening a map or a session.
+ghost use Rattle.std.specs.Prelude.{◌≡◌, ◌≢◌, ◌⊎◌, true, Some, None, string_bytes, IfOk, IfErr};
 ghost use Rattle.std.specs.Option.{option_copied};
-ghost use Rattle.rdl_run.specs.Opening.{text_line, fault_line, Opens, RefusesToOpen};
+ghost use Rattle.rdl_tree.specs.declared.session.SessionFault.TheVariants.{Memory};
+ghost use Rattle.rdl_run.specs.Messages.{session_line};
+ghost use Rattle.rdl_run.specs.Opening.{text_line, fault_line, Opens, OpensHistory, EachElaborates, RefusedText, RefusedMap, RefusesToOpen};
+ghost use Rattle.rdl_run.specs.Resumed.{ResumesFrom};
+ghost use Rattle.rdl_run.specs.Sessions.{is_session, IsNoSession, FaultySession, OpensSession, RefusedSession};
 ghost use Rattle.rdl_run.specs.OpeningFaults.{IfRefusedToOpen};
 
 use crate::reading::{ReadingFault, map_of};
 use crate::reply::{fault_text, map_line, parse_fault_text};
+use crate::session_message::session_line;
+use journal_core::journal::Journal;
 use rdl_edit::edit::is_memory;
-use rdl_edit::map::Map;
+use rdl_edit::map::{Map, Resumed};
 use rdl_parse::fault::ParseFault;
 use rdl_parse::places::Places;
+use rdl_parse::session::parse_session;
 use rdl_text::byte_place;
 use rdl_text::name::Name;
 use rdl_tree::fault::Fault;
+use rdl_tree::session::SessionFault;
 use std::alloc::{AllocError, Global};
+use std::str;
 
-/// Why a map isn't opened.
+/// Why no map or session is opened.
 #[derive(Debug, Drop)]
 pub enum OpenFault {
     /// It is refused, with this message.
@@ -61,9 +70,9 @@ fn copied(alloc: Global, name: Option<&Name>) -> Result<Option<Name>, AllocError
 }
 
 /// The map that the bytes spell, if it has no fault.
-pub fn open(alloc: Global, bytes: &[u8], name: Option<&Name>) -> Result<Map, OpenFault>
+fn open_map(alloc: Global, bytes: &[u8], name: Option<&Name>) -> Result<Map, OpenFault>
     ensures opens { IfOk result (λ map. Opens (option_copied name.entry) bytes.now map) }
-    ensures refused { IfErr result (λ fault. IfRefusedToOpen fault (RefusesToOpen (option_copied name.entry) bytes.now)) }
+    ensures refused { IfErr result (λ fault. IfRefusedToOpen fault (λ text. RefusedText bytes.now text ⊎ RefusedMap (option_copied name.entry) bytes.now text)) }
 {
     let (description, places) = match map_of(alloc, bytes) {
         Ok(read) => read,
@@ -76,5 +85,81 @@ pub fn open(alloc: Global, bytes: &[u8], name: Option<&Name>) -> Result<Map, Ope
         Ok(map) => Ok(map),
         Err(fault) if is_memory(fault.kind) => Err(OpenFault::Memory),
         Err(fault) => Err(OpenFault::Refused(fault_line(alloc, &places, &fault)?)),
+    }
+}
+
+/// The session of the bytes, gone on with at its map.
+fn resumed(alloc: Global, bytes: &[u8], name: Option<&Name>) -> Result<Resumed, SessionFault>
+    ensures resumed { IfOk result (ResumesFrom (option_copied name.entry) bytes.now) }
+    ensures refused { IfErr result (λ fault. (fault ≡ Memory) ⊎ (IsNoSession bytes.now fault ⊎ FaultySession (option_copied name.entry) bytes.now fault)) }
+{
+    let Ok(text) = str::from_utf8(bytes) else {
+        return Err(SessionFault::NotASession);
+    };
+    let session = match parse_session(alloc, text) {
+        Ok(session) => session,
+        Err(fault) => return Err(fault),
+    };
+    let Ok(name) = copied(alloc, name) else {
+        return Err(SessionFault::Memory);
+    };
+    match Map::resume(alloc, session.map, name, session.undo, session.redo) {
+        Ok(resumed) => Ok(resumed),
+        Err(fault) => Err(fault),
+    }
+}
+
+fn refused_session(alloc: Global, fault: SessionFault) -> OpenFault
+    ensures { IfRefusedToOpen result (λ text. (text ≡ session_line fault) × (fault ≢ Memory)) }
+{
+    if let SessionFault::Memory = fault {
+        return OpenFault::Memory;
+    }
+    match session_line(alloc, &fault) {
+        Ok(message) => OpenFault::Refused(message),
+        Err(_) => OpenFault::Memory,
+    }
+}
+
+/// The history that a session holds, if each of its places elaborates.
+fn open_session(
+    alloc: Global,
+    bytes: &[u8],
+    name: Option<&Name>,
+    limit: u32,
+) -> Result<Journal<Map>, OpenFault>
+    requires { is_session bytes.now ≡ true }
+    ensures opens { IfOk result (λ journal. OpensSession (option_copied name.entry) limit bytes.now journal) }
+    ensures refused { IfErr result (λ fault. IfRefusedToOpen fault (RefusedSession (option_copied name.entry) bytes.now)) }
+{
+    match resumed(alloc, bytes, name) {
+        Ok(Resumed { map, undo, redo }) => Ok(Journal::resume(map, limit, undo, redo)),
+        Err(fault) => Err(refused_session(alloc, fault)),
+    }
+}
+
+fn is_session(bytes: &[u8]) -> bool
+    ensures { result ≡ is_session bytes.now }
+{
+    bytes.starts_with(b"regedit session 1\n")
+}
+
+/// The history that begins with the map that the bytes spell, or with the session.
+pub fn open(
+    alloc: Global,
+    bytes: &[u8],
+    name: Option<&Name>,
+    limit: u32,
+) -> Result<Journal<Map>, OpenFault>
+    ensures opens { IfOk result (λ journal. OpensHistory (option_copied name.entry) limit bytes.now journal) }
+    ensures elaborates { IfOk result (λ journal. EachElaborates journal) }
+    ensures refused { IfErr result (λ fault. IfRefusedToOpen fault (RefusesToOpen (option_copied name.entry) bytes.now)) }
+{
+    if is_session(bytes) {
+        return open_session(alloc, bytes, name, limit);
+    }
+    match open_map(alloc, bytes, name) {
+        Ok(map) => Ok(Journal::new(alloc, map, limit)),
+        Err(fault) => Err(fault),
     }
 }

@@ -9,10 +9,52 @@ pub enum Status {
     Accepted,
     /// Some line was refused.
     LineRefused,
-    /// The map was refused.
+    /// The map or the session was refused.
     MapRefused,
-    /// Two macros of the header have one name, whether or not a line was refused too.
-    HeaderClash,
+    /// A text is missing that was asked for, whether or not a line was refused too.
+    Incomplete(Missing),
+}
+
+/// Which texts are missing.
+#[derive(Clone, Copy, Debug, PartialEq, Eq, Drop)]
+pub enum Missing {
+    /// The header, of which two macros have one name.
+    Header,
+    /// The session, which is too long.
+    Session,
+    Both,
+}
+
+impl Status {
+    ghost use Rattle.std.specs.Prelude.{◌≡◌};
+    ghost use Rattle.rdl_run.specs.Missing.{has_map, has_header, has_session};
+
+    /// Whether there is a map to write.
+    pub fn has_map(self) -> bool
+        ensures { result ≡ has_map self }
+    {
+        self != Status::MapRefused
+    }
+
+    /// Whether there is a header to write.
+    pub fn has_header(self) -> bool
+        ensures { result ≡ has_header self }
+    {
+        !matches!(
+            self,
+            Status::MapRefused | Status::Incomplete(Missing::Header | Missing::Both)
+        )
+    }
+
+    /// Whether there is a session to write, if one is asked for.
+    pub fn has_session(self) -> bool
+        ensures { result ≡ has_session self }
+    {
+        !matches!(
+            self,
+            Status::MapRefused | Status::Incomplete(Missing::Session | Missing::Both)
+        )
+    }
 }
 
 /// Why a run stopped.

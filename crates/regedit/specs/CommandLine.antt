@@ -12,7 +12,7 @@ abbrev pub status_code : Status → ℕ
 status_code statuses.Accepted = 0
 status_code statuses.LineRefused = 1
 status_code statuses.MapRefused = 2
-status_code statuses.HeaderClash = 3
+status_code (statuses.Incomplete missing) = 3
 
 abbrev pub failure_code : Failure → ℕ
 failure_code (failures.Fault fault) = 4

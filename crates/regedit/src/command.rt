@@ -28,12 +28,13 @@ enum Failure {
     Fault(RunFault),
 }
 
-/// The texts of both outputs, and how the run ended that made them.
+/// The texts of the outputs, and how the run ended that made them.
 #[derive(Debug, Drop)]
 struct Texts {
     status: Status,
     rdl: Vec<u8>,
     header: Vec<u8>,
+    session: Vec<u8>,
 }
 
 fn status_code(status: Status) -> u8
@@ -43,7 +44,7 @@ fn status_code(status: Status) -> u8
         Status::Accepted => 0,
         Status::LineRefused => 1,
         Status::MapRefused => 2,
-        Status::HeaderClash => 3,
+        Status::Incomplete(_) => 3,
     }
 }
 
@@ -97,6 +98,7 @@ fn run_in_memory<R: Files, M: Write>(
     let mut script = open_input(rt, script)?;
     let mut rdl = Vec::new(alloc);
     let mut header = Vec::new(alloc);
+    let mut session = Vec::new(alloc);
     let status = run(
         alloc,
         &mut map,
@@ -104,17 +106,46 @@ fn run_in_memory<R: Files, M: Write>(
         options,
         &mut rdl,
         &mut header,
+        &mut session,
         messages,
     )?;
     Ok(Texts {
         status,
         rdl,
         header,
+        session,
     })
 }
 
-/// Runs the script of a line on its map. Both outputs are written only when the run has ended, neither where the map is
-/// refused, and the map's alone where two of the header's macros have one name.
+/// Writes the texts that there are to their files.
+fn write_texts<R: Files>(
+    rt: &R,
+    texts: &Texts,
+    rdl: &str,
+    header: &str,
+    session: Option<&str>,
+) -> Result<(), RunFault> {
+    if texts.status.has_map() {
+        write_file(rt, rdl, texts.rdl.as_slice())?;
+    }
+    if texts.status.has_header() {
+        write_file(rt, header, texts.header.as_slice())?;
+    }
+    match session {
+        Some(path) if texts.status.has_session() => write_file(rt, path, texts.session.as_slice()),
+        _ => Ok(()),
+    }
+}
+
+fn path_of(session: &Option<String>) -> Option<&str> {
+    match session {
+        Some(path) => Some(path.as_str()),
+        None => None,
+    }
+}
+
+/// Runs the script of a line on its map or session. The files are written only when the run has ended: none where the map is
+/// refused, and all but those whose text is missing.
 fn edit_files<R: Files, M: Write>(
     rt: &R,
     alloc: Global,
@@ -126,18 +157,18 @@ fn edit_files<R: Files, M: Write>(
         script,
         rdl,
         header,
+        session,
         top,
         history,
     } = line;
-    let options = Options { top, history };
+    let options = Options {
+        top,
+        history,
+        session: session.is_some(),
+    };
     let texts = run_in_memory(rt, alloc, map.as_str(), script.as_str(), &options, messages)?;
-    if texts.status == Status::MapRefused {
-        return Ok(texts.status);
-    }
-    write_file(rt, rdl.as_str(), texts.rdl.as_slice())?;
-    if texts.status != Status::HeaderClash {
-        write_file(rt, header.as_str(), texts.header.as_slice())?;
-    }
+    let session = path_of(&session);
+    write_texts(rt, &texts, rdl.as_str(), header.as_str(), session)?;
     Ok(texts.status)
 }
 

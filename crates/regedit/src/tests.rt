@@ -22,6 +22,8 @@ mod lines;
 mod map_faults;
 mod maps;
 mod mission;
+mod saving;
+mod sessions;
 mod stops;
 mod words;
 mod worked;
@@ -43,6 +45,7 @@ struct Written {
     status: Status,
     rdl: Vec<u8>,
     header: Vec<u8>,
+    session: Vec<u8>,
     messages: Vec<u8>,
 }
 
@@ -53,6 +56,10 @@ impl Written {
 
     fn header(&self) -> Result<&str, Fail> {
         Ok(str::from_utf8(self.header.as_slice())?)
+    }
+
+    fn session(&self) -> Result<&str, Fail> {
+        Ok(str::from_utf8(self.session.as_slice())?)
     }
 
     fn messages(&self) -> Result<&str, Fail> {
@@ -69,9 +76,11 @@ fn run_with<M: Read, S: Read, E: Write>(
     let options = Options {
         top: None,
         history: 10_000,
+        session: false,
     };
     let mut rdl: Vec<u8> = Vec::new(alloc);
     let mut header: Vec<u8> = Vec::new(alloc);
+    let mut session: Vec<u8> = Vec::new(alloc);
     run(
         alloc,
         map,
@@ -79,6 +88,7 @@ fn run_with<M: Read, S: Read, E: Write>(
         &options,
         &mut rdl,
         &mut header,
+        &mut session,
         messages,
     )
 }
@@ -91,6 +101,7 @@ fn write_by(
 ) -> Result<Written, RunFault> {
     let mut rdl = Vec::new(alloc);
     let mut header = Vec::new(alloc);
+    let mut session = Vec::new(alloc);
     let mut messages = Vec::new(alloc);
     let status = run(
         alloc,
@@ -99,18 +110,24 @@ fn write_by(
         options,
         &mut rdl,
         &mut header,
+        &mut session,
         &mut messages,
     )?;
     Ok(Written {
         status,
         rdl,
         header,
+        session,
         messages,
     })
 }
 
 fn write_with(alloc: Global, map: &[u8], script: &[u8], history: u32) -> Result<Written, RunFault> {
-    let options = Options { top: None, history };
+    let options = Options {
+        top: None,
+        history,
+        session: true,
+    };
     write_by(alloc, map, script, &options)
 }
 
@@ -119,6 +136,7 @@ fn write_top(alloc: Global, map: &str, script: &str, top: &str) -> Result<Writte
     let options = Options {
         top: Some(Name::new(alloc, top)?),
         history: 10_000,
+        session: true,
     };
     Ok(write_by(alloc, map.as_bytes(), script.as_bytes(), &options)?)
 }

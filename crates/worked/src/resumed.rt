@@ -6,6 +6,7 @@ ghost use Rattle.rdl_edit.specs.Backs.{prior, Fits};
 use crate::assert_same;
 use crate::edits::answer;
 use journal_core::journal::Journal;
+use rdl_edit::back::Back;
 use rdl_edit::map::{Map, Resumed};
 use rdl_parse::session::parse_session;
 use rdl_tree::patch::Patch;
@@ -152,6 +153,55 @@ fn the_limit_is_that_of_the_run(rt: HostRuntime) -> Result<(), Fail> {
         let found = answer(rt.alloc(), &mut journal, line)?;
         assert_same(&rt, found.as_str(), want, line);
     }
+    Ok(())
+}
+
+/// `read` for a step that was read from a session or takes back one that was, else `made`.
+fn push_mark(text: &mut String, back: Option<&Back>) -> Result<(), AllocError> {
+    match back {
+        Some(back) if back.read() => text.push_str("read "),
+        Some(_) => text.push_str("made "),
+        None => Ok(()),
+    }
+}
+
+/// The marks of the steps back, a bar, and those of the steps on, each with the next step to be taken first.
+fn marks(alloc: Global, journal: &Journal<Map>) -> Result<String, AllocError> {
+    let mut text = String::new(alloc);
+    for index in 0..journal.undo_len() {
+        push_mark(&mut text, journal.undo_at(index))?;
+    }
+    text.push_str("| ")?;
+    for index in 0..journal.redo_len() {
+        push_mark(&mut text, journal.redo_at(index))?;
+    }
+    Ok(text)
+}
+
+/// Lines that are accepted, and the marks behind each.
+const MARKED: [(&str, &str); 8] = [
+    ("redo", "read | "),
+    ("undo", "| read "),
+    ("redo", "read | "),
+    (ADD, "made read | "),
+    ("undo", "read | made "),
+    ("undo", "| read made "),
+    ("redo", "read | made "),
+    ("redo", "made read | "),
+];
+
+#[test]
+fn a_step_that_was_read_stays_marked(rt: HostRuntime) -> Result<(), Fail> {
+    let alloc = rt.alloc();
+    let mut journal = history(alloc, ONE_STEP_ON, 100)?;
+    assert_same(&rt, marks(alloc, &journal)?.as_str(), "| read ", "the start");
+    for (line, want) in MARKED.iter() {
+        let found = answer(alloc, &mut journal, line)?;
+        assert_same(&rt, found.as_str(), "", line);
+        assert_same(&rt, marks(alloc, &journal)?.as_str(), want, line);
+    }
+    let journal = history(alloc, ONE_STEP_BACK, 100)?;
+    assert_same(&rt, marks(alloc, &journal)?.as_str(), "read | ", "the other");
     Ok(())
 }
 

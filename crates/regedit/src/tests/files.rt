@@ -1,6 +1,7 @@
 //! The program on files.
 use super::headers::{CLASH, CLASH_MESSAGE, CLASH_WRITTEN};
 use super::mission::{HEADER, MESSAGES, SCRIPT, WRITTEN};
+use super::sessions::{AHEAD, BEHIND, REDONE};
 use super::{MAP, assert_same};
 use crate::command::command;
 use std::alloc::AllocError;
@@ -280,4 +281,49 @@ fn are_untouched_by_other_words(rt: HostRuntime) -> Result<(), Fail> {
         assert_refused(&rt, &rt, words)?;
     }
     Ok(())
+}
+
+/// Runs on these files, with the session in another.
+fn run_saving(rt: &HostRuntime, folder: &Folder, map: &str, script: &str) -> Result<Said, Fail> {
+    let map = folder.file(rt, map)?;
+    let script = folder.file(rt, script)?;
+    let rdl = folder.file(rt, "out.rdl")?;
+    let header = folder.file(rt, "out.h")?;
+    let session = folder.file(rt, "out.session")?;
+    let words = [
+        map.as_str(),
+        script.as_str(),
+        "--rdl",
+        rdl.as_str(),
+        "--header",
+        header.as_str(),
+        "--session",
+        session.as_str(),
+    ];
+    Ok(run_words(rt, &words))
+}
+
+fn assert_saved(abort: &impl Abort, rt: &HostRuntime, folder: &Folder) -> Result<(), Fail> {
+    write_each(
+        rt,
+        folder,
+        &[("old.session", AHEAD), ("redo.txt", "redo\nlist\n"), ("no.txt", "")],
+    )?;
+    let said = run_saving(rt, folder, "old.session", "redo.txt")?;
+    assert_says(abort, &said, (0, REDONE, ""))?;
+    assert_holds(abort, rt, folder, "out.session", BEHIND)?;
+    let said = run_saving(rt, folder, "no.txt", "no.txt")?;
+    assert_says(abort, &said, (2, "map:1:1: E13 no top\n", ""))?;
+    assert_holds(abort, rt, folder, "out.session", BEHIND)?;
+    let said = run_saving(rt, folder, "out.session", "no.txt")?;
+    assert_says(abort, &said, (0, "", ""))?;
+    assert_holds(abort, rt, folder, "out.session", BEHIND)
+}
+
+// The session may be read from the file to which it is written, and stays where the map is refused.
+#[test]
+fn of_sessions_are_written(rt: HostRuntime) -> Result<(), Fail> {
+    let folder = Folder::new(&rt, "session")?;
+    assert_saved(&rt, &rt, &folder)?;
+    folder.remove(&rt)
 }

@@ -1,6 +1,6 @@
 //! Headers.
 use super::{Written, assert_messages, assert_prints, assert_same, assert_writes, write};
-use rdl_run::status::Status;
+use rdl_run::status::{Missing, Status};
 use std::alloc::Global;
 use std::process::Abort;
 use std::test::Fail;
@@ -189,5 +189,5 @@ fn are_not_written_where_two_macros_have_one_name(rt: HostRuntime) -> Result<(),
 fn are_judged_behind_the_lines(rt: HostRuntime) -> Result<(), Fail> {
     let want =
         "script:1: J3 nothing to redo\nheader: H1 two macros with one name: top__a__b__c_bm\n";
-    assert_prints(&rt, rt.alloc(), CLASH, b"redo\n", Status::HeaderClash, want)
+    assert_prints(&rt, rt.alloc(), CLASH, b"redo\n", Status::Incomplete(Missing::Header), want)
 }

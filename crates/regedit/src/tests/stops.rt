@@ -75,19 +75,21 @@ struct Drips {
     messages: Drip,
     rdl: Drip,
     header: Drip,
+    session: Drip,
 }
 
 /// How many calls the two readers answer.
 type Calls = (usize, usize);
 
-/// How many bytes the messages, the map and the header take.
-type Rooms = (usize, usize, usize);
+/// How many bytes the messages, the map, the header and the session take.
+type Rooms = (usize, usize, usize, usize);
 
 fn writers(alloc: Global, rooms: Rooms) -> Drips {
     Drips {
         messages: Drip::new(alloc, rooms.0),
         rdl: Drip::new(alloc, rooms.1),
         header: Drip::new(alloc, rooms.2),
+        session: Drip::new(alloc, rooms.3),
     }
 }
 
@@ -95,6 +97,7 @@ fn run_into(alloc: Global, calls: Calls, drips: &mut Drips) -> Result<Status, Ru
     let options = Options {
         top: None,
         history: 10_000,
+        session: true,
     };
     let mut map = Trickle {
         calls: calls.0,
@@ -111,6 +114,7 @@ fn run_into(alloc: Global, calls: Calls, drips: &mut Drips) -> Result<Status, Ru
         &options,
         &mut drips.rdl,
         &mut drips.header,
+        &mut drips.session,
         &mut drips.messages,
     )
 }
@@ -135,14 +139,22 @@ fn assert_holds(
     assert_front(rt, &drips.messages, whole.messages.as_slice(), held.0);
     assert_front(rt, &drips.rdl, whole.rdl.as_slice(), held.1);
     assert_front(rt, &drips.header, whole.header.as_slice(), held.2);
+    assert_front(rt, &drips.session, whole.session.as_slice(), held.3);
 }
 
 const READ: Calls = (MANY, MANY);
 
-const TAKEN: Rooms = (MANY, MANY, MANY);
+const TAKEN: Rooms = (MANY, MANY, MANY, MANY);
+
+const NOTHING: Rooms = (0, 0, 0, 0);
 
 fn lens(whole: &Written) -> Rooms {
-    (whole.messages.len(), whole.rdl.len(), whole.header.len())
+    (
+        whole.messages.len(),
+        whole.rdl.len(),
+        whole.header.len(),
+        whole.session.len(),
+    )
 }
 
 fn whole(rt: &impl Abort, alloc: Global) -> Result<Written, Fail> {
@@ -174,7 +186,7 @@ fn at_each_read_of_the_map(rt: HostRuntime) -> Result<(), Fail> {
     let whole = whole(&rt, rt.alloc())?;
     for calls in 0..THREE.len() + 1 {
         let run = ((calls, MANY), TAKEN);
-        assert_holds(&rt, rt.alloc(), &whole, run, Err(RunFault::Read), (0, 0, 0));
+        assert_holds(&rt, rt.alloc(), &whole, run, Err(RunFault::Read), NOTHING);
     }
     Ok(())
 }
@@ -184,7 +196,7 @@ fn at_each_read_of_the_script(rt: HostRuntime) -> Result<(), Fail> {
     let whole = whole(&rt, rt.alloc())?;
     for calls in 0..SCRIPT.len() + 1 {
         let run = ((MANY, calls), TAKEN);
-        assert_holds(&rt, rt.alloc(), &whole, run, Err(RunFault::Read), (0, 0, 0));
+        assert_holds(&rt, rt.alloc(), &whole, run, Err(RunFault::Read), NOTHING);
     }
     Ok(())
 }
@@ -194,8 +206,8 @@ fn at_each_write_of_the_messages(rt: HostRuntime) -> Result<(), Fail> {
     let whole = whole(&rt, rt.alloc())?;
     let all = lens(&whole);
     for room in 0..all.0 {
-        let run = (READ, (room, MANY, MANY));
-        let held = (room, 0, 0);
+        let run = (READ, (room, MANY, MANY, MANY));
+        let held = (room, 0, 0, 0);
         assert_holds(&rt, rt.alloc(), &whole, run, Err(RunFault::Write), held);
     }
     Ok(())
@@ -206,8 +218,8 @@ fn at_each_write_of_the_map(rt: HostRuntime) -> Result<(), Fail> {
     let whole = whole(&rt, rt.alloc())?;
     let all = lens(&whole);
     for room in 0..all.1 {
-        let run = (READ, (MANY, room, MANY));
-        let held = (all.0, room, 0);
+        let run = (READ, (MANY, room, MANY, MANY));
+        let held = (all.0, room, 0, 0);
         assert_holds(&rt, rt.alloc(), &whole, run, Err(RunFault::Write), held);
     }
     Ok(())
@@ -218,8 +230,20 @@ fn at_each_write_of_the_header(rt: HostRuntime) -> Result<(), Fail> {
     let whole = whole(&rt, rt.alloc())?;
     let all = lens(&whole);
     for room in 0..all.2 {
-        let run = (READ, (MANY, MANY, room));
-        let held = (all.0, all.1, room);
+        let run = (READ, (MANY, MANY, room, MANY));
+        let held = (all.0, all.1, room, 0);
+        assert_holds(&rt, rt.alloc(), &whole, run, Err(RunFault::Write), held);
+    }
+    Ok(())
+}
+
+#[test]
+fn at_each_write_of_the_session(rt: HostRuntime) -> Result<(), Fail> {
+    let whole = whole(&rt, rt.alloc())?;
+    let all = lens(&whole);
+    for room in 0..all.3 {
+        let run = (READ, (MANY, MANY, MANY, room));
+        let held = (all.0, all.1, all.2, room);
         assert_holds(&rt, rt.alloc(), &whole, run, Err(RunFault::Write), held);
     }
     Ok(())
@@ -230,6 +254,7 @@ fn run_interrupted(alloc: Global, interrupts: Rooms) -> Result<Status, RunFault>
     drips.messages.interrupts = interrupts.0;
     drips.rdl.interrupts = interrupts.1;
     drips.header.interrupts = interrupts.2;
+    drips.session.interrupts = interrupts.3;
     run_into(alloc, READ, &mut drips)
 }
 
@@ -237,8 +262,13 @@ fn run_interrupted(alloc: Global, interrupts: Rooms) -> Result<Status, RunFault>
 #[test]
 fn at_too_many_interruptions(rt: HostRuntime) {
     let alloc = rt.alloc();
-    assert!(rt; run_interrupted(alloc, (1_000, 1_000, 1_000)) == Ok(Status::Accepted));
-    let cases = [(1_001, 0, 0), (0, 1_001, 0), (0, 0, 1_001)];
+    assert!(rt; run_interrupted(alloc, (1_000, 1_000, 1_000, 1_000)) == Ok(Status::Accepted));
+    let cases = [
+        (1_001, 0, 0, 0),
+        (0, 1_001, 0, 0),
+        (0, 0, 1_001, 0),
+        (0, 0, 0, 1_001),
+    ];
     for interrupts in cases {
         assert!(rt; run_interrupted(alloc, interrupts) == Err(RunFault::Write));
     }

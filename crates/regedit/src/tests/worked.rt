@@ -76,7 +76,7 @@ pub(super) const FOUR_WRITTEN: &str = "addrmap top {
 };
 ";
 
-const USED: &str = "reg T { field {} e; field {} f; };
+pub(super) const USED: &str = "reg T { field {} e; field {} f; };
 addrmap top { T u; T v; u.f->reset = 1; T w; v.f->reset = 0; v.e->sw = r; };";
 
 const USED_WRITTEN: &str = "reg T {

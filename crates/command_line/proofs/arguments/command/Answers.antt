@@ -15,4 +15,5 @@ returns c =
     let rdl = c.in_ok-arg-3.ensures.shape c.output.ensures.own ∙ ap₂ with_rule script c.output.ensures.rule in
     let header = c.in_ok-arg-4.ensures.shape c.output-2.ensures.own ∙ ap₂ with_rule rdl c.output-2.ensures.rule in
     let top = c.in_ok-arg-5.ensures.shape c.top.ensures.own ∙ ap₂ with_rule header c.top.ensures.rule in
-    IfOk-weaker c.arg-6.result _ _ (λ command adds. adds.shape c.history.ensures.own ∙ ap₂ with_rule top c.history.ensures.rule) c.arg-6.ensures
+    let history = c.in_ok-arg-6.ensures.shape c.history.ensures.own ∙ ap₂ with_rule top c.history.ensures.rule in
+    IfOk-weaker c.arg-7.result _ _ (λ command adds. adds.shape c.session.ensures.own ∙ ap₂ with_rule history c.session.ensures.rule) c.arg-7.ensures

@@ -1,7 +1,6 @@
 use Rattle.std.specs.Option.{option_copied}
-use Rattle.rdl_run.proofs.Opened.{opened}
+use Rattle.rdl_run.proofs.Opened.{all-elaborate}
 use Rattle.rdl_run.proofs.open.open.Goals as goal
 
-pub returns-in-Ok-open-clause-opens : goal.returns-in-Ok-open-clause-opens
-returns-in-Ok-open-clause-opens c =
-    opened (option_copied c.args.name) _ c.args.bytes.now _ _ c.in-Ok-open.map c.in-Ok.ensures.read c.in-Ok-open.ensures.ok c.in-Ok-open.ensures.accepted c.in_ok-copied.ensures
+pub returns-then-is_session-clause-elaborates : goal.returns-then-is_session-clause-elaborates
+returns-then-is_session-clause-elaborates c = all-elaborate (option_copied c.args.name) c.args.limit c.args.bytes.now c.open_session.result (λ j. j) c.open_session.ensures.opens

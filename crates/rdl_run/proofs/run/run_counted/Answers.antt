@@ -7,8 +7,8 @@ use Rattle.rdl_run.specs.Opening.{RefusesToOpen}
 use Rattle.rdl_run.specs.OpeningFaults.{IfRefusedToOpen}
 use Rattle.rdl_run.specs.declared.open.OpenFault.TheVariants.{Refused}
 use Rattle.rdl_run.specs.declared.status.RunFault.TheVariants.{Memory}
-use Rattle.rdl_run.proofs.RunLemmas.{refused_run}
-use Rattle.rdl_run.proofs.Stopped.{outputs, went, not_write, memory≢write, unwritten, failed_refusal}
+use Rattle.rdl_run.proofs.RunLemmas.{outputs, refused_run}
+use Rattle.rdl_run.proofs.Stopped.{went, not_write, memory≢write, unwritten, failed_refusal}
 use Rattle.rdl_run.proofs.run.run_counted.Goals as goal
 
 pub returns-in-Err-Refused-clause-ran : goal.returns-in-Err-Refused-clause-ran
@@ -22,27 +22,27 @@ returns-in-Err-Refused-clause-ran g c =
     let wrote : Appends (contents c.args.messages.now.writer.now) (contents c.write_counted.new.output.writer.now) (string_bytes c.in-Err-Refused.message) =
     subst (λ m. Appends (contents c.args.messages.now.writer.now) (contents c.write_counted.new.output.writer.now) (string_bytes m)) c.in-Err-Refused.message-is
     (subst (Appends (contents c.args.messages.now.writer.now) (contents c.write_counted.new.output.writer.now)) c.as_bytes.ensures.value c.in_ok-write_counted-in-Err-Refused.ensures.ok) in
-    refused_run c.args.options.now.top c.args.options.now.history _ _ _ _ _ _ _ _ _ c.in_ok-map_bytes.ensures.bytes c.in_ok-script_bytes.ensures.bytes refused wrote
+    refused_run c.args.options.now _ _ _ _ _ _ _ _ _ _ c.in_ok-map_bytes.ensures.bytes c.in_ok-script_bytes.ensures.bytes refused wrote
 
 pub returns-in_err-map_bytes-clause-faulted : goal.returns-in_err-map_bytes-clause-faulted
 returns-in_err-map_bytes-clause-faulted g c =
     let options = c.args.options.now in
     let map = g.M.Read.remaining c.args.map.now.reader.now in
     let script = g.S.Read.remaining c.args.script.now.reader.now in
-    let all = outputs (g.E.Write.contents c.args.messages.now.writer.now) (g.R.Write.contents c.args.rdl.now.writer.now) (g.H.Write.contents c.args.header.now.writer.now) in
+    let all = outputs (g.E.Write.contents c.args.messages.now.writer.now) (g.R.Write.contents c.args.rdl.now.writer.now) (g.H.Write.contents c.args.header.now.writer.now) (g.Z.Write.contents c.args.session.now.writer.now) in
     let fault = c.in_err-map_bytes.field-0.0 in
-    went c.from_residual.result fault (Faulted options.top options.history map script all all) c.from_residual.ensures.1
-    (unwritten options.top options.history map script fault all (not_write fault c.in_err-map_bytes.ensures.no_write))
+    went c.from_residual.result fault (Faulted options map script all all) c.from_residual.ensures.1
+    (unwritten options map script fault all (not_write fault c.in_err-map_bytes.ensures.no_write))
 
 pub returns-in_err-script_bytes-clause-faulted : goal.returns-in_err-script_bytes-clause-faulted
 returns-in_err-script_bytes-clause-faulted g c =
     let options = c.args.options.now in
     let map = g.M.Read.remaining c.args.map.now.reader.now in
     let script = g.S.Read.remaining c.args.script.now.reader.now in
-    let all = outputs (g.E.Write.contents c.args.messages.now.writer.now) (g.R.Write.contents c.args.rdl.now.writer.now) (g.H.Write.contents c.args.header.now.writer.now) in
+    let all = outputs (g.E.Write.contents c.args.messages.now.writer.now) (g.R.Write.contents c.args.rdl.now.writer.now) (g.H.Write.contents c.args.header.now.writer.now) (g.Z.Write.contents c.args.session.now.writer.now) in
     let fault = c.in_err-script_bytes.field-0.0 in
-    went c.from_residual-in_err-script_bytes.result fault (Faulted options.top options.history map script all all) c.from_residual-in_err-script_bytes.ensures.1
-    (unwritten options.top options.history map script fault all (not_write fault c.in_err-script_bytes.ensures.no_write))
+    went c.from_residual-in_err-script_bytes.result fault (Faulted options map script all all) c.from_residual-in_err-script_bytes.ensures.1
+    (unwritten options map script fault all (not_write fault c.in_err-script_bytes.ensures.no_write))
 
 pub returns-in_err-write_counted-in-Err-Refused-clause-faulted : goal.returns-in_err-write_counted-in-Err-Refused-clause-faulted
 returns-in_err-write_counted-in-Err-Refused-clause-faulted g c =
@@ -53,6 +53,7 @@ returns-in_err-write_counted-in-Err-Refused-clause-faulted g c =
     let m' = g.E.Write.contents c.write_counted.new.output.writer.now in
     let r = g.R.Write.contents c.args.rdl.now.writer.now in
     let h = g.H.Write.contents c.args.header.now.writer.now in
+    let z = g.Z.Write.contents c.args.session.now.writer.now in
     let refusal : IfRefusedToOpen (Refused c.in-Err-Refused.message) (RefusesToOpen (option_copied c.as_ref.result) c.as_slice.result.now) =
     subst (λ f. IfRefusedToOpen f (RefusesToOpen (option_copied c.as_ref.result) c.as_slice.result.now)) c.in-Err-Refused.field-0-is c.in-Err-Refused.ensures.refused in
     let refused : RefusesToOpen options.top c.in_ok-map_bytes.map_bytes.items (string_bytes c.in-Err-Refused.message) =
@@ -60,13 +61,13 @@ returns-in_err-write_counted-in-Err-Refused-clause-faulted g c =
     (subst (λ bytes. RefusesToOpen (option_copied c.as_ref.result) bytes (string_bytes c.in-Err-Refused.message)) c.as_slice.ensures.value refusal) in
     let wrote : AppendsFront m m' (string_bytes c.in-Err-Refused.message) =
     subst (λ text. AppendsFront m m' (string_bytes text)) c.in-Err-Refused.message-is (subst (AppendsFront m m') c.as_bytes.ensures.value c.in_err-write_counted-in-Err-Refused.ensures.err) in
-    let stopped = Faulted options.top options.history map script (outputs m r h) (outputs m' r h) in
+    let stopped = Faulted options map script (outputs m r h z) (outputs m' r h z) in
     went c.from_residual-in_err-write_counted-in-Err-Refused.result c.in_err-write_counted-in-Err-Refused.field-0.0 stopped c.from_residual-in_err-write_counted-in-Err-Refused.ensures.1
     (subst stopped (sym c.in_err-write_counted-in-Err-Refused.ensures.fault)
-    (failed_refusal options.top options.history map script _ _ _ m m' r h c.in_ok-map_bytes.ensures.bytes c.in_ok-script_bytes.ensures.bytes refused wrote))
+    (failed_refusal options map script _ _ _ m m' r h z c.in_ok-map_bytes.ensures.bytes c.in_ok-script_bytes.ensures.bytes refused wrote))
 
 pub returns-clause-faulted : goal.returns-clause-faulted
 returns-clause-faulted g c =
     let options = c.args.options.now in
-    let all = outputs (g.E.Write.contents c.args.messages.now.writer.now) (g.R.Write.contents c.args.rdl.now.writer.now) (g.H.Write.contents c.args.header.now.writer.now) in
-    unwritten options.top options.history (g.M.Read.remaining c.args.map.now.reader.now) (g.S.Read.remaining c.args.script.now.reader.now) Memory all memory≢write
+    let all = outputs (g.E.Write.contents c.args.messages.now.writer.now) (g.R.Write.contents c.args.rdl.now.writer.now) (g.H.Write.contents c.args.header.now.writer.now) (g.Z.Write.contents c.args.session.now.writer.now) in
+    unwritten options (g.M.Read.remaining c.args.map.now.reader.now) (g.S.Read.remaining c.args.script.now.reader.now) Memory all memory≢write

@@ -7,5 +7,5 @@ use Rattle.rdl_edit.proofs.map.MapInvertible.apply.Goals as goal
 pub returns-clause-fits : goal.returns-clause-fits
 returns-clause-fits c =
     let new : State = record { description = c.turn.new.description.items; option = c.self.inside.name } in
-    subst (Fits new) (sym c.from_vec.ensures)
+    subst (Fits new) (sym c.new.ensures)
     (fits-back _ _ c.self.inside.name c.self.inside.kept _ c.in_ok-back.ensures.back c.self.invariant)

@@ -1,0 +1,80 @@
+-- Steps that lead through the maps of a history.
+use Rattle.std.proofs.Common.{◌≡◌, ℕ, zero, suc, ◌+◌, ◌-◌, ◌<◌, ◌≤◌, List, [], ◌∷◌, ◌++◌, length, Option, Some, None, refl, sym, ap, ◌∙◌, subst, arith, length-append}
+use Rattle.std.specs.Prelude.{slice_get, map}
+use Rattle.std.proofs.lemmas.List.{length-map, map-append}
+use Rattle.std.proofs.lemmas.Option.{none-some}
+use Rattle.journal_core.specs.History.{LeadsBetween}
+use Rattle.rdl_tree.specs.declared.patch.Patch.{Patch}
+use Rattle.rdl_edit.specs.Backs.{Reversal, prior, Fits}
+use Rattle.rdl_edit.specs.Step.{State, HasRows}
+use Rattle.rdl_run.specs.Answers.{History'}
+use Rattle.rdl_run.specs.Opening.{AllHaveRows, EachElaborates}
+use Rattle.rdl_run.specs.Sessions.{LeadsAlong, LeadBack, LeadOn}
+use Rattle.rdl_run.proofs.Bounded.{rows-deep}
+use Rattle.rdl_run.proofs.Histories.{StateAt, state-at}
+use Rattle.rdl_run.proofs.Rebuilding.{rebuilt}
+
+-- what holds of each element with its number
+abbrev pub EachIs : {X : Type 0} → (ℕ → X → Type 0) → List X → Type 0
+EachIs {X} P xs = (i : ℕ) (x : X) → slice_get xs i ≡ Some x → P i x
+
+each-none : {X : Type 0} (P : ℕ → X → Type 0) → EachIs P []
+each-none P i x e = absurd (none-some x e)
+
+pub each-more : {X : Type 0} (P : ℕ → X → Type 0) (xs : List X) (y : X) → EachIs P xs → P (length xs) y → EachIs P (xs ++ y ∷ [])
+each-more P [] y h p zero x e = subst (P 0) (let same : y ≡ x = cc in same) p
+each-more P [] y h p (suc i) x e = absurd (none-some x e)
+each-more P (z ∷ zs) y h p zero x e = h 0 x e
+each-more P (z ∷ zs) y h p (suc i) x e = each-more (λ n. P (suc n)) zs y (λ n w. h (suc n) w) p i x e
+
+-- the same of what is seen of each element
+pub more-seen : {X Y : Type 0} (f : X → Y) (P : ℕ → Y → Type 0) (xs : List X) (x : X) → EachIs P (map f xs) → P (length xs) (f x) → EachIs P (map f (xs ++ x ∷ []))
+more-seen f P xs x h p = subst (EachIs P) (sym (map-append f xs (x ∷ []))) (each-more P (map f xs) (f x) h (subst (λ n. P n (f x)) (sym (length-map xs f)) p))
+
+-- a step of a history leads along its patches
+pub along : (states : List State) (from to : ℕ) (step : Reversal) → LeadsBetween prior Fits states from to step → LeadsAlong states from to step.patches
+along states from to step b = record { start = b.state; stood = b.stood; fit = b.fitted.applicable; end = prior b.state step; reached = b.led; led = refl }
+
+record Collected {X : Type 0} (P : ℕ → X → Type 0) (n : ℕ) : Type 0 where
+  all : List X
+  as_many : length all ≡ n
+  each : EachIs P all
+
+-- there is a list of so many, if there is one for each number
+collected : {X : Type 0} (P : ℕ → X → Type 0) (n : ℕ) → ((i : ℕ) → i < n → (x : X) × P i x) → Collected P n
+collected P zero one = record { all = []; as_many = refl; each = each-none P }
+collected P (suc n) one =
+    let before = collected P n (λ i l. one i (omega (arith, l))) in
+    let last = one n (omega arith) in
+    record {
+      all = before.all ++ last.0 ∷ [];
+      as_many = omega (arith, length-append before.all (last.0 ∷ []), before.as_many);
+      each = each-more P before.all last.0 before.each (subst (λ k. P k last.0) (sym before.as_many) last.1);
+    }
+
+-- patches lead from each place to each other
+lead-along : (ss : List State) → AllHaveRows ss → (from to : ℕ) → from < length ss → to < length ss → (step : List Patch) × LeadsAlong ss from to step
+lead-along ss rows from to l m =
+    let a = state-at ss from rows l in
+    let b = state-at ss to rows m in
+    let r = rebuilt a.now.description b.now.description (rows-deep b.now b.rows) in
+    (r.step, record { start = a.now; stood = a.at; fit = r.fit; end = b.now; reached = b.at; led = sym r.led })
+
+pub record Led (h : History') : Type 0 where
+  pub undo : List (List Patch)
+  pub redo : List (List Patch)
+  pub back : LeadBack h undo
+  pub on : LeadOn h redo
+
+pub led : (h : History') → EachElaborates h → Led h
+led h g =
+    let back = collected (λ i. LeadsAlong h.states (h.place - i) (h.place - i - 1)) h.place
+        (λ i l. lead-along h.states g.rows (h.place - i) (h.place - i - 1) (omega (arith, g.inside, l)) (omega (arith, g.inside, l))) in
+    let on = collected (λ i. LeadsAlong h.states (h.place + i) (h.place + i + 1)) (length h.states - h.place - 1)
+        (λ i l. lead-along h.states g.rows (h.place + i) (h.place + i + 1) (omega (arith, g.inside, l)) (omega (arith, g.inside, l))) in
+    record {
+      undo = back.all;
+      redo = on.all;
+      back = record { as_many = back.as_many; each = back.each };
+      on = record { as_many = omega (arith, on.as_many, g.inside); each = on.each };
+    }

@@ -1,0 +1,24 @@
+use Rattle.std.proofs.Common.{◌≡◌, ◌+◌, ◌-◌, ◌<◌, ◌∷◌, ◌++◌, [], inl, inr, length, map, sym, ap, ◌∙◌, subst, arith, rules, length-append}
+use Rattle.std.proofs.lemmas.Bool.{cases_lt}
+use Rattle.std.proofs.lemmas.Option.{none-some}
+use Rattle.journal_core.specs.History.{LeadsBetween}
+use Rattle.rdl_edit.specs.Backs.{prior, Fits}
+use Rattle.rdl_run.specs.Sessions.{LeadsAlong}
+use Rattle.rdl_run.proofs.Leading.{EachIs, along, more-seen}
+use Rattle.rdl_run.proofs.saving.steps_on.Goals as goal
+
+pub steps-preserved : goal.steps-preserved
+steps-preserved c =
+    let j = c.args.journal.now in
+    let xs = c.steps.steps.items in
+    let x = c.patches.result in
+    let pushed : c.push.new.self.items ≡ xs ++ x ∷ [] = search rules in
+    let step = c.in-Some.step.now in
+    let leads : LeadsBetween prior Fits j.states (j.place + length xs) (j.place + length xs + 1) step = search rules in
+    let seen : x.now ≡ step.patches = search rules in
+    let led : LeadsAlong j.states (j.place + length xs) (j.place + length xs + 1) x.now = subst (LeadsAlong j.states (j.place + length xs) (j.place + length xs + 1)) (sym seen) (along j.states (j.place + length xs) (j.place + length xs + 1) step leads) in
+    let room : j.place + length xs + 1 < length j.states = search rules in
+    record {
+      few = omega (arith, ap length pushed, length-append xs (x ∷ []), room);
+      each = subst (λ ys. EachIs (λ i. LeadsAlong j.states (j.place + i) (j.place + i + 1)) (map (λ step. step.now) ys)) (sym pushed) (more-seen (λ step. step.now) (λ i. LeadsAlong j.states (j.place + i) (j.place + i + 1)) xs x c.steps.invariant.each led);
+    }

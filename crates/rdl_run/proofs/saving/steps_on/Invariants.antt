@@ -1,0 +1,13 @@
+use Rattle.std.proofs.Common.{◌+◌, ◌-◌, ◌≤◌, length, map}
+use Rattle.rdl_run.specs.Sessions.{LeadsAlong}
+use Rattle.rdl_run.proofs.Leading.{EachIs}
+use Rattle.rdl_run.proofs.saving.steps_on.Given as goal
+
+abbrev pub invariant-steps : goal.invariant-steps
+invariant-steps l = record {
+  few : l.journal.place + length l.steps.items + 1 ≤ length l.journal.states;
+  each : EachIs (λ i. LeadsAlong l.journal.states (l.journal.place + i) (l.journal.place + i + 1)) (map (λ step. step.now) l.steps.items);
+}
+
+abbrev pub decreases-steps : goal.decreases-steps
+decreases-steps l = length l.journal.states - length l.steps.items
