@@ -1,5 +1,7 @@
+pub mod InOneBody
 pub mod KeepingLayouts
 pub mod NewNames
+pub mod OneBodyEdits
 pub mod Placings
 pub mod Staying
 pub mod StillEdits

@@ -31,18 +31,18 @@ use Rattle.rdl_elab.specs.Skeleton.{lays_out}
 use Rattle.rdl_edit.specs.Still.{is_still, IsStillPart, AreStill, is_still_edit}
 
 -- the item of a body at an address
-item-there : (way : List ℕ) (n : ℕ) (d b : Items) (x : Item) → body_at way d ≡ Some b → slice_get (list_of b) n ≡ Some x → item_at (way ++ n ∷ []) d ≡ Some x
+pub item-there : (way : List ℕ) (n : ℕ) (d b : Items) (x : Item) → body_at way d ≡ Some b → slice_get (list_of b) n ≡ Some x → item_at (way ++ n ∷ []) d ≡ Some x
 item-there way n d b x held is =
     found_at (way ++ n ∷ []) d b x (omega (arith, length-append way (n ∷ []))) (ap (λ p. body_at p d) (holder-place way n) ∙ held)
     (ap (slice_get (list_of b)) (number-place way n) ∙ is)
 
 -- what is found passes the test
-record IsFound (test : Item → Bool) (xs : List Item) (n : ℕ) : Type 0 where
-  item : Item
-  there : slice_get xs n ≡ Some item
-  passes : test item ≡ true
+pub record IsFound (test : Item → Bool) (xs : List Item) (n : ℕ) : Type 0 where
+  pub item : Item
+  pub there : slice_get xs n ≡ Some item
+  pub passes : test item ≡ true
 
-found : (test : Item → Bool) (xs : List Item) (n : ℕ) → position test xs ≡ Some n → IsFound test xs n
+pub found : (test : Item → Bool) (xs : List Item) (n : ℕ) → position test xs ≡ Some n → IsFound test xs n
 found test xs n e =
     let d : Item = Own [] (Number 0) in
     let h = position-Some test xs n d e in
@@ -79,7 +79,7 @@ still-value v (Own p w) e = e
 still-value v (Default p w) e = e
 still-value v (Dynamic t p w) e = e
 
-some-and : {X : Type 0} (o : Option X) (x : X) (P : X → Type 0) → o ≡ Some x → P x → IsSomeAnd o P
+pub some-and : {X : Type 0} (o : Option X) (x : X) (P : X → Type 0) → o ≡ Some x → P x → IsSomeAnd o P
 some-and o x P e h = subst (λ o. IsSomeAnd o P) (sym e) h
 
 module _ (d : Items) (way : List ℕ) (b : Items) (held : body_at way d ≡ Some b) where

@@ -1,4 +1,5 @@
 pub mod Backs
+pub mod Edited
 pub mod Faults
 pub mod Keeping
 pub mod Placing

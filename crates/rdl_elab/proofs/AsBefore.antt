@@ -108,7 +108,7 @@ for-none : (by_name : Bool) (x y : Item) → has_name y ≡ false → may_stand_
 for-none false x y h = h
 for-none true x y h = no-namesakes x y h
 
-zip-append : {A B : Type 0} (R : A → B → Type 0) (xs zs : List A) (ys ws : List B) → AllZip R xs ys → AllZip R zs ws → AllZip R (xs ++ zs) (ys ++ ws)
+pub zip-append : {A B : Type 0} (R : A → B → Type 0) (xs zs : List A) (ys ws : List B) → AllZip R xs ys → AllZip R zs ws → AllZip R (xs ++ zs) (ys ++ ws)
 zip-append R [] zs [] ws h g = g
 zip-append R [] zs (y ∷ ys) ws h g = absurd h
 zip-append R (x ∷ xs) zs [] ws h g = absurd h

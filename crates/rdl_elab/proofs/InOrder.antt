@@ -24,12 +24,12 @@ use Rattle.rdl_elab.proofs.StandingIn.{body-inside}
 
 -- ---- The definitions and instances of a body, in order.
 
-data Shape : Type 0 where
+pub data Shape : Type 0 where
   ended : Shape
   reference : Shape → Shape
   component_with : (inner : Shape) → (rest : Shape) → Shape
 
-abbrev shape : Items → Shape
+abbrev pub shape : Items → Shape
 shape no_items = ended
 shape (plain (named s t) rest) = reference (shape rest)
 shape (plain (own p v) rest) = shape rest
@@ -218,16 +218,18 @@ module _ (old : Items) where
   goes-on (holder (define y z) body rest) b a n k j x u there lies le clear e = component-on b a n k x there body rest (goes-on body) (goes-on rest) u j lies le clear e
   goes-on (holder (anonymous s z) body rest) b a n k j x u there lies le clear e = component-on b a n k x there body rest (goes-on body) (goes-on rest) u j lies le clear e
 
+-- ---- Of one shape.
+
+pub in-order : (old new : Items) → shape old ≡ shape new → stand_ins old [] new ≡ map Some (map (λ (c : Made). c.head.at) (all_written old))
+in-order old new same =
+    ap (λ c. stand_ins_in old [] [] (Some []) c 0 0 new) (by-place [] old new same)
+    ∙ goes-on old new [] [] 0 0 0 old old refl (all-lies old) (omega arith) (clear-none 0 (list_of old)) same ∙ ap (map Some) (written-at old nothing [] 0)
+
 -- ---- Of one skeleton.
 
 module _ (old new : Items) (same : skeleton old ≡ skeleton new) where
   same-shape : shape old ≡ shape new
   same-shape = shape-skeleton old [] ∙ ap shape same ∙ sym (shape-skeleton new [])
-
-  all-stand : stand_ins old [] new ≡ map Some (addresses [] 0 old)
-  all-stand =
-      ap (λ c. stand_ins_in old [] [] (Some []) c 0 0 new) (by-place [] old new same-shape)
-      ∙ goes-on old new [] [] 0 0 0 old old refl (all-lies old) (omega arith) (clear-none 0 (list_of old)) same-shape
 
   all-same : all_made old ≡ all_made new
   all-same = skeleton-made old ∙ ap all_made same ∙ sym (skeleton-made new)
@@ -237,7 +239,7 @@ module _ (old new : Items) (same : skeleton old ≡ skeleton new) where
   one-same k kept c e f = by (slice_get (all_written old) k) refl
     where
       stands : slice_get (map Some (map (λ (c : Made). c.head.at) (all_written old))) k ≡ Some kept
-      stands = ap (λ xs. slice_get xs k) (ap (map Some) (sym (written-at old nothing [] 0)) ∙ sym all-stand) ∙ e
+      stands = ap (λ xs. slice_get xs k) (sym (in-order old new same-shape)) ∙ e
 
       made : option_map made_of (slice_get (all_written old) k) ≡ Some (made_of c)
       made = sym (slice_get-map made_of (all_written old) k) ∙ ap (λ xs. slice_get xs k) all-same ∙ slice_get-map made_of (all_written new) k ∙ ap (option_map made_of) f

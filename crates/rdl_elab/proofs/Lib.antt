@@ -1,5 +1,6 @@
 pub mod Examples
 pub mod StandInExamples
+pub mod ReachExamples
 pub mod KeptValues
 pub mod Rounding
 pub mod CappedNumbers
@@ -47,5 +48,8 @@ pub mod AllTaken
 pub mod StandingIn
 pub mod AsBefore
 pub mod Reaching
+pub mod InReach
 pub mod Skeletons
 pub mod InOrder
+pub mod Beside
+pub mod Unedited

@@ -25,7 +25,7 @@ use Rattle.rdl_elab.proofs.Reaching.{same-each}
 -- ---- Properties.
 
 -- a property that lays something out has another name than one that doesn't
-lays-out : (p : Property) (name : List ℕ) → (row p).layout ≡ true → lays_out name ≡ false → bytes_eq name (row p).name ≡ false
+pub lays-out : (p : Property) (name : List ℕ) → (row p).layout ≡ true → lays_out name ≡ false → bytes_eq name (row p).name ≡ false
 lays-out p name shows silent = by (cases_Bool (bytes_eq name (row p).name))
   where
     by : ((bytes_eq name (row p).name ≡ true) ⊎ (bytes_eq name (row p).name ≡ false)) → bytes_eq name (row p).name ≡ false
@@ -88,7 +88,7 @@ number-less (n ∷ scope) t k e = by (bytes_eq n t) (number-less scope t k) e
     by false ih e = omega (arith, ih e)
 
 -- a type of a smaller number has another name
-other-number : (scope : List (List ℕ)) (t : List ℕ) (o : Option ℕ) → number_in scope t ≡ o → bytes_eq (length scope ∷ []) (skeleton_type o) ≡ false
+pub other-number : (scope : List (List ℕ)) (t : List ℕ) (o : Option ℕ) → number_in scope t ≡ o → bytes_eq (length scope ∷ []) (skeleton_type o) ≡ false
 other-number scope t o is = by (cases_Bool (bytes_eq (length scope ∷ []) (skeleton_type o)))
   where
     apart : (o : Option ℕ) → number_in scope t ≡ o → length scope ∷ [] ≡ skeleton_type o → ⊥
@@ -99,7 +99,7 @@ other-number scope t o is = by (cases_Bool (bytes_eq (length scope ∷ []) (skel
     by (inl e) = absurd (apart o is ((bytes_eq-Decides (length scope ∷ []) (skeleton_type o)).0 e))
     by (inr e) = e
 
-own-number : (k : ℕ) → bytes_eq (k ∷ []) (k ∷ []) ≡ true
+pub own-number : (k : ℕ) → bytes_eq (k ∷ []) (k ∷ []) ≡ true
 own-number k = (bytes_eq-Decides (k ∷ []) (k ∷ [])).1 refl
 
 type-same : (t : List ℕ) (ts us : List (List ℕ × Made)) → SameTypes ts us → option_map made_of (lookup t ts) ≡ option_map made_of (lookup (skeleton_type (number_in (names ts) t)) us)

@@ -1,9 +1,11 @@
 -- Which bodies an edit reaches: those that it edits, and those that hold an instance whose component's body is in reach. Every other
 -- component is laid out as before.
 -- own: SystemRDL 2.0 says how components are laid out, and nothing of edits.
-use Rattle.std.specs.Prelude.{◌≡◌, ℕ, Bool, false, ◌||◌, List, Option, Some, None, option_and_then, slice_get}
+use Rattle.std.specs.Prelude.{◌≡◌, ℕ, Bool, true, false, ◌||◌, List, Option, Some, None, option_and_then, slice_get}
 use Rattle.rdl_tree.specs.Items.{Items}
 use Rattle.rdl_tree.specs.declared.shell.Shell.{Shell}
+use Rattle.rdl_scope.specs.Target.{body_of}
+use Rattle.rdl_scope.specs.Types.{component_of}
 use Rattle.rdl_scope.specs.Closed.{Parts, no_parts, part, Made, component}
 use Rattle.rdl_elab.specs.Layouts.{values_of}
 use Rattle.rdl_elab.specs.Numbers.{number}
@@ -19,6 +21,12 @@ leads_there edited (part at s h inside rest) = edited h.at || leads_there edited
 -- a body is in reach if it is edited, or holds an instance whose component's body is in reach
 abbrev pub in_reach : (List ℕ → Bool) → Items → List ℕ → Bool
 in_reach edited d a = edited a || elim (component d a) [ None ↦ false | Some c ↦ leads_there edited c.parts ]
+
+-- the same in words of the searches: a body is in reach if it is edited, or if one of its items is an instance whose component's body is
+-- in reach. A law says that only such bodies are in reach
+pub data IsInReach (edited : List ℕ → Bool) (d : Items) : List ℕ → Type 0 where
+  itself : (a : List ℕ) → edited a ≡ true → IsInReach edited d a
+  through : (a at b : List ℕ) → body_of at ≡ a → component_of d at ≡ Some b → IsInReach edited d b → IsInReach edited d a
 
 -- ---- What an edit leaves as it was.
 

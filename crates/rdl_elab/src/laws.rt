@@ -26,9 +26,9 @@ ghost use Rattle.rdl_elab.specs.Reaches.{reaches, reaches_at, behind, along, rea
 ghost use Rattle.rdl_elab.specs.Found.{ArePartsFound};
 ghost use Rattle.rdl_elab.specs.Faults.{overlap, SharesANumber};
 ghost use Rattle.rdl_elab.specs.AllKept.{IsAsBeforeBut, instances_at};
-ghost use Rattle.rdl_elab.specs.Reach.{in_reach, AreUnchangedBut};
+ghost use Rattle.rdl_elab.specs.Reach.{in_reach, IsInReach, AreUnchangedBut};
 ghost use Rattle.rdl_elab.specs.Written.{all_layouts};
-ghost use Rattle.rdl_elab.specs.Skeleton.{skeleton};
+ghost use Rattle.rdl_elab.specs.Skeleton.{skeleton, skeleton_beside};
 
 /// An instance without `@` begins at the least number that is at least the end of the instance before it and a multiple
 /// of each of its alignments; and an array in fullalign is aligned by the least power of two that holds it.
@@ -107,4 +107,16 @@ pub fn layouts_are_of_skeletons()
 /// places nothing.
 pub fn same_skeletons_are_as_before()
     ensures { (old new : Items) → skeleton old ≡ skeleton new → IsAsBeforeBut (λ a. false) old [] new }
+{}
+
+/// Where two descriptions are one beside some bodies, and no body is named, every component is unchanged but for those of
+/// these bodies.
+pub fn beside_edited_bodies_all_is_unchanged()
+    ensures { (edited : List ℕ → Bool) (old new : Items) → skeleton_beside edited old ≡ skeleton_beside edited new → AreUnchangedBut edited old [] new }
+{}
+
+/// A body that is in reach is edited, or holds an instance whose component's body is in reach, as the searches through
+/// whole bodies find it.
+pub fn reach_is_as_found()
+    ensures { (edited : List ℕ → Bool) (d : Items) (a : List ℕ) → in_reach edited d a ≡ true → IsInReach edited d a }
 {}
