@@ -92,15 +92,15 @@ moves-fates f (holder h body rest) b n =
     moves-append (fate_patches f b (suc n) rest) (item_patches at (f at (holder_item h body)) (fate_patches f at 0 body)) (moves-fates f rest b (suc n))
     (moves-item at (f at (holder_item h body)) (fate_patches f at 0 body) (moves-fates f body at 0))
 
-moves-set : (way : List ℕ) (o : Option ℕ) (v : Value) (n : ℕ) (x : Item) → moves_any (set_or_insert way o v n x) ≡ false
+pub moves-set : (way : List ℕ) (o : Option ℕ) (v : Value) (n : ℕ) (x : Item) → moves_any (set_or_insert way o v n x) ≡ false
 moves-set way None v n x = refl
 moves-set way (Some k) v n x = refl
 
-moves-drop : (way : List ℕ) (o : Option ℕ) → moves_any (drop_at way o) ≡ false
+pub moves-drop : (way : List ℕ) (o : Option ℕ) → moves_any (drop_at way o) ≡ false
 moves-drop way None = refl
 moves-drop way (Some k) = refl
 
-moves-shell : (change : Shell → Shell) (at : List ℕ) (o : Option Item) → moves_any (reshape change at o) ≡ false
+pub moves-shell : (change : Shell → Shell) (at : List ℕ) (o : Option Item) → moves_any (reshape change at o) ≡ false
 moves-shell change at None = refl
 moves-shell change at (Some (Define n c)) = refl
 moves-shell change at (Some (Instance s o)) = refl

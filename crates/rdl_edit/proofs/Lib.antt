@@ -2,6 +2,7 @@ pub mod InOneBody
 pub mod KeepingLayouts
 pub mod NewNames
 pub mod OneBodyEdits
+pub mod OneBodySteps
 pub mod Placings
 pub mod Staying
 pub mod StillEdits

@@ -45,7 +45,7 @@ back-keeps ps back old new fit made is k =
     (record { in_place = moves-back ps old k.in_place; stays = ap skeleton (image-inverses ps old fit) ∙ sym k.stays }))
 
 -- no item is moved, so no body is named
-none-reordered : (ps : List Patch) → moves_any ps ≡ false → reordered ps ≡ []
+pub none-reordered : (ps : List Patch) → moves_any ps ≡ false → reordered ps ≡ []
 none-reordered [] h = refl
 none-reordered (Insert at x ∷ ps) h = none-reordered ps h
 none-reordered (Delete at ∷ ps) h = none-reordered ps h

@@ -2,7 +2,10 @@
 ghost use Rattle.std.specs.Prelude.{◌≡◌, ◌⊎◌, ◌≤◌, ◌*◌, true, false, map, None, Some, Ok, Err, IfOk, IfErr, OnOk, OnErr, option_copied};
 ghost use Rattle.rdl_elab.specs.Faults.{elaborated};
 ghost use Rattle.rdl_scope.specs.ItemFaults.{out_of_memory};
-ghost use Rattle.rdl_elab.specs.AllKept.{AreOf, all_instances};
+ghost use Rattle.rdl_elab.specs.AllKept.{AreOf, all_instances, instances_at};
+ghost use Rattle.rdl_elab.specs.Reach.{in_reach};
+ghost use Rattle.rdl_tree.specs.Patch.{inverses};
+ghost use Rattle.rdl_edit.specs.Edited.{body_of_edit, is_of_one_body, only};
 ghost use Rattle.rdl_edit.specs.Step.{HasRows, Leads, Refuses};
 ghost use Rattle.journal_core.specs.Along.{FitInTurn};
 ghost use Rattle.rdl_tree.specs.declared.session.SessionFault.{SessionFault};
@@ -208,8 +211,10 @@ impl Invertible for Map {
         ensures fits { IfOk result (λ back. Fits self.new.state back) }
         ensures back { IfOk result (λ back. prior self.new.state back ≡ self.old.state) }
         ensures mark { IfOk result (λ back. back.read ≡ false) }
+        ensures inverse { IfOk result (λ back. back.patches ≡ inverses (patches self.old.state.description edit.now) self.old.state.description) }
         ensures cost { IfOk result (λ back. IsCheap (patches self.old.state.description edit.now) self.old.state.description back.patches) }
         ensures few { OnOk result (IsFew self.old.state.description (patches self.old.state.description edit.now) self.new.state.description self.new.placed) }
+        ensures one_body { OnOk result (is_of_one_body edit.now ≡ true → self.new.placed ≤ 3 * instances_at (in_reach (only (body_of_edit self.old.state.description edit.now)) self.new.state.description) self.new.state.description) }
         ensures none { OnOk result (keeps_layouts edit.now ≡ true → self.new.placed ≡ 0) }
         ensures back_keeps { IfOk result (λ back. keeps_layouts edit.now ≡ true → KeepsLayouts back.patches self.new.state.description) }
         ensures refused { IfErr result (λ refusal. Refuses self.old.state edit.now refusal) }
@@ -228,6 +233,7 @@ impl Invertible for Map {
         ensures fits { IfOk result (λ forward. Fits self.new.state forward) }
         ensures back { IfOk result (λ forward. prior self.new.state forward ≡ self.old.state) }
         ensures mark { IfOk result (λ forward. forward.read ≡ back.read) }
+        ensures inverse { IfOk result (λ forward. forward.patches ≡ inverses back.patches self.old.state.description) }
         ensures cost { IfOk result (λ forward. IsCheap back.patches self.old.state.description forward.patches) }
         ensures few { OnOk result (IsFew self.old.state.description back.patches self.new.state.description self.new.placed) }
         ensures none { OnOk result (KeepsLayouts back.patches self.old.state.description → self.new.placed ≡ 0) }

@@ -2,7 +2,7 @@
 ghost use Rattle.std.specs.Prelude.{◌≡◌, ◌≤◌, IfOk, IfErr, OnOk, OnErr, option_copied};
 ghost use Rattle.rdl_elab.specs.AllKept.{AreOf};
 ghost use Rattle.rdl_tree.specs.Depth.{depth};
-ghost use Rattle.rdl_tree.specs.Patch.{AllFit, image};
+ghost use Rattle.rdl_tree.specs.Patch.{AllFit, image, inverses};
 ghost use Rattle.rdl_edit.specs.Backs.{IsWayBack, IsCheap};
 ghost use Rattle.rdl_edit.specs.Faults.{refused};
 ghost use Rattle.rdl_edit.specs.Step.{IsJudged};
@@ -59,6 +59,7 @@ pub(crate) fn turn(
     ensures few { OnOk result (kept.old.description ≡ description.old.items → IsFew description.old.items patches.items (image patches.items description.old.items) kept.new.placed) }
     ensures none { OnOk result (kept.old.description ≡ description.old.items → KeepsLayouts patches.items description.old.items → kept.new.placed ≡ 0) }
     ensures back_keeps { IfOk result (λ back. KeepsLayouts patches.items description.old.items → KeepsLayouts back.items description.new.items) }
+    ensures inverse { IfOk result (λ back. back.items ≡ inverses patches.items description.old.items) }
     ensures back { IfOk result (λ back. IsWayBack description.old.items description.new.items back.items) }
     ensures cost { IfOk result (λ back. IsCheap patches.items description.old.items back.items) }
     ensures refused { IfErr result (IsJudged (record { description = image patches.items description.old.items; option = option_copied name.entry })) }
@@ -94,6 +95,7 @@ pub(crate) fn again(
     ensures few { OnOk result (kept.old.description ≡ description.old.items → IsFew description.old.items patches.items (image patches.items description.old.items) kept.new.placed) }
     ensures none { OnOk result (kept.old.description ≡ description.old.items → KeepsLayouts patches.items description.old.items → kept.new.placed ≡ 0) }
     ensures back_keeps { IfOk result (λ back. KeepsLayouts patches.items description.old.items → KeepsLayouts back.items description.new.items) }
+    ensures inverse { IfOk result (λ back. back.items ≡ inverses patches.items description.old.items) }
     ensures back { IfOk result (λ back. IsWayBack description.old.items description.new.items back.items) }
     ensures cost { IfOk result (λ back. IsCheap patches.items description.old.items back.items) }
     ensures handed { IfErr result (λ same. same.items ≡ patches.items) }

@@ -5,6 +5,7 @@ use Rattle.rdl_tree.specs.Patch.{image}
 use Rattle.rdl_rewrite.specs.Patches.{patches}
 use Rattle.rdl_rewrite.specs.Rewritten.{rewritten}
 use Rattle.rdl_edit.specs.Placing.{KeepsLayouts}
+use Rattle.rdl_edit.proofs.OneBodySteps.{one-body-placed}
 use Rattle.rdl_edit.proofs.Placings.{few-there, edit-keeps}
 use Rattle.rdl_edit.proofs.WaysBack.{fits-back}
 use Rattle.rdl_edit.proofs.map.MapInvertible.apply.Goals as goal
@@ -39,3 +40,13 @@ returns-clause-back_keeps c = λ h.
     let back : c.in_ok-back.back.items ≡ c.new.result.patches = search rules in
     subst (λ qs. KeepsLayouts qs c.turn.new.description.items) back
     (c.in_ok-back.ensures.back_keeps (edit-keeps s c.self.inside.kept c.args.edit.now c.in_ok-patches.patches.items c.self.invariant made which h))
+
+pub returns-clause-one_body : goal.returns-clause-one_body
+returns-clause-one_body c = λ h.
+    let d = c.args.self.now.state.description in
+    let same : c.self.inside.description.items ≡ d = search rules in
+    let which : c.in_ok-patches.patches.items ≡ patches c.self.inside.description.items c.args.edit.now = search rules in
+    let asked : c.in_ok-patches.patches.items ≡ patches d c.args.edit.now = which ∙ ap (λ t. patches t c.args.edit.now) same in
+    let made : c.turn.new.description.items ≡ image (patches d c.args.edit.now) d =
+        c.in_ok-back.ensures.made ∙ ap (λ ps. image ps c.self.inside.description.items) asked ∙ ap (image (patches d c.args.edit.now)) same in
+    one-body-placed d c.turn.new.description.items c.args.edit.now _ made (returns-clause-few c) h
