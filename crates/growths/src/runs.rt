@@ -186,7 +186,6 @@ script:9: C2 bad operands
     rdl: "reg T {
     field {
     } f;
-    session: "",
 };
 addrmap top {
     T u;
@@ -220,6 +219,7 @@ addrmap top {
 #define top__w__f_bw 1
 #endif
 ",
+    session: "",
 };
 
 #[test]
@@ -320,10 +320,10 @@ const CLASHING: Case = Case {
         field {
         } b__c;
     } a;
-    session: "",
 };
 ",
     header: "",
+    session: "",
 };
 
 #[test]

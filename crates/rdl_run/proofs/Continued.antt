@@ -100,7 +100,7 @@ has_output options map script = by (opened_or_refused options.top options.histor
     by : OpenedHistory options.top options.history map ⊎ NotOpened options.top map → HasOutput options map script
     by (inl o) =
         let c = continued options.session o.first script (opened-elaborates options.top options.history map o.first o.opens) [] (lines_of script) refl [] false o.first
-            (record { replies = []; ran = refl; text_is = refl; refuses_is = refl }) in
+        (record { replies = []; ran = refl; text_is = refl; refuses_is = refl }) in
         record { out = c.out; is_output = inr (record { first = o.first; opens = o.opens; runs = c.runs }) }
     by (inr n) = record {
       out = record { messages = n.message; rdl = []; header = []; session = []; status = MapRefused };

@@ -69,9 +69,9 @@ pub record Led (h : History') : Type 0 where
 pub led : (h : History') → EachElaborates h → Led h
 led h g =
     let back = collected (λ i. LeadsAlong h.states (h.place - i) (h.place - i - 1)) h.place
-        (λ i l. lead-along h.states g.rows (h.place - i) (h.place - i - 1) (omega (arith, g.inside, l)) (omega (arith, g.inside, l))) in
+    (λ i l. lead-along h.states g.rows (h.place - i) (h.place - i - 1) (omega (arith, g.inside, l)) (omega (arith, g.inside, l))) in
     let on = collected (λ i. LeadsAlong h.states (h.place + i) (h.place + i + 1)) (length h.states - h.place - 1)
-        (λ i l. lead-along h.states g.rows (h.place + i) (h.place + i + 1) (omega (arith, g.inside, l)) (omega (arith, g.inside, l))) in
+    (λ i l. lead-along h.states g.rows (h.place + i) (h.place + i + 1) (omega (arith, g.inside, l)) (omega (arith, g.inside, l))) in
     record {
       undo = back.all;
       redo = on.all;

@@ -11,7 +11,7 @@ mod part;
 mod reading;
 mod reply;
 pub mod run;
-mod serve;
 mod saving;
+mod serve;
 mod session_message;
 pub mod status;

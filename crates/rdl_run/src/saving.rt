@@ -15,10 +15,7 @@ use rdl_write::session;
 use std::alloc::{AllocError, Global};
 
 /// The steps that lead back, the next one first.
-fn steps_back<'a>(
-    alloc: Global,
-    journal: &'a Journal<Map>,
-) -> Result<Vec<&'a [Patch]>, AllocError>
+fn steps_back<'a>(alloc: Global, journal: &'a Journal<Map>) -> Result<Vec<&'a [Patch]>, AllocError>
     ensures { IfOk result (λ steps. LeadBack journal.entry.now (map (λ step. step.now) steps.items)) }
 {
     let mut steps = Vec::with_capacity(alloc, journal.undo_len())?;

@@ -307,7 +307,11 @@ fn assert_saved(abort: &impl Abort, rt: &HostRuntime, folder: &Folder) -> Result
     write_each(
         rt,
         folder,
-        &[("old.session", AHEAD), ("redo.txt", "redo\nlist\n"), ("no.txt", "")],
+        &[
+            ("old.session", AHEAD),
+            ("redo.txt", "redo\nlist\n"),
+            ("no.txt", ""),
+        ],
     )?;
     let said = run_saving(rt, folder, "old.session", "redo.txt")?;
     assert_says(abort, &said, (0, REDONE, ""))?;

@@ -189,5 +189,12 @@ fn are_not_written_where_two_macros_have_one_name(rt: HostRuntime) -> Result<(),
 fn are_judged_behind_the_lines(rt: HostRuntime) -> Result<(), Fail> {
     let want =
         "script:1: J3 nothing to redo\nheader: H1 two macros with one name: top__a__b__c_bm\n";
-    assert_prints(&rt, rt.alloc(), CLASH, b"redo\n", Status::Incomplete(Missing::Header), want)
+    assert_prints(
+        &rt,
+        rt.alloc(),
+        CLASH,
+        b"redo\n",
+        Status::Incomplete(Missing::Header),
+        want,
+    )
 }

@@ -127,7 +127,8 @@ fn are_refused_by_their_first_fault(rt: HostRuntime) -> Result<(), Fail> {
         MISFIT,
         "session: Z2 a patch does not fit at redo 1\n",
     )?;
-    let at_redo = "session: Z3 a place does not elaborate at redo 1: E21 field past register at item 0.0.0\n";
+    let at_redo =
+        "session: Z3 a place does not elaborate at redo 1: E21 field past register at item 0.0.0\n";
     assert_refused(&rt, alloc, FAULTY, at_redo)
 }
 
@@ -193,8 +194,14 @@ fn are_full_at_their_limit(rt: HostRuntime) -> Result<(), Fail> {
 fn have_a_map_of_their_own(rt: HostRuntime) -> Result<(), Fail> {
     let written: Written = write(rt.alloc(), "addrmap top {};", "")?;
     assert_rdl(&rt, &written, "the map", "addrmap top {\n};\n")?;
-    let session =
-        "regedit session 1\nmap 17\naddrmap top {\n};\nundo 0\nredo 0\nend\n";
+    let session = "regedit session 1\nmap 17\naddrmap top {\n};\nundo 0\nredo 0\nend\n";
     assert_same(&rt, written.session()?, session, "the session");
-    assert_prints(&rt, rt.alloc(), session, b"undo\n", Status::LineRefused, "script:1: J2 nothing to undo\n")
+    assert_prints(
+        &rt,
+        rt.alloc(),
+        session,
+        b"undo\n",
+        Status::LineRefused,
+        "script:1: J2 nothing to undo\n",
+    )
 }

@@ -48,5 +48,5 @@ returns-clause-one_body c = λ h.
     let which : c.in_ok-patches.patches.items ≡ patches c.self.inside.description.items c.args.edit.now = search rules in
     let asked : c.in_ok-patches.patches.items ≡ patches d c.args.edit.now = which ∙ ap (λ t. patches t c.args.edit.now) same in
     let made : c.turn.new.description.items ≡ image (patches d c.args.edit.now) d =
-        c.in_ok-back.ensures.made ∙ ap (λ ps. image ps c.self.inside.description.items) asked ∙ ap (image (patches d c.args.edit.now)) same in
+    c.in_ok-back.ensures.made ∙ ap (λ ps. image ps c.self.inside.description.items) asked ∙ ap (image (patches d c.args.edit.now)) same in
     one-body-placed d c.turn.new.description.items c.args.edit.now _ made (returns-clause-few c) h
