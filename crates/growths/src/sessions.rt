@@ -91,8 +91,8 @@ fn write_answer(alloc: Global, read: &Session) -> Answer {
 // ---- Going on.
 
 fn resumed(alloc: Global, session: Session) -> Result<Resumed, SessionFault>
-    ensures undo { IfOk result (λ r. FitInTurn prior Fits r.map r.undo.items) }
-    ensures redo { IfOk result (λ r. FitInTurn prior Fits r.map r.redo.items) }
+    ensures undo { IfOk result (λ r. FitInTurn prior Fits r.map.state r.undo.items) }
+    ensures redo { IfOk result (λ r. FitInTurn prior Fits r.map.state r.redo.items) }
 {
     Map::resume(alloc, session.map, None, session.undo, session.redo)
 }

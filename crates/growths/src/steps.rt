@@ -83,7 +83,7 @@ fn whole<T: Debug>(alloc: Global, value: &T) -> Answer {
 }
 
 fn reverted_again(alloc: Global, map: &mut Map, same: Back, before: &Answer) -> Option<Back>
-    requires { Fits map.old same }
+    requires { Fits map.old.state same }
     ensures { IfSome result (λ back. Fits map.new.state back) }
 {
     if !is_same(before, &standing(alloc, map)) {
