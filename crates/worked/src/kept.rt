@@ -19,7 +19,7 @@ fn two_files(alloc: Global) -> Result<String, AllocError> {
 }
 
 /// Lines of a script, and how many instances each places at most, once for each mode.
-const STEPS: [(&str, u64); 9] = [
+const STEPS: [(&str, u64); 18] = [
     ("resize /$B/x [2]", 9),
     ("rename /$B/x y", 0),
     ("undo", 0),
@@ -29,6 +29,15 @@ const STEPS: [(&str, u64); 9] = [
     ("redo", 0),
     ("set /$B name \"second\"", 0),
     ("reset /$B/y/f 1", 0),
+    ("add /$B last reg { field {} g; } z;", 15),
+    ("undo", 9),
+    ("redo", 15),
+    ("move /$B/z first", 15),
+    ("default /$B regwidth 64", 18),
+    ("undo", 18),
+    ("remove /$B/z", 9),
+    ("undo", 15),
+    ("move /$B/z last", 15),
 ];
 
 fn placed_by(alloc: Global, journal: &mut Journal<Map>, line: &str) -> Result<u64, Fail> {
@@ -39,7 +48,8 @@ fn placed_by(alloc: Global, journal: &mut Journal<Map>, line: &str) -> Result<u6
     Ok(journal.map().placed())
 }
 
-// both register files and the map have 3 instances outside the first, which has a thousand
+// the second register file and the map have 3 instances, and the first a thousand; where a register comes or moves, that and its field are
+// laid out too, and under a default both registers with their fields
 #[test]
 fn relay_places_everything(rt: HostRuntime) -> Result<(), Fail> {
     let text = two_files(rt.alloc())?;
