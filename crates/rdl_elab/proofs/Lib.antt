@@ -53,3 +53,6 @@ pub mod Skeletons
 pub mod InOrder
 pub mod Beside
 pub mod Unedited
+pub mod TrackedBodies
+pub mod TrackedAddresses
+pub mod TrackedValues
