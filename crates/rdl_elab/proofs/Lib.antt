@@ -56,3 +56,4 @@ pub mod Unedited
 pub mod TrackedBodies
 pub mod TrackedAddresses
 pub mod TrackedValues
+pub mod TrackedInstances
