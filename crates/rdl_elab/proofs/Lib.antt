@@ -57,3 +57,4 @@ pub mod TrackedBodies
 pub mod TrackedAddresses
 pub mod TrackedValues
 pub mod TrackedInstances
+pub mod TrackedRest

@@ -88,6 +88,7 @@ pub record Stays (t : Tracked) (i : ℕ) (a : List ℕ) : Type 0 where
   pub rest : List ℕ
   pub before : address_before (i ∷ a) t ≡ Some (number ∷ rest)
   pub body : Tracked
+  pub items : (n m : ℕ) → number_before n body ≡ Some m → address_before (i ∷ a ++ n ∷ []) t ≡ Some (number ∷ rest ++ m ∷ [])
   pub tracked : tracked_at (i ∷ a) t ≡ Some body
   pub free : (is_edited body || sets_default body) ≡ false
   pub now : body_at (i ∷ a) (new_of t) ≡ Some (new_of body)
@@ -142,6 +143,7 @@ stays i [] t s e free = by (inner i (new_of t)) refl e
           rest = [];
           before = ap (option_map (λ k. k ∷ [])) h.before;
           body = h.body;
+          items = λ n m e. before-cons t h.body i h.number (n ∷ []) (m ∷ []) h.before h.stays (ap (option_map (λ k. k ∷ [])) e);
           tracked = ap (option_and_then (tracked_at [])) h.stays;
           free = inside-free i [] t free h.body h.stays;
           now = ap (option_and_then (body_at [])) h.now;
@@ -165,6 +167,7 @@ stays i (j ∷ a) t s e free = by (inner i (new_of t)) refl e (stays j a)
           rest = r.number ∷ r.rest;
           before = before-cons t h.body i h.number (j ∷ a) (r.number ∷ r.rest) h.before h.stays r.before;
           body = r.body;
+          items = λ n m e. before-cons t h.body i h.number (j ∷ a ++ n ∷ []) (r.number ∷ r.rest ++ m ∷ []) h.before h.stays (r.items n m e);
           tracked = ap (option_and_then (tracked_at (j ∷ a))) h.stays ∙ r.tracked;
           free = r.free;
           now = ap (option_and_then (body_at (j ∷ a))) h.now ∙ r.now;
