@@ -58,3 +58,4 @@ pub mod TrackedAddresses
 pub mod TrackedValues
 pub mod TrackedInstances
 pub mod TrackedRest
+pub mod TrackedChanges
