@@ -163,3 +163,202 @@ unedited-at (i ∷ a) t e = by (staying i t) refl (unedited-at a)
     by : (o : Option Tracked) → staying i t ≡ o → ((t : Tracked) → is_changed_at a t ≡ false → is_edited_at a t ≡ false) → is_edited_at (i ∷ a) t ≡ false
     by None f ih = (λ j. first j || elim (f j) [ None ↦ false | Some body ↦ is_edited_at a body ])
     by (Some body) f ih = (λ j. first j || elim (f j) [ None ↦ false | Some body ↦ is_edited_at a body ]) ∙ ih body (inside-same i a t body f e)
+
+-- the body at such an address isn't changed
+body-same : (a : List ℕ) (t body : Tracked) → tracked_at a t ≡ Some body → is_changed_at a t ≡ false → is_changed body ≡ false
+body-same [] t body f e = let same : t ≡ body = cc in ap is_changed (sym same) ∙ e
+body-same (i ∷ a) t body f e = by (staying i t) refl f (body-same a)
+  where
+    by : (o : Option Tracked) → staying i t ≡ o → option_and_then (tracked_at a) o ≡ Some body
+        → ((t body : Tracked) → tracked_at a t ≡ Some body → is_changed_at a t ≡ false → is_changed body ≡ false) → is_changed body ≡ false
+    by None g f ih = cc
+    by (Some u) g f ih = ih u body f (inside-same i a t u g e)
+
+-- it stood at this address
+address-same : (a : List ℕ) (t : Tracked) (x : List ℕ) → is_changed_at a t ≡ false → address_before a t ≡ Some x → x ≡ a
+address-same [] t x e f = cc
+address-same (i ∷ []) t x e f = by (number_before i t) refl f
+  where
+    by : (o : Option ℕ) → number_before i t ≡ o → option_map (λ k. k ∷ []) o ≡ Some x → x ≡ i ∷ []
+    by None g f = cc
+    by (Some m) g f = let is : m ∷ [] ≡ x = cc in sym is ∙ ap (λ k. k ∷ []) (same-number t i m (first-same (i ∷ []) t e) g)
+address-same (i ∷ j ∷ a) t x e f = by (number_before i t) refl (staying i t) refl f (address-same (j ∷ a))
+  where
+    deep : (m : ℕ) → number_before i t ≡ Some m → (o : Option (List ℕ)) → ((y : List ℕ) → o ≡ Some y → y ≡ j ∷ a) → option_map (λ b. m ∷ b) o ≡ Some x → x ≡ i ∷ j ∷ a
+    deep m g None ih f = cc
+    deep m g (Some y) ih f =
+        let is : m ∷ y ≡ x = cc in
+        let number = same-number t i m (first-same (i ∷ j ∷ a) t e) g in
+        let rest = ih y refl in
+        sym is ∙ (λ k. number k ∷ rest k)
+
+    by : (o : Option ℕ) → number_before i t ≡ o → (q : Option Tracked) → staying i t ≡ q → option_and_then (λ k. option_and_then (λ body. option_map (λ b. k ∷ b) (address_before (j ∷ a) body)) q) o ≡ Some x
+        → ((t : Tracked) (x : List ℕ) → is_changed_at (j ∷ a) t ≡ false → address_before (j ∷ a) t ≡ Some x → x ≡ j ∷ a) → x ≡ i ∷ j ∷ a
+    by None g q h f ih = cc
+    by (Some m) g None h f ih = cc
+    by (Some m) g (Some body) h f ih = deep m g (address_before (j ∷ a) body) (λ y. ih body y (inside-same i (j ∷ a) t body h e)) f
+
+-- ---- An item of a body that isn't changed.
+
+pub record StandsIn (t : Tracked) (p : List ℕ) : Type 0 where
+  pub around : List ℕ
+  pub number : ℕ
+  pub is : p ≡ around ++ number ∷ []
+  pub free : is_changed_at around t ≡ false
+
+-- the item that holds such a body
+holder-stands : (i : ℕ) (a : List ℕ) (t : Tracked) → is_changed_at (i ∷ a) t ≡ false → StandsIn t (i ∷ a)
+holder-stands i [] t e = record { around = []; number = i; is = refl; free = first-same (i ∷ []) t e }
+holder-stands i (j ∷ a) t e = by (staying i t) refl (holder-stands j a)
+  where
+    same : is_changed t ≡ false
+    same = first-same (i ∷ j ∷ a) t e
+
+    by : (o : Option Tracked) → staying i t ≡ o → ((t : Tracked) → is_changed_at (j ∷ a) t ≡ false → StandsIn t (j ∷ a)) → StandsIn t (i ∷ j ∷ a)
+    by None f ih = let r = ih nothing refl in record { around = i ∷ r.around; number = r.number; is = ap (λ y. i ∷ y) r.is; free = around-same i r.around t None f same refl }
+    by (Some body) f ih =
+        let r = ih body (inside-same i (j ∷ a) t body f e) in
+        record { around = i ∷ r.around; number = r.number; is = ap (λ y. i ∷ y) r.is; free = around-same i r.around t (Some body) f same r.free }
+
+-- there is a body of its own after the step where there was one before it
+held-both : (a : List ℕ) (n : ℕ) (t : Tracked) → is_changed_at a t ≡ false → is_some (body_at (a ++ n ∷ []) (new_of t)) ≡ is_some (body_at (a ++ n ∷ []) (old_of t))
+held-both [] n t e = by (staying n t) (inner-same t n e).0 (inner-same t n e).1
+  where
+    by : (o : Option Tracked) → inner n (new_of t) ≡ option_map new_of o → inner n (old_of t) ≡ option_map old_of o → is_some (body_at (n ∷ []) (new_of t)) ≡ is_some (body_at (n ∷ []) (old_of t))
+    by None f g = ap (λ o. is_some (option_and_then (body_at []) o)) f ∙ sym (ap (λ o. is_some (option_and_then (body_at []) o)) g)
+    by (Some body) f g = ap (λ o. is_some (option_and_then (body_at []) o)) f ∙ sym (ap (λ o. is_some (option_and_then (body_at []) o)) g)
+held-both (i ∷ a) n t e = by (staying i t) refl (inner-same t i same).0 (inner-same t i same).1 (held-both a n)
+  where
+    same : is_changed t ≡ false
+    same = first-same (i ∷ a) t e
+
+    by : (o : Option Tracked) → staying i t ≡ o → inner i (new_of t) ≡ option_map new_of (staying i t) → inner i (old_of t) ≡ option_map old_of (staying i t)
+        → ((t : Tracked) → is_changed_at a t ≡ false → is_some (body_at (a ++ n ∷ []) (new_of t)) ≡ is_some (body_at (a ++ n ∷ []) (old_of t)))
+        → is_some (body_at (i ∷ a ++ n ∷ []) (new_of t)) ≡ is_some (body_at (i ∷ a ++ n ∷ []) (old_of t))
+    by None h f g ih =
+        ap (λ o. is_some (option_and_then (body_at (a ++ n ∷ [])) o)) (f ∙ ap (option_map new_of) h)
+        ∙ sym (ap (λ o. is_some (option_and_then (body_at (a ++ n ∷ [])) o)) (g ∙ ap (option_map old_of) h))
+    by (Some body) h f g ih =
+        ap (λ o. is_some (option_and_then (body_at (a ++ n ∷ [])) o)) (f ∙ ap (option_map new_of) h)
+        ∙ ih body (inside-same i a t body h e)
+        ∙ sym (ap (λ o. is_some (option_and_then (body_at (a ++ n ∷ [])) o)) (g ∙ ap (option_map old_of) h))
+
+-- and so a component
+component-both : (t : Tracked) (a : List ℕ) (n : ℕ) → is_changed_at a t ≡ false → is_some (component (new_of t) (a ++ n ∷ [])) ≡ is_some (component (old_of t) (a ++ n ∷ []))
+component-both t [] n e = holds (new_of t) n [] ∙ held-both [] n t e ∙ sym (holds (old_of t) n [])
+component-both t (i ∷ a) n e = holds (new_of t) i (a ++ n ∷ []) ∙ held-both (i ∷ a) n t e ∙ sym (holds (old_of t) i (a ++ n ∷ []))
+
+-- ---- Types.
+
+-- a type stands in such a body
+module _ (i : ℕ) (path : List ℕ) (t : Tracked) (name p : List ℕ) (same : is_changed t ≡ false) where
+  last-stands : (o : Option ℕ) → option_map (λ k. k ∷ []) o ≡ Some p → StandsIn t p
+  last-stands None e = cc
+  last-stands (Some k) e = record { around = []; number = k; is = (let is : k ∷ [] ≡ p = cc in sym is); free = same }
+
+  inside-stands : (body : Tracked) → staying i t ≡ Some body → (o : Option (List ℕ)) → ((q : List ℕ) → o ≡ Some q → StandsIn body q)
+      → option_or (option_map (λ a. i ∷ a) o) (option_map (λ k. k ∷ []) (last_definition name i (new_of t))) ≡ Some p → StandsIn t p
+  inside-stands body f None ih e = last-stands (last_definition name i (new_of t)) e
+  inside-stands body f (Some q) ih e =
+      let r = ih q refl in
+      let is : i ∷ q ≡ p = cc in
+      record { around = i ∷ r.around; number = r.number; is = sym is ∙ ap (λ y. i ∷ y) r.is; free = around-same i r.around t (Some body) f same r.free }
+
+  step-stands : (o : Option Tracked) → staying i t ≡ o → inner i (new_of t) ≡ option_map new_of (staying i t)
+      → ((body : Tracked) → staying i t ≡ Some body → (q : List ℕ) → type_at path (new_of body) name ≡ Some q → StandsIn body q) → type_at (i ∷ path) (new_of t) name ≡ Some p → StandsIn t p
+  step-stands None f h ih e =
+      last-stands (last_definition name i (new_of t))
+      (sym (ap (λ o. option_or (option_map (λ a. i ∷ a) (option_and_then (λ b. type_at path b name) o)) (option_map (λ k. k ∷ []) (last_definition name i (new_of t)))) (h ∙ ap (option_map new_of) f)) ∙ e)
+  step-stands (Some body) f h ih e =
+      inside-stands body f (type_at path (new_of body) name) (ih body f)
+      (sym (ap (λ o. option_or (option_map (λ a. i ∷ a) (option_and_then (λ b. type_at path b name) o)) (option_map (λ k. k ∷ []) (last_definition name i (new_of t)))) (h ∙ ap (option_map new_of) f)) ∙ e)
+
+type-stands : (a : List ℕ) (n : ℕ) (t : Tracked) (name p : List ℕ) → is_changed_at a t ≡ false → type_at (a ++ n ∷ []) (new_of t) name ≡ Some p → StandsIn t p
+type-stands [] n t name p e f = step-stands n [] t name p e (staying n t) refl (inner-same t n e).0 (λ body g q h. let no : None ≡ Some q = h in cc) f
+type-stands (i ∷ a) n t name p e f =
+    let same = first-same (i ∷ a) t e in
+    step-stands i (a ++ n ∷ []) t name p same (staying i t) refl (inner-same t i same).0 (λ body g q. type-stands a n body name q (inside-same i a t body g e)) f
+
+-- and each name has the type that it had
+same-step : (i : ℕ) (path : List ℕ) (t : Tracked) (name : List ℕ) → is_changed t ≡ false → (o : Option Tracked) → staying i t ≡ o
+    → ((body : Tracked) → staying i t ≡ Some body → type_at path (new_of body) name ≡ type_at path (old_of body) name) → type_at (i ∷ path) (new_of t) name ≡ type_at (i ∷ path) (old_of t) name
+same-step i path t name same o f ih =
+    let last = definition-same name t i same in
+    let both = inner-same t i same in
+    let inside = by o f (both.0 ∙ ap (option_map new_of) f) (both.1 ∙ ap (option_map old_of) f) in
+    λ j. option_or (option_map (λ a. i ∷ a) (inside j)) (option_map (λ k. k ∷ []) (last j))
+  where
+    by : (o : Option Tracked) → staying i t ≡ o → inner i (new_of t) ≡ option_map new_of o → inner i (old_of t) ≡ option_map old_of o
+        → option_and_then (λ b. type_at path b name) (inner i (new_of t)) ≡ option_and_then (λ b. type_at path b name) (inner i (old_of t))
+    by None f h g = ap (option_and_then (λ b. type_at path b name)) h ∙ sym (ap (option_and_then (λ b. type_at path b name)) g)
+    by (Some body) f h g = ap (option_and_then (λ b. type_at path b name)) h ∙ ih body f ∙ sym (ap (option_and_then (λ b. type_at path b name)) g)
+
+type-same : (a : List ℕ) (n : ℕ) (t : Tracked) (name : List ℕ) → is_changed_at a t ≡ false → type_at (a ++ n ∷ []) (new_of t) name ≡ type_at (a ++ n ∷ []) (old_of t) name
+type-same [] n t name e = same-step n [] t name e (staying n t) refl (λ body f. refl)
+type-same (i ∷ a) n t name e = same-step i (a ++ n ∷ []) t name (first-same (i ∷ a) t e) (staying i t) refl (λ body f. type-same a n body name (inside-same i a t body f e))
+
+-- ---- What a step doesn't change, where items of such bodies stand for themselves.
+
+module _ (t : Tracked) (bodies : List (List ℕ))
+    (stand : (a : List ℕ) (i : ℕ) (c : Made) → is_changed_at a t ≡ false → component (new_of t) (a ++ i ∷ []) ≡ Some c → stands_for (old_of t) bodies (new_of t) (a ++ i ∷ []) ≡ Some (a ++ i ∷ [])) where
+  abbrev stands : List ℕ → Option (List ℕ)
+  stands = stands_for (old_of t) bodies (new_of t)
+
+  itself : (p : List ℕ) → StandsIn t p → (c : Made) → component (new_of t) p ≡ Some c → stands p ≡ Some p
+  itself p s c e = subst (λ q. component (new_of t) q ≡ Some c → stands q ≡ Some q) (sym s.is) (stand s.around s.number c s.free) e
+
+  stands-as : (p : List ℕ) → StandsIn t p → StandsAs (old_of t) (new_of t) stands p p
+  stands-as p s = record { exists = subst (λ q. is_some (component (new_of t) q) ≡ is_some (component (old_of t) q)) (sym s.is) (component-both t s.around s.number s.free); is = itself p s }
+
+  lead-alike : (o r : Option (List ℕ)) → o ≡ r → ((p : List ℕ) → o ≡ Some p → StandsIn t p) → LeadAlike (old_of t) (new_of t) stands o r
+  lead-alike None None e h = tt
+  lead-alike None (Some q) e h = cc
+  lead-alike (Some p) None e h = cc
+  lead-alike (Some p) (Some q) e h = let same : p ≡ q = cc in subst (λ x. StandsAs (old_of t) (new_of t) stands p x) same (stands-as p (h p refl))
+
+  -- the type of an item of the body at this address
+  module _ (i : ℕ) (a : List ℕ) (s : Stays t i a) (free : is_changed_at (i ∷ a) t ≡ false) where
+    address-is : s.number ∷ s.rest ≡ i ∷ a
+    address-is = address-same (i ∷ a) t (s.number ∷ s.rest) free s.before
+
+    number-is : (n m : ℕ) → number_before n s.body ≡ Some m → m ≡ n
+    number-is n m = same-number s.body n m (body-same (i ∷ a) t s.body s.tracked free)
+
+    item-is : (n m : ℕ) → number_before n s.body ≡ Some m → s.number ∷ s.rest ++ m ∷ [] ≡ i ∷ a ++ n ∷ []
+    item-is n m e = let at = address-is in let number = number-is n m e in λ j. at j ++ number j ∷ []
+
+    was : body_at (i ∷ a) (old_of t) ≡ Some (old_of s.body)
+    was = ap (λ b. body_at b (old_of t)) (sym address-is) ∙ s.was
+
+    reference-is : (n : ℕ) → option_and_then reference_of (item (i ∷ a ++ n ∷ []) (new_of t)) ≡ option_and_then reference_of (item (i ∷ a ++ n ∷ []) (old_of t))
+    reference-is n =
+        ap (option_and_then reference_of) (item-here (i ∷ a) (new_of t) (new_of s.body) n s.now)
+        ∙ reference-same s.body n (body-same (i ∷ a) t s.body s.tracked free)
+        ∙ sym (ap (option_and_then reference_of) (item-here (i ∷ a) (old_of t) (old_of s.body) n was))
+
+    type-is : (n : ℕ) (o : Option (List ℕ)) → option_and_then (type_at (i ∷ a ++ n ∷ []) (new_of t)) o ≡ option_and_then (type_at (i ∷ a ++ n ∷ []) (old_of t)) o
+    type-is n None = refl
+    type-is n (Some name) = type-same (i ∷ a) n t name free
+
+    type-there : (n : ℕ) (o : Option (List ℕ)) (p : List ℕ) → option_and_then (type_at (i ∷ a ++ n ∷ []) (new_of t)) o ≡ Some p → StandsIn t p
+    type-there n None p e = cc
+    type-there n (Some name) p e = type-stands (i ∷ a) n t name p free e
+
+    types-alike : (n m : ℕ) → number_before n s.body ≡ Some m → LeadAlike (old_of t) (new_of t) stands (type_of (new_of t) (i ∷ a ++ n ∷ [])) (type_of (old_of t) (s.number ∷ s.rest ++ m ∷ []))
+    types-alike n m e =
+        let b = i ∷ a ++ n ∷ [] in
+        let now = type_of-reference (new_of t) b in
+        let before = type_of-reference (old_of t) b in
+        let same : type_of (new_of t) b ≡ type_of (old_of t) b =
+        now ∙ ap (option_and_then (type_at b (new_of t))) (reference-is n) ∙ type-is n (option_and_then reference_of (item b (old_of t))) ∙ sym before in
+        lead-alike (type_of (new_of t) b) (type_of (old_of t) (s.number ∷ s.rest ++ m ∷ [])) (same ∙ ap (type_of (old_of t)) (sym (item-is n m e)))
+        (λ p f. type-there n (option_and_then reference_of (item b (new_of t))) p (sym now ∙ f))
+
+  pub rest-unchanged : AreUnchangedBut (λ a. is_changed_at a t) (old_of t) bodies (new_of t)
+  rest-unchanged [] c e free = cc
+  rest-unchanged (i ∷ a) c e free =
+      let s = stays i a t c.head.body (as_found (new_of t) (i ∷ a) c e).body (unedited-at (i ∷ a) t free) in
+      let at = address-is i a s free in
+      is-unchanged t bodies i a s c e (itself (i ∷ a) (holder-stands i a t free) c e ∙ ap Some (sym at)) (types-alike i a s free)
+      (λ n m f. subst (λ q. StandsAs (old_of t) (new_of t) stands (i ∷ a ++ n ∷ []) q) (sym (item-is i a s free n m f))
+      (stands-as (i ∷ a ++ n ∷ []) (record { around = i ∷ a; number = n; is = refl; free = free })))
