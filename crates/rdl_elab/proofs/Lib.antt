@@ -53,3 +53,4 @@ pub mod Skeletons
 pub mod InOrder
 pub mod Beside
 pub mod Unedited
+pub mod Namesakes
