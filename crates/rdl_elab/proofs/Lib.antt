@@ -54,3 +54,4 @@ pub mod InOrder
 pub mod Beside
 pub mod Unedited
 pub mod Namesakes
+pub mod StandInWalks
