@@ -55,3 +55,4 @@ pub mod Beside
 pub mod Unedited
 pub mod Namesakes
 pub mod StandInWalks
+pub mod TrackedFinds
