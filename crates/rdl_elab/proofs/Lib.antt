@@ -56,3 +56,5 @@ pub mod Unedited
 pub mod Namesakes
 pub mod StandInWalks
 pub mod TrackedFinds
+pub mod TrackedStandIns
+pub mod TrackedUnchanged

@@ -44,13 +44,21 @@ same-called : (s : Shell) (shell : Option Shell) → StaysCalled s shell → (un
 same-called s None h = refl
 same-called s (Some u) h = h
 
-neither : (a b : Bool) → (a || b) ≡ false → (a ≡ false) × (b ≡ false)
+pub neither : (a b : Bool) → (a || b) ≡ false → (a ≡ false) × (b ≡ false)
 neither false b e = (refl, e)
 neither true b e = cc
 
-next-number : (o : Option ℕ) (l : ℕ) → option_map suc o ≡ Some l → (m : ℕ) × (o ≡ Some m) × (l ≡ suc m)
+pub next-number : (o : Option ℕ) (l : ℕ) → option_map suc o ≡ Some l → (m : ℕ) × (o ≡ Some m) × (l ≡ suc m)
 next-number None l e = cc
 next-number (Some m) l e = let same : suc m ≡ l = cc in (m, refl, sym same)
+
+pub inner-add : (i : ℕ) (x : Item) (rest : Items) → inner (suc i) (add x rest) ≡ inner i rest
+inner-add i (Define n c) rest = refl
+inner-add i (Instance s (Named t)) rest = refl
+inner-add i (Instance s (Anonymous c)) rest = refl
+inner-add i (Own p v) rest = refl
+inner-add i (Default p v) rest = refl
+inner-add i (Dynamic t p v) rest = refl
 
 -- ---- Where one item alone passes, it is found wherever the search begins.
 
@@ -141,14 +149,6 @@ module _ (olds : List Item) (unique : AreUnique olds) where
 
   add-from : (j : ℕ) (x : Item) (rest : Items) → AreFrom j (list_of (add x rest)) → AreFrom j (x ∷ list_of rest)
   add-from j x rest h = subst (AreFrom j) (list_of-add x rest) h
-
-  inner-add : (i : ℕ) (x : Item) (rest : Items) → inner (suc i) (add x rest) ≡ inner i rest
-  inner-add i (Define n c) rest = refl
-  inner-add i (Instance s (Named t)) rest = refl
-  inner-add i (Instance s (Anonymous c)) rest = refl
-  inner-add i (Own p v) rest = refl
-  inner-add i (Default p v) rest = refl
-  inner-add i (Dynamic t p v) rest = refl
 
   abbrev Finds : Tracked → Type 0
   Finds u =
