@@ -1,6 +1,5 @@
--- The walk of a body finds for each item that stays the one that it was, where the body goes by names, or where no definition or instance
--- of it comes or goes.
-use Rattle.std.proofs.Common.{◌≡◌, ℕ, zero, suc, ◌+◌, ◌≤◌, ◌<◌, Bool, true, false, List, [], ◌∷◌, length, drop, get_or, Option, Some, None, refl, ap, sym, subst, ◌∙◌, arith, length-drop, ◌⊎◌, inl, inr}
+-- The walk of a body that goes by names, or in which no definition or instance comes or goes, finds for each item that stays the one that it was.
+use Rattle.std.proofs.Common.{◌≡◌, ℕ, zero, suc, ◌+◌, ◌≤◌, ◌<◌, Bool, true, false, List, ◌∷◌, length, drop, get_or, Option, Some, None, refl, ap, sym, subst, ◌∙◌, arith, length-drop, ◌⊎◌, inl, inr}
 use Rattle.std.specs.Prelude.{slice_get, option_map, position, unwrap_or, bytes_eq, if◌then◌else◌, ◌||◌}
 use Rattle.std.specs.Option.{option_or}
 use Rattle.std.proofs.lemmas.Bool.{cases_lt, cases_Bool}
@@ -16,7 +15,7 @@ use Rattle.rdl_tree.specs.declared.description.Item.{Item}
 use Rattle.rdl_tree.specs.declared.description.Item.TheVariants.{Define, Instance, Own, Default, Dynamic}
 use Rattle.rdl_tree.specs.declared.description.Of.TheVariants.{Named, Anonymous}
 use Rattle.rdl_tree.proofs.Rounds.{list_of-add}
-use Rattle.rdl_elab.specs.StandIns.{has_name, are_namesakes, may_stand_for, next, stand_in, behind}
+use Rattle.rdl_elab.specs.StandIns.{has_name, are_namesakes, next, stand_in, behind}
 use Rattle.rdl_elab.specs.Tracked.{Tracked, nothing, comes, goes, named_stays, own_stays, default_stays, dynamic_stays, define_stays, anonymous_stays, old_of, new_of, number_before}
 use Rattle.rdl_elab.specs.EditedBodies.{StaysNamed, StaysCalled, is_peopled_anew}
 use Rattle.rdl_elab.proofs.AsBefore.{IsClear, clear-none, clear-more, next-is}
@@ -25,6 +24,7 @@ use Rattle.rdl_elab.proofs.StandInWalks.{found_from}
 
 -- ---- Names that stay in one body.
 
+-- no name of a definition or an instance of this body is set
 abbrev pub NamesHere : Tracked → Type 0
 NamesHere nothing = Unit {0}
 NamesHere (comes x rest) = NamesHere rest

@@ -1,6 +1,6 @@
 -- An item that stays stands for itself: where names stay and bodies go by them, and in bodies that aren't changed.
-use Rattle.std.proofs.Common.{◌≡◌, ℕ, zero, suc, ◌+◌, ◌<◌, Bool, true, false, List, [], ◌∷◌, ◌++◌, length, Option, Some, None, refl, ap, sym, subst, ◌∙◌, arith, append_assoc}
-use Rattle.std.specs.Prelude.{slice_get, option_map, option_and_then, ◌||◌}
+use Rattle.std.proofs.Common.{◌≡◌, ℕ, zero, suc, ◌+◌, ◌<◌, Bool, true, false, List, [], ◌∷◌, ◌++◌, Option, Some, None, refl, ap, sym, subst, ◌∙◌, arith, append_assoc}
+use Rattle.std.specs.Prelude.{slice_get, option_map, option_and_then}
 use Rattle.rdl_tree.specs.Items.{Items}
 use Rattle.rdl_tree.specs.View.{add, list_of}
 use Rattle.rdl_tree.specs.Address.{inner, body_at}
@@ -13,12 +13,12 @@ use Rattle.rdl_elab.specs.Numbers.{components, components_before, number}
 use Rattle.rdl_elab.specs.Reach.{stands_for}
 use Rattle.rdl_elab.specs.StandIns.{goes_by_name, items_or_none, kept_items, inside as item_of, stand_ins, body_stand_ins}
 use Rattle.rdl_elab.specs.Tracked.{Tracked, nothing, comes, goes, named_stays, own_stays, default_stays, dynamic_stays, define_stays, anonymous_stays, old_of, new_of, number_before, staying, address_before}
-use Rattle.rdl_elab.specs.EditedBodies.{NamesStay, is_peopled_anew, tracked_at, GoByName, is_changed, is_changed_at}
+use Rattle.rdl_elab.specs.EditedBodies.{NamesStay, is_peopled_anew, tracked_at, GoByName}
 use Rattle.rdl_elab.proofs.Namesakes.{unique}
-use Rattle.rdl_elab.proofs.Numbering.{inner-within, number-less, unnumbered}
+use Rattle.rdl_elab.proofs.Numbering.{number-less, unnumbered}
 use Rattle.rdl_elab.proofs.StandInWalks.{found_from, own-at, inside-at}
 use Rattle.rdl_elab.proofs.StandingIn.{body-inside}
-use Rattle.rdl_elab.proofs.TrackedFinds.{NamesHere, neither, next-number, inner-add, finds-all}
+use Rattle.rdl_elab.proofs.TrackedFinds.{NamesHere, next-number, inner-add, finds-all}
 
 -- ---- The body of an item that stays, before and after.
 

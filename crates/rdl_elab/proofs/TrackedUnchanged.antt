@@ -1,5 +1,5 @@
 -- In a body that isn't changed, and stands in none that is, each item has the address that it had, and stands for itself.
-use Rattle.std.proofs.Common.{◌≡◌, ℕ, zero, suc, ◌+◌, ◌<◌, Bool, true, false, List, [], ◌∷◌, ◌++◌, length, Option, Some, None, refl, ap, sym, subst, ◌∙◌, arith}
+use Rattle.std.proofs.Common.{◌≡◌, ℕ, zero, suc, ◌+◌, ◌<◌, Bool, true, false, List, [], ◌∷◌, ◌++◌, length, Option, Some, None, refl, ap, sym, ◌∙◌, arith}
 use Rattle.std.specs.Prelude.{option_map, option_and_then, is_some, ◌||◌}
 use Rattle.rdl_tree.specs.Items.{Items}
 use Rattle.rdl_tree.specs.View.{list_of}
@@ -10,7 +10,6 @@ use Rattle.rdl_scope.specs.Closed.{Made, component}
 use Rattle.rdl_scope.specs.ItemFaults.{fault_of}
 use Rattle.rdl_elab.specs.Numbers.{components, components_before, number}
 use Rattle.rdl_elab.specs.Reach.{stands_for}
-use Rattle.rdl_elab.specs.StandIns.{goes_by_name}
 use Rattle.rdl_elab.specs.Tracked.{Tracked, nothing, comes, goes, named_stays, own_stays, default_stays, dynamic_stays, define_stays, anonymous_stays, old_of, new_of, number_before, staying, address_before}
 use Rattle.rdl_elab.specs.EditedBodies.{StaysNamed, StaysCalled, is_peopled_anew, is_changed, is_changed_at}
 use Rattle.rdl_elab.proofs.Numbering.{inner-within}
@@ -125,9 +124,6 @@ deeper j k c u v number is before =
     ∙ ap (option_and_then (λ body. option_map (λ b. j ∷ b) (address_before (k ∷ c) body))) is
     ∙ ap (option_map (λ b. j ∷ b)) before
 
-abbrev HasItsAddress : List ℕ → Type 0
-HasItsAddress a = (i : ℕ) (u : Tracked) (body : Items) → is_changed_at a u ≡ false → body_at a (new_of u) ≡ Some body → i < length (list_of body) → address_before (a ++ i ∷ []) u ≡ Some (a ++ i ∷ [])
-
 -- the body of a component in a body that isn't changed
 in-body : (j : ℕ) (a : List ℕ) (u : Tracked) (body : Items) (o : Option Items) → is_changed_at (j ∷ a) u ≡ false → inner j (new_of u) ≡ o → option_and_then (body_at a) o ≡ Some body
     → (v : Tracked) × (staying j u ≡ Some v) × (number_before j u ≡ Some j) × (body_at a (new_of v) ≡ Some body)
@@ -137,7 +133,8 @@ in-body j a u body (Some w) e is there =
     let v = staying-unchanged u j w plain is in
     (v.0, v.1, number-unchanged u j plain (inner-within j (new_of u) w is), sym (ap (body_at a) v.2) ∙ there)
 
-pub address-unchanged : (a : List ℕ) → HasItsAddress a
+-- an item has the address that it had
+pub address-unchanged : (a : List ℕ) (i : ℕ) (u : Tracked) (body : Items) → is_changed_at a u ≡ false → body_at a (new_of u) ≡ Some body → i < length (list_of body) → address_before (a ++ i ∷ []) u ≡ Some (a ++ i ∷ [])
 address-unchanged [] i u body e there less =
     let same : new_of u ≡ body = cc in
     ap (option_map (λ k. k ∷ [])) (number-unchanged u i e (omega (arith, less, ap (λ t. length (list_of t)) same)))
@@ -178,12 +175,16 @@ held (j ∷ a) i m t e = by (inner j t) refl (λ w l. held a i l w) (under-numbe
     by None is more e = cc
     by (Some w) is more e = by_deep w (number (a ++ i ∷ []) w) is (more w) refl e
 
+-- ---- What each item stands for.
+
 module _ (t : Tracked) (bodies : List (List ℕ)) (accepted : fault_of (old_of t) ≡ None) where
+  -- an item with a number stands for itself
   pub stands-unchanged-numbered : (a : List ℕ) (i n : ℕ) → is_changed_at a t ≡ false → number (a ++ i ∷ []) (new_of t) ≡ Some n → stands_for (old_of t) bodies (new_of t) (a ++ i ∷ []) ≡ Some (a ++ i ∷ [])
   stands-unchanged-numbered a i n still is =
       let h = held a i n (new_of t) is in
       stands-steady t bodies accepted (a ++ i ∷ []) (a ++ i ∷ []) n (unchanged-along bodies a i [] t still) is (address-unchanged a i t h.body still h.there (inner-within i h.body h.own h.is))
 
+  -- and so does one with a component
   pub stands-unchanged : (a : List ℕ) (i : ℕ) (c : Made) → is_changed_at a t ≡ false → component (new_of t) (a ++ i ∷ []) ≡ Some c → stands_for (old_of t) bodies (new_of t) (a ++ i ∷ []) ≡ Some (a ++ i ∷ [])
   stands-unchanged a i c still e =
       let n = numbered-one (new_of t) (a ++ i ∷ []) c e in
