@@ -24,6 +24,7 @@ use Rattle.rdl_elab.specs.StandIns.{are_namesakes}
 
 -- ---- What is found among the first items.
 
+-- what is found stays found
 some-next : (o : Option ℕ) → is_some o ≡ true → is_some (option_map suc o) ≡ true
 some-next None e = cc
 some-next (Some i) e = refl
@@ -83,6 +84,7 @@ instance-there (holder h body rest) (suc i) (suc j) s o m e less same =
 
 -- ---- Namesakes have one name.
 
+-- that of a definition, and that of an instance
 definition-of : (m : List ℕ) (d : Component) (x : Item) → are_namesakes (Define m d) x ≡ true → (n : List ℕ) × (c : Component) × (x ≡ Define n c) × (m ≡ n)
 definition-of m d (Define n c) e = (n, c, refl, (bytes_eq-Decides m n).0 e)
 definition-of m d (Instance s o) e = cc
@@ -103,6 +105,7 @@ AreUnique xs = (y p q : Item) (i j : ℕ) → slice_get xs i ≡ Some p → slic
 
 -- ---- In a description without a fault.
 
+-- an item without a fault isn't a second one of its name
 new-definition : (around : Option Kind) (twice : Bool) (k : Kind) → define_fault around twice k ≡ None → twice ≡ false
 unfolding define_fault
 new-definition around true k e = cc
@@ -131,6 +134,7 @@ module _ (d : Items) (accepted : fault_of d ≡ None) where
           let c : Component = record { kind = m.head.kind; body = m.head.body } in
           (Some c.kind, subst (λ t. item_fault d (Some c.kind) (i ∷ a) t n x ≡ None) same (clear-inside d (i ∷ a) c n x accepted g.component (ap (λ t. slice_get (list_of t) n) same ∙ is)))
 
+  -- none before it has its name
   first-definition : (b : List ℕ) (body : Items) (j : ℕ) (n : List ℕ) (c : Component) → body_at b d ≡ Some body → slice_get (list_of body) j ≡ Some (Define n c) → is_some (last_definition n j body) ≡ false
   unfolding item_fault
   first-definition b body j n c held is =
@@ -143,6 +147,7 @@ module _ (d : Items) (accepted : fault_of d ≡ None) where
       let h = no-fault b body j (Instance s o) held is in
       new-instance h.0 (is_some (instance_before s.name j body)) s (instance_kind d (b ++ j ∷ [])) h.1
 
+  -- two items of a body aren't namesakes of one
   apart : (b : List ℕ) (body : Items) (y p q : Item) (i j : ℕ) → body_at b d ≡ Some body → slice_get (list_of body) i ≡ Some p → slice_get (list_of body) j ≡ Some q → are_namesakes y p ≡ true → are_namesakes y q ≡ true → i < j → ⊥
   apart b body (Define m w) p q i j held first second e f less =
       let x = definition-of m w p e in

@@ -36,6 +36,7 @@ NamesHere (dynamic_stays t new p v value rest) = NamesHere rest
 NamesHere (define_stays n new k body rest) = StaysNamed n new × NamesHere rest
 NamesHere (anonymous_stays s shell k body rest) = StaysCalled s shell × NamesHere rest
 
+-- the name after the step is that before it
 same-name : (n : List ℕ) (new : Option (List ℕ)) → StaysNamed n new → unwrap_or new n ≡ n
 same-name n None h = refl
 same-name n (Some m) h = h
@@ -44,6 +45,7 @@ same-called : (s : Shell) (shell : Option Shell) → StaysCalled s shell → (un
 same-called s None h = refl
 same-called s (Some u) h = h
 
+-- of tests and numbers
 pub neither : (a b : Bool) → (a || b) ≡ false → (a ≡ false) × (b ≡ false)
 neither false b e = (refl, e)
 neither true b e = cc
@@ -52,6 +54,7 @@ pub next-number : (o : Option ℕ) (l : ℕ) → option_map suc o ≡ Some l →
 next-number None l e = cc
 next-number (Some m) l e = let same : suc m ≡ l = cc in (m, refl, sym same)
 
+-- behind one more item
 pub inner-add : (i : ℕ) (x : Item) (rest : Items) → inner (suc i) (add x rest) ≡ inner i rest
 inner-add i (Define n c) rest = refl
 inner-add i (Instance s (Named t)) rest = refl
@@ -63,6 +66,7 @@ inner-add i (Dynamic t p v) rest = refl
 -- ---- Where one item alone passes, it is found wherever the search begins.
 
 module _ (test : Item → Bool) (xs : List Item) (j : ℕ) (z : Item) (there : slice_get xs j ≡ Some z) (passes : test z ≡ true) (alone : (i : ℕ) (p : Item) → slice_get xs i ≡ Some p → test p ≡ true → i ≡ j) where
+  -- it is in the list
   within : j < length xs
   within = slice_get_within xs j z there
 
@@ -150,6 +154,7 @@ module _ (olds : List Item) (unique : AreUnique olds) where
   add-from : (j : ℕ) (x : Item) (rest : Items) → AreFrom j (list_of (add x rest)) → AreFrom j (x ∷ list_of rest)
   add-from j x rest h = subst (AreFrom j) (list_of-add x rest) h
 
+  -- the walk finds the number before the step of each item with a body
   abbrev Finds : Tracked → Type 0
   Finds u =
       (by_name : Bool) (k j i l : ℕ) (body : Items) → AreFrom j (list_of (old_of u)) → NamesHere u → (by_name ≡ false → is_peopled_anew u ≡ false) → IsReady by_name k j → inner i (new_of u) ≡ Some body
@@ -182,6 +187,7 @@ module _ (olds : List Item) (unique : AreUnique olds) where
       let none : 0 ≡ l = cc in
       stands-same y z by_name k j named kept_named same (first-from j z rest lies) ready ∙ ap Some (let one : j ≡ j + l = omega (arith, none) in one)
 
+  -- any items
   same-bytes : (n m : List ℕ) → n ≡ m → bytes_eq n m ≡ true
   same-bytes n m e = (bytes_eq-Decides n m).1 e
 

@@ -22,6 +22,7 @@ use Rattle.rdl_elab.proofs.TrackedFinds.{NamesHere, next-number, inner-add, find
 
 -- ---- The body of an item that stays, before and after.
 
+-- after the step
 pub staying-new : (u : Tracked) (i : ℕ) (v : Tracked) → staying i u ≡ Some v → inner i (new_of u) ≡ Some (new_of v)
 staying-new nothing i v e = cc
 staying-new (comes x rest) zero v e = cc
@@ -40,6 +41,7 @@ staying-new (define_stays n new k body rest) (suc i) v e = staying-new rest i v 
 staying-new (anonymous_stays s shell k body rest) zero v e = let same : body ≡ v = cc in ap (λ u. Some (new_of u)) same
 staying-new (anonymous_stays s shell k body rest) (suc i) v e = staying-new rest i v e
 
+-- before it
 abbrev StoodThere : Tracked → Type 0
 StoodThere u = (i k : ℕ) (v : Tracked) → staying i u ≡ Some v → number_before i u ≡ Some k → inner k (old_of u) ≡ Some (old_of v)
 
@@ -189,6 +191,7 @@ module _ (old : Items) (accepted : fault_of old ≡ None) (bodies : List (List �
         ∙ ap (λ j. slice_get (body_stand_ins old bodies (b ++ j ∷ []) found body) l) (let none : 0 + i ≡ i = omega arith in none)
         ∙ ap (λ o. slice_get (body_stand_ins old bodies (b ++ i ∷ []) o body) l) (found-is i k body is stood)
 
+  -- the walk of all bodies around an item finds where it stood
   stands-along : (a : List ℕ) (u : Tracked) (b at : List ℕ) (m : ℕ) (x : List ℕ) → body_at at old ≡ Some (old_of u) → Along bodies a b u → number a (new_of u) ≡ Some m → address_before a u ≡ Some x
       → slice_get (body_stand_ins old bodies b (Some at) (new_of u)) m ≡ Some (Some (at ++ x))
   stands-along [] u b at m x kept along is stood = cc
@@ -224,6 +227,7 @@ numbered-one t a c e = by (number a t) refl
 
 -- ---- Where names stay.
 
+-- in a body, and in those inside it
 names-here : (u : Tracked) → NamesStay u → NamesHere u
 names-here nothing h = tt
 names-here (comes x rest) h = names-here rest h
@@ -253,6 +257,7 @@ names-inside (define_stays n new k body rest) (suc i) v h e = names-inside rest 
 names-inside (anonymous_stays s shell k body rest) zero v h e = let same : body ≡ v = cc in subst NamesStay same h.1
 names-inside (anonymous_stays s shell k body rest) (suc i) v h e = names-inside rest i v h.2 e
 
+-- so all bodies around an item are steady
 append-none : (b : List ℕ) → b ++ [] ≡ b
 append-none [] = refl
 append-none (i ∷ b) = ap (λ c. i ∷ c) (append-none b)

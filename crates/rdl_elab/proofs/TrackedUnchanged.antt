@@ -18,6 +18,7 @@ use Rattle.rdl_elab.proofs.TrackedStandIns.{IsSteady, Along, stands-steady, numb
 
 -- ---- In one body.
 
+-- a name that isn't set stays
 unset-called : (s : Shell) (shell : Option Shell) → is_some shell ≡ false → StaysCalled s shell
 unset-called s None e = tt
 unset-called s (Some u) e = cc
@@ -97,6 +98,7 @@ staying-unchanged (anonymous_stays s shell k within rest) (suc i) body e is = st
 
 -- ---- In all bodies around an item.
 
+-- such a body, and those inside it on the way to the item
 abbrev inside_changed : List ℕ → Option Tracked → Bool
 inside_changed a o = elim o [ None ↦ false | Some body ↦ is_changed_at a body ]
 
@@ -107,6 +109,7 @@ unchanged-around (i ∷ a) u e = (neither (is_changed u) (inside_changed a (stay
 unchanged-inside : (i : ℕ) (a : List ℕ) (u v : Tracked) → is_changed_at (i ∷ a) u ≡ false → staying i u ≡ Some v → is_changed_at a v ≡ false
 unchanged-inside i a u v e is = sym (ap (inside_changed a) is) ∙ (neither (is_changed u) (inside_changed a (staying i u)) e).1
 
+-- they are steady
 steady : (bodies : List (List ℕ)) (b : List ℕ) (u : Tracked) → is_changed u ≡ false → IsSteady bodies b u
 steady bodies b u e = (unchanged-names u e, λ f. let no : true ≡ false = sym f ∙ unchanged-people u e in cc)
 
@@ -147,6 +150,7 @@ address-unchanged (j ∷ k ∷ a) i u body e there less =
 
 -- ---- A component with a number stands in a body.
 
+-- the body at an address, with the body of its item i
 record HoldsItem (a : List ℕ) (i : ℕ) (t : Items) : Type 0 where
   body : Items
   there : body_at a t ≡ Some body
