@@ -59,3 +59,8 @@ pub mod TrackedValues
 pub mod TrackedInstances
 pub mod TrackedRest
 pub mod TrackedChanges
+pub mod Namesakes
+pub mod StandInWalks
+pub mod TrackedFinds
+pub mod TrackedStandIns
+pub mod TrackedUnchanged
