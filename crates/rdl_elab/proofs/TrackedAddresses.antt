@@ -11,7 +11,7 @@ use Rattle.rdl_tree.specs.declared.shell.Kind.{Kind}
 use Rattle.rdl_tree.specs.declared.property.Property.{Property}
 use Rattle.rdl_tree.specs.declared.description.Component.{Component}
 use Rattle.rdl_scope.specs.Types.{item, component_at}
-use Rattle.rdl_scope.specs.Value.{nearest_default}
+use Rattle.rdl_scope.specs.Value.{nearest_default, last_default}
 use Rattle.rdl_scope.specs.Closed.{component}
 use Rattle.rdl_scope.specs.ItemFaults.{kind_at}
 use Rattle.rdl_scope.proofs.Holds.{holds}
@@ -96,6 +96,14 @@ pub record Stays (t : Tracked) (i : ℕ) (a : List ℕ) : Type 0 where
   pub kinds : kind_at (new_of t) (i ∷ a) ≡ kind_at (old_of t) (number ∷ rest)
   pub defaults : (p : Property) → (row p).layout ≡ true → nearest_default (i ∷ a) (new_of t) (row p).name ≡ nearest_default (number ∷ rest) (old_of t) (row p).name
 
+-- the nearest default of a property, where those inside the body and those before the item are the same
+same-nearest : (i m : ℕ) (a x : List ℕ) (new old u v : Items) (p : List ℕ) → inner i new ≡ Some u → inner m old ≡ Some v → nearest_default a u p ≡ nearest_default x v p → last_default p i new ≡ last_default p m old
+    → nearest_default (i ∷ a) new p ≡ nearest_default (m ∷ x) old p
+same-nearest i m a x new old u v p now was inside before =
+    let deep : option_and_then (λ b. nearest_default a b p) (inner i new) ≡ option_and_then (λ b. nearest_default x b p) (inner m old) =
+    ap (option_and_then (λ b. nearest_default a b p)) now ∙ inside ∙ sym (ap (option_and_then (λ b. nearest_default x b p)) was) in
+    λ k. option_or (deep k) (before k)
+
 -- item i stays, and holds a component
 record Holds (t : Tracked) (i : ℕ) : Type 0 where
   number : ℕ
@@ -131,51 +139,56 @@ module _ (i : ℕ) (a : List ℕ) (t : Tracked) (free : is_edited_at (i ∷ a) t
   inside-free : (body : Tracked) → staying i t ≡ Some body → is_edited_at a body ≡ false
   inside-free body e = sym (ap (λ (o : Option Tracked). elim o [ None ↦ false | Some body ↦ is_edited_at a body ]) e) ∙ (neither (sets_default t || has_come i t) deeper free).1
 
+-- the body of item i, and one further inside it
+stays-here : (i : ℕ) (t : Tracked) → Holds t i → is_edited_at (i ∷ []) t ≡ false → Stays t i []
+stays-here i t h free = record {
+  number = h.number;
+  rest = [];
+  before = ap (option_map (λ k. k ∷ [])) h.before;
+  body = h.body;
+  items = λ n m e. before-cons t h.body i h.number (n ∷ []) (m ∷ []) h.before h.stays (ap (option_map (λ k. k ∷ [])) e);
+  tracked = ap (option_and_then (tracked_at [])) h.stays;
+  free = inside-free i [] t free h.body h.stays;
+  now = ap (option_and_then (body_at [])) h.now;
+  was = ap (option_and_then (body_at [])) h.was;
+  kinds = (agrees t i h.number h.before).kinds;
+  defaults = λ p shows. same-nearest i h.number [] [] (new_of t) (old_of t) (new_of h.body) (old_of h.body) (row p).name h.now h.was refl (default-before p shows t i h.number (no-default i [] t free) h.before);
+}
+
+stays-inside : (i j : ℕ) (a : List ℕ) (t : Tracked) (h : Holds t i) → is_edited_at (i ∷ j ∷ a) t ≡ false → Stays h.body j a → Stays t i (j ∷ a)
+stays-inside i j a t h free r = record {
+  number = h.number;
+  rest = r.number ∷ r.rest;
+  before = before-cons t h.body i h.number (j ∷ a) (r.number ∷ r.rest) h.before h.stays r.before;
+  body = r.body;
+  items = λ n m e. before-cons t h.body i h.number (j ∷ a ++ n ∷ []) (r.number ∷ r.rest ++ m ∷ []) h.before h.stays (r.items n m e);
+  tracked = ap (option_and_then (tracked_at (j ∷ a))) h.stays ∙ r.tracked;
+  free = r.free;
+  now = ap (option_and_then (body_at (j ∷ a))) h.now ∙ r.now;
+  was = ap (option_and_then (body_at (r.number ∷ r.rest))) h.was ∙ r.was;
+  kinds =
+      ap (λ o. option_map (λ (c : Component). c.kind) (option_and_then own_component (option_and_then (item (j ∷ a)) o))) h.now ∙ r.kinds
+      ∙ sym (ap (λ o. option_map (λ (c : Component). c.kind) (option_and_then own_component (option_and_then (item (r.number ∷ r.rest)) o))) h.was);
+  defaults = λ p shows.
+      same-nearest i h.number (j ∷ a) (r.number ∷ r.rest) (new_of t) (old_of t) (new_of h.body) (old_of h.body) (row p).name h.now h.was (r.defaults p shows)
+      (default-before p shows t i h.number (no-default i (j ∷ a) t free) h.before);
+}
+
 pub stays : (i : ℕ) (a : List ℕ) (t : Tracked) (s : Items) → body_at (i ∷ a) (new_of t) ≡ Some s → is_edited_at (i ∷ a) t ≡ false → Stays t i a
 stays i [] t s e free = by (inner i (new_of t)) refl e
   where
     by : (o : Option Items) → inner i (new_of t) ≡ o → option_and_then (body_at []) o ≡ Some s → Stays t i []
     by None f e = cc
-    by (Some u) f e =
-        let h = holding t i u f (not-come i [] t free) in
-        record {
-          number = h.number;
-          rest = [];
-          before = ap (option_map (λ k. k ∷ [])) h.before;
-          body = h.body;
-          items = λ n m e. before-cons t h.body i h.number (n ∷ []) (m ∷ []) h.before h.stays (ap (option_map (λ k. k ∷ [])) e);
-          tracked = ap (option_and_then (tracked_at [])) h.stays;
-          free = inside-free i [] t free h.body h.stays;
-          now = ap (option_and_then (body_at [])) h.now;
-          was = ap (option_and_then (body_at [])) h.was;
-          kinds = (agrees t i h.number h.before).kinds;
-          defaults = λ p shows.
-              let deep = ap (option_and_then (λ b. nearest_default [] b (row p).name)) h.now ∙ sym (ap (option_and_then (λ b. nearest_default [] b (row p).name)) h.was) in
-              λ k. option_or (deep k) (default-before p shows t i h.number (no-default i [] t free) h.before k);
-        }
+    by (Some u) f e = stays-here i t (holding t i u f (not-come i [] t free)) free
 stays i (j ∷ a) t s e free = by (inner i (new_of t)) refl e (stays j a)
   where
+    inside : (u : Items) → inner i (new_of t) ≡ Some u → body_at (j ∷ a) u ≡ Some s → ((t : Tracked) (s : Items) → body_at (j ∷ a) (new_of t) ≡ Some s → is_edited_at (j ∷ a) t ≡ false → Stays t j a) → Holds t i → Stays t i (j ∷ a)
+    inside u f e ih h =
+        let held : Some u ≡ Some (new_of h.body) = sym f ∙ h.now in
+        let is : u ≡ new_of h.body = cc in
+        stays-inside i j a t h free (ih h.body s (sym (ap (body_at (j ∷ a)) is) ∙ e) (inside-free i (j ∷ a) t free h.body h.stays))
+
     by : (o : Option Items) → inner i (new_of t) ≡ o → option_and_then (body_at (j ∷ a)) o ≡ Some s
         → ((t : Tracked) (s : Items) → body_at (j ∷ a) (new_of t) ≡ Some s → is_edited_at (j ∷ a) t ≡ false → Stays t j a) → Stays t i (j ∷ a)
     by None f e ih = cc
-    by (Some u) f e ih =
-        let h = holding t i u f (not-come i (j ∷ a) t free) in
-        let same : Some u ≡ Some (new_of h.body) = sym f ∙ h.now in
-        let r = ih h.body s (let is : u ≡ new_of h.body = cc in sym (ap (body_at (j ∷ a)) is) ∙ e) (inside-free i (j ∷ a) t free h.body h.stays) in
-        record {
-          number = h.number;
-          rest = r.number ∷ r.rest;
-          before = before-cons t h.body i h.number (j ∷ a) (r.number ∷ r.rest) h.before h.stays r.before;
-          body = r.body;
-          items = λ n m e. before-cons t h.body i h.number (j ∷ a ++ n ∷ []) (r.number ∷ r.rest ++ m ∷ []) h.before h.stays (r.items n m e);
-          tracked = ap (option_and_then (tracked_at (j ∷ a))) h.stays ∙ r.tracked;
-          free = r.free;
-          now = ap (option_and_then (body_at (j ∷ a))) h.now ∙ r.now;
-          was = ap (option_and_then (body_at (r.number ∷ r.rest))) h.was ∙ r.was;
-          kinds =
-              ap (λ o. option_map (λ (c : Component). c.kind) (option_and_then own_component (option_and_then (item (j ∷ a)) o))) h.now ∙ r.kinds
-              ∙ sym (ap (λ o. option_map (λ (c : Component). c.kind) (option_and_then own_component (option_and_then (item (r.number ∷ r.rest)) o))) h.was);
-          defaults = λ p shows.
-              let deep = ap (option_and_then (λ b. nearest_default (j ∷ a) b (row p).name)) h.now ∙ r.defaults p shows ∙ sym (ap (option_and_then (λ b. nearest_default (r.number ∷ r.rest) b (row p).name)) h.was) in
-              λ k. option_or (deep k) (default-before p shows t i h.number (no-default i (j ∷ a) t free) h.before k);
-        }
+    by (Some u) f e ih = inside u f e ih (holding t i u f (not-come i (j ∷ a) t free))
