@@ -1,16 +1,14 @@
 -- Where an item that stays was before a step, along its address, and that it held a component there if it holds one.
-use Rattle.std.proofs.Common.{◌≡◌, ℕ, zero, suc, ◌<◌, Bool, true, false, ◌||◌, List, [], ◌∷◌, ◌++◌, length, Option, Some, None, refl, ap, sym, subst, ◌∙◌, arith}
-use Rattle.std.specs.Prelude.{is_some, slice_get, option_map, option_and_then}
+use Rattle.std.proofs.Common.{◌≡◌, ℕ, Bool, true, false, ◌||◌, List, [], ◌∷◌, ◌++◌, Option, Some, None, refl, ap, sym, ◌∙◌}
+use Rattle.std.specs.Prelude.{is_some, option_map, option_and_then}
 use Rattle.std.specs.Option.{option_or}
 use Rattle.rdl_tree.specs.Items.{Items}
-use Rattle.rdl_tree.specs.View.{list_of}
 use Rattle.rdl_tree.specs.Address.{inner, body_at}
 use Rattle.rdl_tree.specs.Component.{own_component}
 use Rattle.rdl_tree.specs.Properties.{row}
-use Rattle.rdl_tree.specs.declared.shell.Kind.{Kind}
 use Rattle.rdl_tree.specs.declared.property.Property.{Property}
 use Rattle.rdl_tree.specs.declared.description.Component.{Component}
-use Rattle.rdl_scope.specs.Types.{item, component_at}
+use Rattle.rdl_scope.specs.Types.{item}
 use Rattle.rdl_scope.specs.Value.{nearest_default, last_default}
 use Rattle.rdl_scope.specs.Closed.{component}
 use Rattle.rdl_scope.specs.ItemFaults.{kind_at}
@@ -18,7 +16,8 @@ use Rattle.rdl_scope.proofs.Holds.{holds}
 use Rattle.rdl_elab.specs.Tracked.{Tracked, old_of, new_of, number_before, staying, has_come, address_before}
 use Rattle.rdl_elab.specs.EditedBodies.{is_edited, sets_default, is_edited_at, tracked_at}
 use Rattle.rdl_elab.proofs.Numbering.{inner-within}
-use Rattle.rdl_elab.proofs.TrackedBodies.{neither, agrees, was-there, number-less, default-before}
+use Rattle.rdl_elab.proofs.TrackedFinds.{neither}
+use Rattle.rdl_elab.proofs.TrackedBodies.{agrees, was-there, default-before}
 
 -- ---- One step along an address.
 

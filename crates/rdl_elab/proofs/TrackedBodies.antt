@@ -1,11 +1,11 @@
 -- What stays of a body in a step: where each item was before it, and what it holds.
-use Rattle.std.proofs.Common.{◌≡◌, ℕ, zero, suc, ◌<◌, Bool, true, false, ◌&&◌, ◌||◌, List, [], ◌∷◌, ◌++◌, length, Option, Some, None, refl, ap, sym, subst, ◌∙◌, arith}
+use Rattle.std.proofs.Common.{◌≡◌, ℕ, zero, suc, ◌<◌, Bool, true, false, ◌&&◌, List, length, Option, Some, None, refl, ap, sym, subst, ◌∙◌, arith}
 use Rattle.std.specs.Prelude.{is_some, slice_get, unwrap_or, option_map, option_and_then, if◌then◌else◌}
 use Rattle.std.specs.Option.{option_or}
-use Rattle.rdl_tree.specs.Items.{Items, no_items, plain, holder, Plain, named, own, default, dynamic, Holder, define, anonymous}
+use Rattle.rdl_tree.specs.Items.{Items, plain, holder, Plain, named, own, default, dynamic, Holder, define, anonymous}
 use Rattle.rdl_tree.specs.View.{add, list_of}
-use Rattle.rdl_tree.specs.Address.{inner, body_at}
-use Rattle.rdl_tree.specs.Component.{own_component, holder_kind}
+use Rattle.rdl_tree.specs.Address.{inner}
+use Rattle.rdl_tree.specs.Component.{own_component}
 use Rattle.rdl_tree.specs.Properties.{row}
 use Rattle.rdl_tree.specs.declared.shell.Kind.{Kind}
 use Rattle.rdl_tree.specs.declared.property.Property.{Property}
@@ -20,27 +20,13 @@ use Rattle.rdl_elab.specs.Skeleton.{lays_out}
 use Rattle.rdl_elab.specs.Tracked.{Tracked, nothing, comes, goes, named_stays, own_stays, default_stays, dynamic_stays, define_stays, anonymous_stays, old_of, new_of, number_before, staying, has_come}
 use Rattle.rdl_elab.specs.EditedBodies.{is_layout_default, sets_default}
 use Rattle.rdl_elab.proofs.Skeletons.{lays-out}
+use Rattle.rdl_elab.proofs.TrackedFinds.{neither, inner-add}
 
--- ---- Tests and options.
-
-pub neither : (s t : Bool) → (s || t) ≡ false → (s ≡ false) × (t ≡ false)
-neither false false e = (refl, refl)
-neither false true e = cc
-neither true t e = cc
+-- ---- A body with one item more.
 
 or-none : {X : Type 0} (o : Option X) → option_or o None ≡ o
 or-none None = refl
 or-none (Some x) = refl
-
--- ---- A body with one item more.
-
-inner-add : (x : Item) (rest : Items) (i : ℕ) → inner (suc i) (add x rest) ≡ inner i rest
-inner-add (Define n c) rest i = refl
-inner-add (Instance s (Named t)) rest i = refl
-inner-add (Instance s (Anonymous c)) rest i = refl
-inner-add (Own p v) rest i = refl
-inner-add (Default p v) rest i = refl
-inner-add (Dynamic t p v) rest i = refl
 
 -- the kind of the component of item i, if it has one of its own
 abbrev pub kind_in : ℕ → Items → Option Kind
@@ -75,7 +61,7 @@ agrees-gone x new old body i m None ih e = cc
 agrees-gone x new old body i m (Some k) ih e =
     let same : suc k ≡ m = cc in
     let h = ih k refl in
-    subst (λ l. Agrees new (add x old) body i l) same (record { now = h.now; was = inner-add x old k ∙ h.was; kinds = h.kinds ∙ sym (kind-add x old k) })
+    subst (λ l. Agrees new (add x old) body i l) same (record { now = h.now; was = inner-add k x old ∙ h.was; kinds = h.kinds ∙ sym (kind-add x old k) })
 
 -- the first item, without a component and with one
 first-plain : (P Q : Plain) (new old : Items) (m : ℕ) → kind_in 0 (plain P new) ≡ kind_in 0 (plain Q old) → Some 0 ≡ Some m → Agrees (plain P new) (plain Q old) None 0 m
@@ -91,7 +77,7 @@ agrees nothing i m e = cc
 agrees (comes x rest) zero m e = cc
 agrees (comes x rest) (suc i) m e =
     let h = agrees rest i m e in
-    record { now = inner-add x (new_of rest) i ∙ h.now; was = h.was; kinds = kind-add x (new_of rest) i ∙ h.kinds }
+    record { now = inner-add i x (new_of rest) ∙ h.now; was = h.was; kinds = kind-add x (new_of rest) i ∙ h.kinds }
 agrees (goes x rest) i m e = agrees-gone x (new_of rest) (old_of rest) (staying i rest) i m (number_before i rest) (agrees rest i) e
 agrees (named_stays s shell y new rest) zero m e = first-plain (named (unwrap_or shell s) (unwrap_or new y)) (named s y) (new_of rest) (old_of rest) m refl e
 agrees (own_stays p v value rest) zero m e = first-plain (own p (unwrap_or value v)) (own p v) (new_of rest) (old_of rest) m refl e

@@ -1,11 +1,9 @@
 -- A step leaves every component unchanged but for those of the bodies that it changes, and of those inside them.
-use Rattle.std.proofs.Common.{◌≡◌, ℕ, zero, suc, ◌+◌, Bool, true, false, ◌&&◌, ◌||◌, List, [], ◌∷◌, ◌++◌, Option, Some, None, refl, ap, sym, subst, ◌∙◌}
+use Rattle.std.proofs.Common.{◌≡◌, ℕ, zero, suc, Bool, true, false, ◌&&◌, ◌||◌, List, [], ◌∷◌, ◌++◌, Option, Some, None, refl, ap, sym, subst, ◌∙◌}
 use Rattle.std.specs.Prelude.{is_some, slice_get, bytes_eq, option_map, option_and_then, if◌then◌else◌}
 use Rattle.std.specs.Option.{option_or}
-use Rattle.rdl_tree.specs.Items.{Items, holder, define}
 use Rattle.rdl_tree.specs.View.{list_of}
 use Rattle.rdl_tree.specs.Address.{inner, body_at}
-use Rattle.rdl_tree.specs.declared.description.Item.{Item}
 use Rattle.rdl_scope.specs.Types.{last_definition, type_at, item, type_of}
 use Rattle.rdl_scope.specs.Walk.{reference_of}
 use Rattle.rdl_scope.specs.Closed.{Made, component}
@@ -14,10 +12,10 @@ use Rattle.rdl_scope.proofs.Holds.{holds}
 use Rattle.rdl_scope.proofs.Searches.{type_of-reference}
 use Rattle.rdl_elab.specs.Reach.{stands_for, AreUnchangedBut}
 use Rattle.rdl_elab.specs.Skeleton.{lays_out}
-use Rattle.rdl_elab.specs.Tracked.{Tracked, nothing, comes, goes, named_stays, own_stays, default_stays, dynamic_stays, define_stays, anonymous_stays, old_of, new_of, number_before, staying, has_come, address_before}
+use Rattle.rdl_elab.specs.Tracked.{Tracked, nothing, named_stays, own_stays, default_stays, dynamic_stays, define_stays, anonymous_stays, old_of, new_of, number_before, staying, has_come, address_before}
 use Rattle.rdl_elab.specs.EditedBodies.{is_edited, sets_default, is_edited_at, is_changed, is_changed_at, tracked_at}
 use Rattle.rdl_elab.proofs.PartsFound.{item-here}
-use Rattle.rdl_elab.proofs.TrackedBodies.{neither}
+use Rattle.rdl_elab.proofs.TrackedFinds.{neither}
 use Rattle.rdl_elab.proofs.TrackedAddresses.{Stays, stays}
 use Rattle.rdl_elab.proofs.TrackedInstances.{StandsAs, LeadAlike}
 use Rattle.rdl_elab.proofs.TrackedRest.{is-unchanged}

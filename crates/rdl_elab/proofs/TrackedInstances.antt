@@ -1,16 +1,14 @@
 -- The instances of a body that isn't edited are like those that it had.
-use Rattle.std.proofs.Common.{◌≡◌, ℕ, zero, suc, ◌+◌, Bool, true, false, ◌&&◌, ◌||◌, List, [], ◌∷◌, ◌++◌, Option, Some, None, refl, ap, sym, subst, ◌∙◌, arith}
-use Rattle.std.specs.Prelude.{not, is_some, nat_eq, bytes_eq, slice_get, unwrap_or, option_map, option_and_then}
+use Rattle.std.proofs.Common.{◌≡◌, ℕ, suc, ◌+◌, true, false, ◌&&◌, List, [], ◌∷◌, ◌++◌, Option, Some, None, refl, ap, sym, subst, ◌∙◌, arith}
+use Rattle.std.specs.Prelude.{is_some, nat_eq, bytes_eq, slice_get, unwrap_or, option_map, option_and_then}
 use Rattle.std.proofs.lemmas.Bool.{and_parts, not-false, eqb-true}
 use Rattle.std.proofs.lemmas.Slice.Eq.{bytes_eq-Decides}
-use Rattle.rdl_tree.specs.Items.{Items, plain, holder, named, anonymous}
+use Rattle.rdl_tree.specs.Items.{Items}
 use Rattle.rdl_tree.specs.View.{add, list_of}
-use Rattle.rdl_tree.specs.declared.shell.Kind.{Kind}
 use Rattle.rdl_tree.specs.declared.shell.Shell.{Shell}
 use Rattle.rdl_tree.specs.declared.description.Component.{Component}
 use Rattle.rdl_tree.specs.declared.description.Item.{Item}
 use Rattle.rdl_tree.specs.declared.description.Item.TheVariants.{Define, Instance, Own, Default, Dynamic}
-use Rattle.rdl_tree.specs.declared.description.Of.{Of}
 use Rattle.rdl_tree.specs.declared.description.Of.TheVariants.{Named, Anonymous}
 use Rattle.rdl_tree.proofs.Rounds.{list_of-add}
 use Rattle.rdl_scope.specs.Types.{item, held_by, type_from, type_of, component_of}
@@ -20,7 +18,7 @@ use Rattle.rdl_elab.specs.Reach.{SaysTheSame, AreLike}
 use Rattle.rdl_elab.specs.Skeleton.{lays_out}
 use Rattle.rdl_elab.specs.Tracked.{Tracked, nothing, comes, goes, named_stays, own_stays, default_stays, dynamic_stays, define_stays, anonymous_stays, old_of, new_of, number_before}
 use Rattle.rdl_elab.specs.EditedBodies.{same_number, same_range, says_the_same, is_reshaped, is_laid_out, is_edited}
-use Rattle.rdl_elab.proofs.TrackedBodies.{neither}
+use Rattle.rdl_elab.proofs.TrackedFinds.{neither}
 
 -- ---- Shells that say the same.
 

@@ -1,14 +1,12 @@
 -- A step leaves every component unchanged but for those whose bodies it edits.
-use Rattle.std.proofs.Common.{◌≡◌, ℕ, zero, suc, ◌+◌, ◌<◌, ◌≤◌, Bool, true, false, ◌||◌, List, [], ◌∷◌, ◌++◌, length, Option, Some, None, refl, ap, sym, subst, ◌∙◌, arith, ◌⊎◌, inl, inr}
-use Rattle.std.specs.Prelude.{not, is_some, bytes_eq, slice_get, option_map, option_and_then}
+use Rattle.std.proofs.Common.{◌≡◌, ℕ, zero, suc, ◌+◌, ◌<◌, ◌≤◌, true, false, List, [], ◌∷◌, ◌++◌, length, Option, Some, None, refl, ap, sym, subst, ◌∙◌, arith, ◌⊎◌, inl, inr}
+use Rattle.std.specs.Prelude.{not, is_some, bytes_eq, slice_get, option_map}
 use Rattle.std.specs.Option.{option_or}
 use Rattle.std.proofs.lemmas.Bool.{not-false, cases_lt}
 use Rattle.std.proofs.lemmas.Slice.Eq.{bytes_eq-Decides}
 use Rattle.rdl_tree.specs.Items.{Items}
 use Rattle.rdl_tree.specs.View.{list_of}
-use Rattle.rdl_tree.specs.Address.{body_at}
 use Rattle.rdl_tree.specs.Properties.{row}
-use Rattle.rdl_tree.specs.declared.shell.Kind.{Kind}
 use Rattle.rdl_tree.specs.declared.property.Property.{Property}
 use Rattle.rdl_tree.specs.declared.description.Component.{Component}
 use Rattle.rdl_scope.specs.Types.{type_of, items_in}
@@ -20,7 +18,8 @@ use Rattle.rdl_elab.specs.Reach.{stands_for, AreLike, IsUnchanged, AreUnchangedB
 use Rattle.rdl_elab.specs.Tracked.{Tracked, old_of, new_of, number_before, address_before}
 use Rattle.rdl_elab.specs.EditedBodies.{is_edited, sets_default, is_edited_at, leads_where_it_led, has_another_type, any_has_another_type, edits}
 use Rattle.rdl_elab.proofs.PartsFound.{item-here}
-use Rattle.rdl_elab.proofs.TrackedBodies.{neither, number-less}
+use Rattle.rdl_elab.proofs.TrackedFinds.{neither}
+use Rattle.rdl_elab.proofs.TrackedBodies.{number-less}
 use Rattle.rdl_elab.proofs.TrackedAddresses.{Stays, stays, both-hold}
 use Rattle.rdl_elab.proofs.TrackedValues.{own-stays, values-alike}
 use Rattle.rdl_elab.proofs.TrackedInstances.{StandsAs, LeadAlike, instances-alike}

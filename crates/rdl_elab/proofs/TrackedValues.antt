@@ -1,5 +1,5 @@
 -- A component of a body that isn't edited has the layout values that it had.
-use Rattle.std.proofs.Common.{◌≡◌, ℕ, Bool, true, false, ◌&&◌, ◌||◌, List, [], ◌∷◌, Option, Some, None, refl, ap, sym, ◌∙◌}
+use Rattle.std.proofs.Common.{◌≡◌, ℕ, Bool, true, false, ◌&&◌, List, Option, Some, None, refl, ap, sym, ◌∙◌}
 use Rattle.std.specs.Prelude.{is_some, bytes_eq, unwrap_or, if◌then◌else◌}
 use Rattle.std.specs.Option.{option_or}
 use Rattle.rdl_tree.specs.Items.{Items}
@@ -18,7 +18,7 @@ use Rattle.rdl_elab.specs.Skeleton.{lays_out}
 use Rattle.rdl_elab.specs.Tracked.{Tracked, nothing, comes, goes, named_stays, own_stays, default_stays, dynamic_stays, define_stays, anonymous_stays, old_of, new_of}
 use Rattle.rdl_elab.specs.EditedBodies.{is_laid_out, is_reshaped, is_edited}
 use Rattle.rdl_elab.proofs.Skeletons.{lays-out}
-use Rattle.rdl_elab.proofs.TrackedBodies.{neither}
+use Rattle.rdl_elab.proofs.TrackedFinds.{neither}
 
 -- ---- Its own assignments.
 
