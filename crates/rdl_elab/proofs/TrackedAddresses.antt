@@ -38,10 +38,12 @@ pub record Leads (t : Tracked) (i : ℕ) (a x : List ℕ) : Type 0 where
   pub is : x ≡ number ∷ rest
   pub exists : is_some (body_at (i ∷ a) (new_of t)) ≡ is_some (body_at (number ∷ rest) (old_of t))
 
+-- two items that hold a tracked body, or none
 both-some : (i m : ℕ) (new old : Items) (o : Option Tracked) → inner i new ≡ option_map new_of o → inner m old ≡ option_map old_of o → is_some (body_at (i ∷ []) new) ≡ is_some (body_at (m ∷ []) old)
 both-some i m new old None e f = ap (λ o. is_some (option_and_then (body_at []) o)) e ∙ sym (ap (λ o. is_some (option_and_then (body_at []) o)) f)
 both-some i m new old (Some body) e f = ap (λ o. is_some (option_and_then (body_at []) o)) e ∙ sym (ap (λ o. is_some (option_and_then (body_at []) o)) f)
 
+-- an address before leads to a body where the address after does
 pub leads : (i : ℕ) (a : List ℕ) (t : Tracked) (x : List ℕ) → address_before (i ∷ a) t ≡ Some x → Leads t i a x
 leads i [] t x e = by (number_before i t) refl e
   where
@@ -74,6 +76,7 @@ leads i (j ∷ a) t x e = by (number_before i t) refl (staying i t) refl (leads 
     by (Some m) f None g ih e = cc
     by (Some m) f (Some body) g ih e = deep m f body g (address_before (j ∷ a) body) (ih body) e
 
+-- and so to a component
 pub both-hold : (t : Tracked) (a x : List ℕ) → address_before a t ≡ Some x → is_some (component (new_of t) a) ≡ is_some (component (old_of t) x)
 both-hold t [] x e = let same : [] ≡ x = cc in ap (λ y. is_some (component (old_of t) y)) same
 both-hold t (i ∷ a) x e =
@@ -82,6 +85,7 @@ both-hold t (i ∷ a) x e =
 
 -- ---- A body that isn't edited, at an address.
 
+-- the tracked body there, where it was, and what it takes from around it
 pub record Stays (t : Tracked) (i : ℕ) (a : List ℕ) : Type 0 where
   pub number : ℕ
   pub rest : List ℕ
@@ -112,6 +116,7 @@ record Holds (t : Tracked) (i : ℕ) : Type 0 where
   now : inner i (new_of t) ≡ Some (new_of body)
   was : inner number (old_of t) ≡ Some (old_of body)
 
+-- one that holds a component and hasn't come
 holding : (t : Tracked) (i : ℕ) (s : Items) → inner i (new_of t) ≡ Some s → has_come i t ≡ false → Holds t i
 holding t i s e come =
     let there = was-there t i (inner-within i (new_of t) s e) come in
@@ -173,6 +178,7 @@ stays-inside i j a t h free r = record {
       (default-before p shows t i h.number (no-default i (j ∷ a) t free) h.before);
 }
 
+-- the body at an address that isn't edited
 pub stays : (i : ℕ) (a : List ℕ) (t : Tracked) (s : Items) → body_at (i ∷ a) (new_of t) ≡ Some s → is_edited_at (i ∷ a) t ≡ false → Stays t i a
 stays i [] t s e free = by (inner i (new_of t)) refl e
   where

@@ -24,6 +24,7 @@ use Rattle.rdl_elab.proofs.TrackedFinds.{neither, inner-add}
 
 -- ---- A body with one item more.
 
+-- an option, or else none
 or-none : {X : Type 0} (o : Option X) → option_or o None ≡ o
 or-none None = refl
 or-none (Some x) = refl
@@ -32,16 +33,19 @@ or-none (Some x) = refl
 abbrev pub kind_in : ℕ → Items → Option Kind
 kind_in i t = option_map (λ (c : Component). c.kind) (option_and_then own_component (slice_get (list_of t) i))
 
+-- that of an item behind another
 kind-add : (x : Item) (rest : Items) (i : ℕ) → kind_in (suc i) (add x rest) ≡ kind_in i rest
 kind-add x rest i = ap (λ xs. option_map (λ (c : Component). c.kind) (option_and_then own_component (slice_get xs (suc i)))) (list_of-add x rest)
 
 -- ---- An item that stays holds what it held.
 
+-- the items of these numbers hold the tracked body, or none, and components of one kind
 pub record Agrees (new old : Items) (body : Option Tracked) (i m : ℕ) : Type 0 where
   pub now : inner i new ≡ option_map new_of body
   pub was : inner m old ≡ option_map old_of body
   pub kinds : kind_in i new ≡ kind_in m old
 
+-- behind an item that stays
 agrees-plain : (P Q : Plain) (new old : Items) (body : Option Tracked) (i m : ℕ) (o : Option ℕ) → ((k : ℕ) → o ≡ Some k → Agrees new old body i k) → option_map suc o ≡ Some m → Agrees (plain P new) (plain Q old) body (suc i) m
 agrees-plain P Q new old body i m None ih e = cc
 agrees-plain P Q new old body i m (Some k) ih e =
@@ -56,6 +60,7 @@ agrees-holder H G x y new old body i m (Some k) ih e =
     let h = ih k refl in
     subst (λ l. Agrees (holder H x new) (holder G y old) body (suc i) l) same (record { now = h.now; was = h.was; kinds = h.kinds })
 
+-- behind one that goes
 agrees-gone : (x : Item) (new old : Items) (body : Option Tracked) (i m : ℕ) (o : Option ℕ) → ((k : ℕ) → o ≡ Some k → Agrees new old body i k) → option_map suc o ≡ Some m → Agrees new (add x old) body i m
 agrees-gone x new old body i m None ih e = cc
 agrees-gone x new old body i m (Some k) ih e =
@@ -72,6 +77,7 @@ first-holder : (H G : Holder) (body : Tracked) (new old : Items) (m : ℕ) → k
 first-holder H G body new old m kinds e =
     let same : 0 ≡ m = cc in subst (λ l. Agrees (holder H (new_of body) new) (holder G (old_of body) old) (Some body) 0 l) same (record { now = refl; was = refl; kinds = kinds })
 
+-- an item that has a number before
 pub agrees : (t : Tracked) (i m : ℕ) → number_before i t ≡ Some m → Agrees (new_of t) (old_of t) (staying i t) i m
 agrees nothing i m e = cc
 agrees (comes x rest) zero m e = cc
@@ -98,13 +104,16 @@ agrees (anonymous_stays s shell k body rest) (suc i) m e =
 
 -- ---- An item that hasn't come has a number before.
 
+-- there is a number
 pub record Numbered (o : Option ℕ) : Type 0 where
   pub number : ℕ
   pub is : o ≡ Some number
 
+-- behind one item more
 one-more : (o : Option ℕ) → Numbered o → Numbered (option_map suc o)
 one-more o h = record { number = suc h.number; is = ap (option_map suc) h.is }
 
+-- an item that hasn't come was there
 pub was-there : (t : Tracked) (i : ℕ) → i < length (list_of (new_of t)) → has_come i t ≡ false → Numbered (number_before i t)
 was-there nothing i less e = let no : ⊥ = omega (arith, less) in absurd no
 was-there (comes x rest) zero less e = cc
@@ -149,6 +158,7 @@ number-less (anonymous_stays s shell k body rest) (suc i) m e = omega (arith, le
 -- ---- The defaults before an item.
 
 module _ (p : Property) (shows : (row p).layout ≡ true) where
+  -- behind an item that is no default on which layouts depend
   default-add : (x : Item) (rest : Items) (i : ℕ) → is_layout_default x ≡ false → last_default (row p).name (suc i) (add x rest) ≡ last_default (row p).name i rest
   default-add (Define n c) rest i e = refl
   default-add (Instance s (Named t)) rest i e = or-none (last_default (row p).name i rest)
@@ -160,6 +170,7 @@ module _ (p : Property) (shows : (row p).layout ≡ true) where
   abbrev SameDefaults : Items → Items → ℕ → ℕ → Type 0
   SameDefaults new old i m = last_default (row p).name i new ≡ last_default (row p).name m old
 
+  -- the default before two items of these numbers, where one item more stands before them: one that stays, and one that goes
   defaults-plain : (P Q : Plain) (new old : Items) (i m : ℕ) (o : Option ℕ) → defaulted (row p).name P ≡ defaulted (row p).name Q → ((k : ℕ) → o ≡ Some k → SameDefaults new old i k) → option_map suc o ≡ Some m
       → SameDefaults (plain P new) (plain Q old) (suc i) m
   defaults-plain P Q new old i m None alike ih e = cc
@@ -175,6 +186,7 @@ module _ (p : Property) (shows : (row p).layout ≡ true) where
   defaults-gone x new old i m None free ih e = cc
   defaults-gone x new old i m (Some k) free ih e = let same : suc k ≡ m = cc in subst (λ l. SameDefaults new (add x old) i l) same (ih k refl ∙ sym (default-add x old k free))
 
+  -- before the first item
   defaults-first : (new old : Items) (m : ℕ) → Some 0 ≡ Some m → SameDefaults new old 0 m
   defaults-first new old m e = let same : 0 ≡ m = cc in subst (λ l. SameDefaults new old 0 l) same refl
 
@@ -187,6 +199,7 @@ module _ (p : Property) (shows : (row p).layout ≡ true) where
       by true is e = cc
       by false is e = ap (λ b. if b then Some w else None) (lays-out p q shows is) ∙ sym (ap (λ b. if b then Some v else None) (lays-out p q shows is))
 
+  -- before an item that stays stands the default that stood before it
   pub default-before : (t : Tracked) (i m : ℕ) → sets_default t ≡ false → number_before i t ≡ Some m → SameDefaults (new_of t) (old_of t) i m
   default-before nothing i m free e = cc
   default-before (comes x rest) zero m free e = cc

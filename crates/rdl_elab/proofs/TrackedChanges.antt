@@ -22,10 +22,12 @@ use Rattle.rdl_elab.proofs.TrackedRest.{is-unchanged}
 
 -- ---- In a body that isn't changed.
 
+-- no value is set
 no-value : (z b : Bool) → b ≡ false → (z && false || b) ≡ false
 no-value true b e = e
 no-value false b e = e
 
+-- none is edited, none comes
 not-edited : (t : Tracked) → is_changed t ≡ false → is_edited t ≡ false
 not-edited nothing e = refl
 not-edited (named_stays s None y None rest) e = not-edited rest e
@@ -137,6 +139,7 @@ reference-same t i e = cc
 abbrev deeper : List ℕ → Option Tracked → Bool
 deeper a o = elim o [ None ↦ false | Some body ↦ is_changed_at a body ]
 
+-- the body around, and those inside
 first-same : (a : List ℕ) (t : Tracked) → is_changed_at a t ≡ false → is_changed t ≡ false
 first-same [] t e = e
 first-same (i ∷ a) t e = (neither (is_changed t) (deeper a (staying i t)) e).0
@@ -198,6 +201,7 @@ address-same (i ∷ j ∷ a) t x e f = by (number_before i t) refl (staying i t)
 
 -- ---- An item of a body that isn't changed.
 
+-- it stands in such a body
 pub record StandsIn (t : Tracked) (p : List ℕ) : Type 0 where
   pub around : List ℕ
   pub number : ℕ
@@ -302,12 +306,14 @@ module _ (t : Tracked) (bodies : List (List ℕ))
   abbrev stands : List ℕ → Option (List ℕ)
   stands = stands_for (old_of t) bodies (new_of t)
 
+  -- an item of such a body stands for itself
   itself : (p : List ℕ) → StandsIn t p → (c : Made) → component (new_of t) p ≡ Some c → stands p ≡ Some p
   itself p s c e = subst (λ q. component (new_of t) q ≡ Some c → stands q ≡ Some q) (sym s.is) (stand s.around s.number c s.free) e
 
   stands-as : (p : List ℕ) → StandsIn t p → StandsAs (old_of t) (new_of t) stands p p
   stands-as p s = record { exists = subst (λ q. is_some (component (new_of t) q) ≡ is_some (component (old_of t) q)) (sym s.is) (component-both t s.around s.number s.free); is = itself p s }
 
+  -- two references to one item of such a body
   lead-alike : (o r : Option (List ℕ)) → o ≡ r → ((p : List ℕ) → o ≡ Some p → StandsIn t p) → LeadAlike (old_of t) (new_of t) stands o r
   lead-alike None None e h = tt
   lead-alike None (Some q) e h = cc

@@ -57,6 +57,7 @@ says-same s u e =
       align = sym (number-same s.align u.align fourth.1);
     }
 
+-- an instance that isn't reshaped
 still-says : (s : Shell) (shell : Option Shell) → is_reshaped s shell ≡ false → SaysTheSame (unwrap_or shell s) s
 still-says s None e = record { dims = refl; range = refl; address = refl; stride = refl; align = refl }
 still-says s (Some u) e = says-same s u (not-false (says_the_same s u) e)
@@ -76,6 +77,7 @@ module _ (old new : Items) (stands : List ℕ → Option (List ℕ)) where
   LeadAlike (Some p) None = ⊥
   LeadAlike (Some p) (Some q) = StandsAs p q
 
+  -- two instances whose types lead to such addresses
   one-alike : (at was : List ℕ) (s u : Shell) (p q : List ℕ) (rest more : Parts) → SaysTheSame s u → StandsAs p q → AreLike stands rest more
       → (c k : Option Made) → component new p ≡ c → component old q ≡ k → AreLike stands (with_made at s c rest) (with_made was u k more)
   one-alike at was s u p q rest more says h alike None None e f = alike
@@ -87,6 +89,7 @@ module _ (old new : Items) (stands : List ℕ → Option (List ℕ)) where
     alike,
   )
 
+  -- two instances whose types lead alike
   pub with-alike : (at was : List ℕ) (s u : Shell) (o r : Option (List ℕ)) (rest more : Parts) → SaysTheSame s u → LeadAlike o r → AreLike stands rest more
       → AreLike stands (with_made at s (option_and_then (component new) o) rest) (with_made was u (option_and_then (component old) r) more)
   with-alike at was s u None None rest more says h alike = alike
@@ -114,14 +117,15 @@ lies-next d b n x xs l i = let e : suc n + i ≡ n + suc i = omega arith in ap (
 lies-first : (d : Items) (b : List ℕ) (n : ℕ) (x : Item) (xs : List Item) → Lies d b n (x ∷ xs) → item (b ++ n ∷ []) d ≡ Some x
 lies-first d b n x xs l = let e : n ≡ n + 0 = omega arith in ap (λ k. item (b ++ k ∷ []) d) e ∙ l 0
 
--- the reference of a named instance, and the component of an anonymous one
+-- the component of a named instance is that of its type
 named-of : (d : Items) (a : List ℕ) (s : Shell) (y : List ℕ) → item a d ≡ Some (Instance s (Named y)) → component_of d a ≡ type_of d a
 named-of d a s y e = ap (option_and_then (held_by d a)) e ∙ sym (ap (option_and_then (type_from d a)) e)
 
--- the items of a tracked body from these numbers on are tracked so
+-- from these numbers on, after the step and before it, a tracked body goes on with these items
 abbrev Tracks : Tracked → ℕ → ℕ → Tracked → Type 0
 Tracks body n m t = (i k : ℕ) → number_before i t ≡ Some k → number_before (n + i) body ≡ Some (m + k)
 
+-- behind an item that comes, and one that goes
 tracks-come : (body : Tracked) (n m : ℕ) (x : Item) (t : Tracked) → Tracks body n m (comes x t) → Tracks body (suc n) m t
 tracks-come body n m x t h i k e = let same : suc n + i ≡ n + suc i = omega arith in ap (λ j. number_before j body) same ∙ h (suc i) k e
 
@@ -135,6 +139,7 @@ tracks-next body n m t rest one h i k e =
     let number : m + suc k ≡ suc m + k = omega arith in
     ap (λ j. number_before j body) same ∙ h (suc i) (suc k) (one i ∙ ap (option_map suc) e) ∙ ap Some number
 
+-- an item that stays has its number before
 tracks-first : (body : Tracked) (n m : ℕ) (t : Tracked) → number_before 0 t ≡ Some 0 → Tracks body n m t → number_before n body ≡ Some m
 tracks-first body n m t first h =
     let same : n ≡ n + 0 = omega arith in
@@ -143,6 +148,7 @@ tracks-first body n m t first h =
 
 -- ---- The instances of a body.
 
+-- the body at a stood at x; the types of its items lead alike, and its items stand for what they were
 module _ (old new : Items) (stands : List ℕ → Option (List ℕ)) (a x : List ℕ) (body : Tracked)
     (types : (n m : ℕ) → number_before n body ≡ Some m → LeadAlike old new stands (type_of new (a ++ n ∷ [])) (type_of old (x ++ m ∷ [])))
     (itself : (n m : ℕ) → number_before n body ≡ Some m → StandsAs old new stands (a ++ n ∷ []) (x ++ m ∷ [])) where
@@ -161,6 +167,7 @@ module _ (old new : Items) (stands : List ℕ → Option (List ℕ)) (a x : List
       let was : component_of old (x ++ m ∷ []) ≡ Some (x ++ m ∷ []) = ap (option_and_then (held_by old (x ++ m ∷ []))) f in
       subst (λ o. LeadAlike old new stands o (component_of old (x ++ m ∷ []))) (sym now) (subst (λ o. LeadAlike old new stands (Some (a ++ n ∷ [])) o) (sym was) (itself n m number))
 
+  -- all instances from these numbers on
   pub instances-alike : (t : Tracked) (n m : ℕ) → is_edited t ≡ false → Tracks body n m t → Lies new a n (list_of (new_of t)) → Lies old x m (list_of (old_of t))
       → AreLike stands (instances new a n (new_of t)) (instances old x m (old_of t))
   instances-alike nothing n m free tracks l k = tt

@@ -24,6 +24,7 @@ use Rattle.rdl_elab.proofs.TrackedAddresses.{Stays, stays, both-hold}
 use Rattle.rdl_elab.proofs.TrackedValues.{own-stays, values-alike}
 use Rattle.rdl_elab.proofs.TrackedInstances.{StandsAs, LeadAlike, instances-alike}
 
+-- an option that is some
 some-there : {X : Type 0} (o : Option X) → is_some o ≡ true → (x : X) × (o ≡ Some x)
 some-there None e = cc
 some-there (Some x) e = (x, refl)
@@ -55,6 +56,7 @@ module _ (t : Tracked) (bodies : List (List ℕ)) where
           let same : Some c.head.kind ≡ Some k.head.kind = sym now ∙ s.kinds ∙ was in
           cc
 
+      -- what the text says of its properties
       stated-alike : (p : Property) → (row p).layout ≡ true → stated c.head (row p).name ≡ stated k.head (row p).name
       stated-alike p shows =
           let own = ap (own_value (row p).name) body-now ∙ own-stays p shows s.body not-edited ∙ sym (ap (own_value (row p).name) body-was) in
@@ -76,6 +78,7 @@ module _ (t : Tracked) (bodies : List (List ℕ)) where
             (λ j. item-here (i ∷ a) (new_of t) (new_of s.body) (0 + j) s.now ∙ ap (slice_get (list_of (new_of s.body))) (none j))
             (λ j. item-here at (old_of t) (old_of s.body) (0 + j) s.was ∙ ap (slice_get (list_of (old_of s.body))) (none j))))
 
+    -- such a component is unchanged
     pub is-unchanged : (c : Made) → component (new_of t) (i ∷ a) ≡ Some c → stands (i ∷ a) ≡ Some at
         → ((n m : ℕ) → number_before n s.body ≡ Some m → LeadAlike (old_of t) (new_of t) stands (type_of (new_of t) (i ∷ a ++ n ∷ [])) (type_of (old_of t) (at ++ m ∷ [])))
         → ((n m : ℕ) → number_before n s.body ≡ Some m → StandsAs (old_of t) (new_of t) stands (i ∷ a ++ n ∷ []) (at ++ m ∷ []))
@@ -96,6 +99,7 @@ module _ (t : Tracked) (bodies : List (List ℕ)) where
 
 -- ---- Types that lead where they led.
 
+-- no item of a body has another type
 any-other : (t : Tracked) (old new : Items) (b : List ℕ) (k n : ℕ) → any_has_another_type t old new b k ≡ false → n < k → has_another_type t old new (b ++ n ∷ []) ≡ false
 any-other t old new b zero n e less = let no : ⊥ = omega (arith, less) in absurd no
 any-other t old new b (suc k) n e less = by (cases_lt n k) (any-other t old new b k n)
@@ -111,9 +115,11 @@ any-other t old new b (suc k) n e less = by (cases_lt n k) (any-other t old new 
 
 module _ (t : Tracked) (bodies : List (List ℕ))
     (stand : (a x : List ℕ) (c : Made) → component (new_of t) a ≡ Some c → address_before a t ≡ Some x → stands_for (old_of t) bodies (new_of t) a ≡ Some x) where
+  -- an item that stays stands for what it was
   stands-as : (p q : List ℕ) → address_before p t ≡ Some q → StandsAs (old_of t) (new_of t) (stands t bodies) p q
   stands-as p q e = record { exists = both-hold t p q e; is = λ c f. stand p q c f e }
 
+  -- and so does a type that leads where it led
   lead-alike : (o r : Option (List ℕ)) → leads_where_it_led t o r ≡ true → LeadAlike (old_of t) (new_of t) (stands t bodies) o r
   lead-alike None None e = tt
   lead-alike None (Some q) e = cc
