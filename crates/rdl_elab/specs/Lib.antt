@@ -30,3 +30,5 @@ pub mod Stands
 pub mod TypeStacks
 pub mod Tops
 pub mod Found
+pub mod Tracked
+pub mod EditedBodies
