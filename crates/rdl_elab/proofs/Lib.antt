@@ -51,8 +51,6 @@ pub mod Reaching
 pub mod InReach
 pub mod Skeletons
 pub mod InOrder
-pub mod Beside
-pub mod Unedited
 pub mod TrackedBodies
 pub mod TrackedAddresses
 pub mod TrackedValues

@@ -1,15 +1,14 @@
 -- What edits reach in two register files of one map, and its skeleton, by computing.
 use Rattle.std.proofs.Common.{◌≡◌, ℕ, Bool, List, [], ◌∷◌, Some, refl}
 use Rattle.std.specs.Prelude.{bytes_eq, codes}
-use Rattle.rdl_tree.specs.Items.{Items, no_items, plain, holder, named, own, dynamic, define, anonymous}
-use Rattle.rdl_tree.specs.Properties.{property_of}
+use Rattle.rdl_tree.specs.Items.{Items, no_items, plain, holder, named, dynamic, define, anonymous}
 use Rattle.rdl_tree.specs.Shell.{bare_shell}
 use Rattle.rdl_tree.specs.declared.shell.Kind.TheVariants.{Addrmap, Regfile, Reg, Field}
 use Rattle.rdl_tree.specs.declared.shell.Shell.{Shell}
 use Rattle.rdl_tree.specs.declared.value.Value.TheVariants.{Number}
 use Rattle.rdl_elab.specs.AllKept.{instances_at}
 use Rattle.rdl_elab.specs.Reach.{in_reach}
-use Rattle.rdl_elab.specs.Skeleton.{skeleton, skeleton_beside}
+use Rattle.rdl_elab.specs.Skeleton.{skeleton}
 
 -- reg { field {} f; } with this shell
 abbrev full : Shell → Items → Items
@@ -53,8 +52,3 @@ of_root = refl
 -- another name of the type and of its register, a reset in it, and an assignment from the top: the skeleton is one
 new_names : skeleton (two (codes "C") (full (record (bare_shell (codes "y")) { reset = Some 1 }) no_items) (plain (dynamic (codes "b" ∷ codes "y" ∷ []) (codes "desc") (Number 1)) no_items)) ≡ skeleton small
 new_names = refl
-
--- two of x, behind an alignment of B: beside its body all is one
-resized : skeleton_beside (only (1 ∷ [])) (two (codes "B") (plain (own (codes "alignment") (Number 8)) (full (record (bare_shell (codes "x")) { dims = 2 ∷ [] }) no_items)) no_items) ≡ skeleton_beside (only (1 ∷ [])) small
-unfolding property_of
-resized = refl

@@ -1,11 +1,10 @@
 -- The skeleton of a description: what its layouts depend on, and nothing else. Descriptions of one skeleton have the same layouts.
 -- own: SystemRDL 2.0 says how components are laid out, and nothing of edits.
-use Rattle.std.specs.Prelude.{ℕ, suc, Bool, true, false, not, ◌&&◌, List, [], ◌∷◌, ◌++◌, length, Option, Some, None, bytes_eq, if◌then◌else◌}
+use Rattle.std.specs.Prelude.{ℕ, Bool, false, List, [], ◌∷◌, length, Option, Some, None, bytes_eq, if◌then◌else◌}
 use Rattle.rdl_tree.specs.Items.{Items, no_items, plain, holder, named, own, default, dynamic, define, anonymous}
 use Rattle.rdl_tree.specs.Properties.{row, property_of}
 use Rattle.rdl_tree.specs.declared.shell.Shell.{Shell}
 use Rattle.rdl_tree.specs.declared.shell.Outside.TheVariants.{Unsaid}
-use Rattle.rdl_tree.specs.declared.value.Value.TheVariants.{Bool as Boolean}
 
 -- layouts depend on the property of this name
 abbrev pub lays_out : List ℕ → Bool
@@ -38,43 +37,3 @@ skeleton_in scope (holder (anonymous s k) body rest) = holder (anonymous (skelet
 
 abbrev pub skeleton : Items → Items
 skeleton d = skeleton_in [] d
-
--- ---- Beside some bodies.
-
-abbrev pub no_shell : Shell
-no_shell = record { name = []; outside = Unsaid; dims = []; range = None; reset = None; address = None; stride = None; align = None }
-
--- of an instance, in one of these bodies or in another
-abbrev pub shell_beside : Bool → Shell → Shell
-shell_beside true s = no_shell
-shell_beside false s = skeleton_shell s
-
-abbrev pub type_beside : Bool → Option ℕ → List ℕ
-type_beside true t = []
-type_beside false t = skeleton_type t
-
--- one of these bodies begins with an empty assignment
-abbrev pub marked_if : Bool → Items → Items
-marked_if true t = plain (dynamic [] [] (Boolean true)) t
-marked_if false t = t
-
--- the skeleton without what the items of these bodies themselves say: the places and types of their instances, and their own assignments.
--- Their definitions, defaults, and what is inside them stay
-abbrev pub beside_in : (List ℕ → Bool) → (here : Bool) → List (List ℕ) → List ℕ → ℕ → Items → Items
-beside_in bodies here scope b n no_items = no_items
-beside_in bodies here scope b n (plain (named s t) rest) =
-    plain (named (shell_beside here s) (type_beside here (number_in scope t))) (beside_in bodies here scope b (suc n) rest)
-beside_in bodies here scope b n (plain (own p v) rest) =
-    if lays_out p && not here then plain (own p v) (beside_in bodies here scope b (suc n) rest) else beside_in bodies here scope b (suc n) rest
-beside_in bodies here scope b n (plain (default p v) rest) =
-    if lays_out p then plain (default p v) (beside_in bodies here scope b (suc n) rest) else beside_in bodies here scope b (suc n) rest
-beside_in bodies here scope b n (plain (dynamic t p v) rest) = beside_in bodies here scope b (suc n) rest
-beside_in bodies here scope b n (holder (define x k) body rest) =
-    let at = b ++ n ∷ [] in
-    holder (define (length scope ∷ []) k) (marked_if (bodies at) (beside_in bodies (bodies at) scope at 0 body)) (beside_in bodies here (x ∷ scope) b (suc n) rest)
-beside_in bodies here scope b n (holder (anonymous s k) body rest) =
-    let at = b ++ n ∷ [] in
-    holder (anonymous (shell_beside here s) k) (marked_if (bodies at) (beside_in bodies (bodies at) scope at 0 body)) (beside_in bodies here scope b (suc n) rest)
-
-abbrev pub skeleton_beside : (List ℕ → Bool) → Items → Items
-skeleton_beside bodies d = beside_in bodies (bodies []) [] [] 0 d

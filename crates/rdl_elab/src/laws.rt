@@ -28,7 +28,7 @@ ghost use Rattle.rdl_elab.specs.Faults.{overlap, SharesANumber};
 ghost use Rattle.rdl_elab.specs.AllKept.{IsAsBeforeBut, instances_at};
 ghost use Rattle.rdl_elab.specs.Reach.{in_reach, IsInReach, AreUnchangedBut};
 ghost use Rattle.rdl_elab.specs.Written.{all_layouts};
-ghost use Rattle.rdl_elab.specs.Skeleton.{skeleton, skeleton_beside};
+ghost use Rattle.rdl_elab.specs.Skeleton.{skeleton};
 ghost use Rattle.rdl_elab.specs.Tracked.{Tracked, old_of, new_of};
 ghost use Rattle.rdl_elab.specs.EditedBodies.{edits, is_changed_at, NamesStay, GoByName};
 ghost use Rattle.rdl_scope.specs.ItemFaults.{fault_of};
@@ -110,12 +110,6 @@ pub fn layouts_are_of_skeletons()
 /// places nothing.
 pub fn same_skeletons_are_as_before()
     ensures { (old new : Items) → skeleton old ≡ skeleton new → IsAsBeforeBut (λ a. false) old [] new }
-{}
-
-/// Where two descriptions are one beside some bodies, and no body is named, every component is unchanged but for those of
-/// these bodies.
-pub fn beside_edited_bodies_all_is_unchanged()
-    ensures { (edited : List ℕ → Bool) (old new : Items) → skeleton_beside edited old ≡ skeleton_beside edited new → AreUnchangedBut edited old [] new }
 {}
 
 /// A body that is in reach is edited, or holds an instance whose component's body is in reach, as the searches through
