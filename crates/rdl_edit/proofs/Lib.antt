@@ -3,8 +3,11 @@ pub mod KeepingLayouts
 pub mod NewNames
 pub mod OneBodyEdits
 pub mod OneBodySteps
+pub mod OneWaySteps
+pub mod OrdinarySteps
 pub mod Placings
 pub mod Staying
 pub mod StillEdits
+pub mod TrackedPatches
 pub mod Walking
 pub mod WaysBack
