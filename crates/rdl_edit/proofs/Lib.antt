@@ -4,6 +4,8 @@ pub mod NewNames
 pub mod OneBodyEdits
 pub mod OneBodySteps
 pub mod OneWaySteps
+pub mod OrdinaryBacks
+pub mod OrdinaryEdits
 pub mod OrdinarySteps
 pub mod Placings
 pub mod Staying

@@ -1,15 +1,15 @@
 -- Where definitions and instances go one way, no name is set, and a body that they enter or leave goes by names.
 use Rattle.std.proofs.Common.{◌≡◌, ℕ, zero, suc, ◌+◌, ◌≤◌, ◌<◌, Bool, true, false, ◌||◌, cond, List, [], ◌∷◌, length, Option, Some, None, refl, ap, sym, subst, ◌∙◌, arith}
-use Rattle.std.specs.Prelude.{not, ◌==◌, count_by, slice_get, unwrap_or, option_and_then, IsTrue}
-use Rattle.std.proofs.lemmas.Bool.{false≢true, ne_eqb}
+use Rattle.std.specs.Prelude.{count_by, slice_get, unwrap_or, option_and_then, IsTrue}
+use Rattle.std.proofs.lemmas.Bool.{false≢true}
 use Rattle.std.proofs.lemmas.List.Recursion.{is_count_by}
 use Rattle.rdl_tree.specs.Items.{Items, no_items, plain, holder, named, own, default, dynamic, define, anonymous}
-use Rattle.rdl_tree.specs.View.{add, items_of, list_of}
+use Rattle.rdl_tree.specs.View.{add, list_of}
 use Rattle.rdl_tree.specs.Address.{holder_of, number_of, inner, body_at, map_body}
 use Rattle.rdl_tree.specs.Edit.{insert_item, remove_item, shift_item}
 use Rattle.rdl_tree.specs.ItemAt.{item_at}
 use Rattle.rdl_tree.specs.Part.{with_part, with_part_at}
-use Rattle.rdl_tree.specs.Patch.{patched, fits, AllFit}
+use Rattle.rdl_tree.specs.Patch.{fits, AllFit}
 use Rattle.rdl_tree.specs.declared.description.Item.{Item}
 use Rattle.rdl_tree.specs.declared.description.Item.TheVariants.{Define, Instance, Own, Default, Dynamic}
 use Rattle.rdl_tree.specs.declared.description.Of.TheVariants.{Named, Anonymous}
@@ -21,10 +21,10 @@ use Rattle.rdl_tree.specs.declared.shell.Shell.{Shell}
 use Rattle.rdl_tree.proofs.Places.{item_at-place, stands, the_item}
 use Rattle.rdl_tree.proofs.Rounds.{list_of-add}
 use Rattle.rdl_tree.proofs.Undone.{part_in}
-use Rattle.rdl_elab.specs.StandIns.{has_name, goes_by_name}
-use Rattle.rdl_elab.specs.Tracked.{Tracked, nothing, comes, goes, named_stays, own_stays, default_stays, dynamic_stays, define_stays, anonymous_stays, old_of, new_of, untouched, staying}
-use Rattle.rdl_elab.specs.EditedBodies.{StaysNamed, StaysCalled, NamesStay, is_peopled_anew, tracked_at}
-use Rattle.rdl_edit.specs.Tracking.{brought, taken, brought_back, shifted, set_first, exchanged, with_body, at_item, at_body, tracked, tracked_along, KeepsName, KeepsNameIfThere, SetNoName, HasNoName, BringNone, TakeNone}
+use Rattle.rdl_elab.specs.StandIns.{has_name}
+use Rattle.rdl_elab.specs.Tracked.{Tracked, nothing, comes, goes, named_stays, own_stays, default_stays, dynamic_stays, define_stays, anonymous_stays, old_of, new_of, untouched}
+use Rattle.rdl_elab.specs.EditedBodies.{StaysNamed, StaysCalled, NamesStay, is_peopled_anew}
+use Rattle.rdl_edit.specs.Tracking.{brought, taken, brought_back, shifted, exchanged, with_body, at_item, at_body, tracked, tracked_along, KeepsNameIfThere, SetNoName, HasNoName, BringNone, TakeNone}
 use Rattle.rdl_edit.proofs.TrackedPatches.{new-tracked}
 
 -- ---- No name is set, and definitions and instances come or go only where they may.

@@ -1,5 +1,5 @@
 -- What an ordinary step tracks: no name is set, and each body that a definition or an instance enters or leaves goes by names.
-use Rattle.std.proofs.Common.{◌≡◌, ℕ, zero, suc, ◌+◌, ◌≤◌, ◌<◌, Bool, true, false, ◌||◌, List, [], ◌∷◌, length, Option, Some, None, refl, ap, sym, subst, ◌∙◌, arith}
+use Rattle.std.proofs.Common.{◌≡◌, ℕ, zero, suc, ◌<◌, Bool, true, false, ◌||◌, List, [], ◌∷◌, length, Option, Some, None, refl, ap, sym, subst, ◌∙◌, arith}
 use Rattle.std.specs.Prelude.{not, ◌==◌, bytes_eq, count_by, slice_get, option_and_then, IsTrue}
 use Rattle.std.specs.List.{list_any}
 use Rattle.std.proofs.lemmas.Bool.{false≢true, ne_eqb, and_parts}
@@ -18,7 +18,7 @@ use Rattle.rdl_elab.specs.StandIns.{has_name, goes_by_name}
 use Rattle.rdl_elab.specs.Tracked.{Tracked, nothing, comes, goes, named_stays, own_stays, default_stays, dynamic_stays, define_stays, anonymous_stays, old_of, new_of, untouched, staying}
 use Rattle.rdl_elab.specs.EditedBodies.{NamesStay, is_peopled_anew, tracked_at, GoByName}
 use Rattle.rdl_edit.specs.Placing.{reordered}
-use Rattle.rdl_edit.specs.Tracking.{brought, taken, brought_back, shifted, at_item, at_body, tracked, tracked_step, SetNoName, BringNone, TakeNone, MoveOne, GoesOneWay, moves, brings, takes, IsOrdinary}
+use Rattle.rdl_edit.specs.Tracking.{brought, taken, brought_back, shifted, at_item, at_body, tracked_step, SetNoName, BringNone, TakeNone, MoveOne, GoesOneWay, moves, brings, takes, IsOrdinary}
 use Rattle.rdl_edit.proofs.OneWaySteps.{Follows, names-stay, untouched-follows, name-with-body, none-comes, none-goes, shift-follows, one_if, count-people, more, fewer}
 use Rattle.rdl_edit.proofs.TrackedPatches.{new-untouched}
 

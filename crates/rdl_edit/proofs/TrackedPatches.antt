@@ -1,6 +1,6 @@
 -- Patches carried out on a tracked description lead to their image, and leave what was there before the step.
 use Rattle.std.proofs.Common.{◌≡◌, ℕ, zero, suc, List, [], ◌∷◌, Option, Some, None, refl, ap, sym, ◌∙◌}
-use Rattle.std.specs.Prelude.{insert, remove, slice_get, slice_set, option_map, unwrap_or}
+use Rattle.std.specs.Prelude.{insert, remove, slice_get, option_map, unwrap_or}
 use Rattle.rdl_tree.specs.Items.{Items, no_items, plain, holder, named, own, default, dynamic, define, anonymous}
 use Rattle.rdl_tree.specs.View.{add, items_of, list_of}
 use Rattle.rdl_tree.specs.Address.{holder_of, number_of, map_inner, map_body}

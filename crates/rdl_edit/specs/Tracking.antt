@@ -15,6 +15,8 @@ use Rattle.rdl_tree.specs.declared.part.Part.{Part}
 use Rattle.rdl_tree.specs.declared.part.Part.TheVariants.{OfShell, OfValue, OfTarget, OfType, OfDefine}
 use Rattle.rdl_tree.specs.declared.patch.Patch.{Patch}
 use Rattle.rdl_tree.specs.declared.patch.Patch.TheVariants.{Insert, Delete, Shift, Exchange}
+use Rattle.rdl_rewrite.specs.declared.edit.Edit.{Edit}
+use Rattle.rdl_rewrite.specs.declared.edit.Edit.TheVariants.{Rename}
 use Rattle.rdl_elab.specs.StandIns.{has_name}
 use Rattle.rdl_elab.specs.Tracked.{Tracked, nothing, comes, goes, named_stays, own_stays, default_stays, dynamic_stays, define_stays, anonymous_stays, old_of, new_of, untouched}
 use Rattle.rdl_elab.specs.EditedBodies.{edits, is_changed_at}
@@ -161,7 +163,7 @@ steps_edit ps d = edits (tracked_step ps d) d (image ps d)
 abbrev pub steps_change : List Patch → Items → List ℕ → Bool
 steps_change ps d b = is_changed_at b (tracked_step ps d)
 
--- ---- Which steps leave each item known by its name, or by its place.
+-- ---- Steps in which items are known again by their names or by their places.
 
 -- a definition or an instance keeps its name with this part
 abbrev pub KeepsName : Part → Item → Type 0
@@ -173,18 +175,19 @@ abbrev pub KeepsNameIfThere : Part → Option Item → Type 0
 KeepsNameIfThere part None = Unit {0}
 KeepsNameIfThere part (Some x) = KeepsName part x
 
--- no patch sets the name of a definition or an instance
+-- the patch changes no name of a definition or an instance
 abbrev pub SetsNoName : Patch → Items → Type 0
 SetsNoName (Insert at x) t = Unit {0}
 SetsNoName (Delete at) t = Unit {0}
 SetsNoName (Shift at to) t = Unit {0}
 SetsNoName (Exchange at part) t = KeepsNameIfThere part (item_at at t)
 
+-- from the first to the last
 abbrev pub SetNoName : List Patch → Items → Type 0
 SetNoName [] t = Unit {0}
 SetNoName (p ∷ ps) t = SetsNoName p t × SetNoName ps (patched p t)
 
--- no patch moves an item, or puts in a definition or an instance
+-- the patch puts in no definition or instance, and moves nothing
 abbrev pub BringsNone : Patch → Type 0
 BringsNone (Insert at x) = has_name x ≡ false
 BringsNone (Delete at) = Unit {0}
@@ -195,17 +198,19 @@ abbrev pub BringNone : List Patch → Type 0
 BringNone [] = Unit {0}
 BringNone (p ∷ ps) = BringsNone p × BringNone ps
 
--- no patch moves an item, or takes out a definition or an instance
+-- an item that is neither a definition nor an instance, if there is one
 abbrev pub HasNoName : Option Item → Type 0
 HasNoName None = Unit {0}
 HasNoName (Some x) = has_name x ≡ false
 
+-- the patch takes out no definition or instance, and moves nothing
 abbrev pub TakesNone : Patch → Items → Type 0
 TakesNone (Insert at x) t = Unit {0}
 TakesNone (Delete at) t = HasNoName (item_at at t)
 TakesNone (Shift at to) t = ⊥
 TakesNone (Exchange at part) t = Unit {0}
 
+-- from the first to the last
 abbrev pub TakeNone : List Patch → Items → Type 0
 TakeNone [] t = Unit {0}
 TakeNone (p ∷ ps) t = TakesNone p t × TakeNone ps (patched p t)
@@ -219,12 +224,18 @@ MoveOne (Shift at to ∷ []) = Unit {0}
 MoveOne (Shift at to ∷ p ∷ ps) = ⊥
 MoveOne (Exchange at part ∷ ps) = ⊥
 
--- of definitions and instances one moves, or some come, or some go; two of these together are another step
+-- one item moves and nothing else is done, or definitions and instances only come, or they only go
 pub data GoesOneWay (step : List Patch) (d : Items) : Type 0 where
   moves : MoveOne step → GoesOneWay step d
   brings : TakeNone step d → GoesOneWay step d
   takes : BringNone step → GoesOneWay step d
 
+-- such a step changes no name either. A step that was read may be of another sort
 pub record IsOrdinary (step : List Patch) (d : Items) : Type 0 where
   pub names : SetNoName step d
   pub one_way : GoesOneWay step d
+
+-- an edit that gives a name
+abbrev pub is_rename : Edit → Bool
+is_rename (Rename path name) = true
+is_rename e = false
