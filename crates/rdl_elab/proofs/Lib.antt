@@ -53,3 +53,14 @@ pub mod Skeletons
 pub mod InOrder
 pub mod Beside
 pub mod Unedited
+pub mod TrackedBodies
+pub mod TrackedAddresses
+pub mod TrackedValues
+pub mod TrackedInstances
+pub mod TrackedRest
+pub mod TrackedChanges
+pub mod Namesakes
+pub mod StandInWalks
+pub mod TrackedFinds
+pub mod TrackedStandIns
+pub mod TrackedUnchanged

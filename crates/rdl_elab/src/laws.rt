@@ -29,6 +29,9 @@ ghost use Rattle.rdl_elab.specs.AllKept.{IsAsBeforeBut, instances_at};
 ghost use Rattle.rdl_elab.specs.Reach.{in_reach, IsInReach, AreUnchangedBut};
 ghost use Rattle.rdl_elab.specs.Written.{all_layouts};
 ghost use Rattle.rdl_elab.specs.Skeleton.{skeleton, skeleton_beside};
+ghost use Rattle.rdl_elab.specs.Tracked.{Tracked, old_of, new_of};
+ghost use Rattle.rdl_elab.specs.EditedBodies.{edits, is_changed_at, NamesStay, GoByName};
+ghost use Rattle.rdl_scope.specs.ItemFaults.{fault_of};
 
 /// An instance without `@` begins at the least number that is at least the end of the instance before it and a multiple
 /// of each of its alignments; and an array in fullalign is aligned by the least power of two that holds it.
@@ -119,4 +122,12 @@ pub fn beside_edited_bodies_all_is_unchanged()
 /// whole bodies find it.
 pub fn reach_is_as_found()
     ensures { (edited : List ℕ → Bool) (d : Items) (a : List ℕ) → in_reach edited d a ≡ true → IsInReach edited d a }
+{}
+
+/// A step leaves every component unchanged but for those whose bodies it edits, if names stay, and where definitions or
+/// instances come, go or move the items stand for those of their names. Whatever it does, it leaves every component
+/// unchanged but for those of the bodies that it changes, and of those inside them.
+pub fn steps_leave_the_rest_unchanged()
+    ensures edited { (t : Tracked) (bodies : List (List ℕ)) → fault_of (old_of t) ≡ None → NamesStay t → GoByName bodies t → AreUnchangedBut (edits t (old_of t) (new_of t)) (old_of t) bodies (new_of t) }
+    ensures changed { (t : Tracked) (bodies : List (List ℕ)) → fault_of (old_of t) ≡ None → AreUnchangedBut (λ a. is_changed_at a t) (old_of t) bodies (new_of t) }
 {}
