@@ -9,6 +9,7 @@ pub mod OrdinaryEdits
 pub mod OrdinarySteps
 pub mod Placings
 pub mod Staying
+pub mod SteppedBodies
 pub mod StillEdits
 pub mod TrackedPatches
 pub mod Walking
