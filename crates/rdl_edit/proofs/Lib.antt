@@ -11,6 +11,7 @@ pub mod Placings
 pub mod Staying
 pub mod SteppedBodies
 pub mod StillEdits
+pub mod TrackedExamples
 pub mod TrackedPatches
 pub mod Walking
 pub mod WaysBack
