@@ -3,8 +3,15 @@ pub mod KeepingLayouts
 pub mod NewNames
 pub mod OneBodyEdits
 pub mod OneBodySteps
+pub mod OneWaySteps
+pub mod OrdinaryBacks
+pub mod OrdinaryEdits
+pub mod OrdinarySteps
 pub mod Placings
 pub mod Staying
+pub mod SteppedBodies
 pub mod StillEdits
+pub mod TrackedExamples
+pub mod TrackedPatches
 pub mod Walking
 pub mod WaysBack

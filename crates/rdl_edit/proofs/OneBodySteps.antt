@@ -1,5 +1,5 @@
 -- An edit of one body moves no item, and places few instances.
-use Rattle.std.proofs.Common.{◌≡◌, ℕ, ◌≤◌, ◌*◌, Bool, true, false, List, [], ◌++◌, ◌∷◌, length, Option, Some, None, Result, Ok, Err, refl, sym, ap, ◌∙◌, subst}
+use Rattle.std.proofs.Common.{◌≡◌, ℕ, ◌≤◌, ◌*◌, true, false, List, [], ◌++◌, ◌∷◌, Option, Some, None, Result, Ok, Err, refl, sym, ap, ◌∙◌, subst}
 use Rattle.std.specs.Prelude.{slice_get}
 use Rattle.std.specs.List.{position}
 use Rattle.rdl_tree.specs.Address.{holder_of, number_of, body_at}
@@ -19,7 +19,7 @@ use Rattle.rdl_elab.specs.Reach.{in_reach, AreUnchangedBut}
 use Rattle.rdl_elab.specs.Skeleton.{skeleton_beside}
 use Rattle.rdl_elab.proofs.Unedited.{unedited}
 use Rattle.rdl_edit.specs.Edited.{only, is_of_one_body, body_of_edit}
-use Rattle.rdl_edit.specs.Placing.{IsFew, reordered}
+use Rattle.rdl_edit.specs.Placing.{IsFew}
 use Rattle.rdl_edit.specs.Still.{moves_any}
 use Rattle.rdl_edit.proofs.InOneBody.{patches-beside}
 use Rattle.rdl_edit.proofs.KeepingLayouts.{moves-set, moves-drop, moves-shell}

@@ -6,4 +6,5 @@ pub mod Placing
 pub mod Resuming
 pub mod Step
 pub mod Still
+pub mod Tracking
 pub mod Ways

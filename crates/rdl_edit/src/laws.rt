@@ -1,11 +1,15 @@
 //! What the definitions have in common. Each function here is a law: it does nothing when it runs.
 ghost use Rattle.std.specs.Prelude.{◌≡◌, true, false, ℕ, List, None, Ok};
 ghost use Rattle.rdl_tree.specs.Items.{Items};
-ghost use Rattle.rdl_tree.specs.Patch.{image, inverses};
+ghost use Rattle.rdl_tree.specs.Patch.{AllFit, image, inverses};
 ghost use Rattle.rdl_tree.specs.declared.patch.Patch.{Patch};
+ghost use Rattle.rdl_elab.specs.EditedBodies.{NamesStay, GoByName};
+ghost use Rattle.rdl_elab.specs.Tracked.{Tracked, old_of, new_of, untouched};
 ghost use Rattle.rdl_elab.specs.Skeleton.{skeleton, skeleton_beside};
 ghost use Rattle.rdl_edit.specs.Edited.{only, AreOfBody, is_of_one_body, body_of_edit};
 ghost use Rattle.rdl_edit.specs.Still.{AreStill, moves_any, is_still_edit, keeps_layouts};
+ghost use Rattle.rdl_edit.specs.Placing.{reordered};
+ghost use Rattle.rdl_edit.specs.Tracking.{tracked_along, tracked_step, IsOrdinary, is_rename};
 ghost use Rattle.rdl_scope.specs.ItemFaults.{fault_of};
 ghost use Rattle.rdl_rewrite.specs.Patches.{patches};
 ghost use Rattle.rdl_rewrite.specs.Renaming.{renamed};
@@ -45,4 +49,25 @@ pub fn patches_of_one_body_edit_it_alone()
 /// The patches of these edits change one body: those of what is said of an instance's place, and of own assignments.
 pub fn edits_of_one_body_have_such_patches()
     ensures { (d : Items) (e : Edit) → is_of_one_body e ≡ true → AreOfBody (body_of_edit d e) (patches d e) d }
+{}
+
+/// Patches carried out on a tracked description lead to their image, and what was there before the step stays.
+pub fn patches_are_tracked()
+    ensures before { (d : Items) → old_of (untouched d) ≡ d }
+    ensures after { (d : Items) → new_of (untouched d) ≡ d }
+    ensures stays { (patches : List Patch) (t : Tracked) → old_of (tracked_along patches t) ≡ old_of t }
+    ensures leads { (patches : List Patch) (t : Tracked) → new_of (tracked_along patches t) ≡ image patches (new_of t) }
+{}
+
+/// Ordinary patches set no name, and each body that a definition or an instance enters or leaves goes by names: it is one
+/// in which an item moves, or it hasn't as many of them as before.
+pub fn ordinary_patches_go_by_name()
+    ensures names { (d : Items) (patches : List Patch) → AllFit patches d → IsOrdinary patches d → NamesStay (tracked_step patches d) }
+    ensures bodies { (d : Items) (patches : List Patch) → AllFit patches d → IsOrdinary patches d → GoByName (reordered patches) (tracked_step patches d) }
+{}
+
+/// The patches of every edit but a renaming are ordinary, and what takes ordinary patches back is ordinary again.
+pub fn edits_have_ordinary_patches()
+    ensures edits { (d : Items) (e : Edit) → is_rename e ≡ false → IsOrdinary (patches d e) d }
+    ensures back { (patches : List Patch) (d : Items) → AllFit patches d → IsOrdinary patches d → IsOrdinary (inverses patches d) (image patches d) }
 {}

@@ -11,6 +11,7 @@ ghost use Rattle.journal_core.specs.Along.{FitInTurn};
 ghost use Rattle.rdl_tree.specs.declared.session.SessionFault.{SessionFault};
 ghost use Rattle.rdl_edit.specs.Placing.{IsFew, KeepsLayouts};
 ghost use Rattle.rdl_edit.specs.Still.{keeps_layouts};
+ghost use Rattle.rdl_edit.specs.Tracking.{steps_edit, steps_change, IsOrdinary, is_rename};
 ghost use Rattle.rdl_edit.specs.Backs.{read_back, prior, Fits, IsCheap};
 ghost use Rattle.rdl_edit.specs.Resuming.{session_fault};
 ghost use Rattle.rdl_rewrite.specs.Patches.{patches};
@@ -217,6 +218,8 @@ impl Invertible for Map {
         ensures one_body { OnOk result (is_of_one_body edit.now ≡ true → self.new.placed ≤ 3 * instances_at (in_reach (only (body_of_edit self.old.state.description edit.now)) self.new.state.description) self.new.state.description) }
         ensures none { OnOk result (keeps_layouts edit.now ≡ true → self.new.placed ≡ 0) }
         ensures back_keeps { IfOk result (λ back. keeps_layouts edit.now ≡ true → KeepsLayouts back.patches self.new.state.description) }
+        ensures edited { OnOk result (self.new.placed ≤ 3 * instances_at (in_reach (steps_edit (patches self.old.state.description edit.now) self.old.state.description) self.new.state.description) self.new.state.description) }
+        ensures back_ordinary { IfOk result (λ back. is_rename edit.now ≡ false → IsOrdinary back.patches self.new.state.description) }
         ensures refused { IfErr result (λ refusal. Refuses self.old.state edit.now refusal) }
         ensures err { OnErr result (self.new ≡ self.old) }
     {
@@ -238,6 +241,9 @@ impl Invertible for Map {
         ensures few { OnOk result (IsFew self.old.state.description back.patches self.new.state.description self.new.placed) }
         ensures none { OnOk result (KeepsLayouts back.patches self.old.state.description → self.new.placed ≡ 0) }
         ensures back_keeps { IfOk result (λ forward. KeepsLayouts back.patches self.old.state.description → KeepsLayouts forward.patches self.new.state.description) }
+        ensures edited { OnOk result (IsOrdinary back.patches self.old.state.description → self.new.placed ≤ 3 * instances_at (in_reach (steps_edit back.patches self.old.state.description) self.new.state.description) self.new.state.description) }
+        ensures back_ordinary { IfOk result (λ forward. IsOrdinary back.patches self.old.state.description → IsOrdinary forward.patches self.new.state.description) }
+        ensures changed { OnOk result (self.new.placed ≤ 3 * instances_at (in_reach (steps_change back.patches self.old.state.description) self.new.state.description) self.new.state.description) }
         ensures handed { IfErr result (λ same. same ≡ back) }
         ensures err { OnErr result (self.new ≡ self.old) }
     {

@@ -1,12 +1,15 @@
-use Rattle.std.proofs.Common.{◌≡◌, Ok, sym, ap, ◌∙◌, subst, rules}
+use Rattle.std.proofs.Common.{◌≡◌, None, Ok, sym, ap, ◌∙◌, subst, rules}
 use Rattle.rdl_edit.specs.Backs.{Fits}
 use Rattle.rdl_edit.specs.Step.{State}
-use Rattle.rdl_tree.specs.Patch.{image}
+use Rattle.rdl_tree.specs.Patch.{AllFit, image}
+use Rattle.rdl_scope.specs.ItemFaults.{fault_of}
 use Rattle.rdl_rewrite.specs.Patches.{patches}
 use Rattle.rdl_rewrite.specs.Rewritten.{rewritten}
 use Rattle.rdl_edit.specs.Placing.{KeepsLayouts}
 use Rattle.rdl_edit.proofs.OneBodySteps.{one-body-placed}
-use Rattle.rdl_edit.proofs.Placings.{few-there, edit-keeps}
+use Rattle.rdl_edit.proofs.OrdinaryEdits.{ordinary-edit}
+use Rattle.rdl_edit.proofs.Placings.{faultless, few-there, edit-keeps}
+use Rattle.rdl_edit.proofs.SteppedBodies.{edits-placed, back-ordinary}
 use Rattle.rdl_edit.proofs.WaysBack.{fits-back}
 use Rattle.rdl_edit.proofs.map.MapInvertible.apply.Goals as goal
 
@@ -44,9 +47,35 @@ returns-clause-back_keeps c = λ h.
 pub returns-clause-one_body : goal.returns-clause-one_body
 returns-clause-one_body c = λ h.
     let d = c.args.self.now.state.description in
+    let e = c.args.edit.now in
     let same : c.self.inside.description.items ≡ d = search rules in
-    let which : c.in_ok-patches.patches.items ≡ patches c.self.inside.description.items c.args.edit.now = search rules in
-    let asked : c.in_ok-patches.patches.items ≡ patches d c.args.edit.now = which ∙ ap (λ t. patches t c.args.edit.now) same in
-    let made : c.turn.new.description.items ≡ image (patches d c.args.edit.now) d =
-    c.in_ok-back.ensures.made ∙ ap (λ ps. image ps c.self.inside.description.items) asked ∙ ap (image (patches d c.args.edit.now)) same in
-    one-body-placed d c.turn.new.description.items c.args.edit.now _ made (returns-clause-few c) h
+    let which : c.in_ok-patches.patches.items ≡ patches c.self.inside.description.items e = search rules in
+    let asked : c.in_ok-patches.patches.items ≡ patches d e = which ∙ ap (λ t. patches t e) same in
+    let made : c.turn.new.description.items ≡ image (patches d e) d =
+    c.in_ok-back.ensures.made ∙ ap (λ ps. image ps c.self.inside.description.items) asked ∙ ap (image (patches d e)) same in
+    one-body-placed d c.turn.new.description.items e _ made (returns-clause-few c) h
+
+pub returns-clause-edited : goal.returns-clause-edited
+returns-clause-edited c =
+    let d = c.args.self.now.state.description in
+    let e = c.args.edit.now in
+    let same : c.self.inside.description.items ≡ d = search rules in
+    let which : c.in_ok-patches.patches.items ≡ patches c.self.inside.description.items e = search rules in
+    let asked : c.in_ok-patches.patches.items ≡ patches d e = which ∙ ap (λ t. patches t e) same in
+    let made : c.turn.new.description.items ≡ image (patches d e) d =
+    c.in_ok-back.ensures.made ∙ ap (λ ps. image ps c.self.inside.description.items) asked ∙ ap (image (patches d e)) same in
+    let fit : AllFit (patches d e) d = subst (AllFit (patches d e)) same (subst (λ ps. AllFit ps c.self.inside.description.items) asked c.in_ok-patches.ensures.fit) in
+    let none : fault_of d ≡ None = ap fault_of (sym same) ∙ faultless c.self.inside.description.items c.self.inside.kept.top c.self.invariant.layouts.rows c.self.invariant.layouts.faultless in
+    edits-placed d c.turn.new.description.items e _ made none fit (returns-clause-few c) (returns-clause-none c)
+
+pub returns-clause-back_ordinary : goal.returns-clause-back_ordinary
+returns-clause-back_ordinary c = λ h.
+    let d = c.args.self.now.state.description in
+    let e = c.args.edit.now in
+    let same : c.self.inside.description.items ≡ d = search rules in
+    let which : c.in_ok-patches.patches.items ≡ patches c.self.inside.description.items e = search rules in
+    let asked : c.in_ok-patches.patches.items ≡ patches d e = which ∙ ap (λ t. patches t e) same in
+    let made : c.turn.new.description.items ≡ image (patches d e) d =
+    c.in_ok-back.ensures.made ∙ ap (λ ps. image ps c.self.inside.description.items) asked ∙ ap (image (patches d e)) same in
+    let fit : AllFit (patches d e) d = subst (AllFit (patches d e)) same (subst (λ ps. AllFit ps c.self.inside.description.items) asked c.in_ok-patches.ensures.fit) in
+    back-ordinary (patches d e) c.new.result.patches d c.turn.new.description.items fit made (search rules) (ordinary-edit d e h)

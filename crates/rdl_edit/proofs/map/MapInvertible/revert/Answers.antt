@@ -1,7 +1,10 @@
-use Rattle.std.proofs.Common.{◌≡◌, sym, subst, rules}
+use Rattle.std.proofs.Common.{◌≡◌, None, sym, ap, ◌∙◌, subst, rules}
+use Rattle.rdl_tree.specs.Patch.{image}
+use Rattle.rdl_scope.specs.ItemFaults.{fault_of}
 use Rattle.rdl_edit.specs.Backs.{Fits}
 use Rattle.rdl_edit.specs.Step.{State}
-use Rattle.rdl_edit.proofs.Placings.{few-there}
+use Rattle.rdl_edit.proofs.Placings.{faultless, few-there}
+use Rattle.rdl_edit.proofs.SteppedBodies.{edit-placed, change-placed, back-ordinary}
 use Rattle.rdl_edit.proofs.WaysBack.{fits-back}
 use Rattle.rdl_edit.proofs.map.MapInvertible.revert.Goals as goal
 
@@ -18,3 +21,25 @@ returns-clause-few c =
     let which : c.into_vec-patches.result.items ≡ c.args.back.patches = search rules in
     let laid_out : c.self.inside.kept.description ≡ d = c.self.invariant.layouts.description in
     few-there d c.args.self.now.state.description c.again.new.description.items c.args.back.patches c.into_vec-patches.result.items _ same which c.in-Ok.ensures.made (c.in-Ok.ensures.few laid_out)
+
+pub returns-clause-edited : goal.returns-clause-edited
+returns-clause-edited c = λ h.
+    let d = c.args.self.now.state.description in
+    let same : c.self.inside.description.items ≡ d = search rules in
+    let none : fault_of d ≡ None = ap fault_of (sym same) ∙ faultless c.self.inside.description.items c.self.inside.kept.top c.self.invariant.layouts.rows c.self.invariant.layouts.faultless in
+    let made : c.again.new.description.items ≡ image c.args.back.patches d = search rules in
+    edit-placed d c.again.new.description.items c.args.back.patches made none _ (returns-clause-few c) c.requires.applicable h
+
+pub returns-clause-changed : goal.returns-clause-changed
+returns-clause-changed c =
+    let d = c.args.self.now.state.description in
+    let same : c.self.inside.description.items ≡ d = search rules in
+    let none : fault_of d ≡ None = ap fault_of (sym same) ∙ faultless c.self.inside.description.items c.self.inside.kept.top c.self.invariant.layouts.rows c.self.invariant.layouts.faultless in
+    let made : c.again.new.description.items ≡ image c.args.back.patches d = search rules in
+    change-placed d c.again.new.description.items c.args.back.patches made none _ (returns-clause-few c)
+
+pub returns-clause-back_ordinary : goal.returns-clause-back_ordinary
+returns-clause-back_ordinary c = λ h.
+    let d = c.args.self.now.state.description in
+    let made : c.again.new.description.items ≡ image c.args.back.patches d = search rules in
+    back-ordinary c.args.back.patches _ d c.again.new.description.items c.requires.applicable made (search rules) h
