@@ -1,8 +1,5 @@
-pub mod InOneBody
 pub mod KeepingLayouts
 pub mod NewNames
-pub mod OneBodyEdits
-pub mod OneBodySteps
 pub mod OneWaySteps
 pub mod OrdinaryBacks
 pub mod OrdinaryEdits

@@ -1,5 +1,4 @@
 pub mod Backs
-pub mod Edited
 pub mod Faults
 pub mod Keeping
 pub mod Placing

@@ -5,8 +5,7 @@ ghost use Rattle.rdl_tree.specs.Patch.{AllFit, image, inverses};
 ghost use Rattle.rdl_tree.specs.declared.patch.Patch.{Patch};
 ghost use Rattle.rdl_elab.specs.EditedBodies.{NamesStay, GoByName};
 ghost use Rattle.rdl_elab.specs.Tracked.{Tracked, old_of, new_of, untouched};
-ghost use Rattle.rdl_elab.specs.Skeleton.{skeleton, skeleton_beside};
-ghost use Rattle.rdl_edit.specs.Edited.{only, AreOfBody, is_of_one_body, body_of_edit};
+ghost use Rattle.rdl_elab.specs.Skeleton.{skeleton};
 ghost use Rattle.rdl_edit.specs.Still.{AreStill, moves_any, is_still_edit, keeps_layouts};
 ghost use Rattle.rdl_edit.specs.Placing.{reordered};
 ghost use Rattle.rdl_edit.specs.Tracking.{tracked_along, tracked_step, IsOrdinary, is_rename};
@@ -38,17 +37,6 @@ pub fn edits_that_keep_layouts()
     ensures skeleton { (d : Items) (e : Edit) → fault_of d ≡ None → keeps_layouts e ≡ true → rewritten d e ≡ Ok (image (patches d e) d) → skeleton (image (patches d e) d) ≡ skeleton d }
     ensures moves { (d : Items) (e : Edit) → keeps_layouts e ≡ true → moves_any (patches d e) ≡ false }
     ensures back { (patches : List Patch) (d : Items) → moves_any patches ≡ false → moves_any (inverses patches d) ≡ false }
-{}
-
-/// Patches that set shells or types of the instances of one body, or put in, take out or set its own assignments, leave
-/// all beside it as it was: that body alone is edited.
-pub fn patches_of_one_body_edit_it_alone()
-    ensures { (body : List ℕ) (patches : List Patch) (d : Items) → AreOfBody body patches d → skeleton_beside (only body) (image patches d) ≡ skeleton_beside (only body) d }
-{}
-
-/// The patches of these edits change one body: those of what is said of an instance's place, and of own assignments.
-pub fn edits_of_one_body_have_such_patches()
-    ensures { (d : Items) (e : Edit) → is_of_one_body e ≡ true → AreOfBody (body_of_edit d e) (patches d e) d }
 {}
 
 /// Patches carried out on a tracked description lead to their image, and what was there before the step stays.

@@ -5,7 +5,6 @@ ghost use Rattle.rdl_scope.specs.ItemFaults.{out_of_memory};
 ghost use Rattle.rdl_elab.specs.AllKept.{AreOf, all_instances, instances_at};
 ghost use Rattle.rdl_elab.specs.Reach.{in_reach};
 ghost use Rattle.rdl_tree.specs.Patch.{inverses};
-ghost use Rattle.rdl_edit.specs.Edited.{body_of_edit, is_of_one_body, only};
 ghost use Rattle.rdl_edit.specs.Step.{HasRows, Leads, Refuses};
 ghost use Rattle.journal_core.specs.Along.{FitInTurn};
 ghost use Rattle.rdl_tree.specs.declared.session.SessionFault.{SessionFault};
@@ -215,7 +214,6 @@ impl Invertible for Map {
         ensures inverse { IfOk result (λ back. back.patches ≡ inverses (patches self.old.state.description edit.now) self.old.state.description) }
         ensures cost { IfOk result (λ back. IsCheap (patches self.old.state.description edit.now) self.old.state.description back.patches) }
         ensures few { OnOk result (IsFew self.old.state.description (patches self.old.state.description edit.now) self.new.state.description self.new.placed) }
-        ensures one_body { OnOk result (is_of_one_body edit.now ≡ true → self.new.placed ≤ 3 * instances_at (in_reach (only (body_of_edit self.old.state.description edit.now)) self.new.state.description) self.new.state.description) }
         ensures none { OnOk result (keeps_layouts edit.now ≡ true → self.new.placed ≡ 0) }
         ensures back_keeps { IfOk result (λ back. keeps_layouts edit.now ≡ true → KeepsLayouts back.patches self.new.state.description) }
         ensures edited { OnOk result (self.new.placed ≤ 3 * instances_at (in_reach (steps_edit (patches self.old.state.description edit.now) self.old.state.description) self.new.state.description) self.new.state.description) }

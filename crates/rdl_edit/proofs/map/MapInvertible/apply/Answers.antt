@@ -6,7 +6,6 @@ use Rattle.rdl_scope.specs.ItemFaults.{fault_of}
 use Rattle.rdl_rewrite.specs.Patches.{patches}
 use Rattle.rdl_rewrite.specs.Rewritten.{rewritten}
 use Rattle.rdl_edit.specs.Placing.{KeepsLayouts}
-use Rattle.rdl_edit.proofs.OneBodySteps.{one-body-placed}
 use Rattle.rdl_edit.proofs.OrdinaryEdits.{ordinary-edit}
 use Rattle.rdl_edit.proofs.Placings.{faultless, few-there, edit-keeps}
 use Rattle.rdl_edit.proofs.SteppedBodies.{edits-placed, back-ordinary}
@@ -43,17 +42,6 @@ returns-clause-back_keeps c = λ h.
     let back : c.in_ok-back.back.items ≡ c.new.result.patches = search rules in
     subst (λ qs. KeepsLayouts qs c.turn.new.description.items) back
     (c.in_ok-back.ensures.back_keeps (edit-keeps s c.self.inside.kept c.args.edit.now c.in_ok-patches.patches.items c.self.invariant made which h))
-
-pub returns-clause-one_body : goal.returns-clause-one_body
-returns-clause-one_body c = λ h.
-    let d = c.args.self.now.state.description in
-    let e = c.args.edit.now in
-    let same : c.self.inside.description.items ≡ d = search rules in
-    let which : c.in_ok-patches.patches.items ≡ patches c.self.inside.description.items e = search rules in
-    let asked : c.in_ok-patches.patches.items ≡ patches d e = which ∙ ap (λ t. patches t e) same in
-    let made : c.turn.new.description.items ≡ image (patches d e) d =
-    c.in_ok-back.ensures.made ∙ ap (λ ps. image ps c.self.inside.description.items) asked ∙ ap (image (patches d e)) same in
-    one-body-placed d c.turn.new.description.items e _ made (returns-clause-few c) h
 
 pub returns-clause-edited : goal.returns-clause-edited
 returns-clause-edited c =
