@@ -187,6 +187,9 @@ pub judged-under : (d : Items) (wanted : Option (List ℕ)) (xs : List Item) (to
 judged-under d wanted xs top none same e =
     ap (unless_fault d wanted) none ∙ ap (λ t. with_top d (top_from wanted 0 t)) (sym (items_of-list_of d) ∙ ap items_of (sym same)) ∙ ap (with_top d) (sym e)
 
+pub judged-top : (d : Items) (wanted : Option (List ℕ)) (top : Option (ℕ × List ℕ)) → fault_of d ≡ None → top_from wanted 0 d ≡ top → elaborated d wanted ≡ with_top d top
+judged-top d wanted top none e = ap (unless_fault d wanted) none ∙ ap (with_top d) e
+
 pub if-rows : (result answer : Result (List Row) Fault) → result ≡ answer → IfOk answer (λ rows. result ≡ Ok rows)
 if-rows result (Ok rows) e = e
 if-rows result (Err f) e = tt

@@ -58,6 +58,7 @@ pub mod TrackedInstances
 pub mod TrackedRest
 pub mod TrackedChanges
 pub mod Namesakes
+pub mod TopTypes
 pub mod StandInWalks
 pub mod TrackedFinds
 pub mod TrackedStandIns

@@ -1,12 +1,13 @@
 -- What is kept of a description's layouts from one description to the next.
 -- own: SystemRDL 2.0 says how components are laid out, and nothing of edits.
-use Rattle.std.specs.Prelude.{◌≡◌, ℕ, ◌+◌, List, length, sum_by, Option, Some, None, Ok, option_and_then, option_map, Bool, true, false, if◌then◌else◌}
+use Rattle.std.specs.Prelude.{◌≡◌, ℕ, ◌+◌, List, length, sum_by, Option, Some, None, Ok, option_and_then, option_map, Result, Err, Bool, true, false, if◌then◌else◌}
 use Rattle.std.specs.List.{AllZip}
 use Rattle.slab.specs.Slab.{Slab, get}
 use Rattle.rdl_tree.specs.Items.{Items}
 use Rattle.rdl_tree.specs.declared.shell.Kind.{Kind}
 use Rattle.rdl_tree.specs.declared.shell.Kind.TheVariants.{Addrmap, Regfile, Reg, Field}
 use Rattle.rdl_tree.specs.declared.description.Component.{Component}
+use Rattle.rdl_tree.specs.declared.fault.Fault.{Fault}
 use Rattle.rdl_scope.specs.Closed.{Parts, no_parts, part, Made, component}
 use Rattle.rdl_elab.specs.declared.layout.Mode.{Mode}
 use Rattle.rdl_elab.specs.declared.layout.Layout.{Layout}
@@ -36,6 +37,11 @@ pub record AreOf (d : Items) (k : KeptLayouts) : Type 0 where
   pub description : k.description ≡ d
   pub rows : List Row
   pub faultless : elaborated d k.top ≡ Ok rows
+
+-- what is wrong, if there is no answer
+abbrev pub fault_in : {X : Type 0} → Result X Fault → Option Fault
+fault_in (Ok x) = None
+fault_in (Err f) = Some f
 
 -- the layout of a component; a field has none
 abbrev pub shown_layout : Kind → Layout → Option Layout

@@ -58,6 +58,13 @@ AreTypes d fs (k ∷ ks) [] = ⊥
 AreTypes d fs [] (t ∷ ts) = ⊥
 AreTypes d fs (k ∷ ks) (t ∷ ts) = (k.0 ≡ t.0) × IsFinished d fs k.1 t.1 × AreTypes d fs ks ts
 
+-- a type, if there is one, is the finished component of this number
+abbrev pub IsType : Items → List Finished → Option ℕ → Option Made → Type 0
+IsType d fs None None = Unit {0}
+IsType d fs None (Some c) = ⊥
+IsType d fs (Some k) None = ⊥
+IsType d fs (Some k) (Some c) = IsFinished d fs k c
+
 -- a walk keeps what stands
 pub record Stands (d : Items) (w : Walk) (e : Standing) : Type 0 where
   pub types : AreTypes d w.components.items w.types e.types

@@ -1,5 +1,5 @@
 //! The rows of a map, or its first fault.
-ghost use Rattle.std.specs.Prelude.{◌≡◌, ℕ, ◌⊎◌, ◌∷◌, ◌≤◌, [], nat_lt, Ok, Err, Some, None, IfOk, IfErr, option_copied, option_map, slice_get, drop};
+ghost use Rattle.std.specs.Prelude.{◌≡◌, ℕ, ◌⊎◌, ◌∷◌, ◌≤◌, [], nat_lt, Ok, Err, Some, None, IfOk, IfErr, OnOk, option_and_then, option_copied, option_map, slice_get, drop};
 ghost use Rattle.std.specs.Option.{option_or};
 ghost use Rattle.rdl_tree.specs.Depth.{depth};
 ghost use Rattle.rdl_scope.specs.Closed.{component};
@@ -16,7 +16,7 @@ use crate::reaches::with_own;
 use crate::row::{Extent, Place, Row, RowPath, Rows};
 use crate::row_values::RowValues;
 use crate::rows::{Around, add_rows};
-use crate::walk::{Walked, lay_out_item};
+use crate::walk::lay_out_item;
 use rdl_scope::faults::check;
 use rdl_text::name::Name;
 use rdl_text::token::Number;
@@ -52,9 +52,9 @@ fn fault_at(address: &Address, kind: FaultKind) -> Fault
 
 /// A definition of an address map among the items of the root. A contract sees its number and its name.
 #[derive(Drop)]
-struct Top<'a> {
-    number: usize,
-    name: &'a Name,
+pub(crate) struct Top<'a> {
+    pub number: usize,
+    pub name: &'a Name,
 }
 
 impl<'a> Model for Top<'a> {
@@ -219,34 +219,69 @@ fn finished_at<'c, 'a>(components: &'c [Finished<'a>], number: usize) -> Option<
 /// The same of the component of this number, if there is one.
 fn rows_of<'a>(
     alloc: Global,
-    walked: &Walked<'a>,
+    components: &[Finished<'a>],
+    number: usize,
     at: &Address,
     name: &Name,
 ) -> Result<Result<Rows, Fault>, AllocError>
-    ensures { IfOk result (λ answer. answer ≡ kept_answer walked.now.components.items at.now name.now (slice_get walked.now.components.items walked.now.number)) }
+    ensures { IfOk result (λ answer. answer ≡ kept_answer components.now at.now name.now (slice_get components.now number)) }
 {
-    let components = walked.components.as_slice();
-    match finished_at(components, walked.number) {
+    match finished_at(components, number) {
         Some(top) => rows_or_fault(alloc, components, at, name, top),
         None => Ok(Err(no_top())),
     }
 }
 
-/// The same of the map whose top is item `number` of the root.
+/// The same of this top, whose component has this number if there is one.
+pub(crate) fn rows_under<'a>(
+    alloc: Global,
+    components: &[Finished<'a>],
+    number: Option<usize>,
+    top: &Top,
+) -> Result<Result<Rows, Fault>, AllocError>
+    ensures { IfOk result (λ answer. answer ≡ kept_answer components.now (top.now.0 ∷ []) top.now.1 (option_and_then (slice_get components.now) number)) }
+{
+    let at = Address::new().inside(top.number);
+    match number {
+        Some(number) => rows_of(alloc, components, number, &at, top.name),
+        None => Ok(Err(no_top())),
+    }
+}
+
+/// The same of the description.
 fn under_top(
     alloc: Global,
     description: &Description,
-    number: usize,
-    name: &Name,
+    top: &Top,
 ) -> Result<Result<Rows, Fault>, AllocError>
     requires nesting { depth description.now.items ≤ 16 }
     requires faultless { fault_of description.now.items ≡ None }
-    ensures { IfOk result (λ answer. answer ≡ under_top description.now.items (number ∷ []) name.now (component description.now.items (number ∷ []))) }
+    ensures { IfOk result (λ answer. answer ≡ under_top description.now.items (top.now.0 ∷ []) top.now.1 (component description.now.items (top.now.0 ∷ []))) }
 {
-    let at = Address::new().inside(number);
-    match lay_out_item(alloc, description, number)? {
-        Some(walked) => rows_of(alloc, &walked, &at, name),
+    match lay_out_item(alloc, description, top.number)? {
+        Some(walked) => {
+            let components = walked.components.as_slice();
+            rows_under(alloc, components, Some(walked.number), top)
+        }
         None => Ok(Err(no_top())),
+    }
+}
+
+/// The top, if no item has a fault. Otherwise the first fault: those of `rdl_scope::faults::check`, and E13.
+pub(crate) fn checked_top<'a>(
+    alloc: Global,
+    description: &'a Description,
+    wanted: Option<&str>,
+) -> Result<Top<'a>, Fault>
+    ensures faultless { OnOk result (fault_of description.now.items ≡ None) }
+    ensures nesting { OnOk result (depth description.now.items ≤ 16) }
+    ensures top { IfOk result (λ top. top_from (option_copied wanted.entry) 0 description.now.items ≡ Some top) }
+    ensures err { IfErr result (λ fault. (elaborated description.now.items (option_copied wanted.entry) ≡ Err fault) ⊎ (fault ≡ out_of_memory)) }
+{
+    check(alloc, description)?;
+    match last_top(description.items.as_slice(), wanted) {
+        Some(top) => Ok(top),
+        None => Err(no_top()),
     }
 }
 
@@ -259,11 +294,8 @@ pub fn elaborate(alloc: Global, description: &Description, top: Option<&str>) ->
     ensures ok { IfOk result (λ rows. elaborated description.now.items (option_copied top.entry) ≡ Ok rows) }
     ensures err { IfErr result (λ fault. (elaborated description.now.items (option_copied top.entry) ≡ Err fault) ⊎ (fault ≡ out_of_memory)) }
 {
-    check(alloc, description)?;
-    let Some(top) = last_top(description.items.as_slice(), top) else {
-        return Err(no_top());
-    };
-    match under_top(alloc, description, top.number, top.name) {
+    let top = checked_top(alloc, description, top)?;
+    match under_top(alloc, description, &top) {
         Ok(answer) => answer,
         Err(_) => Err(Fault {
             kind: FaultKind::Memory,

@@ -1,17 +1,18 @@
 //! Layouts that are kept from one description to the next.
-ghost use Rattle.std.specs.Prelude.{◌≡◌, ◌⊎◌, ◌*◌, ◌≤◌, ℕ, Bool, List, Ok, Err, IfOk, IfErr, OnOk, OnErr, map, sum_by, option_map, option_copied};
+ghost use Rattle.std.specs.Prelude.{◌≡◌, ◌⊎◌, ◌*◌, ◌≤◌, ◌∷◌, [], ℕ, Bool, List, Ok, Err, Some, None, IfOk, IfErr, OnOk, OnErr, map, sum_by, option_map, option_copied};
 ghost use Rattle.slab.specs.Slab.{get, SameValues};
 ghost use Rattle.rdl_tree.specs.Depth.{depth};
-ghost use Rattle.rdl_scope.specs.ItemFaults.{out_of_memory};
+ghost use Rattle.rdl_scope.specs.Closed.{component, root_type};
+ghost use Rattle.rdl_scope.specs.ItemFaults.{fault_of, out_of_memory};
 ghost use Rattle.rdl_scope.specs.Types.{component_at};
-ghost use Rattle.rdl_elab.specs.Faults.{elaborated};
+ghost use Rattle.rdl_elab.specs.Faults.{elaborated, with_top};
 ghost use Rattle.rdl_elab.specs.Stored.{IsStored, AreTaken};
 ghost use Rattle.std.specs.List.{AllZip};
 ghost use Rattle.std.specs.String.{string_bytes};
 ghost use Rattle.rdl_elab.specs.MadeOf.{all_made};
-ghost use Rattle.rdl_elab.specs.AllKept.{TakesOver, new_spans, has_layout, all_instances, instances_at, AreFoundBut};
+ghost use Rattle.rdl_elab.specs.AllKept.{TakesOver, fault_in, new_spans, has_layout, all_instances, instances_at, AreFoundBut};
 
-use crate::elaborate::elaborate;
+use crate::elaborate::{Top, checked_top, elaborate, rows_under};
 use crate::finished::Finished;
 use crate::laid_out::{Before, Taken};
 use crate::layout::{Layout, Mode};
@@ -95,18 +96,24 @@ fn has_layout(description: &Description, body: &Address) -> bool
     }
 }
 
-/// Lays out all components of this description instead of those that are stored, and takes over what stands under these
-/// keys where it was made of the same. The number of instances that were placed.
+/// Lays out all components of this description instead of those that are stored, if the map with this top has no fault, and
+/// takes over what stands under these keys where it was made of the same. The number of instances that were placed, or the
+/// fault.
 fn lay_out(
     alloc: Global,
     stored: &mut Stored,
     description: &Description,
+    top: &Top,
     keys: &[Option<usize>],
-) -> Result<u64, AllocError>
-    requires { depth description.now.items ≤ 16 }
-    ensures stored { OnOk result (IsStored stored.new.layouts stored.new.keys.items (all_made description.now.items)) }
-    ensures placed { IfOk result (λ placed. placed ≤ 3 * all_instances description.now.items) }
-    ensures few { IfOk result (λ placed. (marked : List ℕ → Bool) → AreFoundBut marked stored.old.layouts keys.now description.now.items → placed ≤ 3 * instances_at marked description.now.items) }
+) -> Result<Result<u64, Fault>, AllocError>
+    requires nesting { depth description.now.items ≤ 16 }
+    requires faultless { fault_of description.now.items ≡ None }
+    requires top { root_type description.now.items top.now.1 ≡ component description.now.items (top.now.0 ∷ []) }
+    ensures stored { IfOk result (λ answer. OnOk answer (IsStored stored.new.layouts stored.new.keys.items (all_made description.now.items))) }
+    ensures placed { IfOk result (λ answer. IfOk answer (λ placed. placed ≤ 3 * all_instances description.now.items)) }
+    ensures few { IfOk result (λ answer. IfOk answer (λ placed. (marked : List ℕ → Bool) → AreFoundBut marked stored.old.layouts keys.now description.now.items → placed ≤ 3 * instances_at marked description.now.items)) }
+    ensures judged { IfOk result (λ answer. fault_in answer ≡ fault_in (with_top description.now.items (Some top.now))) }
+    ensures refused { IfOk result (λ answer. OnErr answer (stored.new ≡ stored.old)) }
     ensures layouts { OnErr result (SameValues stored.old.layouts stored.new.layouts) }
     ensures keys { OnErr result (stored.new.keys ≡ stored.old.keys) }
 {
@@ -114,11 +121,14 @@ fn lay_out(
         layouts: &stored.layouts,
         keys,
     };
-    let components = lay_out_all(alloc, description, &before)?;
-    let placed = all_placed(components.as_slice());
-    let taken = all_taken(alloc, components)?;
+    let all = lay_out_all(alloc, description, top.name, &before)?;
+    if let Err(fault) = rows_under(alloc, all.components.as_slice(), all.number, top)? {
+        return Ok(Err(fault));
+    }
+    let placed = all_placed(all.components.as_slice());
+    let taken = all_taken(alloc, all.components)?;
     stored.replace(alloc, taken)?;
-    Ok(placed)
+    Ok(Ok(placed))
 }
 
 /// The layouts of all components of a description, used or not, and how many instances were placed for them. A contract
@@ -151,11 +161,10 @@ impl Model for Kept {
 }
 
 impl Kept {
-    ghost use Rattle.std.specs.Prelude.{◌≡◌, ◌≤◌, ◌*◌, ◌⊎◌, ℕ, Bool, List, [], Ok, Err, IfOk, IfErr, OnOk, OnErr, option_copied};
+    ghost use Rattle.std.specs.Prelude.{◌≡◌, ◌≤◌, ◌*◌, ◌⊎◌, ℕ, Bool, List, [], Ok, Err, Some, None, IfOk, IfErr, OnOk, OnErr, option_copied};
     ghost use Rattle.rdl_tree.specs.Depth.{depth};
-    ghost use Rattle.rdl_scope.specs.ItemFaults.{out_of_memory};
-    ghost use Rattle.rdl_elab.specs.Faults.{elaborated};
-    ghost use Rattle.rdl_elab.specs.Written.{all_layouts};
+    ghost use Rattle.rdl_scope.specs.ItemFaults.{fault_of, out_of_memory};
+    ghost use Rattle.rdl_elab.specs.Faults.{elaborated, top_from};
     ghost use Rattle.rdl_elab.specs.AllKept.{AreOf, IsAsBeforeBut, layout_at, all_instances, instances_at};
     ghost use Rattle.rdl_elab.specs.Reach.{in_reach, AreUnchangedBut};
     ghost use Rattle.rdl_elab.specs.Skeleton.{skeleton};
@@ -175,32 +184,40 @@ impl Kept {
         }
     }
 
-    /// Lays out all components of this description, and takes over the layouts of those for which they stand where these
-    /// were made of the same.
+    /// Lays out all components of this description, whose items have no fault, if the map with this top has none, and takes
+    /// over the layouts of those for which they stand where these were made of the same. Otherwise the fault.
     fn follow(
         &mut self,
         alloc: Global,
         description: &Description,
-        top: Option<&str>,
+        top: &Top,
+        wanted: Option<&str>,
         bodies: &[Address],
-    ) -> Result<(), AllocError>
-        requires { depth description.now.items ≤ 16 }
-        ensures layouts { OnOk result (self.new.layouts ≡ all_layouts description.now.items) }
-        ensures description { OnOk result (self.new.description ≡ description.now.items) }
-        ensures top { OnOk result (self.new.top ≡ option_copied top.entry) }
-        ensures placed { OnOk result (self.new.placed ≤ 3 * all_instances description.now.items) }
-        ensures few { OnOk result ((marked : List ℕ → Bool) → IsAsBeforeBut marked self.old.description bodies.now description.now.items → self.new.placed ≤ 3 * instances_at marked description.now.items) }
+    ) -> Result<Result<(), Fault>, AllocError>
+        requires nesting { depth description.now.items ≤ 16 }
+        requires faultless { fault_of description.now.items ≡ None }
+        requires top { top_from (option_copied wanted.entry) 0 description.now.items ≡ Some top.now }
+        ensures layouts { IfOk result (λ answer. OnOk answer (AreOf description.now.items self.new)) }
+        ensures top { IfOk result (λ answer. OnOk answer (self.new.top ≡ option_copied wanted.entry)) }
+        ensures placed { IfOk result (λ answer. OnOk answer (self.new.placed ≤ 3 * all_instances description.now.items)) }
+        ensures few { IfOk result (λ answer. OnOk answer ((marked : List ℕ → Bool) → IsAsBeforeBut marked self.old.description bodies.now description.now.items → self.new.placed ≤ 3 * instances_at marked description.now.items)) }
+        ensures refused { IfOk result (λ answer. IfErr answer (λ fault. elaborated description.now.items (option_copied wanted.entry) ≡ Err fault)) }
+        ensures unchanged { IfOk result (λ answer. OnErr answer (self.new ≡ self.old)) }
         ensures err { OnErr result (self.new ≡ self.old) }
     {
-        let top = text_of(alloc, top)?;
+        let wanted = text_of(alloc, wanted)?;
         let copy = description.try_copy(alloc)?;
         let keys = self.stored.keys.as_slice();
         let keys = stand_ins(alloc, &self.description, keys, description, bodies)?;
-        let placed = lay_out(alloc, &mut self.stored, description, keys.as_slice())?;
-        self.description = copy;
-        self.top = top;
-        self.placed = placed;
-        Ok(())
+        match lay_out(alloc, &mut self.stored, description, top, keys.as_slice())? {
+            Ok(placed) => {
+                self.description = copy;
+                self.top = wanted;
+                self.placed = placed;
+                Ok(Ok(()))
+            }
+            Err(fault) => Ok(Err(fault)),
+        }
     }
 
     /// Lays out all components of a description without a fault. Otherwise its first fault.
@@ -237,9 +254,9 @@ impl Kept {
         ensures refused { IfErr result (λ fault. (elaborated description.now.items (option_copied top.entry) ≡ Err fault) ⊎ (fault ≡ out_of_memory)) }
         ensures err { OnErr result (self.new ≡ self.old) }
     {
-        elaborate(alloc, description, top)?;
-        match self.follow(alloc, description, top, bodies) {
-            Ok(()) => Ok(()),
+        let found = checked_top(alloc, description, top)?;
+        match self.follow(alloc, description, &found, top, bodies) {
+            Ok(answer) => answer,
             Err(_) => Err(no_memory()),
         }
     }

@@ -4,13 +4,13 @@ ghost use Rattle.std.specs.Option.{is_some, IsSome};
 ghost use Rattle.rdl_tree.specs.Depth.{depth};
 ghost use Rattle.rdl_tree.specs.declared.description.Item.TheVariants.{Instance};
 ghost use Rattle.rdl_tree.specs.View.{items_of};
-ghost use Rattle.rdl_scope.specs.Closed.{Made, Parts, Standing, component, head_at, lookup, nothing, parts, standing};
+ghost use Rattle.rdl_scope.specs.Closed.{Made, Parts, Standing, component, head_at, lookup, nothing, parts, root_type, standing};
 ghost use Rattle.rdl_elab.specs.Finished.{IsFinished, IsKept, AreParts};
 ghost use Rattle.slab.specs.Slab.{get};
 ghost use Rattle.rdl_elab.specs.Written.{written, item_written, all_written};
 ghost use Rattle.rdl_elab.specs.MadeOf.{made_of};
 ghost use Rattle.rdl_elab.specs.Finishes.{kept_for, AreLaidOut, Finishes};
-ghost use Rattle.rdl_elab.specs.Stands.{made_at, after_item, item_parts, in_list, placed, LeadsTo, Stands, Grows, IsBehind};
+ghost use Rattle.rdl_elab.specs.Stands.{made_at, after_item, item_parts, in_list, placed, LeadsTo, IsType, Stands, Grows, IsBehind};
 
 use crate::built_ins::BuiltIns;
 use crate::defaults::Defaults;
@@ -34,6 +34,13 @@ use std::alloc::{AllocError, Global};
 pub(crate) struct Walked<'a> {
     pub components: Vec<Finished<'a>>,
     pub number: usize,
+}
+
+/// All components of a description, laid out in the same order, and the number of the type of the root that was asked for.
+#[derive(Drop)]
+pub(crate) struct AllWalked<'a> {
+    pub components: Vec<Finished<'a>>,
+    pub number: Option<usize>,
 }
 
 /// The components that are laid out, and what stands before the next item.
@@ -325,18 +332,24 @@ pub(crate) fn lay_out_item<'a>(
 }
 
 /// Lays out all components of the description, used or not, each behind those inside it. Layouts that are kept stay
-/// where nothing has changed of what they were made of.
+/// where nothing has changed of what they were made of. The number is that of the last type of this name in the root.
 pub(crate) fn lay_out_all<'a>(
     alloc: Global,
     description: &'a Description,
+    name: &Name,
     before: &Before,
-) -> Result<Vec<Finished<'a>>, AllocError>
+) -> Result<AllWalked<'a>, AllocError>
     requires { depth description.now.items ≤ 16 }
-    ensures { IfOk result (λ components. AreLaidOut before.now 0 components.items (all_written description.now.items)) }
+    ensures laid_out { IfOk result (λ all. AreLaidOut before.now 0 all.components.items (all_written description.now.items)) }
+    ensures number { IfOk result (λ all. IsType description.now.items all.components.items all.number (root_type description.now.items name.now)) }
 {
     let mut walk = Walk::new(alloc)?;
     let root = Address::new();
     let items = description.items.as_slice();
     walk_items(alloc, description, &root, items, &mut walk, before)?;
-    Ok(walk.components)
+    let number = walk.types.get(name);
+    Ok(AllWalked {
+        components: walk.components,
+        number,
+    })
 }

@@ -4,8 +4,6 @@ use Rattle.rdl_elab.proofs.elaborate.rows_of.Goals as goal
 
 pub returns-in-Some : goal.returns-in-Some
 returns-in-Some c =
-    let fs = c.args.walked.now.components.items in
-    let there : slice_get fs c.args.walked.now.number ≡ Some c.in-Some.top.now = search rules in
-    let same : c.as_slice-components.result.now ≡ fs = search rules in
-    subst (λ o. IfOk c.rows_or_fault.result (λ answer. answer ≡ kept_answer fs c.args.at.now c.args.name.now o)) (sym there)
-    (subst (λ cs. IfOk c.rows_or_fault.result (λ answer. answer ≡ kept_answer cs c.args.at.now c.args.name.now (Some c.in-Some.top.now))) same c.rows_or_fault.ensures)
+    let fs = c.args.components.now in
+    let there : slice_get fs c.args.number ≡ Some c.in-Some.top.now = search rules in
+    subst (λ o. IfOk c.rows_or_fault.result (λ answer. answer ≡ kept_answer fs c.args.at.now c.args.name.now o)) (sym there) c.rows_or_fault.ensures
