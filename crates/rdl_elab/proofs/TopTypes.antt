@@ -1,6 +1,6 @@
 -- The top is the last type of its name in the root, and is judged by what a walk over the whole root keeps of it.
 use Rattle.std.proofs.Common.{◌≡◌, ℕ, zero, suc, ◌+◌, Bool, true, false, List, [], ◌∷◌, ◌++◌, Option, Some, None, Result, Ok, Err, refl, ap, sym, subst, ◌∙◌, arith}
-use Rattle.std.specs.Prelude.{bytes_eq, slice_get, option_and_then, if◌then◌else◌}
+use Rattle.std.specs.Prelude.{OnOk, bytes_eq, slice_get, option_and_then, if◌then◌else◌}
 use Rattle.std.specs.Option.{option_or}
 use Rattle.std.proofs.lemmas.Slice.Eq.{bytes_eq-Decides}
 use Rattle.rdl_tree.specs.Items.{Items, no_items, plain, holder, Plain, named, own, default, dynamic, Holder, define, anonymous}
@@ -13,6 +13,9 @@ use Rattle.rdl_tree.specs.declared.description.Item.TheVariants.{Define, Instanc
 use Rattle.rdl_scope.specs.Closed.{Made, Standing, lookup, nothing, parts, after_plain, after_holder, standing, component_in, component, root_type}
 use Rattle.rdl_scope.specs.ItemFaults.{fault_of}
 use Rattle.rdl_elab.specs.declared.finished.Finished.{Finished}
+use Rattle.rdl_elab.specs.AllKept.{fault_in}
+use Rattle.rdl_elab.specs.declared.row.Row.{Row}
+use Rattle.rdl_tree.specs.declared.fault.Fault.{Fault}
 use Rattle.rdl_elab.specs.Faults.{may_be_top, name_of, has_name, top_from, under_top}
 use Rattle.rdl_elab.specs.KeptRows.{kept_answer}
 use Rattle.rdl_elab.specs.Stands.{AreTypes, IsType}
@@ -36,18 +39,23 @@ one-more n k name x t rest e h = record {
   there = ap (λ xs. slice_get xs (suc h.number)) e ∙ h.there;
 }
 
+-- a number and a name, if the test holds
+abbrev found_if : Bool → ℕ → List ℕ → Option (ℕ × List ℕ)
+found_if b k m = if b then Some (k, m) else None
+
 top-defined : (w : Option (List ℕ)) (k : ℕ) (t : Items) (n : ℕ) (name : List ℕ) → top_from w k t ≡ Some (n, name) → IsDefinition n k name t
 top-defined w k no_items n name e = cc
 top-defined w k (plain p rest) n name e = one-more n k name _ (plain p rest) rest refl (top-defined w (suc k) rest n name e)
 top-defined w k (holder h body rest) n name e = by_later (top_from w (suc k) rest) (λ g. one-more n k name _ (holder h body rest) rest refl (top-defined w (suc k) rest n name g)) e
   where
-    here : (h : Holder) → (if may_be_top w h then Some (k, name_of h) else None) ≡ Some (n, name) → IsDefinition n k name (holder h body rest)
+    here : (h : Holder) → found_if (may_be_top w h) k (name_of h) ≡ Some (n, name) → IsDefinition n k name (holder h body rest)
     here (define m Addrmap) e = by_name (has_name w m) e
       where
-        by_name : (b : Bool) → (if b then Some (k, m) else None) ≡ Some (n, name) → IsDefinition n k name (holder (define m Addrmap) body rest)
+        by_name : (b : Bool) → found_if b k m ≡ Some (n, name) → IsDefinition n k name (holder (define m Addrmap) body rest)
         by_name true e =
-            let number : k ≡ n = cc in
-            let same : m ≡ name = cc in
+            let both : (k, m) ≡ (n, name) = cc in
+            let number : k ≡ n = ap (λ (p : ℕ × List ℕ). p.0) both in
+            let same : m ≡ name = ap (λ (p : ℕ × List ℕ). p.1) both in
             record { number = 0; place = omega (arith, number); component = record { kind = Addrmap; body = body }; there = ap (λ l. Some (Define l (record { kind = Addrmap; body = body }))) same }
         by_name false e = cc
     here (define m Regfile) e = cc
@@ -55,7 +63,7 @@ top-defined w k (holder h body rest) n name e = by_later (top_from w (suc k) res
     here (define m Field) e = cc
     here (anonymous s l) e = cc
 
-    by_later : (o : Option (ℕ × List ℕ)) → (o ≡ Some (n, name) → IsDefinition n k name (holder h body rest)) → option_or o (if may_be_top w h then Some (k, name_of h) else None) ≡ Some (n, name)
+    by_later : (o : Option (ℕ × List ℕ)) → (o ≡ Some (n, name) → IsDefinition n k name (holder h body rest)) → option_or o (found_if (may_be_top w h) k (name_of h)) ≡ Some (n, name)
         → IsDefinition n k name (holder h body rest)
     by_later None further e = here h e
     by_later (Some last) further e = further e
@@ -145,3 +153,21 @@ answer-numbered d n name fs number none = by (component d (n ∷ [])) number ref
     by None (Some k) e h = absurd h
     by (Some c) None e h = absurd h
     by (Some c) (Some k) e h = answer-kept d n name c fs k none e h ∙ ap (under_top d (n ∷ []) name) e
+
+pub fault-numbered : (d : Items) (n : ℕ) (name : List ℕ) (fs : List Finished) (number : Option ℕ) (answer : Result (List Row) Fault) → fault_of d ≡ None → root_type d name ≡ component d (n ∷ [])
+    → IsType d fs number (root_type d name) → answer ≡ kept_answer fs (n ∷ []) name (option_and_then (slice_get fs) number)
+    → fault_in answer ≡ fault_in (under_top d (n ∷ []) name (component d (n ∷ [])))
+fault-numbered d n name fs number answer none last is e = ap fault_in (e ∙ answer-numbered d n name fs number none (subst (IsType d fs number) last is))
+
+-- no fault, or this one
+pub rows-there : (answer : Result (List Row) Fault) → fault_in answer ≡ None → (rows : List Row) × (answer ≡ Ok rows)
+rows-there (Ok rows) e = (rows, refl)
+rows-there (Err f) e = cc
+
+pub fault-there : (answer : Result (List Row) Fault) (f : Fault) → fault_in answer ≡ Some f → answer ≡ Err f
+fault-there (Ok rows) f e = cc
+fault-there (Err g) f e = let same : g ≡ f = cc in ap Err same
+
+pub on-ok : {P Q : Type 0} (r : Result (Unit {0}) Fault) → OnOk r P → (P → Q) → OnOk r Q
+on-ok (Ok x) p f = f p
+on-ok (Err e) p f = tt

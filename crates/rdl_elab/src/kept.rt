@@ -196,7 +196,7 @@ impl Kept {
     ) -> Result<Result<(), Fault>, AllocError>
         requires nesting { depth description.now.items ≤ 16 }
         requires faultless { fault_of description.now.items ≡ None }
-        requires top { top_from (option_copied wanted.entry) 0 description.now.items ≡ Some top.now }
+        requires top { top_from (option_copied wanted) 0 description.now.items ≡ Some top.now }
         ensures layouts { IfOk result (λ answer. OnOk answer (AreOf description.now.items self.new)) }
         ensures top { IfOk result (λ answer. OnOk answer (self.new.top ≡ option_copied wanted.entry)) }
         ensures placed { IfOk result (λ answer. OnOk answer (self.new.placed ≤ 3 * all_instances description.now.items)) }
