@@ -1,15 +1,14 @@
 -- The top is the last type of its name in the root, and is judged by what a walk over the whole root keeps of it.
-use Rattle.std.proofs.Common.{◌≡◌, ℕ, zero, suc, ◌+◌, Bool, true, false, List, [], ◌∷◌, ◌++◌, Option, Some, None, Result, Ok, Err, refl, ap, sym, subst, ◌∙◌, arith}
-use Rattle.std.specs.Prelude.{OnOk, bytes_eq, slice_get, option_and_then, if◌then◌else◌}
+use Rattle.std.proofs.Common.{◌≡◌, ℕ, zero, suc, ◌+◌, Bool, true, false, List, [], ◌∷◌, ◌++◌, Option, Some, None, Result, Ok, Err, refl, ap, subst, ◌∙◌, arith}
+use Rattle.std.specs.Prelude.{bytes_eq, slice_get, option_and_then, if◌then◌else◌}
 use Rattle.std.specs.Option.{option_or}
 use Rattle.std.proofs.lemmas.Slice.Eq.{bytes_eq-Decides}
-use Rattle.rdl_tree.specs.Items.{Items, no_items, plain, holder, Plain, named, own, default, dynamic, Holder, define, anonymous}
+use Rattle.rdl_tree.specs.Items.{Items, no_items, plain, holder, named, own, default, dynamic, Holder, define, anonymous}
 use Rattle.rdl_tree.specs.View.{list_of}
-use Rattle.rdl_tree.specs.declared.shell.Kind.{Kind}
 use Rattle.rdl_tree.specs.declared.shell.Kind.TheVariants.{Addrmap, Regfile, Reg, Field}
 use Rattle.rdl_tree.specs.declared.description.Component.{Component}
 use Rattle.rdl_tree.specs.declared.description.Item.{Item}
-use Rattle.rdl_tree.specs.declared.description.Item.TheVariants.{Define, Instance, Own, Default, Dynamic}
+use Rattle.rdl_tree.specs.declared.description.Item.TheVariants.{Define}
 use Rattle.rdl_scope.specs.Closed.{Made, Standing, lookup, nothing, parts, after_plain, after_holder, standing, component_in, component, root_type}
 use Rattle.rdl_scope.specs.ItemFaults.{fault_of}
 use Rattle.rdl_elab.specs.declared.finished.Finished.{Finished}
@@ -53,7 +52,9 @@ top-defined w k (holder h body rest) n name e = by_later (top_from w (suc k) res
       where
         by_name : (b : Bool) → found_if b k m ≡ Some (n, name) → IsDefinition n k name (holder (define m Addrmap) body rest)
         by_name true e =
-            let both : (k, m) ≡ (n, name) = cc in
+            let this : ℕ × List ℕ = (k, m) in
+            let wanted : ℕ × List ℕ = (n, name) in
+            let both : this ≡ wanted = cc in
             let number : k ≡ n = ap (λ (p : ℕ × List ℕ). p.0) both in
             let same : m ≡ name = ap (λ (p : ℕ × List ℕ). p.1) both in
             record { number = 0; place = omega (arith, number); component = record { kind = Addrmap; body = body }; there = ap (λ l. Some (Define l (record { kind = Addrmap; body = body }))) same }
@@ -154,20 +155,13 @@ answer-numbered d n name fs number none = by (component d (n ∷ [])) number ref
     by (Some c) None e h = absurd h
     by (Some c) (Some k) e h = answer-kept d n name c fs k none e h ∙ ap (under_top d (n ∷ []) name) e
 
+-- so are its fault and that of the walk's answer the same
 pub fault-numbered : (d : Items) (n : ℕ) (name : List ℕ) (fs : List Finished) (number : Option ℕ) (answer : Result (List Row) Fault) → fault_of d ≡ None → root_type d name ≡ component d (n ∷ [])
     → IsType d fs number (root_type d name) → answer ≡ kept_answer fs (n ∷ []) name (option_and_then (slice_get fs) number)
     → fault_in answer ≡ fault_in (under_top d (n ∷ []) name (component d (n ∷ [])))
 fault-numbered d n name fs number answer none last is e = ap fault_in (e ∙ answer-numbered d n name fs number none (subst (IsType d fs number) last is))
 
--- no fault, or this one
+-- an answer without a fault has rows
 pub rows-there : (answer : Result (List Row) Fault) → fault_in answer ≡ None → (rows : List Row) × (answer ≡ Ok rows)
 rows-there (Ok rows) e = (rows, refl)
 rows-there (Err f) e = cc
-
-pub fault-there : (answer : Result (List Row) Fault) (f : Fault) → fault_in answer ≡ Some f → answer ≡ Err f
-fault-there (Ok rows) f e = cc
-fault-there (Err g) f e = let same : g ≡ f = cc in ap Err same
-
-pub on-ok : {P Q : Type 0} (r : Result (Unit {0}) Fault) → OnOk r P → (P → Q) → OnOk r Q
-on-ok (Ok x) p f = f p
-on-ok (Err e) p f = tt

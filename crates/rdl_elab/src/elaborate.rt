@@ -232,7 +232,7 @@ fn rows_of<'a>(
     }
 }
 
-/// The same of this top, whose component has this number if there is one.
+/// The same of this top, whose component has this number among them.
 pub(crate) fn rows_under<'a>(
     alloc: Global,
     components: &[Finished<'a>],
@@ -248,7 +248,7 @@ pub(crate) fn rows_under<'a>(
     }
 }
 
-/// The same of the description.
+/// The same of this top of the description, whose component is laid out here.
 fn under_top(
     alloc: Global,
     description: &Description,

@@ -96,9 +96,9 @@ fn has_layout(description: &Description, body: &Address) -> bool
     }
 }
 
-/// Lays out all components of this description instead of those that are stored, if the map with this top has no fault, and
-/// takes over what stands under these keys where it was made of the same. The number of instances that were placed, or the
-/// fault.
+/// Lays out all components of this description, and keeps them instead of those that are stored if the map with this top
+/// has no fault. What stands under these keys is taken over where it was made of the same. The number of instances that
+/// were placed, or the fault.
 fn lay_out(
     alloc: Global,
     stored: &mut Stored,
@@ -184,8 +184,8 @@ impl Kept {
         }
     }
 
-    /// Lays out all components of this description, whose items have no fault, if the map with this top has none, and takes
-    /// over the layouts of those for which they stand where these were made of the same. Otherwise the fault.
+    /// Lays out all components of this description, and takes over the layouts of those for which they stand where these
+    /// were made of the same. Nothing changes if the map with this top has a fault.
     fn follow(
         &mut self,
         alloc: Global,

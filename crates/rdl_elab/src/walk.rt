@@ -36,7 +36,8 @@ pub(crate) struct Walked<'a> {
     pub number: usize,
 }
 
-/// All components of a description, laid out in the same order, and the number of the type of the root that was asked for.
+/// All components of a description, laid out in the same order, and the number of that of a type of the root, if there
+/// is one.
 #[derive(Drop)]
 pub(crate) struct AllWalked<'a> {
     pub components: Vec<Finished<'a>>,
@@ -332,7 +333,7 @@ pub(crate) fn lay_out_item<'a>(
 }
 
 /// Lays out all components of the description, used or not, each behind those inside it. Layouts that are kept stay
-/// where nothing has changed of what they were made of. The number is that of the last type of this name in the root.
+/// where nothing has changed of what they were made of. The number is that of the last type of this name.
 pub(crate) fn lay_out_all<'a>(
     alloc: Global,
     description: &'a Description,

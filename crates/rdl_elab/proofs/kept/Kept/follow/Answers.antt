@@ -1,5 +1,5 @@
-use Rattle.std.proofs.Common.{rules, ◌≡◌, ℕ, ◌≤◌, ◌*◌, Bool, List, map, Ok, Some, None, option_copied, ap, sym, subst, ◌∙◌}
-use Rattle.std.specs.Prelude.{IfOk, OnOk, option_map}
+use Rattle.std.proofs.Common.{rules, ◌≡◌, ℕ, ◌≤◌, ◌*◌, Bool, List, map, Some, option_copied, ap, sym, subst, ◌∙◌}
+use Rattle.std.specs.Prelude.{IfOk, OnOk}
 use Rattle.rdl_tree.specs.Items.{Items}
 use Rattle.rdl_elab.specs.AllKept.{KeptLayouts, IsAsBeforeBut, AreFoundBut, fault_in, instances_at}
 use Rattle.rdl_elab.specs.Faults.{elaborated, with_top}
