@@ -1,4 +1,4 @@
-use Rattle.std.proofs.Common.{◌≡◌, ℕ, ◌+◌, List, [], ◌∷◌, ap, sym, subst, ◌∙◌, arith}
+use Rattle.std.proofs.Common.{rules, ◌≡◌, None, ℕ, ◌+◌, List, [], ◌∷◌, ap, sym, subst, ◌∙◌, arith}
 use Rattle.std.specs.Prelude.{sum_by, slice_get, option_and_then}
 use Rattle.rdl_elab.specs.declared.finished.Finished.{Finished}
 use Rattle.rdl_elab.specs.Kept.{MadeOf}
@@ -49,4 +49,5 @@ returns-clause-judged c =
     let kept = c.in_ok-fault.ensures ∙ ap (λ (fs : List Finished). kept_answer fs (top.0 ∷ []) top.1 (option_and_then (slice_get fs) all.number)) c.as_slice.ensures.value in
     let name : c.top.inside.name.now ≡ top.1 = ap (λ (t : ℕ × List ℕ). t.1) c.top.view_is in
     let type = subst (λ n. IsType d all.components.items all.number (root_type d n)) name c.in_ok-all.ensures.number in
-    sym (ap fault_in c.in_default.is) ∙ fault-numbered d top.0 top.1 all.components.items all.number c.in_ok-fault.field-0 c.requires.faultless c.requires.top type kept
+    let none : fault_in c.in_ok-fault.field-0 ≡ None = search rules in
+    sym none ∙ fault-numbered d top.0 top.1 all.components.items all.number c.in_ok-fault.field-0 c.requires.faultless c.requires.top type kept
