@@ -1,7 +1,7 @@
-use Rattle.std.proofs.Common.{rules, ◌≡◌, ◌∙◌, ◌∷◌, [], sym, Some, None, option_copied}
-use Rattle.rdl_scope.specs.ItemFaults.{fault_of, out_of_memory}
+use Rattle.std.proofs.Common.{rules, ◌≡◌, ◌∙◌, ◌∷◌, [], sym, Some, option_copied}
+use Rattle.rdl_scope.specs.ItemFaults.{out_of_memory}
 use Rattle.rdl_scope.specs.Closed.{component}
-use Rattle.rdl_elab.specs.Faults.{elaborated, top_from, under_top}
+use Rattle.rdl_elab.specs.Faults.{elaborated, under_top}
 use Rattle.rdl_elab.proofs.KeptAnswers.{judged-top, if-rows, if-fault}
 use Rattle.rdl_elab.proofs.elaborate.elaborate.Goals as goal
 
