@@ -28,17 +28,17 @@ kept-edits {S} h (s ∷ ss) i =
     let front : (xs : List S) → take (h.place + 1) xs ≡ take (h.place + 1) (take (h.place + 1 + 1) xs) = λ xs. sym (take-take (h.place + 1) (h.place + 1 + 1) xs (omega arith)) in
     front (after_edits (after_edit h s) ss).states ∙ ap (take (h.place + 1)) more ∙ sym (front (after_edit h s).states) ∙ kept-edit h s i
 
-pub undos-is : {S : Type 0} (n : ℕ) (h : History S) → after_undos n h ≡ record { limit = h.limit; states = h.states; place = h.place - n }
-undos-is zero h = ap (λ (n : ℕ). record { limit = h.limit; states = h.states; place = n }) (let e : h.place ≡ h.place - 0 = omega arith in e)
-undos-is (suc n) h = undos-is n (after_undo h) ∙ ap (λ (k : ℕ). record { limit = h.limit; states = h.states; place = k }) (let e : h.place - 1 - n ≡ h.place - suc n = omega arith in e)
+pub undos-is : {S : Type 0} (n : ℕ) (h : History S) → after_undos n h ≡ record { limit = h.limit; states = h.states; place = h.place - n; own = h.own }
+undos-is zero h = ap (λ (n : ℕ). record { limit = h.limit; states = h.states; place = n; own = h.own }) (let e : h.place ≡ h.place - 0 = omega arith in e)
+undos-is (suc n) h = undos-is n (after_undo h) ∙ ap (λ (k : ℕ). record { limit = h.limit; states = h.states; place = k; own = h.own }) (let e : h.place - 1 - n ≡ h.place - suc n = omega arith in e)
 
-pub redos-is : {S : Type 0} (n : ℕ) (h : History S) → h.place + n < length h.states → after_redos n h ≡ record { limit = h.limit; states = h.states; place = h.place + n }
-redos-is zero h i = ap (λ (n : ℕ). record { limit = h.limit; states = h.states; place = n }) (let e : h.place ≡ h.place + 0 = omega arith in e)
+pub redos-is : {S : Type 0} (n : ℕ) (h : History S) → h.place + n < length h.states → after_redos n h ≡ record { limit = h.limit; states = h.states; place = h.place + n; own = h.own }
+redos-is zero h i = ap (λ (n : ℕ). record { limit = h.limit; states = h.states; place = n; own = h.own }) (let e : h.place ≡ h.place + 0 = omega arith in e)
 redos-is {S} (suc n) h i =
-    let one : after_redo h ≡ record { limit = h.limit; states = h.states; place = h.place + 1 } =
-    ap (λ b. record { limit = h.limit; states = h.states; place = if b then h.place + 1 else h.place }) (lt-ltb (h.place + 1) (length h.states) (omega (arith, i))) in
-    ap (after_redos n) one ∙ redos-is n (record { limit = h.limit; states = h.states; place = h.place + 1 }) (let e : h.place + 1 + n < length h.states = omega (arith, i) in e)
-    ∙ ap (λ (k : ℕ). record { limit = h.limit; states = h.states; place = k }) (let e : h.place + 1 + n ≡ h.place + suc n = omega arith in e)
+    let one : after_redo h ≡ record { limit = h.limit; states = h.states; place = h.place + 1; own = h.own } =
+    ap (λ b. record { limit = h.limit; states = h.states; place = if b then h.place + 1 else h.place; own = h.own }) (lt-ltb (h.place + 1) (length h.states) (omega (arith, i))) in
+    ap (after_redos n) one ∙ redos-is n (record { limit = h.limit; states = h.states; place = h.place + 1; own = h.own }) (let e : h.place + 1 + n < length h.states = omega (arith, i) in e)
+    ∙ ap (λ (k : ℕ). record { limit = h.limit; states = h.states; place = k; own = h.own }) (let e : h.place + 1 + n ≡ h.place + suc n = omega arith in e)
 
 -- the same front has the same item
 pub same_item : {S : Type 0} (xs ys : List S) (k : ℕ) → take (k + 1) xs ≡ take (k + 1) ys → slice_get xs k ≡ slice_get ys k
@@ -62,5 +62,5 @@ on-again {S} h ss i =
     let h' = after_edits h ss in
     let place : h'.place - length ss + length ss ≡ h'.place = omega (arith, place-edits h ss) in
     ap (after_redos (length ss)) (undos-is (length ss) h')
-    ∙ redos-is (length ss) (record { limit = h'.limit; states = h'.states; place = h'.place - length ss }) (let e : h'.place - length ss + length ss < length h'.states = omega (arith, place-edits h ss, inside-edits h ss i) in e)
-    ∙ ap (λ (k : ℕ). record { limit = h'.limit; states = h'.states; place = k }) place
+    ∙ redos-is (length ss) (record { limit = h'.limit; states = h'.states; place = h'.place - length ss; own = h'.own }) (let e : h'.place - length ss + length ss < length h'.states = omega (arith, place-edits h ss, inside-edits h ss i) in e)
+    ∙ ap (λ (k : ℕ). record { limit = h'.limit; states = h'.states; place = k; own = h'.own }) place

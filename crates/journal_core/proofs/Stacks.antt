@@ -1,5 +1,5 @@
 -- Stacks of steps back, when a step is put on one or taken off.
-use Rattle.std.proofs.Common.{◌≡◌, ℕ, suc, ◌+◌, ◌-◌, ◌<◌, List, [], ◌∷◌, ◌++◌, length, take, refl, sym, ap, ◌∙◌, subst, arith, append_assoc, length-append, Some, slice_get, if◌then◌else◌}
+use Rattle.std.proofs.Common.{◌≡◌, Bool, ℕ, suc, ◌+◌, ◌-◌, ◌<◌, List, [], ◌∷◌, ◌++◌, length, take, refl, sym, ap, ◌∙◌, subst, arith, append_assoc, length-append, Some, slice_get, if◌then◌else◌}
 use mathlib.Core.List.{reverse}
 use Rattle.std.proofs.lemmas.Bool.{lt-ltb}
 use Rattle.std.proofs.lemmas.List.{reverse-append, length-reverse, take_at, get_or_at}
@@ -50,42 +50,42 @@ moved {S} a b a' b' s t p q =
     ap (λ (r : List S). a' ++ t ∷ r) (ap reverse q ∙ reverse-append b (s ∷ []))
     ∙ sym (append_assoc a' (t ∷ []) (s ∷ reverse b)) ∙ ap (λ (l : List S). l ++ s ∷ reverse b) (sym p)
 
-pub undone : {S B : Type 0} (prior : S → B → S) (old new : S) (limit : ℕ) (from from' to to' : List B) → Steps prior old new from from' to to'
-    → ◌≡◌ {A = History S} (record { limit = limit; states = states_along prior new from' ++ new ∷ reverse (states_along prior new to'); place = length from' })
-    (after_undo (record { limit = limit; states = states_along prior old from ++ old ∷ reverse (states_along prior old to); place = length from }))
-undone {S} prior old new limit from from' to to' h =
+pub undone : {S B : Type 0} (prior : S → B → S) (old new : S) (own : Bool) (limit : ℕ) (from from' to to' : List B) → Steps prior old new from from' to to'
+    → ◌≡◌ {A = History S} (record { limit = limit; states = states_along prior new from' ++ new ∷ reverse (states_along prior new to'); place = length from'; own = own })
+    (after_undo (record { limit = limit; states = states_along prior old from ++ old ∷ reverse (states_along prior old to); place = length from; own = own }))
+undone {S} prior old new own limit from from' to to' h =
     let all = moved (states_along prior old from) (states_along prior old to) (states_along prior new from') (states_along prior new to') old new
     (states-from prior old new from from' to to' h) (states-to prior old new from from' to to' h) in
     let place : length from' ≡ length from - 1 = omega (arith, ap length h.taken, length-append from' (h.back ∷ [])) in
-    ap (λ (ss : List S). record { limit = limit; states = ss; place = length from' }) all
-    ∙ ap (λ (n : ℕ). record { limit = limit; states = states_along prior old from ++ old ∷ reverse (states_along prior old to); place = n }) place
+    ap (λ (ss : List S). record { limit = limit; states = ss; place = length from'; own = own }) all
+    ∙ ap (λ (n : ℕ). record { limit = limit; states = states_along prior old from ++ old ∷ reverse (states_along prior old to); place = n; own = own }) place
 
 pub length-states-all : {S B : Type 0} (prior : S → B → S) (now : S) (done undone : List B) → length (states_along prior now done ++ now ∷ reverse (states_along prior now undone)) ≡ length done + (length undone + 1)
 length-states-all prior now done undone =
     length-append (states_along prior now done) (now ∷ reverse (states_along prior now undone))
     ∙ omega (arith, length-states prior now done, length-reverse (states_along prior now undone), length-states prior now undone)
 
-pub redone : {S B : Type 0} (prior : S → B → S) (old new : S) (limit : ℕ) (from from' to to' : List B) → Steps prior old new from from' to to'
-    → ◌≡◌ {A = History S} (record { limit = limit; states = states_along prior new to' ++ new ∷ reverse (states_along prior new from'); place = length to' })
-    (after_redo (record { limit = limit; states = states_along prior old to ++ old ∷ reverse (states_along prior old from); place = length to }))
-redone {S} prior old new limit from from' to to' h =
+pub redone : {S B : Type 0} (prior : S → B → S) (old new : S) (own : Bool) (limit : ℕ) (from from' to to' : List B) → Steps prior old new from from' to to'
+    → ◌≡◌ {A = History S} (record { limit = limit; states = states_along prior new to' ++ new ∷ reverse (states_along prior new from'); place = length to'; own = own })
+    (after_redo (record { limit = limit; states = states_along prior old to ++ old ∷ reverse (states_along prior old from); place = length to; own = own }))
+redone {S} prior old new own limit from from' to to' h =
     let all = sym (moved (states_along prior new to') (states_along prior new from') (states_along prior old to) (states_along prior old from) new old
     (states-to prior old new from from' to to' h) (states-from prior old new from from' to to' h)) in
     let room : length to + 1 < length (states_along prior old to ++ old ∷ reverse (states_along prior old from)) =
     omega (arith, length-states-all prior old to from, ap length h.taken, length-append from' (h.back ∷ [])) in
     let place : length to' ≡ length to + 1 = omega (arith, ap length h.put, length-append to (h.forward ∷ [])) in
-    ap (λ (ss : List S). record { limit = limit; states = ss; place = length to' }) all
-    ∙ ap (λ (n : ℕ). record { limit = limit; states = states_along prior old to ++ old ∷ reverse (states_along prior old from); place = n })
+    ap (λ (ss : List S). record { limit = limit; states = ss; place = length to'; own = own }) all
+    ∙ ap (λ (n : ℕ). record { limit = limit; states = states_along prior old to ++ old ∷ reverse (states_along prior old from); place = n; own = own })
     (place ∙ sym (ap (λ b. if b then length to + 1 else length to) (lt-ltb _ _ room)))
 
 pub slice_get_at : {X : Type 0} (xs ys : List X) (y : X) (n : ℕ) → length xs ≡ n → slice_get (xs ++ y ∷ ys) n ≡ Some y
 slice_get_at xs ys y n e =
     slice_get-get_or (xs ++ y ∷ ys) n y (omega (arith, e, length-append xs (y ∷ ys))) ∙ ap Some (get_or_at xs y ys y n e)
 
-pub edited : {S B : Type 0} (prior : S → B → S) (old new : S) (limit : ℕ) (done done' undone undone' : List B) (back : B) → done' ≡ done ++ back ∷ [] → undone' ≡ [] → prior new back ≡ old
-    → ◌≡◌ {A = History S} (record { limit = limit; states = states_along prior new done' ++ new ∷ reverse (states_along prior new undone'); place = length done' })
-    (after_edit (record { limit = limit; states = states_along prior old done ++ old ∷ reverse (states_along prior old undone); place = length done }) new)
-edited {S} {B} prior old new limit done done' undone undone' back d u e =
+pub edited : {S B : Type 0} (prior : S → B → S) (old new : S) (own : Bool) (limit : ℕ) (done done' undone undone' : List B) (back : B) → done' ≡ done ++ back ∷ [] → undone' ≡ [] → prior new back ≡ old
+    → ◌≡◌ {A = History S} (record { limit = limit; states = states_along prior new done' ++ new ∷ reverse (states_along prior new undone'); place = length done'; own = own })
+    (after_edit (record { limit = limit; states = states_along prior old done ++ old ∷ reverse (states_along prior old undone); place = length done; own = own }) new)
+edited {S} {B} prior old new own limit done done' undone undone' back d u e =
     let before = states_along prior old done in
     let after = reverse (states_along prior old undone) in
     let front : states_along prior new done' ≡ before ++ old ∷ [] =
@@ -94,6 +94,6 @@ edited {S} {B} prior old new limit done done' undone undone' back d u e =
     let cut : take (length done + 1) (before ++ old ∷ after) ≡ before ++ old ∷ [] =
     ap (take (length done + 1)) (sym (append_assoc before (old ∷ []) after))
     ∙ take_at (before ++ old ∷ []) after (length done + 1) (length-append before (old ∷ []) ∙ omega (arith, length-states prior old done)) in
-    ap (λ (us : List B). record { limit = limit; states = states_along prior new done' ++ new ∷ reverse (states_along prior new us); place = length done' }) u
-    ∙ ap (λ (ss : List S). record { limit = limit; states = ss ++ new ∷ []; place = length done' }) (front ∙ sym cut)
-    ∙ ap (λ (n : ℕ). record { limit = limit; states = take (length done + 1) (before ++ old ∷ after) ++ new ∷ []; place = n }) place
+    ap (λ (us : List B). record { limit = limit; states = states_along prior new done' ++ new ∷ reverse (states_along prior new us); place = length done'; own = own }) u
+    ∙ ap (λ (ss : List S). record { limit = limit; states = ss ++ new ∷ []; place = length done'; own = own }) (front ∙ sym cut)
+    ∙ ap (λ (n : ℕ). record { limit = limit; states = take (length done + 1) (before ++ old ∷ after) ++ new ∷ []; place = n; own = own }) place

@@ -1,5 +1,5 @@
 -- Stacks of steps against the same steps in the order in which they are taken, and where a step of a stack stands in the list.
-use Rattle.std.proofs.Common.{◌≡◌, ℕ, zero, suc, ◌+◌, ◌-◌, ◌<◌, ◌≤◌, List, [], ◌∷◌, ◌++◌, length, Option, Some, None, Bor, option_copied, IfSome, ◌↔◌, inl, inr, refl, sym, ap, ◌∙◌, subst, arith, append_assoc, slice_get, get_or}
+use Rattle.std.proofs.Common.{◌≡◌, false, ℕ, zero, suc, ◌+◌, ◌-◌, ◌<◌, ◌≤◌, List, [], ◌∷◌, ◌++◌, length, Option, Some, None, Bor, option_copied, IfSome, ◌↔◌, inl, inr, refl, sym, ap, ◌∙◌, subst, arith, append_assoc, slice_get, get_or}
 use mathlib.Core.List.{reverse}
 use Rattle.std.proofs.lemmas.List.{reverse-append, reverse-reverse, length-reverse, get_or-reverse}
 use Rattle.std.proofs.lemmas.Option.{slice_get-get_or, slice_get_within, slice_get_past, slice_get_cases}
@@ -30,16 +30,16 @@ length-led prior now (b ∷ bs) = ap suc (length-led prior (prior now b) bs)
 
 -- a journal that goes on with these steps
 pub resumed-is : {S B : Type 0} (prior : S → B → S) (now : S) (limit : ℕ) (undo redo done undone : List B) → done ≡ reverse undo → undone ≡ reverse redo
-    → ◌≡◌ {A = History S} (record { limit = limit; states = states_along prior now done ++ now ∷ reverse (states_along prior now undone); place = length done })
+    → ◌≡◌ {A = History S} (record { limit = limit; states = states_along prior now done ++ now ∷ reverse (states_along prior now undone); place = length done; own = false })
     (resumed limit (led_through prior now undo) now (led_through prior now redo))
 resumed-is {S} {B} prior now limit undo redo done undone d u =
     let behind : states_along prior now done ≡ reverse (led_through prior now undo) = ap (states_along prior now) d ∙ states-reverse prior now undo in
     let ahead : reverse (states_along prior now undone) ≡ led_through prior now redo =
     ap (λ (bs : List B). reverse (states_along prior now bs)) u ∙ ap reverse (states-reverse prior now redo) ∙ reverse-reverse (led_through prior now redo) in
     let place : length done ≡ length (led_through prior now undo) = ap length d ∙ length-reverse undo ∙ sym (length-led prior now undo) in
-    ap (λ (ss : List S). record { limit = limit; states = ss ++ now ∷ reverse (states_along prior now undone); place = length done }) behind
-    ∙ ap (λ (ss : List S). record { limit = limit; states = reverse (led_through prior now undo) ++ now ∷ ss; place = length done }) ahead
-    ∙ ap (λ (n : ℕ). record { limit = limit; states = reverse (led_through prior now undo) ++ now ∷ led_through prior now redo; place = n }) place
+    ap (λ (ss : List S). record { limit = limit; states = ss ++ now ∷ reverse (states_along prior now undone); place = length done; own = false }) behind
+    ∙ ap (λ (ss : List S). record { limit = limit; states = reverse (led_through prior now undo) ++ now ∷ ss; place = length done; own = false }) ahead
+    ∙ ap (λ (n : ℕ). record { limit = limit; states = reverse (led_through prior now undo) ++ now ∷ led_through prior now redo; place = n; own = false }) place
 
 -- ---- Where a step of a stack stands in the list.
 

@@ -1,28 +1,30 @@
 -- A list of states, a place in it, and how far edits may bring the place. It may begin at any place of a list, so the place
 -- may be past the limit.
-use Rattle.std.specs.Prelude.{◌≡◌, ℕ, slice_get, Some, zero, suc, ◌+◌, ◌-◌, ◌<◌, nat_lt, if◌then◌else◌, List, [], ◌∷◌, ◌++◌, length, take, Some, slice_get}
+use Rattle.std.specs.Prelude.{◌≡◌, Bool, false, ℕ, slice_get, Some, zero, suc, ◌+◌, ◌-◌, ◌<◌, nat_lt, if◌then◌else◌, List, [], ◌∷◌, ◌++◌, length, take, Some, slice_get}
 use mathlib.Core.List.{reverse}
 
 pub record History (S : Type 0) : Type 0 where
   pub limit : ℕ
   pub states : List S
   pub place : ℕ
+  -- each of its steps was left behind by a change made in it, or takes such a step back; none was handed over to it
+  pub own : Bool
 
 -- at the state that is now, between those behind it and those ahead of it, each with the nearest first
 abbrev pub resumed : {S : Type 0} → (limit : ℕ) → (behind : List S) → (now : S) → (ahead : List S) → History S
-resumed limit behind now ahead = record { limit = limit; states = reverse behind ++ now ∷ ahead; place = length behind }
+resumed limit behind now ahead = record { limit = limit; states = reverse behind ++ now ∷ ahead; place = length behind; own = false }
 
 -- what was after the place goes, and the state comes there
 abbrev pub after_edit : {S : Type 0} → History S → S → History S
-after_edit h s = record { limit = h.limit; states = take (h.place + 1) h.states ++ s ∷ []; place = h.place + 1 }
+after_edit h s = record { limit = h.limit; states = take (h.place + 1) h.states ++ s ∷ []; place = h.place + 1; own = h.own }
 
 -- one place back; at the first there is none
 abbrev pub after_undo : {S : Type 0} → History S → History S
-after_undo h = record { limit = h.limit; states = h.states; place = h.place - 1 }
+after_undo h = record { limit = h.limit; states = h.states; place = h.place - 1; own = h.own }
 
 -- one place on; at the last there is none
 abbrev pub after_redo : {S : Type 0} → History S → History S
-after_redo h = record { limit = h.limit; states = h.states; place = if nat_lt (h.place + 1) (length h.states) then h.place + 1 else h.place }
+after_redo h = record { limit = h.limit; states = h.states; place = if nat_lt (h.place + 1) (length h.states) then h.place + 1 else h.place; own = h.own }
 
 -- the place is in the list
 abbrev pub IsHistory : {S : Type 0} → History S → Type 0

@@ -79,6 +79,8 @@ impl Invertible for Numbers {
 
     ghost fits = { λ s b. Unit {0} };
 
+    ghost own = { λ s b. Unit {0} };
+
     ghost leads = { Leads };
 
     ghost refuses = { Refuses };

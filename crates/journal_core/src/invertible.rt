@@ -20,6 +20,8 @@ pub trait Invertible {
     ghost prior: { Self.State → Self.Back → Self.State };
     /// A step back can be taken there.
     ghost fits: { Self.State → Self.Back → Type 0 };
+    /// A step back that a change made of this object leaves there, or that takes such a step back.
+    ghost own: { Self.State → Self.Back → Type 0 };
     /// A change may lead from the first state to the second.
     ghost leads: { Self.State → Self.Change → Self.State → Type 0 };
     /// A change may be refused there, in this way.
@@ -29,6 +31,7 @@ pub trait Invertible {
     fn apply(&mut self, alloc: Global, change: &Self::Change) -> Result<Self::Back, Self::Refusal>
         ensures leads { OnOk result (leads (state self.old) change.now (state self.new)) }
         ensures fits { IfOk result (λ back. fits (state self.new) back) }
+        ensures own { IfOk result (λ back. own (state self.new) back) }
         ensures back { IfOk result (λ back. prior (state self.new) back ≡ state self.old) }
         ensures refused { IfErr result (λ refusal. refuses (state self.old) change.now refusal) }
         ensures err { OnErr result (state self.new ≡ state self.old) };
@@ -39,6 +42,7 @@ pub trait Invertible {
         requires { fits (state self.old) back }
         ensures leads { OnOk result (state self.new ≡ prior (state self.old) back) }
         ensures fits { IfOk result (λ forward. fits (state self.new) forward) }
+        ensures own { IfOk result (λ forward. own (state self.old) back → own (state self.new) forward) }
         ensures back { IfOk result (λ forward. prior (state self.new) forward ≡ state self.old) }
         ensures handed { IfErr result (λ same. same ≡ back) }
         ensures err { OnErr result (state self.new ≡ state self.old) };

@@ -1,5 +1,5 @@
 //! The history.
-ghost use Rattle.std.specs.Prelude.{◌≡◌, ◌+◌, ◌-◌, ◌≤◌, [], ◌∷◌, length, Ok, Err, None, IfErr, IfSome, OnOk, OnErr, ◌↔◌, option_copied, slice_get};
+ghost use Rattle.std.specs.Prelude.{◌≡◌, true, ◌+◌, ◌-◌, ◌≤◌, [], ◌∷◌, length, Ok, Err, None, IfErr, IfSome, OnOk, OnErr, ◌↔◌, option_copied, slice_get};
 ghost use mathlib.Core.List.{reverse};
 ghost use Rattle.journal_core.specs.declared.fault.EditFault.{EditFault};
 ghost use Rattle.journal_core.specs.declared.fault.StepFault.TheVariants.{Nothing};
@@ -28,6 +28,8 @@ fn take_step<M: Invertible>(
     ensures to { OnErr result (to.new.items ≡ to.old.items) }
     ensures from_fits { (FitAlong M.prior M.fits (M.state map.new) from.new.items) }
     ensures to_fits { (FitAlong M.prior M.fits (M.state map.new) to.new.items) }
+    ensures from_own { (FitAlong M.prior M.own (M.state map.old) from.old.items) → FitAlong M.prior M.own (M.state map.new) from.new.items }
+    ensures to_own { (FitAlong M.prior M.own (M.state map.old) from.old.items) → (FitAlong M.prior M.own (M.state map.old) to.old.items) → FitAlong M.prior M.own (M.state map.new) to.new.items }
 {
     if from.is_empty() {
         return Err(StepFault::Nothing);
@@ -74,6 +76,7 @@ pub struct Journal<M: Invertible> {
     limit: u32,
     done: Vec<M::Back>,
     undone: Vec<M::Back>,
+    is_own: bool,
 }
 
 impl<M: Invertible> Model for Journal<M> {
@@ -88,21 +91,23 @@ impl<M: Invertible> Model for Journal<M> {
       limit = j.limit;
       states = states_along M.prior (M.state j.map) j.done.items ++ M.state j.map ∷ reverse (states_along M.prior (M.state j.map) j.undone.items);
       place = length j.done.items;
+      own = j.is_own;
     } };
 
-    ghost invariant = { λ j. IsSound M.prior M.fits (M.state j.map) j.done.items j.undone.items };
+    ghost invariant = { λ j. IsSound M.prior M.fits M.own (M.state j.map) j.done.items j.undone.items j.is_own };
 }
 
 impl<M: Invertible> Journal<M> {
     /// A history of the map alone. It takes no memory.
     pub fn new(alloc: Global, map: M, limit: u32) -> Journal<M>
-        ensures { result ≡ record { limit = limit; states = M.state map ∷ []; place = 0 } }
+        ensures { result ≡ record { limit = limit; states = M.state map ∷ []; place = 0; own = true } }
     {
         Journal {
             map,
             limit,
             done: Vec::new(alloc),
             undone: Vec::new(alloc),
+            is_own: true,
         }
     }
 
@@ -118,6 +123,7 @@ impl<M: Invertible> Journal<M> {
             limit,
             done: reversed(undo),
             undone: reversed(redo),
+            is_own: false,
         }
     }
 
@@ -146,6 +152,7 @@ impl<M: Invertible> Journal<M> {
     pub fn undo_at(&self, i: usize) -> Option<&M::Back>
         ensures none { (self.now.place ≤ i) ↔ (option_copied result ≡ None) }
         ensures leads { IfSome result (λ back. LeadsBetween M.prior M.fits self.now.states (self.now.place - i) (self.now.place - i - 1) back.now) }
+        ensures own { self.now.own ≡ true → IfSome result (λ back. LeadsBetween M.prior M.own self.now.states (self.now.place - i) (self.now.place - i - 1) back.now) }
     {
         from_the_end(self.done.as_slice(), i)
     }
@@ -154,6 +161,7 @@ impl<M: Invertible> Journal<M> {
     pub fn redo_at(&self, i: usize) -> Option<&M::Back>
         ensures none { (length self.now.states ≤ self.now.place + i + 1) ↔ (option_copied result ≡ None) }
         ensures leads { IfSome result (λ step. LeadsBetween M.prior M.fits self.now.states (self.now.place + i) (self.now.place + i + 1) step.now) }
+        ensures own { self.now.own ≡ true → IfSome result (λ step. LeadsBetween M.prior M.own self.now.states (self.now.place + i) (self.now.place + i + 1) step.now) }
     {
         from_the_end(self.undone.as_slice(), i)
     }

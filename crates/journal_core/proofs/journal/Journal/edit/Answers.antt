@@ -14,6 +14,9 @@ invariant_of-self-in-Ok g c =
       done_fit = subst (FitAlong m.prior m.fits (m.state c.apply.new.self)) (sym items)
           (FitAlong-push m.prior m.fits _ _ _ c.in-Ok.ensures.fits (subst (λ s. FitAlong m.prior m.fits s j.done.items) (sym c.in-Ok.ensures.back) c.self.invariant.done_fit));
       undone_fit = subst (FitAlong m.prior m.fits (m.state c.apply.new.self)) (sym c.clear.ensures.items) tt;
+      done_own = λ is_own. subst (FitAlong m.prior m.own (m.state c.apply.new.self)) (sym items)
+          (FitAlong-push m.prior m.own _ _ _ c.in-Ok.ensures.own (subst (λ s. FitAlong m.prior m.own s j.done.items) (sym c.in-Ok.ensures.back) (c.self.invariant.done_own is_own)));
+      undone_own = λ is_own. subst (FitAlong m.prior m.own (m.state c.apply.new.self)) (sym c.clear.ensures.items) tt;
     }
 
 pub returns-in-Ok-clause-ok : goal.returns-in-Ok-clause-ok
@@ -28,7 +31,7 @@ returns-in-Ok-clause-ok g c =
       stood = subst (λ h. IsAt h now) c.self.view_is
           (slice_get_at (states_along m.prior now j.done.items) (reverse (states_along m.prior now j.undone.items)) now _ (length-states m.prior now j.done.items));
       led = c.in-Ok.ensures.leads;
-      edited = edited m.prior now (m.state c.apply.new.self) _ j.done.items c.push.new.self.items j.undone.items c.clear.new.self.items _ items c.clear.ensures.items c.in-Ok.ensures.back
+      edited = edited m.prior now (m.state c.apply.new.self) _ _ j.done.items c.push.new.self.items j.undone.items c.clear.new.self.items _ items c.clear.ensures.items c.in-Ok.ensures.back
           ∙ ap (λ h. after_edit h (m.state c.apply.new.self)) c.self.view_is;
     }
 

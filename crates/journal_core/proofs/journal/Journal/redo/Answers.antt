@@ -5,7 +5,7 @@ use Rattle.journal_core.proofs.Stacks.{redone, length-states-all}
 use Rattle.journal_core.proofs.journal.Journal.redo.Goals as goal
 
 pub returns-clause-ok : goal.returns-clause-ok
-returns-clause-ok g c = on_ok_weaker c.take_step.result (λ s. redone _ _ _ _ _ _ _ _ s ∙ ap after_redo c.self.view_is) c.take_step.ensures.ok
+returns-clause-ok g c = on_ok_weaker c.take_step.result (λ s. redone _ _ _ _ _ _ _ _ _ s ∙ ap after_redo c.self.view_is) c.take_step.ensures.ok
 
 pub returns-clause-nothing : goal.returns-clause-nothing
 returns-clause-nothing g c =

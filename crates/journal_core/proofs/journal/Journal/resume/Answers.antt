@@ -1,4 +1,4 @@
-use Rattle.std.proofs.Common.{subst, sym}
+use Rattle.std.proofs.Common.{◌≡◌, true, false, subst, sym}
 use Rattle.journal_core.specs.Along.{FitAlong}
 use Rattle.journal_core.proofs.Ways.{fit-reverse, resumed-is}
 use Rattle.journal_core.proofs.journal.Journal.resume.Goals as goal
@@ -10,6 +10,8 @@ invariant_of-result g c =
     record {
       done_fit = subst (FitAlong m.prior m.fits now) (sym c.reversed.ensures) (fit-reverse m.prior m.fits now c.args.undo.items c.requires.undo_fits);
       undone_fit = subst (FitAlong m.prior m.fits now) (sym c.reversed-2.ensures) (fit-reverse m.prior m.fits now c.args.redo.items c.requires.redo_fits);
+      done_own = λ is_own. absurd {A = FitAlong m.prior m.own now _} (let w : false ≡ true = is_own in cc);
+      undone_own = λ is_own. absurd {A = FitAlong m.prior m.own now _} (let w : false ≡ true = is_own in cc);
     }
 
 pub returns : goal.returns
