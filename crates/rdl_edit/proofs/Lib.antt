@@ -1,9 +1,11 @@
+pub mod EditsLead
 pub mod KeepingLayouts
 pub mod NewNames
 pub mod OneWaySteps
 pub mod OrdinaryBacks
 pub mod OrdinaryEdits
 pub mod OrdinarySteps
+pub mod OwnSteps
 pub mod Placings
 pub mod Staying
 pub mod SteppedBodies

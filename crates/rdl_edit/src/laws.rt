@@ -6,6 +6,7 @@ ghost use Rattle.rdl_tree.specs.declared.patch.Patch.{Patch};
 ghost use Rattle.rdl_elab.specs.EditedBodies.{NamesStay, GoByName};
 ghost use Rattle.rdl_elab.specs.Tracked.{Tracked, old_of, new_of, untouched};
 ghost use Rattle.rdl_elab.specs.Skeleton.{skeleton};
+ghost use Rattle.rdl_edit.specs.Step.{State, HasRows, Leads};
 ghost use Rattle.rdl_edit.specs.Still.{AreStill, moves_any, is_still_edit, keeps_layouts};
 ghost use Rattle.rdl_edit.specs.Placing.{reordered};
 ghost use Rattle.rdl_edit.specs.Tracking.{tracked_along, tracked_step, IsOrdinary, is_rename};
@@ -58,4 +59,12 @@ pub fn ordinary_patches_go_by_name()
 pub fn edits_have_ordinary_patches()
     ensures edits { (d : Items) (e : Edit) → is_rename e ≡ false → IsOrdinary (patches d e) d }
     ensures back { (patches : List Patch) (d : Items) → AllFit patches d → IsOrdinary patches d → IsOrdinary (inverses patches d) (image patches d) }
+{}
+
+/// The patches of an accepted edit of a map that has rows fit, and lead to the map that the edit makes. What takes them back
+/// leads to the map before it.
+pub fn accepted_edits_have_patches()
+    ensures fit { (old : State) (e : Edit) (new : State) → HasRows old → Leads old e new → AllFit (patches old.description e) old.description }
+    ensures made { (old : State) (e : Edit) (new : State) → HasRows old → Leads old e new → new ≡ record { description = image (patches old.description e) old.description; option = old.option } }
+    ensures back { (old : State) (e : Edit) (new : State) → HasRows old → Leads old e new → old ≡ record { description = image (inverses (patches old.description e) old.description) new.description; option = new.option } }
 {}

@@ -12,6 +12,7 @@ ghost use Rattle.rdl_edit.specs.Placing.{IsFew, KeepsLayouts};
 ghost use Rattle.rdl_edit.specs.Still.{keeps_layouts};
 ghost use Rattle.rdl_edit.specs.Tracking.{steps_edit, steps_change, IsOrdinary, is_rename};
 ghost use Rattle.rdl_edit.specs.Backs.{read_back, prior, Fits, IsCheap};
+ghost use Rattle.rdl_edit.specs.OfEdits.{IsOwn};
 ghost use Rattle.rdl_edit.specs.Resuming.{session_fault};
 ghost use Rattle.rdl_rewrite.specs.Patches.{patches};
 
@@ -186,6 +187,7 @@ impl Map {
 impl Invertible for Map {
     ghost use Rattle.rdl_edit.specs.Step.{Leads, Refuses};
     ghost use Rattle.rdl_edit.specs.Backs.{prior, Fits};
+    ghost use Rattle.rdl_edit.specs.OfEdits.{IsOwn};
 
     type Change = Edit;
 
@@ -201,6 +203,8 @@ impl Invertible for Map {
 
     ghost fits = { Fits };
 
+    ghost own = { IsOwn };
+
     ghost leads = { Leads };
 
     ghost refuses = { Refuses };
@@ -209,6 +213,7 @@ impl Invertible for Map {
     fn apply(&mut self, alloc: Global, edit: &Edit) -> Result<Back, Refusal>
         ensures leads { OnOk result (Leads self.old.state edit.now self.new.state) }
         ensures fits { IfOk result (λ back. Fits self.new.state back) }
+        ensures own { IfOk result (λ back. IsOwn self.new.state back) }
         ensures back { IfOk result (λ back. prior self.new.state back ≡ self.old.state) }
         ensures mark { IfOk result (λ back. back.read ≡ false) }
         ensures inverse { IfOk result (λ back. back.patches ≡ inverses (patches self.old.state.description edit.now) self.old.state.description) }
@@ -232,6 +237,7 @@ impl Invertible for Map {
         requires { Fits self.old.state back }
         ensures leads { OnOk result (self.new.state ≡ prior self.old.state back) }
         ensures fits { IfOk result (λ forward. Fits self.new.state forward) }
+        ensures own { IfOk result (λ forward. IsOwn self.old.state back → IsOwn self.new.state forward) }
         ensures back { IfOk result (λ forward. prior self.new.state forward ≡ self.old.state) }
         ensures mark { IfOk result (λ forward. forward.read ≡ back.read) }
         ensures inverse { IfOk result (λ forward. forward.patches ≡ inverses back.patches self.old.state.description) }

@@ -1,6 +1,6 @@
 -- What accepted edits, undos and redos make of a history, one after another.
 -- own: SystemRDL 2.0 has no edits.
-use Rattle.std.specs.Prelude.{◌≡◌, ◌≤◌, ℕ, List, [], ◌∷◌, length, Ok}
+use Rattle.std.specs.Prelude.{◌≡◌, ◌≤◌, ℕ, true, List, [], ◌∷◌, length, Ok}
 use Rattle.journal_core.specs.History.{History, Edits, after_undo, after_redo}
 use Rattle.rdl_tree.specs.Items.{Items}
 use Rattle.rdl_tree.specs.Limits.{IsWithinLimits}
@@ -49,4 +49,4 @@ BringWords (redo ∷ actions) = BringWords actions
 
 -- a history that begins with this state
 abbrev pub begun : ℕ → State → History State
-begun limit s = record { limit = limit; states = s ∷ []; place = 0 }
+begun limit s = record { limit = limit; states = s ∷ []; place = 0; own = true }

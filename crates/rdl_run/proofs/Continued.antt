@@ -17,7 +17,7 @@ use Rattle.rdl_run.proofs.Written.{concat-append}
 
 -- ---- Lines.
 
-good-run : (a b : History') (ls : List (List ℕ)) (rs : List Said) → Run a ls rs b → EachElaborates a → EachElaborates b
+pub good-run : (a b : History') (ls : List (List ℕ)) (rs : List Said) → Run a ls rs b → EachElaborates a → EachElaborates b
 good-run a b [] [] h g = subst EachElaborates (sym h) g
 good-run a b (l ∷ ls) (r ∷ rs) h g = good-run h.0 b ls rs h.2 (good-answers a h.0 g (command_of l) r h.1)
 good-run a b [] (r ∷ rs) h g = absurd h

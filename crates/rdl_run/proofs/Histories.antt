@@ -1,11 +1,13 @@
 -- A history each of whose states has rows answers each command, and stays one.
 use Rattle.std.proofs.Common.{◌≡◌, ◌≢◌, ◌⊎◌, inl, inr, ℕ, zero, suc, ◌+◌, ◌<◌, ◌≤◌, Bool, true, false, cond, List, [], ◌∷◌, ◌++◌, length, take, Some, Result, Ok, Err, refl, sym, ap, ◌∙◌, subst, arith, length-append}
 use Rattle.std.specs.Prelude.{slice_get, nat_lt, nat_eq}
+use Rattle.std.proofs.lemmas.Option.{none-some}
 use Rattle.std.proofs.lemmas.Bool.{ltb-true, eqb-true, eqb-false, cases_lt}
 use Rattle.std.proofs.lemmas.List.{length-take}
 use Rattle.journal_core.specs.History.{IsAt, after_edit, after_undo, after_redo}
 use Rattle.rdl_list.specs.ListText.{list_lines}
 use Rattle.rdl_edit.specs.Step.{State, HasRows, step}
+use Rattle.rdl_edit.proofs.EditsLead.{steps}
 use Rattle.rdl_edit.specs.declared.edit.Refusal.{Refusal}
 use Rattle.rdl_rewrite.specs.declared.edit.Edit.{Edit}
 use Rattle.rdl_rewrite.specs.declared.edit.Edit.TheVariants.{Add}
@@ -14,10 +16,10 @@ use Rattle.rdl_script.specs.Commands.{Command, nothing, undo, redo, list, edit, 
 use Rattle.rdl_tree.specs.View.{items_of}
 use Rattle.rdl_tree.specs.declared.path.Segment.{Segment}
 use Rattle.rdl_run.specs.Answers.{History', Made, AnswersEdit, AnswersItems, AnswersAdd, Answers}
-use Rattle.rdl_run.specs.Opening.{AllHaveRows, EachElaborates}
+use Rattle.rdl_run.specs.Opening.{AllHaveRows, IsEdited, AreEdited, EachElaborates}
 use Rattle.rdl_run.specs.Replies.{Said, done, listed, not_done}
 use Rattle.rdl_run.specs.declared.reply.LineRefusal.TheVariants.{Command as OfCommand, Text, Edit as OfEdit, HistoryFull, NothingToUndo, NothingToRedo}
-use Rattle.rdl_run.proofs.Steps.{step-real, step-refuses, step-rows}
+use Rattle.rdl_run.proofs.Steps.{step-real, step-refuses}
 use Rattle.rdl_run.proofs.Texts.{ReadStatement, NoStatement, statement_or_refused}
 
 -- ---- States that have rows.
@@ -41,13 +43,32 @@ state-at [] n h l = absurd (omega (arith, l))
 state-at (s ∷ ss) zero h l = record { now = s; at = refl; rows = h.0 }
 state-at (s ∷ ss) (suc n) h l = let p = state-at ss n h.1 (omega (arith, l)) in record { now = p.now; at = p.at; rows = p.rows }
 
+-- ---- States to which edits lead.
+
+-- the edit from a place to the next
+pub edit-between : (ss : List State) (n : ℕ) (from to : State) → AreEdited ss → slice_get ss n ≡ Some from → slice_get ss (suc n) ≡ Some to → IsEdited from to
+edit-between [] n from to h e f = absurd (none-some from e)
+edit-between (s ∷ []) n from to h e f = absurd (none-some to f)
+edit-between (s ∷ t ∷ ss) zero from to h e f =
+    let first : s ≡ from = cc in
+    let second : t ≡ to = cc in
+    subst (λ x. IsEdited x to) first (subst (IsEdited s) second h.0)
+edit-between (s ∷ t ∷ ss) (suc n) from to h e f = edit-between (t ∷ ss) n from to h.1 e f
+
+-- what was after a place goes, and an edit leads from there
+edited-more : (n : ℕ) (ss : List State) (from to : State) → AreEdited ss → slice_get ss n ≡ Some from → IsEdited from to → AreEdited (take (suc n) ss ++ to ∷ [])
+edited-more n [] from to h e edit = absurd (none-some from e)
+edited-more zero (s ∷ ss) from to h e edit = let first : from ≡ s = cc in (subst (λ x. IsEdited x to) first edit, tt)
+edited-more (suc n) (s ∷ []) from to h e edit = absurd (none-some from e)
+edited-more (suc n) (s ∷ t ∷ ss) from to h e edit = (h.0, edited-more n (t ∷ ss) from to h.1 e edit)
+
 -- ---- Histories.
 
 pub good-at : (h : History') → EachElaborates h → StateAt h.states h.place
 good-at h g = state-at h.states h.place g.rows g.inside
 
 good-undo : (h : History') → EachElaborates h → EachElaborates (after_undo h)
-good-undo h g = record { inside = omega (arith, g.inside); rows = g.rows }
+good-undo h g = record { inside = omega (arith, g.inside); rows = g.rows; edited = g.edited }
 
 redo-inside : (b : Bool) (place len : ℕ) → (b ≡ true → place + 1 < len) → place < len → cond b (place + 1) place < len
 redo-inside true place len h l = h refl
@@ -57,12 +78,14 @@ good-redo : (h : History') → EachElaborates h → EachElaborates (after_redo h
 good-redo h g = record {
   inside = redo-inside (nat_lt (h.place + 1) (length h.states)) h.place (length h.states) (ltb-true (h.place + 1) (length h.states)) g.inside;
   rows = g.rows;
+  edited = g.edited;
 }
 
-good-after : (h : History') (to : State) → EachElaborates h → HasRows to → EachElaborates (after_edit h to)
-good-after h to g rows = record {
+good-after : (h : History') (from to : State) → EachElaborates h → HasRows to → IsAt h from → IsEdited from to → EachElaborates (after_edit h to)
+good-after h from to g rows at edit = record {
   inside = omega (arith, g.inside, length-append (take (h.place + 1) h.states) (to ∷ []), length-take (h.place + 1) h.states);
   rows = all-more (take (h.place + 1) h.states) to (all-take (h.place + 1) h.states g.rows) rows;
+  edited = λ own. subst (λ n. AreEdited (take n h.states ++ to ∷ [])) (let next : suc h.place ≡ h.place + 1 = omega arith in next) (edited-more h.place h.states from to (g.edited own) at edit);
 }
 
 module _ (old new : History') (g : EachElaborates old) where
@@ -70,7 +93,8 @@ module _ (old new : History') (g : EachElaborates old) where
   good-same e = subst EachElaborates (sym e) g
 
   good-made : (e : Edit) → Made old e new → EachElaborates new
-  good-made e m = subst EachElaborates (sym m.made.edited) (good-after old m.made.to g (step-rows m.made.from e m.made.to m.made.led))
+  good-made e m = subst EachElaborates (sym m.made.edited) 
+      (good-after old m.made.from m.made.to g (steps m.made.from e m.made.to m.made.led).rows m.made.stood (record { edit = e; led = m.made.led }))
 
   good-edit : (e : Edit) (r : Said) → AnswersEdit old e r new → EachElaborates new
   good-edit e done a = good-made e a

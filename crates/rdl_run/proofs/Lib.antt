@@ -1,4 +1,3 @@
-pub mod Bounded
 pub mod Closings
 pub mod Continued
 pub mod Histories

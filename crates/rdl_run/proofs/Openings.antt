@@ -34,7 +34,7 @@ pub record NotOpened (option : Option (List ℕ)) (bytes : List ℕ) : Type 0 wh
 
 -- each place of what is opened elaborates
 map-elaborates : (option : Option (List ℕ)) (limit : ℕ) (bytes : List ℕ) (h : History') → OpensMap option limit bytes h → EachElaborates h
-map-elaborates option limit bytes h o = subst EachElaborates (sym o.opened) (record { inside = omega arith; rows = (o.opens.whole, tt) })
+map-elaborates option limit bytes h o = subst EachElaborates (sym o.opened) (record { inside = omega arith; rows = (o.opens.whole, tt); edited = λ own. tt })
 
 pub opened-elaborates : (option : Option (List ℕ)) (limit : ℕ) (bytes : List ℕ) (h : History') → OpensHistory option limit bytes h → EachElaborates h
 opened-elaborates option limit bytes h (inl o) = map-elaborates option limit bytes h o

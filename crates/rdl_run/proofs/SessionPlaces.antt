@@ -68,4 +68,5 @@ session-elaborates option limit d undo redo h =
     record {
       inside = omega (arith, length-append (reverse behind) (s ∷ ahead), length-reverse behind);
       rows = all-append (reverse behind) (s ∷ ahead) (all-reverse behind (steps-rows where_.Undo option 1 d undo ways.0)) (place-rows where_.Map option d here.0, steps-rows where_.Redo option 1 d redo ways.1);
+      edited = λ own. absurd (let w : false ≡ true = own in cc);
     }

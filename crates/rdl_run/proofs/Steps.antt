@@ -1,4 +1,4 @@
--- A step of an edit is never refused for want of memory, and leads to a map that has rows.
+-- A step of an edit is never refused for want of memory.
 use Rattle.std.proofs.Common.{◌≡◌, ℕ, Bool, true, false, cond, List, [], length, ◌==◌, Option, Some, None, Result, Ok, Err, refl, subst}
 use Rattle.std.specs.Prelude.{◌-◌, slice_get, slice_index}
 use Rattle.std.specs.List.{list_all, position}
@@ -29,7 +29,7 @@ use Rattle.rdl_rewrite.specs.declared.edit.Edit.TheVariants.{Add, Remove, Rename
 use Rattle.rdl_rewrite.specs.declared.edit.Refusal.{Refusal as Early}
 use Rattle.rdl_rewrite.specs.declared.edit.Refusal.TheVariants as first
 use Rattle.rdl_rewrite.specs.declared.place.Place.{Place}
-use Rattle.rdl_edit.specs.Step.{State, HasRows, Refuses, refusal_of, judged, judged_anew, step}
+use Rattle.rdl_edit.specs.Step.{State, Refuses, refusal_of, judged, judged_anew, step}
 use Rattle.rdl_edit.specs.declared.edit.Refusal.{Refusal}
 use Rattle.rdl_edit.specs.declared.edit.Refusal.TheVariants as refusals
 
@@ -152,16 +152,3 @@ step-real s e is = subst IsRealStep is (judged_anew-real s.option (rewritten s.d
 pub step-refuses : (s : State) (e : Edit) (refusal : Refusal) → step s e ≡ Err refusal → Refuses s e refusal
 step-refuses s e refusals.Memory h = tt
 step-refuses s e refusal h = h
-
--- ---- What a step leads to has rows.
-
-judged-rows : (s to : State) (r : Result (List Row) Fault) → elaborated s.description s.option ≡ r → judged s r ≡ Ok to → HasRows to
-judged-rows s to (Ok rows) is e = let same : s ≡ to = cc in subst HasRows same (record { rows = rows; are = is })
-judged-rows s to (Err fault) is e = absurd cc
-
-judged_anew-rows : (option : Option (List ℕ)) (to : State) (r : Result Items Early) → judged_anew option r ≡ Ok to → HasRows to
-judged_anew-rows option to (Ok d) e = judged-rows (record { description = d; option = option }) to (elaborated d option) refl e
-judged_anew-rows option to (Err refusal) e = absurd cc
-
-pub step-rows : (s : State) (e : Edit) (to : State) → step s e ≡ Ok to → HasRows to
-step-rows s e to h = judged_anew-rows s.option to (rewritten s.description e) h

@@ -1,10 +1,11 @@
 -- Opening a map or a session: from its bytes to the history that begins there, or the one message of a refusal. Own.
-use Rattle.std.specs.Prelude.{◌≡◌, ◌⊎◌, ◌<◌, ℕ, false, List, [], ◌∷◌, length, Option, None, Some, Err}
-use Rattle.rdl_edit.specs.Step.{State, HasRows}
+use Rattle.std.specs.Prelude.{◌≡◌, ◌⊎◌, ◌<◌, ℕ, true, false, List, [], ◌∷◌, length, Option, None, Some, Err}
+use Rattle.rdl_edit.specs.Step.{State, HasRows, Leads}
 use Rattle.rdl_elab.specs.Faults.{elaborated}
 use Rattle.rdl_parse.specs.Places.{Located, place_at}
 use Rattle.rdl_parse.specs.declared.fault.ParseFault.{ParseFault}
 use Rattle.rdl_text.specs.Place.{line, column}
+use Rattle.rdl_rewrite.specs.declared.edit.Edit.{Edit}
 use Rattle.rdl_tree.specs.Items.{Items}
 use Rattle.rdl_tree.specs.declared.fault.Fault.{Fault}
 use Rattle.rdl_run.specs.Answers.{History'}
@@ -32,9 +33,9 @@ pub record Opens (option : Option (List ℕ)) (bytes : List ℕ) (s : State) : T
   pub whole : HasRows s
   pub same_option : s.option ≡ option
 
--- a history of the map alone
+-- a history of the map alone; each step that it will have is its own
 abbrev pub one_map : (limit : ℕ) → State → History'
-one_map limit s = record { limit = limit; states = s ∷ []; place = 0 }
+one_map limit s = record { limit = limit; states = s ∷ []; place = 0; own = true }
 
 pub record OpensMap (option : Option (List ℕ)) (limit : ℕ) (bytes : List ℕ) (h : History') : Type 0 where
   pub unnamed : is_session bytes ≡ false
@@ -51,9 +52,22 @@ abbrev pub AllHaveRows : List State → Type 0
 AllHaveRows [] = Unit {0}
 AllHaveRows (s ∷ ss) = HasRows s × AllHaveRows ss
 
+-- an accepted edit leads from one map to the other
+pub record IsEdited (old new : State) : Type 0 where
+  pub edit : Edit
+  pub led : Leads old edit new
+
+-- from each map of a list to the next
+abbrev pub AreEdited : List State → Type 0
+AreEdited [] = Unit {0}
+AreEdited (s ∷ []) = Unit {0}
+AreEdited (s ∷ t ∷ ss) = IsEdited s t × AreEdited (t ∷ ss)
+
+-- and where its steps are all its own, edits led from each place to the next
 pub record EachElaborates (h : History') : Type 0 where
   pub inside : h.place < length h.states
   pub rows : AllHaveRows h.states
+  pub edited : h.own ≡ true → AreEdited h.states
 
 -- ---- Refusing to open.
 

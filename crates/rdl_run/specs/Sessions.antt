@@ -10,6 +10,7 @@ use Rattle.rdl_tree.specs.declared.session.SessionFault.{SessionFault}
 use Rattle.rdl_tree.specs.declared.session.SessionFault.TheVariants.{NotASession, TooLong}
 use Rattle.rdl_parse.specs.Session.{SpellsSession}
 use Rattle.rdl_edit.specs.Backs.{prior, read_back}
+use Rattle.rdl_edit.specs.OfEdits.{IsOfEdit}
 use Rattle.rdl_edit.specs.Resuming.{session_fault}
 use Rattle.rdl_edit.specs.Step.{State, HasRows}
 use Rattle.rdl_write.specs.SessionLines.{session_lines}
@@ -68,24 +69,26 @@ pub record RefusedSession (option : Option (List ℕ)) (bytes : List ℕ) (messa
 
 -- ---- The session of a history.
 
--- patches lead from the map at one place of a list to the map at another
-pub record LeadsAlong (states : List State) (from to : ℕ) (step : List Patch) : Type 0 where
+-- patches lead from the map at one place of a list to the map at another; where the steps of a history are its own, an edit
+-- left them behind
+pub record LeadsAlong (own : Bool) (states : List State) (from to : ℕ) (step : List Patch) : Type 0 where
   pub start : State
   pub stood : slice_get states from ≡ Some start
   pub fit : AllFit step start.description
   pub end : State
   pub reached : slice_get states to ≡ Some end
   pub led : end.description ≡ image step start.description
+  pub of_edit : own ≡ true → IsOfEdit start step
 
 -- steps that lead back from the place to the first one, each by one place
 pub record LeadBack (h : History') (steps : List (List Patch)) : Type 0 where
   pub as_many : length steps ≡ h.place
-  pub each : (i : ℕ) (step : List Patch) → slice_get steps i ≡ Some step → LeadsAlong h.states (h.place - i) (h.place - i - 1) step
+  pub each : (i : ℕ) (step : List Patch) → slice_get steps i ≡ Some step → LeadsAlong h.own h.states (h.place - i) (h.place - i - 1) step
 
 -- steps that lead on from the place to the last one
 pub record LeadOn (h : History') (steps : List (List Patch)) : Type 0 where
   pub as_many : h.place + length steps + 1 ≡ length h.states
-  pub each : (i : ℕ) (step : List Patch) → slice_get steps i ≡ Some step → LeadsAlong h.states (h.place + i) (h.place + i + 1) step
+  pub each : (i : ℕ) (step : List Patch) → slice_get steps i ≡ Some step → LeadsAlong h.own h.states (h.place + i) (h.place + i + 1) step
 
 -- the text, or what is said in its place where it is too long, and no session
 abbrev pub IsSaved : (text message session : List ℕ) → (left_out : Bool) → Type 0

@@ -16,9 +16,10 @@ steps-preserved c =
     let step = c.in-Some.back.now in
     let leads : LeadsBetween prior Fits j.states (j.place - length xs) (j.place - length xs - 1) step = search rules in
     let seen : x.now ≡ step.patches = search rules in
-    let led : LeadsAlong j.states (j.place - length xs) (j.place - length xs - 1) x.now = subst (LeadsAlong j.states (j.place - length xs) (j.place - length xs - 1)) (sym seen) (along j.states (j.place - length xs) (j.place - length xs - 1) step leads) in
+    let led : LeadsAlong j.own j.states (j.place - length xs) (j.place - length xs - 1) x.now = subst (LeadsAlong j.own j.states (j.place - length xs) (j.place - length xs - 1)) (sym seen)
+        (along j.own j.states (j.place - length xs) (j.place - length xs - 1) step leads c.in-Some.ensures.own) in
     let room : length xs < j.place = search rules in
     record {
       few = omega (arith, ap length pushed, length-append xs (x ∷ []), room);
-      each = subst (λ ys. EachIs (λ i. LeadsAlong j.states (j.place - i) (j.place - i - 1)) (map (λ step. step.now) ys)) (sym pushed) (more-seen (λ step. step.now) (λ i. LeadsAlong j.states (j.place - i) (j.place - i - 1)) xs x c.steps.invariant.each led);
+      each = subst (λ ys. EachIs (λ i. LeadsAlong j.own j.states (j.place - i) (j.place - i - 1)) (map (λ step. step.now) ys)) (sym pushed) (more-seen (λ step. step.now) (λ i. LeadsAlong j.own j.states (j.place - i) (j.place - i - 1)) xs x c.steps.invariant.each led);
     }

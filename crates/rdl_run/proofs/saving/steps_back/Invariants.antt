@@ -6,7 +6,7 @@ use Rattle.rdl_run.proofs.saving.steps_back.Given as goal
 abbrev pub invariant-steps : goal.invariant-steps
 invariant-steps l = record {
   few : length l.steps.items ≤ l.journal.place;
-  each : EachIs (λ i. LeadsAlong l.journal.states (l.journal.place - i) (l.journal.place - i - 1)) (map (λ step. step.now) l.steps.items);
+  each : EachIs (λ i. LeadsAlong l.journal.own l.journal.states (l.journal.place - i) (l.journal.place - i - 1)) (map (λ step. step.now) l.steps.items);
 }
 
 abbrev pub decreases-steps : goal.decreases-steps

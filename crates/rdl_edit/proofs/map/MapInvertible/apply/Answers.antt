@@ -1,7 +1,8 @@
-use Rattle.std.proofs.Common.{◌≡◌, None, Ok, sym, ap, ◌∙◌, subst, rules}
+use Rattle.std.proofs.Common.{◌≡◌, inr, None, Ok, sym, ap, ◌∙◌, subst, rules}
 use Rattle.rdl_edit.specs.Backs.{Fits}
-use Rattle.rdl_edit.specs.Step.{State}
-use Rattle.rdl_tree.specs.Patch.{AllFit, image}
+use Rattle.rdl_edit.specs.OfEdits.{IsOwn}
+use Rattle.rdl_edit.specs.Step.{State, HasRows, Leads}
+use Rattle.rdl_tree.specs.Patch.{AllFit, image, inverses}
 use Rattle.rdl_scope.specs.ItemFaults.{fault_of}
 use Rattle.rdl_rewrite.specs.Patches.{patches}
 use Rattle.rdl_rewrite.specs.Rewritten.{rewritten}
@@ -9,7 +10,7 @@ use Rattle.rdl_edit.specs.Placing.{KeepsLayouts}
 use Rattle.rdl_edit.proofs.OrdinaryEdits.{ordinary-edit}
 use Rattle.rdl_edit.proofs.Placings.{faultless, few-there, edit-keeps}
 use Rattle.rdl_edit.proofs.SteppedBodies.{edits-placed, back-ordinary}
-use Rattle.rdl_edit.proofs.WaysBack.{fits-back}
+use Rattle.rdl_edit.proofs.WaysBack.{fits-back, has-rows}
 use Rattle.rdl_edit.proofs.map.MapInvertible.apply.Goals as goal
 
 pub returns-clause-fits : goal.returns-clause-fits
@@ -67,3 +68,11 @@ returns-clause-back_ordinary c = λ h.
     c.in_ok-back.ensures.made ∙ ap (λ ps. image ps c.self.inside.description.items) asked ∙ ap (image (patches d e)) same in
     let fit : AllFit (patches d e) d = subst (AllFit (patches d e)) same (subst (λ ps. AllFit ps c.self.inside.description.items) asked c.in_ok-patches.ensures.fit) in
     back-ordinary (patches d e) c.new.result.patches d c.turn.new.description.items fit made (search rules) (ordinary-edit d e h)
+
+pub returns-clause-own : goal.returns-clause-own
+returns-clause-own c =
+    let old = c.args.self.now.state in
+    let same : record { description = c.self.inside.description.items; option = c.self.inside.name } ≡ old = search rules in
+    let rows : HasRows old = subst HasRows same (has-rows (record { description = c.self.inside.description.items; option = c.self.inside.name }) c.self.inside.kept c.self.invariant) in
+    let inverse : c.new.result.patches ≡ inverses (patches old.description c.args.edit.now) old.description = search rules in
+    inr (record { edit = c.args.edit.now; old = old; has_rows = rows; led = search rules; are = inverse })

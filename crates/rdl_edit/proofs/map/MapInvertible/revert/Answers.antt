@@ -1,11 +1,13 @@
 use Rattle.std.proofs.Common.{◌≡◌, None, sym, ap, ◌∙◌, subst, rules}
-use Rattle.rdl_tree.specs.Patch.{image}
+use Rattle.rdl_tree.specs.Patch.{image, inverses}
 use Rattle.rdl_scope.specs.ItemFaults.{fault_of}
 use Rattle.rdl_edit.specs.Backs.{Fits}
-use Rattle.rdl_edit.specs.Step.{State}
+use Rattle.rdl_edit.specs.OfEdits.{IsOfEdit}
+use Rattle.rdl_edit.proofs.OwnSteps.{turned}
+use Rattle.rdl_edit.specs.Step.{State, HasRows}
 use Rattle.rdl_edit.proofs.Placings.{faultless, few-there}
 use Rattle.rdl_edit.proofs.SteppedBodies.{edit-placed, change-placed, back-ordinary}
-use Rattle.rdl_edit.proofs.WaysBack.{fits-back}
+use Rattle.rdl_edit.proofs.WaysBack.{fits-back, has-rows}
 use Rattle.rdl_edit.proofs.map.MapInvertible.revert.Goals as goal
 
 pub returns-clause-fits : goal.returns-clause-fits
@@ -43,3 +45,13 @@ returns-clause-back_ordinary c = λ h.
     let d = c.args.self.now.state.description in
     let made : c.again.new.description.items ≡ image c.args.back.patches d = search rules in
     back-ordinary c.args.back.patches _ d c.again.new.description.items c.requires.applicable made (search rules) h
+
+pub returns-clause-own : goal.returns-clause-own
+returns-clause-own c = λ h.
+    let old = c.args.self.now.state in
+    let same : record { description = c.self.inside.description.items; option = c.self.inside.name } ≡ old = search rules in
+    let rows : HasRows old = subst HasRows same (has-rows (record { description = c.self.inside.description.items; option = c.self.inside.name }) c.self.inside.kept c.self.invariant) in
+    let forward : c.new-2.result.patches ≡ inverses c.args.back.patches old.description = search rules in
+    let there : record { description = image c.args.back.patches old.description; option = old.option } ≡ record { description = c.again.new.description.items; option = c.self.inside.name } = search rules in
+    subst (λ qs. IsOfEdit (record { description = c.again.new.description.items; option = c.self.inside.name }) qs) (sym forward)
+    (subst (λ x. IsOfEdit x (inverses c.args.back.patches old.description)) there (turned old c.args.back.patches rows h))

@@ -1,0 +1,112 @@
+-- The session that a run of a map leaves spells the history to which its script led.
+use Rattle.std.proofs.Common.{◌≡◌, ◌⊎◌, inl, inr, ℕ, zero, suc, ◌≤◌, Bool, true, false, List, [], ◌∷◌, length, Option, Some, None, All, IsUtf8, slice_get, refl, sym, ap, ◌∙◌, subst}
+use Rattle.std.proofs.lemmas.List.Elements.{All-nil, All-cons}
+use Rattle.std.proofs.lemmas.Option.{none-some, same_Some}
+use Rattle.journal_core.specs.History.{History, IsAt}
+use Rattle.rdl_tree.specs.Patch.{image, inverses}
+use Rattle.rdl_tree.specs.SessionText.{session_text, max_session}
+use Rattle.rdl_tree.specs.declared.patch.Patch.{Patch}
+use Rattle.rdl_parse.specs.Session.{SpellsSession}
+use Rattle.rdl_script.specs.Commands.{lines_of}
+use Rattle.rdl_write.specs.SessionLines.{session_lines}
+use Rattle.rdl_edit.specs.OfEdits.{Makes, TakesBack, IsOfEdit}
+use Rattle.rdl_edit.specs.Step.{State, HasRows}
+use Rattle.rdl_edit.proofs.EditsLead.{edit-leads}
+use Rattle.rdl_edit.proofs.OwnSteps.{back-there}
+use Rattle.rdl_run.specs.Opening.{AllHaveRows, EachElaborates, OpensMap, OpensHistory}
+use Rattle.rdl_run.specs.Output.{Output, RunsScript}
+use Rattle.rdl_run.specs.Sessions.{LeadsAlong, LeadBack, LeadOn, OpensSession, IsSaved, Saves, SavesIf, is_session}
+use Rattle.rdl_run.specs.declared.run.Options.{Options}
+use Rattle.rdl_run.proofs.Continued.{good-run}
+use Rattle.rdl_run.proofs.Openings.{opened-elaborates}
+use Rattle.rdl_round.specs.Histories.{IsWritable, Action, edit, undo, redo, Follows}
+use Rattle.rdl_round.specs.Sessions.{IsWritablePatch, AreWritable, SpellsHistory}
+use Rattle.rdl_round.proofs.Opened.{opened-writable}
+use Rattle.rdl_round.proofs.Saved.{session-spells}
+use Rattle.rdl_round.proofs.Scripted.{served, served-writable}
+use Rattle.rdl_round.proofs.Standing.{step-patches-between}
+use Rattle.rdl_round.proofs.Stepped.{at-place}
+
+abbrev IsStateWritable : State → Type 0
+IsStateWritable s = IsWritable s.description
+
+-- ---- The steps of a history are its own, if they were at its beginning.
+
+own-stays : (old new : History State) (actions : List Action) → Follows old actions new → new.own ≡ old.own
+own-stays old new [] h = ap (λ (k : History State). k.own) h
+own-stays old new (edit e ∷ actions) h = own-stays h.0 new actions h.2 ∙ ap (λ (k : History State). k.own) h.1.edited
+own-stays old new (undo ∷ actions) h = own-stays h.0 new actions h.2 ∙ ap (λ (k : History State). k.own) h.1
+own-stays old new (redo ∷ actions) h = own-stays h.0 new actions h.2 ∙ ap (λ (k : History State). k.own) h.1
+
+opened-own : (option : Option (List ℕ)) (limit : ℕ) (bytes : List ℕ) (h : History State) → is_session bytes ≡ false → OpensHistory option limit bytes h → h.own ≡ true
+opened-own option limit bytes h unnamed (inl m) = ap (λ (k : History State). k.own) m.opened
+opened-own option limit bytes h unnamed (inr o) = absurd (let w : true ≡ false = sym o.named ∙ unnamed in cc)
+
+-- ---- They can be written.
+
+row-at : (ss : List State) (n : ℕ) (s : State) → AllHaveRows ss → slice_get ss n ≡ Some s → HasRows s
+row-at [] n s h e = absurd (none-some s e)
+row-at (x ∷ xs) zero s h e = subst HasRows (same_Some x s e) h.0
+row-at (x ∷ xs) (suc n) s h e = row-at xs n s h.1 e
+
+-- a step that an edit left behind, between maps that can be written
+left-writable : (start end : State) (step : List Patch) → HasRows start → IsStateWritable start → IsStateWritable end → end.description ≡ image step start.description → IsOfEdit start step → All IsWritablePatch step
+left-writable start end step rows from to led (inl m) =
+    let there : m.new.description ≡ end.description =
+    ap (λ (s : State). s.description) (edit-leads start m.edit m.new rows m.led) ∙ ap (λ ps. image ps start.description) (sym m.are) ∙ sym led in
+    subst (All IsWritablePatch) (sym m.are) (step-patches-between start m.edit m.new m.led from (subst IsWritable (sym there) to)).0
+left-writable start end step rows from to led (inr t) =
+    let there : end.description ≡ t.old.description =
+    led ∙ ap (λ ps. image ps start.description) t.are ∙ ap (λ (s : State). s.description) (back-there t.old t.edit start t.has_rows t.led) in
+    subst (All IsWritablePatch) (sym t.are) (step-patches-between t.old t.edit start t.led (subst IsWritable there to) from).1
+
+along-writable : (own : Bool) (states : List State) (from to : ℕ) (step : List Patch) → own ≡ true → AllHaveRows states → All IsStateWritable states → LeadsAlong own states from to step → All IsWritablePatch step
+along-writable own states from to step is_own rows all a =
+    left-writable a.start a.end step (row-at states from a.start rows a.stood) (at-place IsStateWritable states from a.start all a.stood) (at-place IsStateWritable states to a.end all a.reached) a.led (a.of_edit is_own)
+
+all-each : {X : Type 0} (P : X → Type 0) (xs : List X) → ((i : ℕ) (x : X) → slice_get xs i ≡ Some x → P x) → All P xs
+all-each P [] h = All-nil P
+all-each P (x ∷ xs) h = All-cons P x xs (h 0 x refl) (all-each P xs (λ i. h (suc i)))
+
+-- ---- The session of a run.
+
+-- what is saved of a history whose steps are its own, between maps that can be written
+saved-spells : (h : History State) (now : State) (message session : List ℕ) → h.own ≡ true → EachElaborates h → All IsStateWritable h.states → IsAt h now → IsUtf8 session
+    → Saves h message session false → SpellsHistory session now h
+saved-spells h now message session own whole all at utf8 s =
+    let same : s.now ≡ now = same_Some s.now now (sym s.at ∙ at) in
+    let text = session_text (session_lines s.now.description s.undo s.redo) in
+    let back : AreWritable s.undo = all-each (All IsWritablePatch) s.undo (λ i step e. along-writable h.own h.states _ _ step own whole.rows all (s.back.each i step e)) in
+    let on : AreWritable s.redo = all-each (All IsWritablePatch) s.redo (λ i step e. along-writable h.own h.states _ _ step own whole.rows all (s.on.each i step e)) in
+    let here : IsWritable s.now.description = at-place IsStateWritable h.states h.place s.now all s.at in
+    let is : session ≡ text = s.saved.2 in
+    let spelled : SpellsSession text s.now.description s.undo s.redo =
+    session-spells s.now.description s.undo s.redo here back on (record { utf8 = subst IsUtf8 is utf8; short = s.saved.0 }) in
+    record {
+      undo = s.undo;
+      redo = s.redo;
+      back = s.back;
+      on = s.on;
+      spelled = subst (λ (t : State). SpellsSession session t.description s.undo s.redo) same (subst (λ t. SpellsSession t s.now.description s.undo s.redo) (sym is) spelled);
+    }
+
+saves-whole : (asked left_out : Bool) (h : History State) (message session : List ℕ) → asked ≡ true → left_out ≡ false → SavesIf asked h message session left_out → Saves h message session false
+saves-whole true false h message session a l s = s
+saves-whole true true h message session a l s = absurd (let w : true ≡ false = l in cc)
+saves-whole false left_out h message session a l s = absurd (let w : false ≡ true = a in cc)
+
+module _ (options : Options) (map script : List ℕ) (out : Output) (ran : RunsScript options map script out) where
+  -- each place to which the script led elaborates
+  pub run-elaborates : EachElaborates ran.runs.last
+  run-elaborates =
+      let s = ran.runs.serves in
+      good-run ran.first ran.runs.last (lines_of script) s.replies s.ran (opened-elaborates options.top options.history map ran.first ran.opens)
+
+  pub saved-session : is_session map ≡ false → options.session ≡ true → ran.runs.closes.no_session ≡ false → IsUtf8 out.session → SpellsHistory out.session ran.runs.closes.now ran.runs.last
+  saved-session unnamed asked whole utf8 =
+      let r = ran.runs in
+      let does = served ran.first r.last (lines_of script) r.replies r.refuses r.serves in
+      let own : r.last.own ≡ true = own-stays ran.first r.last does.0 does.2 ∙ opened-own options.top options.history map ran.first unnamed ran.opens in
+      let all = served-writable ran.first r.last (lines_of script) r.replies r.refuses (opened-writable options.top options.history map ran.first ran.opens) r.serves in
+      saved-spells r.last r.closes.now r.closes.of_session out.session own run-elaborates all r.closes.at utf8
+      (saves-whole options.session r.closes.no_session r.last r.closes.of_session out.session asked whole r.closes.saves)
