@@ -57,10 +57,10 @@ edit-between (s ∷ t ∷ ss) (suc n) from to h e f = edit-between (t ∷ ss) n 
 
 -- what was after a place goes, and an edit leads from there
 edited-more : (n : ℕ) (ss : List State) (from to : State) → AreEdited ss → slice_get ss n ≡ Some from → IsEdited from to → AreEdited (take (suc n) ss ++ to ∷ [])
-edited-more n [] from to h e edit = absurd (none-some from e)
-edited-more zero (s ∷ ss) from to h e edit = let first : from ≡ s = cc in (subst (λ x. IsEdited x to) first edit, tt)
-edited-more (suc n) (s ∷ []) from to h e edit = absurd (none-some from e)
-edited-more (suc n) (s ∷ t ∷ ss) from to h e edit = (h.0, edited-more n (t ∷ ss) from to h.1 e edit)
+edited-more n [] from to h e made = absurd (none-some from e)
+edited-more zero (s ∷ ss) from to h e made = let first : from ≡ s = cc in (subst (λ x. IsEdited x to) first made, tt)
+edited-more (suc n) (s ∷ []) from to h e made = absurd (none-some from e)
+edited-more (suc n) (s ∷ t ∷ ss) from to h e made = (h.0, edited-more n (t ∷ ss) from to h.1 e made)
 
 -- ---- Histories.
 
@@ -82,10 +82,10 @@ good-redo h g = record {
 }
 
 good-after : (h : History') (from to : State) → EachElaborates h → HasRows to → IsAt h from → IsEdited from to → EachElaborates (after_edit h to)
-good-after h from to g rows at edit = record {
+good-after h from to g rows at made = record {
   inside = omega (arith, g.inside, length-append (take (h.place + 1) h.states) (to ∷ []), length-take (h.place + 1) h.states);
   rows = all-more (take (h.place + 1) h.states) to (all-take (h.place + 1) h.states g.rows) rows;
-  edited = λ own. subst (λ n. AreEdited (take n h.states ++ to ∷ [])) (let next : suc h.place ≡ h.place + 1 = omega arith in next) (edited-more h.place h.states from to (g.edited own) at edit);
+  edited = λ own. subst (λ n. AreEdited (take n h.states ++ to ∷ [])) (let next : suc h.place ≡ h.place + 1 = omega arith in next) (edited-more h.place h.states from to (g.edited own) at made);
 }
 
 module _ (old new : History') (g : EachElaborates old) where

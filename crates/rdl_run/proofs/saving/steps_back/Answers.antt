@@ -1,8 +1,9 @@
-use Rattle.std.proofs.Common.{◌≡◌, ◌+◌, ◌-◌, ◌<◌, ◌∷◌, ◌++◌, [], inl, inr, length, map, sym, ap, ◌∙◌, subst, arith, rules, length-append}
+use Rattle.std.proofs.Common.{◌≡◌, true, ◌+◌, ◌-◌, ◌<◌, ◌∷◌, ◌++◌, [], inl, inr, length, map, sym, ap, ◌∙◌, subst, arith, rules, length-append}
 use Rattle.std.proofs.lemmas.Bool.{cases_lt}
 use Rattle.std.proofs.lemmas.Option.{none-some}
 use Rattle.journal_core.specs.History.{LeadsBetween}
 use Rattle.rdl_edit.specs.Backs.{prior, Fits}
+use Rattle.rdl_edit.specs.OfEdits.{IsOwn}
 use Rattle.rdl_run.specs.Sessions.{LeadsAlong}
 use Rattle.rdl_run.proofs.Leading.{EachIs, along, more-seen}
 use Rattle.rdl_run.proofs.saving.steps_back.Goals as goal
@@ -15,9 +16,12 @@ steps-preserved c =
     let pushed : c.push.new.self.items ≡ xs ++ x ∷ [] = search rules in
     let step = c.in-Some.back.now in
     let leads : LeadsBetween prior Fits j.states (j.place - length xs) (j.place - length xs - 1) step = search rules in
+    let turns : c.len.result ≡ length xs = search rules in
+    let own : j.own ≡ true → LeadsBetween prior IsOwn j.states (j.place - length xs) (j.place - length xs - 1) step =
+    subst (λ n. j.own ≡ true → LeadsBetween prior IsOwn j.states (j.place - n) (j.place - n - 1) step) turns c.in-Some.ensures.own in
     let seen : x.now ≡ step.patches = search rules in
     let led : LeadsAlong j.own j.states (j.place - length xs) (j.place - length xs - 1) x.now = subst (LeadsAlong j.own j.states (j.place - length xs) (j.place - length xs - 1)) (sym seen)
-        (along j.own j.states (j.place - length xs) (j.place - length xs - 1) step leads c.in-Some.ensures.own) in
+        (along j.own j.states (j.place - length xs) (j.place - length xs - 1) step leads own) in
     let room : length xs < j.place = search rules in
     record {
       few = omega (arith, ap length pushed, length-append xs (x ∷ []), room);
