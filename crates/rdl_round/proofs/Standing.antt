@@ -91,7 +91,8 @@ body-good d new b c way here is g =
     subst (λ o. IfSome o IsGood) there (body-each IsGoodPlain IsGoodHolder way new g)
 
 -- what follows of the changed body follows of the new map
-in-body : (d new : Items) (way : List ℕ) (change : Items → Result Items Refusal) (Q : Type 0) → at_body way d change ≡ Ok new → IsGood new → ((b c : Items) → change b ≡ Ok c → IsGood c → Q) → Q
+in-body : (d new : Items) (way : List ℕ) (change : Items → Result Items Refusal) (Q : Type 0) → at_body way d change ≡ Ok new → IsGood new
+    → ((b c : Items) → change b ≡ Ok c → IsGood c → Q) → Q
 in-body d new way change Q made g k = by-body (body_at way d) refl made
   where
     by-change : (b : Items) → body_at way d ≡ Some b → (r : Result Items Refusal) → change b ≡ r → put_body way d r ≡ Ok new → Q
@@ -175,17 +176,17 @@ named-component (Inst q) (Default p v) e = cc
 named-component (Inst q) (Dynamic t p v) e = cc
 
 -- what a segment leads to is a component
-record Found (t : Items) (i : ℕ) : Type 0 where
-  item : Item
-  there : slice_get (list_of t) i ≡ Some item
-  component : is_component item ≡ true
+record IsThere (t : Items) (i : ℕ) : Type 0 where
+  found : Item
+  there : slice_get (list_of t) i ≡ Some found
+  component : is_component found ≡ true
 
-found-component : (s : Segment) (t : Items) (i : ℕ) → position (is_named s) (list_of t) ≡ Some i → Found t i
+found-component : (s : Segment) (t : Items) (i : ℕ) → position (is_named s) (list_of t) ≡ Some i → IsThere t i
 found-component s t i f =
     let spare = Own [] (Number 0) in
     let at = position-Some (is_named s) (list_of t) i spare f in
     let x = get_or (list_of t) i spare in
-    record { item = x; there = slice_get-get_or (list_of t) i spare at.0; component = named-component s x at.1 }
+    record { found = x; there = slice_get-get_or (list_of t) i spare at.0; component = named-component s x at.1 }
 
 module _ (whole : Items) (way name : List ℕ) where
   -- the items from number n on of the body at b, as they are in the new map
@@ -206,7 +207,8 @@ module _ (whole : Items) (way name : List ℕ) where
   holder-name at (anonymous s k) here g = shell-name at s here g.0
 
   -- the item of number k, if the way ends there
-  number-name : (b : List ℕ) (n i k : ℕ) (t : Items) (x : Item) → n + i ≡ k → slice_get (list_of t) i ≡ Some x → is_component x ≡ true → same (b ++ k ∷ []) way ≡ true → IsGood (anew b n t) → IsName name
+  number-name : (b : List ℕ) (n i k : ℕ) (t : Items) (x : Item) → n + i ≡ k → slice_get (list_of t) i ≡ Some x → is_component x ≡ true
+      → same (b ++ k ∷ []) way ≡ true → IsGood (anew b n t) → IsName name
   number-name b n i k no_items x e f c here g = absurd cc
   number-name b n zero k (plain p rest) x e f c here g =
       let one : n ≡ k = omega (arith, e) in
@@ -236,7 +238,7 @@ module _ (whole : Items) (way name : List ℕ) where
       by (Some i) f m =
           let one : i ∷ [] ≡ to = cc in
           let x = found-component s t i f in
-          number-name b 0 i i t x.item (omega arith) x.there x.component ((bytes_eq-Decides (b ++ i ∷ []) way).1 (ap (λ (q : List ℕ). b ++ q) one ∙ is)) g
+          number-name b 0 i i t x.found (omega arith) x.there x.component ((bytes_eq-Decides (b ++ i ∷ []) way).1 (ap (λ (q : List ℕ). b ++ q) one ∙ is)) g
 
   -- the item on the way has the name
   walk-name : (s : Segment) (path : List Segment) (t : Items) (b to : List ℕ) → walk (s ∷ path) (Some t) ≡ Ok to → b ++ to ≡ way → IsGood (anew b 0 t) → IsName name
@@ -270,7 +272,8 @@ root-kept d new name way f m =
 renamed-map : (d new : Items) (path : List Segment) (name way : List ℕ) → by_way (Ok way) d (Rename path name) ≡ Ok new → renamed_items d way name [] 0 d ≡ new
 renamed-map d new path name way made = by (length way == 0) (is_taken d way name (item way d)) (is_reserved name) made
   where
-    by : (root used reserved : Bool) → cond root (Err NotAnInstance) (cond used (Err NameTaken) (cond reserved (Err Reserved) (Ok (renamed_items d way name [] 0 d)))) ≡ Ok new → renamed_items d way name [] 0 d ≡ new
+    by : (root used reserved : Bool) → cond root (Err NotAnInstance) (cond used (Err NameTaken) (cond reserved (Err Reserved) (Ok (renamed_items d way name [] 0 d)))) ≡ Ok new
+        → renamed_items d way name [] 0 d ≡ new
     by true u r m = absurd cc
     by false true r m = absurd cc
     by false false true m = absurd cc
@@ -291,7 +294,8 @@ past-root : (root : Bool) (r : Result Items Refusal) (new : Items) → cond root
 past-root true r new m = absurd cc
 past-root false r new m = m
 
-new-shell : (d new : Items) (way : List ℕ) (change : Shell → Shell) → cond (length way == 0) (Err NotAnInstance) (at_body (holder_of way) d (reshaped change (number_of way))) ≡ Ok new → IsGood new → IsShaped change
+new-shell : (d new : Items) (way : List ℕ) (change : Shell → Shell)
+    → cond (length way == 0) (Err NotAnInstance) (at_body (holder_of way) d (reshaped change (number_of way))) ≡ Ok new → IsGood new → IsShaped change
 new-shell d new way change m g =
     let inside = at_body (holder_of way) d (reshaped change (number_of way)) in
     in-body d new (holder_of way) (reshaped change (number_of way)) (IsShaped change) (past-root (length way == 0) inside new m) g (λ b c e h. shape-good change (number_of way) b c e h)
@@ -320,7 +324,8 @@ stands d new (ClearOwn path p) way f m g = (tt, tt)
 stands d new (ClearDefault path p) way f m g = (tt, tt)
 stands d new (Assign path t p v) way f m g =
     let x : IsGoodItem (Dynamic t p v) =
-        in-body d new way (λ b. Ok (assigned t p v b)) (IsGoodItem (Dynamic t p v)) m g (λ b c e h. assigned-good t p v b (subst IsGood (sym (same-made (assigned t p v b) c (Ok (assigned t p v b)) refl e)) h)) in
+        in-body d new way (λ b. Ok (assigned t p v b)) (IsGoodItem (Dynamic t p v)) m g
+        (λ b c e h. assigned-good t p v b (subst IsGood (sym (same-made (assigned t p v b) c (Ok (assigned t p v b)) refl e)) h)) in
     (x.0.0, tt)
 stands d new (Unassign path t p) way f m g = (tt, tt)
 
