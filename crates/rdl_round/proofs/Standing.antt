@@ -13,7 +13,7 @@ use Rattle.rdl_tree.specs.Edit.{insert_item, replace_item}
 use Rattle.rdl_tree.specs.Find.{is_named, after_number, by_number, walk, find}
 use Rattle.rdl_tree.specs.Items.{Items, no_items, plain, holder, Plain, named, own, default, dynamic, Holder, define, anonymous}
 use Rattle.rdl_tree.specs.Patch.{inverses}
-use Rattle.rdl_tree.specs.View.{items_of, list_of, plain_item, holder_item}
+use Rattle.rdl_tree.specs.View.{items_of, list_of, plain_item}
 use Rattle.rdl_tree.specs.declared.description.Item.{Item}
 use Rattle.rdl_tree.specs.declared.description.Item.TheVariants.{Define, Instance, Own, Default, Dynamic}
 use Rattle.rdl_tree.specs.declared.description.Of.{Of}
@@ -46,9 +46,8 @@ use Rattle.rdl_rewrite.specs.declared.edit.Refusal.TheVariants.{NameTaken, NotAd
 use Rattle.rdl_edit.specs.Step.{State, step}
 use Rattle.rdl_round.specs.Histories.{IsWritable}
 use Rattle.rdl_round.specs.NewParts.{IsEditOfWords, IsEditSpellable}
-use Rattle.rdl_round.specs.OfWords.{IsShellOfWords, IsOfWords}
+use Rattle.rdl_round.specs.OfWords.{IsShellOfWords}
 use Rattle.rdl_round.specs.Sessions.{IsWritablePatch}
-use Rattle.rdl_round.specs.Spellable.{IsSpellable}
 use Rattle.rdl_round.proofs.Each.{items-fit, each-of, body-each}
 use Rattle.rdl_round.proofs.EditBrings.{made-by, step-patches}
 use Rattle.rdl_round.proofs.Inverted.{IsGoodPlain, IsGoodHolder, IsGood, IsGoodItem, map-good, of-words, spellable}
