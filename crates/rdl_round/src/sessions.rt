@@ -83,7 +83,8 @@ pub fn edits_to_writable_maps_bring_words()
 /// So the patches of an accepted edit between maps that can be written can be written, and so can those that take them back.
 pub fn patches_between_writable_maps_are_writable()
     ensures on { (old : State) (e : Edit) (new : State) → step old e ≡ Ok new → IsWritable old.description → IsWritable new.description → All IsWritablePatch (patches old.description e) }
-    ensures back { (old : State) (e : Edit) (new : State) → step old e ≡ Ok new → IsWritable old.description → IsWritable new.description → All IsWritablePatch (inverses (patches old.description e) old.description) }
+    ensures back { (old : State) (e : Edit) (new : State) → step old e ≡ Ok new → IsWritable old.description → IsWritable new.description
+        → All IsWritablePatch (inverses (patches old.description e) old.description) }
 {}
 
 /// What `parse_session` answers for the text that `session` wrote: the same map and the same steps, but for want of memory
