@@ -343,7 +343,7 @@ both-writable d new e made from to words spells = by (find (path_of e) d) refl
 
 -- ---- A step of the history.
 
-made-by : (old new : State) (e : Edit) → step old e ≡ Ok new → rewritten old.description e ≡ Ok new.description
+pub made-by : (old new : State) (e : Edit) → step old e ≡ Ok new → rewritten old.description e ≡ Ok new.description
 made-by old new e led = by (rewritten old.description e) refl led
   where
     judged-as : (x : Items) (r : Result (List Row) Fault) → judged (record { description = x; option = old.option }) r ≡ Ok new → x ≡ new.description

@@ -28,3 +28,4 @@ pub mod Smaller
 pub mod EditPatches
 pub mod EditBrings
 pub mod Opened
+pub mod Standing

@@ -75,6 +75,18 @@ pub fn patches_of_edits_are_writable()
         → All IsWritablePatch (inverses (patches old.description e) old.description) }
 {}
 
+/// What an accepted edit brings stands in the new map: where that can be written, so can what the edit brings.
+pub fn edits_to_writable_maps_bring_words()
+    ensures { (old : State) (e : Edit) (new : State) → step old e ≡ Ok new → IsWritable new.description → IsEditOfWords e × IsEditSpellable e }
+{}
+
+/// So the patches of an accepted edit between maps that can be written can be written, and so can those that take them back.
+pub fn patches_between_writable_maps_are_writable()
+    ensures on { (old : State) (e : Edit) (new : State) → step old e ≡ Ok new → IsWritable old.description → IsWritable new.description → All IsWritablePatch (patches old.description e) }
+    ensures back { (old : State) (e : Edit) (new : State) → step old e ≡ Ok new → IsWritable old.description → IsWritable new.description
+        → All IsWritablePatch (inverses (patches old.description e) old.description) }
+{}
+
 /// What `parse_session` answers for the text that `session` wrote: the same map and the same steps, but for want of memory
 /// and for a text that is too long.
 pub fn written_sessions_are_parsed(
