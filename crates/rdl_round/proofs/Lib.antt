@@ -28,3 +28,5 @@ pub mod Smaller
 pub mod EditPatches
 pub mod EditBrings
 pub mod Opened
+pub mod SameOption
+pub mod OpenedAgain

@@ -1,0 +1,90 @@
+-- All maps of a history that was opened have the option of the run, and so have all to which a script leads.
+use Rattle.std.proofs.Common.{◌≡◌, ℕ, Bool, ◌+◌, List, [], ◌∷◌, take, Option, Result, Ok, Err, IfOk, All, inl, inr, refl, sym, subst}
+use mathlib.Core.List.{reverse}
+use Rattle.std.proofs.lemmas.List.Elements.{All-nil, All-cons, All-head, All-tail, All-append, All-push, All-take}
+use Rattle.std.specs.Prelude.{map}
+use Rattle.journal_core.specs.Along.{led_through}
+use Rattle.journal_core.specs.History.{History}
+use Rattle.journal_core.proofs.Ways.{reverse-first}
+use Rattle.rdl_tree.specs.Items.{Items}
+use Rattle.rdl_tree.specs.declared.fault.Fault.{Fault}
+use Rattle.rdl_tree.specs.declared.patch.Patch.{Patch}
+use Rattle.rdl_elab.specs.Faults.{elaborated}
+use Rattle.rdl_elab.specs.declared.row.Row.{Row}
+use Rattle.rdl_rewrite.specs.Rewritten.{rewritten}
+use Rattle.rdl_rewrite.specs.declared.edit.Edit.{Edit}
+use Rattle.rdl_rewrite.specs.declared.edit.Refusal.{Refusal as Early}
+use Rattle.rdl_edit.specs.Backs.{prior, read_back}
+use Rattle.rdl_edit.specs.Step.{State, judged, judged_anew, step}
+use Rattle.rdl_run.specs.Answers.{Serves}
+use Rattle.rdl_run.specs.Opening.{OpensHistory}
+use Rattle.rdl_run.specs.Sessions.{history_of}
+use Rattle.rdl_round.specs.Histories.{Action, edit, undo, redo, Acts, Follows}
+use Rattle.rdl_round.proofs.Scripted.{served}
+use Rattle.rdl_round.proofs.Stepped.{at-place}
+
+abbrev HasOption : Option (List ℕ) → State → Type 0
+HasOption option s = s.option ≡ option
+
+abbrev HaveOption : Option (List ℕ) → History State → Type 0
+HaveOption option h = All (HasOption option) h.states
+
+-- ---- The places of a session.
+
+led-options : (option : Option (List ℕ)) (s : State) (steps : List (List Patch)) → HasOption option s → All (HasOption option) (led_through prior s (map read_back steps))
+led-options option s [] same = All-nil (HasOption option)
+led-options option s (step ∷ steps) same =
+    let next = prior s (read_back step) in
+    All-cons (HasOption option) next (led_through prior next (map read_back steps)) same (led-options option next steps same)
+
+all-reverse : {X : Type 0} (P : X → Type 0) (xs : List X) → All P xs → All P (reverse xs)
+all-reverse P [] h = All-nil P
+all-reverse P (x ∷ xs) h =
+    subst (All P) (sym (reverse-first x xs))
+    (All-append P (reverse xs) (x ∷ []) (all-reverse P xs (All-tail P x xs h)) (All-cons P x [] (All-head P x xs h) (All-nil P)))
+
+session-options : (limit : ℕ) (s : State) (undo redo : List (List Patch)) → HaveOption s.option (history_of limit s undo redo)
+session-options limit s undo redo =
+    let P = HasOption s.option in
+    let behind = led_through prior s (map read_back undo) in
+    let ahead = led_through prior s (map read_back redo) in
+    All-append P (reverse behind) (s ∷ ahead) (all-reverse P behind (led-options s.option s undo refl)) (All-cons P s ahead refl (led-options s.option s redo refl))
+
+pub opened-options : (option : Option (List ℕ)) (limit : ℕ) (bytes : List ℕ) (first : History State) → OpensHistory option limit bytes first → All (λ s. s.option ≡ option) first.states
+opened-options option limit bytes first (inl m) =
+    subst (HaveOption option) (sym m.opened) (All-cons (HasOption option) m.first [] m.opens.same_option (All-nil (HasOption option)))
+opened-options option limit bytes first (inr o) =
+    subst (HaveOption option) (sym o.opened) (session-options limit (record { description = o.description; option = option }) o.undo o.redo)
+
+-- ---- An accepted edit, an undo and a redo.
+
+anew-option : (option : Option (List ℕ)) (made : Result Items Early) → IfOk (judged_anew option made) (HasOption option)
+anew-option option (Err refusal) = tt
+anew-option option (Ok d) = by (elaborated d option)
+  where
+    by : (r : Result (List Row) Fault) → IfOk (judged (record { description = d; option = option }) r) (HasOption option)
+    by (Ok rows) = refl
+    by (Err fault) = tt
+
+step-option : (option : Option (List ℕ)) (old : State) (e : Edit) (new : State) → step old e ≡ Ok new → HasOption option old → HasOption option new
+step-option option old e new led same =
+    subst (λ o. HasOption o new) same (subst (λ r. IfOk r (HasOption old.option)) led (anew-option old.option (rewritten old.description e)))
+
+acted : (option : Option (List ℕ)) (old : History State) (action : Action) (new : History State) → Acts old action new → HaveOption option old → HaveOption option new
+acted option old (edit e) new acts all =
+    let from = at-place (HasOption option) old.states old.place acts.from all acts.stood in
+    let to = step-option option acts.from e acts.to acts.led from in
+    subst (HaveOption option) (sym acts.edited) (All-push (HasOption option) (take (old.place + 1) old.states) acts.to (All-take (HasOption option) (old.place + 1) old.states all) to)
+acted option old undo new acts all = subst (HaveOption option) (sym acts) all
+acted option old redo new acts all = subst (HaveOption option) (sym acts) all
+
+followed : (option : Option (List ℕ)) (old new : History State) (actions : List Action) → Follows old actions new → HaveOption option old → HaveOption option new
+followed option old new [] follows all = subst (HaveOption option) (sym follows) all
+followed option old new (action ∷ actions) follows all =
+    followed option follows.0 new actions follows.2 (acted option old action follows.0 follows.1 all)
+
+pub served-options : (option : Option (List ℕ)) (old new : History State) (lines : List (List ℕ)) (text : List ℕ) (refuses : Bool) → Serves old lines text refuses new
+    → All (λ s. s.option ≡ option) old.states → All (λ s. s.option ≡ option) new.states
+served-options option old new lines text refuses serves all =
+    let only = served old new lines text refuses serves in
+    followed option old new only.0 only.2 all
