@@ -15,7 +15,7 @@ use Rattle.rdl_tree.specs.declared.session.SessionFault.{SessionFault}
 use Rattle.rdl_tree.specs.declared.session.Where.{Where}
 use Rattle.rdl_tree.specs.declared.session.Where.TheVariants as where_
 use Rattle.rdl_edit.specs.Backs.{prior, read_back}
-use Rattle.rdl_edit.specs.Resuming.{judged, place_fault, step_fault, steps_fault, session_fault}
+use Rattle.rdl_edit.specs.Resuming.{judged, place_fault, steps_fault}
 use Rattle.rdl_edit.specs.Step.{State, HasRows}
 use Rattle.rdl_edit.proofs.Walking.{step-judged}
 use Rattle.rdl_run.specs.Opening.{OpensHistory, AllHaveRows, EachElaborates}

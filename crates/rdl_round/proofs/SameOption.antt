@@ -1,11 +1,10 @@
 -- All maps of a history that was opened have the option of the run, and so have all to which a script leads.
 use Rattle.std.proofs.Common.{◌≡◌, ℕ, Bool, ◌+◌, List, [], ◌∷◌, take, Option, Result, Ok, Err, IfOk, All, inl, inr, refl, sym, subst}
 use mathlib.Core.List.{reverse}
-use Rattle.std.proofs.lemmas.List.Elements.{All-nil, All-cons, All-head, All-tail, All-append, All-push, All-take}
+use Rattle.std.proofs.lemmas.List.Elements.{All-nil, All-cons, All-append, All-push, All-take}
 use Rattle.std.specs.Prelude.{map}
 use Rattle.journal_core.specs.Along.{led_through}
 use Rattle.journal_core.specs.History.{History}
-use Rattle.journal_core.proofs.Ways.{reverse-first}
 use Rattle.rdl_tree.specs.Items.{Items}
 use Rattle.rdl_tree.specs.declared.fault.Fault.{Fault}
 use Rattle.rdl_tree.specs.declared.patch.Patch.{Patch}
@@ -20,6 +19,7 @@ use Rattle.rdl_run.specs.Answers.{Serves}
 use Rattle.rdl_run.specs.Opening.{OpensHistory}
 use Rattle.rdl_run.specs.Sessions.{history_of}
 use Rattle.rdl_round.specs.Histories.{Action, edit, undo, redo, Acts, Follows}
+use Rattle.rdl_round.proofs.Opened.{all-reverse}
 use Rattle.rdl_round.proofs.Scripted.{served}
 use Rattle.rdl_round.proofs.Stepped.{at-place}
 
@@ -37,18 +37,12 @@ led-options option s (step ∷ steps) same =
     let next = prior s (read_back step) in
     All-cons (HasOption option) next (led_through prior next (map read_back steps)) same (led-options option next steps same)
 
-all-reverse : {X : Type 0} (P : X → Type 0) (xs : List X) → All P xs → All P (reverse xs)
-all-reverse P [] h = All-nil P
-all-reverse P (x ∷ xs) h =
-    subst (All P) (sym (reverse-first x xs))
-    (All-append P (reverse xs) (x ∷ []) (all-reverse P xs (All-tail P x xs h)) (All-cons P x [] (All-head P x xs h) (All-nil P)))
-
-session-options : (limit : ℕ) (s : State) (undo redo : List (List Patch)) → HaveOption s.option (history_of limit s undo redo)
-session-options limit s undo redo =
+session-options : (limit : ℕ) (s : State) (back on : List (List Patch)) → HaveOption s.option (history_of limit s back on)
+session-options limit s back on =
     let P = HasOption s.option in
-    let behind = led_through prior s (map read_back undo) in
-    let ahead = led_through prior s (map read_back redo) in
-    All-append P (reverse behind) (s ∷ ahead) (all-reverse P behind (led-options s.option s undo refl)) (All-cons P s ahead refl (led-options s.option s redo refl))
+    let behind = led_through prior s (map read_back back) in
+    let ahead = led_through prior s (map read_back on) in
+    All-append P (reverse behind) (s ∷ ahead) (all-reverse P behind (led-options s.option s back refl)) (All-cons P s ahead refl (led-options s.option s on refl))
 
 pub opened-options : (option : Option (List ℕ)) (limit : ℕ) (bytes : List ℕ) (first : History State) → OpensHistory option limit bytes first → All (λ s. s.option ≡ option) first.states
 opened-options option limit bytes first (inl m) =
