@@ -20,7 +20,6 @@ use Rattle.rdl_tree.specs.declared.part.Part.{Part}
 use Rattle.rdl_tree.specs.declared.part.Part.TheVariants.{OfShell, OfTarget, OfType, OfDefine}
 use Rattle.rdl_tree.specs.declared.patch.Patch.{Patch}
 use Rattle.rdl_tree.specs.declared.patch.Patch.TheVariants.{Insert, Delete, Shift, Exchange}
-use Rattle.rdl_tree.specs.declared.fault.Fault.{Fault}
 use Rattle.rdl_tree.specs.declared.path.PathFault.{PathFault}
 use Rattle.rdl_tree.specs.declared.path.Segment.{Segment}
 use Rattle.rdl_tree.specs.declared.shell.Shell.{Shell}
@@ -46,9 +45,8 @@ use Rattle.rdl_rewrite.specs.declared.edit.Edit.TheVariants.{Add, Remove, Rename
 use Rattle.rdl_rewrite.specs.declared.edit.Refusal.{Refusal}
 use Rattle.rdl_rewrite.specs.declared.edit.Refusal.TheVariants.{NameTaken, NotAddable, NotAnInstance, Reserved}
 use Rattle.rdl_rewrite.specs.declared.place.Place.{Place}
-use Rattle.rdl_elab.specs.Faults.{elaborated}
-use Rattle.rdl_elab.specs.declared.row.Row.{Row}
-use Rattle.rdl_edit.specs.Step.{State, judged, judged_anew, step}
+use Rattle.rdl_edit.specs.Step.{State, step}
+use Rattle.rdl_edit.proofs.EditsLead.{same-made, steps}
 use Rattle.rdl_rewrite.proofs.Made.{patches_made, patches_fit}
 use Rattle.rdl_rewrite.proofs.OneBody.{place_within}
 use Rattle.rdl_round.specs.Histories.{IsWritable}
@@ -71,9 +69,6 @@ record Accepted (d new : Items) (e : Edit) (way : List ℕ) : Type 0 where
   made : by_way (Ok way) d e ≡ Ok new
   from : IsWritable d
   to : IsWritable new
-
-same-made : (d new : Items) (r : Result Items Refusal) → r ≡ Ok d → r ≡ Ok new → d ≡ new
-same-made d new r e f = let both = sym e ∙ f in cc
 
 led : (d new : Items) (e : Edit) (way : List ℕ) → Accepted d new e way → rewritten d e ≡ Ok new
 led d new e way a = ap (λ r. by_way r d e) a.found ∙ a.made
@@ -343,17 +338,6 @@ both-writable d new e made from to words spells = by (find (path_of e) d) refl
 
 -- ---- A step of the history.
 
-pub made-by : (old new : State) (e : Edit) → step old e ≡ Ok new → rewritten old.description e ≡ Ok new.description
-made-by old new e led = by (rewritten old.description e) refl led
-  where
-    judged-as : (x : Items) (r : Result (List Row) Fault) → judged (record { description = x; option = old.option }) r ≡ Ok new → x ≡ new.description
-    judged-as x (Ok rows) m = let same_state : record { description = x; option = old.option } ≡ new = cc in ap (λ (s : State). s.description) same_state
-    judged-as x (Err fault) m = cc
-
-    by : (r : Result Items Refusal) → rewritten old.description e ≡ r → judged_anew old.option r ≡ Ok new → rewritten old.description e ≡ Ok new.description
-    by (Ok x) f m = f ∙ ap Ok (judged-as x (elaborated x old.option) m)
-    by (Err refusal) f m = cc
-
 pub step-patches : (old : State) (e : Edit) (new : State) → step old e ≡ Ok new → IsWritable old.description → IsEditOfWords e → IsEditSpellable e → AreBothWritable (patches old.description e) old.description
 step-patches old e new led w words spells =
-    both-writable old.description new.description e (made-by old new e led) w (step-writable old e new led words spells w) words spells
+    both-writable old.description new.description e (steps old e new led).made w (step-writable old e new led words spells w) words spells

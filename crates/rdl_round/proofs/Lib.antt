@@ -29,3 +29,6 @@ pub mod EditPatches
 pub mod EditBrings
 pub mod Opened
 pub mod Standing
+pub mod SameOption
+pub mod OpenedAgain
+pub mod SavedRuns

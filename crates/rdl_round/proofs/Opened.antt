@@ -33,17 +33,17 @@ led-good s (step ∷ steps) g h =
     let there = image-good step s.description (All-head (All IsWritablePatch) step steps h) g in
     All-cons IsGoodState next (led_through prior next (map read_back steps)) there (led-good next steps there (All-tail (All IsWritablePatch) step steps h))
 
-all-reverse : (xs : List State) → All IsGoodState xs → All IsGoodState (reverse xs)
-all-reverse [] h = All-nil IsGoodState
-all-reverse (x ∷ xs) h =
-    subst (All IsGoodState) (sym (reverse-first x xs))
-    (All-append IsGoodState (reverse xs) (x ∷ []) (all-reverse xs (All-tail IsGoodState x xs h)) (All-cons IsGoodState x [] (All-head IsGoodState x xs h) (All-nil IsGoodState)))
+pub all-reverse : {X : Type 0} (P : X → Type 0) (xs : List X) → All P xs → All P (reverse xs)
+all-reverse P [] h = All-nil P
+all-reverse P (x ∷ xs) h =
+    subst (All P) (sym (reverse-first x xs))
+    (All-append P (reverse xs) (x ∷ []) (all-reverse P xs (All-tail P x xs h)) (All-cons P x [] (All-head P x xs h) (All-nil P)))
 
 places-good : (limit : ℕ) (s : State) (undo redo : List (List Patch)) → IsGoodState s → AreWritable undo → AreWritable redo → All IsGoodState (history_of limit s undo redo).states
 places-good limit s undo redo g u r =
     let behind = led_through prior s (map read_back undo) in
     let ahead = led_through prior s (map read_back redo) in
-    All-append IsGoodState (reverse behind) (s ∷ ahead) (all-reverse behind (led-good s undo g u)) (All-cons IsGoodState s ahead g (led-good s redo g r))
+    All-append IsGoodState (reverse behind) (s ∷ ahead) (all-reverse IsGoodState behind (led-good s undo g u)) (All-cons IsGoodState s ahead g (led-good s redo g r))
 
 -- a map that has rows is within the limits
 with-rows : (states : List State) → All IsGoodState states → AllHaveRows states → All IsStateWritable states

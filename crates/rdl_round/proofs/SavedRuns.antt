@@ -1,27 +1,29 @@
 -- The session that a run of a map leaves spells the history to which its script led.
-use Rattle.std.proofs.Common.{◌≡◌, ◌⊎◌, inl, inr, ℕ, zero, suc, ◌≤◌, Bool, true, false, List, [], ◌∷◌, length, Option, Some, None, All, IsUtf8, slice_get, refl, sym, ap, ◌∙◌, subst}
+use Rattle.std.proofs.Common.{◌≡◌, inl, inr, ℕ, suc, Bool, true, false, List, [], ◌∷◌, Option, Some, All, IsUtf8, slice_get, refl, sym, ap, ◌∙◌, subst}
 use Rattle.std.proofs.lemmas.List.Elements.{All-nil, All-cons}
-use Rattle.std.proofs.lemmas.Option.{none-some, same_Some}
+use Rattle.std.proofs.lemmas.Option.{same_Some}
 use Rattle.journal_core.specs.History.{History, IsAt}
-use Rattle.rdl_tree.specs.Patch.{image, inverses}
-use Rattle.rdl_tree.specs.SessionText.{session_text, max_session}
+use Rattle.rdl_tree.specs.Patch.{image}
+use Rattle.rdl_tree.specs.SessionText.{session_text}
 use Rattle.rdl_tree.specs.declared.patch.Patch.{Patch}
 use Rattle.rdl_parse.specs.Session.{SpellsSession}
 use Rattle.rdl_script.specs.Commands.{lines_of}
 use Rattle.rdl_write.specs.SessionLines.{session_lines}
-use Rattle.rdl_edit.specs.OfEdits.{Makes, TakesBack, IsOfEdit}
+use Rattle.rdl_edit.specs.OfEdits.{IsOfEdit}
 use Rattle.rdl_edit.specs.Step.{State, HasRows}
 use Rattle.rdl_edit.proofs.EditsLead.{edit-leads}
 use Rattle.rdl_edit.proofs.OwnSteps.{back-there}
-use Rattle.rdl_run.specs.Opening.{AllHaveRows, EachElaborates, OpensMap, OpensHistory}
+use Rattle.rdl_run.specs.Opening.{AllHaveRows, EachElaborates, OpensHistory}
 use Rattle.rdl_run.specs.Output.{Output, RunsScript}
-use Rattle.rdl_run.specs.Sessions.{LeadsAlong, LeadBack, LeadOn, OpensSession, IsSaved, Saves, SavesIf, is_session}
+use Rattle.rdl_run.specs.Sessions.{LeadsAlong, Saves, SavesIf, is_session}
 use Rattle.rdl_run.specs.declared.run.Options.{Options}
 use Rattle.rdl_run.proofs.Continued.{good-run}
 use Rattle.rdl_run.proofs.Openings.{opened-elaborates}
 use Rattle.rdl_round.specs.Histories.{IsWritable, Action, edit, undo, redo, Follows}
 use Rattle.rdl_round.specs.Sessions.{IsWritablePatch, AreWritable, SpellsHistory}
 use Rattle.rdl_round.proofs.Opened.{opened-writable}
+use Rattle.rdl_round.proofs.OpenedAgain.{rows-at, opened-again}
+use Rattle.rdl_round.proofs.SameOption.{opened-options, served-options}
 use Rattle.rdl_round.proofs.Saved.{session-spells}
 use Rattle.rdl_round.proofs.Scripted.{served, served-writable}
 use Rattle.rdl_round.proofs.Standing.{step-patches-between}
@@ -44,11 +46,6 @@ opened-own option limit bytes h unnamed (inr o) = absurd (let w : true ≡ false
 
 -- ---- They can be written.
 
-row-at : (ss : List State) (n : ℕ) (s : State) → AllHaveRows ss → slice_get ss n ≡ Some s → HasRows s
-row-at [] n s h e = absurd (none-some s e)
-row-at (x ∷ xs) zero s h e = subst HasRows (same_Some x s e) h.0
-row-at (x ∷ xs) (suc n) s h e = row-at xs n s h.1 e
-
 -- a step that an edit left behind, between maps that can be written
 left-writable : (start end : State) (step : List Patch) → HasRows start → IsStateWritable start → IsStateWritable end → end.description ≡ image step start.description → IsOfEdit start step → All IsWritablePatch step
 left-writable start end step rows from to led (inl m) =
@@ -62,7 +59,7 @@ left-writable start end step rows from to led (inr t) =
 
 along-writable : (own : Bool) (states : List State) (from to : ℕ) (step : List Patch) → own ≡ true → AllHaveRows states → All IsStateWritable states → LeadsAlong own states from to step → All IsWritablePatch step
 along-writable own states from to step is_own rows all a =
-    left-writable a.start a.end step (row-at states from a.start rows a.stood) (at-place IsStateWritable states from a.start all a.stood) (at-place IsStateWritable states to a.end all a.reached) a.led (a.of_edit is_own)
+    left-writable a.start a.end step (rows-at states from a.start rows a.stood) (at-place IsStateWritable states from a.start all a.stood) (at-place IsStateWritable states to a.end all a.reached) a.led (a.of_edit is_own)
 
 all-each : {X : Type 0} (P : X → Type 0) (xs : List X) → ((i : ℕ) (x : X) → slice_get xs i ≡ Some x → P x) → All P xs
 all-each P [] h = All-nil P
@@ -110,3 +107,10 @@ module _ (options : Options) (map script : List ℕ) (out : Output) (ran : RunsS
       let all = served-writable ran.first r.last (lines_of script) r.replies r.refuses (opened-writable options.top options.history map ran.first ran.opens) r.serves in
       saved-spells r.last r.closes.now r.closes.of_session out.session own run-elaborates all r.closes.at utf8
       (saves-whole options.session r.closes.no_session r.last r.closes.of_session out.session asked whole r.closes.saves)
+
+  pub saved-opens : is_session map ≡ false → options.session ≡ true → ran.runs.closes.no_session ≡ false → IsUtf8 out.session
+      → (limit : ℕ) → OpensHistory options.top limit out.session (record { limit = limit; states = ran.runs.last.states; place = ran.runs.last.place; own = false })
+  saved-opens unnamed asked whole utf8 limit =
+      let r = ran.runs in
+      let same = served-options options.top ran.first r.last (lines_of script) r.replies r.refuses r.serves (opened-options options.top options.history map ran.first ran.opens) in
+      opened-again options.top limit out.session r.closes.now r.last run-elaborates same r.closes.at utf8 (saved-session unnamed asked whole utf8)

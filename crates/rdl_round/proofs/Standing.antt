@@ -44,12 +44,13 @@ use Rattle.rdl_rewrite.specs.declared.edit.Edit.TheVariants.{Add, Remove, Rename
 use Rattle.rdl_rewrite.specs.declared.edit.Refusal.{Refusal}
 use Rattle.rdl_rewrite.specs.declared.edit.Refusal.TheVariants.{NameTaken, NotAddable, NotAnInstance, Reserved}
 use Rattle.rdl_edit.specs.Step.{State, step}
+use Rattle.rdl_edit.proofs.EditsLead.{same-made, steps}
 use Rattle.rdl_round.specs.Histories.{IsWritable}
 use Rattle.rdl_round.specs.NewParts.{IsEditOfWords, IsEditSpellable}
 use Rattle.rdl_round.specs.OfWords.{IsShellOfWords}
 use Rattle.rdl_round.specs.Sessions.{IsWritablePatch}
 use Rattle.rdl_round.proofs.Each.{items-fit, each-of, body-each}
-use Rattle.rdl_round.proofs.EditBrings.{made-by, step-patches}
+use Rattle.rdl_round.proofs.EditBrings.{step-patches}
 use Rattle.rdl_round.proofs.Inverted.{IsGoodPlain, IsGoodHolder, IsGood, IsGoodItem, map-good, of-words, spellable}
 
 -- ---- What holds of each element of a list holds of those that make it up.
@@ -81,8 +82,6 @@ replace-good n x b below g = set-holds IsGoodItem (list_of b) n x below (list-go
 
 -- ---- The one body that an edit changes, in the new map.
 
-same-made : (a c : Items) (r : Result Items Refusal) → r ≡ Ok a → r ≡ Ok c → a ≡ c
-same-made a c r e f = let both = sym e ∙ f in cc
 
 body-good : (d new b c : Items) (way : List ℕ) → body_at way d ≡ Some b → map_body way (λ _. c) d ≡ new → IsGood new → IsGood c
 body-good d new b c way here is g =
@@ -338,7 +337,7 @@ edit-stands d new e made to = by (find (path_of e) d) refl made
 -- ---- A step of the history.
 
 pub step-brings : (old : State) (e : Edit) (new : State) → step old e ≡ Ok new → IsWritable new.description → IsEditOfWords e × IsEditSpellable e
-step-brings old e new led to = edit-stands old.description new.description e (made-by old new e led) to
+step-brings old e new led to = edit-stands old.description new.description e (steps old e new led).made to
 
 pub step-patches-between : (old : State) (e : Edit) (new : State) → step old e ≡ Ok new → IsWritable old.description → IsWritable new.description
     → All IsWritablePatch (patches old.description e) × All IsWritablePatch (inverses (patches old.description e) old.description)

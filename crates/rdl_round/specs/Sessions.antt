@@ -1,6 +1,7 @@
--- Which maps and patches a written session gives back.
+-- Which maps and patches a written session gives back, and which history a session spells.
 -- own: SystemRDL 2.0 has no sessions.
 use Rattle.std.specs.Prelude.{ℕ, ◌<◌, ◌^◌, List, [], ◌∷◌, IfSome, All}
+use Rattle.journal_core.specs.History.{History}
 use Rattle.rdl_tree.specs.ItemAt.{item_at}
 use Rattle.rdl_tree.specs.Items.{Items}
 use Rattle.rdl_tree.specs.Limits.{IsWithinLimits}
@@ -12,7 +13,9 @@ use Rattle.rdl_tree.specs.declared.part.Part.{Part}
 use Rattle.rdl_tree.specs.declared.part.Part.TheVariants.{OfShell, OfValue, OfTarget, OfType, OfDefine}
 use Rattle.rdl_tree.specs.declared.patch.Patch.{Patch}
 use Rattle.rdl_tree.specs.declared.patch.Patch.TheVariants.{Insert, Delete, Shift, Exchange}
-use Rattle.rdl_parse.specs.Session.{IsItemAddress, IsFreeName, SpellsPatch, SpellsMap}
+use Rattle.rdl_parse.specs.Session.{IsItemAddress, IsFreeName, SpellsPatch, SpellsMap, SpellsSession}
+use Rattle.rdl_edit.specs.Step.{State}
+use Rattle.rdl_run.specs.Sessions.{LeadBack, LeadOn}
 use Rattle.rdl_round.specs.Histories.{IsWritable}
 
 -- ---- What can be written.
@@ -60,3 +63,13 @@ IsSpelledPatch patch = (lines : PatchLines) × SpellsPatch lines patch
 
 abbrev pub AreSpelled : List (List Patch) → Type 0
 AreSpelled steps = All (All IsSpelledPatch) steps
+
+-- ---- The session of a history.
+
+-- the bytes spell this map, with steps that lead back from it and on, through all other maps of the history
+pub record SpellsHistory (bytes : List ℕ) (now : State) (h : History State) : Type 0 where
+  pub undo : List (List Patch)
+  pub redo : List (List Patch)
+  pub back : LeadBack h undo
+  pub on : LeadOn h redo
+  pub spelled : SpellsSession bytes now.description undo redo

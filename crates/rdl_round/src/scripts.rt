@@ -1,5 +1,5 @@
 //! Laws of what the lines of a script bring, and so of the maps to which a script leads.
-ghost use Rattle.std.specs.Prelude.{◌≡◌, ◌≤◌, ℕ, Bool, List, length, Option, Ok, All};
+ghost use Rattle.std.specs.Prelude.{◌≡◌, ◌≤◌, ℕ, Bool, true, false, List, length, Option, Ok, All, IsUtf8};
 ghost use Rattle.journal_core.specs.History.{History, IsAt};
 ghost use Rattle.rdl_tree.specs.View.{items_of};
 ghost use Rattle.rdl_tree.specs.declared.description.Item.{Item};
@@ -13,12 +13,14 @@ ghost use Rattle.rdl_rewrite.specs.declared.place.Place.{Place};
 ghost use Rattle.rdl_edit.specs.Step.{State};
 ghost use Rattle.rdl_script.specs.Commands.{edit, add, command_of, lines_of};
 ghost use Rattle.rdl_run.specs.Answers.{Serves};
-ghost use Rattle.rdl_run.specs.Opening.{OpensHistory};
+ghost use Rattle.rdl_run.specs.Opening.{OpensHistory, EachElaborates};
 ghost use Rattle.rdl_run.specs.Output.{Output, RunsScript};
 ghost use Rattle.rdl_run.specs.Readings.{ReadsItems};
+ghost use Rattle.rdl_run.specs.Sessions.{is_session};
 ghost use Rattle.rdl_run.specs.declared.run.Options.{Options};
 ghost use Rattle.rdl_round.specs.Histories.{ReadsBack, IsWritable, Action, Follows, BringWords};
 ghost use Rattle.rdl_round.specs.NewParts.{IsEditOfWords, IsEditSpellable};
+ghost use Rattle.rdl_round.specs.Sessions.{SpellsHistory};
 
 /// The edit that a line asks for brings only what is made of words and what a text can spell. Of an `add` the text has to
 /// be read first: with the items that it spells, whichever they are, this is so of the `add` too.
@@ -56,4 +58,29 @@ pub fn runs_read_back()
         → OpensHistory option limit bytes first → Serves first (lines_of script) replies refuses last → IsAt last now → ReadsBack now.description }
     ensures written { (options : Options) (map script : List ℕ) (out : Output) (ran : RunsScript options map script out)
         → length out.rdl ≤ max_text → (p : Located) × (parse_reading out.rdl ≡ Ok (ran.runs.closes.now.description, p)) }
+{}
+
+/// All maps of a history that was opened, and all to which a script leads from it, have the option of the run.
+pub fn options_stay()
+    ensures opened { (option : Option (List ℕ)) (limit : ℕ) (bytes : List ℕ) (first : History State) → OpensHistory option limit bytes first → All (λ s. s.option ≡ option) first.states }
+    ensures served { (option : Option (List ℕ)) (old new : History State) (lines : List (List ℕ)) (text : List ℕ) (refuses : Bool) → Serves old lines text refuses new
+        → All (λ s. s.option ≡ option) old.states → All (λ s. s.option ≡ option) new.states }
+{}
+
+/// A session that spells a history whose maps all elaborate with the same option opens the same list of maps at the same
+/// place, whatever limit it is opened with.
+pub fn spelled_histories_open_again()
+    ensures { (option : Option (List ℕ)) (limit : ℕ) (bytes : List ℕ) (now : State) (h : History State) → EachElaborates h → All (λ s. s.option ≡ option) h.states → IsAt h now
+        → IsUtf8 bytes → SpellsHistory bytes now h → OpensHistory option limit bytes (record { limit = limit; states = h.states; place = h.place; own = false }) }
+{}
+
+/// The session that a run of a map leaves, where it is asked for and isn't too long, spells the history to which the script
+/// led. Given back, it opens the same list of maps at the same place, whatever limit it is opened with. That it is UTF-8 is so of
+/// every text that is a `String`.
+pub fn saved_sessions_read_back()
+    ensures spelled { (options : Options) (map script : List ℕ) (out : Output) (ran : RunsScript options map script out) → is_session map ≡ false → options.session ≡ true
+        → ran.runs.closes.no_session ≡ false → IsUtf8 out.session → SpellsHistory out.session ran.runs.closes.now ran.runs.last }
+    ensures opened { (options : Options) (map script : List ℕ) (out : Output) (ran : RunsScript options map script out) → is_session map ≡ false → options.session ≡ true
+        → ran.runs.closes.no_session ≡ false → IsUtf8 out.session → (limit : ℕ)
+        → OpensHistory options.top limit out.session (record { limit = limit; states = ran.runs.last.states; place = ran.runs.last.place; own = false }) }
 {}
