@@ -1,5 +1,5 @@
 -- The patches of an accepted edit of a map that has rows fit, and lead to the map that the edit makes.
-use Rattle.std.proofs.Common.{◌≡◌, ◌⊎◌, inl, inr, ℕ, ◌≤◌, ◌<◌, ◌+◌, Bool, true, false, cond, ◌||◌, List, [], length, Option, Some, None, Result, Ok, Err, refl, sym, ap, ◌∙◌, subst, arith, is_ok}
+use Rattle.std.proofs.Common.{◌≡◌, ◌⊎◌, inl, inr, ℕ, ◌≤◌, ◌<◌, Bool, true, false, cond, ◌||◌, List, [], length, Option, Some, None, Result, Ok, Err, refl, sym, ap, ◌∙◌, subst, arith, is_ok}
 use Rattle.std.specs.Prelude.{nat_lt, ◌==◌}
 use Rattle.std.proofs.lemmas.Bool.{ltb-false, cases_lt}
 use Rattle.std.proofs.lemmas.Option.{none-some}
@@ -12,14 +12,13 @@ use Rattle.rdl_tree.specs.Weight.{weight}
 use Rattle.rdl_tree.specs.declared.fault.Fault.{Fault}
 use Rattle.rdl_tree.specs.declared.fault.FaultKind.TheVariants.{DescriptionTooLarge}
 use Rattle.rdl_tree.specs.declared.path.PathFault.{PathFault}
-use Rattle.rdl_tree.specs.declared.path.Segment.{Segment}
 use Rattle.rdl_scope.specs.ItemFaults.{first_fault, is_too_large, fault_of}
 use Rattle.rdl_elab.specs.Faults.{elaborated}
 use Rattle.rdl_elab.specs.declared.row.Row.{Row}
 use Rattle.rdl_rewrite.specs.Change.{edited_body}
 use Rattle.rdl_rewrite.specs.Patches.{level_in, level_on, patches_on, patches}
-use Rattle.rdl_rewrite.specs.Refuses.{IsTooDeep, MakesTooDeep, RefusesEdit}
-use Rattle.rdl_rewrite.specs.Rewritten.{path_of, refusal_of as of_path, put_body, change_body, at_body, of_item, by_way, rewritten}
+use Rattle.rdl_rewrite.specs.Refuses.{MakesTooDeep, RefusesEdit}
+use Rattle.rdl_rewrite.specs.Rewritten.{path_of, refusal_of as of_path, put_body, change_body, at_body, by_way, rewritten}
 use Rattle.rdl_rewrite.specs.declared.edit.Edit.{Edit}
 use Rattle.rdl_rewrite.specs.declared.edit.Edit.TheVariants.{Add, Remove, Rename, Move, Resize, SetBits, SetAddress, SetStride, SetAlign, SetReset, SetOwn, SetDefault, ClearOwn, ClearDefault, Assign, Unassign}
 use Rattle.rdl_rewrite.specs.declared.edit.Refusal.{Refusal}

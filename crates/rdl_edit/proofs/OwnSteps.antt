@@ -1,17 +1,13 @@
 -- Steps of a map that edits left behind: that of an edit takes it back, and what is taken back can be made again.
 use Rattle.std.proofs.Common.{◌≡◌, inl, inr, List, sym, ap, ◌∙◌, subst}
-use Rattle.rdl_tree.specs.Patch.{AllFit, image, inverses}
+use Rattle.rdl_tree.specs.Patch.{image, inverses}
 use Rattle.rdl_tree.specs.declared.patch.Patch.{Patch}
 use Rattle.rdl_tree.proofs.Patching.{image-inverses, inverses-inverses}
 use Rattle.rdl_rewrite.specs.Patches.{patches}
 use Rattle.rdl_rewrite.specs.declared.edit.Edit.{Edit}
-use Rattle.rdl_elab.specs.AllKept.{KeptLayouts}
-use Rattle.rdl_edit.specs.Backs.{Reversal, prior}
-use Rattle.rdl_edit.specs.Keeping.{Keeps}
-use Rattle.rdl_edit.specs.OfEdits.{Makes, TakesBack, IsOfEdit, IsOwn}
+use Rattle.rdl_edit.specs.OfEdits.{IsOfEdit}
 use Rattle.rdl_edit.specs.Step.{State, HasRows, Leads}
 use Rattle.rdl_edit.proofs.EditsLead.{edit-fits, edit-leads}
-use Rattle.rdl_edit.proofs.WaysBack.{has-rows}
 
 -- what takes an edit back leads to the map before it
 pub back-there : (old : State) (e : Edit) (new : State) → HasRows old → Leads old e new → record { description = image (inverses (patches old.description e) old.description) new.description; option = new.option } ≡ old

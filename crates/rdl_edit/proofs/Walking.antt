@@ -1,5 +1,5 @@
 -- A step whose patches fit, each where those before it led, is as good as the map to which it leads.
-use Rattle.std.proofs.Common.{◌≡◌, Bool, true, List, [], ◌∷◌, ◌++◌, ℕ, ◌≤◌, map, refl, ap, sym, subst, ◌∙◌, Option, Some, None, ◌⊎◌, inl, inr}
+use Rattle.std.proofs.Common.{◌≡◌, true, List, [], ◌∷◌, ◌++◌, ℕ, ◌≤◌, map, refl, ap, sym, subst, ◌∙◌, Option, Some, None, ◌⊎◌, inl, inr}
 use mathlib.Core.List.{reverse}
 use Rattle.std.proofs.lemmas.List.{reverse-append}
 use Rattle.journal_core.specs.Along.{FitInTurn}
@@ -12,7 +12,7 @@ use Rattle.rdl_edit.specs.Ways.{place_of, way_back, ways_along, AllLead}
 use Rattle.rdl_edit.specs.declared.resuming.Direction.TheVariants as way
 use Rattle.std.specs.Prelude.{◌&&◌, if◌then◌else◌}
 use Rattle.rdl_tree.specs.Items.{Items}
-use Rattle.rdl_tree.specs.Patch.{AllFit, patched, image, inverses}
+use Rattle.rdl_tree.specs.Patch.{AllFit, patched, image}
 use Rattle.rdl_tree.specs.declared.patch.Patch.{Patch}
 use Rattle.rdl_tree.specs.declared.session.SessionFault.{SessionFault}
 use Rattle.rdl_tree.specs.declared.session.SessionFault.TheVariants.{PatchMisfits, Memory}

@@ -1,5 +1,5 @@
 -- Steps that lead through the maps of a history.
-use Rattle.std.proofs.Common.{◌≡◌, inl, inr, Bool, true, false, ℕ, zero, suc, ◌+◌, ◌-◌, ◌<◌, ◌≤◌, List, [], ◌∷◌, ◌++◌, length, Option, Some, None, refl, sym, ap, ◌∙◌, subst, arith, length-append}
+use Rattle.std.proofs.Common.{◌≡◌, inl, inr, Bool, true, false, ℕ, zero, suc, ◌+◌, ◌-◌, ◌<◌, List, [], ◌∷◌, ◌++◌, length, Some, refl, sym, ap, ◌∙◌, subst, arith, length-append}
 use Rattle.std.specs.Prelude.{slice_get, map}
 use Rattle.std.proofs.lemmas.List.{length-map, map-append}
 use Rattle.std.proofs.lemmas.Option.{none-some}
@@ -10,13 +10,13 @@ use Rattle.rdl_tree.proofs.Nesting.{AllFit-inverses}
 use Rattle.rdl_rewrite.specs.Patches.{patches}
 use Rattle.rdl_edit.specs.Backs.{Reversal, prior, Fits}
 use Rattle.rdl_edit.specs.OfEdits.{IsOfEdit, IsOwn}
-use Rattle.rdl_edit.specs.Step.{State, HasRows}
+use Rattle.rdl_edit.specs.Step.{State}
 use Rattle.rdl_edit.proofs.EditsLead.{rows-deep, edit-fits, edit-leads}
 use Rattle.rdl_edit.proofs.OwnSteps.{back-there}
 use Rattle.rdl_run.specs.Answers.{History'}
 use Rattle.rdl_run.specs.Opening.{AllHaveRows, AreEdited, EachElaborates}
 use Rattle.rdl_run.specs.Sessions.{LeadsAlong, LeadBack, LeadOn}
-use Rattle.rdl_run.proofs.Histories.{StateAt, state-at, edit-between}
+use Rattle.rdl_run.proofs.Histories.{state-at, edit-between}
 use Rattle.rdl_run.proofs.Rebuilding.{rebuilt}
 
 -- what holds of each element with its number

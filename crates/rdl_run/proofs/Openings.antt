@@ -1,5 +1,5 @@
 -- The bytes of each map or session open a history or are refused.
-use Rattle.std.proofs.Common.{◌≡◌, ◌⊎◌, inl, inr, ℕ, ◌≤◌, Bool, true, false, List, [], ◌∷◌, length, Option, Some, None, Result, Ok, Err, refl, sym, ap, ◌∙◌, subst, IsUtf8, arith}
+use Rattle.std.proofs.Common.{◌≡◌, ◌⊎◌, inl, inr, ℕ, ◌≤◌, Bool, true, false, List, length, Option, Some, None, Result, Ok, Err, refl, sym, ◌∙◌, subst, IsUtf8, arith}
 use Rattle.std.specs.Prelude.{nat_lt}
 use Rattle.std.specs.Str.{is_utf8}
 use Rattle.std.proofs.lemmas.Bool.{ltb-true, ltb-false}
@@ -12,7 +12,6 @@ use Rattle.rdl_tree.specs.declared.fault.Fault.{Fault}
 use Rattle.rdl_tree.specs.declared.patch.Patch.{Patch}
 use Rattle.rdl_tree.specs.declared.session.SessionFault.{SessionFault}
 use Rattle.rdl_tree.specs.declared.session.SessionFault.TheVariants.{NotASession}
-use Rattle.rdl_parse.specs.Session.{SpellsSession}
 use Rattle.rdl_parse.specs.SessionMeaning.{Session, session_of}
 use Rattle.rdl_parse.proofs.SessionMeant.{session-found, session-refused}
 use Rattle.rdl_edit.specs.Resuming.{session_fault}
@@ -20,7 +19,7 @@ use Rattle.rdl_edit.specs.Step.{State}
 use Rattle.rdl_run.specs.Answers.{History'}
 use Rattle.rdl_run.specs.Messages.{session_line}
 use Rattle.rdl_run.specs.Opening.{EachElaborates, OpensMap, OpensHistory, RefusedText, RefusedMap, RefusesToOpen, one_map, text_line, fault_line}
-use Rattle.rdl_run.specs.Sessions.{ReadsSession, IsNoSession, OpensSession, RefusedSession, history_of, is_session}
+use Rattle.rdl_run.specs.Sessions.{ReadsSession, history_of, is_session}
 use Rattle.rdl_run.proofs.SessionPlaces.{session-elaborates}
 use Rattle.rdl_run.proofs.Texts.{ReadMap, NoMap, map-bytes}
 

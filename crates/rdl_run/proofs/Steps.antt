@@ -1,5 +1,5 @@
 -- A step of an edit is never refused for want of memory.
-use Rattle.std.proofs.Common.{◌≡◌, ℕ, Bool, true, false, cond, List, [], length, ◌==◌, Option, Some, None, Result, Ok, Err, refl, subst}
+use Rattle.std.proofs.Common.{◌≡◌, ℕ, Bool, true, false, cond, List, [], length, ◌==◌, Option, Some, None, Result, Ok, Err, subst}
 use Rattle.std.specs.Prelude.{◌-◌, slice_get, slice_index}
 use Rattle.std.specs.List.{list_all, position}
 use Rattle.rdl_elab.specs.Faults.{elaborated}

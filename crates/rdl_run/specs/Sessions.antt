@@ -12,7 +12,7 @@ use Rattle.rdl_parse.specs.Session.{SpellsSession}
 use Rattle.rdl_edit.specs.Backs.{prior, read_back}
 use Rattle.rdl_edit.specs.OfEdits.{IsOfEdit}
 use Rattle.rdl_edit.specs.Resuming.{session_fault}
-use Rattle.rdl_edit.specs.Step.{State, HasRows}
+use Rattle.rdl_edit.specs.Step.{State}
 use Rattle.rdl_write.specs.SessionLines.{session_lines}
 use Rattle.rdl_write.specs.Texts.{newline}
 use Rattle.rdl_run.specs.Answers.{History'}

@@ -1,4 +1,4 @@
-use Rattle.std.proofs.Common.{◌+◌, ◌-◌, ◌≤◌, length, map}
+use Rattle.std.proofs.Common.{◌-◌, ◌≤◌, length, map}
 use Rattle.rdl_run.specs.Sessions.{LeadsAlong}
 use Rattle.rdl_run.proofs.Leading.{EachIs}
 use Rattle.rdl_run.proofs.saving.steps_back.Given as goal

@@ -1,6 +1,4 @@
-use Rattle.std.proofs.Common.{◌≡◌, true, ◌+◌, ◌-◌, ◌<◌, ◌∷◌, ◌++◌, [], inl, inr, length, map, sym, ap, ◌∙◌, subst, arith, rules, length-append}
-use Rattle.std.proofs.lemmas.Bool.{cases_lt}
-use Rattle.std.proofs.lemmas.Option.{none-some}
+use Rattle.std.proofs.Common.{◌≡◌, true, ◌+◌, ◌<◌, ◌∷◌, ◌++◌, [], length, map, sym, ap, subst, arith, rules, length-append}
 use Rattle.journal_core.specs.History.{LeadsBetween}
 use Rattle.rdl_edit.specs.Backs.{prior, Fits}
 use Rattle.rdl_edit.specs.OfEdits.{IsOwn}

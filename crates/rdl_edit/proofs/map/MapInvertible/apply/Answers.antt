@@ -1,7 +1,6 @@
 use Rattle.std.proofs.Common.{◌≡◌, inr, None, Ok, sym, ap, ◌∙◌, subst, rules}
 use Rattle.rdl_edit.specs.Backs.{Fits}
-use Rattle.rdl_edit.specs.OfEdits.{IsOwn}
-use Rattle.rdl_edit.specs.Step.{State, HasRows, Leads}
+use Rattle.rdl_edit.specs.Step.{State, HasRows}
 use Rattle.rdl_tree.specs.Patch.{AllFit, image, inverses}
 use Rattle.rdl_scope.specs.ItemFaults.{fault_of}
 use Rattle.rdl_rewrite.specs.Patches.{patches}
