@@ -88,6 +88,7 @@ still-alike told h k new other b c a p q = (alike-moved h k new other a p.0 q.0,
 
 -- ---- An edit.
 
+-- what is made in one history can be made in one that is alike
 made-too : (e : Edit) (h k m : History') → AreAlike h k → Made h e m → (n : History') × Made k e n
 made-too e h k m a made =
     let r = made.made in
@@ -96,6 +97,7 @@ made-too e h k m a made =
       made = record { from = r.from; to = r.to; stood = stands-too h k r.from a r.stood; led = r.led; edited = refl };
     })
 
+-- and both lead to histories that are alike
 made-alike : (e : Edit) (h k m n : History') → AreAlike h k → Made h e m → Made k e n → AreAlike m n
 made-alike e h k m n a made also =
     let r = made.made in
@@ -109,6 +111,7 @@ step-fails : (s : State) (e : Edit) (refusal : Refusal) → refusal ≢ Memory �
 step-fails s e Memory real h = absurd (real refl)
 step-fails s e refusal real h = h
 
+-- an edit that is refused isn't made
 made-or-not : (h : History') (e : Edit) (refusal : Refusal) → NotMade h e refusal → (n : History') → Made h e n → ⊥
 made-or-not h e refusal f n made =
     let r = made.made in
@@ -213,6 +216,7 @@ line-alike h k new other (add path place text) r q a m n =
 
 -- ---- The lines one after another.
 
+-- alike histories stay alike, and refuse a line both or neither
 pub run-alike : (h k new other : History') (lines : List (List ℕ)) (rs qs : List Said) → AreAlike h k → Run h lines rs new → Run k lines qs other
     → AreAlike new other × (list_any is_refused rs ≡ list_any is_refused qs)
 run-alike h k new other [] [] [] a m n = (alike-moved h k new other a m n, refl)
@@ -231,6 +235,7 @@ headed-once : (r : Result (List ℕ) (List ℕ)) (message header said macros : L
 headed-once (Ok text) message header said macros b c h k = (h.1 ∙ sym k.1, h.2 ∙ sym k.2)
 headed-once (Err name) message header said macros b c h k = (h.1 ∙ sym k.1, h.2 ∙ sym k.2)
 
+-- a map has one header, or a clash
 heads-once : (s : State) (message header said macros : List ℕ) (b c : Bool) → Heads s message header b → Heads s said macros c → (header ≡ macros) × (b ≡ c)
 heads-once s message header said macros b c h k =
     let rows = ok-once (elaborated s.description s.option) h.laid_out.rows k.laid_out.rows h.laid_out.are k.laid_out.are in
@@ -264,6 +269,7 @@ closes-alike asked also h k refuses message rdl header session status said text 
 abbrev pub AgreeWhere : (silent : Type 0) → Output → Output → Type 0
 AgreeWhere silent out other = (out.rdl ≡ other.rdl) × (out.header ≡ other.header) × (silent → out.status ≡ other.status)
 
+-- runs of one script from alike histories
 pub runs-alike : (asked also : Bool) (h k : History') (script : List ℕ) (out other : Output) → AreAlike h k → Runs asked h script out → Runs also k script other
     → AgreeWhere ((asked ≡ false) × (also ≡ false)) out other
 runs-alike asked also h k script out other a r q =
@@ -275,6 +281,7 @@ runs-alike asked also h k script out other a r q =
         ran.0 closes q.closes in
     (end.0, end.1, λ e. end.2 e.0 e.1)
 
+-- runs of the same inputs
 pub outputs-agree : (options : Options) (map script : List ℕ) (out other : Output) → IsOutput options map script out → IsOutput options map script other
     → AgreeWhere (options.session ≡ false) out other
 outputs-agree options map script out other (inl r) (inl q) = (r.rdl ∙ sym q.rdl, r.header ∙ sym q.header, λ e. r.status ∙ sym q.status)

@@ -28,9 +28,11 @@ use Rattle.rdl_run.specs.Sessions.{ReadsSession, OpensSession, IsNoSession, Faul
 
 -- ---- What is found is one, and is found or isn't.
 
+-- an answer is one
 pub ok-once : {X E : Type 0} (r : Result X E) (x y : X) → r ≡ Ok x → r ≡ Ok y → x ≡ y
 ok-once r x y h k = cc
 
+-- it isn't both an answer and a fault
 pub ok-or-err : {X E : Type 0} (r : Result X E) (x : X) (e : E) → r ≡ Ok x → r ≡ Err e → ⊥
 ok-or-err r x e h k = cc
 
@@ -42,6 +44,7 @@ true-or-false b h k = cc
 same-words : (text : List ℕ) (ws us : List Word) → HasWords text ws → HasWords text us → ws ≡ us
 same-words text ws us h k = ok-once (words text) ws us h.cut k.cut
 
+-- bytes are read as one map
 pub map-once : (bytes : List ℕ) (d e : Items) (p q : Located) → ReadsMap bytes d p → ReadsMap bytes e q → d ≡ e
 map-once bytes d e p q r t =
     let s = r.spelled in
@@ -49,6 +52,7 @@ map-once bytes d e p q r t =
     let same = same-words bytes s.ws u.ws s.has_words u.has_words in
     (one-spelled (symbols u.ws) d e s.spots u.spots (subst (λ ws. Spells (symbols ws) d s.spots) same s.spelled) u.spelled).0
 
+-- or as the items of one statement
 pub statement-once : (bytes : List ℕ) (xs ys : List Item) → ReadsItems bytes xs → ReadsItems bytes ys → xs ≡ ys
 statement-once bytes xs ys r t =
     let s = r.spelled in
@@ -69,12 +73,14 @@ module _ {X : Type 0} (spells : List Symbol → X → Type 0) (within : X → Ty
   no-fault TooDeep w s i h = spells-some _ w s i h
   no-fault TooLarge w s i h = spells-some _ w s i h
 
+-- what is read as a map isn't refused
 pub map-or-fault : (bytes : List ℕ) (d : Items) (p : Located) (fault : ParseFault) → ReadsMap bytes d p → RefusesMap bytes fault → ⊥
 map-or-fault bytes d p fault r (inl n) = n.no_text r.text
 map-or-fault bytes d p fault r (inr f) =
     let s = r.spelled in
     no-fault SpellsSomewhere IsWithinLimits bytes fault.offset s.ws d fault.kind s.has_words (s.spots, s.spelled) r.is_within f.refused
 
+-- nor is what is read as a statement
 pub statement-or-fault : (bytes : List ℕ) (xs : List Item) (fault : ParseFault) → ReadsItems bytes xs → RefusesItems bytes fault → ⊥
 statement-or-fault bytes xs fault r (inl n) = n.no_text r.text
 statement-or-fault bytes xs fault r (inr f) =
@@ -94,6 +100,7 @@ module _ (option : Option (List ℕ)) (limit : ℕ) (bytes : List ℕ) where
       → (d ≡ e) × (undo ≡ others) × (redo ≡ ahead)
   session-once d e undo redo others ahead r q = one-session bytes d e undo redo others ahead r.spelled q.spelled
 
+  -- the same bytes open the same history
   pub opened-agree : (h k : History') → OpensHistory option limit bytes h → OpensHistory option limit bytes k → h ≡ k
   opened-agree h k (inl o) (inl q) = o.opened ∙ ap (one_map limit) (state-once o.first q.first o.opens q.opens) ∙ sym q.opened
   opened-agree h k (inl o) (inr q) = absurd (true-or-false (is_session bytes) q.named o.unnamed)
@@ -116,6 +123,7 @@ module _ (option : Option (List ℕ)) (limit : ℕ) (bytes : List ℕ) where
       let same = session-once o.description f.description o.undo o.redo f.undo f.redo o.read f.read in
       none-some fault (sym o.faultless ∙ (λ i. session_fault option (same.0 i) (same.1 i) (same.2 i)) ∙ f.first)
 
+  -- and aren't refused
   pub opened-or-not : (h : History') (message : List ℕ) → OpensHistory option limit bytes h → RefusesToOpen option bytes message → ⊥
   opened-or-not h message (inl o) (inl r) = map-or-not h message o r.refused
   opened-or-not h message (inl o) (inr r) = true-or-false (is_session bytes) r.named o.unnamed
