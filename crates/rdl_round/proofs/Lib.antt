@@ -32,3 +32,4 @@ pub mod Standing
 pub mod SameOption
 pub mod OpenedAgain
 pub mod SavedRuns
+pub mod GoneOn

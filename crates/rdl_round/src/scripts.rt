@@ -1,5 +1,5 @@
 //! Laws of what the lines of a script bring, and so of the maps to which a script leads.
-ghost use Rattle.std.specs.Prelude.{◌≡◌, ◌≤◌, ℕ, Bool, true, false, List, length, Option, Ok, All, IsUtf8};
+ghost use Rattle.std.specs.Prelude.{◌≡◌, ◌≤◌, ◌++◌, ℕ, Bool, true, false, List, length, Option, Ok, All, IsUtf8};
 ghost use Rattle.journal_core.specs.History.{History, IsAt};
 ghost use Rattle.rdl_tree.specs.View.{items_of};
 ghost use Rattle.rdl_tree.specs.declared.description.Item.{Item};
@@ -10,11 +10,12 @@ ghost use Rattle.rdl_parse.specs.Places.{Located};
 ghost use Rattle.rdl_rewrite.specs.declared.edit.Edit.{Edit};
 ghost use Rattle.rdl_rewrite.specs.declared.edit.Edit.TheVariants.{Add};
 ghost use Rattle.rdl_rewrite.specs.declared.place.Place.{Place};
+ghost use Rattle.rdl_write.specs.Texts.{newline};
 ghost use Rattle.rdl_edit.specs.Step.{State};
 ghost use Rattle.rdl_script.specs.Commands.{edit, add, command_of, lines_of};
 ghost use Rattle.rdl_run.specs.Answers.{Serves};
 ghost use Rattle.rdl_run.specs.Opening.{OpensHistory, EachElaborates};
-ghost use Rattle.rdl_run.specs.Output.{Output, RunsScript};
+ghost use Rattle.rdl_run.specs.Output.{Output, RunsScript, IsOutput};
 ghost use Rattle.rdl_run.specs.Readings.{ReadsItems};
 ghost use Rattle.rdl_run.specs.Sessions.{is_session};
 ghost use Rattle.rdl_run.specs.declared.run.Options.{Options};
@@ -83,4 +84,12 @@ pub fn saved_sessions_read_back()
     ensures opened { (options : Options) (map script : List ℕ) (out : Output) (ran : RunsScript options map script out) → is_session map ≡ false → options.session ≡ true
         → ran.runs.closes.no_session ≡ false → IsUtf8 out.session → (limit : ℕ)
         → OpensHistory options.top limit out.session (record { limit = limit; states = ran.runs.last.states; place = ran.runs.last.place; own = false }) }
+{}
+
+/// A run of a map that stops, and another that goes on from its session with the same top and history, leave the map and the
+/// header that one run of both scripts leaves.
+pub fn stopped_runs_go_on()
+    ensures { (options again : Options) (map script more : List ℕ) (out later whole : Output) (ran : RunsScript options map script out) → again.top ≡ options.top → again.history ≡ options.history
+        → is_session map ≡ false → options.session ≡ true → ran.runs.closes.no_session ≡ false → IsUtf8 out.session
+        → IsOutput again out.session more later → IsOutput again map (script ++ newline ++ more) whole → (later.rdl ≡ whole.rdl) × (later.header ≡ whole.header) }
 {}

@@ -1,8 +1,10 @@
+pub mod Agreeing
 pub mod Closings
 pub mod Continued
 pub mod Histories
 pub mod Leading
 pub mod Opened
+pub mod OpenedOnce
 pub mod Openings
 pub mod Pieces
 pub mod Rebuilding

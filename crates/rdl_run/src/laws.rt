@@ -1,5 +1,5 @@
 //! Laws of runs, as contracts of functions that do nothing.
-ghost use Rattle.std.specs.Prelude.{ℕ, List, Option};
+ghost use Rattle.std.specs.Prelude.{◌≡◌, ℕ, false, List, Option};
 ghost use Rattle.rdl_run.specs.Answers.{History'};
 ghost use Rattle.rdl_run.specs.Opening.{OpensHistory, EachElaborates};
 ghost use Rattle.rdl_run.specs.Output.{Output, IsOutput};
@@ -13,4 +13,11 @@ pub fn each_run_has_an_output()
 /// Each place of a history that is opened has a map that elaborates.
 pub fn each_opened_place_elaborates()
     ensures { (option : Option (List ℕ)) (limit : ℕ) (bytes : List ℕ) (first : History') → OpensHistory option limit bytes first → EachElaborates first }
+{}
+
+/// The map and the header that a run leaves are a matter of its map or session and its script alone, whichever fault is told of
+/// a text that has several. So is its status, where no session is asked for.
+pub fn runs_agree()
+    ensures files { (options : Options) (map script : List ℕ) (out other : Output) → IsOutput options map script out → IsOutput options map script other → (out.rdl ≡ other.rdl) × (out.header ≡ other.header) }
+    ensures status { (options : Options) (map script : List ℕ) (out other : Output) → options.session ≡ false → IsOutput options map script out → IsOutput options map script other → out.status ≡ other.status }
 {}
