@@ -1,5 +1,5 @@
 -- A run of a map that stops, and one that goes on from its session, leave the files of one run of both scripts.
-use Rattle.std.proofs.Common.{◌≡◌, ℕ, ◌+◌, ◌<◌, Bool, true, false, cond, nat_eq, List, [], ◌∷◌, ◌++◌, length, Option, IsUtf8, inl, inr, refl, sym, ap, ◌∙◌, subst, arith}
+use Rattle.std.proofs.Common.{◌≡◌, ℕ, ◌<◌, Bool, true, false, cond, nat_eq, List, [], ◌∷◌, ◌++◌, length, Option, IsUtf8, inl, inr, refl, sym, ap, ◌∙◌, subst, arith}
 use Rattle.std.specs.List.{onto_first}
 use Rattle.std.proofs.lemmas.List.Splits.{length-slice_split}
 use Rattle.journal_core.specs.History.{History}
@@ -28,14 +28,15 @@ first-longer c (first ∷ ls) ms l = refl
 
 lines-joined : (script more : List ℕ) → lines_of (script ++ newline ++ more) ≡ lines_of script ++ lines_of more
 lines-joined [] more = refl
-lines-joined (c ∷ cs) more = by (nat_eq c 10)
+lines-joined (c ∷ cs) more = by (nat_eq c 10) (lines-joined cs more)
   where
     some : 0 < length (lines_of cs)
     some = omega (arith, length-slice_split (λ x. nat_eq x 10) cs)
 
-    by : (b : Bool) → cond b ([] ∷ lines_of (cs ++ newline ++ more)) (onto_first c (lines_of (cs ++ newline ++ more))) ≡ cond b ([] ∷ lines_of cs) (onto_first c (lines_of cs)) ++ lines_of more
-    by true = ap (λ (ls : List (List ℕ)). [] ∷ ls) (lines-joined cs more)
-    by false = ap (onto_first c) (lines-joined cs more) ∙ first-longer c (lines_of cs) (lines_of more) some
+    by : (b : Bool) → lines_of (cs ++ newline ++ more) ≡ lines_of cs ++ lines_of more
+        → cond b ([] ∷ lines_of (cs ++ newline ++ more)) (onto_first c (lines_of (cs ++ newline ++ more))) ≡ cond b ([] ∷ lines_of cs) (onto_first c (lines_of cs)) ++ lines_of more
+    by true rest = ap (λ (ls : List (List ℕ)). [] ∷ ls) rest
+    by false rest = ap (onto_first c) rest ∙ first-longer c (lines_of cs) (lines_of more) some
 
 -- a run of lines in two parts
 record Parted (old new : History State) (ls ms : List (List ℕ)) : Type 0 where
