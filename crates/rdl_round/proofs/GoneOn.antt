@@ -87,7 +87,7 @@ same-files : (asked also : Bool) (h k : History State) (refuses other : Bool) (m
     → AreAlike h k → Closes asked h refuses message rdl header session status → Closes also k other said text macros saved answer → (rdl ≡ text) × (header ≡ macros)
 same-files asked also h k refuses other message rdl header session status said text macros saved answer a c d =
     let both = closes-alike asked also h k refuses message rdl header session status said text macros saved (status_of refuses d.no_header d.no_session) a c
-        (answered also k other refuses said text macros saved answer d) in
+    (answered also k other refuses said text macros saved answer d) in
     (both.0, both.1)
 
 -- ---- A run that goes on.

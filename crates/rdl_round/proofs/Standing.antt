@@ -82,7 +82,6 @@ replace-good n x b below g = set-holds IsGoodItem (list_of b) n x below (list-go
 
 -- ---- The one body that an edit changes, in the new map.
 
-
 body-good : (d new b c : Items) (way : List ℕ) → body_at way d ≡ Some b → map_body way (λ _. c) d ≡ new → IsGood new → IsGood c
 body-good d new b c way here is g =
     let there : body_at way new ≡ Some c = subst (λ t. body_at way t ≡ Some c) is (body_at-map way (λ _. c) d b here) in
@@ -305,7 +304,7 @@ new-assignment d new way s p v m g =
 stands : (d new : Items) (e : Edit) (way : List ℕ) → find (path_of e) d ≡ Ok way → by_way (Ok way) d e ≡ Ok new → IsGood new → IsEditOfWords e × IsEditSpellable e
 stands d new (Add path place more) way f m g =
     let brought : IsGood more =
-        in-body d new way (edited_body d 0 (Add path place more)) (IsGood more) m g (λ b c e h. added-good d more b c (place_number place (list_of b)) (list_all is_component (list_of more)) e h) in
+    in-body d new way (edited_body d 0 (Add path place more)) (IsGood more) m g (λ b c e h. added-good d more b c (place_number place (list_of b)) (list_all is_component (list_of more)) e h) in
     (of-words more brought, spellable more brought)
 stands d new (Remove path) way f m g = (tt, tt)
 stands d new (Rename path name) way f m g = (renamed-name d new path name way f m g, tt)
@@ -322,8 +321,8 @@ stands d new (ClearOwn path p) way f m g = (tt, tt)
 stands d new (ClearDefault path p) way f m g = (tt, tt)
 stands d new (Assign path t p v) way f m g =
     let x : IsGoodItem (Dynamic t p v) =
-        in-body d new way (λ b. Ok (assigned t p v b)) (IsGoodItem (Dynamic t p v)) m g
-        (λ b c e h. assigned-good t p v b (subst IsGood (sym (same-made (assigned t p v b) c (Ok (assigned t p v b)) refl e)) h)) in
+    in-body d new way (λ b. Ok (assigned t p v b)) (IsGoodItem (Dynamic t p v)) m g
+    (λ b c e h. assigned-good t p v b (subst IsGood (sym (same-made (assigned t p v b) c (Ok (assigned t p v b)) refl e)) h)) in
     (x.0.0, tt)
 stands d new (Unassign path t p) way f m g = (tt, tt)
 

@@ -91,11 +91,13 @@ still-alike told h k new other b c a p q = (alike-moved h k new other a p.0 q.0,
 -- what is made in one history can be made in one that is alike
 made-too : (e : Edit) (h k m : History') → AreAlike h k → Made h e m → (n : History') × Made k e n
 made-too e h k m a made =
-    let r = made.made in
-    (after_edit k r.to, record {
-      room = omega (arith, made.room, a.place, a.limit);
-      made = record { from = r.from; to = r.to; stood = stands-too h k r.from a r.stood; led = r.led; edited = refl };
-    })
+    let r = made.made in (
+      after_edit k r.to,
+      record {
+        room = omega (arith, made.room, a.place, a.limit);
+        made = record { from = r.from; to = r.to; stood = stands-too h k r.from a r.stood; led = r.led; edited = refl };
+      },
+    )
 
 -- and both lead to histories that are alike
 made-alike : (e : Edit) (h k m n : History') → AreAlike h k → Made h e m → Made k e n → AreAlike m n
@@ -253,8 +255,7 @@ pub closes-alike : (asked also : Bool) (h k : History') (refuses : Bool) (messag
 closes-alike asked also h k refuses message rdl header session status said text macros saved answer a c d =
     let now : c.now ≡ d.now = stands-once k c.now d.now (stands-too h k c.now a c.at) d.at in
     let heads : Heads d.now c.of_header header c.no_header = subst (λ s. Heads s c.of_header header c.no_header) now c.heads in
-    let head = heads-once d.now c.of_header header d.of_header macros c.no_header d.no_header heads d.heads in
-    (
+    let head = heads-once d.now c.of_header header d.of_header macros c.no_header d.no_header heads d.heads in (
       c.rdl_is ∙ ap (λ (s : State). map_text s.description) now ∙ sym d.rdl_is,
       head.0,
       λ e f.
@@ -278,7 +279,7 @@ runs-alike asked also h k script out other a r q =
     let closes : Closes asked r.last q.refuses r.message out.rdl out.header out.session out.status =
     subst (λ b. Closes asked r.last b r.message out.rdl out.header out.session out.status) same r.closes in
     let end = closes-alike asked also r.last q.last q.refuses r.message out.rdl out.header out.session out.status q.message other.rdl other.header other.session other.status
-        ran.0 closes q.closes in
+    ran.0 closes q.closes in
     (end.0, end.1, λ e. end.2 e.0 e.1)
 
 -- runs of the same inputs

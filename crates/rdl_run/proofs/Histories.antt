@@ -93,7 +93,7 @@ module _ (old new : History') (g : EachElaborates old) where
   good-same e = subst EachElaborates (sym e) g
 
   good-made : (e : Edit) → Made old e new → EachElaborates new
-  good-made e m = subst EachElaborates (sym m.made.edited) 
+  good-made e m = subst EachElaborates (sym m.made.edited)
       (good-after old m.made.from m.made.to g (steps m.made.from e m.made.to m.made.led).rows m.made.stood (record { edit = e; led = m.made.led }))
 
   good-edit : (e : Edit) (r : Said) → AnswersEdit old e r new → EachElaborates new

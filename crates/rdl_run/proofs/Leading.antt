@@ -84,8 +84,7 @@ one-on false ss rows edited n l = lead-along ss rows n (suc n) (omega (arith, l)
 one-on true ss rows edited n l =
     let a = state-at ss n rows (omega (arith, l)) in
     let b = state-at ss (suc n) rows l in
-    let e = edit-between ss n a.now b.now (edited refl) a.at b.at in
-    (
+    let e = edit-between ss n a.now b.now (edited refl) a.at b.at in (
       patches a.now.description e.edit,
       record {
         start = a.now;
@@ -107,8 +106,7 @@ one-back true ss rows edited n l =
     let e = edit-between ss n a.now b.now (edited refl) a.at b.at in
     let ps = patches a.now.description e.edit in
     let back = inverses ps a.now.description in
-    let to : b.now.description ≡ image ps a.now.description = ap (λ (s : State). s.description) (edit-leads a.now e.edit b.now a.rows e.led) in
-    (
+    let to : b.now.description ≡ image ps a.now.description = ap (λ (s : State). s.description) (edit-leads a.now e.edit b.now a.rows e.led) in (
       back,
       record {
         start = b.now;

@@ -19,7 +19,7 @@ steps-preserved c =
     subst (λ n. j.own ≡ true → LeadsBetween prior IsOwn j.states (j.place + n) (j.place + n + 1) step) turns c.in-Some.ensures.own in
     let seen : x.now ≡ step.patches = search rules in
     let led : LeadsAlong j.own j.states (j.place + length xs) (j.place + length xs + 1) x.now = subst (LeadsAlong j.own j.states (j.place + length xs) (j.place + length xs + 1)) (sym seen)
-        (along j.own j.states (j.place + length xs) (j.place + length xs + 1) step leads own) in
+    (along j.own j.states (j.place + length xs) (j.place + length xs + 1) step leads own) in
     let room : j.place + length xs + 1 < length j.states = search rules in
     record {
       few = omega (arith, ap length pushed, length-append xs (x ∷ []), room);
