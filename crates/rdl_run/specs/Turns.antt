@@ -1,5 +1,5 @@
 -- How often a reader and a writer are asked. Own.
-use Rattle.std.specs.Prelude.{◌≡◌, ◌≤◌, ◌<◌, ◌+◌, ◌-◌, ◌^◌, ℕ, true, false, List, length, take, min, Option}
+use Rattle.std.specs.Prelude.{◌≡◌, ◌⊎◌, ◌≤◌, ◌<◌, ◌+◌, ◌-◌, ◌^◌, ℕ, true, false, List, length, take, min, Option}
 use Rattle.std.specs.Io.KnownBytes.{Appends, Keeps}
 use Rattle.rdl_run.specs.declared.counted.Counts.{Counts}
 use Rattle.rdl_run.specs.declared.counted.Outcome.{Outcome}
@@ -19,6 +19,10 @@ Counted old new Ended = new ≡ record old { ended = true }
 pub record IsOpen (counts : Counts) : Type 0 where
   pub unended : counts.ended ≡ false
   pub few : counts.interrupts ≤ most_interrupts
+
+-- one of the four outputs has ended
+abbrev pub HasEnded : (messages rdl header session : Counts) → Type 0
+HasEnded messages rdl header session = (messages.ended ≡ true) ⊎ (rdl.ended ≡ true) ⊎ (header.ended ≡ true) ⊎ (session.ended ≡ true)
 
 -- what it wrote of these bytes
 abbrev pub WritesOnce : (old new : Option (List ℕ)) → List ℕ → Outcome → Type 0

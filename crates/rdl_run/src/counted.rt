@@ -1,5 +1,5 @@
 //! Readers and writers that are asked through a count.
-ghost use Rattle.std.specs.Prelude.{◌≡◌, ◌≤◌, ◌<◌, ◌+◌, ◌^◌, false};
+ghost use Rattle.std.specs.Prelude.{◌≡◌, ◌≤◌, ◌<◌, ◌+◌, ◌^◌, false, OnOk};
 ghost use Rattle.std.specs.Io.{ReadsAtMost};
 ghost use Rattle.std.specs.Io.KnownBytes.{ReadConsumes};
 ghost use Rattle.rdl_run.specs.Turns.{Counted, IsOpen, WritesOnce};
@@ -8,30 +8,48 @@ use crate::status::MOST_INTERRUPTS;
 use std::io;
 use std::io::{ErrorKind, Read, Write};
 
-/// A reader, and how often it was asked.
+/// A reader, how often it was asked, and whether a read has failed.
 #[derive(Drop)]
 pub(crate) struct CountedReader<'a, R> {
     reader: &'a mut R,
     reads: usize,
+    failed: bool,
 }
 
 impl<'a, R: Read> CountedReader<'a, R> {
     pub(crate) fn new(reader: &'a mut R) -> CountedReader<'a, R>
-        ensures { result ≡ record { reader = reader.entry; reads = 0 } }
+        ensures { result ≡ record { reader = reader.entry; reads = 0; failed = false } }
     {
-        CountedReader { reader, reads: 0 }
+        CountedReader {
+            reader,
+            reads: 0,
+            failed: false,
+        }
     }
 
-    /// Asks the reader once.
+    pub(crate) fn has_failed(&self) -> bool
+        ensures { result ≡ self.now.failed }
+    {
+        self.failed
+    }
+
+    /// Asks the reader once. The read has failed if it answers an error that is no interruption.
     pub(crate) fn read(&mut self, buffer: &mut [u8]) -> io::Result<usize>
         requires room { self.old.reads + 1 < 2 ^ 64 }
         ensures bound { ReadsAtMost result buffer.new }
         ensures bytes { ReadConsumes (R.remaining self.old.reader.now) (R.remaining self.new.reader.now) result buffer.new }
         ensures counted { self.new.reads ≡ self.old.reads + 1 }
+        ensures failed { OnOk result (self.new.failed ≡ self.old.failed) }
         ensures same_reference { self.new.reader.ghost_name ≡ self.old.reader.ghost_name }
     {
         self.reads += 1;
-        self.reader.read(buffer)
+        let answer = self.reader.read(buffer);
+        if let Err(e) = &answer {
+            if e.kind() != ErrorKind::Interrupted {
+                self.failed = true;
+            }
+        }
+        answer
     }
 }
 

@@ -1,5 +1,5 @@
 //! Reading an input whole.
-ghost use Rattle.std.specs.Prelude.{◌≡◌, ◌≢◌, ◌^◌, ◌<◌, ◌≤◌, ◌+◌, length, Err, IfOk, OnOk, IfSome, IsErrOf};
+ghost use Rattle.std.specs.Prelude.{◌≡◌, ◌≢◌, true, ◌^◌, ◌<◌, ◌≤◌, ◌+◌, length, Err, IfOk, OnOk, IfSome, IsErrOf};
 ghost use Rattle.std.specs.Io.KnownBytes.{IsAtEnd};
 ghost use Rattle.rdl_run.specs.Known.{Gives};
 ghost use Rattle.rdl_run.specs.declared.status.RunFault.{RunFault};
@@ -7,7 +7,7 @@ ghost use Rattle.rdl_run.specs.declared.status.RunFault.{RunFault};
 use crate::counted::CountedReader;
 use crate::status::{MOST_INTERRUPTS, RunFault};
 use std::alloc::Global;
-use std::io::{ErrorKind, Read};
+use std::io::Read;
 
 /// All the bytes of a reader that wasn't asked before.
 pub(crate) fn read_counted<R: Read>(
@@ -22,6 +22,7 @@ pub(crate) fn read_counted<R: Read>(
     ensures bound { IfOk result (λ bytes. length bytes.items ≤ limit) }
     ensures too_long { IsErrOf result RunFault.TooLong → IfSome (R.remaining input.old.reader.now) (λ xs. limit < length xs) }
     ensures no_write { result ≢ Err RunFault.Write }
+    ensures failed { IsErrOf result RunFault.Read → input.new.failed ≡ true }
     ensures reads { input.new.reads ≤ limit + 1001 }
     ensures same_reference { input.new.reader.ghost_name ≡ input.old.reader.ghost_name }
 {
@@ -39,8 +40,8 @@ pub(crate) fn read_counted<R: Read>(
                     return Err(RunFault::Memory);
                 }
             }
-            Err(e) => {
-                if e.kind() != ErrorKind::Interrupted {
+            Err(_) => {
+                if input.has_failed() {
                     return Err(RunFault::Read);
                 }
                 if interrupts == MOST_INTERRUPTS {

@@ -1,5 +1,5 @@
 //! Writing a text whole.
-ghost use Rattle.std.specs.Prelude.{◌≡◌, ◌≤◌, ◌+◌, length, OnOk, OnErr, IsOkUnless};
+ghost use Rattle.std.specs.Prelude.{◌≡◌, ◌≤◌, ◌+◌, true, length, OnOk, OnErr, IsOkUnless};
 ghost use Rattle.std.specs.Io.KnownBytes.{Appends};
 ghost use Rattle.rdl_run.specs.Known.{AppendsFront};
 ghost use Rattle.rdl_run.specs.Turns.{IsOpen};
@@ -18,6 +18,7 @@ pub(crate) fn write_counted<W: Write>(
     ensures ok { OnOk result (Appends (W.contents output.old.writer.now) (W.contents output.new.writer.now) bytes.now) }
     ensures err { OnErr result (AppendsFront (W.contents output.old.writer.now) (W.contents output.new.writer.now) bytes.now) }
     ensures fault { IsOkUnless result RunFault.Write }
+    ensures ended { OnErr result (output.new.counts.ended ≡ true) }
     ensures takes { output.new.counts.takes ≤ output.old.counts.takes + length bytes.now }
     ensures few { output.new.counts.interrupts ≤ 1000 }
     ensures asked { OnOk result (IsOpen output.new.counts) }

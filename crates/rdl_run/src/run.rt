@@ -1,9 +1,10 @@
 //! A whole run, from two inputs to four outputs.
-ghost use Rattle.std.specs.Prelude.{◌≡◌, ◌^◌, ◌<◌, ◌≤◌, length, IfOk, IfErr};
+ghost use Rattle.std.specs.Prelude.{◌≡◌, ◌≢◌, ◌⊎◌, ◌^◌, ◌<◌, ◌≤◌, true, length, Err, IfOk, IfErr, IsErrOf};
 ghost use Rattle.rdl_run.specs.Opening.{EachElaborates};
 ghost use Rattle.rdl_run.specs.Faulted.{Faulted, FaultedFrom};
 ghost use Rattle.rdl_run.specs.Output.{Ran, RanFrom};
-ghost use Rattle.rdl_run.specs.Turns.{IsOpen};
+ghost use Rattle.rdl_run.specs.Turns.{IsOpen, HasEnded};
+ghost use Rattle.rdl_run.specs.declared.status.RunFault.{RunFault};
 
 use crate::closing::Closing;
 use crate::counted::{CountedReader, CountedWriter};
@@ -56,6 +57,8 @@ fn run_script<R: Write, H: Write, Z: Write, E: Write>(
     ensures faulted { EachElaborates journal → IfErr result (FaultedFrom has_session journal script.now
         (record { messages = E.contents messages.old.writer.now; rdl = R.contents rdl.old.writer.now; header = H.contents header.old.writer.now; session = Z.contents session.old.writer.now })
         (record { messages = E.contents messages.new.writer.now; rdl = R.contents rdl.new.writer.now; header = H.contents header.new.writer.now; session = Z.contents session.new.writer.now })) }
+    ensures write_ended { IsErrOf result RunFault.Write → HasEnded messages.new.counts rdl.new.counts header.new.counts session.new.counts }
+    ensures no_read { result ≢ Err RunFault.Read }
     ensures few { messages.new.counts.interrupts ≤ 1000 }
     ensures rdl_few { rdl.new.counts.interrupts ≤ 1000 }
     ensures header_few { header.new.counts.interrupts ≤ 1000 }
@@ -97,6 +100,8 @@ fn run_counted<M: Read, S: Read, R: Write, H: Write, Z: Write, E: Write>(
     ensures faulted { IfErr result (Faulted options.now (M.remaining map.old.reader.now) (S.remaining script.old.reader.now)
         (record { messages = E.contents messages.old.writer.now; rdl = R.contents rdl.old.writer.now; header = H.contents header.old.writer.now; session = Z.contents session.old.writer.now })
         (record { messages = E.contents messages.new.writer.now; rdl = R.contents rdl.new.writer.now; header = H.contents header.new.writer.now; session = Z.contents session.new.writer.now })) }
+    ensures write_ended { IsErrOf result RunFault.Write → HasEnded messages.new.counts rdl.new.counts header.new.counts session.new.counts }
+    ensures read_failed { IsErrOf result RunFault.Read → (map.new.failed ≡ true) ⊎ (script.new.failed ≡ true) }
     ensures map_reads { map.new.reads ≤ 67109865 }
     ensures script_reads { script.new.reads ≤ 67109865 }
     ensures few { messages.new.counts.interrupts ≤ 1000 }

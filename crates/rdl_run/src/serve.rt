@@ -1,5 +1,5 @@
 //! One line of a script after another.
-ghost use Rattle.std.specs.Prelude.{◌≡◌, ◌⊎◌, ℕ, ◌≤◌, ◌<◌, ◌^◌, List, ◌∷◌, length, string_bytes, Err, IfOk, IfErr, OnOk, OnErr, IsOkUnless};
+ghost use Rattle.std.specs.Prelude.{◌≡◌, ◌⊎◌, ℕ, ◌≤◌, ◌<◌, ◌^◌, List, ◌∷◌, true, length, string_bytes, Err, IfOk, IfErr, OnOk, OnErr, IsErrOf, IsOkUnless};
 ghost use Rattle.std.specs.Io.KnownBytes.{Appends};
 ghost use Rattle.std.specs.List.{prefix_len};
 ghost use Rattle.std.specs.Option.{option_copied};
@@ -192,6 +192,7 @@ pub fn serve_all<E: Write>(
     ensures served { IfOk result (λ refused. (text : List ℕ) × (Serves journal.old (lines_of script.now) text refused journal.new) × (Appends (E.contents messages.old.writer.now) (E.contents messages.new.writer.now) text)) }
     ensures fault { IfErr result (λ fault. (fault ≡ RunFault.Memory) ⊎ (fault ≡ RunFault.Write)) }
     ensures stopped { IfErr result (StopsServing journal.old (lines_of script.now) (E.contents messages.old.writer.now) (E.contents messages.new.writer.now)) }
+    ensures ended { IsErrOf result RunFault.Write → messages.new.counts.ended ≡ true }
     ensures few { messages.new.counts.interrupts ≤ 1000 }
     ensures asked { OnOk result (IsOpen messages.new.counts) }
     ensures same_reference { messages.new.writer.ghost_name ≡ messages.old.writer.ghost_name }

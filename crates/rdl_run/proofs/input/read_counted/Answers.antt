@@ -3,7 +3,7 @@ use Rattle.std.specs.Io.KnownBytes.{Consumes}
 use Rattle.std.proofs.KnownBytes.{Consumes-trans, Consumes-kept}
 use Rattle.rdl_run.proofs.WholeInput.{all_read, over_limit}
 use Rattle.rdl_run.proofs.input.read_counted.Goals as goal
-use Rattle.rdl_run.proofs.input.read_counted.Goals.{in-Ok+else-n-limit+else-is_err, in-Err+else-ne+else-interrupts-eq-MOST_INTERRUPTS}
+use Rattle.rdl_run.proofs.input.read_counted.Goals.{in-Ok+else-n-limit+else-is_err, in-Err+else-has_failed+else-interrupts-eq-MOST_INTERRUPTS}
 
 pub returns-in-Ok-eq0-clause-bytes : goal.returns-in-Ok-eq0-clause-bytes
 returns-in-Ok-eq0-clause-bytes g c =
@@ -32,7 +32,7 @@ loop-turn-preserved g c =
         reads = search rules;
         same = search rules;
       }
-      | in-Err+else-ne+else-interrupts-eq-MOST_INTERRUPTS w ↦ record {
+      | in-Err+else-has_failed+else-interrupts-eq-MOST_INTERRUPTS w ↦ record {
         took = subst (λ kept. Consumes (remaining c.args.input.now.reader.now) (remaining c.read.new.self.reader.now) kept.items) (sym w.bytes-is)
             (Consumes-kept _ (remaining c.loop-turn.input.reader.now) _ _ c.loop-turn.invariant.took w.in-Err.ensures.bytes);
         small = search rules;
