@@ -1,4 +1,5 @@
 pub mod Arguments
 pub mod Kinds
+pub mod Meetings
 pub mod Plain
 pub mod Words

@@ -1,5 +1,5 @@
 -- What the words behind the program's name mean. Own; how `clap` finds arguments among words is of its own definitions.
-use Rattle.std.specs.Prelude.{◌≡◌, ◌≢◌, ◌⊎◌, ◌≤◌, ⊤, ℕ, List, [], ◌∷◌, Option, Some, is_some, option_map, true, codes, pos, string_bytes, IsSomeAnd, IfSome}
+use Rattle.std.specs.Prelude.{◌≡◌, ◌≢◌, ◌⊎◌, ◌≤◌, ⊤, ℕ, List, [], ◌∷◌, Option, Some, None, is_some, option_map, true, codes, pos, string_bytes, IsSomeAnd, IfSome}
 use Rattle.std.specs.Str.Parse.{signed_digits_value}
 use Rattle.clap.specs.Words.{Kinds, Row, Text, fault_of, first_of, kind_of, matches_of, one_of, takes, without_minus}
 use Rattle.clap.specs.Values.{IsSignedIn}
@@ -10,7 +10,9 @@ use Rattle.rdl_text.specs.Name.{IsName}
 use Rattle.command_line.specs.Arguments.{regedit_command}
 use Rattle.command_line.specs.declared.line.Line.{Line}
 use Rattle.command_line.specs.declared.line.LineFault.{LineFault}
-use Rattle.command_line.specs.declared.line.LineFault.TheVariants.{Help, Refused, BadTop, Memory}
+use Rattle.command_line.specs.declared.line.LineFault.TheVariants.{Help, Refused, BadTop, Meets, Memory}
+use Rattle.command_line.specs.declared.meeting.Meeting.{Meeting}
+use Rattle.command_line.specs.Meetings.{meeting_in}
 
 -- the arguments that are found among the words, each with its values
 abbrev pub found : List Text → List Row
@@ -70,23 +72,38 @@ HasBadTop rows = IsSomeAnd (value (codes "top") rows) (λ name. ¬ (IsName name)
 abbrev pub AreBadAtTop : List Text → Type 0
 AreBadAtTop words = (mistakes words ≡ []) × HasBadTop (found words)
 
+-- two of their paths lead to one file, as far as they tell, and nothing else is wrong
+abbrev pub Meet : List Text → Meeting → Type 0
+Meet words meeting = (mistakes words ≡ []) × (meeting_in (found words) ≡ Some meeting)
+
 -- the words give what the fault says
 abbrev pub Refuses : List Text → LineFault → Type 0
 Refuses words (Help error) = (kind_of error ≡ DisplayHelp) × AskForHelp words
 Refuses words (Refused error) = (kind_of error ≢ DisplayHelp) × (mistakes words ≡ kind_of error ∷ [])
 Refuses words BadTop = AreBadAtTop words
+Refuses words (Meets meeting) = Meet words meeting
 Refuses words Memory = ⊤
 
--- what a fault behind `clap` says of the top
+-- what a fault says of the top
 abbrev pub RefusesTop : List Row → LineFault → Type 0
 RefusesTop rows BadTop = HasBadTop rows
+RefusesTop rows (Meets meeting) = ⊥
 RefusesTop rows Memory = ⊤
 RefusesTop rows (Help error) = ⊥
 RefusesTop rows (Refused error) = ⊥
 
+-- what a fault behind `clap` says of what is found
+abbrev pub RefusesFound : List Row → LineFault → Type 0
+RefusesFound rows BadTop = HasBadTop rows
+RefusesFound rows (Meets meeting) = meeting_in rows ≡ Some meeting
+RefusesFound rows Memory = ⊤
+RefusesFound rows (Help error) = ⊥
+RefusesFound rows (Refused error) = ⊥
+
 -- a fault of words that `clap` takes
 abbrev pub IsBehindClap : LineFault → Type 0
 IsBehindClap BadTop = ⊤
+IsBehindClap (Meets meeting) = ⊤
 IsBehindClap Memory = ⊤
 IsBehindClap (Help error) = ⊥
 IsBehindClap (Refused error) = ⊥

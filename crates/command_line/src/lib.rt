@@ -4,4 +4,5 @@
 mod arguments;
 pub mod laws;
 pub mod line;
+pub mod meeting;
 pub mod words;

@@ -1,4 +1,5 @@
 //! What a command line asks for, and why it asks for nothing.
+use crate::meeting::Meeting;
 use clap::Error;
 use clap::error::ErrorKind;
 use rdl_text::name::Name;
@@ -32,6 +33,8 @@ pub enum LineFault {
     Refused(Error),
     /// L3: the name of the top is no identifier of at most 255 bytes.
     BadTop,
+    /// L5: two of the paths lead to one file, as far as the words tell.
+    Meets(Meeting),
     /// L4: no memory.
     Memory,
 }

@@ -1,11 +1,13 @@
 //! From words to a line.
-ghost use Rattle.std.specs.Prelude.{◌≡◌, List, [], Some, map, codes, is_some, true, string_bytes, IfOk, IfErr, IfSome, MatchResult, OnOk, option_map};
+ghost use Rattle.std.specs.Prelude.{◌≡◌, List, [], Some, None, map, codes, is_some, true, string_bytes, IfOk, IfErr, IfSome, MatchResult, OnOk, option_and_then, option_map};
 ghost use Rattle.clap.specs.Words.{found_of, kind_of, rows_of};
 ghost use Rattle.rdl_text.specs.Name.{IsName};
-ghost use Rattle.command_line.specs.Words.{AreTaken, HasHistory, IsBehindClap, IsWhole, Means, NumbersHistory, Refuses, RefusesTop, Tells, found, mistakes, value};
+ghost use Rattle.command_line.specs.Meetings.{file_named, meeting_of};
+ghost use Rattle.command_line.specs.Words.{AreTaken, HasHistory, IsBehindClap, IsWhole, Means, NumbersHistory, Refuses, RefusesFound, RefusesTop, Tells, found, mistakes, value};
 
 use crate::arguments::command;
 use crate::line::{Line, LineFault};
+use crate::meeting::{Meeting, file_named, meeting_at};
 use clap::error::ErrorKind;
 use clap::{ArgMatches, Error};
 use rdl_text::name::{Name, NameFault};
@@ -59,7 +61,29 @@ fn session_of(alloc: Global, matches: &ArgMatches<'_>) -> Result<Option<String>,
     Ok(Some(String::from_str(alloc, text)?))
 }
 
-fn line_of(alloc: Global, matches: &ArgMatches<'_>) -> Result<Line, LineFault>
+fn session_named(line: &Line) -> Option<&str>
+    ensures { option_map (λ t. t.now) result ≡ option_and_then file_named (option_map string_bytes line.now.session) }
+{
+    match &line.session {
+        Some(path) => file_named(path.as_str()),
+        None => None,
+    }
+}
+
+/// What a run of the line would write over, as far as its words tell.
+fn meeting_of(line: &Line) -> Option<Meeting>
+    ensures { result ≡ meeting_of line.now }
+{
+    meeting_at(
+        file_named(line.map.as_str()),
+        file_named(line.script.as_str()),
+        file_named(line.rdl.as_str()),
+        file_named(line.header.as_str()),
+        session_named(line),
+    )
+}
+
+fn read_line(alloc: Global, matches: &ArgMatches<'_>) -> Result<Line, LineFault>
     requires { IsWhole (rows_of (found_of matches.now)) }
     ensures ok { IfOk result (Means (rows_of (found_of matches.now))) }
     ensures fault { IfErr result (RefusesTop (rows_of (found_of matches.now))) }
@@ -76,9 +100,23 @@ fn line_of(alloc: Global, matches: &ArgMatches<'_>) -> Result<Line, LineFault>
     })
 }
 
+fn line_of(alloc: Global, matches: &ArgMatches<'_>) -> Result<Line, LineFault>
+    requires { IsWhole (rows_of (found_of matches.now)) }
+    ensures ok { IfOk result (Means (rows_of (found_of matches.now))) }
+    ensures apart { IfOk result (λ line. meeting_of line ≡ None) }
+    ensures fault { IfErr result (RefusesFound (rows_of (found_of matches.now))) }
+{
+    let line = read_line(alloc, matches)?;
+    match meeting_of(&line) {
+        Some(meeting) => Err(LineFault::Meets(meeting)),
+        None => Ok(line),
+    }
+}
+
 /// Reads the words behind the program's name.
 pub fn line<'a>(alloc: Global, words: &'a [&'a str]) -> Result<Line, LineFault>
     ensures ok { IfOk result (Means (found (map (λ w. w.now) words.entry.now))) }
+    ensures apart { IfOk result (λ line. meeting_of line ≡ None) }
     ensures well { OnOk result (mistakes (map (λ w. w.now) words.entry.now) ≡ []) }
 
     // Each fault has its reason in the words, but want of memory.

@@ -1,6 +1,7 @@
 -- The exit status of the program. Own.
-use Rattle.std.specs.Prelude.{◌≡◌, ◌⊎◌, ℕ, ◌≤◌, List}
-use Rattle.command_line.specs.Words.{AreBadAtTop, AreMistaken}
+use Rattle.std.specs.Prelude.{◌≡◌, ◌⊎◌, ℕ, ◌≤◌, List, []}
+use Rattle.command_line.specs.Words.{AreBadAtTop, AreMistaken, Meet, mistakes}
+use Rattle.command_line.specs.declared.meeting.Meeting.{Meeting}
 use Rattle.command_line.specs.declared.line.LineFault.{LineFault}
 use Rattle.command_line.specs.declared.line.LineFault.TheVariants as line_faults
 use Rattle.regedit.specs.declared.command.Failure.{Failure}
@@ -18,17 +19,27 @@ abbrev pub failure_code : Failure → ℕ
 failure_code (failures.Fault fault) = 4
 failure_code failures.BadCommandLine = 5
 failure_code failures.BadTop = 5
+failure_code (failures.Meets meeting) = 5
 
 -- how the program ends where the words are no command line; help may find no memory, or be cut off
 abbrev pub Ends : LineFault → ℕ → Type 0
 Ends (line_faults.Help help) n = (n ≡ 0) ⊎ (n ≡ 4)
 Ends (line_faults.Refused mistake) n = n ≡ 5
 Ends line_faults.BadTop n = n ≡ 5
+Ends (line_faults.Meets meeting) n = n ≡ 5
 Ends line_faults.Memory n = n ≡ 4
 
--- the words have a mistake, or they have none and the name of the top is bad
+-- two of the paths that the words give lead to one file, as far as they tell, and nothing else is wrong
+abbrev pub DoMeet : List (List ℕ) → Type 0
+DoMeet words = (meeting : Meeting) × Meet words meeting
+
+-- the words have a mistake, or they have none and the name of the top is bad, or two of their paths meet
 abbrev pub AreRefused : List (List ℕ) → Type 0
-AreRefused words = AreMistaken words ⊎ AreBadAtTop words
+AreRefused words = AreMistaken words ⊎ AreBadAtTop words ⊎ DoMeet words
+
+-- nothing is wrong with the words alone
+abbrev pub AreWell : List (List ℕ) → Type 0
+AreWell words = mistakes words ≡ []
 
 abbrev pub IsExit : ℕ → Type 0
 IsExit n = n ≤ 5

@@ -2,6 +2,8 @@
 #![tactic(auto)]
 
 mod command;
+mod files;
+mod paths;
 #[cfg(test)]
 mod tests;
 

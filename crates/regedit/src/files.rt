@@ -1,0 +1,252 @@
+//! A run over files: they are read whole before it, and replaced whole behind it.
+ghost use Rattle.std.specs.Prelude.{◌≡◌, IfOk, map};
+ghost use Rattle.regedit.specs.Files.{files_of, seen};
+
+use crate::paths::Paths;
+use rdl_run::run::{Options, run};
+use rdl_run::status::{RunFault, Status};
+use std::alloc::{AllocError, Global};
+use std::fmt;
+use std::fs::File;
+use std::io;
+use std::io::{ErrorKind, Write};
+use std::rt::Files;
+use whole_files::noted::{NotedReader, NotedWriter};
+use whole_files::output::{Output, write_whole};
+
+/// What can't be done with a file.
+#[derive(Clone, Copy, Debug, PartialEq, Eq, Drop)]
+pub(crate) enum Action {
+    Read,
+    Write,
+}
+
+impl fmt::Display for Action {
+    fn fmt<W: fmt::Write>(&self, f: &mut fmt::Formatter<W>) -> fmt::Result {
+        f.write_str(match self {
+            Action::Read => "read",
+            Action::Write => "write",
+        })
+    }
+}
+
+/// Why something can't be done with a file.
+#[derive(Debug, Drop)]
+pub(crate) enum Reason {
+    /// What the system says.
+    System(io::Error),
+    /// It has more bytes than an input may have.
+    TooLong,
+}
+
+/// At which file a run stopped, and why.
+#[derive(Debug, Drop)]
+pub(crate) struct Obstacle<'a> {
+    action: Action,
+    path: &'a str,
+    reason: Reason,
+}
+
+impl fmt::Display for Obstacle<'_> {
+    fn fmt<W: fmt::Write>(&self, f: &mut fmt::Formatter<W>) -> fmt::Result {
+        write!(f, "regedit: cannot {} {}: ", self.action, self.path)?;
+        match &self.reason {
+            Reason::System(error) => write!(f, "{error}"),
+            Reason::TooLong => f.write_str("more than 67108864 bytes"),
+        }
+    }
+}
+
+/// Why a run stopped, and at which file, where it is one.
+#[derive(Debug, Drop)]
+pub(crate) struct Stop<'a> {
+    pub(crate) fault: RunFault,
+    pub(crate) obstacle: Option<Obstacle<'a>>,
+}
+
+impl<'a> Stop<'a> {
+    fn at(fault: RunFault, action: Action, path: &'a str, error: io::Error) -> Stop<'a> {
+        let reason = Reason::System(error);
+        let obstacle = Obstacle {
+            action,
+            path,
+            reason,
+        };
+        Stop {
+            fault,
+            obstacle: Some(obstacle),
+        }
+    }
+}
+
+/// The greatest map or session and the greatest script, in bytes.
+const MOST_BYTES: u64 = 67_108_864;
+
+fn open_input<'a, R: Files>(
+    rt: &R,
+    path: &'a str,
+) -> Result<NotedReader<R::File>, Stop<'a>> {
+    match File::open(rt, path) {
+        Ok(file) => Ok(NotedReader::new(file)),
+        Err(error) => Err(Stop::at(RunFault::Read, Action::Read, path, error)),
+    }
+}
+
+/// Why an input can't be read, if it is this one. An error that was answered is the last one.
+fn input_reason<F: Drop>(fault: RunFault, input: NotedReader<F>) -> Option<Reason> {
+    if fault == RunFault::TooLong {
+        return (input.bytes() > MOST_BYTES).then_some(Reason::TooLong);
+    }
+    match input.into_error() {
+        Some(error) => Some(Reason::System(error)),
+        None => None,
+    }
+}
+
+/// At which input the run stopped. The script is read behind the map, so what the map has said counts only where the script
+/// has said nothing.
+fn input_obstacle<'a, F: Drop>(
+    fault: RunFault,
+    paths: &'a Paths,
+    map: NotedReader<F>,
+    script: NotedReader<F>,
+) -> Option<Obstacle<'a>> {
+    let action = Action::Read;
+    if let Some(reason) = input_reason(fault, script) {
+        let path = paths.script.as_str();
+        return Some(Obstacle {
+            action,
+            path,
+            reason,
+        });
+    }
+    let reason = input_reason(fault, map)?;
+    let path = paths.map.as_str();
+    Some(Obstacle {
+        action,
+        path,
+        reason,
+    })
+}
+
+fn messages_obstacle(error: Option<io::Error>) -> Option<Obstacle<'static>> {
+    Some(Obstacle {
+        action: Action::Write,
+        path: "standard output",
+        reason: Reason::System(error?),
+    })
+}
+
+/// The texts of the outputs, and how the run ended that made them.
+#[derive(Debug, Drop)]
+struct Texts {
+    status: Status,
+    rdl: Vec<u8>,
+    header: Vec<u8>,
+    session: Vec<u8>,
+}
+
+fn run_in_memory<'a, R: Files, M: Write>(
+    rt: &R,
+    alloc: Global,
+    paths: &'a Paths,
+    options: &Options,
+    messages: &mut M,
+) -> Result<Texts, Stop<'a>> {
+    let mut map = open_input(rt, paths.map.as_str())?;
+    let mut script = open_input(rt, paths.script.as_str())?;
+    let mut messages = NotedWriter::new(messages);
+    let mut rdl = Vec::new(alloc);
+    let mut header = Vec::new(alloc);
+    let mut session = Vec::new(alloc);
+    let ended = run(
+        alloc,
+        &mut map,
+        &mut script,
+        options,
+        &mut rdl,
+        &mut header,
+        &mut session,
+        &mut messages,
+    );
+    match ended {
+        Ok(status) => Ok(Texts {
+            status,
+            rdl,
+            header,
+            session,
+        }),
+        Err(fault) => {
+            let obstacle = match fault {
+                RunFault::Memory => None,
+                RunFault::Write => messages_obstacle(messages.into_error()),
+                _ => input_obstacle(fault, paths, map, script),
+            };
+            Err(Stop { fault, obstacle })
+        }
+    }
+}
+
+/// The texts that there are, each with the path of its file.
+fn outputs_of<'p, 't>(
+    alloc: Global,
+    texts: &'t Texts,
+    paths: &'p Paths,
+) -> Result<Vec<Output<'p, 't>>, AllocError>
+    ensures { IfOk result (λ outputs. map seen outputs.items ≡ files_of texts.now paths.now) }
+{
+    let mut outputs = Vec::new(alloc);
+    if texts.status.has_map() {
+        outputs.push(Output {
+            path: paths.rdl.as_str(),
+            text: texts.rdl.as_slice(),
+        })?;
+    }
+    if texts.status.has_header() {
+        outputs.push(Output {
+            path: paths.header.as_str(),
+            text: texts.header.as_slice(),
+        })?;
+    }
+    match &paths.session {
+        Some(path) if texts.status.has_session() => outputs.push(Output {
+            path: path.as_str(),
+            text: texts.session.as_slice(),
+        })?,
+        _ => {}
+    }
+    Ok(outputs)
+}
+
+/// Replaces the files by the texts that there are.
+fn write_texts<'a, R: Files>(
+    rt: &R,
+    alloc: Global,
+    texts: &Texts,
+    paths: &'a Paths,
+) -> Result<(), Stop<'a>> {
+    let Ok(outputs) = outputs_of(alloc, texts, paths) else {
+        return Err(Stop {
+            fault: RunFault::Memory,
+            obstacle: None,
+        });
+    };
+    match write_whole(rt, alloc, outputs.as_slice()) {
+        Ok(()) => Ok(()),
+        Err(fault) => Err(Stop::at(RunFault::Write, Action::Write, fault.path, fault.error)),
+    }
+}
+
+/// Runs the script on its map or session. The files are replaced only when the run has ended: none where the map is refused,
+/// and all but those whose text is missing.
+pub(crate) fn edit_files<'a, R: Files, M: Write>(
+    rt: &R,
+    alloc: Global,
+    paths: &'a Paths,
+    options: &Options,
+    messages: &mut M,
+) -> Result<Status, Stop<'a>> {
+    let texts = run_in_memory(rt, alloc, paths, options, messages)?;
+    write_texts(rt, alloc, &texts, paths)?;
+    Ok(texts.status)
+}

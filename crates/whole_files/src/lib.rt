@@ -1,0 +1,8 @@
+//! Files that are replaced whole: each new text first stands in a file of its own beside the old one, and only when all of
+//! them are on the disk does each take the place of its old file.
+#![tactic(auto)]
+
+mod beside;
+pub mod noted;
+pub mod output;
+pub mod plain;

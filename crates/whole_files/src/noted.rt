@@ -1,0 +1,104 @@
+//! Readers and writers of which it is known why they failed.
+ghost use Rattle.std.specs.Prelude.{◌≡◌, IsSome, IfOk, OnErr, OnOk};
+ghost use Rattle.std.specs.Io.{ReadsAtMost, WritesAtMost};
+ghost use Rattle.std.specs.Io.KnownBytes.{ReadConsumes};
+
+use std::io;
+use std::io::{Read, Write};
+
+/// A reader, how many bytes it has given, and why it failed last.
+#[derive(Debug, Drop)]
+pub struct NotedReader<R> {
+    reader: R,
+    bytes: u64,
+    error: Option<io::Error>,
+}
+
+impl<R> NotedReader<R> {
+    /// A reader that has given nothing yet.
+    pub fn new(reader: R) -> NotedReader<R> {
+        NotedReader {
+            reader,
+            bytes: 0,
+            error: None,
+        }
+    }
+
+    /// How many bytes it has given, or the greatest number if there were more.
+    pub fn bytes(&self) -> u64 {
+        self.bytes
+    }
+
+    /// Why it failed last.
+    pub fn into_error(self) -> Option<io::Error>
+    where
+        R: Drop,
+    {
+        let NotedReader { error, .. } = self;
+        error
+    }
+}
+
+impl<R: Read> Read for NotedReader<R> {
+    ghost remaining = { λ s. R.remaining s.reader };
+
+    fn read(&mut self, buffer: &mut [u8]) -> io::Result<usize>
+        ensures bound { ReadsAtMost result buffer.new }
+        ensures bytes { ReadConsumes (R.remaining self.old.reader) (R.remaining self.new.reader) result buffer.new }
+        ensures noted { OnErr result (IsSome self.new.error) }
+        ensures same { OnOk result (self.new.error ≡ self.old.error) }
+    {
+        match self.reader.read(buffer) {
+            Ok(count) => {
+                self.bytes = self.bytes.saturating_add(count as u64);
+                Ok(count)
+            }
+            Err(error) => {
+                let kind = error.kind();
+                self.error = Some(error);
+                Err(io::Error::from(kind))
+            }
+        }
+    }
+}
+
+/// A writer, and why it failed last.
+#[derive(Debug, Drop)]
+pub struct NotedWriter<'a, W> {
+    writer: &'a mut W,
+    error: Option<io::Error>,
+}
+
+impl<'a, W> NotedWriter<'a, W> {
+    /// A writer that hasn't failed yet.
+    pub fn new(writer: &'a mut W) -> NotedWriter<'a, W> {
+        NotedWriter {
+            writer,
+            error: None,
+        }
+    }
+
+    /// Why it failed last.
+    pub fn into_error(self) -> Option<io::Error> {
+        self.error
+    }
+}
+
+impl<W: Write> Write for NotedWriter<'_, W> {
+    ghost contents = { λ s. W.contents s.writer.now };
+
+    fn write(&mut self, bytes: &[u8]) -> io::Result<usize> {
+        match self.writer.write(bytes) {
+            Ok(count) => Ok(count),
+            Err(error) => {
+                let kind = error.kind();
+                self.error = Some(error);
+                Err(io::Error::from(kind))
+            }
+        }
+    }
+
+    fn flush(&mut self) -> io::Result<()> {
+        self.writer.flush()
+    }
+}
