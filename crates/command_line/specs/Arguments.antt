@@ -34,7 +34,11 @@ session_rule = record (new_rule (codes "session")) { long = Some (codes "session
 abbrev pub without_name : App → App
 without_name a = record a { top = record a.top { no_binary_name = true } }
 
+-- `--version` is understood
+abbrev pub with_version : App → App
+with_version a = record a { top = record a.top { has_version = true } }
+
 unfoldable pub regedit_command : App
-regedit_command = with_rule (with_rule (with_rule (with_rule (with_rule (with_rule (with_rule (without_name (new_app (codes "regedit")))
+regedit_command = with_rule (with_rule (with_rule (with_rule (with_rule (with_rule (with_rule (with_version (without_name (new_app (codes "regedit"))))
     (operand_rule (codes "map"))) (operand_rule (codes "script")))
     (output_rule (codes "rdl"))) (output_rule (codes "header"))) top_rule) history_rule) session_rule

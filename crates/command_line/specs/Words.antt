@@ -5,12 +5,12 @@ use Rattle.clap.specs.Words.{Kinds, Row, Text, fault_of, first_of, kind_of, matc
 use Rattle.clap.specs.Values.{IsSignedIn}
 use Rattle.clap.specs.declared.error.Error.{Error}
 use Rattle.clap.specs.declared.error.kind.ErrorKind.{ErrorKind}
-use Rattle.clap.specs.declared.error.kind.ErrorKind.TheVariants.{DisplayHelp, OutOfMemory}
+use Rattle.clap.specs.declared.error.kind.ErrorKind.TheVariants.{DisplayHelp, DisplayVersion, OutOfMemory}
 use Rattle.rdl_text.specs.Name.{IsName}
 use Rattle.command_line.specs.Arguments.{regedit_command}
 use Rattle.command_line.specs.declared.line.Line.{Line}
 use Rattle.command_line.specs.declared.line.LineFault.{LineFault}
-use Rattle.command_line.specs.declared.line.LineFault.TheVariants.{Help, Refused, BadTop, Meets, Memory}
+use Rattle.command_line.specs.declared.line.LineFault.TheVariants.{Help, Version, Refused, BadTop, Meets, Memory}
 use Rattle.command_line.specs.declared.meeting.Meeting.{Meeting}
 use Rattle.command_line.specs.Meetings.{meeting_in}
 
@@ -44,7 +44,7 @@ pub record Means (rows : List Row) (line : Line) : Type 0 where
   pub session : value (codes "session") rows ≡ option_map string_bytes line.session
 
 -- what is told of the words: nothing where `clap` takes them, else the kind of the first thing that it doesn't take, where
--- `--help` is such a thing
+-- `--help` and `--version` are such things
 abbrev pub mistakes : List Text → Kinds
 mistakes words = fault_of regedit_command words
 
@@ -56,9 +56,13 @@ Tells words error = (kind_of error ≡ OutOfMemory) ⊎ (mistakes words ≡ kind
 abbrev pub AskForHelp : List Text → Type 0
 AskForHelp words = mistakes words ≡ DisplayHelp ∷ []
 
--- something is wrong, before help is asked for
+-- the version is asked for, before anything is wrong
+abbrev pub AskForVersion : List Text → Type 0
+AskForVersion words = mistakes words ≡ DisplayVersion ∷ []
+
+-- something is wrong, before help or the version is asked for
 abbrev pub AreMistaken : List Text → Type 0
-AreMistaken words = (kind : ErrorKind) × (kind ≢ DisplayHelp) × (mistakes words ≡ kind ∷ [])
+AreMistaken words = (kind : ErrorKind) × (kind ≢ DisplayHelp) × (kind ≢ DisplayVersion) × (mistakes words ≡ kind ∷ [])
 
 -- `clap` takes the words
 abbrev pub AreTaken : List Text → Type 0
@@ -79,7 +83,8 @@ Meet words meeting = (mistakes words ≡ []) × (meeting_in (found words) ≡ So
 -- the words give what the fault says
 abbrev pub Refuses : List Text → LineFault → Type 0
 Refuses words (Help error) = (kind_of error ≡ DisplayHelp) × AskForHelp words
-Refuses words (Refused error) = (kind_of error ≢ DisplayHelp) × (mistakes words ≡ kind_of error ∷ [])
+Refuses words (Version error) = (kind_of error ≡ DisplayVersion) × AskForVersion words
+Refuses words (Refused error) = (kind_of error ≢ DisplayHelp) × (kind_of error ≢ DisplayVersion) × (mistakes words ≡ kind_of error ∷ [])
 Refuses words BadTop = AreBadAtTop words
 Refuses words (Meets meeting) = Meet words meeting
 Refuses words Memory = ⊤
@@ -90,6 +95,7 @@ RefusesTop rows BadTop = HasBadTop rows
 RefusesTop rows (Meets meeting) = ⊥
 RefusesTop rows Memory = ⊤
 RefusesTop rows (Help error) = ⊥
+RefusesTop rows (Version error) = ⊥
 RefusesTop rows (Refused error) = ⊥
 
 -- what a fault behind `clap` says of what is found
@@ -98,6 +104,7 @@ RefusesFound rows BadTop = HasBadTop rows
 RefusesFound rows (Meets meeting) = meeting_in rows ≡ Some meeting
 RefusesFound rows Memory = ⊤
 RefusesFound rows (Help error) = ⊥
+RefusesFound rows (Version error) = ⊥
 RefusesFound rows (Refused error) = ⊥
 
 -- a fault of words that `clap` takes
@@ -106,6 +113,7 @@ IsBehindClap BadTop = ⊤
 IsBehindClap (Meets meeting) = ⊤
 IsBehindClap Memory = ⊤
 IsBehindClap (Help error) = ⊥
+IsBehindClap (Version error) = ⊥
 IsBehindClap (Refused error) = ⊥
 
 -- ---- What is known of all that is found where `clap` takes the words.

@@ -6,6 +6,9 @@ ghost use Rattle.command_line.specs.Arguments.{history_rule, operand_rule, outpu
 use clap::{Arg, ArgAction, Command, value_parser};
 use std::alloc::{AllocError, Global};
 
+/// The version of the program, which `--version` prints.
+const VERSION: &str = "1.0.0";
+
 fn operand<'a>(alloc: Global, id: &'a str, name: &'a str, help: &'a str) -> Arg<'a>
     ensures rule { rule_of result ≡ operand_rule id.entry.now }
     ensures own { result.global ≡ false }
@@ -70,6 +73,7 @@ pub fn command<'a>(alloc: Global) -> Result<Command<'a>, AllocError>
 {
     Command::new(alloc, "regedit")
         .no_binary_name(true)
+        .version(VERSION)
         .about("Edits a register map by a script, and writes the map and its C header")
         .arg(operand(alloc, "map", "MAP", "The register map to edit"))?
         .arg(operand(alloc, "script", "SCRIPT", "The edits, one on each line"))?

@@ -29,6 +29,8 @@ pub struct Line {
 pub enum LineFault {
     /// L1: help is asked for. The text of the error is the help.
     Help(Error),
+    /// L6: the version is asked for. The text of the error is the program's name and its version.
+    Version(Error),
     /// L2: the words are refused. The text of the error says why.
     Refused(Error),
     /// L3: the name of the top is no identifier of at most 255 bytes.
@@ -58,6 +60,7 @@ impl From<Error> for LineFault {
     fn from(error: Error) -> LineFault {
         match error.kind() {
             ErrorKind::DisplayHelp => LineFault::Help(error),
+            ErrorKind::DisplayVersion => LineFault::Version(error),
             ErrorKind::OutOfMemory => LineFault::Memory,
             _ => LineFault::Refused(error),
         }

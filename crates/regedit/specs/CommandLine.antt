@@ -21,9 +21,10 @@ failure_code failures.BadCommandLine = 5
 failure_code failures.BadTop = 5
 failure_code (failures.Meets meeting) = 5
 
--- how the program ends where the words are no command line; help may find no memory, or be cut off
+-- how the program ends where the words are no command line; help and the version may find no memory, or be cut off
 abbrev pub Ends : LineFault → ℕ → Type 0
 Ends (line_faults.Help help) n = (n ≡ 0) ⊎ (n ≡ 4)
+Ends (line_faults.Version version) n = (n ≡ 0) ⊎ (n ≡ 4)
 Ends (line_faults.Refused mistake) n = n ≡ 5
 Ends line_faults.BadTop n = n ≡ 5
 Ends (line_faults.Meets meeting) n = n ≡ 5

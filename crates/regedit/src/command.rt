@@ -1,7 +1,7 @@
 //! The program's edge: its words, its messages and its exit status.
 ghost use Rattle.std.specs.Prelude.{◌≡◌, ◌⊎◌, ◌≤◌, map};
 ghost use Rattle.regedit.specs.CommandLine.{AreRefused, AreWell, Ends, IsExit, failure_code, status_code};
-ghost use Rattle.command_line.specs.Words.{AskForHelp};
+ghost use Rattle.command_line.specs.Words.{AskForHelp, AskForVersion};
 ghost use Rattle.regedit.specs.declared.command.Failure.{Failure};
 
 use crate::files::{Stop, edit_files};
@@ -88,12 +88,13 @@ fn obey<R: Files, M: Write, E: Write>(
         Err(stop) => report_stop(&stop, errors),
     }
 }
-fn print_help<M: Write>(
+/// Prints the help or the version.
+fn print_told<M: Write>(
     alloc: Global,
-    help: &clap::Error,
+    told: &clap::Error,
     messages: &mut M,
 ) -> Result<(), RunFault> {
-    let text = format!(in alloc; "{help}")?;
+    let text = format!(in alloc; "{told}")?;
     write_whole(messages, &mut 0, text.as_bytes())
 }
 
@@ -107,7 +108,7 @@ fn refuse<M: Write, E: Write>(
     ensures { Ends fault result }
 {
     match fault {
-        LineFault::Help(help) => match print_help(alloc, &help, messages) {
+        LineFault::Help(told) | LineFault::Version(told) => match print_told(alloc, &told, messages) {
             Ok(()) => 0,
             Err(fault) => report(Failure::Fault(fault), errors),
         },
@@ -135,6 +136,7 @@ pub fn command<R: Files, M: Write, E: Write>(
     ensures refused { AreRefused (map (λ w. w.now) words.now) → (result ≡ 5) ⊎ (result ≡ 4) }
     // Where they aren't refused, it comes only where two of their paths lead to one file.
     ensures only { result ≡ 5 → AreRefused (map (λ w. w.now) words.now) ⊎ AreWell (map (λ w. w.now) words.now) }
+    ensures version { AskForVersion (map (λ w. w.now) words.now) → (result ≡ 0) ⊎ (result ≡ 4) }
     ensures help { AskForHelp (map (λ w. w.now) words.now) → (result ≡ 0) ⊎ (result ≡ 4) }
 {
     match line(alloc, words) {
