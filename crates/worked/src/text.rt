@@ -1,6 +1,7 @@
 //! Words with their kinds and places, names and strings, and places in texts.
 use crate::assert_holds;
 use rdl_text::fault::TextFault;
+use rdl_text::list::Tokens;
 use rdl_text::name::{Name, NameFault};
 use rdl_text::raw::Raw;
 use rdl_text::token::{Mark, TokenKind};
@@ -65,16 +66,18 @@ fn all_words() -> &'static [Word] {
     &WORDS
 }
 
+fn is_word(words: &Tokens<'_>, wanted: &Word) -> bool {
+    let (_, _, number, kind, start, source) = wanted;
+    match words.get(*number) {
+        Some(word) => word.kind() == *kind && word.start() == *start && word.source() == *source,
+        None => false,
+    }
+}
+
 /// Whether the text has this word, and so many.
 fn has_word(alloc: Global, wanted: &Word) -> Result<bool, TextFault> {
-    let (text, count, number, kind, start, source) = wanted;
-    let words = tokens(alloc, text)?;
-    Ok(
-        words.len() == *count
-            && words.get(*number).is_some_and(|word| {
-                word.kind() == *kind && word.start() == *start && word.source() == *source
-            }),
-    )
+    let words = tokens(alloc, wanted.0)?;
+    Ok(words.len() == wanted.1 && is_word(&words, wanted))
 }
 
 #[test]
@@ -85,13 +88,15 @@ fn texts_have_their_words(rt: HostRuntime) -> Result<(), Fail> {
     Ok(())
 }
 
-// What stands inside the quotes of a string, and nothing of another word.
+/// What stands inside the quotes of a word.
+fn inside<'a>(words: &Tokens<'a>, index: usize) -> Option<&'a str> {
+    words.get(index)?.raw()
+}
+
 #[test]
 fn strings_alone_have_an_inside(rt: HostRuntime) -> Result<(), Fail> {
     let words = tokens(rt.alloc(), STRING)?;
-    let of_string = words.get(2).and_then(|word| word.raw());
-    let of_mark = words.get(1).and_then(|word| word.raw());
-    assert!(rt; of_string == Some("a\\\"é") && of_mark == None);
+    assert!(rt; inside(&words, 2) == Some("a\\\"é") && inside(&words, 1) == None);
     Ok(())
 }
 
