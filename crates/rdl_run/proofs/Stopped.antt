@@ -139,6 +139,35 @@ module _ (asked : Bool) (first : History') (script : List ℕ) (refuses : Bool) 
     leaves = inr (inr (inr (record { messages = Appends-trans m mid m' served.0 message served.2 said; rdl = wrote_rdl; header = wrote_header; session = wrote })));
   }
 
+  pub failed_closing : (m' r r' h h' z z' : Option (List ℕ))
+      → Leaves Write (outputs mid r h z) (outputs m' r' h' z') (record { messages = message; rdl = rdl; header = header; session = session; status = status })
+      → FaultedFrom asked first script (outputs m r h z) (outputs m' r' h' z') Write
+  failed_closing m' r r' h h' z z' (inl l) = record {
+    out = closing_output;
+    runs = closing-runs;
+    leaves = inl (record {
+      messages = subst (AppendsFront m m') (ap (λ (t : List ℕ). served.0 ++ t) (append-nil message)) (AppendsFront-after m mid m' served.0 message [] served.2 l.messages);
+      rdl = l.rdl;
+      header = l.header;
+      session = l.session;
+    });
+  }
+  failed_closing m' r r' h h' z z' (inr (inl l)) = record {
+    out = closing_output;
+    runs = closing-runs;
+    leaves = inr (inl (record { messages = Appends-trans m mid m' served.0 message served.2 l.messages; rdl = l.rdl; header = l.header; session = l.session }));
+  }
+  failed_closing m' r r' h h' z z' (inr (inr (inl l))) = record {
+    out = closing_output;
+    runs = closing-runs;
+    leaves = inr (inr (inl (record { messages = Appends-trans m mid m' served.0 message served.2 l.messages; rdl = l.rdl; header = l.header; session = l.session })));
+  }
+  failed_closing m' r r' h h' z z' (inr (inr (inr l))) = record {
+    out = closing_output;
+    runs = closing-runs;
+    leaves = inr (inr (inr (record { messages = Appends-trans m mid m' served.0 message served.2 l.messages; rdl = l.rdl; header = l.header; session = l.session })));
+  }
+
 -- ---- The whole run.
 
 abbrev given : Option (List ℕ) → List ℕ

@@ -1,5 +1,6 @@
 pub mod Answers
 pub mod Closing
+pub mod ClosingTexts
 pub mod Faulted
 pub mod Known
 pub mod Messages

@@ -1,8 +1,9 @@
 //! A whole run, from two inputs to four outputs.
-ghost use Rattle.std.specs.Prelude.{◌≡◌, ◌≢◌, ◌⊎◌, ◌^◌, ◌<◌, ◌≤◌, true, length, Err, IfOk, IfErr, IsErrOf};
+ghost use Rattle.std.specs.Prelude.{◌≡◌, ◌≢◌, ◌⊎◌, ◌^◌, ◌<◌, ◌≤◌, true, length, Err, IfOk, IfErr, IsErrOf, IsOkUnless, OnErr, OnOk};
 ghost use Rattle.rdl_run.specs.Opening.{EachElaborates};
-ghost use Rattle.rdl_run.specs.Faulted.{Faulted, FaultedFrom};
-ghost use Rattle.rdl_run.specs.Output.{Ran, RanFrom};
+ghost use Rattle.rdl_run.specs.Faulted.{Faulted, FaultedFrom, Leaves};
+ghost use Rattle.rdl_run.specs.ClosingTexts.{texts_of};
+ghost use Rattle.rdl_run.specs.Output.{Holds, Ran, RanFrom};
 ghost use Rattle.rdl_run.specs.Turns.{IsOpen, HasEnded};
 ghost use Rattle.rdl_run.specs.declared.status.RunFault.{RunFault};
 
@@ -33,12 +34,50 @@ pub struct Options {
 /// The greatest map or session and the greatest script, in bytes.
 const MOST_BYTES: usize = 67_108_864;
 
+/// Writes what closes a run, the messages first.
+fn write_closing<R: Write, H: Write, Z: Write, E: Write>(
+    closing: &Closing,
+    rdl: &mut CountedWriter<'_, R>,
+    header: &mut CountedWriter<'_, H>,
+    session: &mut CountedWriter<'_, Z>,
+    messages: &mut CountedWriter<'_, E>,
+) -> Result<(), RunFault>
+    requires asked { IsOpen messages.old.counts }
+    requires rdl_asked { IsOpen rdl.old.counts }
+    requires header_asked { IsOpen header.old.counts }
+    requires session_asked { IsOpen session.old.counts }
+    ensures wrote { OnOk result (Holds
+        (record { messages = E.contents messages.old.writer.now; rdl = R.contents rdl.old.writer.now; header = H.contents header.old.writer.now; session = Z.contents session.old.writer.now })
+        (record { messages = E.contents messages.new.writer.now; rdl = R.contents rdl.new.writer.now; header = H.contents header.new.writer.now; session = Z.contents session.new.writer.now })
+        closing.now.status (texts_of closing.now)) }
+    ensures stopped { IfErr result (λ fault. Leaves fault
+        (record { messages = E.contents messages.old.writer.now; rdl = R.contents rdl.old.writer.now; header = H.contents header.old.writer.now; session = Z.contents session.old.writer.now })
+        (record { messages = E.contents messages.new.writer.now; rdl = R.contents rdl.new.writer.now; header = H.contents header.new.writer.now; session = Z.contents session.new.writer.now })
+        (texts_of closing.now)) }
+    ensures fault { IsOkUnless result RunFault.Write }
+    ensures ended { OnErr result (HasEnded messages.new.counts rdl.new.counts header.new.counts session.new.counts) }
+    ensures few { messages.new.counts.interrupts ≤ 1000 }
+    ensures rdl_few { rdl.new.counts.interrupts ≤ 1000 }
+    ensures header_few { header.new.counts.interrupts ≤ 1000 }
+    ensures session_few { session.new.counts.interrupts ≤ 1000 }
+    ensures same_messages { messages.new.writer.ghost_name ≡ messages.old.writer.ghost_name }
+    ensures same_rdl { rdl.new.writer.ghost_name ≡ rdl.old.writer.ghost_name }
+    ensures same_header { header.new.writer.ghost_name ≡ header.old.writer.ghost_name }
+    ensures same_session { session.new.writer.ghost_name ≡ session.old.writer.ghost_name }
+{
+    write_counted(messages, closing.message.as_bytes())?;
+    write_counted(rdl, closing.rdl.as_bytes())?;
+    write_counted(header, closing.header.as_bytes())?;
+    write_counted(session, closing.session.as_bytes())?;
+    Ok(())
+}
+
 /// Runs a script from where a history stands, and writes the map that it leads to, that map's header, and the session if it
 /// is asked for. Where two of the header's macros have one name, that is said, and no header is written; where the session is
 /// too long, that is said, and none is written.
 fn run_script<R: Write, H: Write, Z: Write, E: Write>(
     alloc: Global,
-    mut journal: Journal<Map>,
+    journal: &mut Journal<Map>,
     has_session: bool,
     script: &[u8],
     rdl: &mut CountedWriter<'_, R>,
@@ -51,10 +90,10 @@ fn run_script<R: Write, H: Write, Z: Write, E: Write>(
     requires rdl_asked { IsOpen rdl.old.counts }
     requires header_asked { IsOpen header.old.counts }
     requires session_asked { IsOpen session.old.counts }
-    ensures ran { IfOk result (RanFrom has_session journal script.now
+    ensures ran { IfOk result (RanFrom has_session journal.old script.now
         (record { messages = E.contents messages.old.writer.now; rdl = R.contents rdl.old.writer.now; header = H.contents header.old.writer.now; session = Z.contents session.old.writer.now })
         (record { messages = E.contents messages.new.writer.now; rdl = R.contents rdl.new.writer.now; header = H.contents header.new.writer.now; session = Z.contents session.new.writer.now })) }
-    ensures faulted { EachElaborates journal → IfErr result (FaultedFrom has_session journal script.now
+    ensures faulted { EachElaborates journal.old → IfErr result (FaultedFrom has_session journal.old script.now
         (record { messages = E.contents messages.old.writer.now; rdl = R.contents rdl.old.writer.now; header = H.contents header.old.writer.now; session = Z.contents session.old.writer.now })
         (record { messages = E.contents messages.new.writer.now; rdl = R.contents rdl.new.writer.now; header = H.contents header.new.writer.now; session = Z.contents session.new.writer.now })) }
     ensures write_ended { IsErrOf result RunFault.Write → HasEnded messages.new.counts rdl.new.counts header.new.counts session.new.counts }
@@ -68,12 +107,9 @@ fn run_script<R: Write, H: Write, Z: Write, E: Write>(
     ensures same_header { header.new.writer.ghost_name ≡ header.old.writer.ghost_name }
     ensures same_session { session.new.writer.ghost_name ≡ session.old.writer.ghost_name }
 {
-    let is_refused = serve_all(alloc, &mut journal, script, messages)?;
-    let closing = Closing::of(alloc, &journal, is_refused, has_session)?;
-    write_counted(messages, closing.message.as_bytes())?;
-    write_counted(rdl, closing.rdl.as_bytes())?;
-    write_counted(header, closing.header.as_bytes())?;
-    write_counted(session, closing.session.as_bytes())?;
+    let is_refused = serve_all(alloc, journal, script, messages)?;
+    let closing = Closing::of(alloc, journal, is_refused, has_session)?;
+    write_closing(&closing, rdl, header, session, messages)?;
     Ok(closing.status)
 }
 
@@ -122,9 +158,9 @@ fn run_counted<M: Read, S: Read, R: Write, H: Write, Z: Write, E: Write>(
         options.history,
     );
     match opened {
-        Ok(journal) => run_script(
+        Ok(mut journal) => run_script(
             alloc,
-            journal,
+            &mut journal,
             options.session,
             script_bytes.as_slice(),
             rdl,

@@ -115,21 +115,6 @@ fn assert_there_and_back(
 const USED: &str = "reg T { field {} e; field {} f; };
 addrmap top { T u; T v; u.f->reset = 1; T w; v.f->reset = 0; v.e->sw = r; };";
 
-// The field and both assignments to it come back, each where it stood: 5 + 11 + 11.
-#[test]
-fn of_a_field_with_its_assignments(rt: HostRuntime) -> Result<(), Fail> {
-    let alloc = rt.alloc();
-    let mut map = Map::open(alloc, description(alloc, USED)?, None)?;
-    assert_there_and_back(
-        &rt,
-        alloc,
-        &mut map,
-        "/$T/f",
-        "insert 0.1\ninsert 1.2\ninsert 1.4\nweight 27",
-        "delete 1.4\ndelete 1.2\ndelete 0.1\nweight 9",
-    )
-}
-
 fn push_register(text: &mut String, number: usize) -> Result<(), AllocError> {
     write!(text, "reg {{ field {{}} f; }} r{number};")
 }
@@ -143,16 +128,37 @@ fn with_registers(alloc: Global, count: usize) -> Result<String, AllocError> {
     Ok(text)
 }
 
-// However many registers there are, what takes one away keeps that one alone.
+fn assert_of(
+    rt: &impl Abort,
+    alloc: Global,
+    text: &str,
+    at: &str,
+    back: &str,
+    forward: &str,
+) -> Result<(), Fail> {
+    let mut map = Map::open(alloc, description(alloc, text)?, None)?;
+    assert_there_and_back(rt, alloc, &mut map, at, back, forward)
+}
+
+// The field and both assignments to it come back, each where it stood: 5 + 11 + 11. However many registers there are,
+// what takes one away keeps that one alone.
 #[test]
-fn of_one_register_of_a_thousand(rt: HostRuntime) -> Result<(), Fail> {
-    let alloc = rt.alloc();
-    let text = with_registers(alloc, 1000)?;
-    let mut map = Map::open(alloc, description(alloc, text.as_str())?, None)?;
-    assert_there_and_back(
+fn of_a_field_with_its_assignments_and_of_a_register_of_a_thousand(
+    rt: HostRuntime,
+) -> Result<(), Fail> {
+    assert_of(
         &rt,
-        alloc,
-        &mut map,
+        rt.alloc(),
+        USED,
+        "/$T/f",
+        "insert 0.1\ninsert 1.2\ninsert 1.4\nweight 27",
+        "delete 1.4\ndelete 1.2\ndelete 0.1\nweight 9",
+    )?;
+    let text = with_registers(rt.alloc(), 1000)?;
+    assert_of(
+        &rt,
+        rt.alloc(),
+        text.as_str(),
         "/$top/r0",
         "insert 0.0\nweight 8",
         "delete 0.0\nweight 3",

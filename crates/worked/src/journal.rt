@@ -1,4 +1,5 @@
 //! The history of a list of numbers.
+use crate::assert_holds;
 use journal_core::example::{Change, Numbers, Refusal, between};
 use journal_core::fault::{EditFault, StepFault};
 use journal_core::journal::Journal;
@@ -54,18 +55,25 @@ fn is_answered(alloc: Global, journal: &mut Journal<Numbers>, step: &Step) -> bo
     make(alloc, journal, call) == *answer && has_list(journal, list, *undo_len, *redo_len)
 }
 
-/// Makes the calls on an empty list, and looks at what stands behind each.
-fn follow(rt: &impl Abort, alloc: Global, limit: u32, steps: &[Step]) {
-    let mut journal = Journal::new(alloc, Numbers::new(alloc), limit);
+/// Makes the calls, and looks at what stands behind each.
+fn follow(rt: &impl Abort, alloc: Global, journal: &mut Journal<Numbers>, steps: &[Step]) {
     for step in steps {
-        assert!(rt;
-            is_answered(alloc, &mut journal, step),
-            "{} is wanted",
-            step.1
-        );
+        assert_holds(rt, is_answered(alloc, journal, step), step.1);
     }
 }
 
+/// How many changes can be undone, and the calls.
+type History = (u32, &'static [Step]);
+
+/// Makes the calls of each history on an empty list.
+fn follow_each(rt: &impl Abort, alloc: Global, histories: &[History]) {
+    for (limit, steps) in histories {
+        let mut journal = Journal::new(alloc, Numbers::new(alloc), *limit);
+        follow(rt, alloc, &mut journal, steps);
+    }
+}
+
+// undo leads back, and redo leads on
 const BACK_AND_ON: [Step; 6] = [
     (Call::Push(3), "made", &[3], 1, 0),
     (Call::Push(4), "made", &[3, 4], 2, 0),
@@ -75,15 +83,7 @@ const BACK_AND_ON: [Step; 6] = [
     (Call::Redo, "made", &[3, 4], 2, 0),
 ];
 
-fn back_and_on() -> &'static [Step] {
-    &BACK_AND_ON
-}
-
-#[test]
-fn undo_leads_back_and_redo_leads_on(rt: HostRuntime) {
-    follow(&rt, rt.alloc(), 3, back_and_on());
-}
-
+// an edit drops what could be redone
 const EDIT_BEHIND_UNDO: [Step; 4] = [
     (Call::Push(3), "made", &[3], 1, 0),
     (Call::Undo, "made", &[], 0, 1),
@@ -91,30 +91,14 @@ const EDIT_BEHIND_UNDO: [Step; 4] = [
     (Call::Redo, "nothing", &[5], 1, 0),
 ];
 
-fn edit_behind_undo() -> &'static [Step] {
-    &EDIT_BEHIND_UNDO
-}
-
-#[test]
-fn an_edit_drops_what_could_be_redone(rt: HostRuntime) {
-    follow(&rt, rt.alloc(), 2, edit_behind_undo());
-}
-
+// an edit that changes nothing is a place
 const NOTHING_CHANGED: [Step; 3] = [
     (Call::Clear, "made", &[], 1, 0),
     (Call::Undo, "made", &[], 0, 1),
     (Call::Undo, "nothing", &[], 0, 1),
 ];
 
-fn nothing_changed() -> &'static [Step] {
-    &NOTHING_CHANGED
-}
-
-#[test]
-fn an_edit_that_changes_nothing_is_a_place(rt: HostRuntime) {
-    follow(&rt, rt.alloc(), 2, nothing_changed());
-}
-
+// a full history is judged before the map
 const FULL: [Step; 5] = [
     (Call::Push(7), "refused", &[], 0, 0),
     (Call::Push(1), "made", &[1], 1, 0),
@@ -123,13 +107,16 @@ const FULL: [Step; 5] = [
     (Call::Push(2), "made", &[2], 1, 0),
 ];
 
-fn full() -> &'static [Step] {
-    &FULL
-}
+const HISTORIES: [History; 4] = [
+    (3, &BACK_AND_ON),
+    (2, &EDIT_BEHIND_UNDO),
+    (2, &NOTHING_CHANGED),
+    (1, &FULL),
+];
 
 #[test]
-fn a_full_history_is_judged_before_the_map(rt: HostRuntime) {
-    follow(&rt, rt.alloc(), 1, full());
+fn changes_are_made_undone_and_redone(rt: HostRuntime) {
+    follow_each(&rt, rt.alloc(), &HISTORIES);
 }
 
 const GONE_ON: [Step; 5] = [
@@ -164,36 +151,26 @@ fn resumed(alloc: Global) -> Result<Journal<Numbers>, AllocError> {
     Ok(between(now, 1, behind, ahead))
 }
 
-fn follow_on(rt: &impl Abort, alloc: Global, journal: &mut Journal<Numbers>, steps: &[Step]) {
-    for step in steps {
-        assert!(rt; is_answered(alloc, journal, step), "{} is wanted", step.1);
-    }
+/// Whether the one step back and the one step on are seen, and no others.
+fn shows_its_steps(journal: &Journal<Numbers>) -> bool {
+    journal.undo_at(0).is_some_and(|list| list.is_empty())
+        && journal.undo_at(1).is_none()
+        && journal
+            .redo_at(0)
+            .is_some_and(|list| list.as_slice() == [1, 2].as_slice())
+        && journal.redo_at(1).is_none()
 }
 
-#[test]
-fn a_history_goes_on_at_any_place(rt: HostRuntime) -> Result<(), Fail> {
-    let alloc = rt.alloc();
+fn follow_on(rt: &impl Abort, alloc: Global, steps: &[Step]) -> Result<(), AllocError> {
     let mut journal = resumed(alloc)?;
-    follow_on(&rt, alloc, &mut journal, gone_on());
-    let mut other = resumed(alloc)?;
-    follow_on(&rt, alloc, &mut other, room_again());
+    assert_holds(rt, shows_its_steps(&journal), "the steps");
+    follow(rt, alloc, &mut journal, steps);
     Ok(())
 }
 
 #[test]
-fn steps_are_looked_at_from_the_next_one_on(rt: HostRuntime) -> Result<(), Fail> {
-    let journal = resumed(rt.alloc())?;
-    assert!(rt;
-        journal.undo_at(0).is_some_and(|list| list.is_empty()),
-        "one step back"
-    );
-    assert!(rt; journal.undo_at(1).is_none(), "and no other");
-    assert!(rt;
-        journal
-            .redo_at(0)
-            .is_some_and(|list| list.as_slice() == [1, 2].as_slice()),
-        "one step on"
-    );
-    assert!(rt; journal.redo_at(1).is_none(), "and no other");
+fn a_history_goes_on_at_any_place(rt: HostRuntime) -> Result<(), Fail> {
+    follow_on(&rt, rt.alloc(), gone_on())?;
+    follow_on(&rt, rt.alloc(), room_again())?;
     Ok(())
 }

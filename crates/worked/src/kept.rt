@@ -1,11 +1,13 @@
 //! Layouts that a map keeps: how many instances a step places anew, and what is lent.
-use crate::edits::{answer, opened};
+use crate::assert_holds;
+use crate::history::{is_made, opened};
 use crate::layouts::is_laid_out;
 use crate::tree::address;
 use journal_core::journal::Journal;
 use rdl_edit::map::Map;
 use rdl_elab::layout::Mode;
 use std::alloc::{AllocError, Global};
+use std::process::Abort;
 use std::test::Fail;
 
 /// A register file of a thousand registers, another one of one register, and both in one map.
@@ -41,11 +43,27 @@ const STEPS: [(&str, u64); 18] = [
 ];
 
 fn placed_by(alloc: Global, journal: &mut Journal<Map>, line: &str) -> Result<u64, Fail> {
-    let answer = answer(alloc, journal, line)?;
-    if !answer.is_empty() {
-        return Err(Fail::new("is refused"));
+    if is_made(alloc, journal, line)? {
+        Ok(journal.map().placed())
+    } else {
+        Err(Fail::new("is refused"))
     }
-    Ok(journal.map().placed())
+}
+
+fn steps() -> &'static [(&'static str, u64)] {
+    &STEPS
+}
+
+fn assert_each_places(
+    rt: &impl Abort,
+    alloc: Global,
+    journal: &mut Journal<Map>,
+    steps: &[(&str, u64)],
+) -> Result<(), Fail> {
+    for (line, most) in steps {
+        assert_holds(rt, placed_by(alloc, journal, line)? <= *most, line);
+    }
+    Ok(())
 }
 
 // the second register file and the map have 3 instances, and the first a thousand; where a register comes or moves, that and its field are
@@ -54,11 +72,7 @@ fn placed_by(alloc: Global, journal: &mut Journal<Map>, line: &str) -> Result<u6
 fn relay_places_everything(rt: HostRuntime) -> Result<(), Fail> {
     let text = two_files(rt.alloc())?;
     let mut journal = opened(rt.alloc(), text.as_str(), 100)?;
-    for (line, most) in STEPS.iter() {
-        let placed = placed_by(rt.alloc(), &mut journal, line)?;
-        assert!(rt; placed <= *most, "{placed} placed by {line}");
-    }
-    Ok(())
+    assert_each_places(&rt, rt.alloc(), &mut journal, steps())
 }
 
 /// The starts and the size of the layout of the component at this address, under a mode.
@@ -86,7 +100,7 @@ fn lends_the_layout_of_each_place(rt: HostRuntime) -> Result<(), Fail> {
     for (line, starts, size) in MOVED.iter() {
         placed_by(rt.alloc(), &mut journal, line)?;
         let is_lent = has_layout(journal.map(), &[0], Mode::Compact, starts, *size);
-        assert!(rt; is_lent, "{line}");
+        assert_holds(&rt, is_lent, line);
     }
     Ok(())
 }
@@ -102,28 +116,24 @@ const INSIDE: [(&[usize], &[u64], u64); 3] = [
     (&[0, 1, 2], &[0], 4),
 ];
 
+fn has_no_layout(map: &Map, at: &[usize]) -> bool {
+    map.kept()
+        .layout(map.description(), &address(at), Mode::Compact)
+        .is_none()
+}
+
+/// None of a field, of an item that isn't there, and of the root.
+fn has_no_others(map: &Map) -> bool {
+    has_no_layout(map, &[0, 0, 0]) && has_no_layout(map, &[7]) && has_no_layout(map, &[])
+}
+
 #[test]
 fn lends_the_layouts_inside(rt: HostRuntime) -> Result<(), Fail> {
     let journal = opened(rt.alloc(), NESTED, 100)?;
     for (at, starts, size) in INSIDE.iter() {
         let is_lent = has_layout(journal.map(), at, Mode::Regalign, starts, *size);
-        assert!(rt; is_lent);
+        assert_holds(&rt, is_lent, "a layout inside");
     }
-    Ok(())
-}
-
-/// A field, an item that isn't there, and the root.
-const NONE: [&[usize]; 3] = [&[0, 0, 0], &[7], &[]];
-
-#[test]
-fn lends_no_layout_of_a_field(rt: HostRuntime) -> Result<(), Fail> {
-    let journal = opened(rt.alloc(), NESTED, 100)?;
-    let map = journal.map();
-    for at in NONE.iter() {
-        let layout = map
-            .kept()
-            .layout(map.description(), &address(at), Mode::Compact);
-        assert!(rt; layout.is_none());
-    }
+    assert!(rt; has_no_others(journal.map()));
     Ok(())
 }

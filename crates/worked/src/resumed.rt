@@ -1,17 +1,15 @@
-//! Sessions that are gone on with: the steps of both stacks, and why a session is refused.
+//! Histories that go on with a session: steps that were read, and others; and texts that are no sessions.
 ghost use Rattle.std.specs.Prelude.{IfOk};
 ghost use Rattle.journal_core.specs.Along.{FitInTurn};
 ghost use Rattle.rdl_edit.specs.Backs.{prior, Fits};
 
-use crate::assert_same;
-use crate::edits::answer;
+use crate::history::is_made;
+use crate::{assert_holds, assert_same};
 use journal_core::journal::Journal;
 use rdl_edit::back::Back;
 use rdl_edit::map::{Map, Resumed};
 use rdl_parse::session::parse_session;
-use rdl_tree::patch::Patch;
-use rdl_tree::session::{SessionFault, Where};
-use rdl_write::session;
+use rdl_tree::session::SessionFault;
 use std::alloc::{AllocError, Global};
 use std::process::Abort;
 use std::test::Fail;
@@ -31,37 +29,6 @@ fn history(alloc: Global, text: &str, limit: u32) -> Result<Journal<Map>, Fail> 
     match resumed(alloc, text) {
         Ok(resumed) => Ok(Journal::resume(resumed.map, limit, resumed.undo, resumed.redo)),
         Err(_) => Err(Fail::new("is no session")),
-    }
-}
-
-fn place_text(alloc: Global, place: Where) -> Result<String, AllocError> {
-    match place {
-        Where::Map => String::from_str(alloc, "map"),
-        Where::Undo(number) => format!(in alloc; "undo {number}"),
-        Where::Redo(number) => format!(in alloc; "redo {number}"),
-    }
-}
-
-/// Why the session is refused.
-fn fault_text(alloc: Global, fault: &SessionFault) -> Result<String, AllocError> {
-    match fault {
-        SessionFault::PatchMisfits(place) => {
-            let place = place_text(alloc, *place)?;
-            format!(in alloc; "Z2 at {place}")
-        }
-        SessionFault::MapFaulty(place, fault) => {
-            let place = place_text(alloc, *place)?;
-            let number = fault.kind.number();
-            format!(in alloc; "Z3 at {place}: E{number} at item {}", fault.address)
-        }
-        other => format!(in alloc; "Z{}", other.number()),
-    }
-}
-
-fn refusal(alloc: Global, text: &str) -> Result<String, AllocError> {
-    match resumed(alloc, text) {
-        Ok(_resumed) => String::from_str(alloc, "accepted"),
-        Err(fault) => fault_text(alloc, &fault),
     }
 }
 
@@ -95,67 +62,7 @@ redo 0
 end
 ";
 
-const LISTED: &str = "0x0 addrmap top size 0x4
-0x0 reg top.a size 0x4
-[0:0] field top.a.f
-";
-
-/// The patches of the next step back.
-fn next_back(journal: &Journal<Map>) -> &[Patch] {
-    match journal.undo_at(0) {
-        Some(back) => back.patches(),
-        None => &[],
-    }
-}
-
-/// The session of a history with one step back and none on.
-fn written(alloc: Global, journal: &Journal<Map>) -> Result<String, Fail> {
-    match session(
-        alloc,
-        journal.map().description(),
-        &[next_back(journal)],
-        &[],
-    ) {
-        Ok(text) => Ok(text),
-        Err(_) => Err(Fail::new("isn't written")),
-    }
-}
-
-#[test]
-fn a_step_on_is_taken_and_written_as_a_step_back(rt: HostRuntime) -> Result<(), Fail> {
-    let alloc = rt.alloc();
-    let mut journal = history(alloc, ONE_STEP_ON, 100)?;
-    let redone = answer(alloc, &mut journal, "redo")?;
-    assert_same(&rt, redone.as_str(), "", "redo");
-    assert_same(
-        &rt,
-        answer(alloc, &mut journal, "list")?.as_str(),
-        LISTED,
-        "the list",
-    );
-    assert_same(
-        &rt,
-        written(alloc, &journal)?.as_str(),
-        ONE_STEP_BACK,
-        "the session",
-    );
-    Ok(())
-}
-
 const ADD: &str = "add /$top last reg { field {} g; } b;";
-
-/// The lines that a history of at most one step back answers, and what it says.
-const LINES: [(&str, &str); 4] = [(ADD, "J1"), ("undo", ""), (ADD, ""), ("redo", "J3")];
-
-#[test]
-fn the_limit_is_that_of_the_run(rt: HostRuntime) -> Result<(), Fail> {
-    let mut journal = history(rt.alloc(), ONE_STEP_BACK, 1)?;
-    for (line, want) in LINES.iter() {
-        let found = answer(rt.alloc(), &mut journal, line)?;
-        assert_same(&rt, found.as_str(), want, line);
-    }
-    Ok(())
-}
 
 /// `read` for a step that was read from a session or takes back one that was, else `made`.
 fn push_mark(text: &mut String, back: Option<&Back>) -> Result<(), AllocError> {
@@ -202,56 +109,55 @@ const MARKED: [(&str, &str); 8] = [
     ("redo", "made read | "),
 ];
 
-#[test]
-fn a_step_that_was_read_stays_marked(rt: HostRuntime) -> Result<(), Fail> {
-    let alloc = rt.alloc();
-    let mut journal = history(alloc, ONE_STEP_ON, 100)?;
-    assert_marks(&rt, alloc, &journal, "| read ", "nothing")?;
-    for (line, want) in MARKED.iter() {
-        let found = answer(alloc, &mut journal, line)?;
-        assert_same(&rt, found.as_str(), "", line);
-        assert_marks(&rt, alloc, &journal, want, line)?;
+fn marked() -> &'static [(&'static str, &'static str)] {
+    &MARKED
+}
+
+fn assert_each_marked(
+    rt: &impl Abort,
+    alloc: Global,
+    journal: &mut Journal<Map>,
+    steps: &[(&str, &str)],
+) -> Result<(), Fail> {
+    for (line, want) in steps {
+        assert_holds(rt, is_made(alloc, journal, line)?, line);
+        assert_marks(rt, alloc, journal, want, line)?;
     }
-    let journal = history(alloc, ONE_STEP_BACK, 100)?;
-    assert_marks(&rt, alloc, &journal, "read | ", "nothing")?;
     Ok(())
 }
 
-/// What of the first session is replaced, by what, and why the new one is refused.
-const REFUSED: [(&str, &str, &str); 2] = [
-    ("end\n", "", "Z1"),
-    ("insert 0.0 32", "insert 0.1 32", "Z2 at redo 1"),
-];
-
-const PAST_REGISTER: &str = "regedit session 1
-map 17
-addrmap top {
-};
-undo 0
-redo 1
-back 1
-insert 0.0 36
-reg {
-    field {
-    } f[33];
-} a;
-end
-";
+#[test]
+fn a_step_that_was_read_stays_marked(rt: HostRuntime) -> Result<(), Fail> {
+    let mut journal = history(rt.alloc(), ONE_STEP_ON, 100)?;
+    assert_marks(&rt, rt.alloc(), &journal, "| read ", "nothing")?;
+    assert_each_marked(&rt, rt.alloc(), &mut journal, marked())
+}
 
 #[test]
-fn a_step_that_cannot_be_taken_is_named(rt: HostRuntime) -> Result<(), Fail> {
-    let alloc = rt.alloc();
-    for (old, new, want) in REFUSED.iter() {
-        let text = ONE_STEP_ON.replace(alloc, old, new)?;
-        let found = refusal(alloc, text.as_str())?;
-        assert_same(&rt, found.as_str(), want, new);
-    }
-    let found = refusal(alloc, PAST_REGISTER)?;
-    assert_same(
-        &rt,
-        found.as_str(),
-        "Z3 at redo 1: E21 at item 0.0.0",
-        PAST_REGISTER,
-    );
+fn a_step_back_that_was_read_is_marked(rt: HostRuntime) -> Result<(), Fail> {
+    let journal = history(rt.alloc(), ONE_STEP_BACK, 100)?;
+    assert_marks(&rt, rt.alloc(), &journal, "read | ", "nothing")?;
     Ok(())
+}
+
+/// Whether the text is refused as no session.
+fn is_no_session(alloc: Global, text: &str) -> bool {
+    match parse_session(alloc, text) {
+        Ok(_session) => false,
+        Err(fault) => fault.number() == 1,
+    }
+}
+
+/// Texts that a run would read as maps.
+const NO_SESSIONS: [&str; 3] = [
+    "",
+    "regedit session 1",
+    "regedit session 2\nmap 0\nundo 0\nredo 0\nend\n",
+];
+
+#[test]
+fn maps_are_no_sessions(rt: HostRuntime) {
+    for text in NO_SESSIONS {
+        assert_holds(&rt, is_no_session(rt.alloc(), text), text);
+    }
 }

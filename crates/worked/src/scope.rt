@@ -1,16 +1,12 @@
-//! Types, targets, values and the first fault of items, of small descriptions.
+//! The values of properties, of small descriptions.
 ghost use Rattle.std.specs.Prelude.{◌≤◌};
 ghost use Rattle.rdl_tree.specs.Depth.{depth};
 
 use crate::assert_same;
 use crate::parse::description;
 use crate::tree::address;
-use rdl_scope::faults::check;
-use rdl_scope::targets::{passes, through};
-use rdl_scope::types::type_of;
 use rdl_scope::values::value;
 use rdl_text::name::Name;
-use rdl_tree::address::Address;
 use rdl_tree::description::Description;
 use rdl_tree::value::Value;
 use std::alloc::{AllocError, Global};
@@ -25,106 +21,8 @@ fn names(alloc: Global, text: &str) -> Result<Vec<Name>, Fail> {
     Ok(names)
 }
 
-// The number of the first fault and the address of its item, as in `E2 at 0.0`.
-fn verdict(alloc: Global, text: &str) -> Result<String, Fail> {
-    match check(alloc, &description(alloc, text)?) {
-        Ok(()) => Ok(String::from_str(alloc, "none")?),
-        Err(fault) => Ok(format!(in alloc; "E{} at {}", fault.kind.number(), fault.address)?),
-    }
-}
-
-const TWO_TARGETS: &str =
-    "reg T { field {} e; field {} f; }; addrmap top { T u; T v; u.f->reset = 1; T w; v.f->reset = 0; };";
-
-const VERDICTS: [(&str, &str); 13] = [
-    ("reg A {}; field A {};", "E1 at 1"),
-    ("addrmap top { T u; }; reg T {};", "E2 at 0.0"),
-    ("addrmap top { field {} f; };", "E3 at 0.0"),
-    ("addrmap top { nothing = true; };", "E4 at 0.0"),
-    ("addrmap top { regwidth = 32; };", "E5 at 0.0"),
-    ("reg top { regwidth = 24; };", "E6 at 0.0"),
-    ("default regwidth = 8; default regwidth = 16;", "E7 at 1"),
-    ("field top { we = true; wel = true; };", "E8 at 0.1"),
-    ("addrmap top { a.b->reset = 1; };", "E9 at 0.0"),
-    ("reg top { field {} f; f->fieldwidth = 2; };", "E10 at 0.1"),
-    ("reg top { field {} a @ 4; };", "E11 at 0.0"),
-    ("addrmap top { reg {} a[0]; };", "E12 at 0.0"),
-    (TWO_TARGETS, "none"),
-];
-
-fn verdicts() -> &'static [(&'static str, &'static str)] {
-    &VERDICTS
-}
-
-#[test]
-fn judges_each_fault(rt: HostRuntime) -> Result<(), Fail> {
-    for (text, wanted) in verdicts() {
-        assert_same(&rt, verdict(rt.alloc(), text)?.as_str(), wanted, text);
-    }
-    Ok(())
-}
-
 const SHADOWED: &str =
     "reg T {}; addrmap top { regfile { T u; reg T {}; T v; } g; default regwidth = 8; };";
-
-// A text, an instance's address, and the address of the definition of its type.
-const TYPES: [(&str, &[usize], &[usize]); 3] = [
-    (TWO_TARGETS, &[1, 0], &[0]),
-    (SHADOWED, &[1, 0, 0], &[0]),
-    (SHADOWED, &[1, 0, 2], &[1, 0, 1]),
-];
-
-fn types() -> &'static [(&'static str, &'static [usize], &'static [usize])] {
-    &TYPES
-}
-
-fn has_type(description: &Description, instance: &[usize], definition: &[usize]) -> bool {
-    match type_of(description, &address(instance)) {
-        Some(found) => found.as_slice() == definition,
-        None => false,
-    }
-}
-
-#[test]
-fn finds_types_from_their_definitions_on(rt: HostRuntime) -> Result<(), Fail> {
-    for (text, instance, definition) in types() {
-        let description = description(rt.alloc(), text)?;
-        assert!(rt; has_type(&description, instance, definition), "in {text}");
-    }
-    Ok(())
-}
-
-// Whether these instances are passed.
-fn is_path(passed: &Option<Vec<Address>>, wanted: &[&[usize]]) -> bool {
-    let Some(path) = passed else {
-        return false;
-    };
-    path.len() == wanted.len()
-        && path
-            .iter()
-            .zip(wanted)
-            .all(|(address, numbers)| address.as_slice() == *numbers)
-}
-
-#[test]
-fn finds_targets(rt: HostRuntime) -> Result<(), Fail> {
-    let description = description(rt.alloc(), TWO_TARGETS)?;
-    let passed = through(rt.alloc(), &description, &address(&[1, 2]))?;
-    assert!(rt; is_path(&passed, &[&[1, 0], &[0, 1]]));
-    Ok(())
-}
-
-#[test]
-fn passes_the_instances_before(rt: HostRuntime) -> Result<(), Fail> {
-    let description = description(rt.alloc(), TWO_TARGETS)?;
-    let target = names(rt.alloc(), "v.f")?;
-    let top = address(&[1]);
-    let before = passes(rt.alloc(), &description, &top, 1, target.as_slice())?;
-    assert!(rt; before.is_none());
-    let behind = passes(rt.alloc(), &description, &top, 2, target.as_slice())?;
-    assert!(rt; is_path(&behind, &[&[1, 1], &[0, 1]]));
-    Ok(())
-}
 
 // The value, as a number or the bytes of a string.
 fn shown(alloc: Global, value: Option<Value>) -> Result<String, AllocError> {

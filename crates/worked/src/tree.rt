@@ -1,4 +1,5 @@
 //! Trees: paths, counts, weights, copies, changes of one body, the largest description, and the table of properties.
+use crate::assert_holds;
 use crate::parse::{description, repeated};
 use rdl_text::name::{Name, NameFault};
 use rdl_tree::address::Address;
@@ -57,12 +58,6 @@ pub(crate) fn address(numbers: &[usize]) -> Address {
     address
 }
 
-#[test]
-fn prints_addresses(rt: HostRuntime) -> Result<(), Fail> {
-    assert!(rt; address(&[0, 3, 1]).to_string(rt.alloc())?.as_str() == "0.3.1");
-    Ok(())
-}
-
 /// Where a path leads, or why it leads nowhere.
 type Found = Result<&'static [usize], PathFault>;
 
@@ -96,7 +91,7 @@ const FOUND: [(&str, Found); 12] = [
 
 fn assert_each_found(rt: &impl Abort, alloc: Global, map: &Description) -> Result<(), Fail> {
     for (text, wanted) in FOUND.iter() {
-        assert!(rt; leads_to(alloc, map, text, wanted)?, "at {text}");
+        assert_holds(rt, leads_to(alloc, map, text, wanted)?, text);
     }
     Ok(())
 }
@@ -172,12 +167,8 @@ fn assert_copied(
 
 // T, bits, sw, top, all, desc, regwidth and all.bits->swmod; sw stands between two pairs of braces.
 #[test]
-fn copies_and_counts_each_form(rt: HostRuntime) -> Result<(), Fail> {
-    assert_copied(&rt, rt.alloc(), EVERY_FORM, "External", 8, 2)
-}
-
-#[test]
-fn copies_a_shared_type(rt: HostRuntime) -> Result<(), Fail> {
+fn copies_and_counts(rt: HostRuntime) -> Result<(), Fail> {
+    assert_copied(&rt, rt.alloc(), EVERY_FORM, "External", 8, 2)?;
     assert_copied(&rt, rt.alloc(), SHARED_TYPE, "Dynamic", 10, 2)
 }
 
@@ -197,13 +188,8 @@ fn has_no_body(map: &mut Description, at: &Address) -> bool {
 }
 
 // None at a named type, and none past the end.
-#[test]
-fn has_no_bodies_at_other_items(rt: HostRuntime) -> Result<(), Fail> {
-    let mut map = description(rt.alloc(), ONE_NAME)?;
-    assert!(rt;
-        has_no_body(&mut map, &address(&[1, 2, 0])) && has_no_body(&mut map, &address(&[1, 2, 7]))
-    );
-    Ok(())
+fn has_no_others(map: &mut Description) -> bool {
+    has_no_body(map, &address(&[1, 2, 0])) && has_no_body(map, &address(&[1, 2, 7]))
 }
 
 fn change(alloc: Global, map: &mut Description) -> Result<(), Fail> {
@@ -224,8 +210,9 @@ fn weighs(map: &Description, length: usize, weight: u64) -> bool {
 fn changes_one_body(rt: HostRuntime) -> Result<(), Fail> {
     let mut map = description(rt.alloc(), ONE_NAME)?;
     let weighs_before = weighs(&map, 1, 2 + 4 + 2 + 3 + 2 + 3 + 3);
+    let has_no_others = has_no_others(&mut map);
     change(rt.alloc(), &mut map)?;
-    assert!(rt; weighs_before && weighs(&map, 2, 19 + 7));
+    assert!(rt; has_no_others && weighs_before && weighs(&map, 2, 19 + 7));
     Ok(())
 }
 
@@ -274,9 +261,7 @@ fn inserts_and_removes_items(rt: HostRuntime) -> Result<(), Fail> {
 
 // 65,536 items, those of the innermost body at level 16.
 fn largest(alloc: Global) -> Result<String, AllocError> {
-    let opened = "addrmap d{".repeat(alloc, 16)?;
-    let closed = "};".repeat(alloc, 16)?;
-    repeated(alloc, &opened, "p;", 65_520, &closed)
+    repeated(alloc, &[("addrmap d{", 16), ("p;", 65_520), ("};", 16)])
 }
 
 #[test]
@@ -299,11 +284,17 @@ fn is_of_layouts(property: Property) -> bool {
     property.layout() && !property.dynamic() && property.built_in().is_none()
 }
 
+fn has_its_name() -> bool {
+    property("stickybit") == Some(Property::Stickybit) && property("Reset") == None
+}
+
 #[test]
 fn reads_the_table_of_properties(rt: HostRuntime) {
     let alignment = Property::Alignment;
     assert!(rt;
-        stands_on_files(alignment) && takes_powers_of_two(alignment) && is_of_layouts(alignment)
+        stands_on_files(alignment)
+            && takes_powers_of_two(alignment)
+            && is_of_layouts(alignment)
+            && has_its_name()
     );
-    assert!(rt; property("stickybit") == Some(Property::Stickybit) && property("Reset") == None);
 }

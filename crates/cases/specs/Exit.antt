@@ -1,0 +1,10 @@
+-- The exit status of a run that wrote its whole output. Own.
+use Rattle.std.specs.Prelude.{ℕ}
+use Rattle.rdl_run.specs.declared.status.Status.{Status}
+use Rattle.rdl_run.specs.declared.status.Status.TheVariants as statuses
+
+abbrev pub status_code : Status → ℕ
+status_code statuses.Accepted = 0
+status_code statuses.LineRefused = 1
+status_code statuses.MapRefused = 2
+status_code (statuses.Incomplete missing) = 3

@@ -1,0 +1,135 @@
+//! A case: what a run is given, and what is wanted of it.
+use crate::heading::Heading;
+
+/// Lines that are wanted: none, or a text to which a last line feed is to be added.
+pub type Lines<'a> = Option<&'a str>;
+
+/// What a run is given.
+#[derive(Clone, Copy)]
+pub struct Given<'a> {
+    pub map: Option<&'a str>,
+    pub script: &'a str,
+    pub top: Option<&'a str>,
+    pub history: u32,
+}
+
+/// What is wanted of a run. Where nothing is said of a text it may be any.
+#[derive(Clone, Copy)]
+pub struct Wanted<'a> {
+    pub status: Option<u8>,
+    pub prints: Option<Lines<'a>>,
+    pub writes: Option<Lines<'a>>,
+    pub header: Option<Lines<'a>>,
+    pub session: Option<Lines<'a>>,
+}
+
+/// A case, as far as its headings are read.
+#[derive(Clone, Copy)]
+pub struct Case<'a> {
+    pub words: &'a str,
+    pub given: Given<'a>,
+    pub wanted: Wanted<'a>,
+    /// The name of a heading that can't be read.
+    pub mistake: Option<&'a str>,
+}
+
+/// Says what is wanted, and answers whether nothing was said of it before.
+fn say<'a>(place: &mut Option<Lines<'a>>, lines: Lines<'a>) -> bool {
+    let is_first = place.is_none();
+    *place = Some(lines);
+    is_first
+}
+
+impl<'a> Given<'a> {
+    fn new(map: Option<&'a str>) -> Given<'a> {
+        Given {
+            map,
+            script: "",
+            top: None,
+            history: 10_000,
+        }
+    }
+
+    fn read_history(&mut self, word: &str) -> bool {
+        match word.parse::<u32>() {
+            Ok(history) => {
+                self.history = history;
+                true
+            }
+            Err(_) => false,
+        }
+    }
+
+    /// Reads a heading, and answers whether it is one of these.
+    fn read(&mut self, heading: &Heading<'a>) -> bool {
+        match heading.name {
+            "map" => self.map = Some(heading.text()),
+            "script" => self.script = heading.text(),
+            "top" => self.top = Some(heading.word),
+            "history" => return self.read_history(heading.word),
+            _ => return false,
+        }
+        true
+    }
+}
+
+impl<'a> Wanted<'a> {
+    fn new() -> Wanted<'a> {
+        Wanted {
+            status: None,
+            prints: None,
+            writes: None,
+            header: None,
+            session: None,
+        }
+    }
+
+    fn read_status(&mut self, word: &str) -> bool {
+        let is_first = self.status.is_none();
+        self.status = word.parse::<u8>().ok();
+        is_first && self.status.is_some()
+    }
+
+    /// Reads a heading, and answers whether it is one of these, and the first of its name.
+    fn read(&mut self, heading: &Heading<'a>) -> bool {
+        match heading.name {
+            "status" => self.read_status(heading.word),
+            "prints" => say(&mut self.prints, heading.lines),
+            "writes" => say(&mut self.writes, heading.lines),
+            "header" => say(&mut self.header, heading.lines),
+            "session" => say(&mut self.session, heading.lines),
+            _ => false,
+        }
+    }
+}
+
+impl<'a> Case<'a> {
+    /// A case without a map.
+    pub fn new(words: &'a str) -> Case<'a> {
+        Case {
+            words,
+            given: Given::new(None),
+            wanted: Wanted::new(),
+            mistake: None,
+        }
+    }
+
+    /// The case that begins behind this one, and has its map until another is read.
+    pub fn next(&self, words: &'a str) -> Case<'a> {
+        Case {
+            words,
+            given: Given::new(self.given.map),
+            wanted: Wanted::new(),
+            mistake: None,
+        }
+    }
+
+    /// Reads a heading that begins no case.
+    pub fn read(&mut self, heading: &Heading<'a>) {
+        let is_read = heading.is_formed()
+            && (self.given.read(heading) || self.wanted.read(heading));
+        if !is_read {
+            self.mistake = Some(heading.name);
+        }
+    }
+}

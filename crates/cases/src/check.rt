@@ -1,0 +1,128 @@
+//! Whether a case passes, and what is said of it where it doesn't.
+ghost use Rattle.std.specs.Prelude.{◌≡◌, ◌↔◌, [], ◌∷◌, ◌++◌, IsTrue, MatchOption};
+ghost use Rattle.cases.specs.Exit.{status_code};
+
+use crate::case::{Case, Lines, Wanted};
+use crate::found::{End, Found, find};
+use rdl_run::status::Status;
+use std::{io, str};
+
+/// The exit status of a run.
+fn status_code(status: Status) -> u8
+    ensures { result ≡ status_code status }
+{
+    match status {
+        Status::Accepted => 0,
+        Status::LineRefused => 1,
+        Status::MapRefused => 2,
+        Status::Incomplete(_) => 3,
+    }
+}
+
+/// Whether a text has these lines, each with its line feed, and nothing else.
+fn has_lines(text: &[u8], lines: Lines) -> bool
+    ensures { IsTrue result ↔ MatchOption lines (text.now ≡ []) (λ front. text.now ≡ front.now ++ 10 ∷ []) }
+{
+    match (lines, text.split_last()) {
+        (None, None) => true,
+        (Some(lines), Some((last, front))) => *last == b'\n' && front == lines.as_bytes(),
+        _ => false,
+    }
+}
+
+/// Whether a text is as it is wanted, if anything is said of it.
+fn is_wanted(text: &Vec<u8>, wanted: Option<Lines>) -> bool {
+    match wanted {
+        Some(lines) => has_lines(text.as_slice(), lines),
+        None => true,
+    }
+}
+
+fn is_wanted_end(end: End, wanted: u8) -> bool {
+    match end {
+        End::Ended(status) => status_code(status) == wanted,
+        End::Stopped(_) | End::BadTop => false,
+    }
+}
+
+fn text_of(bytes: &[u8]) -> &str {
+    match str::from_utf8(bytes) {
+        Ok(text) => text,
+        Err(_) => "(no text)",
+    }
+}
+
+fn print_part(
+    rt: &HostRuntime,
+    name: &str,
+    text: &Vec<u8>,
+    wanted: Option<Lines>,
+) -> io::Result<()> {
+    if is_wanted(text, wanted) {
+        return Ok(());
+    }
+    let lines = wanted.flatten().unwrap_or("(none)");
+    println!(rt;
+        "wanted %{name}\n{lines}\ncame %{name}\n{}",
+        text_of(text.as_slice())
+    )
+}
+
+fn print_end(rt: &HostRuntime, end: End, wanted: u8) -> io::Result<()> {
+    match end {
+        End::Ended(status) => println!(rt; "wanted %status {wanted}, came {}", status_code(status)),
+        End::Stopped(fault) => println!(rt; "wanted %status {wanted}, came {fault}"),
+        End::BadTop => println!(rt; "%top has no name"),
+    }
+}
+
+/// Whether a run ended as is wanted, and its texts are as they are wanted.
+fn is_met(found: &Found, wanted: &Wanted, status: u8) -> bool {
+    is_wanted_end(found.end, status)
+        && is_wanted(&found.messages, wanted.prints)
+        && is_wanted(&found.rdl, wanted.writes)
+        && is_wanted(&found.header, wanted.header)
+        && is_wanted(&found.session, wanted.session)
+}
+
+/// Prints what came in place of what is wanted.
+fn print_found(rt: &HostRuntime, found: &Found, wanted: &Wanted, status: u8) -> io::Result<()> {
+    if !is_wanted_end(found.end, status) {
+        print_end(rt, found.end, status)?;
+    }
+    print_part(rt, "prints", &found.messages, wanted.prints)?;
+    print_part(rt, "writes", &found.rdl, wanted.writes)?;
+    print_part(rt, "header", &found.header, wanted.header)?;
+    print_part(rt, "session", &found.session, wanted.session)
+}
+
+/// Whether the run on a map ends and says and writes as is wanted.
+fn runs_as_wanted(rt: &HostRuntime, case: &Case, map: &str, status: u8) -> io::Result<bool> {
+    let found = find(rt.alloc(), map, &case.given);
+    let is_met = is_met(&found, &case.wanted, status);
+    if !is_met {
+        println!(rt; "failed: {}", case.words)?;
+        print_found(rt, &found, &case.wanted, status)?;
+    }
+    Ok(is_met)
+}
+
+fn refuse(rt: &HostRuntime, case: &Case, why: &str, heading: &str) -> io::Result<bool> {
+    println!(rt; "failed: {}\n{why} %{heading}", case.words)?;
+    Ok(false)
+}
+
+/// Whether a case passes. Of one that doesn't it says why.
+pub fn passes(rt: &HostRuntime, case: &Case) -> io::Result<bool> {
+    if let Some(heading) = case.mistake {
+        return refuse(rt, case, "no such heading, or not here:", heading);
+    }
+    if case.wanted.prints.is_none() {
+        return refuse(rt, case, "lacks", "prints");
+    }
+    match (case.given.map, case.wanted.status) {
+        (Some(map), Some(status)) => runs_as_wanted(rt, case, map, status),
+        (None, _) => refuse(rt, case, "lacks", "map"),
+        (_, None) => refuse(rt, case, "lacks", "status"),
+    }
+}
