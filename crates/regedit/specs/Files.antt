@@ -10,7 +10,7 @@ abbrev pub Filed : Type 0
 Filed = List ℕ × List ℕ
 
 abbrev pub seen : Output → Filed
-seen output = output.path.now , output.text.now
+seen output = (output.path.now, output.text.now)
 
 abbrev pub if_there : Bool → Filed → List Filed
 if_there true filed = filed ∷ []
@@ -18,12 +18,12 @@ if_there false filed = []
 
 -- the session goes nowhere where it isn't asked for
 abbrev pub session_files : Bool → Option (List ℕ) → List ℕ → List Filed
-session_files there (Some path) text = if_there there (path , text)
+session_files there (Some path) text = if_there there (path, text)
 session_files there None text = []
 
 -- the map, then the header, then the session, each where it is there
 abbrev pub files_of : Texts → Paths → List Filed
 files_of texts paths =
-    if_there (has_map texts.status) (string_bytes paths.rdl , texts.rdl.items)
-    ++ if_there (has_header texts.status) (string_bytes paths.header , texts.header.items)
+    if_there (has_map texts.status) (string_bytes paths.rdl, texts.rdl.items)
+    ++ if_there (has_header texts.status) (string_bytes paths.header, texts.header.items)
     ++ session_files (has_session texts.status) (option_map string_bytes paths.session) texts.session.items

@@ -108,7 +108,9 @@ fn refuse<M: Write, E: Write>(
     ensures { Ends fault result }
 {
     match fault {
-        LineFault::Help(told) | LineFault::Version(told) => match print_told(alloc, &told, messages) {
+        LineFault::Help(told) | LineFault::Version(told) => match print_told(
+            alloc, &told, messages,
+        ) {
             Ok(()) => 0,
             Err(fault) => report(Failure::Fault(fault), errors),
         },

@@ -6,11 +6,10 @@ use crate::paths::Paths;
 use rdl_run::run::{Options, run};
 use rdl_run::status::{RunFault, Status};
 use std::alloc::{AllocError, Global};
-use std::fmt;
 use std::fs::File;
-use std::io;
 use std::io::{ErrorKind, Write};
 use std::rt::Files;
+use std::{fmt, io};
 use whole_files::noted::{NotedReader, NotedWriter};
 use whole_files::output::{Output, write_whole};
 
@@ -82,10 +81,7 @@ impl<'a> Stop<'a> {
 /// The greatest map or session and the greatest script, in bytes.
 const MOST_BYTES: u64 = 67_108_864;
 
-fn open_input<'a, R: Files>(
-    rt: &R,
-    path: &'a str,
-) -> Result<NotedReader<R::File>, Stop<'a>> {
+fn open_input<'a, R: Files>(rt: &R, path: &'a str) -> Result<NotedReader<R::File>, Stop<'a>> {
     match File::open(rt, path) {
         Ok(file) => Ok(NotedReader::new(file)),
         Err(error) => Err(Stop::at(RunFault::Read, Action::Read, path, error)),

@@ -16,6 +16,7 @@ mod limits;
 mod saving;
 mod sessions;
 mod stops;
+mod whole;
 mod words;
 
 const MAP: &str = "addrmap top { reg { field {} f[8] = 0x5; } a; };";

@@ -1,10 +1,21 @@
 //! Readers and writers of which it is known why they failed.
-ghost use Rattle.std.specs.Prelude.{◌≡◌, IsSome, IfOk, OnErr, OnOk};
-ghost use Rattle.std.specs.Io.{ReadsAtMost, WritesAtMost};
+ghost use Rattle.std.specs.Prelude.{◌≡◌, IsSome, OnErr, OnOk};
+ghost use Rattle.std.specs.Io.{ReadsAtMost};
+ghost use Rattle.std.specs.IoError.{error_kind};
 ghost use Rattle.std.specs.Io.KnownBytes.{ReadConsumes};
 
 use std::io;
 use std::io::{Read, Write};
+
+/// Keeps the error, and answers one of its kind.
+fn note(kept: &mut Option<io::Error>, error: io::Error) -> io::Error
+    ensures kept { IsSome kept.new }
+    ensures kind { error_kind result ≡ error_kind error }
+{
+    let kind = error.kind();
+    *kept = Some(error);
+    io::Error::from(kind)
+}
 
 /// A reader, how many bytes it has given, and why it failed last.
 #[derive(Debug, Drop)]
@@ -53,11 +64,7 @@ impl<R: Read> Read for NotedReader<R> {
                 self.bytes = self.bytes.saturating_add(count as u64);
                 Ok(count)
             }
-            Err(error) => {
-                let kind = error.kind();
-                self.error = Some(error);
-                Err(io::Error::from(kind))
-            }
+            Err(error) => Err(note(&mut self.error, error)),
         }
     }
 }
@@ -90,11 +97,7 @@ impl<W: Write> Write for NotedWriter<'_, W> {
     fn write(&mut self, bytes: &[u8]) -> io::Result<usize> {
         match self.writer.write(bytes) {
             Ok(count) => Ok(count),
-            Err(error) => {
-                let kind = error.kind();
-                self.error = Some(error);
-                Err(io::Error::from(kind))
-            }
+            Err(error) => Err(note(&mut self.error, error)),
         }
     }
 

@@ -6,16 +6,16 @@ use std::process::Abort;
 use std::test::Fail;
 use std::{env, fs, process, str};
 
-const SCRIPT: &str = "add /$top last reg { field {} g; } b;\nundo\nredo\nlist\n";
+pub(super) const SCRIPT: &str = "add /$top last reg { field {} g; } b;\nundo\nredo\nlist\n";
 
-const MESSAGES: &str = "0x0 addrmap top size 0x8
+pub(super) const MESSAGES: &str = "0x0 addrmap top size 0x8
 0x0 reg top.a size 0x4
 [7:0] field top.a.f reset 0x5
 0x4 reg top.b size 0x4
 [0:0] field top.b.g
 ";
 
-const WRITTEN: &str = "addrmap top {
+pub(super) const WRITTEN: &str = "addrmap top {
     reg {
         field {
         } f[8] = 0x5;
@@ -27,7 +27,7 @@ const WRITTEN: &str = "addrmap top {
 };
 ";
 
-const HEADER: &str = "#ifndef top_H
+pub(super) const HEADER: &str = "#ifndef top_H
 #define top_H
 #define top__a_base 0x0
 #define top__a_offset 0x0
@@ -124,15 +124,19 @@ impl Folder {
         Ok(())
     }
 
-    fn create_folder(&self, rt: &HostRuntime, name: &str) -> Result<(), Fail> {
-        let folder = self.file(rt, name)?;
-        fs::create_dir(rt, folder.as_str())?;
-        Ok(())
-    }
-
     fn read(&self, rt: &HostRuntime, name: &str) -> Result<String, Fail> {
         let file = self.file(rt, name)?;
         Ok(fs::read_to_string(rt, file.as_str())?)
+    }
+
+    /// How many files there are.
+    pub(super) fn count(&self, rt: &HostRuntime) -> Result<usize, Fail> {
+        let mut count = 0usize;
+        for entry in fs::read_dir(rt, self.path.as_str())? {
+            let _ = entry?;
+            count = count.saturating_add(1);
+        }
+        Ok(count)
     }
 
     pub(super) fn remove(self, rt: &HostRuntime) -> Result<(), Fail> {
@@ -213,16 +217,16 @@ fn assert_holds(
     Ok(())
 }
 
-type Texts = &'static [(&'static str, &'static str)];
+pub(super) type Texts = &'static [(&'static str, &'static str)];
 
-fn write_each(rt: &HostRuntime, folder: &Folder, texts: Texts) -> Result<(), Fail> {
+pub(super) fn write_each(rt: &HostRuntime, folder: &Folder, texts: Texts) -> Result<(), Fail> {
     for (name, text) in texts {
         folder.write(rt, name, text)?;
     }
     Ok(())
 }
 
-fn assert_each_holds(
+pub(super) fn assert_each_holds(
     abort: &impl Abort,
     rt: &HostRuntime,
     folder: &Folder,
@@ -300,35 +304,6 @@ fn of_headers_stay_where_two_macros_have_one_name(rt: HostRuntime) -> Result<(),
     ];
     let behind = &[("out.rdl", CLASH_WRITTEN), ("out.h", "old header")];
     assert_run(&rt, &rt, "clash", before, (3, CLASH_MESSAGE, ""), behind)
-}
-
-// Nothing is written where the map or the script isn't there.
-#[test]
-fn that_cannot_be_read_are_a_read_fault(rt: HostRuntime) -> Result<(), Fail> {
-    let said = (4, "", "regedit: read fault\n");
-    let behind = &[("out.rdl", "old map")];
-    let without_map = &[("script.txt", SCRIPT), ("out.rdl", "old map")];
-    assert_run(&rt, &rt, "mapless", without_map, said, behind)?;
-    let without_script = &[("map.rdl", MAP), ("out.rdl", "old map")];
-    assert_run(&rt, &rt, "scriptless", without_script, said, behind)
-}
-
-fn assert_header_is_a_folder(
-    abort: &impl Abort,
-    rt: &HostRuntime,
-    folder: &Folder,
-) -> Result<(), Fail> {
-    folder.create_folder(rt, "out.h")?;
-    let before = &[("map.rdl", MAP), ("script.txt", SCRIPT)];
-    let said = (4, MESSAGES, "regedit: write fault\n");
-    assert_run_in(abort, rt, folder, before, said, &[("out.rdl", WRITTEN)])
-}
-
-#[test]
-fn that_cannot_be_written_are_a_write_fault(rt: HostRuntime) -> Result<(), Fail> {
-    let folder = Folder::new(&rt, "write")?;
-    assert_header_is_a_folder(&rt, &rt, &folder)?;
-    folder.remove(&rt)
 }
 
 fn assert_written_in_place(

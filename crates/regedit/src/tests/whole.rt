@@ -1,0 +1,342 @@
+//! Files that are replaced whole, and paths that lead to one file.
+use super::MAP;
+use super::files::{
+    Folder, HEADER, SCRIPT, Texts, WRITTEN, assert_each_holds, run_words, write_each,
+};
+use std::fs;
+use std::fs::Permissions;
+use std::os::unix::fs::PermissionsExt;
+use std::process::Abort;
+use std::test::Fail;
+
+/// Words, of which those that begin with no hyphen and no slash are names in a folder.
+type Words = &'static [&'static str];
+
+/// A status, the first line on standard error, and how the second one ends.
+type Ending = (u8, &'static str, &'static str);
+
+/// What stands in a folder, the words of a run, how it ends, what stands there then, and how many files that are.
+type Case = (Texts, Words, Ending, Texts, usize);
+
+const BEFORE: Texts = &[
+    ("map.rdl", MAP),
+    ("script.txt", SCRIPT),
+    ("out.rdl", "old map"),
+    ("out.h", "old header"),
+];
+
+const WELL: Ending = (0, "", "");
+
+const TWO_OUTPUTS: Ending = (5, "regedit: two outputs in one file\n", "");
+
+const OVER_SCRIPT: Ending = (5, "regedit: an output over SCRIPT\n", "");
+
+const OVER_MAP: Ending = (5, "regedit: header over MAP\n", "");
+
+static CASES: [Case; 14] = [
+    // old files give their places, and nothing stands beside them
+    (
+        BEFORE,
+        &[
+            "map.rdl",
+            "script.txt",
+            "--rdl",
+            "out.rdl",
+            "--header",
+            "out.h",
+        ],
+        WELL,
+        &[("out.rdl", WRITTEN), ("out.h", HEADER)],
+        4,
+    ),
+    // what a run that was stopped has left is taken away
+    (
+        &[
+            ("map.rdl", MAP),
+            ("script.txt", SCRIPT),
+            ("out.rdl", "old map"),
+            ("out.rdl.regedit-0", "half a"),
+        ],
+        &[
+            "map.rdl",
+            "script.txt",
+            "--rdl",
+            "out.rdl",
+            "--header",
+            "out.h",
+        ],
+        WELL,
+        &[("out.rdl", WRITTEN), ("out.h", HEADER)],
+        4,
+    ),
+    // a second output that can't be written leaves the first as it was
+    (
+        BEFORE,
+        &[
+            "map.rdl",
+            "script.txt",
+            "--rdl",
+            "out.rdl",
+            "--header",
+            "no/out.h",
+        ],
+        (
+            4,
+            "regedit: write fault\n",
+            "/no/out.h: No such file or directory (os error 2)\n",
+        ),
+        BEFORE,
+        4,
+    ),
+    (
+        BEFORE,
+        &["map.rdl", "script.txt", "--rdl", "out.rdl", "--header", "."],
+        (
+            4,
+            "regedit: write fault\n",
+            "/.: Is a directory (os error 21)\n",
+        ),
+        BEFORE,
+        4,
+    ),
+    // the file that can't be read, and why
+    (
+        BEFORE,
+        &[
+            "none.rdl",
+            "script.txt",
+            "--rdl",
+            "out.rdl",
+            "--header",
+            "out.h",
+        ],
+        (
+            4,
+            "regedit: read fault\n",
+            "/none.rdl: No such file or directory (os error 2)\n",
+        ),
+        BEFORE,
+        4,
+    ),
+    (
+        BEFORE,
+        &["map.rdl", ".", "--rdl", "out.rdl", "--header", "out.h"],
+        (
+            4,
+            "regedit: read fault\n",
+            "/.: Is a directory (os error 21)\n",
+        ),
+        BEFORE,
+        4,
+    ),
+    // two outputs in one file, by one word or by two
+    (
+        BEFORE,
+        &[
+            "map.rdl",
+            "script.txt",
+            "--rdl",
+            "out.h",
+            "--header",
+            "out.h",
+        ],
+        TWO_OUTPUTS,
+        BEFORE,
+        4,
+    ),
+    (
+        BEFORE,
+        &[
+            "map.rdl",
+            "script.txt",
+            "--rdl",
+            "out.h",
+            "--header",
+            "./out.h",
+        ],
+        TWO_OUTPUTS,
+        BEFORE,
+        4,
+    ),
+    // also where it isn't there yet
+    (
+        BEFORE,
+        &[
+            "map.rdl",
+            "script.txt",
+            "--rdl",
+            "out.rdl",
+            "--header",
+            "new",
+            "--session",
+            "./new",
+        ],
+        TWO_OUTPUTS,
+        BEFORE,
+        4,
+    ),
+    // an output over the script
+    (
+        BEFORE,
+        &[
+            "map.rdl",
+            "script.txt",
+            "--rdl",
+            "out.rdl",
+            "--header",
+            "script.txt",
+        ],
+        OVER_SCRIPT,
+        BEFORE,
+        4,
+    ),
+    (
+        BEFORE,
+        &[
+            "map.rdl",
+            "script.txt",
+            "--rdl",
+            "./script.txt",
+            "--header",
+            "out.h",
+        ],
+        OVER_SCRIPT,
+        BEFORE,
+        4,
+    ),
+    // the header over the map
+    (
+        BEFORE,
+        &[
+            "map.rdl",
+            "script.txt",
+            "--rdl",
+            "out.rdl",
+            "--header",
+            "./map.rdl",
+        ],
+        OVER_MAP,
+        BEFORE,
+        4,
+    ),
+    // a device meets nothing
+    (
+        BEFORE,
+        &[
+            "map.rdl",
+            "script.txt",
+            "--rdl",
+            "/dev/null",
+            "--header",
+            "/dev/null",
+        ],
+        WELL,
+        BEFORE,
+        4,
+    ),
+    // the session may take the place of the map that it holds
+    (
+        &[("map.rdl", "addrmap top {};"), ("script.txt", "")],
+        &[
+            "map.rdl",
+            "script.txt",
+            "--rdl",
+            "/dev/null",
+            "--header",
+            "/dev/null",
+            "--session",
+            "map.rdl",
+        ],
+        WELL,
+        &[(
+            "map.rdl",
+            "regedit session 1\nmap 17\naddrmap top {\n};\nundo 0\nredo 0\nend\n",
+        )],
+        2,
+    ),
+];
+
+fn cases() -> &'static [Case] {
+    &CASES
+}
+
+fn in_folder(rt: &HostRuntime, folder: &Folder, words: Words) -> Result<Vec<String>, Fail> {
+    let mut whole = Vec::new(rt.alloc());
+    for word in words {
+        whole.push(if word.starts_with("-") || word.starts_with("/") {
+            String::from_str(rt.alloc(), word)?
+        } else {
+            folder.file(rt, word)?
+        })?;
+    }
+    Ok(whole)
+}
+
+/// Whether these are the lines on standard error: none, the first alone, or the first and one that ends so.
+fn has_lines(errors: &str, ending: Ending) -> bool {
+    errors.starts_with(ending.1)
+        && errors.ends_with(ending.2)
+        && (!ending.2.is_empty() || errors == ending.1)
+}
+
+fn assert_case(
+    abort: &impl Abort,
+    rt: &HostRuntime,
+    folder: &Folder,
+    case: &Case,
+) -> Result<(), Fail> {
+    write_each(rt, folder, case.0)?;
+    let whole = in_folder(rt, folder, case.1)?;
+    let words: Vec<&str> = whole.iter().map(|word| word.as_str()).collect(rt.alloc())?;
+    let said = run_words(rt, words.as_slice());
+    assert!(abort; has_lines(said.errors()?, case.2), "{}", said.errors()?);
+    assert!(abort; said.status == case.2.0);
+    assert!(abort; folder.count(rt)? == case.4);
+    assert_each_holds(abort, rt, folder, case.3)
+}
+
+fn assert_in_new_folder(abort: &impl Abort, rt: &HostRuntime, case: &Case) -> Result<(), Fail> {
+    let folder = Folder::new(rt, "whole")?;
+    assert_case(abort, rt, &folder, case)?;
+    folder.remove(rt)
+}
+
+#[test]
+fn each_way(rt: HostRuntime) -> Result<(), Fail> {
+    for case in cases() {
+        assert_in_new_folder(&rt, &rt, case)?;
+    }
+    Ok(())
+}
+
+fn mode_after_run(rt: &HostRuntime, folder: &Folder, mode: u32) -> Result<u32, Fail> {
+    let out = folder.file(rt, "out.rdl")?;
+    fs::set_permissions(rt, out.as_str(), Permissions::from_mode(mode))?;
+    let words = in_folder(
+        rt,
+        folder,
+        &[
+            "map.rdl",
+            "script.txt",
+            "--rdl",
+            "out.rdl",
+            "--header",
+            "out.h",
+        ],
+    )?;
+    let words: Vec<&str> = words.iter().map(|word| word.as_str()).collect(rt.alloc())?;
+    let _ = run_words(rt, words.as_slice());
+    Ok(fs::metadata(rt, out.as_str())?.permissions().mode())
+}
+
+// The last nine bits of a mode say who may read, write and run.
+#[test]
+fn with_the_mode_of_the_old_file(rt: HostRuntime) -> Result<(), Fail> {
+    let folder = Folder::new(&rt, "mode")?;
+    write_each(&rt, &folder, BEFORE)?;
+    for mode in [0o600, 0o664] {
+        let after = mode_after_run(&rt, &folder, mode)?;
+        assert!(rt; after & 0o777 == mode);
+    }
+    folder.remove(&rt)
+}
