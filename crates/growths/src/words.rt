@@ -41,6 +41,8 @@ fn answer(alloc: Global, words: &[&str]) -> Answer {
         Err(LineFault::Help(help)) => format!(in alloc; "L1 {help}"),
         Err(LineFault::Refused(mistake)) => format!(in alloc; "L2 {mistake}"),
         Err(LineFault::BadTop) => String::from_str(alloc, "L3"),
+        Err(LineFault::Meets(meeting)) => format!(in alloc; "L5 {meeting}"),
+        Err(LineFault::Version(version)) => format!(in alloc; "L6 {version}"),
         Err(LineFault::Memory) => Err(AllocError),
     }
 }
@@ -80,9 +82,10 @@ Options:
       --history <N>    How many changes can be undone, from 1 to 1000000 [default: 10000]
       --session <OUT>  Where the session is written: the map with its undos and redos
   -h, --help           Print help
+  -V, --version        Print version
 ";
 
-const LINES: [(&[&str], &str); 8] = [
+const LINES: [(&[&str], &str); 10] = [
     (
         &["m", "s", "--rdl", "r", "--header", "h"],
         "L0 m s r h none 10000 none",
@@ -117,6 +120,11 @@ const LINES: [(&[&str], &str); 8] = [
     ),
     (&["m", "s", "t", "--rdl", "r", "--header", "h"], THREE_FILES),
     (&["--help"], HELP),
+    (&["--version"], "L6 regedit 1.0.0\n"),
+    (
+        &["m", "s", "--rdl", "r", "--header", "r"],
+        "L5 two outputs in one file",
+    ),
 ];
 
 fn lines() -> &'static [(&'static [&'static str], &'static str)] {

@@ -25,11 +25,13 @@ fn assert_answer(
 }
 
 #[test]
-fn that_ask_for_help_are_shown_the_usage(rt: HostRuntime) -> Result<(), Fail> {
-    let said = run_words(&rt, &["--help"]);
-    assert!(rt; said.messages()?.contains("Usage: regedit"));
-    assert!(rt; said.errors()?.is_empty());
-    assert!(rt; said.status == 0);
+fn that_ask_for_help_or_the_version_are_told_it(rt: HostRuntime) -> Result<(), Fail> {
+    for (word, told) in [("--help", "Usage: regedit"), ("--version", "regedit 1.0.0\n")] {
+        let said = run_words(&rt, &[word]);
+        assert!(rt; said.messages()?.contains(told));
+        assert!(rt; said.errors()?.is_empty());
+        assert!(rt; said.status == 0);
+    }
     Ok(())
 }
 
