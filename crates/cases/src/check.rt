@@ -19,14 +19,30 @@ fn status_code(status: Status) -> u8
     }
 }
 
+fn is_text(bytes: &[u8], text: &str) -> bool
+    ensures { IsTrue result ↔ (bytes.now ≡ text.now) }
+{
+    bytes == text.as_bytes()
+}
+
+/// Whether a text is these lines, with their last line feed.
+#[tactic(auto, using(crate::proofs::Lists::same_front, crate::proofs::Lists::same_last))]
+fn are_lines(text: &[u8], lines: &str) -> bool
+    ensures { IsTrue result ↔ (text.now ≡ lines.now ++ 10 ∷ []) }
+{
+    match text.split_last() {
+        Some((last, front)) => *last == b'\n' && is_text(front, lines),
+        None => false,
+    }
+}
+
 /// Whether a text has these lines, each with its line feed, and nothing else.
 fn has_lines(text: &[u8], lines: Lines) -> bool
-    ensures { IsTrue result ↔ MatchOption lines (text.now ≡ []) (λ front. text.now ≡ front.now ++ 10 ∷ []) }
+    ensures { IsTrue result ↔ MatchOption lines.entry (text.now ≡ []) (λ front. text.now ≡ front.now ++ 10 ∷ []) }
 {
-    match (lines, text.split_last()) {
-        (None, None) => true,
-        (Some(lines), Some((last, front))) => *last == b'\n' && front == lines.as_bytes(),
-        _ => false,
+    match lines {
+        Some(lines) => are_lines(text, lines),
+        None => text.is_empty(),
     }
 }
 

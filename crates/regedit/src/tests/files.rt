@@ -1,13 +1,103 @@
 //! The program on files.
-use super::headers::{CLASH, CLASH_MESSAGE, CLASH_WRITTEN};
-use super::mission::{HEADER, MESSAGES, SCRIPT, WRITTEN};
-use super::sessions::{AHEAD, BEHIND, REDONE};
 use super::{MAP, assert_same};
 use crate::command::command;
 use std::alloc::AllocError;
 use std::process::Abort;
 use std::test::Fail;
 use std::{env, fs, process, str};
+
+const SCRIPT: &str = "add /$top last reg { field {} g; } b;\nundo\nredo\nlist\n";
+
+const MESSAGES: &str = "0x0 addrmap top size 0x8
+0x0 reg top.a size 0x4
+[7:0] field top.a.f reset 0x5
+0x4 reg top.b size 0x4
+[0:0] field top.b.g
+";
+
+const WRITTEN: &str = "addrmap top {
+    reg {
+        field {
+        } f[8] = 0x5;
+    } a;
+    reg {
+        field {
+        } g;
+    } b;
+};
+";
+
+const HEADER: &str = "#ifndef top_H
+#define top_H
+#define top__a_base 0x0
+#define top__a_offset 0x0
+#define top__a_size 0x4
+#define top__a__f_bm 0xFF
+#define top__a__f_bp 0
+#define top__a__f_bw 8
+#define top__a__f_reset 0x5
+#define top__b_base 0x4
+#define top__b_offset 0x4
+#define top__b_size 0x4
+#define top__b__g_bm 0x1
+#define top__b__g_bp 0
+#define top__b__g_bw 1
+#endif
+";
+
+/// A map in which the last of the macros has the name of the one before.
+const CLASH: &str = "addrmap top { reg { field {} c; } a__b; reg { field {} b__c; } a; };";
+
+const CLASH_MESSAGE: &str = "header: H1 two macros with one name: top__a__b__c_bm\n";
+
+const CLASH_WRITTEN: &str = "addrmap top {
+    reg {
+        field {
+        } c;
+    } a__b;
+    reg {
+        field {
+        } b__c;
+    } a;
+};
+";
+
+/// An empty map, with a register that can be redone.
+const AHEAD: &str = "regedit session 1
+map 17
+addrmap top {
+};
+undo 0
+redo 1
+back 1
+insert 0.0 32
+reg {
+    field {
+    } f;
+} a;
+end
+";
+
+/// The map with that register, which can be undone.
+const BEHIND: &str = "regedit session 1
+map 65
+addrmap top {
+    reg {
+        field {
+        } f;
+    } a;
+};
+undo 1
+back 1
+delete 0.0
+redo 0
+end
+";
+
+const REDONE: &str = "0x0 addrmap top size 0x4
+0x0 reg top.a size 0x4
+[0:0] field top.a.f
+";
 
 /// A folder of a test's own.
 #[derive(Drop)]

@@ -1,9 +1,11 @@
 //! Runs that stop after each of their lines, are saved, read again and gone on with.
-use super::worked::{THREE, USED};
-use super::{Written, assert_same, write};
+use super::{THREE, Written, assert_same, write};
 use std::alloc::{AllocError, Global};
 use std::process::Abort;
 use std::test::Fail;
+
+const USED: &str = "reg T { field {} e; field {} f; };
+addrmap top { T u; T v; u.f->reset = 1; T w; v.f->reset = 0; v.e->sw = r; };";
 
 const ASSIGNED: &str =
     "addrmap top { regfile { reg { field {} f[8] = 1; } q; q.f->reset = 2; } g; g.q.f->reset = 3; };";
