@@ -4,6 +4,7 @@ ghost use Rattle.rdl_tree.specs.Patch.{fits};
 ghost use Rattle.rdl_edit.specs.Backs.{Fits};
 
 use crate::assert_same;
+use crate::history::map_of;
 use crate::parse::description;
 use crate::tree::{address, path};
 use journal_core::invertible::Invertible;
@@ -94,6 +95,33 @@ fn assert_map(
     Ok(())
 }
 
+fn assert_reverted(
+    rt: &impl Abort,
+    alloc: Global,
+    map: &mut Map,
+    way_back: Back,
+    forward: &str,
+) -> Result<(), Fail>
+    requires { Fits map.old.state way_back }
+{
+    let way_forward = reverted(alloc, map, way_back)?;
+    assert_back(rt, alloc, &way_forward, forward)?;
+    Ok(())
+}
+
+fn assert_ways(
+    rt: &impl Abort,
+    alloc: Global,
+    map: &mut Map,
+    at: &str,
+    back: &str,
+    forward: &str,
+) -> Result<(), Fail> {
+    let way_back = removed(alloc, map, at)?;
+    assert_back(rt, alloc, &way_back, back)?;
+    assert_reverted(rt, alloc, map, way_back, forward)
+}
+
 /// Removes the item, and takes that back: each way has these patches and this weight, and the map is as it was.
 fn assert_there_and_back(
     rt: &impl Abort,
@@ -104,10 +132,7 @@ fn assert_there_and_back(
     forward: &str,
 ) -> Result<(), Fail> {
     let before = rdl(alloc, map.description())?;
-    let way_back = removed(alloc, map, at)?;
-    assert_back(rt, alloc, &way_back, back)?;
-    let way_forward = reverted(alloc, map, way_back)?;
-    assert_back(rt, alloc, &way_forward, forward)?;
+    assert_ways(rt, alloc, map, at, back, forward)?;
     assert_map(rt, alloc, map.description(), before.as_str())?;
     Ok(())
 }
@@ -136,7 +161,7 @@ fn assert_of(
     back: &str,
     forward: &str,
 ) -> Result<(), Fail> {
-    let mut map = Map::open(alloc, description(alloc, text)?, None)?;
+    let mut map = map_of(alloc, text)?;
     assert_there_and_back(rt, alloc, &mut map, at, back, forward)
 }
 

@@ -12,9 +12,17 @@ use std::alloc::{AllocError, Global};
 use std::str;
 use std::test::Fail;
 
+/// The map that a text spells.
+pub(crate) fn map_of(alloc: Global, text: &str) -> Result<Map, Fail> {
+    Ok(Map::open(alloc, description(alloc, text)?, None)?)
+}
+
+/// The history of a map.
 pub(crate) fn opened(alloc: Global, text: &str, limit: u32) -> Result<Journal<Map>, Fail> {
-    let map = Map::open(alloc, description(alloc, text)?, None)?;
-    Ok(Journal::new(alloc, map, limit))
+    match map_of(alloc, text) {
+        Ok(map) => Ok(Journal::new(alloc, map, limit)),
+        Err(fault) => Err(fault),
+    }
 }
 
 /// Whether the edit is made. It is let go.

@@ -62,15 +62,10 @@ fn follow(rt: &impl Abort, alloc: Global, journal: &mut Journal<Numbers>, steps:
     }
 }
 
-/// How many changes can be undone, and the calls.
-type History = (u32, &'static [Step]);
-
-/// Makes the calls of each history on an empty list.
-fn follow_each(rt: &impl Abort, alloc: Global, histories: &[History]) {
-    for (limit, steps) in histories {
-        let mut journal = Journal::new(alloc, Numbers::new(alloc), *limit);
-        follow(rt, alloc, &mut journal, steps);
-    }
+/// Makes the calls on an empty list.
+fn follow_new(rt: &impl Abort, alloc: Global, limit: u32, steps: &[Step]) {
+    let mut journal = Journal::new(alloc, Numbers::new(alloc), limit);
+    follow(rt, alloc, &mut journal, steps);
 }
 
 // undo leads back, and redo leads on
@@ -83,6 +78,10 @@ const BACK_AND_ON: [Step; 6] = [
     (Call::Redo, "made", &[3, 4], 2, 0),
 ];
 
+fn back_and_on() -> &'static [Step] {
+    &BACK_AND_ON
+}
+
 // an edit drops what could be redone
 const EDIT_BEHIND_UNDO: [Step; 4] = [
     (Call::Push(3), "made", &[3], 1, 0),
@@ -91,12 +90,20 @@ const EDIT_BEHIND_UNDO: [Step; 4] = [
     (Call::Redo, "nothing", &[5], 1, 0),
 ];
 
+fn edit_behind_undo() -> &'static [Step] {
+    &EDIT_BEHIND_UNDO
+}
+
 // an edit that changes nothing is a place
 const NOTHING_CHANGED: [Step; 3] = [
     (Call::Clear, "made", &[], 1, 0),
     (Call::Undo, "made", &[], 0, 1),
     (Call::Undo, "nothing", &[], 0, 1),
 ];
+
+fn nothing_changed() -> &'static [Step] {
+    &NOTHING_CHANGED
+}
 
 // a full history is judged before the map
 const FULL: [Step; 5] = [
@@ -107,16 +114,16 @@ const FULL: [Step; 5] = [
     (Call::Push(2), "made", &[2], 1, 0),
 ];
 
-const HISTORIES: [History; 4] = [
-    (3, &BACK_AND_ON),
-    (2, &EDIT_BEHIND_UNDO),
-    (2, &NOTHING_CHANGED),
-    (1, &FULL),
-];
+fn full() -> &'static [Step] {
+    &FULL
+}
 
 #[test]
 fn changes_are_made_undone_and_redone(rt: HostRuntime) {
-    follow_each(&rt, rt.alloc(), &HISTORIES);
+    follow_new(&rt, rt.alloc(), 3, back_and_on());
+    follow_new(&rt, rt.alloc(), 2, edit_behind_undo());
+    follow_new(&rt, rt.alloc(), 2, nothing_changed());
+    follow_new(&rt, rt.alloc(), 1, full());
 }
 
 const GONE_ON: [Step; 5] = [

@@ -9,6 +9,7 @@ use rdl_tree::fault::Fault;
 use rdl_tree::property::Property;
 use rdl_tree::value::{Value, Word};
 use std::alloc::{AllocError, Global};
+use std::process::Abort;
 use std::test::Fail;
 
 fn are_starts(spans: &[Span], starts: &[u64]) -> bool {
@@ -47,11 +48,23 @@ pub(crate) fn elaborated(alloc: Global, text: &str) -> Result<Rows, &'static str
     }
 }
 
+// names that are the component's own, and how far a default reaches
+const WITH_NAMES: &str = "field A { name = \"outer\"; };
+field B {};
+addrmap top {
+    reg { default name = \"near\"; A a; B b; field {} c; field { name = \"own\"; } d; } x;
+};";
+
+// a default behind what it would widen
+const SHADOWED: &str =
+    "reg T {}; addrmap top { regfile { T u; reg T {}; T v; } g; default regwidth = 8; };";
+
 /// What a row holds for a property.
 enum Held {
     Nothing,
     Number(Number),
     Word(Word),
+    Text(&'static str),
 }
 
 fn holds(rows: &Rows, number: usize, property: Property, held: &Held) -> bool {
@@ -62,12 +75,13 @@ fn holds(rows: &Rows, number: usize, property: Property, held: &Held) -> bool {
         (None, Held::Nothing) => true,
         (Some(Value::Number(found)), Held::Number(number)) => *found == *number,
         (Some(Value::Word(found)), Held::Word(word)) => *found == *word,
+        (Some(Value::Text(found)), Held::Text(text)) => found.as_str() == *text,
         _ => false,
     }
 }
 
 // A map, the number of a row, a property, and what the row holds for it.
-const HELD: [(&str, usize, Property, Held); 14] = [
+const HELD: [(&str, usize, Property, Held); 20] = [
     (DEFAULTS, 2, Property::Fieldwidth, Held::Number(4)),
     (DEFAULTS, 4, Property::Fieldwidth, Held::Number(8)),
     (WIDTHS, 0, Property::Addressing, Held::Word(Word::Compact)),
@@ -82,18 +96,39 @@ const HELD: [(&str, usize, Property, Held); 14] = [
     (RESETS, 5, Property::Reset, Held::Number(5)),
     (REACHED, 2, Property::Reset, Held::Nothing),
     (REACHED, 7, Property::Reset, Held::Nothing),
+    (WITH_NAMES, 1, Property::Name, Held::Nothing),
+    (WITH_NAMES, 2, Property::Name, Held::Text("outer")),
+    (WITH_NAMES, 3, Property::Name, Held::Nothing),
+    (WITH_NAMES, 4, Property::Name, Held::Text("near")),
+    (WITH_NAMES, 5, Property::Name, Held::Text("own")),
+    (SHADOWED, 3, Property::Regwidth, Held::Number(32)),
 ];
 
-fn held_values() -> &'static [(&'static str, usize, Property, Held)] {
-    &HELD
+fn holds_in(
+    alloc: Global,
+    map: &str,
+    number: usize,
+    property: Property,
+    held: &Held,
+) -> Result<bool, &'static str> {
+    let rows = elaborated(alloc, map)?;
+    Ok(holds(&rows, number, property, held))
+}
+
+fn assert_each_held(
+    rt: &impl Abort,
+    alloc: Global,
+    values: &[(&str, usize, Property, Held)],
+) -> Result<(), &'static str> {
+    for (map, number, property, held) in values {
+        assert_holds(rt, holds_in(alloc, map, *number, *property, held)?, map);
+    }
+    Ok(())
 }
 
 #[test]
 fn holds_values(rt: HostRuntime) -> Result<(), Fail> {
-    for (map, number, property, held) in held_values() {
-        let rows = elaborated(rt.alloc(), map)?;
-        assert_holds(&rt, holds(&rows, *number, *property, held), map);
-    }
+    assert_each_held(&rt, rt.alloc(), &HELD)?;
     Ok(())
 }
 

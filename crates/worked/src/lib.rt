@@ -22,8 +22,6 @@ mod resumed;
 #[cfg(test)]
 mod rows;
 #[cfg(test)]
-mod scope;
-#[cfg(test)]
 mod text;
 #[cfg(test)]
 mod tree;

@@ -89,8 +89,13 @@ const FOUND: [(&str, Found); 12] = [
     ("/$top/u/y/z", Err(PathFault::ThroughNamedType)),
 ];
 
-fn assert_each_found(rt: &impl Abort, alloc: Global, map: &Description) -> Result<(), Fail> {
-    for (text, wanted) in FOUND.iter() {
+fn assert_each_found(
+    rt: &impl Abort,
+    alloc: Global,
+    map: &Description,
+    found: &[(&str, Found)],
+) -> Result<(), Fail> {
+    for (text, wanted) in found {
         assert_holds(rt, leads_to(alloc, map, text, wanted)?, text);
     }
     Ok(())
@@ -99,7 +104,7 @@ fn assert_each_found(rt: &impl Abort, alloc: Global, map: &Description) -> Resul
 #[test]
 fn finds_by_sort_and_name(rt: HostRuntime) -> Result<(), Fail> {
     let map = description(rt.alloc(), ONE_NAME)?;
-    assert_each_found(&rt, rt.alloc(), &map)
+    assert_each_found(&rt, rt.alloc(), &map, &FOUND)
 }
 
 /// How a value prints itself for debugging, which shows all of it.
