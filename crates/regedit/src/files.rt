@@ -88,12 +88,12 @@ fn open_input<'a, R: Files>(rt: &R, path: &'a str) -> Result<NotedReader<R::File
     }
 }
 
-/// Why an input can't be read, if it is this one. An error that was answered is the last one.
-fn input_reason<F: Drop>(fault: RunFault, input: NotedReader<F>) -> Option<Reason> {
+/// Why an input can't be read, if it is this one.
+fn input_reason<F>(fault: RunFault, input: &mut NotedReader<F>) -> Option<Reason> {
     if fault == RunFault::TooLong {
         return (input.bytes() > MOST_BYTES).then_some(Reason::TooLong);
     }
-    match input.into_error() {
+    match input.take_error() {
         Some(error) => Some(Reason::System(error)),
         None => None,
     }
@@ -101,28 +101,25 @@ fn input_reason<F: Drop>(fault: RunFault, input: NotedReader<F>) -> Option<Reaso
 
 /// At which input the run stopped. The script is read behind the map, so what the map has said counts only where the script
 /// has said nothing.
-fn input_obstacle<'a, F: Drop>(
+fn input_obstacle<'a, F>(
     fault: RunFault,
     paths: &'a Paths,
-    map: NotedReader<F>,
-    script: NotedReader<F>,
+    map: &mut NotedReader<F>,
+    script: &mut NotedReader<F>,
 ) -> Option<Obstacle<'a>> {
     let action = Action::Read;
-    if let Some(reason) = input_reason(fault, script) {
-        let path = paths.script.as_str();
-        return Some(Obstacle {
+    match input_reason(fault, script) {
+        Some(reason) => Some(Obstacle {
             action,
-            path,
+            path: paths.script.as_str(),
             reason,
-        });
+        }),
+        None => Some(Obstacle {
+            action,
+            path: paths.map.as_str(),
+            reason: input_reason(fault, map)?,
+        }),
     }
-    let reason = input_reason(fault, map)?;
-    let path = paths.map.as_str();
-    Some(Obstacle {
-        action,
-        path,
-        reason,
-    })
 }
 
 fn messages_obstacle(error: Option<io::Error>) -> Option<Obstacle<'static>> {
@@ -131,6 +128,22 @@ fn messages_obstacle(error: Option<io::Error>) -> Option<Obstacle<'static>> {
         path: "standard output",
         reason: Reason::System(error?),
     })
+}
+
+/// Why a run stopped that has asked these.
+fn stopped<'a, F, W>(
+    fault: RunFault,
+    paths: &'a Paths,
+    map: &mut NotedReader<F>,
+    script: &mut NotedReader<F>,
+    messages: &mut NotedWriter<'_, W>,
+) -> Stop<'a> {
+    let obstacle = match fault {
+        RunFault::Memory => None,
+        RunFault::Write => messages_obstacle(messages.take_error()),
+        _ => input_obstacle(fault, paths, map, script),
+    };
+    Stop { fault, obstacle }
 }
 
 /// The texts of the outputs, and how the run ended that made them.
@@ -172,14 +185,7 @@ fn run_in_memory<'a, R: Files, M: Write>(
             header,
             session,
         }),
-        Err(fault) => {
-            let obstacle = match fault {
-                RunFault::Memory => None,
-                RunFault::Write => messages_obstacle(messages.into_error()),
-                _ => input_obstacle(fault, paths, map, script),
-            };
-            Err(Stop { fault, obstacle })
-        }
+        Err(fault) => Err(stopped(fault, paths, &mut map, &mut script, &mut messages)),
     }
 }
 

@@ -40,13 +40,9 @@ impl<R> NotedReader<R> {
         self.bytes
     }
 
-    /// Why it failed last.
-    pub fn into_error(self) -> Option<io::Error>
-    where
-        R: Drop,
-    {
-        let NotedReader { error, .. } = self;
-        error
+    /// Why it failed last, which is then forgotten.
+    pub fn take_error(&mut self) -> Option<io::Error> {
+        self.error.take()
     }
 }
 
@@ -85,9 +81,9 @@ impl<'a, W> NotedWriter<'a, W> {
         }
     }
 
-    /// Why it failed last.
-    pub fn into_error(self) -> Option<io::Error> {
-        self.error
+    /// Why it failed last, which is then forgotten.
+    pub fn take_error(&mut self) -> Option<io::Error> {
+        self.error.take()
     }
 }
 

@@ -26,7 +26,10 @@ fn assert_answer(
 
 #[test]
 fn that_ask_for_help_or_the_version_are_told_it(rt: HostRuntime) -> Result<(), Fail> {
-    for (word, told) in [("--help", "Usage: regedit"), ("--version", "regedit 1.0.0\n")] {
+    for (word, told) in [
+        ("--help", "Usage: regedit"),
+        ("--version", "regedit 1.0.0\n"),
+    ] {
         let said = run_words(&rt, &[word]);
         assert!(rt; said.messages()?.contains(told));
         assert!(rt; said.errors()?.is_empty());
