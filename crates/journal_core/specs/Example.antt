@@ -1,4 +1,4 @@
--- The changes of a list of numbers.
+-- The changes of a list of numbers, on which the journal is tested. Own.
 use Rattle.std.specs.Prelude.{◌≡◌, ℕ, List, [], ◌∷◌, ◌++◌}
 use Rattle.journal_core.specs.declared.example.Change.{Change}
 use Rattle.journal_core.specs.declared.example.Change.TheVariants.{Push, Clear}

@@ -1,4 +1,4 @@
--- Why an edit isn't made.
+-- Why an edit isn't made. Own.
 use Rattle.std.specs.Prelude.{◌≤◌}
 use Rattle.journal_core.specs.History.{History, Refuses}
 use Rattle.journal_core.specs.declared.fault.EditFault.{EditFault}

@@ -1,5 +1,5 @@
 -- A list of states, a place in it, and how far edits may bring the place. It may begin at any place of a list, so the place
--- may be past the limit.
+-- may be past the limit. Own.
 use Rattle.std.specs.Prelude.{◌≡◌, Bool, false, ℕ, slice_get, Some, zero, suc, ◌+◌, ◌-◌, ◌<◌, nat_lt, if◌then◌else◌, List, [], ◌∷◌, ◌++◌, length, take, Some, slice_get}
 use mathlib.Core.List.{reverse}
 

@@ -1,4 +1,4 @@
--- A command as the code holds it, seen as what a line asks for.
+-- A command as the code holds it, seen as what a line asks for. Own.
 use Rattle.std.specs.Prelude.{ℕ, List}
 use denote.Ref.{Bor}
 use Rattle.rdl_rewrite.specs.declared.place.Place.{Place}

@@ -1,4 +1,4 @@
--- A word of a text, as a contract sees it.
+-- A word of a text, as a contract sees it. SystemRDL 2.0, lexical conventions.
 use Rattle.std.specs.Prelude.{ℕ, List}
 use Rattle.rdl_text.specs.declared.token.TokenKind.{TokenKind}
 
