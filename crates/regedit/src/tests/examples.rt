@@ -1,5 +1,5 @@
-//! The maps and scripts of the folder `examples`, whose texts stand here again. What they print, and their headers, are
-//! cases of the crate `cases`.
+//! Two maps of the folder `examples` with their scripts, whose texts stand here again. What they print, and their headers, are
+//! cases of the crate `cases`, where the third one stands, too.
 use super::{Written, write};
 use std::alloc::Global;
 use std::process::Abort;
