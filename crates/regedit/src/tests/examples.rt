@@ -1,5 +1,5 @@
-//! The maps and scripts of the folder `examples`, whose texts stand here again. What they print, and their headers, are
-//! cases of the crate `cases`.
+//! Two maps of the folder `examples` with their scripts, whose texts stand here again. What they print, and their headers, are
+//! cases of the crate `cases`, where the third one stands, too.
 use super::{Written, write};
 use std::alloc::Global;
 use std::process::Abort;
@@ -67,10 +67,6 @@ add /$uart last reg { field {} tx[4:0] = 8; field {} rx[12:8] = 8; } watermark @
 # A fifth source, in all three interrupt registers at once.
 add /$interrupts last field { desc = \"The line was held low\"; } line_break;
 list
-# A register where another stands is refused, and so are a name that is taken and an assignment.
-add /$uart last reg { field {} byte[8]; } scratch @ 0x12;
-add /$uart last reg {} status;
-add /$uart last pending.line_break->woclr;
 # Without the fifth source.
 undo
 undo
@@ -153,18 +149,12 @@ const DMA_SCRIPT: &str = "# The engine as it is.
 list
 # One line gives all eight channels a timeout.
 add /$channel last reg { field {} cycles[32]; } timeout;
-# Sixteen registers more would reach into the next channel.
-add /$channel last reg { field {} word[32]; } spare[16];
 # Two slow channels, further apart.
 add /$dma last channel slow[2] @ 0x800 += 0x100;
 undo
 redo
 list
-# Fields that meet, and one past its register.
-add /$port last reg { field {} step[4]; field {} wrap[3:3]; } limits;
-add /$dma last reg { field {} late[33]; } errors @ 0x10;
-# Back to the beginning, and once too often.
-undo
+# Back to the beginning, and one step on.
 undo
 undo
 redo
