@@ -1,8 +1,8 @@
 //! Readers and writers of which it is known why they failed.
-ghost use Rattle.std.specs.Prelude.{◌≡◌, IsSome, OnErr, OnOk};
-ghost use Rattle.std.specs.Io.{ReadsAtMost};
+ghost use Rattle.std.specs.Prelude.{◌≡◌, ◌+◌, ◌-◌, ◌^◌, min, None, IsSome, IfOk, OnErr, OnOk};
+ghost use Rattle.std.specs.Io.{ReadsAtMost, WritesAtMost};
 ghost use Rattle.std.specs.IoError.{error_kind};
-ghost use Rattle.std.specs.Io.KnownBytes.{ReadConsumes};
+ghost use Rattle.std.specs.Io.KnownBytes.{ReadConsumes, WriteAppends};
 
 use std::io;
 use std::io::{Read, Write};
@@ -27,7 +27,9 @@ pub struct NotedReader<R> {
 
 impl<R> NotedReader<R> {
     /// A reader that has given nothing yet.
-    pub fn new(reader: R) -> NotedReader<R> {
+    pub fn new(reader: R) -> NotedReader<R>
+        ensures { result ≡ record { reader = reader; bytes = 0; error = None } }
+    {
         NotedReader {
             reader,
             bytes: 0,
@@ -36,12 +38,17 @@ impl<R> NotedReader<R> {
     }
 
     /// How many bytes it has given, or the greatest number if there were more.
-    pub fn bytes(&self) -> u64 {
+    pub fn bytes(&self) -> u64
+        ensures { result ≡ self.now.bytes }
+    {
         self.bytes
     }
 
     /// Why it failed last, which is then forgotten.
-    pub fn take_error(&mut self) -> Option<io::Error> {
+    pub fn take_error(&mut self) -> Option<io::Error>
+        ensures taken { result ≡ self.old.error }
+        ensures forgotten { self.new ≡ record self.old { error = None } }
+    {
         self.error.take()
     }
 }
@@ -54,6 +61,7 @@ impl<R: Read> Read for NotedReader<R> {
         ensures bytes { ReadConsumes (R.remaining self.old.reader) (R.remaining self.new.reader) result buffer.new }
         ensures noted { OnErr result (IsSome self.new.error) }
         ensures same { OnOk result (self.new.error ≡ self.old.error) }
+        ensures counted { IfOk result (λ n. self.new.bytes ≡ min (self.old.bytes + n) (2 ^ 64 - 1)) }
     {
         match self.reader.read(buffer) {
             Ok(count) => {
@@ -74,7 +82,9 @@ pub struct NotedWriter<'a, W> {
 
 impl<'a, W> NotedWriter<'a, W> {
     /// A writer that hasn't failed yet.
-    pub fn new(writer: &'a mut W) -> NotedWriter<'a, W> {
+    pub fn new(writer: &'a mut W) -> NotedWriter<'a, W>
+        ensures { result ≡ record { writer = writer.entry; error = None } }
+    {
         NotedWriter {
             writer,
             error: None,
@@ -82,7 +92,10 @@ impl<'a, W> NotedWriter<'a, W> {
     }
 
     /// Why it failed last, which is then forgotten.
-    pub fn take_error(&mut self) -> Option<io::Error> {
+    pub fn take_error(&mut self) -> Option<io::Error>
+        ensures taken { result ≡ self.old.error }
+        ensures forgotten { self.new ≡ record self.old { error = None } }
+    {
         self.error.take()
     }
 }
@@ -90,7 +103,12 @@ impl<'a, W> NotedWriter<'a, W> {
 impl<W: Write> Write for NotedWriter<'_, W> {
     ghost contents = { λ s. W.contents s.writer.now };
 
-    fn write(&mut self, bytes: &[u8]) -> io::Result<usize> {
+    fn write(&mut self, bytes: &[u8]) -> io::Result<usize>
+        ensures bound { WritesAtMost result bytes.now }
+        ensures bytes { WriteAppends (W.contents self.old.writer.now) (W.contents self.new.writer.now) result bytes.now }
+        ensures noted { OnErr result (IsSome self.new.error) }
+        ensures same { OnOk result (self.new.error ≡ self.old.error) }
+    {
         match self.writer.write(bytes) {
             Ok(count) => Ok(count),
             Err(error) => Err(note(&mut self.error, error)),
