@@ -7,7 +7,7 @@ use rdl_run::run::{Options, run};
 use rdl_run::status::{RunFault, Status};
 use std::alloc::{AllocError, Global};
 use std::fs::File;
-use std::io::{ErrorKind, Write};
+use std::io::{ErrorKind, Read, Write};
 use std::rt::Files;
 use std::{fmt, io};
 use whole_files::noted::{NotedReader, NotedWriter};
@@ -155,6 +155,38 @@ struct Texts {
     session: Vec<u8>,
 }
 
+/// Runs the script of the second input on the map or session of the first.
+fn run_inputs<'a, F: Read, M: Write>(
+    alloc: Global,
+    paths: &'a Paths,
+    options: &Options,
+    map: &mut NotedReader<F>,
+    script: &mut NotedReader<F>,
+    messages: &mut NotedWriter<'_, M>,
+) -> Result<Texts, Stop<'a>> {
+    let mut rdl = Vec::new(alloc);
+    let mut header = Vec::new(alloc);
+    let mut session = Vec::new(alloc);
+    match run(
+        alloc,
+        map,
+        script,
+        options,
+        &mut rdl,
+        &mut header,
+        &mut session,
+        messages,
+    ) {
+        Ok(status) => Ok(Texts {
+            status,
+            rdl,
+            header,
+            session,
+        }),
+        Err(fault) => Err(stopped(fault, paths, map, script, messages)),
+    }
+}
+
 fn run_in_memory<'a, R: Files, M: Write>(
     rt: &R,
     alloc: Global,
@@ -165,28 +197,7 @@ fn run_in_memory<'a, R: Files, M: Write>(
     let mut map = open_input(rt, paths.map.as_str())?;
     let mut script = open_input(rt, paths.script.as_str())?;
     let mut messages = NotedWriter::new(messages);
-    let mut rdl = Vec::new(alloc);
-    let mut header = Vec::new(alloc);
-    let mut session = Vec::new(alloc);
-    let ended = run(
-        alloc,
-        &mut map,
-        &mut script,
-        options,
-        &mut rdl,
-        &mut header,
-        &mut session,
-        &mut messages,
-    );
-    match ended {
-        Ok(status) => Ok(Texts {
-            status,
-            rdl,
-            header,
-            session,
-        }),
-        Err(fault) => Err(stopped(fault, paths, &mut map, &mut script, &mut messages)),
-    }
+    run_inputs(alloc, paths, options, &mut map, &mut script, &mut messages)
 }
 
 /// The texts that there are, each with the path of its file.
