@@ -1,7 +1,9 @@
 -- The types before an item as a stack, with an index of the nearest of each name.
 -- own: how the types are kept. Which of them a name means `lookup` says.
-use Rattle.std.specs.Prelude.{◌≡◌, ℕ, List, [], ◌∷◌, map, bytes_eq, Option, None}
-use Rattle.std.specs.HashMap.{get_by}
+use Rattle.std.specs.Prelude.{◌≡◌, ℕ, List, [], ◌∷◌, map, Option, None}
+use Rattle.std.specs.BTreeMap.{get_by}
+use Rattle.std.specs.Cmp.Lexicographic.{slice_cmp}
+use Rattle.std.specs.Ordering.{nat_cmp}
 use Rattle.rdl_scope.specs.Closed.{lookup}
 use Rattle.rdl_elab.specs.declared.types.TypeEntry.{TypeEntry}
 use Rattle.rdl_elab.specs.declared.types.TypeIndex.{TypeIndex}
@@ -17,7 +19,7 @@ Hides (e ∷ es) = (e.hidden ≡ lookup e.name.now (pairs es)) × Hides es
 
 -- the index has the nearest of each name
 abbrev pub IsIndex : TypeIndex → List (List ℕ × ℕ) → Type 0
-IsIndex index types = (q : List ℕ) → get_by (λ k. bytes_eq q k.now) index.components ≡ lookup q types
+IsIndex index types = (q : List ℕ) → get_by (λ k. slice_cmp nat_cmp q k.now) index.components ≡ lookup q types
 
 -- without the nearest type the index has again the one whose name it hid
 abbrev pub Uncovers : List ℕ → Option ℕ → TypeIndex → TypeIndex → Type 0

@@ -1,7 +1,7 @@
 //! The types before an item.
 use rdl_text::name::Name;
 use std::alloc::{AllocError, Global};
-use std::collections::HashMap;
+use std::collections::BTreeMap;
 use std::marker::Model;
 
 /// A type, the number of its component among the finished ones, and that of the type whose name it hides.
@@ -15,7 +15,7 @@ pub(crate) struct TypeEntry<'a> {
 /// The component of the nearest type of each name.
 #[derive(Drop)]
 pub(crate) struct TypeIndex<'a> {
-    components: HashMap<&'a str, usize>,
+    components: BTreeMap<&'a str, usize>,
 }
 
 /// The types that stand before an item, those of the bodies around it included. A contract sees their list, the
@@ -35,7 +35,7 @@ impl<'a> TypeIndex<'a> {
         ensures { IsIndex result [] }
     {
         TypeIndex {
-            components: HashMap::new(alloc),
+            components: BTreeMap::new(alloc),
         }
     }
 

@@ -1,29 +1,41 @@
 -- The dynamic assignments that repeat an earlier one are those with an earlier one's key.
 use Rattle.std.proofs.Common.{◌≡◌, ℕ, zero, suc, Bool, true, false, cond, List, [], ◌∷◌, map, Some, refl, ap, ◌∙◌}
-use Rattle.std.specs.Prelude.{◌||◌, ◌&&◌, slice_get, bytes_eq, nat_eq}
-use Rattle.std.specs.Cmp.Lexicographic.{pointwise}
+use Rattle.std.specs.Prelude.{◌||◌, ◌&&◌, slice_get, bytes_eq}
+use Rattle.std.specs.Ordering.{is_eq, nat_cmp, ordering_then}
+use Rattle.std.specs.declared.cmp.Ordering.{Ordering}
+use Rattle.std.specs.declared.cmp.Ordering.TheVariants.{Less, Equal, Greater}
+use Rattle.std.specs.Cmp.Lexicographic.{pointwise, slice_cmp}
+use Rattle.std.proofs.lemmas.Map.Text.{is_eq-slice_cmp}
 use denote.Ref.{Bor}
 use Rattle.rdl_tree.specs.Items.{Items, no_items, plain, holder, named, own, default, dynamic, define, anonymous}
 use Rattle.rdl_tree.specs.View.{list_of}
 use Rattle.rdl_tree.specs.declared.description.Item.{Item}
 use Rattle.rdl_scope.specs.ItemFaults.{reached_before}
-use Rattle.rdl_scope.specs.Keys.{has_key, key_before, Key, texts, same_key}
+use Rattle.rdl_scope.specs.Keys.{has_key, key_before, Key, texts, key_cmp}
+
+is_eq-then : (a b : Ordering) → is_eq (ordering_then a b) ≡ is_eq a && is_eq b
+is_eq-then Less b = refl
+is_eq-then Equal b = refl
+is_eq-then Greater b = refl
 
 -- two keys are equal where their texts are
-pointwise-texts : (x y : List (Bor (List ℕ))) → pointwise (λ a b. pointwise nat_eq a.now b.now) x y ≡ pointwise bytes_eq (map (λ s. s.now) x) (map (λ s. s.now) y)
-pointwise-texts [] [] = refl
-pointwise-texts [] (b ∷ y) = refl
-pointwise-texts (a ∷ x) [] = refl
-pointwise-texts (a ∷ x) (b ∷ y) = ap (λ z. pointwise nat_eq a.now b.now && z) (pointwise-texts x y)
+slice_cmp-texts : (x y : List (Bor (List ℕ))) → is_eq (slice_cmp (λ a b. slice_cmp nat_cmp a.now b.now) x y) ≡ pointwise bytes_eq (map (λ s. s.now) x) (map (λ s. s.now) y)
+slice_cmp-texts [] [] = refl
+slice_cmp-texts [] (b ∷ y) = refl
+slice_cmp-texts (a ∷ x) [] = refl
+slice_cmp-texts (a ∷ x) (b ∷ y) =
+    is_eq-then (slice_cmp nat_cmp a.now b.now) (slice_cmp (λ a b. slice_cmp nat_cmp a.now b.now) x y)
+    ∙ ap (λ z. is_eq (slice_cmp nat_cmp a.now b.now) && z) (slice_cmp-texts x y)
+    ∙ ap (λ z. z && pointwise bytes_eq (map (λ s. s.now) x) (map (λ s. s.now) y)) (is_eq-slice_cmp a.now b.now)
 
-pub same_key-texts : (x y : Key) → same_key x y ≡ pointwise bytes_eq (texts x) (texts y)
-same_key-texts x y = pointwise-texts x.items y.items
+pub key_cmp-texts : (x y : Key) → is_eq (key_cmp x y) ≡ pointwise bytes_eq (texts x) (texts y)
+key_cmp-texts x y = slice_cmp-texts x.items y.items
 
 pub cond-or : (a b : Bool) → cond a true b ≡ a || b
 cond-or true b = refl
 cond-or false b = refl
 
-pub ruleset notes = (same_key-texts, cond-or)
+pub ruleset notes = (key_cmp-texts, cond-or)
 
 pub dynamic-key : (target : List (List ℕ)) (name : List ℕ) (n : ℕ) (t : Items) → key_before (name ∷ target) n (list_of t) ≡ reached_before target name n t
 dynamic-key target name zero t = refl

@@ -1,9 +1,11 @@
 -- What a dynamic assignment may not repeat in its body, as a list of texts: the names of its property and target.
 -- own: no part of what a fault is; by it the code finds repeated assignments.
-use Rattle.std.specs.Prelude.{◌≡◌, ℕ, Bool, false, List, ◌∷◌, map, take, bytes_eq, nat_eq}
+use Rattle.std.specs.Prelude.{◌≡◌, ℕ, Bool, false, List, ◌∷◌, map, take, bytes_eq}
 use Rattle.std.specs.List.{list_any}
-use Rattle.std.specs.Cmp.Lexicographic.{pointwise}
-use Rattle.std.specs.HashSet.{contains}
+use Rattle.std.specs.Cmp.Lexicographic.{pointwise, slice_cmp}
+use Rattle.std.specs.Ordering.{nat_cmp}
+use Rattle.std.specs.declared.cmp.Ordering.{Ordering}
+use Rattle.std.specs.BTreeSet.{contains}
 use Rattle.std.specs.declared.alloc.Global.{Global}
 use Rattle.std.specs.declared.vec.Vec.{Vec}
 use denote.Ref.{Bor}
@@ -29,9 +31,10 @@ Key = Vec (Bor (List ℕ)) Global
 abbrev pub texts : Key → List (List ℕ)
 texts key = map (λ s. s.now) key.items
 
-abbrev pub same_key : Key → Key → Bool
-same_key x y = pointwise (λ a b. pointwise nat_eq a.now b.now) x.items y.items
+-- the order in which the code keeps keys
+abbrev pub key_cmp : Key → Key → Ordering
+key_cmp x y = slice_cmp (λ a b. slice_cmp nat_cmp a.now b.now) x.items y.items
 
 -- the set has the keys of which this holds
 abbrev pub Holds : Keys → (List (List ℕ) → Bool) → Type 0
-Holds s f = (q : Key) → contains same_key s.keys q ≡ f (texts q)
+Holds s f = (q : Key) → contains key_cmp s.keys q ≡ f (texts q)

@@ -5,7 +5,7 @@ ghost use Rattle.rdl_scope.specs.Keys.{texts};
 use rdl_text::name::Name;
 use rdl_tree::target::Target;
 use std::alloc::{AllocError, Global};
-use std::collections::HashSet;
+use std::collections::BTreeSet;
 
 /// The names that count of a dynamic assignment: its property's and its target's.
 pub(crate) fn target_key<'a>(
@@ -25,7 +25,7 @@ pub(crate) fn target_key<'a>(
 /// The keys of dynamic assignments.
 #[derive(Drop)]
 pub(crate) struct Keys<'a> {
-    keys: HashSet<Vec<&'a str>>,
+    keys: BTreeSet<Vec<&'a str>>,
 }
 
 impl<'a> Keys<'a> {
@@ -37,7 +37,7 @@ impl<'a> Keys<'a> {
         ensures { Holds result (λ key. false) }
     {
         Keys {
-            keys: HashSet::new(alloc),
+            keys: BTreeSet::new(alloc),
         }
     }
 

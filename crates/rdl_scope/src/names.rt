@@ -1,12 +1,12 @@
 //! Items under their names.
 use rdl_tree::description::Item;
 use std::alloc::{AllocError, Global};
-use std::collections::HashMap;
+use std::collections::BTreeMap;
 
 /// The numbers of items under their names.
 #[derive(Drop)]
 pub(crate) struct Names<'a> {
-    numbers: HashMap<&'a str, usize>,
+    numbers: BTreeMap<&'a str, usize>,
 }
 
 impl<'a> Names<'a> {
@@ -19,7 +19,7 @@ impl<'a> Names<'a> {
         ensures { (q : List ℕ) → number_under result q ≡ None }
     {
         Names {
-            numbers: HashMap::new(alloc),
+            numbers: BTreeMap::new(alloc),
         }
     }
 

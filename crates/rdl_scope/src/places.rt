@@ -11,7 +11,7 @@ use rdl_tree::address::Address;
 use rdl_tree::description::{Body, Description, Item, Of};
 use rdl_tree::shell::Kind;
 use std::alloc::{AllocError, Global};
-use std::collections::HashMap;
+use std::collections::BTreeMap;
 
 /// The place of an item as a body at some address sees it: its number in the body that is so deep along the address.
 #[derive(Clone, Copy)]
@@ -23,7 +23,7 @@ pub(crate) struct Place {
 /// The places of the components of instances, under the instances' names.
 #[derive(Drop)]
 pub(crate) struct Places<'a> {
-    places: HashMap<&'a str, Place>,
+    places: BTreeMap<&'a str, Place>,
 }
 
 impl<'a> Places<'a> {
@@ -35,7 +35,7 @@ impl<'a> Places<'a> {
         ensures { (q : List ℕ) → place_under result q ≡ None }
     {
         Places {
-            places: HashMap::new(alloc),
+            places: BTreeMap::new(alloc),
         }
     }
 
