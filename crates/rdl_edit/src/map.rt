@@ -132,17 +132,31 @@ impl Map {
     {
         let mut description = description;
         let top = text_of(name.as_ref());
-        let kept = match opened(alloc, &description, top) {
+        let mut kept = match opened(alloc, &description, top) {
             Ok(kept) => kept,
             Err(fault) => return Err(fault),
         };
         let undo = backs(alloc, undo)?;
         let redo = backs(alloc, redo)?;
-        let undo = match visit(alloc, &mut description, top, undo, Direction::Undo) {
+        let undo = match visit(
+            alloc,
+            &mut description,
+            &mut kept,
+            top,
+            undo,
+            Direction::Undo,
+        ) {
             Ok(undo) => undo,
             Err(fault) => return Err(fault),
         };
-        let redo = match visit(alloc, &mut description, top, redo, Direction::Redo) {
+        let redo = match visit(
+            alloc,
+            &mut description,
+            &mut kept,
+            top,
+            redo,
+            Direction::Redo,
+        ) {
             Ok(redo) => redo,
             Err(fault) => return Err(fault),
         };

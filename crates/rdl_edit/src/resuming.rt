@@ -1,5 +1,6 @@
 //! The places of a session, gone through one after another.
-ghost use Rattle.std.specs.Prelude.{◌≡◌, ◌⊎◌, ◌≤◌, ◌+◌, ◌*◌, ◌∷◌, ◌++◌, [], ℕ, IsTrue, false, length, map, None, Some, IfOk, IfErr, OnOk, option_copied};
+ghost use Rattle.std.specs.Prelude.{◌≡◌, ◌⊎◌, ◌≤◌, ◌+◌, ◌∷◌, ◌++◌, [], ℕ, IsTrue, false, length, map, None, Some, IfOk, IfErr, OnOk, option_copied};
+ghost use Rattle.std.specs.List.{list_all};
 ghost use mathlib.Core.List.{reverse};
 ghost use Rattle.rdl_tree.specs.Depth.{depth};
 ghost use Rattle.rdl_tree.specs.Patch.{fits, AllFit, patched, image, inverse, inverses};
@@ -8,15 +9,15 @@ ghost use Rattle.journal_core.specs.Along.{FitInTurn};
 ghost use Rattle.rdl_edit.specs.Backs.{read_back, prior, Fits};
 ghost use Rattle.rdl_edit.specs.Resuming.{all_fit, place_fault, step_fault, steps_fault, place_after};
 ghost use Rattle.rdl_tree.specs.declared.session.Where.TheVariants as where_;
-ghost use Rattle.rdl_elab.specs.AllKept.{all_instances};
-ghost use Rattle.rdl_edit.specs.Keeping.{Keeps};
+ghost use Rattle.rdl_edit.specs.Keeping.{IsLaidOut};
 ghost use Rattle.rdl_edit.specs.Step.{HasRows};
-ghost use Rattle.rdl_edit.specs.Ways.{IsMisfit, stop_at, refused, place_of, way_back, ways_along, AllLead};
+ghost use Rattle.rdl_edit.specs.Ways.{IsMisfit, stop_at, refused, place_of, way_back, ways_along, AllLead, is_empty};
 
 use crate::back::Back;
 use crate::edit::is_memory;
-use rdl_elab::elaborate::elaborate;
+use crate::turning::reordered;
 use rdl_elab::kept::Kept;
+use rdl_tree::address::Address;
 use rdl_tree::description::Description;
 use rdl_tree::fault::Fault;
 use rdl_tree::patch::Patch;
@@ -120,19 +121,22 @@ fn faulty(place: Where, fault: Fault) -> SessionFault
     }
 }
 
-/// Judges the map at a place.
+/// Lays out the map at a place. In these bodies items stand for those of their name before the step.
 fn judge(
     alloc: Global,
     description: &Description,
+    kept: &mut Kept,
     name: Option<&str>,
+    bodies: &[Address],
     place: Where,
 ) -> Result<(), SessionFault>
+    ensures laid_out { OnOk result (IsLaidOut (record { description = description.now.items; option = option_copied name.entry }) kept.new) }
     ensures rows { OnOk result (HasRows (record { description = description.now.items; option = option_copied name.entry })) }
     ensures faultless { OnOk result (place_fault place (option_copied name.entry) description.now.items ≡ None) }
     ensures refused { IfErr result (λ f. (place_fault place (option_copied name.entry) description.now.items ≡ Some f) ⊎ (f ≡ Memory)) }
 {
-    match elaborate(alloc, description, name) {
-        Ok(_rows) => Ok(()),
+    match kept.relay(alloc, description, name, bodies) {
+        Ok(()) => Ok(()),
         Err(fault) => Err(faulty(place, fault)),
     }
 }
@@ -146,27 +150,38 @@ fn stopped(place: Where, stop: Stop) -> SessionFault
     }
 }
 
-/// Takes a step to a place, and answers the one that leads back, with its mark.
+/// Takes a step to a place, and answers the one that leads back, with its mark. A step without a patch leads nowhere, and
+/// nothing is laid out for it.
 #[tactic(auto, using(crate::proofs::Walking::steps))]
 fn take_step(
     alloc: Global,
     description: &mut Description,
+    kept: &mut Kept,
     name: Option<&str>,
     step: Back,
     place: Where,
 ) -> Result<Back, SessionFault>
+    requires { IsLaidOut (record { description = description.old.items; option = option_copied name }) kept.old }
     ensures fits { OnOk result (Fits (record { description = description.old.items; option = option_copied name.entry }) step) }
     ensures made { OnOk result (description.new.items ≡ image step.patches description.old.items) }
+    ensures laid_out { OnOk result (IsLaidOut (record { description = description.new.items; option = option_copied name.entry }) kept.new) }
     ensures back { IfOk result (λ back. back ≡ way_back description.old.items step) }
     ensures faultless { OnOk result (step_fault place (option_copied name.entry) description.old.items step.patches ≡ None) }
     ensures refused { IfErr result (λ f. (step_fault place (option_copied name.entry) description.old.items step.patches ≡ Some f) ⊎ (f ≡ Memory)) }
 {
+    if step.patches().is_empty() {
+        return Ok(step);
+    }
     let read = step.read();
-    let back = match turn_all(alloc, description, step.into_vec()) {
+    let patches = step.into_vec();
+    let Ok(bodies) = reordered(alloc, patches.as_slice()) else {
+        return Err(SessionFault::Memory);
+    };
+    let back = match turn_all(alloc, description, patches) {
         Ok(back) => back,
         Err(stop) => return Err(stopped(place, stop)),
     };
-    match judge(alloc, description, name, place) {
+    match judge(alloc, description, kept, name, bodies.as_slice(), place) {
         Ok(()) => Ok(Back::new(back, read)),
         Err(fault) => Err(fault),
     }
@@ -192,12 +207,15 @@ fn place_of(direction: Direction, number: usize) -> Where
 fn go(
     alloc: Global,
     description: &mut Description,
+    kept: &mut Kept,
     name: Option<&str>,
     steps: Vec<Back>,
     direction: Direction,
 ) -> Result<Vec<Back>, SessionFault>
+    requires { IsLaidOut (record { description = description.old.items; option = option_copied name }) kept.old }
     ensures fits { OnOk result (FitInTurn prior Fits (record { description = description.old.items; option = option_copied name.entry }) steps.items) }
     ensures there { OnOk result (description.new.items ≡ place_after description.old.items steps.items) }
+    ensures laid_out { OnOk result (IsLaidOut (record { description = description.new.items; option = option_copied name.entry }) kept.new) }
     ensures ways { IfOk result (λ ways. ways.items ≡ reverse (ways_along description.old.items steps.items)) }
     ensures faultless { OnOk result (steps_fault (place_of direction) (option_copied name.entry) 1 description.old.items (map (λ step. step.patches) steps.items) ≡ None) }
     ensures refused { IfErr result (λ f. (steps_fault (place_of direction) (option_copied name.entry) 1 description.old.items (map (λ step. step.patches) steps.items) ≡ Some f) ⊎ (f ≡ Memory)) }
@@ -207,7 +225,7 @@ fn go(
     };
     for step in steps {
         let place = place_of(direction, ways.len().saturating_add(1));
-        let way = match take_step(alloc, description, name, step, place) {
+        let way = match take_step(alloc, description, kept, name, step, place) {
             Ok(way) => way,
             Err(fault) => return Err(fault),
         };
@@ -239,27 +257,45 @@ fn come_back(
     Ok(reversed(steps))
 }
 
-/// Goes along the steps and back. The description and the steps are as before.
+/// Whether none of the steps has a patch, so that all stay where they begin.
+fn are_empty(steps: &[Back]) -> bool
+    ensures { result ≡ list_all is_empty steps.now }
+{
+    steps.iter().all(|step| step.patches().is_empty())
+}
+
+/// Goes along the steps and back. The description and the steps are as before, and its layouts are kept again.
 pub(crate) fn visit(
     alloc: Global,
     description: &mut Description,
+    kept: &mut Kept,
     name: Option<&str>,
     steps: Vec<Back>,
     direction: Direction,
 ) -> Result<Vec<Back>, SessionFault>
-    requires { depth description.old.items ≤ 16 }
+    requires nesting { depth description.old.items ≤ 16 }
+    requires laid_out { IsLaidOut (record { description = description.old.items; option = option_copied name }) kept.old }
     ensures fits { OnOk result (FitInTurn prior Fits (record { description = description.old.items; option = option_copied name.entry }) steps.items) }
     ensures home { OnOk result (description.new.items ≡ description.old.items) }
+    ensures laid_out { OnOk result (IsLaidOut (record { description = description.new.items; option = option_copied name.entry }) kept.new) }
     ensures steps { IfOk result (λ same. same.items ≡ steps.items) }
     ensures faultless { OnOk result (steps_fault (place_of direction) (option_copied name.entry) 1 description.old.items (map (λ step. step.patches) steps.items) ≡ None) }
     ensures refused { IfErr result (λ f. (steps_fault (place_of direction) (option_copied name.entry) 1 description.old.items (map (λ step. step.patches) steps.items) ≡ Some f) ⊎ (f ≡ Memory)) }
 {
-    let ways = match go(alloc, description, name, steps, direction) {
+    let ways = match go(alloc, description, kept, name, steps, direction) {
         Ok(ways) => ways,
         Err(fault) => return Err(fault),
     };
-    match come_back(alloc, description, ways) {
-        Ok(steps) => Ok(steps),
+    let stays = are_empty(ways.as_slice());
+    let steps = match come_back(alloc, description, ways) {
+        Ok(steps) => steps,
+        Err(_) => return Err(SessionFault::Memory),
+    };
+    if stays {
+        return Ok(steps);
+    }
+    match kept.relay(alloc, description, name, &[]) {
+        Ok(()) => Ok(steps),
         Err(_) => Err(SessionFault::Memory),
     }
 }
@@ -286,8 +322,7 @@ pub(crate) fn opened(
     description: &Description,
     name: Option<&str>,
 ) -> Result<Kept, SessionFault>
-    ensures keeps { IfOk result (Keeps (record { description = description.now.items; option = option_copied name.entry })) }
-    ensures placed { IfOk result (λ kept. kept.placed ≤ 3 * all_instances description.now.items) }
+    ensures laid_out { IfOk result (IsLaidOut (record { description = description.now.items; option = option_copied name.entry })) }
     ensures faultless { OnOk result (place_fault where_.Map (option_copied name.entry) description.now.items ≡ None) }
     ensures refused { IfErr result (λ f. (place_fault where_.Map (option_copied name.entry) description.now.items ≡ Some f) ⊎ (f ≡ Memory)) }
 {

@@ -29,7 +29,7 @@ fn refused(fault: Fault) -> Refusal
 }
 
 /// The bodies in which a patch moves an item.
-fn reordered(alloc: Global, patches: &[Patch]) -> Result<Vec<Address>, AllocError>
+pub(crate) fn reordered(alloc: Global, patches: &[Patch]) -> Result<Vec<Address>, AllocError>
     ensures { IfOk result (λ bodies. bodies.items ≡ reordered patches.now) }
 {
     let mut bodies = Vec::new(alloc);

@@ -2,6 +2,7 @@ use Rattle.std.proofs.Common.{◌≡◌, ◌+◌, ◌++◌, map, length}
 use Rattle.std.specs.Prelude.{option_copied}
 use Rattle.journal_core.specs.Along.{FitInTurn}
 use Rattle.rdl_edit.specs.Backs.{prior, Fits}
+use Rattle.rdl_edit.specs.Keeping.{IsLaidOut}
 use Rattle.rdl_edit.specs.Resuming.{steps_fault, place_after}
 use Rattle.rdl_edit.specs.Ways.{place_of, ways_along}
 use Rattle.rdl_edit.proofs.resuming.go.Given as goal
@@ -9,6 +10,7 @@ use Rattle.rdl_edit.proofs.resuming.go.Given as goal
 abbrev pub invariant-loop-step : goal.invariant-loop-step
 invariant-loop-step l = record {
   there : place_after l.fn.description.items l.fn.steps.items ≡ place_after l.description.items l.step-iterator.rest.items;
+  laid_out : IsLaidOut (record { description = l.description.items; option = option_copied l.fn.name }) l.kept;
   ways : ways_along l.fn.description.items l.fn.steps.items ≡ l.ways.items ++ ways_along l.description.items l.step-iterator.rest.items;
   fits : FitInTurn prior Fits (record { description = l.description.items; option = option_copied l.fn.name }) l.step-iterator.rest.items
       → FitInTurn prior Fits (record { description = l.fn.description.items; option = option_copied l.fn.name }) l.fn.steps.items;

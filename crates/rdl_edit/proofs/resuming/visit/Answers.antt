@@ -1,17 +1,34 @@
-use Rattle.std.proofs.Common.{◌∙◌}
-use Rattle.rdl_edit.proofs.Walking.{home-lead, home-there, home-again}
+use Rattle.std.proofs.Common.{◌∙◌, ap, sym}
+use Rattle.std.specs.List.{list_all}
+use Rattle.rdl_edit.specs.Ways.{is_empty}
+use Rattle.rdl_edit.proofs.Walking.{home-lead, home-there, home-again, laid-out-home}
 use Rattle.rdl_edit.proofs.resuming.visit.Goals as goal
 
 pub come_back-requires : goal.come_back-requires
 come_back-requires c =
-    home-lead c.args.steps.items c.args.description.now.items c.go.new.description.items _ c.in-Ok.ways.items c.in-Ok.ensures.fits c.requires c.in-Ok.ensures.there c.in-Ok.ensures.ways
+    home-lead c.args.steps.items c.args.description.now.items c.go.new.description.items _ c.in-Ok.ways.items c.in-Ok.ensures.fits c.requires.nesting c.in-Ok.ensures.there c.in-Ok.ensures.ways
 
-pub returns-in-Ok-come_back-clause-home : goal.returns-in-Ok-come_back-clause-home
-returns-in-Ok-come_back-clause-home c =
+pub returns-then-stays-clause-home : goal.returns-then-stays-clause-home
+returns-then-stays-clause-home c =
     c.in-Ok-come_back.ensures.home
-    ∙ home-there c.args.steps.items c.args.description.now.items c.go.new.description.items _ c.in-Ok.ways.items c.in-Ok.ensures.fits c.requires c.in-Ok.ensures.there c.in-Ok.ensures.ways
+    ∙ home-there c.args.steps.items c.args.description.now.items c.go.new.description.items _ c.in-Ok.ways.items c.in-Ok.ensures.fits c.requires.nesting c.in-Ok.ensures.there c.in-Ok.ensures.ways
 
-pub returns-in-Ok-come_back-clause-steps : goal.returns-in-Ok-come_back-clause-steps
-returns-in-Ok-come_back-clause-steps c =
+pub returns-then-stays-clause-steps : goal.returns-then-stays-clause-steps
+returns-then-stays-clause-steps c =
     c.in-Ok-come_back.ensures.steps
-    ∙ home-again c.args.steps.items c.args.description.now.items c.go.new.description.items _ c.in-Ok.ways.items c.in-Ok.ensures.fits c.requires c.in-Ok.ensures.there c.in-Ok.ensures.ways
+    ∙ home-again c.args.steps.items c.args.description.now.items c.go.new.description.items _ c.in-Ok.ways.items c.in-Ok.ensures.fits c.requires.nesting c.in-Ok.ensures.there c.in-Ok.ensures.ways
+
+pub returns-then-stays-clause-laid_out : goal.returns-then-stays-clause-laid_out
+returns-then-stays-clause-laid_out c =
+    laid-out-home c.in-Ok.ways.items c.go.new.description.items c.come_back.new.description.items _ c.go.new.kept
+    (ap (list_all is_empty) (sym c.as_slice.ensures.value) ∙ sym c.are_empty-stays.ensures ∙ c.if-stays.true) c.in-Ok-come_back.ensures.home c.in-Ok.ensures.laid_out
+
+pub returns-in-Ok-relay-clause-home : goal.returns-in-Ok-relay-clause-home
+returns-in-Ok-relay-clause-home c =
+    c.in-Ok-come_back.ensures.home
+    ∙ home-there c.args.steps.items c.args.description.now.items c.go.new.description.items _ c.in-Ok.ways.items c.in-Ok.ensures.fits c.requires.nesting c.in-Ok.ensures.there c.in-Ok.ensures.ways
+
+pub returns-in-Ok-relay-clause-steps : goal.returns-in-Ok-relay-clause-steps
+returns-in-Ok-relay-clause-steps c =
+    c.in-Ok-come_back.ensures.steps
+    ∙ home-again c.args.steps.items c.args.description.now.items c.go.new.description.items _ c.in-Ok.ways.items c.in-Ok.ensures.fits c.requires.nesting c.in-Ok.ensures.there c.in-Ok.ensures.ways
