@@ -5,7 +5,7 @@ ghost use Rattle.rdl_tree.specs.Depth.{depth};
 ghost use Rattle.rdl_tree.specs.Patch.{AllFit, image, inverses};
 ghost use Rattle.rdl_edit.specs.Backs.{IsWayBack, IsCheap};
 ghost use Rattle.rdl_edit.specs.Faults.{refused};
-ghost use Rattle.rdl_edit.specs.Step.{IsJudged};
+ghost use Rattle.rdl_edit.specs.Step.{HasRows, IsJudged};
 ghost use Rattle.rdl_edit.specs.Keeping.{Keeps};
 ghost use Rattle.rdl_edit.specs.Placing.{IsFew, KeepsLayouts, reordered};
 
@@ -90,6 +90,7 @@ pub(crate) fn again(
 ) -> Result<Vec<Patch>, Vec<Patch>>
     requires nesting { depth description.old.items ≤ 16 }
     requires fit { AllFit patches.items description.old.items }
+    requires known { HasRows (record { description = image patches.items description.old.items; option = option_copied name }) }
     ensures made { OnOk result (description.new.items ≡ image patches.items description.old.items) }
     ensures keeps { OnOk result (Keeps (record { description = description.new.items; option = option_copied name.entry }) kept.new) }
     ensures few { OnOk result (kept.old.description ≡ description.old.items → IsFew description.old.items patches.items (image patches.items description.old.items) kept.new.placed) }
@@ -109,7 +110,7 @@ pub(crate) fn again(
         Ok(turned) => turned,
         Err(same) => return Err(same),
     };
-    match kept.relay(alloc, turned.description(), name, bodies.as_slice()) {
+    match kept.relay_known(alloc, turned.description(), name, bodies.as_slice()) {
         Ok(()) => Ok(turned.keep()),
         Err(_) => Err(turned.back()),
     }

@@ -5,9 +5,6 @@ use Rattle.std.specs.Option.{option_or, is_some}
 use Rattle.std.specs.Prelude.{IfOk, IfErr}
 use Rattle.std.proofs.lemmas.Bool.{cases_lt, lt-ltb, le-ltb, ltb-false}
 use Rattle.rdl_tree.specs.Items.{Items}
-use Rattle.rdl_tree.specs.View.{items_of, list_of}
-use Rattle.rdl_tree.proofs.Rounds.{items_of-list_of}
-use Rattle.rdl_tree.specs.declared.description.Item.{Item}
 use Rattle.rdl_tree.specs.declared.fault.Fault.{Fault}
 use Rattle.rdl_tree.specs.declared.fault.FaultKind.{FaultKind}
 use Rattle.rdl_tree.specs.declared.fault.FaultKind.TheVariants.{TooManyLevels, TooManyRows, EmptyComponent, MapTooLarge}
@@ -182,11 +179,6 @@ answer-walked d n at name fs number none place there finished = ap (λ a. kept_a
     by_component (Some c) e = answer-kept d n name c fs number none e (finished c e)
 
 -- a description whose items have no fault is judged under its top
-pub judged-under : (d : Items) (wanted : Option (List ℕ)) (xs : List Item) (top : Option (ℕ × List ℕ)) → fault_of d ≡ None → xs ≡ list_of d → top ≡ top_from wanted 0 (items_of xs)
-    → elaborated d wanted ≡ with_top d top
-judged-under d wanted xs top none same e =
-    ap (unless_fault d wanted) none ∙ ap (λ t. with_top d (top_from wanted 0 t)) (sym (items_of-list_of d) ∙ ap items_of (sym same)) ∙ ap (with_top d) (sym e)
-
 pub judged-top : (d : Items) (wanted : Option (List ℕ)) (top : Option (ℕ × List ℕ)) → fault_of d ≡ None → top_from wanted 0 d ≡ top → elaborated d wanted ≡ with_top d top
 judged-top d wanted top none e = ap (unless_fault d wanted) none ∙ ap (with_top d) e
 

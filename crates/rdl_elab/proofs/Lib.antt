@@ -41,6 +41,7 @@ pub mod SameRows
 pub mod SameLevels
 pub mod FieldsInside
 pub mod KeptAnswers
+pub mod KnownRows
 pub mod Storing
 pub mod Numbering
 pub mod FoundLayouts

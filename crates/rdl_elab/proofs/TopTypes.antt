@@ -15,7 +15,7 @@ use Rattle.rdl_elab.specs.declared.finished.Finished.{Finished}
 use Rattle.rdl_elab.specs.AllKept.{fault_in}
 use Rattle.rdl_elab.specs.declared.row.Row.{Row}
 use Rattle.rdl_tree.specs.declared.fault.Fault.{Fault}
-use Rattle.rdl_elab.specs.Faults.{may_be_top, name_of, has_name, top_from, under_top}
+use Rattle.rdl_elab.specs.Faults.{may_be_top, name_of, has_name, top_from, under_top, with_top}
 use Rattle.rdl_elab.specs.KeptRows.{kept_answer}
 use Rattle.rdl_elab.specs.Stands.{AreTypes, IsType}
 use Rattle.rdl_elab.proofs.KeptAnswers.{answer-kept}
@@ -155,11 +155,13 @@ answer-numbered d n name fs number none = by (component d (n ∷ [])) number ref
     by (Some c) None e h = absurd h
     by (Some c) (Some k) e h = answer-kept d n name c fs k none e h ∙ ap (under_top d (n ∷ []) name) e
 
--- so are its fault and that of the walk's answer the same
-pub fault-numbered : (d : Items) (n : ℕ) (name : List ℕ) (fs : List Finished) (number : Option ℕ) (answer : Result (List Row) Fault) → fault_of d ≡ None → root_type d name ≡ component d (n ∷ [])
-    → IsType d fs number (root_type d name) → answer ≡ kept_answer fs (n ∷ []) name (option_and_then (slice_get fs) number)
-    → fault_in answer ≡ fault_in (under_top d (n ∷ []) name (component d (n ∷ [])))
-fault-numbered d n name fs number answer none last is e = ap fault_in (e ∙ answer-numbered d n name fs number none (subst (IsType d fs number) last is))
+-- so its fault is that of the walk's answer
+pub fault-walked : (d : Items) (top : ℕ × List ℕ) (name : List ℕ) (fs all : List Finished) (number : Option ℕ) → fault_of d ≡ None → root_type d top.1 ≡ component d (top.0 ∷ []) → name ≡ top.1
+    → IsType d all number (root_type d name) → fs ≡ all
+    → fault_in (kept_answer fs (top.0 ∷ []) top.1 (option_and_then (slice_get fs) number)) ≡ fault_in (with_top d (Some top))
+fault-walked d top name fs all number none last called type same =
+    ap (λ (x : List Finished). fault_in (kept_answer x (top.0 ∷ []) top.1 (option_and_then (slice_get x) number))) same
+    ∙ ap fault_in (answer-numbered d top.0 top.1 all number none (subst (IsType d all number) last (subst (λ n. IsType d all number (root_type d n)) called type)))
 
 -- an answer without a fault has rows
 pub rows-there : (answer : Result (List Row) Fault) → fault_in answer ≡ None → (rows : List Row) × (answer ≡ Ok rows)

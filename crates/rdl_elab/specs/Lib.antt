@@ -29,6 +29,7 @@ pub mod Stored
 pub mod Stands
 pub mod TypeStacks
 pub mod Tops
+pub mod Known
 pub mod Found
 pub mod Tracked
 pub mod EditedBodies

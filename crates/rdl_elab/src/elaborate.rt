@@ -5,6 +5,7 @@ ghost use Rattle.rdl_tree.specs.Depth.{depth};
 ghost use Rattle.rdl_scope.specs.Closed.{component};
 ghost use Rattle.rdl_scope.specs.ItemFaults.{fault_at, fault_of, out_of_memory};
 ghost use Rattle.rdl_elab.specs.Faults.{has_name, top_from, elaborated, under_top};
+ghost use Rattle.rdl_elab.specs.Known.{HasRows};
 ghost use Rattle.rdl_elab.specs.Tops.{top_at};
 ghost use Rattle.rdl_tree.specs.View.{items_of};
 ghost use Rattle.rdl_elab.specs.KeptRows.{kept_map_fault, kept_top_row, kept_around_top, told_below, rows_unless, kept_rows_or_fault, kept_answer};
@@ -267,6 +268,26 @@ fn under_top(
     }
 }
 
+/// The last definition of an address map among the items of the root, of this name if there is one.
+fn find_top<'a>(description: &'a Description, wanted: Option<&str>) -> Option<Top<'a>>
+    ensures { result ≡ top_from (option_copied wanted.entry) 0 description.now.items }
+{
+    last_top(description.items.as_slice(), wanted)
+}
+
+/// The top of a map that is known to have rows.
+pub(crate) fn known_top<'a>(description: &'a Description, wanted: Option<&str>) -> Top<'a>
+    requires { HasRows description.now.items (option_copied wanted) }
+    ensures faultless { fault_of description.now.items ≡ None }
+    ensures nesting { depth description.now.items ≤ 16 }
+    ensures top { top_from (option_copied wanted.entry) 0 description.now.items ≡ Some result }
+{
+    match find_top(description, wanted) {
+        Some(top) => top,
+        None => unreachable!(),
+    }
+}
+
 /// The top, if no item has a fault. Otherwise the first fault: those of `rdl_scope::faults::check`, and E13.
 pub(crate) fn checked_top<'a>(
     alloc: Global,
@@ -279,7 +300,7 @@ pub(crate) fn checked_top<'a>(
     ensures err { IfErr result (λ fault. (elaborated description.now.items (option_copied wanted.entry) ≡ Err fault) ⊎ (fault ≡ out_of_memory)) }
 {
     check(alloc, description)?;
-    match last_top(description.items.as_slice(), wanted) {
+    match find_top(description, wanted) {
         Some(top) => Ok(top),
         None => Err(no_top()),
     }

@@ -1,5 +1,5 @@
 //! Layouts that are kept from one description to the next.
-ghost use Rattle.std.specs.Prelude.{◌≡◌, ◌⊎◌, ◌*◌, ◌≤◌, ◌∷◌, [], ℕ, Bool, List, Ok, Err, Some, None, IfOk, IfErr, OnOk, OnErr, map, sum_by, option_map, option_copied};
+ghost use Rattle.std.specs.Prelude.{◌≡◌, ◌⊎◌, ◌*◌, ◌≤◌, ◌∷◌, [], ℕ, Bool, List, Ok, Err, Some, None, IfOk, IfErr, OnOk, OnErr, map, sum_by, option_map, option_copied, option_and_then, slice_get};
 ghost use Rattle.slab.specs.Slab.{get, SameValues};
 ghost use Rattle.rdl_tree.specs.Depth.{depth};
 ghost use Rattle.rdl_scope.specs.Closed.{component, root_type};
@@ -10,9 +10,10 @@ ghost use Rattle.rdl_elab.specs.Stored.{IsStored, AreTaken};
 ghost use Rattle.std.specs.List.{AllZip};
 ghost use Rattle.std.specs.String.{string_bytes};
 ghost use Rattle.rdl_elab.specs.MadeOf.{all_made};
+ghost use Rattle.rdl_elab.specs.KeptRows.{kept_answer};
 ghost use Rattle.rdl_elab.specs.AllKept.{TakesOver, fault_in, new_spans, has_layout, all_instances, instances_at, AreFoundBut};
 
-use crate::elaborate::{Top, checked_top, elaborate, rows_under};
+use crate::elaborate::{Top, checked_top, elaborate, known_top, rows_under};
 use crate::finished::Finished;
 use crate::laid_out::{Before, Taken};
 use crate::layout::{Layout, Mode};
@@ -96,6 +97,34 @@ fn has_layout(description: &Description, body: &Address) -> bool
     }
 }
 
+/// How it is known that a map has no fault: its rows are made, or they are known to be there.
+#[derive(Clone, Copy, Debug, PartialEq, Eq)]
+enum Judgement {
+    ByRows,
+    Known,
+}
+
+/// The fault of the map with this top, whose component has this number among them, if it has one. No rows are made where
+/// it is known to have none.
+fn fault_under<'a>(
+    alloc: Global,
+    components: &[Finished<'a>],
+    number: Option<usize>,
+    top: &Top,
+    judgement: Judgement,
+) -> Result<Option<Fault>, AllocError>
+    requires known { judgement ≡ Judgement.Known → fault_in (kept_answer components.now (top.now.0 ∷ []) top.now.1 (option_and_then (slice_get components.now) number)) ≡ None }
+    ensures { IfOk result (λ fault. fault ≡ fault_in (kept_answer components.now (top.now.0 ∷ []) top.now.1 (option_and_then (slice_get components.now) number))) }
+{
+    match judgement {
+        Judgement::ByRows => match rows_under(alloc, components, number, top)? {
+            Ok(_rows) => Ok(None),
+            Err(fault) => Ok(Some(fault)),
+        },
+        Judgement::Known => Ok(None),
+    }
+}
+
 /// Lays out all components of this description, and keeps them instead of those that are stored if the map with this top
 /// has no fault. What stands under these keys is taken over where it was made of the same. The number of instances that
 /// were placed, or the fault.
@@ -105,10 +134,12 @@ fn lay_out(
     description: &Description,
     top: &Top,
     keys: &[Option<usize>],
+    judgement: Judgement,
 ) -> Result<Result<u64, Fault>, AllocError>
     requires nesting { depth description.now.items ≤ 16 }
     requires faultless { fault_of description.now.items ≡ None }
     requires top { root_type description.now.items top.now.1 ≡ component description.now.items (top.now.0 ∷ []) }
+    requires known { judgement ≡ Judgement.Known → fault_in (with_top description.now.items (Some top.now)) ≡ None }
     ensures stored { IfOk result (λ answer. OnOk answer (IsStored stored.new.layouts stored.new.keys.items (all_made description.now.items))) }
     ensures placed { IfOk result (λ answer. IfOk answer (λ placed. placed ≤ 3 * all_instances description.now.items)) }
     ensures few { IfOk result (λ answer. IfOk answer (λ placed. (marked : List ℕ → Bool) → AreFoundBut marked stored.old.layouts keys.now description.now.items → placed ≤ 3 * instances_at marked description.now.items)) }
@@ -122,7 +153,8 @@ fn lay_out(
         keys,
     };
     let all = lay_out_all(alloc, description, top.name, &before)?;
-    if let Err(fault) = rows_under(alloc, all.components.as_slice(), all.number, top)? {
+    let components = all.components.as_slice();
+    if let Some(fault) = fault_under(alloc, components, all.number, top, judgement)? {
         return Ok(Err(fault));
     }
     let placed = all_placed(all.components.as_slice());
@@ -165,6 +197,7 @@ impl Kept {
     ghost use Rattle.rdl_tree.specs.Depth.{depth};
     ghost use Rattle.rdl_scope.specs.ItemFaults.{fault_of, out_of_memory};
     ghost use Rattle.rdl_elab.specs.Faults.{elaborated, top_from};
+    ghost use Rattle.rdl_elab.specs.Known.{HasRows};
     ghost use Rattle.rdl_elab.specs.AllKept.{AreOf, IsAsBeforeBut, layout_at, all_instances, instances_at};
     ghost use Rattle.rdl_elab.specs.Reach.{in_reach, AreUnchangedBut};
     ghost use Rattle.rdl_elab.specs.Skeleton.{skeleton};
@@ -193,10 +226,12 @@ impl Kept {
         top: &Top,
         wanted: Option<&str>,
         bodies: &[Address],
+        judgement: Judgement,
     ) -> Result<Result<(), Fault>, AllocError>
         requires nesting { depth description.now.items ≤ 16 }
         requires faultless { fault_of description.now.items ≡ None }
         requires top { top_from (option_copied wanted) 0 description.now.items ≡ Some top.now }
+        requires known { judgement ≡ Judgement.Known → HasRows description.now.items (option_copied wanted) }
         ensures layouts { IfOk result (λ answer. OnOk answer (AreOf description.now.items self.new)) }
         ensures top { IfOk result (λ answer. OnOk answer (self.new.top ≡ option_copied wanted.entry)) }
         ensures placed { IfOk result (λ answer. OnOk answer (self.new.placed ≤ 3 * all_instances description.now.items)) }
@@ -209,7 +244,14 @@ impl Kept {
         let copy = description.try_copy(alloc)?;
         let keys = self.stored.keys.as_slice();
         let keys = stand_ins(alloc, &self.description, keys, description, bodies)?;
-        match lay_out(alloc, &mut self.stored, description, top, keys.as_slice())? {
+        match lay_out(
+            alloc,
+            &mut self.stored,
+            description,
+            top,
+            keys.as_slice(),
+            judgement,
+        )? {
             Ok(placed) => {
                 self.description = copy;
                 self.top = wanted;
@@ -255,9 +297,34 @@ impl Kept {
         ensures err { OnErr result (self.new ≡ self.old) }
     {
         let found = checked_top(alloc, description, top)?;
-        match self.follow(alloc, description, &found, top, bodies) {
+        match self.follow(alloc, description, &found, top, bodies, Judgement::ByRows) {
             Ok(answer) => answer,
             Err(_) => Err(no_memory()),
+        }
+    }
+
+    /// Does the same for a description that is known to have rows with this top, as one that was laid out before. It is
+    /// not judged again, so this fails for memory alone.
+    pub fn relay_known(
+        &mut self,
+        alloc: Global,
+        description: &Description,
+        top: Option<&str>,
+        bodies: &[Address],
+    ) -> Result<(), AllocError>
+        requires { HasRows description.now.items (option_copied top) }
+        ensures layouts { OnOk result (AreOf description.now.items self.new) }
+        ensures top { OnOk result (self.new.top ≡ option_copied top.entry) }
+        ensures placed { OnOk result (self.new.placed ≤ 3 * all_instances description.now.items) }
+        ensures few { OnOk result ((marked : List ℕ → Bool) → IsAsBeforeBut marked self.old.description bodies.now description.now.items → self.new.placed ≤ 3 * instances_at marked description.now.items) }
+        ensures reached { OnOk result ((edited : List ℕ → Bool) → AreUnchangedBut edited self.old.description bodies.now description.now.items → self.new.placed ≤ 3 * instances_at (in_reach edited description.now.items) description.now.items) }
+        ensures still { OnOk result (bodies.now ≡ [] → skeleton self.old.description ≡ skeleton description.now.items → self.new.placed ≡ 0) }
+        ensures err { OnErr result (self.new ≡ self.old) }
+    {
+        let found = known_top(description, top);
+        match self.follow(alloc, description, &found, top, bodies, Judgement::Known)? {
+            Ok(()) => Ok(()),
+            Err(_) => unreachable!(),
         }
     }
 

@@ -1,33 +1,40 @@
-use Rattle.std.proofs.Common.{◌≡◌, ap, rules, ◌∙◌}
+use Rattle.std.proofs.Common.{◌≡◌, ap, sym, subst, rules, ◌∙◌, option_copied}
 use Rattle.rdl_tree.specs.Patch.{image}
+use Rattle.rdl_elab.specs.Known.{HasRows}
 use Rattle.rdl_edit.specs.Placing.{reordered}
 use Rattle.rdl_edit.proofs.Placings.{back-keeps, few-placed, none-placed}
 use Rattle.rdl_edit.proofs.WaysBack.{way-back, cheap}
 use Rattle.rdl_edit.proofs.turning.again.Goals as goal
 
-pub returns-in-Ok-relay-clause-back : goal.returns-in-Ok-relay-clause-back
-returns-in-Ok-relay-clause-back c =
+pub relay_known-requires : goal.relay_known-requires
+relay_known-requires c =
+    let made : c.description.result.now.items ≡ image c.args.patches.items c.args.description.now.items = search rules in
+    let known = c.requires.known in
+    subst (λ d. HasRows d (option_copied c.args.name)) (sym made) (record { rows = known.rows; are = known.are })
+
+pub returns-in-Ok-relay_known-clause-back : goal.returns-in-Ok-relay_known-clause-back
+returns-in-Ok-relay_known-clause-back c =
     way-back c.args.patches.items c.keep.result.items c.args.description.now.items _ c.requires.fit c.requires.nesting
     (search rules) (c.keep.ensures.patches ∙ c.in-Ok-turn.ensures.kept)
 
-pub returns-in-Ok-relay-clause-cost : goal.returns-in-Ok-relay-clause-cost
-returns-in-Ok-relay-clause-cost c =
+pub returns-in-Ok-relay_known-clause-cost : goal.returns-in-Ok-relay_known-clause-cost
+returns-in-Ok-relay_known-clause-cost c =
     cheap c.args.patches.items c.keep.result.items c.args.description.now.items c.requires.fit c.requires.nesting
     (c.keep.ensures.patches ∙ c.in-Ok-turn.ensures.kept)
 
-pub returns-in-Ok-relay-clause-back_keeps : goal.returns-in-Ok-relay-clause-back_keeps
-returns-in-Ok-relay-clause-back_keeps c =
+pub returns-in-Ok-relay_known-clause-back_keeps : goal.returns-in-Ok-relay_known-clause-back_keeps
+returns-in-Ok-relay_known-clause-back_keeps c =
     back-keeps c.args.patches.items c.keep.result.items c.args.description.now.items _ c.requires.fit
     (search rules) (c.keep.ensures.patches ∙ c.in-Ok-turn.ensures.kept)
 
-pub returns-in-Ok-relay-clause-few : goal.returns-in-Ok-relay-clause-few
-returns-in-Ok-relay-clause-few c =
+pub returns-in-Ok-relay_known-clause-few : goal.returns-in-Ok-relay_known-clause-few
+returns-in-Ok-relay_known-clause-few c =
     let named : c.as_slice-2.result.now ≡ reordered c.args.patches.items = c.as_slice-2.ensures.value ∙ c.in-Ok.ensures ∙ ap reordered c.as_slice.ensures.value in
     let made : c.description.result.now.items ≡ image c.args.patches.items c.args.description.now.items = search rules in
-    few-placed c.args.kept.now.description c.args.description.now.items c.description.result.now.items c.args.patches.items c.as_slice-2.result.now c.relay.new.self.placed named made c.in-Ok-relay.ensures.reached
+    few-placed c.args.kept.now.description c.args.description.now.items c.description.result.now.items c.args.patches.items c.as_slice-2.result.now c.relay_known.new.self.placed named made c.in-Ok-relay_known.ensures.reached
 
-pub returns-in-Ok-relay-clause-none : goal.returns-in-Ok-relay-clause-none
-returns-in-Ok-relay-clause-none c =
+pub returns-in-Ok-relay_known-clause-none : goal.returns-in-Ok-relay_known-clause-none
+returns-in-Ok-relay_known-clause-none c =
     let named : c.as_slice-2.result.now ≡ reordered c.args.patches.items = c.as_slice-2.ensures.value ∙ c.in-Ok.ensures ∙ ap reordered c.as_slice.ensures.value in
     let made : c.description.result.now.items ≡ image c.args.patches.items c.args.description.now.items = search rules in
-    none-placed c.args.kept.now.description c.args.description.now.items c.description.result.now.items c.args.patches.items c.as_slice-2.result.now c.relay.new.self.placed named made c.in-Ok-relay.ensures.still
+    none-placed c.args.kept.now.description c.args.description.now.items c.description.result.now.items c.args.patches.items c.as_slice-2.result.now c.relay_known.new.self.placed named made c.in-Ok-relay_known.ensures.still

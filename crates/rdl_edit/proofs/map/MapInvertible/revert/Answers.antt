@@ -1,7 +1,7 @@
-use Rattle.std.proofs.Common.{◌≡◌, None, sym, ap, ◌∙◌, subst, rules}
+use Rattle.std.proofs.Common.{◌≡◌, None, sym, ap, ◌∙◌, subst, rules, option_copied}
 use Rattle.rdl_tree.specs.Patch.{image, inverses}
 use Rattle.rdl_scope.specs.ItemFaults.{fault_of}
-use Rattle.rdl_edit.specs.Backs.{Fits}
+use Rattle.rdl_edit.specs.Backs.{Fits, prior}
 use Rattle.rdl_edit.specs.OfEdits.{IsOfEdit}
 use Rattle.rdl_edit.proofs.OwnSteps.{turned}
 use Rattle.rdl_edit.specs.Step.{State, HasRows}
@@ -9,6 +9,11 @@ use Rattle.rdl_edit.proofs.Placings.{faultless, few-there}
 use Rattle.rdl_edit.proofs.SteppedBodies.{edit-placed, change-placed, back-ordinary}
 use Rattle.rdl_edit.proofs.WaysBack.{fits-back, has-rows}
 use Rattle.rdl_edit.proofs.map.MapInvertible.revert.Goals as goal
+
+pub again-requires-clause-known : goal.again-requires-clause-known
+again-requires-clause-known c =
+    let there : prior c.args.self.now.state c.args.back ≡ record { description = image c.into_vec-patches.result.items c.self.inside.description.items; option = option_copied c.text_of-name.result } = search rules in
+    subst HasRows there c.requires.has_rows
 
 pub returns-clause-fits : goal.returns-clause-fits
 returns-clause-fits c =

@@ -8,12 +8,17 @@ use Rattle.rdl_elab.specs.Stored.{IsStored}
 use Rattle.rdl_elab.proofs.AllTaken.{under-stored}
 use Rattle.rdl_elab.proofs.FoundLayouts.{all-before}
 use Rattle.rdl_elab.proofs.KeptAnswers.{judged-top}
+use Rattle.rdl_elab.proofs.KnownRows.{top-faultless}
 use Rattle.rdl_elab.proofs.Making.{all-made}
 use Rattle.rdl_elab.proofs.TopTypes.{top-type, rows-there}
 use Rattle.rdl_elab.proofs.kept.Kept.follow.Goals as goal
 
 pub lay_out-requires-clause-top : goal.lay_out-requires-clause-top
 lay_out-requires-clause-top c = let top = c.args.top.now in top-type c.args.description.now.items (option_copied c.args.wanted) top.0 top.1 c.requires.faultless c.requires.top
+
+pub lay_out-requires-clause-known : goal.lay_out-requires-clause-known
+lay_out-requires-clause-known c = λ known.
+    top-faultless c.args.description.now.items (option_copied c.args.wanted) (c.requires.known known) c.args.top.now c.requires.top
 
 pub returns-in-Ok-clause-layouts : goal.returns-in-Ok-clause-layouts
 returns-in-Ok-clause-layouts c =

@@ -1,0 +1,34 @@
+use Rattle.std.proofs.Common.{rules, ◌≡◌, false, sym, subst, arith, option_copied}
+use Rattle.std.specs.Prelude.{IfErr, Err}
+use Rattle.rdl_elab.specs.AllKept.{IsAsBeforeBut}
+use Rattle.rdl_elab.specs.Faults.{elaborated}
+use Rattle.rdl_elab.specs.Reach.{in_reach}
+use Rattle.rdl_elab.proofs.AsBefore.{none-marked}
+use Rattle.rdl_elab.proofs.InOrder.{nothing-differs}
+use Rattle.rdl_elab.proofs.KnownRows.{no-fault}
+use Rattle.rdl_elab.proofs.Reaching.{reach}
+use Rattle.rdl_elab.proofs.kept.Kept.relay_known.Goals as goal
+
+pub unreachable-requires : goal.unreachable-requires
+unreachable-requires c =
+    let d = c.args.description.now.items in
+    let top = option_copied c.args.top in
+    no-fault d top c.requires c.in-Err.field-0 (subst (λ answer. IfErr answer (λ fault. elaborated d top ≡ Err fault)) c.in-Err.is c.in_ok-follow.ensures.refused)
+
+pub returns-clause-few : goal.returns-clause-few
+returns-clause-few c = search rules
+
+pub returns-clause-reached : goal.returns-clause-reached
+returns-clause-reached c = λ edited unchanged.
+    let old = c.args.self.now.description in
+    let bodies = c.args.bodies.now in
+    let new = c.args.description.now.items in
+    returns-clause-few c (in_reach edited new) (reach edited old bodies new unchanged)
+
+pub returns-clause-still : goal.returns-clause-still
+returns-clause-still c = λ none same.
+    let old = c.args.self.now.description in
+    let bodies = c.args.bodies.now in
+    let new = c.args.description.now.items in
+    let before : IsAsBeforeBut (λ a. false) old bodies new = subst (λ bodies. IsAsBeforeBut (λ a. false) old bodies new) (sym none) (nothing-differs old new same) in
+    omega (arith, returns-clause-few c (λ a. false) before, none-marked new)
