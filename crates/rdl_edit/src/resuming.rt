@@ -294,7 +294,7 @@ pub(crate) fn visit(
     if stays {
         return Ok(steps);
     }
-    match kept.relay(alloc, description, name, &[]) {
+    match kept.relay_known(alloc, description, name, &[]) {
         Ok(()) => Ok(steps),
         Err(_) => Err(SessionFault::Memory),
     }
