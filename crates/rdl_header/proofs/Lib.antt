@@ -1,5 +1,4 @@
-pub mod Clashes
-pub mod Entries
+pub mod FirstClash
 pub mod Masks
 pub mod Paths
 pub mod WordMacros

@@ -1,3 +1,2 @@
-pub mod Defines
 pub mod HeaderFaults
 pub mod HeaderText

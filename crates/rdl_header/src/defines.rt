@@ -1,30 +1,55 @@
-//! The macros of the header, as far as they are known.
-ghost use Rattle.std.specs.Prelude.{◌≡◌, ◌++◌, [], ◌∷◌, string_bytes, IfOk};
-ghost use Rattle.rdl_header.specs.Defines.{entry_macros, Adds};
+//! The macros of the header, as far as they are made.
+ghost use Rattle.std.specs.Prelude.{◌≡◌, ◌++◌, [], ◌∷◌, string_bytes, IfOk, OnOk};
 ghost use Rattle.rdl_header.specs.HeaderText.{hexadecimal_macro, decimal_macro};
 
-use crate::text::HeaderFault;
-use indexmap::IndexMap;
-use indexmap::map::Slice;
 use rdl_text::token::Number;
 use rdl_write::{push_decimal, push_hexadecimal};
 use std::alloc::{AllocError, Global};
 use std::marker::Model;
 
-/// The macros in their order, each with a name of its own: the names, and the texts that stand for them. A contract sees a list.
+/// A name, and the text that stands for it. A contract sees their bytes.
+#[derive(Drop)]
+pub(crate) struct Macro {
+    name: String,
+    value: String,
+}
+
+impl Model for Macro {
+    ghost use Rattle.std.specs.Prelude.{string_bytes};
+    ghost use Rattle.rdl_header.specs.HeaderText.{Macro as Seen};
+
+    ghost Value = { Seen };
+
+    ghost view = { λ m. record { name = string_bytes m.name; value = string_bytes m.value } };
+}
+
+impl Macro {
+    pub(crate) fn name(&self) -> &str
+        ensures { result.now ≡ self.now.name }
+    {
+        self.name.as_str()
+    }
+
+    pub(crate) fn value(&self) -> &str
+        ensures { result.now ≡ self.now.value }
+    {
+        self.value.as_str()
+    }
+}
+
+/// The macros in their order. A contract sees a list.
 #[derive(Drop)]
 pub(crate) struct Defines {
-    values: IndexMap<String, String>,
+    macros: Vec<Macro>,
 }
 
 impl Model for Defines {
     ghost use Rattle.std.specs.Prelude.{List};
-    ghost use Rattle.rdl_header.specs.HeaderText.{Macro};
-    ghost use Rattle.rdl_header.specs.Defines.{entry_macros};
+    ghost use Rattle.rdl_header.specs.HeaderText.{Macro as Seen};
 
-    ghost Value = { List Macro };
+    ghost Value = { List Seen };
 
-    ghost view = { λ d. entry_macros d.values.entries };
+    ghost view = { λ d. d.macros.items };
 }
 
 impl Defines {
@@ -32,18 +57,15 @@ impl Defines {
         ensures { result ≡ [] }
     {
         Defines {
-            values: IndexMap::new(alloc),
+            macros: Vec::new(alloc),
         }
     }
 
-    /// Puts a macro behind the others, unless one of them has its name.
-    pub(crate) fn push(&mut self, name: String, value: String) -> Result<(), HeaderFault>
-        ensures { Adds self.old (record { name = string_bytes name; value = string_bytes value } ∷ []) self.new result }
+    /// Puts a macro behind the others.
+    pub(crate) fn push(&mut self, name: String, value: String) -> Result<(), AllocError>
+        ensures { OnOk result (self.new ≡ self.old ++ record { name = string_bytes name; value = string_bytes value } ∷ []) }
     {
-        if self.values.contains_key(name.as_str()) {
-            return Err(HeaderFault::Clash(name));
-        }
-        self.values.insert(name, value)?;
+        self.macros.push(Macro { name, value })?;
         Ok(())
     }
 
@@ -54,8 +76,8 @@ impl Defines {
         path: &str,
         ending: &str,
         number: Number,
-    ) -> Result<(), HeaderFault>
-        ensures { Adds self.old (hexadecimal_macro path.now ending.now number ∷ []) self.new result }
+    ) -> Result<(), AllocError>
+        ensures { OnOk result (self.new ≡ self.old ++ hexadecimal_macro path.now ending.now number ∷ []) }
     {
         let mut value = String::new(alloc);
         push_hexadecimal(&mut value, number)?;
@@ -69,19 +91,18 @@ impl Defines {
         path: &str,
         ending: &str,
         number: Number,
-    ) -> Result<(), HeaderFault>
-        ensures { Adds self.old (decimal_macro path.now ending.now number ∷ []) self.new result }
+    ) -> Result<(), AllocError>
+        ensures { OnOk result (self.new ≡ self.old ++ decimal_macro path.now ending.now number ∷ []) }
     {
         let mut value = String::new(alloc);
         push_decimal(&mut value, number)?;
         self.push(joined(alloc, path, ending)?, value)
     }
 
-    /// The names with their texts, in order.
-    pub(crate) fn entries(&self) -> Slice<'_, String, String>
-        ensures { entry_macros result ≡ self.now }
+    pub(crate) fn as_slice(&self) -> &[Macro]
+        ensures { result.now ≡ self.now }
     {
-        self.values.as_slice()
+        self.macros.as_slice()
     }
 }
 

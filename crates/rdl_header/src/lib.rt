@@ -2,6 +2,7 @@
 #![tactic(auto)]
 
 mod bits;
+mod clashes;
 mod defines;
 mod macros;
 mod text;

@@ -1,13 +1,11 @@
 //! The macros of the rows.
-ghost use Rattle.std.specs.Prelude.{◌≡◌, ◌++◌, [], ◌∷◌, string_bytes, IfOk, OnOk, MatchResult};
+ghost use Rattle.std.specs.Prelude.{◌≡◌, ◌++◌, [], ◌∷◌, string_bytes, IfOk, OnOk};
 ghost use Rattle.std.specs.List.{flat_map};
-ghost use Rattle.rdl_header.specs.Defines.{IsAdded, IsClash, Adds};
 ghost use Rattle.rdl_header.specs.HeaderText.{path_text, array_macros, bytes_macros, word_macros, mask_macros, reset_macros, width_macros, bits_macros, macros_of, register_behind, macros_below, guard, macros};
 ghost use Rattle.std.specs.Fmt.{decimal};
 
 use crate::bits::{mask, width};
 use crate::defines::Defines;
-use crate::text::HeaderFault;
 use rdl_elab::layout::Span;
 use rdl_elab::row::{Extent, Place, Row, RowPath};
 use rdl_scope::shells::product;
@@ -54,8 +52,8 @@ fn add_array(
     path: &str,
     dims: &[Number],
     stride: Number,
-) -> Result<(), HeaderFault>
-    ensures { Adds defines.old (array_macros path.now dims.now stride) defines.new result }
+) -> Result<(), AllocError>
+    ensures { OnOk result (defines.new ≡ defines.old ++ array_macros path.now dims.now stride) }
 {
     if dims.is_empty() {
         return Ok(());
@@ -74,8 +72,8 @@ fn add_bytes(
     path: &str,
     base: u64,
     extent: &Extent,
-) -> Result<(), HeaderFault>
-    ensures { Adds defines.old (bytes_macros path.now base extent.now) defines.new result }
+) -> Result<(), AllocError>
+    ensures { OnOk result (defines.new ≡ defines.old ++ bytes_macros path.now base extent.now) }
 {
     defines.push_hexadecimal(alloc, path, "_base", Number::from(base))?;
     defines.push_hexadecimal(alloc, path, "_offset", Number::from(extent.offset))?;
@@ -92,8 +90,8 @@ fn add_words(
     ending: &str,
     number: Number,
     count: u64,
-) -> Result<(), HeaderFault>
-    ensures { Adds defines.old (word_macros path.now ending.now number count) defines.new result }
+) -> Result<(), AllocError>
+    ensures { OnOk result (defines.new ≡ defines.old ++ word_macros path.now ending.now number count) }
 {
     let mut rest = number;
     'words: for index in 0..count {
@@ -111,8 +109,8 @@ fn add_mask(
     path: &str,
     register: u64,
     span: &Span,
-) -> Result<(), HeaderFault>
-    ensures { Adds defines.old (mask_macros path.now register span.now) defines.new result }
+) -> Result<(), AllocError>
+    ensures { OnOk result (defines.new ≡ defines.old ++ mask_macros path.now register span.now) }
 {
     if register > 8 {
         add_words(alloc, defines, path, "_bm", mask(span), 4)
@@ -128,8 +126,8 @@ fn add_reset(
     path: &str,
     width: u64,
     reset: Option<Number>,
-) -> Result<(), HeaderFault>
-    ensures { Adds defines.old (reset_macros path.now width reset) defines.new result }
+) -> Result<(), AllocError>
+    ensures { OnOk result (defines.new ≡ defines.old ++ reset_macros path.now width reset) }
 {
     match reset {
         Some(number) if width > 64 => {
@@ -148,8 +146,8 @@ fn add_width(
     path: &str,
     span: &Span,
     reset: Option<Number>,
-) -> Result<(), HeaderFault>
-    ensures { Adds defines.old (width_macros path.now span.now reset) defines.new result }
+) -> Result<(), AllocError>
+    ensures { OnOk result (defines.new ≡ defines.old ++ width_macros path.now span.now reset) }
 {
     let width = width(span);
     defines.push_decimal(alloc, path, "_bp", Number::from(span.start))?;
@@ -165,21 +163,16 @@ fn add_bits(
     register: u64,
     span: &Span,
     reset: Option<Number>,
-) -> Result<(), HeaderFault>
-    ensures { Adds defines.old (bits_macros path.now register span.now reset) defines.new result }
+) -> Result<(), AllocError>
+    ensures { OnOk result (defines.new ≡ defines.old ++ bits_macros path.now register span.now reset) }
 {
     add_mask(alloc, defines, path, register, span)?;
     add_width(alloc, defines, path, span, reset)
 }
 
 /// Puts the macros of a row behind the others. A field stands in a register of so many bytes.
-fn add_row(
-    alloc: Global,
-    defines: &mut Defines,
-    register: u64,
-    row: &Row,
-) -> Result<(), HeaderFault>
-    ensures { Adds defines.old (macros_of register row.now) defines.new result }
+fn add_row(alloc: Global, defines: &mut Defines, register: u64, row: &Row) -> Result<(), AllocError>
+    ensures { OnOk result (defines.new ≡ defines.old ++ macros_of register row.now) }
 {
     let path = path(alloc, row)?;
     match &row.place {
@@ -202,8 +195,8 @@ fn register_behind(register: u64, place: &Place) -> u64
 }
 
 /// Puts the guard behind the others: the macro that is defined wherever the header of this top has been read.
-fn add_guard(alloc: Global, defines: &mut Defines, top: &Row) -> Result<(), HeaderFault>
-    ensures { Adds defines.old (guard top.now ∷ []) defines.new result }
+fn add_guard(alloc: Global, defines: &mut Defines, top: &Row) -> Result<(), AllocError>
+    ensures { OnOk result (defines.new ≡ defines.old ++ guard top.now ∷ []) }
 {
     let mut name = path(alloc, top)?;
     name.push_str("_H")?;
@@ -211,8 +204,8 @@ fn add_guard(alloc: Global, defines: &mut Defines, top: &Row) -> Result<(), Head
 }
 
 /// Puts the macros of these rows behind the others.
-fn add_rows(alloc: Global, defines: &mut Defines, rows: &[Row]) -> Result<(), HeaderFault>
-    ensures { Adds defines.old (macros_below 0 rows.now) defines.new result }
+fn add_rows(alloc: Global, defines: &mut Defines, rows: &[Row]) -> Result<(), AllocError>
+    ensures { OnOk result (defines.new ≡ defines.old ++ macros_below 0 rows.now) }
 {
     let mut register = 0u64;
     'rows: for row in rows {
@@ -223,8 +216,8 @@ fn add_rows(alloc: Global, defines: &mut Defines, rows: &[Row]) -> Result<(), He
 }
 
 /// The guard, then the macros of the rows below the top.
-pub(crate) fn macros(alloc: Global, rows: &[Row]) -> Result<Defines, HeaderFault>
-    ensures { MatchResult result (IsAdded [] (macros rows.now)) (IsClash [] (macros rows.now)) }
+pub(crate) fn macros(alloc: Global, rows: &[Row]) -> Result<Defines, AllocError>
+    ensures { IfOk result (λ defines. defines ≡ macros rows.now) }
 {
     let mut defines = Defines::new(alloc);
     if let [top, below @ ..] = rows {

@@ -1,13 +1,12 @@
 //! The header of the rows.
 ghost use Rattle.std.specs.Prelude.{◌≡◌, ◌++◌, [], Ok, Err, string_bytes, IfOk, IfErr, OnOk};
 ghost use Rattle.std.specs.List.{flat_map};
-ghost use Rattle.rdl_header.specs.Defines.{entry_macros};
 ghost use Rattle.rdl_header.specs.HeaderText.{macro_line, guard_lines, header_text, header_of, macros};
 ghost use Rattle.rdl_header.specs.HeaderFaults.{IsFault};
 
-use crate::defines::Defines;
+use crate::clashes::first_clash;
+use crate::defines::Macro;
 use crate::macros::macros;
-use indexmap::map::Slice;
 use rdl_elab::row::Row;
 use std::alloc::{AllocError, AllocFailed, Global};
 
@@ -56,24 +55,24 @@ fn push_macro(text: &mut String, name: &str, value: &str) -> Result<(), AllocErr
     write!(text, "#define {name} {value}\n")
 }
 
-fn push_macros(text: &mut String, entries: &Slice<'_, String, String>) -> Result<(), AllocError>
-    ensures { OnOk result (string_bytes text.new ≡ string_bytes text.old ++ flat_map macro_line (entry_macros entries.now)) }
+fn push_macros(text: &mut String, macros: &[Macro]) -> Result<(), AllocError>
+    ensures { OnOk result (string_bytes text.new ≡ string_bytes text.old ++ flat_map macro_line macros.now) }
 {
-    'entries: for (name, value) in entries {
-        push_macro(text, name.as_str(), value.as_str())?;
+    'macros: for next in macros {
+        push_macro(text, next.name(), next.value())?;
     }
     Ok(())
 }
 
 /// The lines of the macros, of which the first is the guard.
 #[tactic(auto, unfolding(crate::specs::HeaderText::guard_lines))]
-fn header_text(alloc: Global, defines: &Defines) -> Result<String, AllocError>
-    ensures { IfOk result (λ text. string_bytes text ≡ header_text defines.now) }
+fn header_text(alloc: Global, macros: &[Macro]) -> Result<String, AllocError>
+    ensures { IfOk result (λ text. string_bytes text ≡ header_text macros.now) }
 {
     let mut text = String::new(alloc);
-    if let Some(((guard, _), others)) = defines.entries().split_first() {
-        push_guard(&mut text, guard.as_str())?;
-        push_macros(&mut text, &others)?;
+    if let [guard, others @ ..] = macros {
+        push_guard(&mut text, guard.name())?;
+        push_macros(&mut text, others)?;
         text.push_str("#endif\n")?;
     }
     Ok(text)
@@ -85,5 +84,8 @@ pub fn header(alloc: Global, rows: &[Row]) -> Result<String, HeaderFault>
     ensures err { IfErr result (IsFault rows.now) }
 {
     let defines = macros(alloc, rows)?;
-    Ok(header_text(alloc, &defines)?)
+    if let Some(name) = first_clash(alloc, defines.as_slice())? {
+        return Err(HeaderFault::Clash(String::from_str(alloc, name)?));
+    }
+    Ok(header_text(alloc, defines.as_slice())?)
 }
