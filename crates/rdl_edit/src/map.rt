@@ -184,6 +184,7 @@ impl Map {
     }
 
     /// How many instances the last step placed, once for each mode: it was the opening, or an accepted edit, undo or redo.
+    /// Where a session is gone on with, it is how many the last time that the session's own map was laid out.
     pub fn placed(&self) -> u64
         ensures { result ≡ self.now.placed }
     {
