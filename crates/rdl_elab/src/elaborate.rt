@@ -306,6 +306,22 @@ pub(crate) fn checked_top<'a>(
     }
 }
 
+/// The rows of a map that is known to have them. It isn't judged again.
+pub(crate) fn known_rows(
+    alloc: Global,
+    description: &Description,
+    wanted: Option<&str>,
+) -> Result<Rows, AllocError>
+    requires { HasRows description.now.items (option_copied wanted) }
+    ensures { IfOk result (λ rows. elaborated description.now.items (option_copied wanted.entry) ≡ Ok rows) }
+{
+    let top = known_top(description, wanted);
+    match under_top(alloc, description, &top)? {
+        Ok(rows) => Ok(rows),
+        Err(_) => unreachable!(),
+    }
+}
+
 /// The rows of the map whose top is the last definition of an address map among the items of the root, of this name
 /// if there is one.
 ///

@@ -13,7 +13,7 @@ ghost use Rattle.rdl_elab.specs.MadeOf.{all_made};
 ghost use Rattle.rdl_elab.specs.KeptRows.{kept_answer};
 ghost use Rattle.rdl_elab.specs.AllKept.{TakesOver, fault_in, new_spans, has_layout, all_instances, instances_at, AreFoundBut};
 
-use crate::elaborate::{Top, checked_top, elaborate, known_top, rows_under};
+use crate::elaborate::{Top, checked_top, known_rows, known_top, rows_under};
 use crate::finished::Finished;
 use crate::laid_out::{Before, Taken};
 use crate::layout::{Layout, Mode};
@@ -334,10 +334,7 @@ impl Kept {
         ensures { IfOk result (λ rows. elaborated description.now.items self.now.top ≡ Ok rows) }
     {
         let top = self.top.as_ref().map(|top| top.as_str());
-        match elaborate(alloc, description, top) {
-            Ok(rows) => Ok(rows),
-            Err(_) => Err(AllocError),
-        }
+        known_rows(alloc, description, top)
     }
 
     /// The layout of the component of the item at this address, in the description that was laid out last. There is none
