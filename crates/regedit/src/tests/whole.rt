@@ -5,7 +5,7 @@ use super::files::{
 };
 use std::fs;
 use std::fs::Permissions;
-use std::os::unix::fs::PermissionsExt;
+use std::os::unix::fs::{PermissionsExt, symlink};
 use std::process::Abort;
 use std::test::Fail;
 
@@ -260,6 +260,35 @@ fn cases() -> &'static [Case] {
     &CASES
 }
 
+// `link` leads to `new`, which isn't there before the second run.
+static LINKED: [Case; 2] = [
+    (
+        BEFORE,
+        &["map.rdl", "script.txt", "--rdl", "link", "--header", "new"],
+        TWO_OUTPUTS,
+        BEFORE,
+        5,
+    ),
+    (
+        BEFORE,
+        &[
+            "map.rdl",
+            "script.txt",
+            "--rdl",
+            "link",
+            "--header",
+            "out.h",
+        ],
+        WELL,
+        &[("new", WRITTEN), ("out.h", HEADER)],
+        6,
+    ),
+];
+
+fn linked() -> &'static [Case] {
+    &LINKED
+}
+
 fn in_folder(rt: &HostRuntime, folder: &Folder, words: Words) -> Result<Vec<String>, Fail> {
     let mut whole = Vec::new(rt.alloc());
     for word in words {
@@ -307,6 +336,18 @@ fn each_way(rt: HostRuntime) -> Result<(), Fail> {
         assert_in_new_folder(&rt, &rt, case)?;
     }
     Ok(())
+}
+
+#[test]
+fn through_a_link(rt: HostRuntime) -> Result<(), Fail> {
+    let folder = Folder::new(&rt, "link")?;
+    let link = folder.file(&rt, "link")?;
+    symlink(&rt, "new", link.as_str())?;
+    for case in linked() {
+        assert_case(&rt, &rt, &folder, case)?;
+    }
+    assert!(rt; fs::symlink_metadata(&rt, link.as_str())?.is_symlink());
+    folder.remove(&rt)
 }
 
 fn mode_after_run(rt: &HostRuntime, folder: &Folder, mode: u32) -> Result<u32, Fail> {
