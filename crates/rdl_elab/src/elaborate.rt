@@ -306,7 +306,7 @@ pub(crate) fn checked_top<'a>(
     }
 }
 
-/// The rows of a map that is known to have them. It isn't judged again.
+/// The rows of a map that is known to have them. Its items aren't checked again.
 pub(crate) fn known_rows(
     alloc: Global,
     description: &Description,
