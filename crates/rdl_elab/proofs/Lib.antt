@@ -16,6 +16,7 @@ pub mod Watermarks
 pub mod RangeSearches
 pub mod RangesKept
 pub mod Telling
+pub mod Cleaning
 pub mod Counting
 pub mod SameMembers
 pub mod Insides

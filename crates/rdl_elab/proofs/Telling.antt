@@ -101,7 +101,7 @@ module _ (fs : List Finished) (below : Surroundings → List Span → List Part 
         ∙ ap (λ ps. level_rows fs below o before (span ∷ drop (suc i) spans) ps) (found-there parts i p t)
         ∙ no-component before span (drop (suc i) spans) p (drop (suc i) parts) h
 
-    one-left : (before : List Sibling) (span : Span) (p : Part) (f : Finished) → slice_get spans i ≡ Some span → slice_get parts i ≡ Some p → slice_get fs p.component ≡ Some f
+    pub one-left : (before : List Sibling) (span : Span) (p : Part) (f : Finished) → slice_get spans i ≡ Some span → slice_get parts i ≡ Some p → slice_get fs p.component ≡ Some f
         → left before ≡ with_below below o before span p f ++ level_rows fs below o (before ++ seen span (kept_row o span p f).values ∷ []) (drop (suc i) spans) (drop (suc i) parts)
     one-left before span p f s t h =
         ap (λ ss. level_rows fs below o before ss (drop i parts)) (found-there spans i span s)

@@ -13,6 +13,7 @@ pub mod Kept
 pub mod EachMode
 pub mod Finished
 pub mod KeptRows
+pub mod Clean
 pub mod SiblingRanges
 pub mod Inside
 pub mod LaidOut

@@ -110,7 +110,7 @@ fn last_top<'a>(items: &'a [Item], wanted: Option<&str>) -> Option<Top<'a>>
 }
 
 /// What is wrong with a map, but for single rows, whose top is this component.
-fn map_fault(at: &Address, top: &Finished) -> Option<Fault>
+pub(crate) fn map_fault(at: &Address, top: &Finished) -> Option<Fault>
     ensures { result ≡ kept_map_fault at.now top.now }
 {
     if top.levels >= 16 {
@@ -211,7 +211,10 @@ fn rows_or_fault<'a>(
     }
 }
 
-fn finished_at<'c, 'a>(components: &'c [Finished<'a>], number: usize) -> Option<&'c Finished<'a>>
+pub(crate) fn finished_at<'c, 'a>(
+    components: &'c [Finished<'a>],
+    number: usize,
+) -> Option<&'c Finished<'a>>
     ensures { option_copied result ≡ slice_get components.now number }
 {
     components.get(number)

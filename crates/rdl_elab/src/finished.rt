@@ -64,6 +64,13 @@ impl<'a> Part<'a> {
         self.shell
     }
 
+    /// The number of its component among the finished ones.
+    pub(crate) fn number(&self) -> usize
+        ensures { result ≡ self.now.component }
+    {
+        self.component
+    }
+
     /// What is kept of its component, if that is among these.
     pub(crate) fn component<'c, 'f>(
         &self,

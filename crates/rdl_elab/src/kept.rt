@@ -13,6 +13,7 @@ ghost use Rattle.rdl_elab.specs.MadeOf.{all_made};
 ghost use Rattle.rdl_elab.specs.KeptRows.{kept_answer};
 ghost use Rattle.rdl_elab.specs.AllKept.{TakesOver, fault_in, new_spans, has_layout, all_instances, instances_at, AreFoundBut};
 
+use crate::clean::is_clean_map;
 use crate::elaborate::{Top, checked_top, known_rows, known_top, rows_under};
 use crate::finished::Finished;
 use crate::laid_out::{Before, Taken};
@@ -97,15 +98,33 @@ fn has_layout(description: &Description, body: &Address) -> bool
     }
 }
 
-/// How it is known that a map has no fault: its rows are made, or they are known to be there.
+/// Whether a map is yet to be judged, or is known to have no fault.
 #[derive(Clone, Copy, Debug, PartialEq, Eq)]
 enum Judgement {
-    ByRows,
+    Needed,
     Known,
 }
 
-/// The fault of the map with this top, whose component has this number among them, if it has one. No rows are made where
-/// it is known to have none.
+/// The fault of the map with this top, whose component has this number among them, if it has one. Rows are made only
+/// where it isn't found to be clean.
+fn judged<'a>(
+    alloc: Global,
+    components: &[Finished<'a>],
+    number: Option<usize>,
+    top: &Top,
+) -> Result<Option<Fault>, AllocError>
+    ensures { IfOk result (λ fault. fault ≡ fault_in (kept_answer components.now (top.now.0 ∷ []) top.now.1 (option_and_then (slice_get components.now) number))) }
+{
+    if is_clean_map(alloc, components, number, top)? {
+        return Ok(None);
+    }
+    match rows_under(alloc, components, number, top)? {
+        Ok(_rows) => Ok(None),
+        Err(fault) => Ok(Some(fault)),
+    }
+}
+
+/// The same fault, where it isn't known that there is none.
 fn fault_under<'a>(
     alloc: Global,
     components: &[Finished<'a>],
@@ -117,10 +136,7 @@ fn fault_under<'a>(
     ensures { IfOk result (λ fault. fault ≡ fault_in (kept_answer components.now (top.now.0 ∷ []) top.now.1 (option_and_then (slice_get components.now) number))) }
 {
     match judgement {
-        Judgement::ByRows => match rows_under(alloc, components, number, top)? {
-            Ok(_rows) => Ok(None),
-            Err(fault) => Ok(Some(fault)),
-        },
+        Judgement::Needed => judged(alloc, components, number, top),
         Judgement::Known => Ok(None),
     }
 }
@@ -297,7 +313,7 @@ impl Kept {
         ensures err { OnErr result (self.new ≡ self.old) }
     {
         let found = checked_top(alloc, description, top)?;
-        match self.follow(alloc, description, &found, top, bodies, Judgement::ByRows) {
+        match self.follow(alloc, description, &found, top, bodies, Judgement::Needed) {
             Ok(answer) => answer,
             Err(_) => Err(no_memory()),
         }

@@ -3,6 +3,7 @@
 
 pub mod bits;
 mod built_ins;
+mod clean;
 pub mod component;
 mod defaults;
 pub mod elaborate;

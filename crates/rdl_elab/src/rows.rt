@@ -96,7 +96,7 @@ fn longer(alloc: Global, names: &[Name], name: &Name) -> Result<Rc<Vec<Name>>, A
 }
 
 /// The values of the row of an instance with this reset, whose component has these values by itself.
-fn values(
+pub(crate) fn values(
     alloc: Global,
     kind: Kind,
     reset: Option<Number>,
@@ -116,7 +116,7 @@ fn values(
 }
 
 /// The assignments whose targets pass this instance.
-fn behind_part<'a>(
+pub(crate) fn behind_part<'a>(
     alloc: Global,
     part: &Part,
     reaching: &[Assignment<'a>],
@@ -165,7 +165,7 @@ fn is_stride_too_small(shell: &Shell, size: u64) -> bool
 }
 
 /// A row as its later siblings see it.
-fn seen(span: Span, values: &RowValues) -> Sibling
+pub(crate) fn seen(span: Span, values: &RowValues) -> Sibling
     ensures { result ≡ seen span values.now }
 {
     as_sibling(span, values.get(Property::Sw))
@@ -204,19 +204,21 @@ fn extent_fault(shell: &Shell, size: u64, span: Span, before: &Siblings) -> Opti
     }
 }
 
-fn fault_kind(
-    around: &Around,
+/// What is wrong with an instance that is placed in this mode, in a register of so many bits if it is a field.
+pub(crate) fn fault_kind(
+    mode: Mode,
+    bits: u64,
     shell: &Shell,
     component: &Finished,
     sibling: Sibling,
     before: &Siblings,
     values: &RowValues,
 ) -> Option<FaultKind>
-    ensures { result ≡ kept_fault component.now.kind component.now.values around.now.bits shell.now (under around.now.mode component.now.layouts).size sibling before.now values.now }
+    ensures { result ≡ kept_fault component.now.kind component.now.values bits shell.now (under mode component.now.layouts).size sibling before.now values.now }
 {
-    let size = component.layouts.under(around.mode).size;
+    let size = component.layouts.under(mode).size;
     match component.kind {
-        Kind::Field => field_fault(around.bits, sibling, before, values),
+        Kind::Field => field_fault(bits, sibling, before, values),
         Kind::Reg if component.values.regwidth < component.values.accesswidth => {
             Some(FaultKind::AccessTooWide)
         }
@@ -239,7 +241,8 @@ fn add_row(
 {
     let sibling = seen(span, &row.values);
     let fault = fault_kind(
-        around,
+        around.mode,
+        around.bits,
         part.shell(),
         component,
         sibling,
@@ -278,7 +281,7 @@ fn inside<'a>(
     })
 }
 
-fn span_at(spans: &[Span], number: usize) -> Option<Span>
+pub(crate) fn span_at(spans: &[Span], number: usize) -> Option<Span>
     ensures { result ≡ slice_get spans.now number }
 {
     spans.get(number).copied()
