@@ -14,7 +14,7 @@ use rdl_tree::path::Path;
 use std::alloc::{AllocError, Global};
 use std::str;
 
-/// Why a line asks for nothing that can be done, in the order in which a line is judged.
+/// Why a line asks for nothing that can be done. C3 is judged first.
 #[derive(Clone, Copy, Debug, PartialEq, Eq, Drop)]
 pub enum CommandFault {
     /// C1: the first word is no command.
