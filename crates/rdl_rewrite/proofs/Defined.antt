@@ -1,8 +1,8 @@
 -- The names defined in a body are those defined in its items, one after another.
-use Rattle.std.proofs.Common.{◌≡◌, ◌≤◌, ◌<◌, ℕ, List, [], ◌∷◌, ◌++◌, length, get_or, take, take_all, refl, ap, sym, ◌∙◌, arith}
+use Rattle.std.proofs.Common.{◌≡◌, ◌≤◌, ◌<◌, ℕ, Bool, List, [], ◌∷◌, ◌++◌, length, get_or, take, take_all, refl, ap, sym, ◌∙◌, arith}
 use Rattle.std.proofs.lemmas.List.{append-nil}
 use Rattle.std.proofs.lemmas.List.Sums.{get_or-le-sum_by}
-use Rattle.std.specs.List.{flat_map}
+use Rattle.std.specs.List.{flat_map, list_any}
 use Rattle.rdl_tree.specs.Items.{Items, no_items, count}
 use Rattle.rdl_tree.specs.View.{add, items_of, list_of}
 use Rattle.rdl_tree.specs.declared.description.Item.{Item}
@@ -37,3 +37,8 @@ defined_done old new t xs i e h f =
 pub count-item : (xs : List Item) (i : ℕ) (x : Item) (t : Items) → i < length xs → x ≡ get_or xs i x → xs ≡ list_of t → item_count x ≤ count t
 count-item xs i x t h e f =
     omega (arith, ap item_count e, get_or-le-sum_by item_count xs i x h, count-items_of xs, ap (λ (ys : List Item). count (items_of ys)) f, ap count (items_of-list_of t))
+
+-- a loop over all items begins
+pub any_defined_first : (p : List ℕ → Bool) (t : Items) (xs : List Item) → xs ≡ list_of t → list_any p (flat_map item_names xs) ≡ list_any p (defined_names t)
+any_defined_first p t xs f =
+    ap (list_any p) (sym (defined-items_of xs)) ∙ ap (λ (ys : List Item). list_any p (defined_names (items_of ys))) f ∙ ap (λ (u : Items). list_any p (defined_names u)) (items_of-list_of t)

@@ -8,6 +8,7 @@ pub mod Found
 pub mod Leading
 pub mod Located
 pub mod Made
+pub mod NewNames
 pub mod OneBody
 pub mod Patched
 pub mod Places

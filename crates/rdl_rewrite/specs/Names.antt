@@ -1,6 +1,10 @@
 -- The names that an edit may not use again. Own: SystemRDL 2.0 lets a definition in an inner body hide one outside.
-use Rattle.std.specs.Prelude.{ℕ, Bool, false, ◌||◌, bytes_eq, List, [], ◌∷◌, ◌++◌}
+use Rattle.std.specs.Prelude.{◌≡◌, ℕ, Bool, false, ◌||◌, bytes_eq, List, [], ◌∷◌, ◌++◌}
 use Rattle.std.specs.List.{list_any, flat_map}
+use Rattle.std.specs.BTreeSet.{BTreeSet, contains_by}
+use Rattle.std.specs.Cmp.Lexicographic.{slice_cmp}
+use Rattle.std.specs.Ordering.{nat_cmp}
+use denote.Ref.{Bor}
 use Rattle.rdl_tree.specs.Items.{Items, no_items, plain, holder, Holder, define, anonymous}
 use Rattle.rdl_tree.specs.declared.description.Item.{Item}
 use Rattle.rdl_tree.specs.declared.description.Item.TheVariants.{Define, Instance, Own, Default, Dynamic}
@@ -33,3 +37,18 @@ has_name name names = list_any (λ n. bytes_eq n name) names
 abbrev pub clash : (new old : List (List ℕ)) → Bool
 clash [] old = false
 clash (n ∷ ns) old = has_name n old || has_name n ns || clash ns old
+
+-- ---- As the code looks names up.
+
+-- one of the names stands twice
+abbrev pub is_twice : List (List ℕ) → Bool
+is_twice [] = false
+is_twice (n ∷ ns) = has_name n ns || is_twice ns
+
+abbrev pub is_among : BTreeSet (Bor (List ℕ)) → List ℕ → Bool
+is_among names n = contains_by (λ k. slice_cmp nat_cmp n k.now) names
+
+-- the set has these names, of which none stands twice
+pub record IsSetOf (set : BTreeSet (Bor (List ℕ))) (names : List (List ℕ)) : Type 0 where
+  pub same : (n : List ℕ) → is_among set n ≡ has_name n names
+  pub distinct : is_twice names ≡ false

@@ -1,12 +1,15 @@
 //! The names that an edit may not use again.
-ghost use Rattle.std.specs.Prelude.{◌≡◌, ◌++◌, map, IfOk};
+ghost use Rattle.std.specs.Prelude.{◌≡◌, ◌++◌, map, true, IfOk, MatchOption};
+ghost use Rattle.std.specs.List.{list_any};
 ghost use Rattle.rdl_tree.specs.Items.{no_items};
 ghost use Rattle.rdl_tree.specs.View.{add, list_of};
-ghost use Rattle.rdl_rewrite.specs.Names.{defined_names, instance_names, has_name, clash};
+ghost use Rattle.rdl_rewrite.specs.Names.{defined_names, instance_names, has_name, clash, is_twice, is_among, IsSetOf};
 
+use rdl_scope::targets::is_instance;
 use rdl_text::name::Name;
 use rdl_tree::description::{Body, Item, Of};
 use std::alloc::{AllocError, Global};
+use std::collections::BTreeSet;
 
 #[cycle(defined)]
 fn push_defined<'a>(names: &mut Vec<&'a Name>, body: &'a Body) -> Result<(), AllocError>
@@ -33,7 +36,7 @@ fn push_item<'a>(names: &mut Vec<&'a Name>, item: &'a Item) -> Result<(), AllocE
 }
 
 /// The names of all definitions, those inside included.
-pub(crate) fn defined_names(alloc: Global, body: &Body) -> Result<Vec<&Name>, AllocError>
+fn defined_names(alloc: Global, body: &Body) -> Result<Vec<&Name>, AllocError>
     ensures { IfOk result (λ names. map (λ n. n.now) names.items ≡ defined_names body.now) }
 {
     let mut names = Vec::new(alloc);
@@ -42,7 +45,7 @@ pub(crate) fn defined_names(alloc: Global, body: &Body) -> Result<Vec<&Name>, Al
 }
 
 /// The names of the instances among the items of a body themselves.
-pub(crate) fn instance_names(alloc: Global, body: &Body) -> Result<Vec<&Name>, AllocError>
+fn instance_names(alloc: Global, body: &Body) -> Result<Vec<&Name>, AllocError>
     ensures { IfOk result (λ names. map (λ n. n.now) names.items ≡ instance_names (list_of body.now)) }
 {
     let mut names = Vec::new(alloc);
@@ -54,23 +57,59 @@ pub(crate) fn instance_names(alloc: Global, body: &Body) -> Result<Vec<&Name>, A
     Ok(names)
 }
 
-pub(crate) fn has_name(names: &[&Name], name: &Name) -> bool
-    ensures { result ≡ has_name name.now (map (λ n. n.now) names.now) }
+/// The names in order, or None where one stands twice.
+fn distinct<'a>(
+    alloc: Global,
+    names: &'a [&'a Name],
+) -> Result<Option<BTreeSet<&'a str>>, AllocError>
+    ensures { IfOk result (λ set. MatchOption set (is_twice (map (λ n. n.now) names.now) ≡ true) (λ set. IsSetOf set (map (λ n. n.now) names.now))) }
 {
-    'names: for other in names {
-        if **other == *name {
+    let mut set: BTreeSet<&'a str> = BTreeSet::new(alloc);
+    'names: for name in names {
+        let is_new = set.insert(name.as_str())?;
+        if !is_new {
+            return Ok(None);
+        }
+    }
+    Ok(Some(set))
+}
+
+/// Whether a definition among the items of the body, or inside them, has one of the names.
+#[cycle(among)]
+fn defines_any(names: &BTreeSet<&str>, body: &Body) -> bool
+    ensures { result ≡ list_any (is_among names.now) (defined_names body.now) }
+{
+    'items: for item in body.as_slice() {
+        if item_defines_any(names, item) {
             return true;
         }
     }
     false
 }
 
-fn clash(new: &[&Name], old: &[&Name]) -> bool
-    ensures { result ≡ clash (map (λ n. n.now) new.now) (map (λ n. n.now) old.now) }
+/// Whether this item, or a definition inside it, has one of the names.
+#[cycle(among)]
+fn item_defines_any(names: &BTreeSet<&str>, item: &Item) -> bool
+    ensures { result ≡ list_any (is_among names.now) (defined_names (add item.now no_items)) }
 {
-    'names: for (i, name) in new.iter().enumerate() {
-        if has_name(old, name) || has_name(&new[i + 1..], name) {
-            return true;
+    match item {
+        Item::Define(name, component) => {
+            names.contains(name.as_str()) || defines_any(names, &component.body)
+        }
+        Item::Instance(_, Of::Anonymous(component)) => defines_any(names, &component.body),
+        _ => false,
+    }
+}
+
+/// Whether an instance among the items of the body themselves has one of the names.
+fn instantiates_any(names: &BTreeSet<&str>, body: &Body) -> bool
+    ensures { result ≡ list_any (is_among names.now) (instance_names (list_of body.now)) }
+{
+    'items: for item in body.as_slice() {
+        if let Item::Instance(shell, _) = item {
+            if names.contains(shell.name.as_str()) {
+                return true;
+            }
         }
     }
     false
@@ -81,8 +120,13 @@ pub fn definition_taken(alloc: Global, added: &Body, all: &Body) -> Result<bool,
     ensures { IfOk result (λ taken. taken ≡ clash (defined_names added.now) (defined_names all.now)) }
 {
     let new = defined_names(alloc, added)?;
-    let old = defined_names(alloc, all)?;
-    Ok(clash(new.as_slice(), old.as_slice()))
+    if new.is_empty() {
+        return Ok(false);
+    }
+    match distinct(alloc, new.as_slice())? {
+        Some(names) => Ok(defines_any(&names, all)),
+        None => Ok(true),
+    }
 }
 
 /// Whether an instance among the new items has a name that is taken in their body.
@@ -90,6 +134,32 @@ pub fn instance_taken(alloc: Global, added: &Body, body: &Body) -> Result<bool, 
     ensures { IfOk result (λ taken. taken ≡ clash (instance_names (list_of added.now)) (instance_names (list_of body.now))) }
 {
     let new = instance_names(alloc, added)?;
-    let old = instance_names(alloc, body)?;
-    Ok(clash(new.as_slice(), old.as_slice()))
+    if new.is_empty() {
+        return Ok(false);
+    }
+    match distinct(alloc, new.as_slice())? {
+        Some(names) => Ok(instantiates_any(&names, body)),
+        None => Ok(true),
+    }
+}
+
+/// Whether a definition among the items of the body, or inside them, has this name.
+pub(crate) fn is_defined(alloc: Global, name: &Name, body: &Body) -> Result<bool, AllocError>
+    ensures { IfOk result (λ answer. answer ≡ has_name name.now (defined_names body.now)) }
+{
+    let mut names = BTreeSet::new(alloc);
+    names.insert(name.as_str())?;
+    Ok(defines_any(&names, body))
+}
+
+/// Whether an instance among the items of the body themselves has this name.
+pub(crate) fn is_instantiated(name: &Name, body: &Body) -> bool
+    ensures { result ≡ has_name name.now (instance_names (list_of body.now)) }
+{
+    'items: for item in body.as_slice() {
+        if is_instance(Some(item), name) {
+            return true;
+        }
+    }
+    false
 }

@@ -13,7 +13,7 @@ ghost use Rattle.rdl_rewrite.specs.declared.edit.Refusal.{Refusal};
 use crate::edit::Refusal;
 use crate::fate::Fate;
 use crate::leads::{is_at, is_instance_of_any, is_on, leads_to};
-use crate::names::{defined_names, has_name, instance_names};
+use crate::names::{is_defined, is_instantiated};
 use crate::reach::Reach;
 use rdl_parse::class::Class;
 use rdl_scope::targets::through;
@@ -148,12 +148,12 @@ fn is_reserved(name: &Name) -> bool
 }
 
 /// Whether an instance in the body has this name.
-fn is_in(alloc: Global, name: &Name, body: Option<&Body>) -> Result<bool, AllocError>
-    ensures { IfOk result (λ answer. answer ≡ has_name name.now (names_in (option_copied body.entry))) }
+fn is_in(name: &Name, body: Option<&Body>) -> bool
+    ensures { result ≡ has_name name.now (names_in (option_copied body.entry)) }
 {
     match body {
-        Some(body) => Ok(has_name(instance_names(alloc, body)?.as_slice(), name)),
-        None => Ok(false),
+        Some(body) => is_instantiated(name, body),
+        None => false,
     }
 }
 
@@ -169,10 +169,8 @@ fn is_taken(
         return Ok(false);
     }
     match item_at(&whole.items, way.as_slice()) {
-        Some(Item::Define(..)) => {
-            Ok(has_name(defined_names(alloc, &whole.items)?.as_slice(), name))
-        }
-        Some(Item::Instance(..)) => is_in(alloc, name, whole.body(&way.holder())),
+        Some(Item::Define(..)) => is_defined(alloc, name, &whole.items),
+        Some(Item::Instance(..)) => Ok(is_in(name, whole.body(&way.holder()))),
         _ => Ok(false),
     }
 }

@@ -1,0 +1,14 @@
+use Rattle.std.proofs.Common.{ap, ◌∙◌}
+use Rattle.rdl_tree.specs.View.{list_of}
+use Rattle.rdl_rewrite.specs.Names.{instance_names}
+use Rattle.rdl_rewrite.proofs.NewNames.{texts, clash_found, clash_repeated}
+use Rattle.rdl_rewrite.proofs.names.instance_taken.Goals as goal
+
+pub returns-in-Some : goal.returns-in-Some
+returns-in-Some c =
+    c.instantiates_any.ensures
+    ∙ clash_found c.in_ok-names.field-0 c.as_slice.result.now c.in-Some.names (instance_names (list_of c.args.added.now)) (instance_names (list_of c.args.body.now)) c.in_ok-names.ensures c.in-Some.is (ap texts c.as_slice.ensures.value ∙ c.in_ok-new.ensures)
+
+pub returns : goal.returns
+returns c =
+    clash_repeated c.in_ok-names.field-0 c.as_slice.result.now (instance_names (list_of c.args.added.now)) (instance_names (list_of c.args.body.now)) c.in_ok-names.ensures c.in-None.is (ap texts c.as_slice.ensures.value ∙ c.in_ok-new.ensures)
