@@ -79,11 +79,6 @@ unled-name d way at t fails = by_case (type_at at d t) refl
     by_case None g = refl
     by_case (Some a) g = same-apart (λ y. is_definition t (item y d)) a way (definition-type_at at d t a g) fails
 
-pub unled : (d : Items) (way at : List ℕ) (x : Item) (t : List ℕ) → item at d ≡ Some x → Some t ≡ reference_of x → is_definition t (item way d) ≡ false → leads_to way (type_of d at) ≡ false
-unled d way at x t e refers fails =
-    ap (leads_to way) (type_of-reference d at) ∙ ap (λ o. leads_to way (option_and_then (type_at at d) (option_and_then reference_of o))) e
-    ∙ ap (λ o. leads_to way (option_and_then (type_at at d) o)) (sym refers) ∙ unled-name d way at t fails
-
 -- none leads to what isn't a definition
 pub unused : (d : Items) (way : List ℕ) (o : Option Item) (places : List (List ℕ)) → o ≡ item way d → ((t : List ℕ) → is_definition t o ≡ false) → list_any (λ a. leads_to way (type_of d a)) places ≡ false
 unused d way o [] e fails = refl

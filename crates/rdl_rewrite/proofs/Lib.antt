@@ -6,6 +6,7 @@ pub mod Fated
 pub mod Fates
 pub mod Found
 pub mod Leading
+pub mod Led
 pub mod Located
 pub mod Made
 pub mod NewNames

@@ -1,5 +1,5 @@
 -- Where items stand, and the addresses inside a body, item by item.
-use Rattle.std.proofs.Common.{◌≡◌, ◌<◌, ◌+◌, ℕ, suc, Bool, false, ◌||◌, List, [], ◌∷◌, ◌++◌, length, get_or, drop, Some, None, Option, refl, ap, sym, ◌∙◌, arith}
+use Rattle.std.proofs.Common.{◌≡◌, ◌<◌, ◌+◌, ℕ, suc, Bool, true, false, ◌||◌, List, [], ◌∷◌, ◌++◌, length, get_or, drop, Some, None, Option, refl, ap, sym, ◌∙◌, arith}
 use Rattle.std.proofs.lemmas.List.{append-nil}
 use Rattle.std.proofs.lemmas.List.Folds.{list_any-append}
 use Rattle.std.specs.Prelude.{option_and_then}
@@ -75,3 +75,16 @@ pub any_unmet : (p : List ℕ → Bool) (b : List ℕ) (i : ℕ) (xs : List Item
     → all ≡ list_any p (addresses b i (items_of (drop i xs))) → all ≡ list_any p (addresses b (i + 1) (items_of (drop (i + 1) xs)))
 any_unmet p b i xs x r all h is e fails w =
     w ∙ any-next p b i xs x h is ∙ ap (λ q. q || list_any p (addresses b (i + 1) (items_of (drop (i + 1) xs)))) (sym e ∙ fails)
+
+or-itself : (b : Bool) → b ≡ (b || false)
+or-itself true = refl
+or-itself false = refl
+
+-- an item without a body of its own passes it or doesn't
+pub any_itself : (p : List ℕ → Bool) (b : List ℕ) (n : ℕ) (x : Item) (r : Bool) → own_body x ≡ None → r ≡ p (b ++ n ∷ []) → r ≡ list_any p (addresses b n (add x no_items))
+any_itself p b n (Define m c) r none e = cc
+any_itself p b n (Instance s (Named t)) r none e = e ∙ or-itself (p (b ++ n ∷ []))
+any_itself p b n (Instance s (Anonymous c)) r none e = cc
+any_itself p b n (Own q v) r none e = e ∙ or-itself (p (b ++ n ∷ []))
+any_itself p b n (Default q v) r none e = e ∙ or-itself (p (b ++ n ∷ []))
+any_itself p b n (Dynamic t q v) r none e = e ∙ or-itself (p (b ++ n ∷ []))

@@ -1,8 +1,18 @@
 -- What follows a new name, name by name.
-use Rattle.std.proofs.Common.{◌≡◌, ◌≤◌, ℕ, false, cond, List, [], ◌∷◌, ◌++◌, length, drop, Some, None, Option, refl, ap, sym, ◌∙◌}
+use Rattle.std.proofs.Common.{◌≡◌, ◌≤◌, ℕ, Bool, false, cond, List, [], ◌∷◌, ◌++◌, length, drop, Some, None, Option, refl, ap, sym, ◌∙◌}
 use Rattle.std.proofs.lemmas.List.{append-nil, drop_all}
 use Rattle.std.specs.List.{list_any}
-use Rattle.rdl_rewrite.specs.Addresses.{same, passes_by}
+use Rattle.rdl_tree.specs.Items.{Items}
+use Rattle.rdl_tree.specs.declared.description.Item.{Item}
+use Rattle.rdl_tree.specs.declared.description.Item.TheVariants.{Instance}
+use Rattle.rdl_tree.specs.declared.description.Of.{Of}
+use Rattle.rdl_tree.specs.declared.description.Of.TheVariants.{Named}
+use Rattle.rdl_tree.specs.declared.part.Part.TheVariants.{OfShell, OfType}
+use Rattle.rdl_tree.specs.declared.shell.Shell.{Shell}
+use Rattle.rdl_scope.specs.Types.{type_of}
+use Rattle.rdl_rewrite.specs.Addresses.{same, leads_to, passes_by}
+use Rattle.rdl_rewrite.specs.Fates.{given_if, fate_in_renaming}
+use Rattle.rdl_rewrite.specs.declared.fate.Fate.TheVariants.{Given}
 use Rattle.rdl_rewrite.specs.Renaming.{renamed_names, renamed_target}
 use Rattle.rdl_rewrite.proofs.Found.{or-false}
 
@@ -30,3 +40,13 @@ names-kept way name (a ∷ path) (n ∷ names) e =
 pub target-kept : (way name : List ℕ) (o : Option (List (List ℕ))) (target : List (List ℕ)) → passes_by way o ≡ false → renamed_target way name o target ≡ target
 target-kept way name None target e = refl
 target-kept way name (Some path) target e = names-kept way name path target e
+
+-- ---- A reference.
+
+-- what an instance of a named type gets, which isn't itself on the way
+pub type_renamed : (d : Items) (way name at : List ℕ) (x : Item) (s : Shell) (o : Of) (type : List ℕ) (leads : Bool) → x ≡ Instance s o → o ≡ Named type → same at way ≡ false
+    → leads ≡ leads_to way (type_of d at) → given_if leads (OfType name) ≡ fate_in_renaming d way name at x
+type_renamed d way name at x s o type leads is refers apart e =
+    ap (λ b. given_if b (OfType name)) e
+    ∙ sym (ap (fate_in_renaming d way name at) (is ∙ ap (Instance s) refers)
+    ∙ ap (λ b. cond b (Given (OfShell (record s { name = name }))) (given_if (leads_to way (type_of d at)) (OfType name))) apart)

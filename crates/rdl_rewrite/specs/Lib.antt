@@ -3,6 +3,7 @@ pub mod Assignment
 pub mod Change
 pub mod Dynamics
 pub mod Fates
+pub mod Led
 pub mod Names
 pub mod Patches
 pub mod Place

@@ -1,15 +1,15 @@
 //! What leads to an item: references and targets.
-ghost use Rattle.std.specs.Prelude.{◌≡◌, Some, option_copied};
+ghost use Rattle.std.specs.Prelude.{◌≡◌, ◌<◌, ◌++◌, ◌∷◌, ◌&&◌, [], length, option_copied};
 ghost use Rattle.std.specs.List.{list_any};
-ghost use Rattle.rdl_scope.specs.Types.{item, type_of};
 ghost use Rattle.rdl_scope.specs.Walk.{is_instance};
 ghost use Rattle.rdl_rewrite.specs.Addresses.{same, leads_to};
+ghost use Rattle.rdl_rewrite.specs.Led.{refers_to, led_behind};
 
 use rdl_scope::targets::is_instance;
-use rdl_scope::types::{defines, reference, type_of};
+use rdl_scope::types::{defines, reference};
 use rdl_text::name::Name;
 use rdl_tree::address::Address;
-use rdl_tree::description::{Description, Item};
+use rdl_tree::description::Item;
 
 /// Whether the item is an instance that has one of these names.
 pub(crate) fn is_instance_of_any(taken: Option<&Item>, names: &[Name]) -> bool
@@ -40,21 +40,37 @@ pub(crate) fn is_on(way: &Address, path: &[Address]) -> bool
     path.iter().any(|at| at == way)
 }
 
-/// Whether this item, at its address, is an instance whose type is the taken item, the one on the way. Only a reference
-/// to that definition's name is searched for.
-pub(crate) fn leads_to(
-    whole: &Description,
-    way: &Address,
-    taken: Option<&Item>,
-    at: &Address,
-    found: &Item,
-) -> bool
-    requires taken { option_copied taken ≡ item way.now whole.now.items }
-    requires here { item at.now whole.now.items ≡ Some found.now }
-    ensures { result ≡ leads_to way.now (type_of whole.now.items at.now) }
+/// Whether the type of this item is the taken one. `led` says whether a reference to its name leads to it here.
+pub(crate) fn leads_to(taken: Option<&Item>, led: bool, found: &Item) -> bool
+    ensures { result ≡ (led && refers_to (option_copied taken.entry) found.now) }
 {
     match reference(Some(found)) {
-        Some(name) => defines(taken, name) && is_at(way, type_of(whole, at).as_ref()),
+        Some(name) => led && defines(taken, name),
         None => false,
+    }
+}
+
+/// Whether a reference to the name of the taken definition, the one on the way, leads to it behind this item, of this
+/// number in the body at the address. `led` says whether it does so in the item.
+pub(crate) fn led_behind(
+    way: &Address,
+    taken: Option<&Item>,
+    led: bool,
+    at: &Address,
+    number: usize,
+    found: &Item,
+) -> bool
+    requires { length at.now < 17 }
+    ensures { result ≡ led_behind way.now (option_copied taken.entry) (at.now ++ number ∷ []) found.now led }
+{
+    match found {
+        Item::Define(name, _) => {
+            if defines(taken, name) {
+                &at.inside(number) == way
+            } else {
+                led
+            }
+        }
+        _ => led,
     }
 }

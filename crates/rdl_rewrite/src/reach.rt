@@ -5,10 +5,13 @@ ghost use Rattle.rdl_tree.specs.View.{add};
 ghost use Rattle.rdl_tree.specs.Address.{body_at};
 ghost use Rattle.rdl_tree.specs.Depth.{depth};
 ghost use Rattle.rdl_scope.specs.Types.{item};
+ghost use Rattle.rdl_rewrite.specs.Led.{IsLed};
 ghost use Rattle.rdl_rewrite.specs.Fates.{fate, fate_patches};
 
 use crate::fate::Fate;
+use crate::leads::led_behind;
 use crate::{removal, renaming};
+use rdl_scope::types::item_at;
 use rdl_text::name::Name;
 use rdl_tree::address::Address;
 use rdl_tree::description::{Body, Description, Item};
@@ -20,43 +23,72 @@ use std::alloc::{AllocError, Global};
 pub(crate) struct Reach<'a> {
     pub whole: &'a Description,
     pub way: &'a Address,
+    /// The item on the way.
+    pub taken: Option<&'a Item>,
     /// None where the item is taken out.
     pub name: Option<&'a Name>,
 }
 
 impl<'a> Reach<'a> {
-    /// What becomes of this item, at its address.
-    fn fate(&self, alloc: Global, at: &Address, found: &Item) -> Result<Fate, AllocError>
-        requires nesting { depth self.now.whole.now.items ≤ 16 }
-        requires here { item at.now self.now.whole.now.items ≡ Some found.now }
-        ensures { IfOk result (λ new. new ≡ fate self.now.whole.now.items self.now.way.now (option_copied self.now.name) at.now found.now) }
+    pub(crate) fn new(whole: &'a Description, way: &'a Address, name: Option<&'a Name>) -> Reach<'a>
+        ensures whole { result.whole.now ≡ whole.now }
+        ensures way { result.way.now ≡ way.now }
+        ensures taken { option_copied result.taken ≡ item way.now whole.now.items }
+        ensures name { option_copied result.name ≡ option_copied name.entry }
     {
-        match self.name {
-            Some(name) => renaming::fate(alloc, self.whole, self.way, name, at, found),
-            None => removal::fate(alloc, self.whole, self.way, at, found),
+        let taken = item_at(&whole.items, way.as_slice());
+        Reach {
+            whole,
+            way,
+            taken,
+            name,
         }
     }
 
-    /// Pushes the patches for this body, at its address, those of each item before those of the items inside it.
+    /// What becomes of this item, at its address. `led` says whether a reference to the taken item's name leads to it here.
+    fn fate(&self, alloc: Global, at: &Address, found: &Item, led: bool) -> Result<Fate, AllocError>
+        requires nesting { depth self.now.whole.now.items ≤ 16 }
+        requires taken { option_copied self.now.taken ≡ item self.now.way.now self.now.whole.now.items }
+        requires here { item at.now self.now.whole.now.items ≡ Some found.now }
+        requires led { IsLed self.now.whole.now.items self.now.way.now at.now led }
+        ensures { IfOk result (λ new. new ≡ fate self.now.whole.now.items self.now.way.now (option_copied self.now.name) at.now found.now) }
+    {
+        match self.name {
+            Some(name) => {
+                renaming::fate(
+                    alloc, self.whole, self.way, self.taken, name, at, found, led,
+                )
+            }
+            None => removal::fate(alloc, self.whole, self.way, self.taken, at, found),
+        }
+    }
+
+    /// Pushes the patches for this body, at its address, those of each item before those of the items inside it. `led` says
+    /// whether a reference to the taken item's name leads to it where the body begins.
     #[cycle(reach)]
     fn push_body(
         &self,
         alloc: Global,
         at: &Address,
         body: &Body,
+        mut led: bool,
         patches: &mut Vec<Patch>,
     ) -> Result<(), AllocError>
         requires nesting { depth self.now.whole.now.items ≤ 16 }
+        requires taken { option_copied self.now.taken ≡ item self.now.way.now self.now.whole.now.items }
         requires here { body_at at.now self.now.whole.now.items ≡ Some body.now }
+        requires led { IsLed self.now.whole.now.items self.now.way.now at.now led }
         ensures { IfOk result (λ _. reverse patches.new.items ≡ fate_patches (fate self.now.whole.now.items self.now.way.now (option_copied self.now.name)) at.now 0 body.now ++ reverse patches.old.items) }
     {
         'items: for (number, found) in body.as_slice().iter().enumerate() {
-            self.push_item(alloc, at, number, found, patches)?;
+            self.push_item(alloc, at, number, found, led, patches)?;
+            led = led_behind(self.way, self.taken, led, at, number, found);
         }
         Ok(())
     }
 
-    /// Pushes the patches for the item of this number in the body at the address.
+    /// Pushes the patches for the item of this number in the body at the address. `led` says whether a reference to the
+    /// taken item's name leads to it here.
     #[cycle(reach)]
     fn push_item(
         &self,
@@ -64,22 +96,25 @@ impl<'a> Reach<'a> {
         at: &Address,
         number: usize,
         found: &Item,
+        led: bool,
         patches: &mut Vec<Patch>,
     ) -> Result<(), AllocError>
         requires nesting { depth self.now.whole.now.items ≤ 16 }
+        requires taken { option_copied self.now.taken ≡ item self.now.way.now self.now.whole.now.items }
         requires room { length at.now < 17 }
         requires here { item (at.now ++ number ∷ []) self.now.whole.now.items ≡ Some found.now }
+        requires led { IsLed self.now.whole.now.items self.now.way.now (at.now ++ number ∷ []) led }
         ensures { IfOk result (λ _. reverse patches.new.items ≡ fate_patches (fate self.now.whole.now.items self.now.way.now (option_copied self.now.name)) at.now number (add found.now no_items) ++ reverse patches.old.items) }
     {
         let address = at.inside(number);
-        let fate = self.fate(alloc, &address, found)?;
+        let fate = self.fate(alloc, &address, found, led)?;
         let goes = fate.is_dropped();
         fate.push_to(&address, patches)?;
         if goes {
             return Ok(());
         }
         match found.own_body() {
-            Some(body) => self.push_body(alloc, &address, body, patches),
+            Some(body) => self.push_body(alloc, &address, body, led, patches),
             None => Ok(()),
         }
     }
@@ -87,10 +122,17 @@ impl<'a> Reach<'a> {
     /// The patches for all items, the last item's first.
     pub(crate) fn patches(&self, alloc: Global) -> Result<Vec<Patch>, AllocError>
         requires nesting { depth self.now.whole.now.items ≤ 16 }
+        requires taken { option_copied self.now.taken ≡ item self.now.way.now self.now.whole.now.items }
         ensures { IfOk result (λ ps. ps.items ≡ fate_patches (fate self.now.whole.now.items self.now.way.now (option_copied self.now.name)) [] 0 self.now.whole.now.items) }
     {
         let mut patches = Vec::new(alloc);
-        self.push_body(alloc, &Address::new(), &self.whole.items, &mut patches)?;
+        self.push_body(
+            alloc,
+            &Address::new(),
+            &self.whole.items,
+            false,
+            &mut patches,
+        )?;
         patches.reverse();
         Ok(patches)
     }

@@ -8,6 +8,7 @@ ghost use Rattle.rdl_tree.specs.Depth.{depth};
 ghost use Rattle.rdl_scope.specs.Types.{item, type_of};
 ghost use Rattle.rdl_scope.specs.Target.{through};
 ghost use Rattle.rdl_rewrite.specs.Addresses.{leads_to, passes_by, addresses};
+ghost use Rattle.rdl_rewrite.specs.Led.{IsLed};
 ghost use Rattle.rdl_rewrite.specs.Fates.{fate_in_removal, fate, fate_patches};
 ghost use Rattle.rdl_rewrite.specs.Removal.{is_in_use, goes, removed};
 ghost use Rattle.rdl_rewrite.specs.Refuses.{RefusesEdit};
@@ -15,72 +16,61 @@ ghost use Rattle.rdl_rewrite.specs.declared.edit.Refusal.{Refusal};
 
 use crate::edit::Refusal;
 use crate::fate::Fate;
-use crate::leads::{is_instance_of_any, is_on, leads_to};
+use crate::leads::{is_instance_of_any, is_on, leads_to, led_behind};
 use crate::reach::Reach;
 use rdl_scope::targets::through;
-use rdl_scope::types::item_at;
 use rdl_tree::address::Address;
 use rdl_tree::description::{Body, Description, Item};
 use rdl_tree::patch::Patch;
 use std::alloc::{AllocError, Global};
 
-/// Whether the type of an instance in this body, at its address, is the item on the way.
+/// Whether the type of an instance in this body, at its address, is the taken item. `led` says whether a reference to its
+/// name leads to it where the body begins.
 #[cycle(used)]
-fn is_used(
-    whole: &Description,
-    way: &Address,
-    taken: Option<&Item>,
-    at: &Address,
-    body: &Body,
-) -> bool
-    requires nesting { depth whole.now.items ≤ 16 }
-    requires taken { option_copied taken ≡ item way.now whole.now.items }
-    requires here { body_at at.now whole.now.items ≡ Some body.now }
-    ensures { result ≡ list_any (λ a. leads_to way.now (type_of whole.now.items a)) (addresses at.now 0 body.now) }
+fn is_used(reach: &Reach, at: &Address, body: &Body, mut led: bool) -> bool
+    requires nesting { depth reach.now.whole.now.items ≤ 16 }
+    requires taken { option_copied reach.now.taken ≡ item reach.now.way.now reach.now.whole.now.items }
+    requires here { body_at at.now reach.now.whole.now.items ≡ Some body.now }
+    requires led { IsLed reach.now.whole.now.items reach.now.way.now at.now led }
+    ensures { result ≡ list_any (λ a. leads_to reach.now.way.now (type_of reach.now.whole.now.items a)) (addresses at.now 0 body.now) }
 {
     'items: for (number, found) in body.as_slice().iter().enumerate() {
-        if is_used_by(whole, way, taken, at, number, found) {
+        if is_used_by(reach, at, number, found, led) {
             return true;
         }
+        led = led_behind(reach.way, reach.taken, led, at, number, found);
     }
     false
 }
 
-/// Whether the type of this item, of this number in the body at the address, or of an instance inside it, is the item on
-/// the way.
+/// Whether the type of this item, of this number in the body at the address, or of an instance inside it, is the taken
+/// one. `led` says whether a reference to its name leads to it here.
 #[cycle(used)]
-fn is_used_by(
-    whole: &Description,
-    way: &Address,
-    taken: Option<&Item>,
-    at: &Address,
-    number: usize,
-    found: &Item,
-) -> bool
-    requires nesting { depth whole.now.items ≤ 16 }
-    requires taken { option_copied taken ≡ item way.now whole.now.items }
+fn is_used_by(reach: &Reach, at: &Address, number: usize, found: &Item, led: bool) -> bool
+    requires nesting { depth reach.now.whole.now.items ≤ 16 }
+    requires taken { option_copied reach.now.taken ≡ item reach.now.way.now reach.now.whole.now.items }
     requires room { length at.now < 17 }
-    requires here { item (at.now ++ number ∷ []) whole.now.items ≡ Some found.now }
-    ensures { result ≡ list_any (λ a. leads_to way.now (type_of whole.now.items a)) (addresses at.now number (add found.now no_items)) }
+    requires here { item (at.now ++ number ∷ []) reach.now.whole.now.items ≡ Some found.now }
+    requires led { IsLed reach.now.whole.now.items reach.now.way.now (at.now ++ number ∷ []) led }
+    ensures { result ≡ list_any (λ a. leads_to reach.now.way.now (type_of reach.now.whole.now.items a)) (addresses at.now number (add found.now no_items)) }
 {
-    let address = at.inside(number);
     match found.own_body() {
-        Some(body) => is_used(whole, way, taken, &address, body),
-        None => leads_to(whole, way, taken, &address, found),
+        Some(body) => is_used(reach, &at.inside(number), body, led),
+        None => leads_to(reach.taken, led, found),
     }
 }
 
-/// Whether the type of an instance is the taken item, the one on the way. Only a definition can be.
-fn is_in_use(whole: &Description, way: &Address, taken: Option<&Item>) -> bool
-    requires nesting { depth whole.now.items ≤ 16 }
-    requires taken { option_copied taken ≡ item way.now whole.now.items }
-    ensures { result ≡ is_in_use whole.now.items way.now }
+/// Whether the type of an instance is the taken item. Only a definition can be.
+fn is_in_use(reach: &Reach) -> bool
+    requires nesting { depth reach.now.whole.now.items ≤ 16 }
+    requires taken { option_copied reach.now.taken ≡ item reach.now.way.now reach.now.whole.now.items }
+    ensures { result ≡ is_in_use reach.now.whole.now.items reach.now.way.now }
 {
-    let Some(found) = taken else {
+    let Some(found) = reach.taken else {
         return false;
     };
     match found {
-        Item::Define(..) => is_used(whole, way, taken, &Address::new(), &whole.items),
+        Item::Define(..) => is_used(reach, &Address::new(), &reach.whole.items, false),
         _ => false,
     }
 }
@@ -136,14 +126,15 @@ pub(crate) fn fate(
     alloc: Global,
     whole: &Description,
     way: &Address,
+    taken: Option<&Item>,
     at: &Address,
     found: &Item,
 ) -> Result<Fate, AllocError>
     requires nesting { depth whole.now.items ≤ 16 }
+    requires taken { option_copied taken ≡ item way.now whole.now.items }
     requires here { item at.now whole.now.items ≡ Some found.now }
     ensures { IfOk result (λ fate. fate ≡ fate_in_removal whole.now.items way.now at.now) }
 {
-    let taken = item_at(&whole.items, way.as_slice());
     if goes(alloc, whole, way, taken, at, found)? {
         Ok(Fate::Dropped)
     } else {
@@ -167,10 +158,9 @@ pub fn remove<'a>(
     if whole.depth() > 16 {
         return Err(Refusal::TooDeep);
     }
-    if is_in_use(whole, way, item_at(&whole.items, way.as_slice())) {
+    let reach = Reach::new(whole, way, None);
+    if is_in_use(&reach) {
         return Err(Refusal::InUse);
     }
-    let name = None;
-    let reach = Reach { whole, way, name };
     Ok(reach.patches(alloc)?)
 }

@@ -4,6 +4,7 @@ ghost use Rattle.rdl_tree.specs.Depth.{depth};
 ghost use Rattle.rdl_scope.specs.Types.{item};
 ghost use Rattle.rdl_scope.specs.Target.{through};
 ghost use Rattle.rdl_rewrite.specs.Addresses.{passes_by};
+ghost use Rattle.rdl_rewrite.specs.Led.{IsLed};
 ghost use Rattle.rdl_rewrite.specs.Fates.{given_if, fate_in_renaming, fate, fate_patches};
 ghost use Rattle.rdl_rewrite.specs.Names.{has_name};
 ghost use Rattle.rdl_rewrite.specs.Renaming.{renamed_names, renamed_target, is_reserved, names_in, is_taken, renamed};
@@ -104,21 +105,24 @@ fn target_fate(
     Ok(Fate::Given(Part::OfTarget(Target::from_vec(names))))
 }
 
-/// What becomes of this item, at its address, where the one on the way gets the name. Only a target with the name of a
-/// renamed instance is searched.
+/// What becomes of this item, at its address, where the taken one, which is on the way, gets the name. `led` says whether
+/// a reference to the old name of that leads to it here. Only a target with the name of a renamed instance is searched.
 pub(crate) fn fate(
     alloc: Global,
     whole: &Description,
     way: &Address,
+    taken: Option<&Item>,
     name: &Name,
     at: &Address,
     found: &Item,
+    led: bool,
 ) -> Result<Fate, AllocError>
     requires nesting { depth whole.now.items ≤ 16 }
+    requires taken { option_copied taken ≡ item way.now whole.now.items }
     requires here { item at.now whole.now.items ≡ Some found.now }
+    requires led { IsLed whole.now.items way.now at.now led }
     ensures { IfOk result (λ fate. fate ≡ fate_in_renaming whole.now.items way.now name.now at.now found.now) }
 {
-    let taken = item_at(&whole.items, way.as_slice());
     match found {
         Item::Define(..) => definition_fate(alloc, at == way, name),
         Item::Instance(shell, of) => {
@@ -126,7 +130,7 @@ pub(crate) fn fate(
                 return shell_fate(alloc, name, shell);
             }
             match of {
-                Of::Named(_) => type_fate(alloc, leads_to(whole, way, taken, at, found), name),
+                Of::Named(_) => type_fate(alloc, leads_to(taken, led, found), name),
                 Of::Anonymous(_) => Ok(Fate::Kept),
             }
         }
@@ -197,7 +201,5 @@ pub fn rename<'a>(
     if is_reserved(name) {
         return Err(Refusal::Reserved);
     }
-    let name = Some(name);
-    let reach = Reach { whole, way, name };
-    Ok(reach.patches(alloc)?)
+    Ok(Reach::new(whole, way, Some(name)).patches(alloc)?)
 }

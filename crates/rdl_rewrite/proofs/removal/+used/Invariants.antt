@@ -1,10 +1,11 @@
-use Rattle.std.proofs.Common.{◌≡◌, ◌+◌, ◌*◌, drop}
+use Rattle.std.proofs.Common.{◌≡◌, ◌+◌, ◌*◌, ◌++◌, ◌∷◌, [], drop}
 use Rattle.std.specs.List.{list_any}
 use Rattle.rdl_tree.specs.Items.{count}
 use Rattle.rdl_tree.specs.View.{items_of}
 use Rattle.rdl_tree.proofs.Sizes.{item_count}
 use Rattle.rdl_scope.specs.Types.{type_of}
 use Rattle.rdl_rewrite.specs.Addresses.{leads_to, addresses}
+use Rattle.rdl_rewrite.specs.Led.{IsLed}
 use Rattle.rdl_rewrite.proofs.removal.+used.Given as goal
 
 abbrev pub decreases-is_used : goal.decreases-is_used
@@ -14,6 +15,8 @@ abbrev pub decreases-is_used_by : goal.decreases-is_used_by
 decreases-is_used_by l = 2 * item_count l.found.now
 
 abbrev pub invariant-is_used-items : goal.invariant-is_used-items
-invariant-is_used-items l =
-    list_any (λ a. leads_to l.way (type_of l.whole.items a)) (addresses l.at 0 l.body)
-    ≡ list_any (λ a. leads_to l.way (type_of l.whole.items a)) (addresses l.at l.number (items_of (drop l.number l.found-items)))
+invariant-is_used-items l = record {
+  unmet : list_any (λ a. leads_to l.reach.way.now (type_of l.reach.whole.now.items a)) (addresses l.at 0 l.body)
+      ≡ list_any (λ a. leads_to l.reach.way.now (type_of l.reach.whole.now.items a)) (addresses l.at l.number (items_of (drop l.number l.found-items)));
+  led : IsLed l.reach.whole.now.items l.reach.way.now (l.at ++ l.number ∷ []) l.led;
+}
