@@ -18,6 +18,8 @@ use Rattle.rdl_elab.specs.Layouts.{layouts, layout}
 use Rattle.rdl_elab.specs.Capped.{capped_instance}
 use Rattle.rdl_elab.specs.Faults.{levels, count, is_empty, first_empty}
 use Rattle.rdl_elab.specs.Finished.{under, IsPart, AreParts}
+use Rattle.rdl_elab.specs.EachMember.{shown_each}
+use Rattle.rdl_elab.specs.LaidOut.{kept_member, kept_members}
 use Rattle.rdl_elab.specs.Inside.{kept_part, kept_parts, part_levels, kept_levels, part_rows, kept_rows, lacks_parts, part_empty, kept_empty}
 
 pub or-assoc : {X : Type 0} (a b c : Option X) → option_or (option_or a b) c ≡ option_or a (option_or b c)
@@ -172,6 +174,20 @@ module _ {X : Type 0} (g : Shell × Layout → X) (m : Mode) (fs : List Finished
       kept-next m fs i ps p h ∙ ap (λ (q : Part). cons_option (kept_part m fs q) rest) (sym is)
       ∙ ap (λ o. cons_option (option_map (λ (f : Finished). (p.shell, under m f.layouts)) o) rest) found in
       ap (λ xs. xs ++ map g rest) same ∙ sym (ap (λ xs. done ++ map g xs) one) ∙ inv
+
+-- what is taken of the instances from one on, with its component and without one
+module _ (fs : List Finished) (i : ℕ) (ps : List Part) (p : Part) (h : i < length ps) (is : p ≡ get_or ps i p) where
+  members-next : kept_members fs (drop i ps) ≡ cons_option (kept_member fs p) (kept_members fs (drop (i + 1) ps))
+  members-next = ap (kept_members fs) (next i ps p h) ∙ ap (λ (q : Part). cons_option (kept_member fs q) (kept_members fs (drop (i + 1) ps))) (sym is)
+
+  pub member-some : (f : Finished) → slice_get fs p.component ≡ Some f → kept_members fs (drop i ps) ≡ shown_each p.shell f.layouts ∷ kept_members fs (drop (i + 1) ps)
+  member-some f found = members-next ∙ ap (λ o. cons_option (option_map (λ (f : Finished). shown_each p.shell f.layouts) o) (kept_members fs (drop (i + 1) ps))) found
+
+  pub member-none : slice_get fs p.component ≡ None → kept_members fs (drop i ps) ≡ kept_members fs (drop (i + 1) ps)
+  member-none found = members-next ∙ ap (λ o. cons_option (option_map (λ (f : Finished). shown_each p.shell f.layouts) o) (kept_members fs (drop (i + 1) ps))) found
+
+pub members-none : (fs : List Finished) (i : ℕ) (ps : List Part) → length ps ≤ i → kept_members fs (drop i ps) ≡ []
+members-none fs i ps h = ap (kept_members fs) (drop_all i ps h)
 
 -- one more instance for the levels, the rows, and the instances that must not be empty
 module _ (fs : List Finished) (i : ℕ) (ps : List Part) (p : Part) (o : Option Finished) (h : i < length ps) (is : p ≡ get_or ps i p) (found : slice_get fs p.component ≡ o) where

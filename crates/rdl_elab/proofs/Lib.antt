@@ -19,6 +19,7 @@ pub mod Telling
 pub mod Cleaning
 pub mod Counting
 pub mod SameMembers
+pub mod EachMember
 pub mod Insides
 pub mod Making
 pub mod SelfEqual

@@ -1,33 +1,34 @@
 -- What the layouts of a component are made of determines them.
-use Rattle.std.proofs.Common.{◌≡◌, ℕ, List, [], ◌∷◌, map, refl, ap, sym, ◌∙◌}
+use Rattle.std.proofs.Common.{◌≡◌, ℕ, List, [], ◌∷◌, map, Some, refl, ap, ◌∙◌}
+use Rattle.std.specs.Prelude.{option_map}
+use Rattle.std.specs.List.{cons_option}
 use Rattle.rdl_tree.specs.Items.{Items}
 use Rattle.rdl_tree.specs.declared.shell.Shell.{Shell}
 use Rattle.rdl_scope.specs.Closed.{Parts, no_parts, part, Made}
 use Rattle.rdl_elab.specs.declared.layout.Mode.{Mode}
 use Rattle.rdl_elab.specs.declared.layout.Mode.TheVariants.{Compact, Regalign, Fullalign}
 use Rattle.rdl_elab.specs.declared.layout.Member.{Member}
-use Rattle.rdl_elab.specs.declared.laid_out.EachMember.{EachMember}
 use Rattle.rdl_elab.specs.declared.finished.Finished.{Finished}
-use Rattle.rdl_elab.specs.Kept.{Part}
+use Rattle.rdl_elab.specs.Kept.{Part, EachMember}
 use Rattle.rdl_elab.specs.Layouts.{values_of, mode_inside, laid_out, layouts, layout}
 use Rattle.rdl_elab.specs.Capped.{capped_layout, capped_instance}
-use Rattle.rdl_elab.specs.Finished.{AreParts}
-use Rattle.rdl_elab.specs.Inside.{kept_parts}
-use Rattle.rdl_elab.specs.LaidOut.{shown_member, member_under}
+use Rattle.rdl_elab.specs.Finished.{under, IsPart, AreParts}
+use Rattle.rdl_elab.specs.EachMember.{member_under, shown_each}
+use Rattle.rdl_elab.specs.LaidOut.{shown_member, kept_member, kept_members}
 use Rattle.rdl_elab.specs.Written.{all_written, layouts_kept, all_layouts}
 use Rattle.rdl_elab.specs.MadeOf.{each_member, members_of, made_of, all_made, layout_made, layouts_made}
 use Rattle.rdl_elab.proofs.Counting.{members-shown}
-use Rattle.rdl_elab.proofs.Insides.{parts-kept}
+use Rattle.rdl_elab.proofs.EachMember.{one-under}
 use Rattle.rdl_elab.proofs.KeptLayouts.{kept-laid_out}
 
-one-under : (m : Mode) (s : Shell) (c : Made) → member_under m (each_member s c) ≡ shown_member (s, capped_layout (layout m c))
-one-under Compact s c = refl
-one-under Regalign s c = refl
-one-under Fullalign s c = refl
+under-kept : (m : Mode) (c : Made) → under m (layouts_kept c) ≡ capped_layout (layout m c)
+under-kept Compact c = refl
+under-kept Regalign c = refl
+under-kept Fullalign c = refl
 
 members-under : (m : Mode) (ps : Parts) → map (member_under m) (members_of ps) ≡ map shown_member (map capped_instance (layouts m ps))
 members-under m no_parts = refl
-members-under m (part at s h inside rest) = λ i. one-under m s (record { head = h; parts = inside }) i ∷ members-under m rest i
+members-under m (part at s h inside rest) = let c : Made = record { head = h; parts = inside } in λ i. (one-under m s (layouts_kept c) ∙ ap (λ l. shown_member (s, l)) (under-kept m c)) i ∷ members-under m rest i
 
 pub layout-made : (m : Mode) (c : Made) → layout_made m (made_of c) ≡ capped_layout (layout m c)
 layout-made m c =
@@ -48,20 +49,20 @@ each-made (c ∷ cs) = λ i. layouts-made c i ∷ each-made cs i
 pub all-made : (d : Items) → map layouts_made (all_made d) ≡ all_layouts d
 all-made d = each-made (all_written d)
 
--- members that are the same under each mode are the same
-each-same : (xs ys : List EachMember) → ((m : Mode) → map (member_under m) xs ≡ map (member_under m) ys) → xs ≡ ys
-each-same [] [] h = refl
-each-same [] (y ∷ ys) h = let e = h Compact in cc
-each-same (x ∷ xs) [] h = let e = h Compact in cc
-each-same (x ∷ xs) (y ∷ ys) h = λ i. record { compact = head Compact i; regalign = head Regalign i; fullalign = head Fullalign i } ∷ each-same xs ys rest i
-  where
-    head : (m : Mode) → member_under m x ≡ member_under m y
-    head m = let e = h m in cc
+-- what is taken of the instances by what is kept of their components
+one-member : (d : Items) (fs : List Finished) (n : ℕ) (p : Part) (at : List ℕ) (s : Shell) (c : Made) (Inside : Finished → Type 0) → IsPart d fs n p at s c Inside → kept_member fs p ≡ Some (each_member s c)
+one-member d fs n p at s c Inside h =
+    let layouts = h.kept.layouts in
+    ap (option_map (λ (f : Finished). shown_each p.shell f.layouts)) h.there
+    ∙ (λ i. Some (shown_each (h.shell i) (record { compact = layouts Compact i; regalign = layouts Regalign i; fullalign = layouts Fullalign i })))
 
-    rest : (m : Mode) → map (member_under m) xs ≡ map (member_under m) ys
-    rest m = let e = h m in cc
+all-members : (d : Items) (fs : List Finished) (n : ℕ) (ps : List Part) (inside : Parts) → AreParts d fs n ps inside → kept_members fs ps ≡ members_of inside
+all-members d fs n [] no_parts h = refl
+all-members d fs n (p ∷ ps) no_parts h = absurd h
+all-members d fs n [] (part at s k inside rest) h = absurd h
+all-members d fs n (p ∷ ps) (part at s k inside rest) h =
+    let c : Made = record { head = k; parts = inside } in
+    ap (λ o. cons_option o (kept_members fs ps)) (one-member d fs n p at s c (λ f. AreParts d fs p.component f.parts.items inside) h.0) ∙ ap (λ ms. each_member s c ∷ ms) (all-members d fs n ps rest h.1)
 
-pub members-are : (d : Items) (fs : List Finished) (n : ℕ) (ps : List Part) (inside : Parts) (ms : List EachMember) → AreParts d fs n ps inside
-    → ((m : Mode) → map (member_under m) ms ≡ map shown_member (kept_parts m fs ps)) → ms ≡ members_of inside
-members-are d fs n ps inside ms are h =
-    each-same ms (members_of inside) (λ m. h m ∙ ap (map shown_member) (parts-kept d fs m n ps inside are) ∙ sym (members-under m inside))
+pub members-are : (d : Items) (fs : List Finished) (n : ℕ) (ps : List Part) (inside : Parts) (ms : List EachMember) → AreParts d fs n ps inside → ms ≡ kept_members fs ps → ms ≡ members_of inside
+members-are d fs n ps inside ms are h = h ∙ all-members d fs n ps inside are

@@ -12,11 +12,10 @@ use Rattle.rdl_scope.specs.ItemFaults.{product as elements_of}
 use Rattle.rdl_scope.specs.Closed.{Parts, no_parts, part, Made, Standing, nothing, head_at, parts, after_plain, after_holder, component}
 use Rattle.rdl_elab.specs.declared.layout.Mode.{Mode}
 use Rattle.rdl_elab.specs.declared.layout.Mode.TheVariants.{Compact, Regalign, Fullalign}
-use Rattle.rdl_elab.specs.declared.layout.Layout.{Layout}
-use Rattle.rdl_elab.specs.declared.layout.Member.{Member}
-use Rattle.rdl_elab.specs.Layouts.{layout, is_array, width_of}
+use Rattle.rdl_elab.specs.declared.each_member.Said.{Said}
+use Rattle.rdl_elab.specs.Layouts.{layout}
 use Rattle.rdl_elab.specs.Capped.{capped_layout}
-use Rattle.rdl_elab.specs.LaidOut.{shown_member}
+use Rattle.rdl_elab.specs.EachMember.{first_of, extent_of}
 use Rattle.rdl_elab.specs.Found.{ArePartsFound}
 use Rattle.rdl_elab.specs.Written.{written, all_written}
 use Rattle.rdl_elab.specs.MadeOf.{each_member, members_of, made_of, layout_made}
@@ -158,24 +157,18 @@ zip-at R (x ∷ xs) (y ∷ ys) e h = (h 0 x y refl refl, zip-at R xs ys (omega (
 
 -- ---- What is taken of an instance.
 
-abbrev member-by : List ℕ → Option (ℕ × ℕ) → Option ℕ → Option ℕ → Option ℕ → Layout → Member
-member-by dims range address stride align l = record {
-  placement = record { size = l.size; access = l.access; elements = min (elements_of dims) (2 ^ 128 - 1); is_array = is_array dims; address = address; stride = stride; align = align };
-  bits = record { width = width_of dims l.size; range = range };
-}
-
-same-member : (s u : Shell) (l k : Layout) → SaysTheSame s u → l ≡ k → shown_member (s, l) ≡ shown_member (u, k)
-same-member s u l k h e = λ i. member-by (h.dims i) (h.range i) (h.address i) (h.stride i) (h.align i) (e i)
+abbrev said-by : List ℕ → Option (ℕ × ℕ) → Option ℕ → Option ℕ → Option ℕ → Said
+said-by dims range address stride align = record { elements = min (elements_of dims) (2 ^ 128 - 1); size = first_of dims; address = address; stride = stride; align = align; range = range }
 
 same-layout : (c k : Made) → made_of c ≡ made_of k → (m : Mode) → capped_layout (layout m c) ≡ capped_layout (layout m k)
 same-layout c k e m = sym (layout-made m c) ∙ ap (layout_made m) e ∙ layout-made m k
 
 pub same-each : (s u : Shell) (c k : Made) → SaysTheSame s u → made_of c ≡ made_of k → each_member s c ≡ each_member u k
-same-each s u c k h e =
-    let compact = same-member s u (capped_layout (layout Compact c)) (capped_layout (layout Compact k)) h (same-layout c k e Compact) in
-    let regalign = same-member s u (capped_layout (layout Regalign c)) (capped_layout (layout Regalign k)) h (same-layout c k e Regalign) in
-    let fullalign = same-member s u (capped_layout (layout Fullalign c)) (capped_layout (layout Fullalign k)) h (same-layout c k e Fullalign) in
-    λ i. record { compact = compact i; regalign = regalign i; fullalign = fullalign i }
+same-each s u c k h e = λ i. record {
+  said = said-by (h.dims i) (h.range i) (h.address i) (h.stride i) (h.align i);
+  extents =
+      record { compact = extent_of (same-layout c k e Compact i); regalign = extent_of (same-layout c k e Regalign i); fullalign = extent_of (same-layout c k e Fullalign i) };
+}
 
 neither : (s t : Bool) → (s || t) ≡ false → (s ≡ false) × (t ≡ false)
 neither false false e = (refl, refl)

@@ -5,7 +5,8 @@ use Rattle.rdl_tree.specs.declared.shell.Kind.{Kind}
 use Rattle.rdl_tree.specs.declared.shell.Shell.{Shell}
 use Rattle.rdl_elab.specs.declared.layout.LayoutValues.{LayoutValues}
 use Rattle.rdl_elab.specs.declared.layout.Layout.{Layout}
-use Rattle.rdl_elab.specs.declared.laid_out.EachMember.{EachMember}
+use Rattle.rdl_elab.specs.declared.each_member.Said.{Said}
+use Rattle.rdl_elab.specs.declared.each_member.Extents.{Extents}
 
 -- an instance: its address, its shell, and the number of its component among the finished ones
 pub record Part : Type 0 where
@@ -19,7 +20,12 @@ pub record Layouts : Type 0 where
   pub regalign : Layout
   pub fullalign : Layout
 
--- what the layouts of a component are made of: its kind, its layout values, and what is taken of each instance under each mode
+-- what the layouts of a component take of one of its instances: what it says of its place, and how large its component is under each mode
+pub record EachMember : Type 0 where
+  pub said : Said
+  pub extents : Extents
+
+-- what the layouts of a component are made of: its kind, its layout values, and what is taken of each instance
 pub record MadeOf : Type 0 where
   pub kind : Kind
   pub values : LayoutValues

@@ -11,6 +11,7 @@ pub mod Reaches
 pub mod InstanceResets
 pub mod Kept
 pub mod EachMode
+pub mod EachMember
 pub mod Finished
 pub mod KeptRows
 pub mod Clean

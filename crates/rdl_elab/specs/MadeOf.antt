@@ -7,17 +7,15 @@ use Rattle.rdl_scope.specs.Closed.{Parts, no_parts, part, Made}
 use Rattle.rdl_elab.specs.declared.layout.Mode.{Mode}
 use Rattle.rdl_elab.specs.declared.layout.Mode.TheVariants.{Compact, Regalign, Fullalign}
 use Rattle.rdl_elab.specs.declared.layout.Layout.{Layout}
-use Rattle.rdl_elab.specs.declared.laid_out.EachMember.{EachMember}
-use Rattle.rdl_elab.specs.Kept.{Layouts, MadeOf}
-use Rattle.rdl_elab.specs.Layouts.{values_of, mode_inside, laid_out, layout}
+use Rattle.rdl_elab.specs.Kept.{Layouts, EachMember, MadeOf}
+use Rattle.rdl_elab.specs.Layouts.{values_of, mode_inside, laid_out}
 use Rattle.rdl_elab.specs.Capped.{capped_layout}
-use Rattle.rdl_elab.specs.LaidOut.{shown_member, member_under}
-use Rattle.rdl_elab.specs.Written.{all_written}
+use Rattle.rdl_elab.specs.EachMember.{member_under, shown_each}
+use Rattle.rdl_elab.specs.Written.{layouts_kept, all_written}
 
 -- what is taken of an instance of this component
 abbrev pub each_member : Shell → Made → EachMember
-each_member s c =
-    record { compact = shown_member (s, capped_layout (layout Compact c)); regalign = shown_member (s, capped_layout (layout Regalign c)); fullalign = shown_member (s, capped_layout (layout Fullalign c)) }
+each_member s c = shown_each s (layouts_kept c)
 
 abbrev pub members_of : Parts → List EachMember
 members_of no_parts = []

@@ -7,13 +7,12 @@ ghost use Rattle.rdl_tree.specs.declared.shell.Kind.TheVariants.{Regfile, Reg};
 ghost use Rattle.rdl_elab.specs.Layouts.{placement, field_bits, member, mode_inside, laid_out};
 ghost use Rattle.rdl_elab.specs.Capped.{capped_layout, IsAlignment};
 ghost use Rattle.rdl_elab.specs.Finished.{under};
-ghost use Rattle.rdl_elab.specs.LaidOut.{shown_member};
 ghost use Rattle.rdl_elab.specs.Inside.{counted, shown_placement, kept_parts, kept_levels, kept_rows, lacks_parts, part_empty, kept_empty};
 
 use crate::bits::bits;
 use crate::component::{field, register};
 use crate::finished::{Finished, Layouts, Part, ThreeLayouts};
-use crate::layout::{FieldBits, Layout, LayoutValues, Member, Mode, Placement};
+use crate::layout::{FieldBits, Layout, LayoutValues, Mode, Placement};
 use crate::place::place;
 use crate::shared::SharedAddress;
 use rdl_scope::shells::product;
@@ -52,16 +51,6 @@ fn field_bits(shell: &Shell, layout: &Layout) -> FieldBits
     FieldBits {
         width,
         range: shell.range,
-    }
-}
-
-/// What the layout of a component takes of an instance whose component has this layout.
-pub(crate) fn member(shell: &Shell, layout: &Layout) -> Member
-    ensures { result ≡ shown_member (shell.now, layout.now) }
-{
-    Member {
-        placement: placement(shell, layout),
-        bits: field_bits(shell, layout),
     }
 }
 

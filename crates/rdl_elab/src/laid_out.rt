@@ -1,41 +1,22 @@
 //! The layouts of a component with what they were made of, so that they can stay where nothing of that changes.
-ghost use Rattle.std.specs.Prelude.{◌≡◌, map, length, Some, IfOk, IfSome, option_map};
+ghost use Rattle.std.specs.Prelude.{◌≡◌, ◌↔◌, true, length, Some, IfOk, IfSome, option_map, slice_get};
 ghost use Rattle.std.specs.Option.{IsSome};
 ghost use Rattle.slab.specs.Slab.{get};
-ghost use Rattle.rdl_elab.specs.declared.layout.Mode.{Mode};
 ghost use Rattle.rdl_elab.specs.declared.laid_out.Candidate.{Candidate};
 ghost use Rattle.rdl_elab.specs.Capped.{IsAlignment};
-ghost use Rattle.rdl_elab.specs.Finished.{under};
-ghost use Rattle.rdl_elab.specs.Inside.{kept_parts};
-ghost use Rattle.rdl_elab.specs.LaidOut.{member_under, shown_member};
+ghost use Rattle.rdl_elab.specs.EachMember.{shown_each};
+ghost use Rattle.rdl_elab.specs.LaidOut.{kept_members};
 ghost use Rattle.rdl_elab.specs.Finishes.{kept_for};
 
+use crate::each_member::EachMember;
 use crate::finished::{Finished, Layouts, Part};
-use crate::instances::{layouts, member};
-use crate::layout::{Layout, LayoutValues, Member, Mode};
+use crate::instances::layouts;
+use crate::layout::{Layout, LayoutValues, Mode};
 use rdl_tree::shell::{Kind, Shell};
 use slab::Slab;
 use std::alloc::{AllocError, Global};
 use std::marker::Model;
 use std::rc::Rc;
-
-/// What the layout of a component takes of one of its instances, under each mode in which they may stand.
-#[derive(Clone, Copy, Debug, PartialEq, Eq)]
-pub(crate) struct EachMember {
-    compact: Member,
-    regalign: Member,
-    fullalign: Member,
-}
-
-fn each_member(shell: &Shell, layouts: &SharedLayouts) -> EachMember
-    ensures { (m : Mode) → member_under m result ≡ shown_member (shell.now, under m layouts.now) }
-{
-    EachMember {
-        compact: member(shell, layouts.under(Mode::Compact)),
-        regalign: member(shell, layouts.under(Mode::Regalign)),
-        fullalign: member(shell, layouts.under(Mode::Fullalign)),
-    }
-}
 
 #[tactic(auto, using(crate::proofs::Insides::steps))]
 fn each_members(
@@ -43,15 +24,41 @@ fn each_members(
     parts: &[Part],
     components: &[Finished],
 ) -> Result<Vec<EachMember>, AllocError>
-    ensures { IfOk result (λ members. (m : Mode) → map (member_under m) members.items ≡ map shown_member (kept_parts m components.now parts.now)) }
+    ensures { IfOk result (λ members. members.items ≡ kept_members components.now parts.now) }
 {
     let mut members = Vec::with_capacity(alloc, parts.len())?;
     for part in parts {
         if let Some(finished) = part.component(components) {
-            members.push(each_member(part.shell(), &finished.layouts))?;
+            members.push(EachMember::new(alloc, part.shell(), &finished.layouts)?)?;
         }
     }
     Ok(members)
+}
+
+/// Whether the member of this number is what is taken of an instance with this shell, whose component has these layouts.
+fn is_member(members: &[EachMember], number: usize, shell: &Shell, layouts: &SharedLayouts) -> bool
+    ensures { result ≡ true ↔ slice_get members.now number ≡ Some (shown_each shell.now layouts.now) }
+{
+    match members.get(number) {
+        Some(member) => member.is_of(shell, layouts),
+        None => false,
+    }
+}
+
+/// Whether these are what is taken of the instances.
+fn are_of(members: &[EachMember], parts: &[Part], components: &[Finished]) -> bool
+    ensures { result ≡ true ↔ members.now ≡ kept_members components.now parts.now }
+{
+    let mut number = 0usize;
+    for part in parts {
+        if let Some(finished) = part.component(components) {
+            if !is_member(members, number, part.shell(), &finished.layouts) {
+                return false;
+            }
+            number += 1;
+        }
+    }
+    number == members.len()
 }
 
 /// Layouts that several share. A contract sees the layouts.
@@ -139,12 +146,21 @@ impl Model for LaidOut {
 
 impl LaidOut {
     ghost use Rattle.std.specs.Prelude.{◌≡◌, ◌↔◌, true};
+    ghost use Rattle.rdl_elab.specs.LaidOut.{kept_members};
 
-    /// Whether they were made of these.
-    fn is_of(&self, kind: Kind, values: LayoutValues, members: &[EachMember]) -> bool
-        ensures { result ≡ true ↔ self.now ≡ record { kind = kind; values = values; members = members.now } }
+    /// Whether they were made of this kind, these values and these instances.
+    fn is_of(
+        &self,
+        kind: Kind,
+        values: LayoutValues,
+        parts: &[Part],
+        components: &[Finished],
+    ) -> bool
+        ensures { result ≡ true ↔ self.now ≡ record { kind = kind; values = values; members = kept_members components.now parts.now } }
     {
-        self.kind == kind && self.values == values && self.members.as_slice() == members
+        self.kind == kind
+            && self.values == values
+            && are_of(self.members.as_slice(), parts, components)
     }
 }
 
@@ -242,17 +258,19 @@ fn take_kept(
     number: usize,
     kind: Kind,
     values: LayoutValues,
-    members: &[EachMember],
+    parts: &[Part],
+    components: &[Finished],
 ) -> Result<Option<Taken>, AllocError>
-    ensures made { IfOk result (λ taken. IfSome taken (λ t. t.laid_out ≡ record { kind = kind; values = values; members = members.now })) }
+    ensures made { IfOk result (λ taken. IfSome taken (λ t. t.laid_out ≡ record { kind = kind; values = values; members = kept_members components.now parts.now })) }
     ensures kept { IfOk result (λ taken. IfSome taken (λ t. IfSome t.key (λ k. get before.now.layouts.now k ≡ Some t.laid_out))) }
     ensures key { IfOk result (λ taken. IfSome taken (λ t. IsSome t.key)) }
-    ensures taken { IfOk result (λ taken. kept_for before.now number ≡ Some (record { kind = kind; values = values; members = members.now }) → IsSome taken) }
+    ensures taken { IfOk result (λ taken. kept_for before.now number ≡ Some (record { kind = kind; values = values; members = kept_members components.now parts.now }) → IsSome taken) }
 {
     let Some(kept) = candidate_for(before, number) else {
         return Ok(None);
     };
-    if !kept.laid_out.as_laid_out().is_of(kind, values, members) {
+    let laid_out = kept.laid_out.as_laid_out();
+    if !laid_out.is_of(kind, values, parts, components) {
         return Ok(None);
     }
     Ok(Some(Taken {
@@ -271,7 +289,7 @@ fn new_layouts(
     components: &[Finished],
 ) -> Result<SharedLaidOut, AllocError>
     requires alignment { IsAlignment values.alignment }
-    requires members { (m : Mode) → map (member_under m) members.items ≡ map shown_member (kept_parts m components.now parts.now) }
+    requires members { members.items ≡ kept_members components.now parts.now }
     ensures { IfOk result (λ new. new ≡ record { kind = kind; values = values; members = members.items }) }
 {
     let layouts = layouts(alloc, kind, values, parts, components)?;
@@ -297,15 +315,15 @@ pub(crate) fn take_layouts(
     requires { IsAlignment values.alignment }
     ensures kind { IfOk result (λ t. t.laid_out.kind ≡ kind) }
     ensures values { IfOk result (λ t. t.laid_out.values ≡ values) }
-    ensures members { IfOk result (λ t. (m : Mode) → map (member_under m) t.laid_out.members ≡ map shown_member (kept_parts m components.now parts.now)) }
+    ensures members { IfOk result (λ t. t.laid_out.members ≡ kept_members components.now parts.now) }
     ensures kept { IfOk result (λ t. IfSome t.key (λ k. get before.now.layouts.now k ≡ Some t.laid_out)) }
     ensures taken { IfOk result (λ t. kept_for before.now (length components.now) ≡ Some t.laid_out → IsSome t.key) }
 {
-    let members = each_members(alloc, parts, components)?;
     let number = components.len();
-    if let Some(taken) = take_kept(before, number, kind, values, members.as_slice())? {
+    if let Some(taken) = take_kept(before, number, kind, values, parts, components)? {
         return Ok(taken);
     }
+    let members = each_members(alloc, parts, components)?;
     let laid_out = new_layouts(alloc, kind, values, members, parts, components)?;
     Ok(Taken {
         laid_out,

@@ -6,6 +6,7 @@ mod built_ins;
 mod clean;
 pub mod component;
 mod defaults;
+mod each_member;
 pub mod elaborate;
 mod finished;
 mod instances;

@@ -1,24 +1,30 @@
-use Rattle.std.proofs.Common.{◌∷◌, [], map, ap, sym, ◌∙◌}
-use Rattle.std.proofs.lemmas.List.{map-append}
-use Rattle.rdl_elab.specs.Finished.{under}
-use Rattle.rdl_elab.specs.LaidOut.{member_under, shown_member}
-use Rattle.rdl_elab.proofs.Insides.{taken-some, taken-none}
+use Rattle.std.proofs.Common.{◌∷◌, ◌++◌, [], ◌+◌, List, drop, ap, sym, ◌∙◌, append_assoc}
+use Rattle.rdl_elab.specs.Kept.{EachMember}
+use Rattle.rdl_elab.specs.EachMember.{shown_each}
+use Rattle.rdl_elab.specs.LaidOut.{kept_members}
+use Rattle.rdl_elab.proofs.Insides.{member-some, member-none}
 use Rattle.rdl_elab.proofs.laid_out.each_members.Goals as goal
-use Rattle.rdl_elab.proofs.laid_out.each_members.Goals.{in-Some+in_ok-push, in_default}
+use Rattle.rdl_elab.proofs.laid_out.each_members.Goals.{in-Some+in_ok-new+in_ok-push, in_default}
 
 pub loop-part-preserved : goal.loop-part-preserved
-loop-part-preserved c = λ m.
+loop-part-preserved c =
     let fs = c.args.components.now in
+    let ps = c.args.parts.now in
+    let i = c.loop-part.part-index in
     let p = c.part-item.result in
-    let done = map (member_under m) c.loop-part.members.items in
-    let after = map (member_under m) c.match-component.members.items in
+    let done = c.loop-part.members.items in
+    let rest = kept_members fs (drop (i + 1) ps) in
     elim c.match-component.branch [
-      | in-Some+in_ok-push w ↦
+      | in-Some+in_ok-new+in_ok-push w ↦
           let f = w.in-Some.finished.now in
-          taken-some shown_member m fs c.loop-part.part-index c.args.parts.now p c.loop-part-test.true c.part-item.is f (member_under m w.each_member.result) done after _
-          (sym w.in-Some.ensures) (w.each_member.ensures m ∙ ap (λ s. shown_member (s, under m f.layouts)) w.shell.ensures)
-          (ap (λ v. map (member_under m) v.items) w.members-is ∙ ap (map (member_under m)) w.in_ok-push.ensures.items ∙ map-append (member_under m) c.loop-part.members.items (w.each_member.result ∷ [])) (c.loop-part.invariant m)
+          let x = w.in_ok-new.field-0 in
+          let is = w.in_ok-new.ensures ∙ ap (λ s. shown_each s f.layouts) w.shell.ensures in
+          ap (λ v. v.items ++ rest) w.members-is ∙ ap (λ (xs : List EachMember). xs ++ rest) w.in_ok-push.ensures.items
+          ∙ append_assoc done (x ∷ []) rest ∙ ap (λ y. done ++ y ∷ rest) is
+          ∙ sym (ap (λ xs. done ++ xs) (member-some fs i ps p c.loop-part-test.true c.part-item.is f (sym w.in-Some.ensures)))
+          ∙ c.loop-part.invariant
       | in_default w ↦
-          taken-none shown_member m fs c.loop-part.part-index c.args.parts.now p c.loop-part-test.true c.part-item.is done after _
-          (sym w.in_default.ensures) (ap (λ v. map (member_under m) v.items) w.members-is) (c.loop-part.invariant m)
+          ap (λ v. v.items ++ rest) w.members-is
+          ∙ sym (ap (λ xs. done ++ xs) (member-none fs i ps p c.loop-part-test.true c.part-item.is (sym w.in_default.ensures)))
+          ∙ c.loop-part.invariant
     ]
