@@ -5,7 +5,6 @@ use Rattle.std.specs.declared.alloc.AllocError.{AllocError}
 use Rattle.std.specs.Option.{is_none}
 use Rattle.std.specs.Cmp.Derive.{both_true}
 use Rattle.std.proofs.lemmas.Bool.{le-ltb, ltb-false}
-use Rattle.std.proofs.lemmas.List.Elements.{filter_map-append}
 use Rattle.rdl_tree.specs.declared.shell.Kind.{Kind}
 use Rattle.rdl_tree.specs.declared.shell.Kind.TheVariants.{Addrmap, Regfile, Reg, Field}
 use Rattle.rdl_tree.specs.declared.shell.Shell.{Shell}
@@ -25,7 +24,7 @@ use Rattle.rdl_elab.specs.declared.siblings.Sibling.{Sibling}
 use Rattle.rdl_elab.specs.Kept.{Part}
 use Rattle.rdl_elab.specs.Layouts.{mode_inside}
 use Rattle.rdl_elab.specs.Finished.{under}
-use Rattle.rdl_elab.specs.Reaches.{Reach, passed, behind}
+use Rattle.rdl_elab.specs.Reaches.{Reach, behind}
 use Rattle.rdl_elab.specs.KeptRows.{Surroundings, KeptRow, kept_row, kept_values, seen, kept_fault, field_fault, judged, surroundings_inside, level_rows, kept_rows, told_one, told, kept_top_row, kept_around_top, told_below, rows_unless, fault_or, kept_map_fault, kept_answer}
 use Rattle.rdl_elab.specs.KeptRows.{clashes_before}
 use Rattle.rdl_elab.specs.Faults.{is_reset_too_wide}
@@ -34,6 +33,7 @@ use Rattle.rdl_elab.specs.Reaches.{value_under}
 use Rattle.rdl_tree.specs.declared.property.Property.TheVariants.{Reset}
 use Rattle.rdl_elab.specs.Clean.{are_faultless, IsAround, AreClean, bits_inside, IsCleanIn, has_mode, AreCleanIn}
 use Rattle.rdl_elab.proofs.Telling.{one-left, no-part, no-span, no-finished}
+use Rattle.rdl_elab.proofs.Onward.{behind-append}
 
 faultless-append : (xs ys : List KeptRow) → are_faultless xs ≡ true → are_faultless ys ≡ true → are_faultless (xs ++ ys) ≡ true
 faultless-append [] ys a b = b
@@ -65,9 +65,6 @@ more-bits Addrmap v b c s size a before vs l h = h
 no-fault-at : (a : List ℕ) (o : Option FaultKind) → is_none o ≡ true → is_none (fault_at a o) ≡ true
 no-fault-at a None h = refl
 no-fault-at a (Some k) h = h
-
-behind-append : (a : List ℕ) (xs ys : List Reach) → behind a (xs ++ ys) ≡ behind a xs ++ behind a ys
-behind-append a xs ys = filter_map-append (λ (r : Reach). passed a r r.path) xs ys
 
 -- what is not yet judged of a level has no fault, so the level has none
 abbrev pub GoesOn : List Finished → Mode → ℕ → List Reach → List Span → List Part → List Sibling → ℕ → Type 0

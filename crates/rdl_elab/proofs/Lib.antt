@@ -28,6 +28,7 @@ pub mod Writing
 pub mod Roots
 pub mod DefaultStacks
 pub mod ValueLists
+pub mod Onward
 pub mod ListedValues
 pub mod BareHeads
 pub mod Unstated

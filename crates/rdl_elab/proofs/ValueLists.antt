@@ -1,8 +1,6 @@
 -- Steps along the properties whose values are listed, and along assignments.
-use Rattle.std.proofs.Common.{◌≡◌, ℕ, ◌+◌, ◌<◌, ◌≤◌, List, [], ◌∷◌, ◌++◌, length, take, drop, get_or, true, false, Some, None, Option, refl, ap, sym, ◌∙◌, arith, add-one, option_map, append-nil}
+use Rattle.std.proofs.Common.{◌≡◌, ℕ, ◌+◌, ◌<◌, List, [], ◌∷◌, ◌++◌, length, take, get_or, true, Some, None, Option, refl, ap, sym, ◌∙◌, add-one, option_map, append-nil}
 use Rattle.std.specs.List.{filter_map, cons_option}
-use Rattle.std.specs.Prelude.{nat_eq}
-use Rattle.std.specs.Cmp.Lexicographic.{pointwise}
 use Rattle.std.proofs.Math.Seq.{take-suc}
 use Rattle.std.proofs.lemmas.List.Elements.{filter_map-append}
 use Rattle.rdl_tree.specs.Items.{Items}
@@ -40,14 +38,6 @@ behind-some a i rs r q l e = found-some (λ (r : Reach). passed a r r.path) i rs
 pub behind-none : (a : List ℕ) (i : ℕ) (rs : List Reach) (r : Reach) → i < length rs → passed a (get_or rs i r) (get_or rs i r).path ≡ None → behind a (take (i + 1) rs) ≡ behind a (take i rs)
 behind-none a i rs r l e = found-none (λ (r : Reach). passed a r r.path) i rs r l e
 
-pub passed-one : (a : List ℕ) (r : Reach) (ps : List (List ℕ)) (x : List ℕ) → 1 ≤ length ps → pointwise nat_eq (get_or ps 0 x) a ≡ true → passed a r ps ≡ Some (record r { path = drop 1 ps })
-passed-one a r [] x l e = absurd (omega arith)
-passed-one a r (p ∷ ps) x l e = rw e refl
-
-pub passed-none : (a : List ℕ) (r : Reach) (ps : List (List ℕ)) (x : List ℕ) → 1 ≤ length ps → pointwise nat_eq (get_or ps 0 x) a ≡ false → passed a r ps ≡ None
-passed-none a r [] x l e = absurd (omega arith)
-passed-none a r (p ∷ ps) x l e = rw e refl
-
 pub ended-none : (i : ℕ) (rs : List Reach) (r : Reach) → i < length rs → r ≡ get_or rs i r → has_ended r.path ≡ true → ((a : List ℕ) → behind a (take i rs) ≡ []) → (a : List ℕ) → behind a (take (i + 1) rs) ≡ []
 ended-none i rs r l is e h a =
     behind-none a i rs r l (ap (λ (q : Reach). passed a q q.path) (sym is) ∙ no-path r r.path e) ∙ h a
@@ -56,4 +46,4 @@ ended-none i rs r l is e h a =
     no-path q [] e = refl
     no-path q (b ∷ path) e = absurd cc
 
-pub ruleset steps = (shown-some, shown-none, behind-some, behind-none, passed-one, passed-none)
+pub ruleset steps = (shown-some, shown-none, behind-some, behind-none)

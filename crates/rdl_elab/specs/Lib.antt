@@ -8,6 +8,7 @@ pub mod Rows
 pub mod Faults
 pub mod Shown
 pub mod Reaches
+pub mod Onward
 pub mod InstanceResets
 pub mod Kept
 pub mod EachMode

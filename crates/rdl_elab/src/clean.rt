@@ -11,7 +11,7 @@ use crate::elaborate::{Top, finished_at, map_fault};
 use crate::finished::{Finished, Part};
 use crate::instances::mode_inside;
 use crate::layout::{Mode, Span};
-use crate::reaches::{Assignment, have_ended, with_own};
+use crate::reaches::{Assignment, Onward, have_ended, with_own};
 use crate::rows::{behind_part, fault_kind, seen, span_at, values};
 use crate::siblings::Siblings;
 use rdl_tree::address::Address;
@@ -140,6 +140,7 @@ fn is_clean_level<'a>(
     if levels == 0 {
         return Ok(false);
     }
+    let onward = Onward::of(alloc, level.reaching.as_slice())?;
     let mut siblings = Siblings::new(alloc);
     for (i, part) in parts.iter().enumerate() {
         let Some(span) = span_at(spans, i) else {
@@ -148,7 +149,7 @@ fn is_clean_level<'a>(
         let Some(component) = part.component(components) else {
             return Ok(true);
         };
-        let passed = behind_part(alloc, part, level.reaching.as_slice())?;
+        let passed = behind_part(alloc, part, &onward)?;
         let reaching = passed.as_slice();
         let shell = part.shell();
         let kind = component.kind;

@@ -1,5 +1,6 @@
 //! The dynamic assignments that reach an instance.
 ghost use Rattle.std.specs.Prelude.{◌≡◌, ℕ, ◌++◌, ◌≤◌, List, [], true, IfOk, OnOk, option_copied};
+ghost use Rattle.rdl_tree.specs.Address.{number_of};
 ghost use Rattle.rdl_tree.specs.Depth.{depth};
 ghost use Rattle.rdl_elab.specs.Reaches.{reaches, behind, reached, reach_by};
 
@@ -9,56 +10,72 @@ use rdl_tree::address::Address;
 use rdl_tree::description::{Body, Description, Item};
 use rdl_tree::value::Value;
 use std::alloc::{AllocError, Global};
+use std::collections::BTreeMap;
 use std::marker::Model;
+use std::rc::Rc;
 
 /// A dynamic assignment, and the instances that its target has yet to pass.
 #[derive(Drop)]
 pub(crate) struct Assignment<'a> {
-    path: Vec<Address>,
+    /// The instances that its target passes.
+    path: Rc<Vec<Address>>,
+    /// How many of them it has passed.
+    passed: usize,
     property: &'a Name,
     value: &'a Value,
 }
 
 impl<'a> Model for Assignment<'a> {
+    ghost use Rattle.std.specs.Prelude.{drop};
     ghost use Rattle.rdl_elab.specs.Reaches.{Reach};
 
     ghost Value = { Reach };
 
-    ghost view = { λ a. record { path = a.path.items; property = a.property.now; value = a.value.now } };
+    ghost view = { λ a. record { path = drop a.passed a.path.value.items; property = a.property.now; value = a.value.now } };
 }
 
-fn copied(alloc: Global, path: &[Address]) -> Result<Vec<Address>, AllocError>
-    ensures { IfOk result (λ copy. copy.items ≡ path.now) }
+/// The number that the item at this address has in its body.
+fn number_of(address: &Address) -> usize
+    ensures { result ≡ number_of address.now }
 {
-    path.iter().map(|address| address.copy()).collect(alloc)
+    match address.as_slice() {
+        [.., number] => *number,
+        [] => 0,
+    }
 }
 
 impl<'a> Assignment<'a> {
-    ghost use Rattle.std.specs.Prelude.{◌≡◌, IfOk, OnOk};
+    ghost use Rattle.std.specs.Prelude.{◌≡◌, IfOk, option_copied, slice_get};
     ghost use Rattle.rdl_elab.specs.Reaches.{passed, has_ended};
 
-    fn try_copy(&self, alloc: Global) -> Result<Assignment<'a>, AllocError>
-        ensures { IfOk result (λ copy. copy ≡ self.now) }
+    /// The same assignment, for one more.
+    fn share(&self) -> Result<Assignment<'a>, AllocError>
+        ensures { IfOk result (λ shared. shared ≡ self.now) }
     {
         Ok(Assignment {
-            path: copied(alloc, self.path.as_slice())?,
+            path: self.path.clone()?,
+            passed: self.passed,
             property: self.property,
             value: self.value,
         })
     }
 
+    /// The next instance that its target has to pass.
+    fn next(&self) -> Option<&Address>
+        ensures { option_copied result ≡ slice_get self.now.path 0 }
+    {
+        self.path.as_slice().get(self.passed)
+    }
+
     /// The assignment behind an instance, if its target passes that.
-    #[tactic(auto, using(crate::proofs::ValueLists::steps))]
-    fn passed(
-        &self,
-        alloc: Global,
-        instance: &Address,
-    ) -> Result<Option<Assignment<'a>>, AllocError>
+    #[tactic(auto, using(crate::proofs::Onward::passing))]
+    fn passed(&self, instance: &Address) -> Result<Option<Assignment<'a>>, AllocError>
         ensures { IfOk result (λ behind. behind ≡ passed instance.now self.now self.now.path) }
     {
-        match self.path.as_slice() {
-            [next, rest @ ..] if next == instance => Ok(Some(Assignment {
-                path: copied(alloc, rest)?,
+        match self.path.as_slice().get(self.passed) {
+            Some(next) if next == instance => Ok(Some(Assignment {
+                path: self.path.clone()?,
+                passed: self.passed + 1,
                 property: self.property,
                 value: self.value,
             })),
@@ -69,7 +86,7 @@ impl<'a> Assignment<'a> {
     fn has_ended(&self) -> bool
         ensures { result ≡ has_ended self.now.path }
     {
-        self.path.is_empty()
+        self.next().is_none()
     }
 }
 
@@ -88,7 +105,8 @@ fn dynamic_assignment<'a>(
         Item::Dynamic(target, property, value) => {
             match passes(alloc, description, at, n, target.names())? {
                 Some(path) => Ok(Some(Assignment {
-                    path,
+                    path: Rc::new(alloc, path)?,
+                    passed: 0,
                     property,
                     value,
                 })),
@@ -128,20 +146,16 @@ pub(crate) fn with_own<'a>(
     ensures { IfOk result (λ list. list.items ≡ reaching.now ++ own.now) }
 {
     let mut list = Vec::new(alloc);
-    add_all(alloc, &mut list, reaching)?;
-    add_all(alloc, &mut list, own)?;
+    add_all(&mut list, reaching)?;
+    add_all(&mut list, own)?;
     Ok(list)
 }
 
-fn add_all<'a>(
-    alloc: Global,
-    list: &mut Vec<Assignment<'a>>,
-    more: &[Assignment<'a>],
-) -> Result<(), AllocError>
+fn add_all<'a>(list: &mut Vec<Assignment<'a>>, more: &[Assignment<'a>]) -> Result<(), AllocError>
     ensures { OnOk result (list.new.items ≡ list.old.items ++ more.now) }
 {
     for assignment in more {
-        list.push(assignment.try_copy(alloc)?)?;
+        list.push(assignment.share()?)?;
     }
     Ok(())
 }
@@ -161,7 +175,7 @@ pub(crate) fn have_ended(reaching: &[Assignment]) -> bool
 
 /// Those whose targets pass this instance.
 #[tactic(auto, using(crate::proofs::ValueLists::steps))]
-pub(crate) fn behind<'a>(
+fn behind<'a>(
     alloc: Global,
     instance: &Address,
     reaching: &[Assignment<'a>],
@@ -170,11 +184,61 @@ pub(crate) fn behind<'a>(
 {
     let mut list = Vec::new(alloc);
     for assignment in reaching {
-        if let Some(passed) = assignment.passed(alloc, instance)? {
+        if let Some(passed) = assignment.passed(instance)? {
             list.push(passed)?;
         }
     }
     Ok(list)
+}
+
+/// The assignments that go on from a level, under the number that the next instance of each has in its body.
+#[derive(Drop)]
+pub(crate) struct Onward<'a> {
+    by_number: BTreeMap<usize, Vec<Assignment<'a>>>,
+}
+
+impl<'a> Onward<'a> {
+    ghost use Rattle.std.specs.Prelude.{◌≡◌, ◌≢◌, ℕ, ◌++◌, ◌∷◌, [], List, IfOk, OnOk};
+    ghost use Rattle.rdl_elab.specs.Onward.{IsOnward, going_to};
+    ghost use Rattle.rdl_elab.specs.Reaches.{Reach, behind};
+
+    /// Puts one more behind those under this number.
+    fn put(&mut self, number: usize, assignment: Assignment<'a>) -> Result<(), AllocError>
+        ensures there { OnOk result (going_to self.new number ≡ going_to self.old number ++ assignment.entry ∷ []) }
+        ensures others { OnOk result ((k : ℕ) → k ≢ number → going_to self.new k ≡ going_to self.old k) }
+    {
+        self.by_number.entry(number)?.or_default().push(assignment)?;
+        Ok(())
+    }
+
+    /// Those of these that go on.
+    pub(crate) fn of(alloc: Global, reaching: &[Assignment<'a>]) -> Result<Onward<'a>, AllocError>
+        ensures { IfOk result (λ onward. IsOnward onward reaching.now) }
+    {
+        let mut onward = Onward {
+            by_number: BTreeMap::new(alloc),
+        };
+        for assignment in reaching {
+            if let Some(next) = assignment.next() {
+                onward.put(number_of(next), assignment.share()?)?;
+            }
+        }
+        Ok(onward)
+    }
+
+    /// Those whose targets pass this instance.
+    pub(crate) fn behind(
+        &self,
+        alloc: Global,
+        instance: &Address,
+    ) -> Result<Vec<Assignment<'a>>, AllocError>
+        ensures { IfOk result (λ list. (reaching : List Reach) → IsOnward self.now reaching → list.items ≡ behind instance.now reaching) }
+    {
+        match self.by_number.get(&number_of(instance)) {
+            Some(list) => behind(alloc, instance, list.as_slice()),
+            None => Ok(Vec::new(alloc)),
+        }
+    }
 }
 
 /// What the first assignment of the property that has passed all its instances assigns.

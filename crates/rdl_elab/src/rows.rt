@@ -1,16 +1,17 @@
 //! The rows of a map, level by level, up to the first that has a fault.
-ghost use Rattle.std.specs.Prelude.{◌≡◌, ℕ, ◌+◌, ◌^◌, ◌-◌, ◌++◌, ◌∷◌, [], min, map, nat_lt, unwrap_or, zero, suc, Some, None, IfOk, OnOk, option_copied, slice_get};
+ghost use Rattle.std.specs.Prelude.{◌≡◌, ℕ, ◌+◌, ◌^◌, ◌-◌, ◌++◌, ◌∷◌, [], List, min, map, nat_lt, unwrap_or, zero, suc, Some, None, IfOk, OnOk, option_copied, slice_get};
 ghost use Rattle.rdl_scope.specs.ItemFaults.{fault_at};
 ghost use Rattle.rdl_elab.specs.Layouts.{number_in};
 ghost use Rattle.rdl_elab.specs.Rows.{place_of};
-ghost use Rattle.rdl_elab.specs.Reaches.{behind, value_under};
+ghost use Rattle.rdl_elab.specs.Onward.{IsOnward};
+ghost use Rattle.rdl_elab.specs.Reaches.{Reach, behind, value_under};
 ghost use Rattle.rdl_elab.specs.Finished.{under};
 ghost use Rattle.rdl_elab.specs.KeptRows.{kept_base, kept_values, kept_row, seen, kept_fault, field_fault, extent_fault, judged, surroundings_inside, level_rows, kept_rows, told_one, told};
 
 use crate::finished::{Finished, Part};
 use crate::instances::mode_inside;
 use crate::layout::{Mode, Span};
-use crate::reaches::{Assignment, behind, have_ended, with_own};
+use crate::reaches::{Assignment, Onward, with_own};
 use crate::row::{Extent, Place, Row, RowPath};
 use crate::row_values::{ComponentValues, RowValues};
 use crate::siblings::{Sibling, Siblings, as_sibling, is_reset_too_wide};
@@ -119,14 +120,11 @@ pub(crate) fn values(
 pub(crate) fn behind_part<'a>(
     alloc: Global,
     part: &Part,
-    reaching: &[Assignment<'a>],
+    onward: &Onward<'a>,
 ) -> Result<Vec<Assignment<'a>>, AllocError>
-    ensures { IfOk result (λ list. list.items ≡ behind part.now.at reaching.now) }
+    ensures { IfOk result (λ list. (reaching : List Reach) → IsOnward onward.now reaching → list.items ≡ behind part.now.at reaching) }
 {
-    if have_ended(reaching) {
-        return Ok(Vec::new(alloc));
-    }
-    behind(alloc, &part.at(), reaching)
+    onward.behind(alloc, &part.at())
 }
 
 fn row(
@@ -330,6 +328,7 @@ pub(crate) fn add_rows<'a>(
     if levels == 0 {
         return Ok(None);
     }
+    let onward = Onward::of(alloc, around.reaching.as_slice())?;
     let mut siblings = Siblings::new(alloc);
     for (i, part) in parts.iter().enumerate() {
         let Some(span) = span_at(spans, i) else {
@@ -338,7 +337,7 @@ pub(crate) fn add_rows<'a>(
         let Some(component) = part.component(components) else {
             return Ok(None);
         };
-        let reaching = behind_part(alloc, part, around.reaching.as_slice())?;
+        let reaching = behind_part(alloc, part, &onward)?;
         let row = row(alloc, around, span, part, component, reaching.as_slice())?;
         let fault = add_row(around, part, component, span, row, &mut siblings, rows)?;
         if fault.is_some() {

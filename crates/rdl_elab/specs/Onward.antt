@@ -1,0 +1,21 @@
+-- The assignments that go on from a level, under the number that the next instance of each has in its body.
+-- own: how they are found. Which of them pass an instance `behind` says.
+use Rattle.std.specs.Prelude.{◌≡◌, ℕ, List, [], Option, Some, None}
+use Rattle.std.specs.BTreeMap.{get}
+use Rattle.std.specs.Ordering.{nat_cmp}
+use Rattle.std.specs.Global.{Vec}
+use Rattle.rdl_tree.specs.Address.{number_of}
+use Rattle.rdl_elab.specs.Reaches.{Reach, behind}
+use Rattle.rdl_elab.specs.declared.reaches.Onward.{Onward}
+
+abbrev pub list_or_none : Option (Vec Reach) → List Reach
+list_or_none None = []
+list_or_none (Some v) = v.items
+
+-- those under a number
+abbrev pub going_to : Onward → ℕ → List Reach
+going_to onward k = list_or_none (get nat_cmp onward.by_number k)
+
+-- whatever the instance, those of these assignments that pass it stand under its number, in the same order
+abbrev pub IsOnward : Onward → List Reach → Type 0
+IsOnward onward reaching = (a : List ℕ) → behind a (going_to onward (number_of a)) ≡ behind a reaching
