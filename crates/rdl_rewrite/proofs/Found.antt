@@ -1,23 +1,26 @@
 -- What a search for a type or along a target finds has the name that was looked for.
-use Rattle.std.proofs.Common.{◌≡◌, ℕ, zero, suc, Bool, true, false, cond, ◌||◌, List, [], ◌∷◌, ◌++◌, Some, None, Option, refl, ap, sym, ◌∙◌, option_map}
+use Rattle.std.proofs.Common.{◌≡◌, ℕ, zero, suc, Bool, true, false, cond, ◌||◌, ◌&&◌, List, [], ◌∷◌, ◌++◌, Some, None, Option, refl, ap, sym, ◌∙◌, option_map}
 use Rattle.std.proofs.lemmas.Slice.Eq.{bytes_eq-Decides}
 use Rattle.std.specs.Prelude.{slice_get, option_and_then}
 use Rattle.std.specs.Option.{option_or}
 use Rattle.std.specs.List.{list_any}
 use Rattle.rdl_tree.specs.Items.{Items}
 use Rattle.rdl_tree.specs.View.{list_of}
-use Rattle.rdl_tree.specs.Address.{inner, body_at}
+use Rattle.rdl_tree.specs.Address.{inner, body_at, holder_of}
 use Rattle.rdl_tree.specs.declared.value.Value.{Value}
 use Rattle.rdl_tree.specs.declared.description.Component.{Component}
 use Rattle.rdl_tree.specs.declared.description.Item.{Item}
 use Rattle.rdl_tree.specs.declared.description.Item.TheVariants.{Define, Instance, Own, Default, Dynamic}
-use Rattle.rdl_scope.specs.Types.{last_definition, type_at, type_of, item, component_of, items_in}
+use Rattle.rdl_tree.specs.declared.description.Of.TheVariants.{Named, Anonymous}
+use Rattle.rdl_scope.specs.Types.{last_definition, type_at, type_of, item, held_by, component_of, items_in}
 use Rattle.rdl_scope.specs.Target.{instance_before, instance_in, passes, body_of, number_of, through, through_of}
 use Rattle.rdl_scope.specs.Walk.{is_definition, is_instance, reference_of}
 use Rattle.rdl_scope.proofs.Instances.{instance-suc}
 use Rattle.rdl_scope.proofs.Levelled.{item-deeper}
 use Rattle.rdl_scope.proofs.Searches.{last-suc, type_of-reference}
 use Rattle.rdl_rewrite.specs.Addresses.{same, leads_to, passes_by}
+use Rattle.rdl_rewrite.specs.MayPass.{may_hold, may_pass}
+use Rattle.rdl_rewrite.proofs.Leading.{holder-inside}
 
 -- an address where a test holds is none where it fails
 same-apart : (p : List ℕ → Bool) (at way : List ℕ) → p at ≡ true → p way ≡ false → same at way ≡ false
@@ -121,37 +124,82 @@ instance-in d b n name a e = by_body (body_at b d) refl e
     by_body None f h = cc
     by_body (Some t) f h = by_number t f (instance_before name n t) refl h
 
--- names of which none is that of an instance do not pass it
-unpassed-names : (d : Items) (way b : List ℕ) (n : ℕ) (names : List (List ℕ)) → list_any (λ q. is_instance q (item way d)) names ≡ false → passes_by way (passes d b n names) ≡ false
-unpassed-names d way b n [] e = refl
-unpassed-names d way b n (name ∷ []) e = by_case (instance_in d b n name) refl
+instance-body : (d : Items) (b : List ℕ) (n : ℕ) (name a : List ℕ) → instance_in d b n name ≡ Some a → holder_of a ≡ b
+instance-body d b n name a e = by_case (option_and_then (instance_before name n) (body_at b d)) e
+  where
+    by_case : (o : Option ℕ) → option_map (λ k. b ++ k ∷ []) o ≡ Some a → holder_of a ≡ b
+    by_case None h = cc
+    by_case (Some k) h = let one : a ≡ b ++ k ∷ [] = cc in ap holder_of one ∙ holder-inside b k
+
+-- the first name does not stand for the item on the way
+unpassed-first : (d : Items) (way b : List ℕ) (n : ℕ) (inside : Bool) (name a : List ℕ) → (same b (holder_of way) ≡ true → inside ≡ true) → (inside && is_instance name (item way d)) ≡ false
+    → instance_in d b n name ≡ Some a → same a way ≡ false
+unpassed-first d way b n inside name a stands fails g = by_case (same a way) refl
+  where
+    by_case : (r : Bool) → same a way ≡ r → r ≡ false
+    by_case false e = refl
+    by_case true e =
+        let one : a ≡ way = (bytes_eq-Decides a way).0 e in
+        let named : is_instance name (item way d) ≡ true = ap (λ x. is_instance name (item x d)) (sym one) ∙ instance-in d b n name a g in
+        let body : b ≡ holder_of way = sym (instance-body d b n name a g) ∙ ap holder_of one in
+        let here : inside ≡ true = stands ((bytes_eq-Decides b (holder_of way)).1 body) in
+        sym (ap (λ z. z && is_instance name (item way d)) here ∙ named) ∙ fails
+
+definition-may_hold : (o : Option Item) (t name : List ℕ) → is_definition t o ≡ true → may_hold o name ≡ true
+definition-may_hold None t name e = cc
+definition-may_hold (Some (Define n c)) t name e = refl
+definition-may_hold (Some (Instance s o)) t name e = cc
+definition-may_hold (Some (Own p v)) t name e = cc
+definition-may_hold (Some (Default p v)) t name e = cc
+definition-may_hold (Some (Dynamic m p v)) t name e = cc
+
+-- the item that holds the component of an instance may hold one of that name
+holder-may_hold : (d : Items) (a c name : List ℕ) (o : Option Item) → item a d ≡ o → is_instance name o ≡ true → option_and_then (held_by d a) o ≡ Some c → may_hold (item c d) name ≡ true
+holder-may_hold d a c name None e named holds = cc
+holder-may_hold d a c name (Some (Define n k)) e named holds = cc
+holder-may_hold d a c name (Some (Instance s (Named t))) e named holds = definition-may_hold (item c d) t name (definition-type_at a d t c holds)
+holder-may_hold d a c name (Some (Instance s (Anonymous k))) e named holds =
+    let one : a ≡ c = cc in
+    ap (λ o. may_hold o name) (ap (λ x. item x d) (sym one) ∙ e) ∙ named
+holder-may_hold d a c name (Some (Own p v)) e named holds = cc
+holder-may_hold d a c name (Some (Default p v)) e named holds = cc
+holder-may_hold d a c name (Some (Dynamic m p v)) e named holds = cc
+
+unpassed-next : (d : Items) (way b : List ℕ) (n : ℕ) (name a c : List ℕ) → instance_in d b n name ≡ Some a → component_of d a ≡ Some c → same c (holder_of way) ≡ true → may_hold (item (holder_of way) d) name ≡ true
+unpassed-next d way b n name a c g holds stands =
+    ap (λ x. may_hold (item x d) name) (sym ((bytes_eq-Decides c (holder_of way)).0 stands)) ∙ holder-may_hold d a c name (item a d) refl (instance-in d b n name a g) holds
+
+-- names that may not pass it don't
+pub unpassed-names : (d : Items) (way b : List ℕ) (n : ℕ) (inside : Bool) (names : List (List ℕ)) → (same b (holder_of way) ≡ true → inside ≡ true) → may_pass (item way d) (item (holder_of way) d) inside names ≡ false
+    → passes_by way (passes d b n names) ≡ false
+unpassed-names d way b n inside [] stands e = refl
+unpassed-names d way b n inside (name ∷ []) stands e = by_case (instance_in d b n name) refl
   where
     by_case : (o : Option (List ℕ)) → instance_in d b n name ≡ o → passes_by way (option_map (λ a. a ∷ []) o) ≡ false
     by_case None g = refl
-    by_case (Some a) g =
-        or-both (same a way) false (same-apart (λ y. is_instance name (item y d)) a way (instance-in d b n name a g) (or-false (is_instance name (item way d)) false e).0) refl
-unpassed-names d way b n (name ∷ next ∷ names) e = by_case (λ c m. unpassed-names d way c m (next ∷ names) others) (instance_in d b n name) refl
+    by_case (Some a) g = or-both (same a way) false (unpassed-first d way b n inside name a stands (or-false (inside && is_instance name (item way d)) false e).0 g) refl
+unpassed-names d way b n inside (name ∷ next ∷ names) stands e =
+    by_case (λ c m held. unpassed-names d way c m (may_hold (item (holder_of way) d) name) (next ∷ names) held others) (instance_in d b n name) refl
   where
-    others : list_any (λ q. is_instance q (item way d)) (next ∷ names) ≡ false
-    others = (or-false (is_instance name (item way d)) _ e).1
+    others : may_pass (item way d) (item (holder_of way) d) (may_hold (item (holder_of way) d) name) (next ∷ names) ≡ false
+    others = (or-false (inside && is_instance name (item way d)) _ e).1
 
     more : (a : List ℕ) → same a way ≡ false → (o : Option (List (List ℕ))) → passes_by way o ≡ false → passes_by way (option_map (λ path. a ∷ path) o) ≡ false
     more a f None g = refl
     more a f (Some path) g = or-both (same a way) _ f g
 
-    below : ((c : List ℕ) (m : ℕ) → passes_by way (passes d c m (next ∷ names)) ≡ false) → (o : Option (List ℕ))
-        → passes_by way (option_and_then (λ c. passes d c (items_in c d) (next ∷ names)) o) ≡ false
-    below ih None = refl
-    below ih (Some c) = ih c (items_in c d)
+    below : (a : List ℕ) → instance_in d b n name ≡ Some a → ((c : List ℕ) (m : ℕ) → (same c (holder_of way) ≡ true → may_hold (item (holder_of way) d) name ≡ true) → passes_by way (passes d c m (next ∷ names)) ≡ false)
+        → (o : Option (List ℕ)) → component_of d a ≡ o → passes_by way (option_and_then (λ c. passes d c (items_in c d) (next ∷ names)) o) ≡ false
+    below a g ih None h = refl
+    below a g ih (Some c) h = ih c (items_in c d) (unpassed-next d way b n name a c g h)
 
-    by_case : ((c : List ℕ) (m : ℕ) → passes_by way (passes d c m (next ∷ names)) ≡ false) → (o : Option (List ℕ)) → instance_in d b n name ≡ o
+    by_case : ((c : List ℕ) (m : ℕ) → (same c (holder_of way) ≡ true → may_hold (item (holder_of way) d) name ≡ true) → passes_by way (passes d c m (next ∷ names)) ≡ false) → (o : Option (List ℕ)) → instance_in d b n name ≡ o
         → passes_by way (option_and_then (λ a. option_map (λ path. a ∷ path) (option_and_then (λ c. passes d c (items_in c d) (next ∷ names)) (component_of d a))) o) ≡ false
     by_case ih None g = refl
     by_case ih (Some a) g =
-        more a (same-apart (λ y. is_instance name (item y d)) a way (instance-in d b n name a g) (or-false (is_instance name (item way d)) _ e).0)
-        (option_and_then (λ c. passes d c (items_in c d) (next ∷ names)) (component_of d a)) (below ih (component_of d a))
+        more a (unpassed-first d way b n inside name a stands (or-false (inside && is_instance name (item way d)) _ e).0 g)
+        (option_and_then (λ c. passes d c (items_in c d) (next ∷ names)) (component_of d a)) (below a g ih (component_of d a) refl)
 
 pub unpassed : (d : Items) (way at : List ℕ) (x : Item) (t : List (List ℕ)) (p : List ℕ) (v : Value) → item at d ≡ Some x → x ≡ Dynamic t p v
-    → list_any (λ q. is_instance q (item way d)) t ≡ false → passes_by way (through d at) ≡ false
-unpassed d way at x t p v e is fails =
-    ap (λ o. passes_by way (option_and_then (through_of d at) o)) (e ∙ ap Some is) ∙ unpassed-names d way (body_of at) (number_of at) t fails
+    → ((n : ℕ) → passes_by way (passes d (body_of at) n t) ≡ false) → passes_by way (through d at) ≡ false
+unpassed d way at x t p v e is fails = ap (λ o. passes_by way (option_and_then (through_of d at) o)) (e ∙ ap Some is) ∙ fails (number_of at)

@@ -105,7 +105,7 @@ leads-inside b n whole body ps new here led = record {
 length-inside : (b : List ℕ) (n : ℕ) → length (b ++ n ∷ []) - 1 ≡ length b
 length-inside b n = omega (arith, length-append b (n ∷ []))
 
-holder-inside : (b : List ℕ) (n : ℕ) → holder_of (b ++ n ∷ []) ≡ b
+pub holder-inside : (b : List ℕ) (n : ℕ) → holder_of (b ++ n ∷ []) ≡ b
 holder-inside b n = ap (λ k. take k (b ++ n ∷ [])) (length-inside b n) ∙ take-append_seam b (n ∷ [])
 
 number-inside : (b : List ℕ) (n : ℕ) → number_of (b ++ n ∷ []) ≡ n

@@ -4,9 +4,11 @@ pub mod Change
 pub mod Dynamics
 pub mod Fates
 pub mod Led
+pub mod MayPass
 pub mod Names
 pub mod Patches
 pub mod Place
+pub mod Reach
 pub mod Refuses
 pub mod Removal
 pub mod Renaming

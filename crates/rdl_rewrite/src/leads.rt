@@ -1,9 +1,10 @@
 //! What leads to an item: references and targets.
-ghost use Rattle.std.specs.Prelude.{◌≡◌, ◌<◌, ◌++◌, ◌∷◌, ◌&&◌, [], length, option_copied};
+ghost use Rattle.std.specs.Prelude.{◌≡◌, true, ◌<◌, ◌++◌, ◌∷◌, ◌&&◌, [], length, option_copied};
 ghost use Rattle.std.specs.List.{list_any};
-ghost use Rattle.rdl_scope.specs.Walk.{is_instance};
+ghost use Rattle.rdl_tree.specs.Address.{holder_of};
 ghost use Rattle.rdl_rewrite.specs.Addresses.{same, leads_to};
 ghost use Rattle.rdl_rewrite.specs.Led.{refers_to, led_behind};
+ghost use Rattle.rdl_rewrite.specs.MayPass.{may_hold, may_pass};
 
 use rdl_scope::targets::is_instance;
 use rdl_scope::types::{defines, reference};
@@ -11,14 +12,39 @@ use rdl_text::name::Name;
 use rdl_tree::address::Address;
 use rdl_tree::description::Item;
 
-/// Whether the item is an instance that has one of these names.
-pub(crate) fn is_instance_of_any(taken: Option<&Item>, names: &[Name]) -> bool
-    ensures { result ≡ list_any (λ name. is_instance name (option_copied taken.entry)) names.now }
+/// Whether both items stand in one body. The root itself, which is no item, may stand in any.
+pub(crate) fn are_siblings(way: &Address, at: &Address) -> bool
+    ensures { same (holder_of at.now) (holder_of way.now) ≡ true → result ≡ true }
+{
+    way.is_empty() || at.is_empty() || at.holder() == way.holder()
+}
+
+/// Whether an instance of this name may have the component that the item holds.
+fn may_hold(holder: Option<&Item>, name: &Name) -> bool
+    ensures { result ≡ may_hold (option_copied holder.entry) name.now }
+{
+    match holder {
+        Some(Item::Define(..)) => true,
+        Some(Item::Instance(shell, _)) => &shell.name == name,
+        _ => false,
+    }
+}
+
+/// Whether a target of these names may pass the taken item, which stands in the component that the holder holds. `inside`
+/// says whether the target's assignment stands there too.
+pub(crate) fn may_pass(
+    taken: Option<&Item>,
+    holder: Option<&Item>,
+    mut inside: bool,
+    names: &[Name],
+) -> bool
+    ensures { result ≡ may_pass (option_copied taken.entry) (option_copied holder.entry) inside names.now }
 {
     'names: for name in names {
-        if is_instance(taken, name) {
+        if inside && is_instance(taken, name) {
             return true;
         }
+        inside = may_hold(holder, name);
     }
     false
 }

@@ -1,15 +1,18 @@
 //! The patches of an edit that reaches every body.
-ghost use Rattle.std.specs.Prelude.{◌≡◌, ◌≤◌, ◌<◌, ◌++◌, ◌∷◌, [], length, reverse, Some, IfOk, option_copied};
+ghost use Rattle.std.specs.Prelude.{◌≡◌, ℕ, false, ◌≤◌, ◌<◌, ◌++◌, ◌∷◌, [], length, reverse, Some, IfOk, option_copied};
 ghost use Rattle.rdl_tree.specs.Items.{no_items};
 ghost use Rattle.rdl_tree.specs.View.{add};
-ghost use Rattle.rdl_tree.specs.Address.{body_at};
+ghost use Rattle.rdl_tree.specs.Address.{body_at, holder_of};
 ghost use Rattle.rdl_tree.specs.Depth.{depth};
 ghost use Rattle.rdl_scope.specs.Types.{item};
+ghost use Rattle.rdl_scope.specs.Target.{passes, body_of};
+ghost use Rattle.rdl_rewrite.specs.Addresses.{passes_by};
 ghost use Rattle.rdl_rewrite.specs.Led.{IsLed};
+ghost use Rattle.rdl_rewrite.specs.Reach.{Knows};
 ghost use Rattle.rdl_rewrite.specs.Fates.{fate, fate_patches};
 
 use crate::fate::Fate;
-use crate::leads::led_behind;
+use crate::leads::{are_siblings, led_behind, may_pass};
 use crate::{removal, renaming};
 use rdl_scope::types::item_at;
 use rdl_text::name::Name;
@@ -25,41 +28,59 @@ pub(crate) struct Reach<'a> {
     pub way: &'a Address,
     /// The item on the way.
     pub taken: Option<&'a Item>,
+    /// The item in whose component that stands.
+    pub holder: Option<&'a Item>,
     /// None where the item is taken out.
     pub name: Option<&'a Name>,
+}
+
+/// The item in whose component the one on the way stands.
+fn holder_at<'a>(whole: &'a Description, way: &Address) -> Option<&'a Item>
+    ensures { option_copied result ≡ item (holder_of way.now) whole.now.items }
+{
+    if way.is_empty() {
+        return None;
+    }
+    item_at(&whole.items, way.holder().as_slice())
 }
 
 impl<'a> Reach<'a> {
     pub(crate) fn new(whole: &'a Description, way: &'a Address, name: Option<&'a Name>) -> Reach<'a>
         ensures whole { result.whole.now ≡ whole.now }
         ensures way { result.way.now ≡ way.now }
-        ensures taken { option_copied result.taken ≡ item way.now whole.now.items }
+        ensures known { Knows result }
         ensures name { option_copied result.name ≡ option_copied name.entry }
     {
         let taken = item_at(&whole.items, way.as_slice());
+        let holder = holder_at(whole, way);
         Reach {
             whole,
             way,
             taken,
+            holder,
             name,
         }
+    }
+
+    /// Whether a target of these names may pass the taken item, if the assignment stands at this address.
+    pub(crate) fn may_be_passed(&self, at: &Address, names: &[Name]) -> bool
+        requires { Knows self.now }
+        ensures { result ≡ false → (n : ℕ) → passes_by self.now.way.now (passes self.now.whole.now.items (body_of at.now) n names.now) ≡ false }
+    {
+        may_pass(self.taken, self.holder, are_siblings(self.way, at), names)
     }
 
     /// What becomes of this item, at its address. `led` says whether a reference to the taken item's name leads to it here.
     fn fate(&self, alloc: Global, at: &Address, found: &Item, led: bool) -> Result<Fate, AllocError>
         requires nesting { depth self.now.whole.now.items ≤ 16 }
-        requires taken { option_copied self.now.taken ≡ item self.now.way.now self.now.whole.now.items }
+        requires known { Knows self.now }
         requires here { item at.now self.now.whole.now.items ≡ Some found.now }
         requires led { IsLed self.now.whole.now.items self.now.way.now at.now led }
         ensures { IfOk result (λ new. new ≡ fate self.now.whole.now.items self.now.way.now (option_copied self.now.name) at.now found.now) }
     {
         match self.name {
-            Some(name) => {
-                renaming::fate(
-                    alloc, self.whole, self.way, self.taken, name, at, found, led,
-                )
-            }
-            None => removal::fate(alloc, self.whole, self.way, self.taken, at, found),
+            Some(name) => renaming::fate(alloc, self, name, at, found, led),
+            None => removal::fate(alloc, self, at, found),
         }
     }
 
@@ -75,7 +96,7 @@ impl<'a> Reach<'a> {
         patches: &mut Vec<Patch>,
     ) -> Result<(), AllocError>
         requires nesting { depth self.now.whole.now.items ≤ 16 }
-        requires taken { option_copied self.now.taken ≡ item self.now.way.now self.now.whole.now.items }
+        requires known { Knows self.now }
         requires here { body_at at.now self.now.whole.now.items ≡ Some body.now }
         requires led { IsLed self.now.whole.now.items self.now.way.now at.now led }
         ensures { IfOk result (λ _. reverse patches.new.items ≡ fate_patches (fate self.now.whole.now.items self.now.way.now (option_copied self.now.name)) at.now 0 body.now ++ reverse patches.old.items) }
@@ -100,7 +121,7 @@ impl<'a> Reach<'a> {
         patches: &mut Vec<Patch>,
     ) -> Result<(), AllocError>
         requires nesting { depth self.now.whole.now.items ≤ 16 }
-        requires taken { option_copied self.now.taken ≡ item self.now.way.now self.now.whole.now.items }
+        requires known { Knows self.now }
         requires room { length at.now < 17 }
         requires here { item (at.now ++ number ∷ []) self.now.whole.now.items ≡ Some found.now }
         requires led { IsLed self.now.whole.now.items self.now.way.now (at.now ++ number ∷ []) led }
@@ -122,7 +143,7 @@ impl<'a> Reach<'a> {
     /// The patches for all items, the last item's first.
     pub(crate) fn patches(&self, alloc: Global) -> Result<Vec<Patch>, AllocError>
         requires nesting { depth self.now.whole.now.items ≤ 16 }
-        requires taken { option_copied self.now.taken ≡ item self.now.way.now self.now.whole.now.items }
+        requires known { Knows self.now }
         ensures { IfOk result (λ ps. ps.items ≡ fate_patches (fate self.now.whole.now.items self.now.way.now (option_copied self.now.name)) [] 0 self.now.whole.now.items) }
     {
         let mut patches = Vec::new(alloc);

@@ -9,6 +9,7 @@ ghost use Rattle.rdl_scope.specs.Types.{item, type_of};
 ghost use Rattle.rdl_scope.specs.Target.{through};
 ghost use Rattle.rdl_rewrite.specs.Addresses.{leads_to, passes_by, addresses};
 ghost use Rattle.rdl_rewrite.specs.Led.{IsLed};
+ghost use Rattle.rdl_rewrite.specs.Reach.{Knows};
 ghost use Rattle.rdl_rewrite.specs.Fates.{fate_in_removal, fate, fate_patches};
 ghost use Rattle.rdl_rewrite.specs.Removal.{is_in_use, goes, removed};
 ghost use Rattle.rdl_rewrite.specs.Refuses.{RefusesEdit};
@@ -16,7 +17,7 @@ ghost use Rattle.rdl_rewrite.specs.declared.edit.Refusal.{Refusal};
 
 use crate::edit::Refusal;
 use crate::fate::Fate;
-use crate::leads::{is_instance_of_any, is_on, leads_to, led_behind};
+use crate::leads::{is_on, leads_to, led_behind};
 use crate::reach::Reach;
 use rdl_scope::targets::through;
 use rdl_tree::address::Address;
@@ -29,7 +30,7 @@ use std::alloc::{AllocError, Global};
 #[cycle(used)]
 fn is_used(reach: &Reach, at: &Address, body: &Body, mut led: bool) -> bool
     requires nesting { depth reach.now.whole.now.items ≤ 16 }
-    requires taken { option_copied reach.now.taken ≡ item reach.now.way.now reach.now.whole.now.items }
+    requires known { Knows reach.now }
     requires here { body_at at.now reach.now.whole.now.items ≡ Some body.now }
     requires led { IsLed reach.now.whole.now.items reach.now.way.now at.now led }
     ensures { result ≡ list_any (λ a. leads_to reach.now.way.now (type_of reach.now.whole.now.items a)) (addresses at.now 0 body.now) }
@@ -48,7 +49,7 @@ fn is_used(reach: &Reach, at: &Address, body: &Body, mut led: bool) -> bool
 #[cycle(used)]
 fn is_used_by(reach: &Reach, at: &Address, number: usize, found: &Item, led: bool) -> bool
     requires nesting { depth reach.now.whole.now.items ≤ 16 }
-    requires taken { option_copied reach.now.taken ≡ item reach.now.way.now reach.now.whole.now.items }
+    requires known { Knows reach.now }
     requires room { length at.now < 17 }
     requires here { item (at.now ++ number ∷ []) reach.now.whole.now.items ≡ Some found.now }
     requires led { IsLed reach.now.whole.now.items reach.now.way.now (at.now ++ number ∷ []) led }
@@ -63,7 +64,7 @@ fn is_used_by(reach: &Reach, at: &Address, number: usize, found: &Item, led: boo
 /// Whether the type of an instance is the taken item. Only a definition can be.
 fn is_in_use(reach: &Reach) -> bool
     requires nesting { depth reach.now.whole.now.items ≤ 16 }
-    requires taken { option_copied reach.now.taken ≡ item reach.now.way.now reach.now.whole.now.items }
+    requires known { Knows reach.now }
     ensures { result ≡ is_in_use reach.now.whole.now.items reach.now.way.now }
 {
     let Some(found) = reach.taken else {
@@ -91,28 +92,21 @@ fn passes_by(
     }
 }
 
-/// Whether this item, at its address, is the taken one, which is on the way, or an assignment whose target passes that.
-/// Only a target with the name of a taken instance is searched.
-fn goes(
-    alloc: Global,
-    whole: &Description,
-    way: &Address,
-    taken: Option<&Item>,
-    at: &Address,
-    found: &Item,
-) -> Result<bool, AllocError>
-    requires nesting { depth whole.now.items ≤ 16 }
-    requires taken { option_copied taken ≡ item way.now whole.now.items }
-    requires here { item at.now whole.now.items ≡ Some found.now }
-    ensures { IfOk result (λ answer. answer ≡ goes whole.now.items way.now at.now) }
+/// Whether this item, at its address, is the taken one, or an assignment whose target passes that. Only a target that may
+/// do so is searched.
+fn goes(alloc: Global, reach: &Reach, at: &Address, found: &Item) -> Result<bool, AllocError>
+    requires nesting { depth reach.now.whole.now.items ≤ 16 }
+    requires known { Knows reach.now }
+    requires here { item at.now reach.now.whole.now.items ≡ Some found.now }
+    ensures { IfOk result (λ answer. answer ≡ goes reach.now.whole.now.items reach.now.way.now at.now) }
 {
-    if at == way {
+    if at == reach.way {
         return Ok(true);
     }
     match found {
         Item::Dynamic(target, ..) => {
-            if is_instance_of_any(taken, target.names()) {
-                passes_by(alloc, whole, way, at)
+            if reach.may_be_passed(at, target.names()) {
+                passes_by(alloc, reach.whole, reach.way, at)
             } else {
                 Ok(false)
             }
@@ -124,18 +118,16 @@ fn goes(
 /// What becomes of this item, at its address, where the one on the way is taken out.
 pub(crate) fn fate(
     alloc: Global,
-    whole: &Description,
-    way: &Address,
-    taken: Option<&Item>,
+    reach: &Reach,
     at: &Address,
     found: &Item,
 ) -> Result<Fate, AllocError>
-    requires nesting { depth whole.now.items ≤ 16 }
-    requires taken { option_copied taken ≡ item way.now whole.now.items }
-    requires here { item at.now whole.now.items ≡ Some found.now }
-    ensures { IfOk result (λ fate. fate ≡ fate_in_removal whole.now.items way.now at.now) }
+    requires nesting { depth reach.now.whole.now.items ≤ 16 }
+    requires known { Knows reach.now }
+    requires here { item at.now reach.now.whole.now.items ≡ Some found.now }
+    ensures { IfOk result (λ fate. fate ≡ fate_in_removal reach.now.whole.now.items reach.now.way.now at.now) }
 {
-    if goes(alloc, whole, way, taken, at, found)? {
+    if goes(alloc, reach, at, found)? {
         Ok(Fate::Dropped)
     } else {
         Ok(Fate::Kept)

@@ -5,6 +5,7 @@ ghost use Rattle.rdl_scope.specs.Types.{item};
 ghost use Rattle.rdl_scope.specs.Target.{through};
 ghost use Rattle.rdl_rewrite.specs.Addresses.{passes_by};
 ghost use Rattle.rdl_rewrite.specs.Led.{IsLed};
+ghost use Rattle.rdl_rewrite.specs.Reach.{Knows};
 ghost use Rattle.rdl_rewrite.specs.Fates.{given_if, fate_in_renaming, fate, fate_patches};
 ghost use Rattle.rdl_rewrite.specs.Names.{has_name};
 ghost use Rattle.rdl_rewrite.specs.Renaming.{renamed_names, renamed_target, is_reserved, names_in, is_taken, renamed};
@@ -13,7 +14,7 @@ ghost use Rattle.rdl_rewrite.specs.declared.edit.Refusal.{Refusal};
 
 use crate::edit::Refusal;
 use crate::fate::Fate;
-use crate::leads::{is_at, is_instance_of_any, is_on, leads_to};
+use crate::leads::{is_at, is_on, leads_to};
 use crate::names::{is_defined, is_instantiated};
 use crate::reach::Reach;
 use rdl_parse::class::Class;
@@ -105,40 +106,38 @@ fn target_fate(
     Ok(Fate::Given(Part::OfTarget(Target::from_vec(names))))
 }
 
-/// What becomes of this item, at its address, where the taken one, which is on the way, gets the name. `led` says whether
-/// a reference to the old name of that leads to it here. Only a target with the name of a renamed instance is searched.
+/// What becomes of this item, at its address, where the one on the way gets the name. `led` says whether a reference to the
+/// old name leads to that here. Only a target that may pass it is searched.
 pub(crate) fn fate(
     alloc: Global,
-    whole: &Description,
-    way: &Address,
-    taken: Option<&Item>,
+    reach: &Reach,
     name: &Name,
     at: &Address,
     found: &Item,
     led: bool,
 ) -> Result<Fate, AllocError>
-    requires nesting { depth whole.now.items ≤ 16 }
-    requires taken { option_copied taken ≡ item way.now whole.now.items }
-    requires here { item at.now whole.now.items ≡ Some found.now }
-    requires led { IsLed whole.now.items way.now at.now led }
-    ensures { IfOk result (λ fate. fate ≡ fate_in_renaming whole.now.items way.now name.now at.now found.now) }
+    requires nesting { depth reach.now.whole.now.items ≤ 16 }
+    requires known { Knows reach.now }
+    requires here { item at.now reach.now.whole.now.items ≡ Some found.now }
+    requires led { IsLed reach.now.whole.now.items reach.now.way.now at.now led }
+    ensures { IfOk result (λ fate. fate ≡ fate_in_renaming reach.now.whole.now.items reach.now.way.now name.now at.now found.now) }
 {
     match found {
-        Item::Define(..) => definition_fate(alloc, at == way, name),
+        Item::Define(..) => definition_fate(alloc, at == reach.way, name),
         Item::Instance(shell, of) => {
-            if at == way {
+            if at == reach.way {
                 return shell_fate(alloc, name, shell);
             }
             match of {
-                Of::Named(_) => type_fate(alloc, leads_to(taken, led, found), name),
+                Of::Named(_) => type_fate(alloc, leads_to(reach.taken, led, found), name),
                 Of::Anonymous(_) => Ok(Fate::Kept),
             }
         }
         Item::Dynamic(target, ..) => {
-            if !is_instance_of_any(taken, target.names()) {
+            if !reach.may_be_passed(at, target.names()) {
                 return Ok(Fate::Kept);
             }
-            target_fate(alloc, whole, way, name, at, target)
+            target_fate(alloc, reach.whole, reach.way, name, at, target)
         }
         Item::Own(..) => Ok(Fate::Kept),
         Item::Default(..) => Ok(Fate::Kept),

@@ -25,7 +25,7 @@ is_used-is_used_by-requires t c =
     let less : 2 * item_count c.found-item.result < t = omega (arith, h, c.decreases) in
     let room : length c.args.at.now < 17 = omega (arith, depth-body_at c.args.at.now d c.args.body.now c.requires.here, c.requires.nesting) in
     let here = item_met c.args.at.now c.items.number d c.args.body.now c.as_slice-found-items.result.now c.found-item.result c.requires.here c.as_slice-found-items.ensures c.items-test.true c.found-item.is in
-    (less, (c.requires.nesting, (c.requires.taken, (room, (here, c.items.invariant.led)))))
+    (less, (c.requires.nesting, (c.requires.known, (room, (here, c.items.invariant.led)))))
 
 pub is_used-led_behind-led-requires : goal.is_used-led_behind-led-requires
 is_used-led_behind-led-requires t c = omega (arith, depth-body_at c.args.at.now c.args.reach.now.whole.now.items c.args.body.now c.requires.here, c.requires.nesting)
@@ -38,7 +38,7 @@ is_used-items-preserved t c =
     record {
       unmet = any_unmet _ c.args.at.now c.items.number c.as_slice-found-items.result.now c.found-item.result c.is_used_by.result _ c.items-test.true c.found-item.is c.is_used_by.ensures c.if-is_used_by.false c.items.invariant.unmet;
       led = led_next d way c.args.at.now c.items.number c.args.body.now c.found-item.result c.items.led c.led_behind-led.result c.requires.here got c.items.invariant.led
-          (c.led_behind-led.ensures ∙ ap (λ o. led_behind way o (c.args.at.now ++ c.items.number ∷ []) c.found-item.result c.items.led) c.requires.taken);
+          (c.led_behind-led.ensures ∙ ap (λ o. led_behind way o (c.args.at.now ++ c.items.number ∷ []) c.found-item.result c.items.led) c.requires.known.taken);
     }
 
 pub is_used_by-is_used-requires : goal.is_used_by-is_used-requires
@@ -47,7 +47,7 @@ is_used_by-is_used-requires t c =
     let h = count-own c.args.found.now c.in-Some.body.now held in
     let less : 2 * count c.in-Some.body.now + 1 < t = omega (arith, h, c.decreases) in
     let at = c.inside.ensures in
-    (less, (c.requires.nesting, (c.requires.taken, (ap (λ a. body_at a c.args.reach.now.whole.now.items) at ∙ body_at-item _ c.args.reach.now.whole.now.items c.args.found.now c.requires.here ∙ held, led_here _ _ _ _ _ at c.requires.led))))
+    (less, (c.requires.nesting, (c.requires.known, (ap (λ a. body_at a c.args.reach.now.whole.now.items) at ∙ body_at-item _ c.args.reach.now.whole.now.items c.args.found.now c.requires.here ∙ held, led_here _ _ _ _ _ at c.requires.led))))
 
 pub is_used_by-returns-in-None : goal.is_used_by-returns-in-None
 is_used_by-returns-in-None t c =
@@ -55,4 +55,4 @@ is_used_by-returns-in-None t c =
     let way = c.args.reach.now.way.now in
     let at = c.args.at.now ++ c.args.number ∷ [] in
     any_itself (λ a. leads_to way (type_of d a)) c.args.at.now c.args.number c.args.found.now _ (sym c.in-None.ensures)
-    (c.leads_to.ensures ∙ ap (λ o. c.args.led && refers_to o c.args.found.now) c.requires.taken ∙ led_type d way at c.args.found.now c.args.led c.requires.here c.requires.led)
+    (c.leads_to.ensures ∙ ap (λ o. c.args.led && refers_to o c.args.found.now) c.requires.known.taken ∙ led_type d way at c.args.found.now c.args.led c.requires.here c.requires.led)

@@ -22,7 +22,7 @@ push_body-push_item-requires t c =
     let h = count-item xs c.items.number x body c.items-test.true c.found-item.is c.as_slice-found-items.ensures in
     let less : 2 * item_count x < t = omega (arith, h, c.decreases) in
     let room : length at < 17 = omega (arith, depth-body_at at d body c.requires.here, c.requires.nesting) in
-    (less, (c.requires.nesting, (c.requires.taken, (room, (item_met at c.items.number d body xs x c.requires.here c.as_slice-found-items.ensures c.items-test.true c.found-item.is, c.items.invariant.led)))))
+    (less, (c.requires.nesting, (c.requires.known, (room, (item_met at c.items.number d body xs x c.requires.here c.as_slice-found-items.ensures c.items-test.true c.found-item.is, c.items.invariant.led)))))
 
 pub push_body-led_behind-led-requires : goal.push_body-led_behind-led-requires
 push_body-led_behind-led-requires t c = omega (arith, depth-body_at c.args.at.now c.args.self.now.whole.now.items c.args.body.now c.requires.here, c.requires.nesting)
@@ -43,7 +43,7 @@ push_body-items-preserved t c =
       reached = reached_more (fate d way (option_copied c.args.self.now.name)) c.args.at.now c.items.number c.as_slice-found-items.result.now
           c.found-item.result _ (reverse c.items.patches.items) (reverse c.push_item.new.patches.items) c.items-test.true c.found-item.is c.in_ok-push_item.ensures c.items.invariant.reached;
       led = led_next d way c.args.at.now c.items.number c.args.body.now c.found-item.result c.items.led c.led_behind-led.result c.requires.here got c.items.invariant.led
-          (c.led_behind-led.ensures ∙ ap (λ o. led_behind way o (c.args.at.now ++ c.items.number ∷ []) c.found-item.result c.items.led) c.requires.taken);
+          (c.led_behind-led.ensures ∙ ap (λ o. led_behind way o (c.args.at.now ++ c.items.number ∷ []) c.found-item.result c.items.led) c.requires.known.taken);
     }
 
 pub push_item-fate-requires-clause-led : goal.push_item-fate-requires-clause-led
@@ -55,4 +55,4 @@ push_item-push_body-requires t c =
     let held = sym c.in-Some.ensures in
     let h = count-own c.args.found.now c.in-Some.body.now held in
     let less : 2 * count c.in-Some.body.now + 1 < t = omega (arith, h, c.decreases) in
-    (less, (c.requires.nesting, (c.requires.taken, (ap (λ a. body_at a d) c.inside-address.ensures ∙ body_at-item _ d c.args.found.now c.requires.here ∙ held, led_here _ _ _ _ _ c.inside-address.ensures c.requires.led))))
+    (less, (c.requires.nesting, (c.requires.known, (ap (λ a. body_at a d) c.inside-address.ensures ∙ body_at-item _ d c.args.found.now c.requires.here ∙ held, led_here _ _ _ _ _ c.inside-address.ensures c.requires.led))))

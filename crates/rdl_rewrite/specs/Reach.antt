@@ -1,0 +1,10 @@
+-- What an edit that reaches every body knows of the item on the way.
+-- own: SystemRDL 2.0 has no edits.
+use Rattle.std.specs.Prelude.{◌≡◌, option_copied}
+use Rattle.rdl_tree.specs.Address.{holder_of}
+use Rattle.rdl_scope.specs.Types.{item}
+use Rattle.rdl_rewrite.specs.declared.reach.Reach.{Reach}
+
+pub record Knows (r : Reach) : Type 0 where
+  pub taken : option_copied r.taken ≡ item r.way.now r.whole.now.items
+  pub holder : option_copied r.holder ≡ item (holder_of r.way.now) r.whole.now.items
