@@ -2,6 +2,7 @@ pub mod Backs
 pub mod Changes
 pub mod Components
 pub mod Edits
+pub mod Gaps
 pub mod Nesting
 pub mod PatchExamples
 pub mod PatchWeights
@@ -10,6 +11,7 @@ pub mod Places
 pub mod Reached
 pub mod Rests
 pub mod Rounds
+pub mod Runs
 pub mod Sizes
 pub mod Stepped
 pub mod Steps

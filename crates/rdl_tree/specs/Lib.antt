@@ -7,6 +7,7 @@ pub mod Edit
 pub mod Falls
 pub mod Fault
 pub mod Find
+pub mod Gap
 pub mod ItemAt
 pub mod ItemWeight
 pub mod Items
@@ -15,6 +16,7 @@ pub mod Part
 pub mod Patch
 pub mod PatchWeight
 pub mod Properties
+pub mod Room
 pub mod SessionFault
 pub mod SessionText
 pub mod Shell

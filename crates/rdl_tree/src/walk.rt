@@ -6,6 +6,7 @@ ghost use Rattle.rdl_tree.specs.Walk.{IsUnderWay};
 
 use crate::description::Description;
 use crate::patch::Patch;
+use crate::run::follow;
 use crate::step::{apply, step_back};
 use crate::way::{Step, WayBack};
 use std::alloc::Global;
@@ -57,7 +58,10 @@ fn advance(
 {
     'patches: while let Some(patch) = patches.pop() {
         match apply(description, alloc, patch) {
-            Ok(step) => steps.push(step).unwrap(),
+            Ok(step) => {
+                steps.push(step).unwrap();
+                follow(description, alloc, patches, steps);
+            }
             Err(same) => {
                 patches.push(same).unwrap();
                 return;

@@ -5,7 +5,7 @@ use Rattle.rdl_tree.proofs.walk.advance.Goals as goal
 pub patches-preserved : goal.patches-preserved
 patches-preserved c =
     let items : c.push.new.self.items ≡ c.patches.steps.items ++ c.in-Ok.step ∷ [] = search rules in record {
-      way = advanced _ _ c.in-Ok.step _ _ _ _ _ _ c.in-Some.patch c.in-Some.ensures.items c.in-Ok.ensures.applied items c.patches.invariant.way;
+      way = c.follow.ensures.way _ _ (advanced _ _ c.in-Ok.step _ _ _ _ _ _ c.in-Some.patch c.in-Some.ensures.items c.in-Ok.ensures.applied items c.patches.invariant.way);
       room = search rules;
       steps = search rules;
     }
