@@ -127,9 +127,9 @@ module _ (d : Items) (n : ℕ) (name : List ℕ) (c : Made) (fs : List Finished)
         }
 
     reaching-is : f.assignments.items ≡ reaches_at d at
-    reaching-is = q.kept.assignments ∙ ap (λ b. reaches d b 0 c.head.body) (as_found d at c made).place ∙ sym (reaches-body d at c made)
+    reaching-is = q.kept.assignments none (ap (component d) (as_found d at c made).place ∙ made) ∙ ap (λ b. reaches d b 0 c.head.body) (as_found d at c made).place ∙ sym (reaches-body d at c made)
 
-    around-is : kept_around_top name f ≡ around_of d fs at (around_top name c)
+    around-is : kept_around_top name f ≡ around_of d fs none at (around_top name c)
     around-is = λ i. record { mode = mode_inside (q.kept.kind i) (q.kept.values i) Regalign; names = name ∷ []; base = 0; bits = 0; reaching = reaching-is i }
 
     fields : FieldsIn c.head.kind c.parts
@@ -138,7 +138,7 @@ module _ (d : Items) (n : ℕ) (name : List ℕ) (c : Made) (fs : List Finished)
     below-is : told_below fs name f ≡ told_judged d (top_row d name c ∷ []) (rows_below d name c)
     below-is =
         (λ i. told (row-is i ∷ []) (kept_rows 16 fs (around-is i) (ap (λ (x : Layout). x.spans) (q.kept.layouts Regalign) i) f.parts.items))
-        ∙ levels-same d fs 16 c.parts (λ k. level-same d fs c.parts k) at (around_top name c) c.head.kind (top_layout c).spans f.parts.items number (top_row d name c ∷ []) q.parts (parts-found d at c made) fields
+        ∙ levels-same d fs none 16 c.parts (λ k. level-same d fs none c.parts k) at (around_top name c) c.head.kind (top_layout c).spans f.parts.items number (top_row d name c ∷ []) q.parts (parts-found d at c made) fields
         (fits-inside Regalign 0 c.head c.parts fields (inr (omega (arith, small)))) (omega arith) few-levels
 
     answer-is : rows_unless (told_below fs name f).fault (told_below fs name f).rows ≡ rows_or (rows_of d name c) (first_row_fault d (rows_below d name c))

@@ -35,6 +35,9 @@ pub mod Unstated
 pub mod Tops
 pub mod TypeStacks
 pub mod Assignments
+pub mod KeptTargets
+pub mod KeptPassing
+pub mod PartPlaces
 pub mod Along
 pub mod PartsFound
 pub mod Names

@@ -1,7 +1,6 @@
 -- The instances that a target has yet to pass, and the assignments under the number of the next one.
 use Rattle.std.proofs.Common.{◌≡◌, ℕ, zero, suc, ◌+◌, ◌<◌, List, [], ◌∷◌, ◌++◌, length, take, drop, get_or, Bool, true, false, Option, Some, None, refl, ap, sym, ◌∙◌, ◌⊎◌, inl, inr, append-nil, subst}
 use Rattle.std.specs.Prelude.{nat_eq, slice_get, if◌then◌else◌}
-use Rattle.std.specs.Option.{is_none}
 use Rattle.std.specs.List.{cons_option}
 use Rattle.std.specs.Cmp.Lexicographic.{pointwise}
 use Rattle.std.proofs.lemmas.Bool.{cases_eq}
@@ -9,7 +8,7 @@ use Rattle.std.proofs.lemmas.List.{take_more, drop-drop}
 use Rattle.std.proofs.lemmas.List.Elements.{filter_map-append}
 use Rattle.std.proofs.lemmas.Slice.Eq.{bytes_eq-Decides}
 use Rattle.rdl_tree.specs.Address.{number_of}
-use Rattle.rdl_elab.specs.Reaches.{Reach, passed, behind, has_ended}
+use Rattle.rdl_elab.specs.Reaches.{Reach, passed, behind}
 use Rattle.rdl_elab.specs.declared.reaches.Onward.{Onward}
 use Rattle.rdl_elab.specs.Onward.{going_to, IsOnward}
 use Rattle.rdl_elab.proofs.ValueLists.{behind-none}
@@ -18,10 +17,6 @@ pub first-dropped : {X : Type 0} (n : ℕ) (xs : List X) → slice_get (drop n x
 first-dropped zero xs = refl
 first-dropped (suc n) [] = refl
 first-dropped (suc n) (x ∷ xs) = first-dropped n xs
-
-pub ended-first : (path : List (List ℕ)) → is_none (slice_get path 0) ≡ has_ended path
-ended-first [] = refl
-ended-first (a ∷ path) = refl
 
 passed-gone : (a : List ℕ) (r : Reach) (path : List (List ℕ)) → slice_get path 0 ≡ None → passed a r path ≡ None
 passed-gone a r [] e = refl

@@ -16,7 +16,7 @@ use Rattle.rdl_tree.specs.declared.shell.Shell.{Shell}
 use Rattle.rdl_tree.specs.declared.fault.Fault.{Fault}
 use Rattle.rdl_tree.specs.declared.fault.FaultKind.{FaultKind}
 use Rattle.rdl_tree.specs.declared.property.Property.TheVariants.{Regwidth}
-use Rattle.rdl_scope.specs.ItemFaults.{fault_at}
+use Rattle.rdl_scope.specs.ItemFaults.{fault_at, fault_of}
 use Rattle.rdl_scope.specs.Closed.{Head, Parts, no_parts, part, head_value}
 use Rattle.rdl_elab.specs.declared.layout.Span.{Span}
 use Rattle.rdl_elab.specs.declared.layout.Layout.{Layout}
@@ -115,7 +115,7 @@ kept-along h None [] = sym (values-alone h)
 kept-along h None (r ∷ rs) = refl
 kept-along h (Some n) rs = refl
 
-module _ (d : Items) (fs : List Finished) where
+module _ (d : Items) (fs : List Finished) (faultless : fault_of d ≡ None) where
   -- what stands around the instances of the component at b, by what is kept
   abbrev pub around_of : List ℕ → Around → Surroundings
   around_of b a = record { mode = a.mode; names = a.names; base = a.base; bits = a.bits; reaching = along d [] a.path ++ reaches_at d b }
@@ -179,7 +179,7 @@ module _ (d : Items) (fs : List Finished) where
           names = (row-is e i).names;
           base = (row-is e i).base;
           bits = (k.values i).regwidth;
-          reaching = reaching-is i ++ (k.assignments ∙ sym (reaches-body d h.at (record { head = h; parts = within }) found.component)) i;
+          reaching = reaching-is i ++ (k.assignments faultless found.component ∙ sym (reaches-body d h.at (record { head = h; parts = within }) found.component)) i;
         }
 
     seen-is : capped_span span ≡ span → seen (capped_span span) r'.values ≡ sibling_of (span, r.access)

@@ -1,9 +1,10 @@
 -- What is kept of a component, once for all its instances, and that it is that of the component.
 -- own: SystemRDL 2.0 speaks of definitions and instances; a map whose instances multiply from level to level costs what its text costs.
-use Rattle.std.specs.Prelude.{◌≡◌, ℕ, ◌<◌, List, [], ◌∷◌, Some, min, slice_get}
+use Rattle.std.specs.Prelude.{◌≡◌, ℕ, ◌<◌, List, [], ◌∷◌, Some, None, min, slice_get}
 use Rattle.rdl_tree.specs.Items.{Items}
 use Rattle.rdl_tree.specs.declared.shell.Shell.{Shell}
-use Rattle.rdl_scope.specs.Closed.{Parts, no_parts, part, Made}
+use Rattle.rdl_scope.specs.ItemFaults.{fault_of}
+use Rattle.rdl_scope.specs.Closed.{Parts, no_parts, part, Made, component}
 use Rattle.rdl_elab.specs.declared.layout.Mode.{Mode}
 use Rattle.rdl_elab.specs.declared.layout.Mode.TheVariants.{Compact, Regalign, Fullalign}
 use Rattle.rdl_elab.specs.declared.layout.Layout.{Layout}
@@ -20,12 +21,12 @@ under Compact l = l.compact
 under Regalign l = l.regalign
 under Fullalign l = l.fullalign
 
--- all but its instances
+-- all but its instances; its assignments if the description has no fault
 pub record IsKept (d : Items) (f : Finished) (c : Made) : Type 0 where
   pub kind : f.kind ≡ c.head.kind
   pub values : f.values ≡ values_of c.head
   pub shown : f.shown ≡ shown_values c.head
-  pub assignments : f.assignments.items ≡ reaches d c.head.at 0 c.head.body
+  pub assignments : fault_of d ≡ None → component d c.head.at ≡ Some c → f.assignments.items ≡ reaches d c.head.at 0 c.head.body
   pub layouts : (m : Mode) → under m f.layouts ≡ capped_layout (layout m c)
   pub levels : f.levels ≡ min (levels c.parts) 16
   pub rows : f.rows ≡ min (count c.parts) 65536

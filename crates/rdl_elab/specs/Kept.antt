@@ -14,6 +14,10 @@ pub record Part : Type 0 where
   pub shell : Shell
   pub component : ℕ
 
+-- the instances of a component
+pub record PartList : Type 0 where
+  pub items : List Part
+
 -- the layouts of a component, one for each mode under which it may stand
 pub record Layouts : Type 0 where
   pub compact : Layout

@@ -14,6 +14,8 @@ pub mod Kept
 pub mod EachMode
 pub mod EachMember
 pub mod Finished
+pub mod PartNames
+pub mod KeptTargets
 pub mod KeptRows
 pub mod Clean
 pub mod SiblingRanges

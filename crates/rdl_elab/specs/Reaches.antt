@@ -30,25 +30,29 @@ abbrev pub with_path : Option (List (List ℕ)) → List ℕ → Value → List 
 with_path None p v rest = rest
 with_path (Some path) p v rest = record { path = path; property = p; value = v } ∷ rest
 
-abbrev pub plain_reach : Items → List ℕ → ℕ → Plain → List Reach → List Reach
-plain_reach d b n (dynamic t p v) rest = with_path (passes d b n t) p v rest
-plain_reach d b n (named s t) rest = rest
-plain_reach d b n (own p v) rest = rest
-plain_reach d b n (default p v) rest = rest
+abbrev pub plain_reach : (List (List ℕ) → Option (List (List ℕ))) → Plain → List Reach → List Reach
+plain_reach f (dynamic t p v) rest = with_path (f t) p v rest
+plain_reach f (named s t) rest = rest
+plain_reach f (own p v) rest = rest
+plain_reach f (default p v) rest = rest
+
+-- the assignments among the items from number n on, where this gives the instances that the target of an item passes
+abbrev pub reaches_by : (ℕ → List (List ℕ) → Option (List (List ℕ))) → ℕ → Items → List Reach
+reaches_by f n no_items = []
+reaches_by f n (plain x rest) = plain_reach (f n) x (reaches_by f (suc n) rest)
+reaches_by f n (holder h body rest) = reaches_by f (suc n) rest
 
 -- the assignments among the items from number n on of the body at b
 abbrev pub reaches : Items → List ℕ → ℕ → Items → List Reach
-reaches d b n no_items = []
-reaches d b n (plain x rest) = plain_reach d b n x (reaches d b (suc n) rest)
-reaches d b n (holder h body rest) = reaches d b (suc n) rest
+reaches d b n t = reaches_by (passes d b) n t
 
--- the assignment that item n of the body at b is, if its target is there
-abbrev pub reach_by : Items → List ℕ → ℕ → Item → Option Reach
-reach_by d b n (Dynamic t p v) = option_map (λ path. record { path = path; property = p; value = v }) (passes d b n t)
-reach_by d b n (Define m c) = None
-reach_by d b n (Instance s o) = None
-reach_by d b n (Own p v) = None
-reach_by d b n (Default p v) = None
+-- the assignment that an item is, if its target is there
+abbrev pub reach_by : (List (List ℕ) → Option (List (List ℕ))) → Item → Option Reach
+reach_by f (Dynamic t p v) = option_map (λ path. record { path = path; property = p; value = v }) (f t)
+reach_by f (Define m c) = None
+reach_by f (Instance s o) = None
+reach_by f (Own p v) = None
+reach_by f (Default p v) = None
 
 abbrev pub reaches_at : Items → List ℕ → List Reach
 reaches_at d b = unwrap_or (option_map (reaches d b 0) (body_at b d)) []

@@ -1,6 +1,7 @@
 //! Components that are laid out.
 use crate::laid_out::{SharedLaidOut, SharedLayouts};
 use crate::layout::{Layout, LayoutValues, Mode};
+use crate::part_list::PartList;
 use crate::reaches::Assignment;
 use crate::row_values::ComponentValues;
 use crate::shared::SharedAddress;
@@ -34,6 +35,7 @@ impl<'a> Model for Part<'a> {
 
 impl<'a> Part<'a> {
     ghost use Rattle.std.specs.Prelude.{◌≡◌, ◌<◌, ◌++◌, ◌∷◌, [], length, option_copied, slice_get};
+    ghost use Rattle.rdl_tree.specs.Address.{number_of};
 
     pub(crate) fn new(
         around: SharedAddress,
@@ -56,6 +58,13 @@ impl<'a> Part<'a> {
         ensures { result ≡ self.now.at }
     {
         self.around.as_address().inside(self.number)
+    }
+
+    /// The number of its item in the body around it.
+    pub(crate) fn place(&self) -> usize
+        ensures { result ≡ number_of self.now.at }
+    {
+        self.number
     }
 
     pub(crate) fn shell(&self) -> &'a Shell
@@ -203,7 +212,7 @@ pub(crate) struct Finished<'a> {
     pub shown: ComponentValues,
     /// The dynamic assignments in its body.
     pub assignments: Vec<Assignment<'a>>,
-    pub parts: Vec<Part<'a>>,
+    pub parts: PartList<'a>,
     pub layouts: SharedLayouts,
     /// The same layouts, with what they were made of.
     pub laid_out: SharedLaidOut,

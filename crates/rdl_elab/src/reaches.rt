@@ -1,13 +1,15 @@
 //! The dynamic assignments that reach an instance.
-ghost use Rattle.std.specs.Prelude.{◌≡◌, ℕ, ◌++◌, ◌≤◌, List, [], true, IfOk, OnOk, option_copied};
+ghost use Rattle.std.specs.Prelude.{◌≡◌, ℕ, ◌++◌, List, [], true, IfOk, OnOk, option_copied};
 ghost use Rattle.rdl_tree.specs.Address.{number_of};
-ghost use Rattle.rdl_tree.specs.Depth.{depth};
-ghost use Rattle.rdl_elab.specs.Reaches.{reaches, behind, reached, reach_by};
+ghost use Rattle.rdl_elab.specs.KeptTargets.{kept_target};
+ghost use Rattle.rdl_elab.specs.Reaches.{reaches_by, behind, reached, reach_by};
 
-use rdl_scope::targets::passes;
+use crate::finished::Finished;
+use crate::part_list::PartList;
+use crate::targets::target_path;
 use rdl_text::name::Name;
 use rdl_tree::address::Address;
-use rdl_tree::description::{Body, Description, Item};
+use rdl_tree::description::{Body, Item};
 use rdl_tree::value::Value;
 use std::alloc::{AllocError, Global};
 use std::collections::BTreeMap;
@@ -90,20 +92,19 @@ impl<'a> Assignment<'a> {
     }
 }
 
-/// What item `n` of the body at this address assigns, if its target is there.
+/// What item `n` of a body with these instances assigns, if its target is there.
 fn dynamic_assignment<'a>(
     alloc: Global,
-    description: &'a Description,
-    at: &Address,
+    components: &[Finished<'a>],
+    parts: &PartList<'a>,
     n: usize,
     item: &'a Item,
 ) -> Result<Option<Assignment<'a>>, AllocError>
-    requires { depth description.now.items ≤ 16 }
-    ensures { IfOk result (λ a. a ≡ reach_by description.now.items at.now n item.now) }
+    ensures { IfOk result (λ a. a ≡ reach_by (kept_target components.now parts.now.items n) item.now) }
 {
     match item {
         Item::Dynamic(target, property, value) => {
-            match passes(alloc, description, at, n, target.names())? {
+            match target_path(alloc, components, parts, n, target.names())? {
                 Some(path) => Ok(Some(Assignment {
                     path: Rc::new(alloc, path)?,
                     passed: 0,
@@ -117,24 +118,30 @@ fn dynamic_assignment<'a>(
     }
 }
 
-/// The dynamic assignments of the body at this address whose targets are there.
+/// The dynamic assignments of a body with these instances whose targets are there.
 #[tactic(auto, using(crate::proofs::Assignments::steps))]
 pub(crate) fn assignments<'a>(
     alloc: Global,
-    description: &'a Description,
-    at: &Address,
+    components: &[Finished<'a>],
+    parts: &PartList<'a>,
     body: &'a Body,
 ) -> Result<Vec<Assignment<'a>>, AllocError>
-    requires { depth description.now.items ≤ 16 }
-    ensures { IfOk result (λ list. list.items ≡ reaches description.now.items at.now 0 body.now) }
+    ensures { IfOk result (λ list. list.items ≡ reaches_by (kept_target components.now parts.now.items) 0 body.now) }
 {
     let mut list = Vec::new(alloc);
     'items: for (i, item) in body.as_slice().iter().enumerate() {
-        if let Some(assignment) = dynamic_assignment(alloc, description, at, i, item)? {
+        if let Some(assignment) = dynamic_assignment(alloc, components, parts, i, item)? {
             list.push(assignment)?;
         }
     }
     Ok(list)
+}
+
+/// Whether an item of the body is a dynamic assignment.
+pub(crate) fn has_dynamic(body: &Body) -> bool {
+    body.as_slice()
+        .iter()
+        .any(|item| matches!(item, Item::Dynamic(_, _, _)))
 }
 
 /// The assignments that have come this far and those of the component that stands here.

@@ -17,8 +17,10 @@ use crate::defaults::Defaults;
 use crate::finished::{Finished, Part};
 use crate::instances::{first_empty, levels, rows};
 use crate::laid_out::{Before, SharedLayouts, take_layouts};
-use crate::reaches::assignments;
+use crate::part_list::PartList;
+use crate::reaches::{assignments, has_dynamic};
 use crate::shared::share;
+use crate::targets::goes_further;
 use crate::types::Types;
 use crate::values::{layout_values, shown_values};
 use rdl_scope::types::own_component;
@@ -51,6 +53,8 @@ struct Walk<'a> {
     defaults: Defaults<'a>,
     components: Vec<Finished<'a>>,
     built_ins: BuiltIns,
+    /// Whether targets go on inside the instances of a body, so that these are looked up by their names.
+    by_name: bool,
 }
 
 /// An instance in the body that is walked, and the number of its component among the finished ones.
@@ -72,7 +76,7 @@ fn finished<'a>(
 ) -> Result<Finished<'a>, AllocError>
     requires { depth description.now.items ≤ 16 }
     ensures kept { IfOk result (λ f. (e : Standing) (inside : Parts) (n : ℕ) → walk.now.defaults ≡ e.defaults → AreParts description.now.items walk.now.components.items n parts.entry.items inside → IsKept description.now.items f (record { head = head_at at.now component.now.kind component.now.body e; parts = inside })) }
-    ensures parts { IfOk result (λ f. f.parts ≡ parts.entry) }
+    ensures parts { IfOk result (λ f. f.parts.items ≡ parts.entry.items) }
     ensures made { IfOk result (λ f. (e : Standing) (inside : Parts) (n : ℕ) → walk.now.defaults ≡ e.defaults → AreParts description.now.items walk.now.components.items n parts.entry.items inside → f.laid_out ≡ made_of (record { head = head_at at.now component.now.kind component.now.body e; parts = inside })) }
     ensures before { IfOk result (λ f. IfSome f.key (λ k. get before.now.layouts.now k ≡ Some f.laid_out)) }
     ensures taken { IfOk result (λ f. kept_for before.now (length walk.now.components.items) ≡ Some f.laid_out → IsSome f.key) }
@@ -82,7 +86,8 @@ fn finished<'a>(
     let components = walk.components.as_slice();
     let values = layout_values(body, &walk.defaults);
     let shown = shown_values(alloc, kind, body, &walk.defaults, &walk.built_ins)?;
-    let assignments = assignments(alloc, description, at, body)?;
+    let parts = PartList::of(alloc, parts, walk.by_name || has_dynamic(body))?;
+    let assignments = assignments(alloc, components, &parts, body)?;
     let taken = take_layouts(alloc, kind, values, parts.as_slice(), components, before)?;
     let layouts = taken.laid_out.layouts()?;
     let first_empty = first_empty(alloc, parts.as_slice(), components)?;
@@ -260,7 +265,7 @@ impl<'a> Walk<'a> {
     ghost use Rattle.std.specs.Prelude.{◌≡◌, [], IfOk};
 
     /// Nothing is laid out, and nothing stands before the next item.
-    fn new(alloc: Global) -> Result<Walk<'a>, AllocError>
+    fn new(alloc: Global, description: &Description) -> Result<Walk<'a>, AllocError>
         ensures types { IfOk result (λ walk. walk.types ≡ []) }
         ensures defaults { IfOk result (λ walk. walk.defaults ≡ []) }
         ensures components { IfOk result (λ walk. walk.components.items ≡ []) }
@@ -270,6 +275,7 @@ impl<'a> Walk<'a> {
             defaults: Defaults::new(alloc),
             components: Vec::new(alloc),
             built_ins: BuiltIns::new(alloc)?,
+            by_name: goes_further(&description.items),
         })
     }
 }
@@ -311,7 +317,7 @@ pub(crate) fn lay_out_item<'a>(
     let Some(component) = own_component(&items[n]) else {
         return Ok(None);
     };
-    let mut walk = Walk::new(alloc)?;
+    let mut walk = Walk::new(alloc, description)?;
     let none = Slab::new(alloc);
     let before = Before {
         layouts: &none,
@@ -344,7 +350,7 @@ pub(crate) fn lay_out_all<'a>(
     ensures laid_out { IfOk result (λ all. AreLaidOut before.now 0 all.components.items (all_written description.now.items)) }
     ensures number { IfOk result (λ all. IsType description.now.items all.components.items all.number (root_type description.now.items name.now)) }
 {
-    let mut walk = Walk::new(alloc)?;
+    let mut walk = Walk::new(alloc, description)?;
     let root = Address::new();
     let items = description.items.as_slice();
     walk_items(alloc, description, &root, items, &mut walk, before)?;

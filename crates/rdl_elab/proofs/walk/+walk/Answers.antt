@@ -34,8 +34,8 @@ finish-returns-clause-made t c = λ e h.
     let same = c.in_ok-finished.ensures.parts in
     let number : c.len-number.result ≡ length mid = omega arith in
     made-last d c.args.at.now c.args.component.now e mid c.push.new.self.items c.len-number.result c.in_ok-finished.finished c.as_slice.result.now c.as_slice.ensures number c.in_ok-push.ensures.items
-    (subst (λ (ps : List Part). AreParts d mid (length mid) ps (parts e c.args.at.now 0 (items_of c.as_slice.result.now))) (sym (ap (λ v. v.items) same)) (c.in_ok-parts.ensures.parts e h))
-    (λ inside n are. c.in_ok-finished.ensures.kept e inside n defaults (subst (λ (ps : List Part). AreParts d mid n ps inside) (ap (λ v. v.items) same) are))
+    (subst (λ (ps : List Part). AreParts d mid (length mid) ps (parts e c.args.at.now 0 (items_of c.as_slice.result.now))) (sym same) (c.in_ok-parts.ensures.parts e h))
+    (λ inside n are. c.in_ok-finished.ensures.kept e inside n defaults (subst (λ (ps : List Part). AreParts d mid n ps inside) same are))
 
 pub finish-returns-clause-components : goal.finish-returns-clause-components
 finish-returns-clause-components t c =
@@ -54,7 +54,7 @@ walk_item-returns-in_ok-push-in-Define-clause-stands t c = λ e h.
     let at = c.args.at.now ++ c.args.number ∷ [] in
     let old = c.args.walk.now in
     let mid = c.finish.new.walk in
-    let new : Walk = record { types = c.push.new.self; defaults = mid.defaults; components = mid.components; built_ins = mid.built_ins } in
+    let new : Walk = record { types = c.push.new.self; defaults = mid.defaults; components = mid.components; built_ins = mid.built_ins; by_name = mid.by_name } in
     let k = c.in_ok-component-in-Define.component in
     let all = c.in_ok-component-in-Define.ensures in
     let made : IsFinished d mid.components.items k (made_at e at c.in-Define.component) =

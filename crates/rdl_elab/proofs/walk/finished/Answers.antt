@@ -6,6 +6,8 @@ use Rattle.rdl_elab.specs.declared.finished.Finished.{Finished}
 use Rattle.rdl_elab.specs.Capped.{IsAlignment}
 use Rattle.rdl_elab.specs.Finished.{AreParts}
 use Rattle.rdl_elab.specs.MadeOf.{layout_made}
+use Rattle.rdl_elab.specs.Reaches.{reaches_by}
+use Rattle.rdl_elab.proofs.KeptTargets.{target-same}
 use Rattle.rdl_elab.proofs.Making.{layout-made, members-are}
 use Rattle.rdl_elab.proofs.Powers.{alignment-power}
 use Rattle.rdl_elab.proofs.Insides.{levels-kept, rows-kept, empty-kept}
@@ -23,7 +25,7 @@ returns-clause-made c = λ e inside n same are.
     let taken = c.in_ok-taken.taken.laid_out in
     let h = head_at c.args.at.now c.args.component.now.kind c.args.component.now.body e in
     let here = subst (λ (gs : List Finished). AreParts d gs n c.as_slice.result.now inside) (sym c.as_slice-components.ensures.value)
-    (subst (λ (qs : List Part). AreParts d c.args.walk.now.components.items n qs inside) (sym c.as_slice.ensures.value) are) in
+    (subst (λ (qs : List Part). AreParts d c.args.walk.now.components.items n qs inside) (sym (c.as_slice.ensures ∙ c.in_ok-parts.ensures)) are) in
     let values = c.in_ok-taken.ensures.values ∙ c.layout_values-values.ensures h refl (sym same) in
     let members = members-are d fs n c.as_slice.result.now inside taken.members here c.in_ok-taken.ensures.members in
     λ i. record { kind = c.in_ok-taken.ensures.kind i; values = values i; members = members i }
@@ -40,9 +42,11 @@ returns-clause-kept c = λ e inside n same are.
       kind = refl;
       values = c.layout_values-values.ensures h refl (sym same);
       shown = c.in_ok-shown.ensures h refl refl (sym same);
-      assignments = c.in_ok-assignments.ensures;
+      assignments = λ none here.
+          c.in_ok-assignments.ensures
+          ∙ (λ i. reaches_by (λ k names. target-same d fs none c.args.at.now made n c.in_ok-parts.parts.items here (moved c.in_ok-parts.parts.items c.in_ok-parts.ensures) k names i) 0 c.args.component.now.body);
       layouts = λ m. c.in_ok-layouts.ensures m ∙ ap (layout_made m) (returns-clause-made c e inside n same are) ∙ layout-made m made;
-      levels = c.levels.ensures ∙ levels-kept d fs n c.as_slice-3.result.now inside (moved c.as_slice-3.result.now c.as_slice-3.ensures.value);
-      rows = c.rows.ensures ∙ rows-kept d fs n c.as_slice-4.result.now inside (moved c.as_slice-4.result.now c.as_slice-4.ensures.value);
-      first_empty = c.in_ok-first_empty.ensures ∙ empty-kept d fs n c.as_slice-2.result.now inside (moved c.as_slice-2.result.now c.as_slice-2.ensures.value);
+      levels = c.levels.ensures ∙ levels-kept d fs n c.as_slice-3.result.now inside (moved c.as_slice-3.result.now (c.as_slice-3.ensures ∙ c.in_ok-parts.ensures));
+      rows = c.rows.ensures ∙ rows-kept d fs n c.as_slice-4.result.now inside (moved c.as_slice-4.result.now (c.as_slice-4.ensures ∙ c.in_ok-parts.ensures));
+      first_empty = c.in_ok-first_empty.ensures ∙ empty-kept d fs n c.as_slice-2.result.now inside (moved c.as_slice-2.result.now (c.as_slice-2.ensures ∙ c.in_ok-parts.ensures));
     }

@@ -1,0 +1,61 @@
+-- The number under a name leads to the first instance of the name.
+use Rattle.std.proofs.Common.{◌≡◌, ℕ, suc, ◌+◌, ◌<◌, ◌≤◌, List, [], ◌∷◌, length, drop, get_or, Bool, true, false, Option, Some, None, option_map, refl, ap, sym, ◌∙◌, arith, drop-cons, add-one, zero-add}
+use Rattle.std.specs.Prelude.{option_and_then, slice_get, bytes_eq, if◌then◌else◌}
+use Rattle.std.proofs.lemmas.List.{drop_all}
+use Rattle.rdl_elab.specs.Kept.{Part}
+use Rattle.rdl_elab.specs.PartNames.{part_named, place_named}
+
+pub part-placed : (q : List ℕ) (ps : List Part) → option_and_then (slice_get ps) (place_named q ps) ≡ part_named q ps
+part-placed q [] = refl
+part-placed q (p ∷ ps) = by (part-placed q ps) (bytes_eq p.shell.name q)
+  where
+    later : (o : Option ℕ) → option_and_then (slice_get (p ∷ ps)) (option_map suc o) ≡ option_and_then (slice_get ps) o
+    later None = refl
+    later (Some k) = refl
+
+    by : option_and_then (slice_get ps) (place_named q ps) ≡ part_named q ps → (test : Bool) → option_and_then (slice_get (p ∷ ps)) (if test then Some 0 else option_map suc (place_named q ps)) ≡ (if test then Some p else part_named q ps)
+    by ih true = refl
+    by ih false = later (place_named q ps) ∙ ih
+
+-- the number of the first instance of the name among those from number i on
+abbrev pub place_behind : List ℕ → ℕ → List Part → Option ℕ
+place_behind q i ps = option_map (λ k. i + k) (place_named q (drop i ps))
+
+pub behind-all : (q : List ℕ) (i : ℕ) (ps : List Part) → length ps ≤ i → place_behind q i ps ≡ None
+behind-all q i ps h = ap (λ qs. option_map (λ k. i + k) (place_named q qs)) (drop_all i ps h)
+
+pub behind-none : (q : List ℕ) (ps : List Part) → place_behind q 0 ps ≡ place_named q ps
+behind-none q ps = by (place_named q ps)
+  where
+    by : (o : Option ℕ) → option_map (λ k. 0 + k) o ≡ o
+    by None = refl
+    by (Some k) = ap Some (zero-add k)
+
+pub behind-next : (q : List ℕ) (i : ℕ) (ps : List Part) (p : Part) → i < length ps → p ≡ get_or ps i p → place_behind q i ps ≡ (if bytes_eq p.shell.name q then Some i else place_behind q (i + 1) ps)
+behind-next q i ps p h is =
+    ap (λ qs. option_map (λ k. i + k) (place_named q qs)) ((rw add-one (drop-cons ps i p h)) ∙ ap (λ y. y ∷ drop (i + 1) ps) (sym is)) ∙ by (bytes_eq p.shell.name q)
+  where
+    later : (o : Option ℕ) → option_map (λ k. i + k) (option_map suc o) ≡ option_map (λ k. (i + 1) + k) o
+    later None = refl
+    later (Some k) = let n : i + suc k ≡ (i + 1) + k = omega arith in ap Some n
+
+    by : (test : Bool) → option_map (λ k. i + k) (if test then Some 0 else option_map suc (place_named q (drop (i + 1) ps))) ≡ (if test then Some i else place_behind q (i + 1) ps)
+    by true = let n : i + 0 ≡ i = omega arith in ap Some n
+    by false = later (place_named q (drop (i + 1) ps))
+
+named-next : (q : List ℕ) (i : ℕ) (ps : List Part) (p : Part) → i < length ps → part_named q (drop i ps) ≡ (if bytes_eq (get_or ps i p).shell.name q then Some (get_or ps i p) else part_named q (drop (i + 1) ps))
+named-next q i ps p h =
+    let first : drop i ps ≡ get_or ps i p ∷ drop (i + 1) ps = rw add-one (drop-cons ps i p h) in
+    ap (part_named q) first
+
+-- along the instances
+pub named-here : (q : List ℕ) (i : ℕ) (ps : List Part) (p : Part) → i < length ps → bytes_eq (get_or ps i p).shell.name q ≡ true → part_named q (drop i ps) ≡ Some (get_or ps i p)
+named-here q i ps p h e = named-next q i ps p h ∙ ap (λ b. if b then Some (get_or ps i p) else part_named q (drop (i + 1) ps)) e
+
+pub named-later : (q : List ℕ) (i : ℕ) (ps : List Part) (p : Part) → i < length ps → bytes_eq (get_or ps i p).shell.name q ≡ false → part_named q (drop i ps) ≡ part_named q (drop (i + 1) ps)
+named-later q i ps p h e = named-next q i ps p h ∙ ap (λ b. if b then Some (get_or ps i p) else part_named q (drop (i + 1) ps)) e
+
+pub named-end : (q : List ℕ) (i : ℕ) (ps : List Part) → length ps ≤ i → part_named q (drop i ps) ≡ None
+named-end q i ps h = ap (part_named q) (drop_all i ps h)
+
+pub ruleset naming = (named-here, named-later, named-end)

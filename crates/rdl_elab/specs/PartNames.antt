@@ -1,0 +1,26 @@
+-- The instances of a component by their names.
+-- own: how they are looked up.
+use Rattle.std.specs.Prelude.{◌≡◌, ℕ, suc, List, [], ◌∷◌, Option, Some, None, option_map, bytes_eq, if◌then◌else◌}
+use Rattle.std.specs.BTreeMap.{get_by}
+use Rattle.std.specs.Cmp.Lexicographic.{slice_cmp}
+use Rattle.std.specs.Ordering.{nat_cmp}
+use Rattle.rdl_elab.specs.Kept.{Part}
+use Rattle.rdl_elab.specs.declared.part_list.PartNames.{PartNames}
+
+-- the first instance of a name
+abbrev pub part_named : List ℕ → List Part → Option Part
+part_named name [] = None
+part_named name (p ∷ ps) = if bytes_eq p.shell.name name then Some p else part_named name ps
+
+-- its number among them
+abbrev pub place_named : List ℕ → List Part → Option ℕ
+place_named name [] = None
+place_named name (p ∷ ps) = if bytes_eq p.shell.name name then Some 0 else option_map suc (place_named name ps)
+
+-- the number under a name
+abbrev pub place_under : PartNames → List ℕ → Option ℕ
+place_under names q = get_by (λ k. slice_cmp nat_cmp q k.now) names.places
+
+-- under each name stands the number of its first instance
+abbrev pub AreNamed : PartNames → List Part → Type 0
+AreNamed names ps = (q : List ℕ) → place_under names q ≡ place_named q ps
