@@ -1,6 +1,5 @@
 //! The instances that a target passes.
-ghost use Rattle.std.specs.Prelude.{◌≡◌, ℕ, ◌≤◌, ◌<◌, ◌+◌, Some, None, IfOk, IfSome, option_copied, option_map, if◌then◌else◌};
-ghost use Rattle.std.specs.Option.{option_or};
+ghost use Rattle.std.specs.Prelude.{◌≡◌, ℕ, ◌≤◌, ◌<◌, ◌+◌, IfOk, IfSome, option_copied, option_map};
 ghost use Rattle.rdl_tree.specs.Depth.{depth};
 ghost use Rattle.rdl_scope.specs.Target.{instance_before, instance_in, passes, body_of, through};
 ghost use Rattle.rdl_scope.specs.Walk.{is_instance};
@@ -21,25 +20,17 @@ pub fn is_instance(item: Option<&Item>, name: &Name) -> bool
     }
 }
 
-fn earlier(first: Option<usize>, is_it: bool, number: usize) -> Option<usize>
-    ensures { result ≡ option_or first (if is_it then Some number else None) }
-{
-    match first {
-        Some(k) => Some(k),
-        None => if is_it { Some(number) } else { None },
-    }
-}
-
 /// The number of the instance of the name among the first `n` items.
 #[tactic(auto, using(crate::proofs::Instances::steps))]
 pub(crate) fn instance_before(body: &Body, n: usize, name: &Name) -> Option<usize>
     ensures { result ≡ instance_before name.now n body.now }
 {
-    let mut first = None;
     for i in 0..n {
-        first = earlier(first, is_instance(body.item(i), name), i);
+        if is_instance(body.item(i), name) {
+            return Some(i);
+        }
     }
-    first
+    None
 }
 
 /// The address of the instance of the name among the first `n` items of the body at this address.

@@ -1,6 +1,6 @@
-use Rattle.std.proofs.Common.{◌≡◌}
+use Rattle.std.proofs.Common.{◌≡◌, None}
 use Rattle.rdl_scope.specs.Target.{instance_before}
 use Rattle.rdl_scope.proofs.targets.instance_before.Given as goal
 
 abbrev pub invariant-loop-i : goal.invariant-loop-i
-invariant-loop-i l = l.first ≡ instance_before l.name l.i l.body
+invariant-loop-i l = instance_before l.name l.i l.body ≡ None
