@@ -1,25 +1,27 @@
 -- What a search for a type or along a target finds has the name that was looked for.
-use Rattle.std.proofs.Common.{◌≡◌, ℕ, zero, suc, Bool, true, false, cond, ◌||◌, ◌&&◌, List, [], ◌∷◌, ◌++◌, Some, None, Option, refl, ap, sym, ◌∙◌, option_map}
+use Rattle.std.proofs.Common.{◌≡◌, ℕ, zero, suc, Bool, true, false, cond, ◌||◌, ◌&&◌, ◌<◌, length, List, [], ◌∷◌, ◌++◌, Some, None, Option, refl, ap, sym, ◌∙◌, option_map, arith}
 use Rattle.std.proofs.lemmas.Slice.Eq.{bytes_eq-Decides}
-use Rattle.std.specs.Prelude.{slice_get, option_and_then}
+use Rattle.std.specs.Prelude.{slice_get, option_and_then, is_some}
 use Rattle.std.specs.Option.{option_or}
 use Rattle.std.specs.List.{list_any}
 use Rattle.rdl_tree.specs.Items.{Items}
 use Rattle.rdl_tree.specs.View.{list_of}
 use Rattle.rdl_tree.specs.Address.{inner, body_at, holder_of}
+use Rattle.rdl_tree.specs.Address as address
 use Rattle.rdl_tree.specs.declared.value.Value.{Value}
 use Rattle.rdl_tree.specs.declared.description.Component.{Component}
 use Rattle.rdl_tree.specs.declared.description.Item.{Item}
 use Rattle.rdl_tree.specs.declared.description.Item.TheVariants.{Define, Instance, Own, Default, Dynamic}
 use Rattle.rdl_tree.specs.declared.description.Of.TheVariants.{Named, Anonymous}
 use Rattle.rdl_scope.specs.Types.{last_definition, type_at, type_of, item, held_by, component_of, items_in}
-use Rattle.rdl_scope.specs.Target.{instance_before, instance_in, passes, body_of, number_of, through, through_of}
+use Rattle.rdl_scope.specs.Target.{instance_before, instance_in, passes, number_of, through, through_of}
 use Rattle.rdl_scope.specs.Walk.{is_definition, is_instance, reference_of}
+use Rattle.rdl_scope.proofs.Bodies.{body_of-take, number_of-last}
 use Rattle.rdl_scope.proofs.Instances.{instance-suc}
 use Rattle.rdl_scope.proofs.Levelled.{item-deeper}
 use Rattle.rdl_scope.proofs.Searches.{last-suc, type_of-reference}
 use Rattle.rdl_rewrite.specs.Addresses.{same, leads_to, passes_by}
-use Rattle.rdl_rewrite.specs.MayPass.{may_hold, may_pass}
+use Rattle.rdl_rewrite.specs.Passed.{may_hold, may_pass, passes_from, if_passed}
 use Rattle.rdl_rewrite.proofs.Leading.{holder-inside}
 
 -- an address where a test holds is none where it fails
@@ -170,7 +172,7 @@ unpassed-next d way b n name a c g holds stands =
     ap (λ x. may_hold (item x d) name) (sym ((bytes_eq-Decides c (holder_of way)).0 stands)) ∙ holder-may_hold d a c name (item a d) refl (instance-in d b n name a g) holds
 
 -- names that may not pass it don't
-pub unpassed-names : (d : Items) (way b : List ℕ) (n : ℕ) (inside : Bool) (names : List (List ℕ)) → (same b (holder_of way) ≡ true → inside ≡ true) → may_pass (item way d) (item (holder_of way) d) inside names ≡ false
+unpassed-names : (d : Items) (way b : List ℕ) (n : ℕ) (inside : Bool) (names : List (List ℕ)) → (same b (holder_of way) ≡ true → inside ≡ true) → may_pass (item way d) (item (holder_of way) d) inside names ≡ false
     → passes_by way (passes d b n names) ≡ false
 unpassed-names d way b n inside [] stands e = refl
 unpassed-names d way b n inside (name ∷ []) stands e = by_case (instance_in d b n name) refl
@@ -200,6 +202,55 @@ unpassed-names d way b n inside (name ∷ next ∷ names) stands e =
         more a (unpassed-first d way b n inside name a stands (or-false (inside && is_instance name (item way d)) _ e).0 g)
         (option_and_then (λ c. passes d c (items_in c d) (next ∷ names)) (component_of d a)) (below a g ih (component_of d a) refl)
 
-pub unpassed : (d : Items) (way at : List ℕ) (x : Item) (t : List (List ℕ)) (p : List ℕ) (v : Value) → item at d ≡ Some x → x ≡ Dynamic t p v
-    → ((n : ℕ) → passes_by way (passes d (body_of at) n t) ≡ false) → passes_by way (through d at) ≡ false
-unpassed d way at x t p v e is fails = ap (λ o. passes_by way (option_and_then (through_of d at) o)) (e ∙ ap Some is) ∙ fails (number_of at)
+-- nor does an instance elsewhere, whose other names may not pass it
+pub unpassed_from : (d : Items) (way a : List ℕ) (inside : Bool) (names : List (List ℕ)) → same a way ≡ false → inside ≡ leads_to (holder_of way) (component_of d a)
+    → may_pass (item way d) (item (holder_of way) d) inside names ≡ false → passes_by way (passes_from d a names) ≡ false
+unpassed_from d way a inside [] apart within e = or-both (same a way) false apart refl
+unpassed_from d way a inside (next ∷ names) apart within e = more (option_and_then (λ c. passes d c (items_in c d) (next ∷ names)) (component_of d a)) (below (component_of d a) within)
+  where
+    more : (o : Option (List (List ℕ))) → passes_by way o ≡ false → passes_by way (option_map (λ path. a ∷ path) o) ≡ false
+    more None g = refl
+    more (Some path) g = or-both (same a way) _ apart g
+
+    below : (o : Option (List ℕ)) → inside ≡ leads_to (holder_of way) o → passes_by way (option_and_then (λ c. passes d c (items_in c d) (next ∷ names)) o) ≡ false
+    below None h = refl
+    below (Some c) h = unpassed-names d way c (items_in c d) inside (next ∷ names) (λ stands. h ∙ stands) e
+
+-- the names, from the first on
+pub passes-first : (d : Items) (b : List ℕ) (n : ℕ) (name : List ℕ) (names : List (List ℕ)) → passes d b n (name ∷ names) ≡ option_and_then (λ a. passes_from d a names) (instance_in d b n name)
+passes-first d b n name [] = by_case (instance_in d b n name)
+  where
+    by_case : (o : Option (List ℕ)) → option_map (λ a. a ∷ []) o ≡ option_and_then (λ a. Some (a ∷ [])) o
+    by_case None = refl
+    by_case (Some a) = refl
+passes-first d b n name (next ∷ names) = refl
+
+pub passes_inside : (d : Items) (a c : List ℕ) (names : List (List ℕ)) → 0 < length names → component_of d a ≡ Some c → passes_from d a names ≡ option_map (λ more. a ∷ more) (passes d c (items_in c d) names)
+passes_inside d a c [] h e = absurd (omega arith)
+passes_inside d a c (next ∷ names) h e = ap (λ o. option_map (λ more. a ∷ more) (option_and_then (λ x. passes d x (items_in x d) (next ∷ names)) o)) e
+
+-- what the target of the assignment at an address passes
+pub through-passes : (d : Items) (at : List ℕ) (x : Item) (t : List (List ℕ)) (p : List ℕ) (v : Value) → item at d ≡ Some x → x ≡ Dynamic t p v → through d at ≡ passes d (holder_of at) (address.number_of at) t
+through-passes d at x t p v e is =
+    ap (option_and_then (through_of d at)) (e ∙ ap Some is) ∙ ap (λ b. passes d b (number_of at) t) (body_of-take at) ∙ ap (λ n. passes d (holder_of at) n t) (number_of-last at)
+
+-- ---- A path that passes the item on the way.
+
+pub none_passed : (way : List ℕ) (o : Option (List (List ℕ))) → passes_by way o ≡ false → None ≡ if_passed way o
+none_passed way o e = sym (ap (λ b. cond b o None) e)
+
+pub some_passed : (way : List ℕ) (o : Option (List (List ℕ))) → is_some (if_passed way o) ≡ passes_by way o
+some_passed way None = refl
+some_passed way (Some path) = by_case (passes_by way (Some path))
+  where
+    by_case : (b : Bool) → is_some (cond b (Some path) None) ≡ b
+    by_case true = refl
+    by_case false = refl
+
+pub leads-some : (way : List ℕ) (o : Option (List ℕ)) → leads_to way o ≡ true → o ≡ Some way
+leads-some way None e = cc
+leads-some way (Some a) e = ap Some ((bytes_eq-Decides a way).0 e)
+
+pub some-map : {X Y : Type 0} (f : X → Y) (o : Option X) → is_some (option_map f o) ≡ is_some o
+some-map f None = refl
+some-map f (Some x) = refl

@@ -108,7 +108,7 @@ length-inside b n = omega (arith, length-append b (n ∷ []))
 pub holder-inside : (b : List ℕ) (n : ℕ) → holder_of (b ++ n ∷ []) ≡ b
 holder-inside b n = ap (λ k. take k (b ++ n ∷ [])) (length-inside b n) ∙ take-append_seam b (n ∷ [])
 
-number-inside : (b : List ℕ) (n : ℕ) → number_of (b ++ n ∷ []) ≡ n
+pub number-inside : (b : List ℕ) (n : ℕ) → number_of (b ++ n ∷ []) ≡ n
 number-inside b n = ap (λ k. slice_index (b ++ n ∷ []) k) (length-inside b n) ∙ get_or-append_seam b n [] 0
 
 -- the two definitions of the item at an address are one

@@ -121,19 +121,27 @@ and-true : (b : Bool) → (b && true) ≡ b
 and-true true = refl
 and-true false = refl
 
+-- a reference to this name
+pub led_name : (d : Items) (way at : List ℕ) (led : Bool) (t : List ℕ) → IsLed d way at led → (led && is_definition t (item way d)) ≡ leads_to way (type_at at d t)
+led_name d way at led t is = by_name (is_definition t (item way d)) refl
+  where
+    by_name : (b : Bool) → is_definition t (item way d) ≡ b → (led && b) ≡ leads_to way (type_at at d t)
+    by_name true e = and-true led ∙ is.leads t e
+    by_name false e = and_right led false refl ∙ sym (unled-name d way at t e)
+
 pub led_type : (d : Items) (way at : List ℕ) (x : Item) (led : Bool) → item at d ≡ Some x → IsLed d way at led → (led && refers_to (item way d) x) ≡ leads_to way (type_of d at)
 led_type d way at x led here is =
     by_reference (reference_of x)
     ∙ sym (ap (leads_to way) (type_of-reference d at) ∙ ap (λ o. leads_to way (option_and_then (type_at at d) (option_and_then reference_of o))) here)
   where
-    by_name : (t : List ℕ) (b : Bool) → is_definition t (item way d) ≡ b → (led && b) ≡ leads_to way (type_at at d t)
-    by_name t true e = and-true led ∙ is.leads t e
-    by_name t false e = and_right led false refl ∙ sym (unled-name d way at t e)
-
     by_reference : (r : Option (List ℕ)) → (led && is_name_of (item way d) r) ≡ leads_to way (option_and_then (type_at at d) r)
     by_reference None = and_right led false refl
-    by_reference (Some t) = by_name t (is_definition t (item way d)) refl
+    by_reference (Some t) = led_name d way at led t is
 
 -- the address under another name
 pub led_here : (d : Items) (way at b : List ℕ) (led : Bool) → b ≡ at → IsLed d way at led → IsLed d way b led
 led_here d way at b led e is = subst (λ a. IsLed d way a led) (sym e) is
+
+-- the place and its holder under other names
+pub led_same : (p place : List ℕ) (o holder : Option Item) (at : List ℕ) (x : Item) (led new : Bool) → new ≡ led_behind p o at x led → p ≡ place → o ≡ holder → new ≡ led_behind place holder at x led
+led_same p place o holder at x led new made e f = made ∙ ap (λ q. led_behind q o at x led) e ∙ ap (λ h. led_behind place h at x led) f

@@ -4,6 +4,7 @@ pub mod Defined
 pub mod Examples
 pub mod Fated
 pub mod Fates
+pub mod FirstInstances
 pub mod Found
 pub mod Leading
 pub mod Led

@@ -1,5 +1,5 @@
 -- What follows a new name, name by name.
-use Rattle.std.proofs.Common.{◌≡◌, ◌≤◌, ℕ, Bool, false, cond, List, [], ◌∷◌, ◌++◌, length, drop, Some, None, Option, refl, ap, sym, ◌∙◌}
+use Rattle.std.proofs.Common.{◌≡◌, ◌≤◌, ℕ, Bool, true, false, cond, List, [], ◌∷◌, ◌++◌, length, drop, Some, None, Option, refl, ap, sym, ◌∙◌}
 use Rattle.std.proofs.lemmas.List.{append-nil, drop_all}
 use Rattle.std.specs.List.{list_any}
 use Rattle.rdl_tree.specs.Items.{Items}
@@ -7,11 +7,12 @@ use Rattle.rdl_tree.specs.declared.description.Item.{Item}
 use Rattle.rdl_tree.specs.declared.description.Item.TheVariants.{Instance}
 use Rattle.rdl_tree.specs.declared.description.Of.{Of}
 use Rattle.rdl_tree.specs.declared.description.Of.TheVariants.{Named}
-use Rattle.rdl_tree.specs.declared.part.Part.TheVariants.{OfShell, OfType}
+use Rattle.rdl_tree.specs.declared.part.Part.TheVariants.{OfShell, OfTarget, OfType}
 use Rattle.rdl_tree.specs.declared.shell.Shell.{Shell}
 use Rattle.rdl_scope.specs.Types.{type_of}
 use Rattle.rdl_rewrite.specs.Addresses.{same, leads_to, passes_by}
-use Rattle.rdl_rewrite.specs.Fates.{given_if, fate_in_renaming}
+use Rattle.rdl_rewrite.specs.Fates.{given_if, fate_of_target, fate_in_renaming}
+use Rattle.rdl_rewrite.specs.Passed.{if_passed}
 use Rattle.rdl_rewrite.specs.declared.fate.Fate.TheVariants.{Given}
 use Rattle.rdl_rewrite.specs.Renaming.{renamed_names, renamed_target}
 use Rattle.rdl_rewrite.proofs.Found.{or-false}
@@ -50,3 +51,12 @@ type_renamed d way name at x s o type leads is refers apart e =
     ap (λ b. given_if b (OfType name)) e
     ∙ sym (ap (fate_in_renaming d way name at) (is ∙ ap (Instance s) refers)
     ∙ ap (λ b. cond b (Given (OfShell (record s { name = name }))) (given_if (leads_to way (type_of d at)) (OfType name))) apart)
+
+-- what an assignment gets
+pub target_renamed : (way name : List ℕ) (target : List (List ℕ)) (o : Option (List (List ℕ))) → fate_of_target way name target (if_passed way o) ≡ given_if (passes_by way o) (OfTarget (renamed_target way name o target))
+target_renamed way name target None = refl
+target_renamed way name target (Some path) = by_case (passes_by way (Some path))
+  where
+    by_case : (b : Bool) → fate_of_target way name target (cond b (Some path) None) ≡ given_if b (OfTarget (renamed_target way name (Some path) target))
+    by_case true = refl
+    by_case false = refl

@@ -44,6 +44,11 @@ fate_in_renaming whole way name at (Dynamic target p v) =
 fate_in_renaming whole way name at (Own p v) = Kept
 fate_in_renaming whole way name at (Default p v) = Kept
 
+-- an assignment, of which this is the path of its target if that passes the item on the way
+abbrev pub fate_of_target : (way name : List ℕ) → (target : List (List ℕ)) → Option (List (List ℕ)) → Fate
+fate_of_target way name target None = Kept
+fate_of_target way name target (Some path) = Given (OfTarget (renamed_target way name (Some path) target))
+
 -- ---- Either: the item on the way gets a name, or is taken out.
 
 abbrev pub fate : (whole : Items) → (way : List ℕ) → (name : Option (List ℕ)) → (at : List ℕ) → Item → Fate

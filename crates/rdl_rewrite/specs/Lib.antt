@@ -3,9 +3,10 @@ pub mod Assignment
 pub mod Change
 pub mod Dynamics
 pub mod Fates
+pub mod Firsts
 pub mod Led
-pub mod MayPass
 pub mod Names
+pub mod Passed
 pub mod Patches
 pub mod Place
 pub mod Reach

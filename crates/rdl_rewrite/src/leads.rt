@@ -1,53 +1,13 @@
 //! What leads to an item: references and targets.
-ghost use Rattle.std.specs.Prelude.{◌≡◌, true, ◌<◌, ◌++◌, ◌∷◌, ◌&&◌, [], length, option_copied};
+ghost use Rattle.std.specs.Prelude.{◌≡◌, ◌<◌, ◌++◌, ◌∷◌, ◌&&◌, [], length, option_copied};
 ghost use Rattle.std.specs.List.{list_any};
-ghost use Rattle.rdl_tree.specs.Address.{holder_of};
 ghost use Rattle.rdl_rewrite.specs.Addresses.{same, leads_to};
 ghost use Rattle.rdl_rewrite.specs.Led.{refers_to, led_behind};
-ghost use Rattle.rdl_rewrite.specs.MayPass.{may_hold, may_pass};
+ghost use Rattle.rdl_rewrite.specs.Firsts.{is_inside};
 
-use rdl_scope::targets::is_instance;
 use rdl_scope::types::{defines, reference};
-use rdl_text::name::Name;
 use rdl_tree::address::Address;
-use rdl_tree::description::Item;
-
-/// Whether both items stand in one body. The root itself, which is no item, may stand in any.
-pub(crate) fn are_siblings(way: &Address, at: &Address) -> bool
-    ensures { same (holder_of at.now) (holder_of way.now) ≡ true → result ≡ true }
-{
-    way.is_empty() || at.is_empty() || at.holder() == way.holder()
-}
-
-/// Whether an instance of this name may have the component that the item holds.
-fn may_hold(holder: Option<&Item>, name: &Name) -> bool
-    ensures { result ≡ may_hold (option_copied holder.entry) name.now }
-{
-    match holder {
-        Some(Item::Define(..)) => true,
-        Some(Item::Instance(shell, _)) => &shell.name == name,
-        _ => false,
-    }
-}
-
-/// Whether a target of these names may pass the taken item, which stands in the component that the holder holds. `inside`
-/// says whether the target's assignment stands there too.
-pub(crate) fn may_pass(
-    taken: Option<&Item>,
-    holder: Option<&Item>,
-    mut inside: bool,
-    names: &[Name],
-) -> bool
-    ensures { result ≡ may_pass (option_copied taken.entry) (option_copied holder.entry) inside names.now }
-{
-    'names: for name in names {
-        if inside && is_instance(taken, name) {
-            return true;
-        }
-        inside = may_hold(holder, name);
-    }
-    false
-}
+use rdl_tree::description::{Item, Of};
 
 /// Whether there is an address, and it is the way.
 pub(crate) fn is_at(way: &Address, at: Option<&Address>) -> bool
@@ -98,5 +58,27 @@ pub(crate) fn led_behind(
             }
         }
         _ => led,
+    }
+}
+
+/// Whether the component of this item, of this number in the body at the address, is the one at the place, which the
+/// holder holds. `led` says whether a reference to the holder's name leads to that here.
+pub(crate) fn is_inside(
+    place: &Address,
+    holder: Option<&Item>,
+    led: bool,
+    at: &Address,
+    number: usize,
+    found: &Item,
+) -> bool
+    requires { length at.now < 17 }
+    ensures { result ≡ is_inside place.now (option_copied holder.entry) (at.now ++ number ∷ []) led found.now }
+{
+    match found {
+        Item::Instance(_, of) => match of {
+            Of::Named(name) => led && defines(holder, name),
+            Of::Anonymous(_) => &at.inside(number) == place,
+        },
+        _ => false,
     }
 }

@@ -1,18 +1,18 @@
 //! The patches of an edit that reaches every body.
-ghost use Rattle.std.specs.Prelude.{◌≡◌, ℕ, false, ◌≤◌, ◌<◌, ◌++◌, ◌∷◌, [], length, reverse, Some, IfOk, option_copied};
+ghost use Rattle.std.specs.Prelude.{◌≡◌, ◌≤◌, ◌<◌, ◌++◌, ◌∷◌, [], length, reverse, Some, IfOk, option_copied};
 ghost use Rattle.rdl_tree.specs.Items.{no_items};
 ghost use Rattle.rdl_tree.specs.View.{add};
-ghost use Rattle.rdl_tree.specs.Address.{body_at, holder_of};
+ghost use Rattle.rdl_tree.specs.Address.{body_at, holder_of, number_of};
 ghost use Rattle.rdl_tree.specs.Depth.{depth};
-ghost use Rattle.rdl_scope.specs.Types.{item};
-ghost use Rattle.rdl_scope.specs.Target.{passes, body_of};
-ghost use Rattle.rdl_rewrite.specs.Addresses.{passes_by};
+ghost use Rattle.rdl_scope.specs.Types.{item, items_in};
+ghost use Rattle.rdl_rewrite.specs.Firsts.{AreFirsts};
 ghost use Rattle.rdl_rewrite.specs.Led.{IsLed};
 ghost use Rattle.rdl_rewrite.specs.Reach.{Knows};
 ghost use Rattle.rdl_rewrite.specs.Fates.{fate, fate_patches};
 
 use crate::fate::Fate;
-use crate::leads::{are_siblings, led_behind, may_pass};
+use crate::firsts::Firsts;
+use crate::leads::{is_inside, led_behind};
 use crate::{removal, renaming};
 use rdl_scope::types::item_at;
 use rdl_text::name::Name;
@@ -28,20 +28,35 @@ pub(crate) struct Reach<'a> {
     pub way: &'a Address,
     /// The item on the way.
     pub taken: Option<&'a Item>,
-    /// The item in whose component that stands.
+    /// The address of the body in which that stands.
+    pub place: Address,
+    /// The item whose body that is.
     pub holder: Option<&'a Item>,
+    /// How many items that has.
+    pub siblings: usize,
     /// None where the item is taken out.
     pub name: Option<&'a Name>,
 }
 
-/// The item in whose component the one on the way stands.
-fn holder_at<'a>(whole: &'a Description, way: &Address) -> Option<&'a Item>
-    ensures { option_copied result ≡ item (holder_of way.now) whole.now.items }
+/// The address of the body in which the item on the way stands.
+fn place_of(way: &Address) -> Address
+    ensures { result ≡ holder_of way.now }
 {
     if way.is_empty() {
-        return None;
+        Address::new()
+    } else {
+        way.holder()
     }
-    item_at(&whole.items, way.holder().as_slice())
+}
+
+/// How many items the body at this address has.
+fn items_in(whole: &Description, place: &Address) -> usize
+    ensures { result ≡ items_in place.now whole.now.items }
+{
+    match whole.body(place) {
+        Some(body) => body.len(),
+        None => 0,
+    }
 }
 
 impl<'a> Reach<'a> {
@@ -52,72 +67,87 @@ impl<'a> Reach<'a> {
         ensures name { option_copied result.name ≡ option_copied name.entry }
     {
         let taken = item_at(&whole.items, way.as_slice());
-        let holder = holder_at(whole, way);
+        let place = place_of(way);
+        let holder = item_at(&whole.items, place.as_slice());
+        let siblings = items_in(whole, &place);
         Reach {
             whole,
             way,
             taken,
+            place,
             holder,
+            siblings,
             name,
         }
     }
 
-    /// Whether a target of these names may pass the taken item, if the assignment stands at this address.
-    pub(crate) fn may_be_passed(&self, at: &Address, names: &[Name]) -> bool
-        requires { Knows self.now }
-        ensures { result ≡ false → (n : ℕ) → passes_by self.now.way.now (passes self.now.whole.now.items (body_of at.now) n names.now) ≡ false }
-    {
-        may_pass(self.taken, self.holder, are_siblings(self.way, at), names)
-    }
-
-    /// What becomes of this item, at its address. `led` says whether a reference to the taken item's name leads to it here.
-    fn fate(&self, alloc: Global, at: &Address, found: &Item, led: bool) -> Result<Fate, AllocError>
+    /// What becomes of this item, at its address behind these instances. `led` says whether a reference to the taken item's
+    /// name leads to it here.
+    fn fate(
+        &self,
+        alloc: Global,
+        at: &Address,
+        found: &Item,
+        led: bool,
+        firsts: &Firsts,
+    ) -> Result<Fate, AllocError>
         requires nesting { depth self.now.whole.now.items ≤ 16 }
         requires known { Knows self.now }
         requires here { item at.now self.now.whole.now.items ≡ Some found.now }
         requires led { IsLed self.now.whole.now.items self.now.way.now at.now led }
+        requires firsts { AreFirsts self.now.whole.now.items (holder_of self.now.way.now) (holder_of at.now) (number_of at.now) firsts.now }
         ensures { IfOk result (λ new. new ≡ fate self.now.whole.now.items self.now.way.now (option_copied self.now.name) at.now found.now) }
     {
         match self.name {
-            Some(name) => renaming::fate(alloc, self, name, at, found, led),
-            None => removal::fate(alloc, self, at, found),
+            Some(name) => renaming::fate(alloc, self, name, at, found, led, firsts),
+            None => removal::fate(alloc, self, at, found, firsts),
         }
     }
 
     /// Pushes the patches for this body, at its address, those of each item before those of the items inside it. `led` says
-    /// whether a reference to the taken item's name leads to it where the body begins.
+    /// whether a reference to the taken item's name leads to it where the body begins, `inside_led` whether one to its
+    /// holder's name leads to the holder.
     #[cycle(reach)]
     fn push_body(
         &self,
         alloc: Global,
         at: &Address,
-        body: &Body,
+        body: &'a Body,
         mut led: bool,
+        mut inside_led: bool,
         patches: &mut Vec<Patch>,
     ) -> Result<(), AllocError>
         requires nesting { depth self.now.whole.now.items ≤ 16 }
         requires known { Knows self.now }
         requires here { body_at at.now self.now.whole.now.items ≡ Some body.now }
         requires led { IsLed self.now.whole.now.items self.now.way.now at.now led }
+        requires inside_led { IsLed self.now.whole.now.items (holder_of self.now.way.now) at.now inside_led }
         ensures { IfOk result (λ _. reverse patches.new.items ≡ fate_patches (fate self.now.whole.now.items self.now.way.now (option_copied self.now.name)) at.now 0 body.now ++ reverse patches.old.items) }
     {
+        let mut firsts = Firsts::new(alloc);
         'items: for (number, found) in body.as_slice().iter().enumerate() {
-            self.push_item(alloc, at, number, found, led, patches)?;
+            self.push_item(alloc, at, number, found, led, inside_led, &firsts, patches)?;
+            let inside = is_inside(&self.place, self.holder, inside_led, at, number, found);
+            firsts.note(found, number, inside)?;
             led = led_behind(self.way, self.taken, led, at, number, found);
+            inside_led = led_behind(&self.place, self.holder, inside_led, at, number, found);
         }
         Ok(())
     }
 
-    /// Pushes the patches for the item of this number in the body at the address. `led` says whether a reference to the
-    /// taken item's name leads to it here.
+    /// Pushes the patches for the item of this number, behind these instances, in the body at the address. `led` says whether
+    /// a reference to the taken item's name leads to it here, `inside_led` whether one to its holder's name leads to the
+    /// holder.
     #[cycle(reach)]
     fn push_item(
         &self,
         alloc: Global,
         at: &Address,
         number: usize,
-        found: &Item,
+        found: &'a Item,
         led: bool,
+        inside_led: bool,
+        firsts: &Firsts,
         patches: &mut Vec<Patch>,
     ) -> Result<(), AllocError>
         requires nesting { depth self.now.whole.now.items ≤ 16 }
@@ -125,17 +155,19 @@ impl<'a> Reach<'a> {
         requires room { length at.now < 17 }
         requires here { item (at.now ++ number ∷ []) self.now.whole.now.items ≡ Some found.now }
         requires led { IsLed self.now.whole.now.items self.now.way.now (at.now ++ number ∷ []) led }
+        requires inside_led { IsLed self.now.whole.now.items (holder_of self.now.way.now) (at.now ++ number ∷ []) inside_led }
+        requires firsts { AreFirsts self.now.whole.now.items (holder_of self.now.way.now) at.now number firsts.now }
         ensures { IfOk result (λ _. reverse patches.new.items ≡ fate_patches (fate self.now.whole.now.items self.now.way.now (option_copied self.now.name)) at.now number (add found.now no_items) ++ reverse patches.old.items) }
     {
         let address = at.inside(number);
-        let fate = self.fate(alloc, &address, found, led)?;
+        let fate = self.fate(alloc, &address, found, led, firsts)?;
         let goes = fate.is_dropped();
         fate.push_to(&address, patches)?;
         if goes {
             return Ok(());
         }
         match found.own_body() {
-            Some(body) => self.push_body(alloc, &address, body, led, patches),
+            Some(body) => self.push_body(alloc, &address, body, led, inside_led, patches),
             None => Ok(()),
         }
     }
@@ -151,6 +183,7 @@ impl<'a> Reach<'a> {
             alloc,
             &Address::new(),
             &self.whole.items,
+            false,
             false,
             &mut patches,
         )?;

@@ -3,12 +3,12 @@ ghost use Rattle.std.specs.Prelude.{◌≡◌, ◌≤◌, ◌<◌, ◌++◌, ◌
 ghost use Rattle.std.specs.List.{list_any};
 ghost use Rattle.rdl_tree.specs.Items.{no_items};
 ghost use Rattle.rdl_tree.specs.View.{add};
-ghost use Rattle.rdl_tree.specs.Address.{body_at};
+ghost use Rattle.rdl_tree.specs.Address.{body_at, holder_of, number_of};
 ghost use Rattle.rdl_tree.specs.Depth.{depth};
 ghost use Rattle.rdl_scope.specs.Types.{item, type_of};
-ghost use Rattle.rdl_scope.specs.Target.{through};
-ghost use Rattle.rdl_rewrite.specs.Addresses.{leads_to, passes_by, addresses};
+ghost use Rattle.rdl_rewrite.specs.Addresses.{leads_to, addresses};
 ghost use Rattle.rdl_rewrite.specs.Led.{IsLed};
+ghost use Rattle.rdl_rewrite.specs.Firsts.{AreFirsts};
 ghost use Rattle.rdl_rewrite.specs.Reach.{Knows};
 ghost use Rattle.rdl_rewrite.specs.Fates.{fate_in_removal, fate, fate_patches};
 ghost use Rattle.rdl_rewrite.specs.Removal.{is_in_use, goes, removed};
@@ -17,9 +17,10 @@ ghost use Rattle.rdl_rewrite.specs.declared.edit.Refusal.{Refusal};
 
 use crate::edit::Refusal;
 use crate::fate::Fate;
-use crate::leads::{is_on, leads_to, led_behind};
+use crate::firsts::Firsts;
+use crate::leads::{leads_to, led_behind};
+use crate::passed::passed;
 use crate::reach::Reach;
-use rdl_scope::targets::through;
 use rdl_tree::address::Address;
 use rdl_tree::description::{Body, Description, Item};
 use rdl_tree::patch::Patch;
@@ -76,28 +77,18 @@ fn is_in_use(reach: &Reach) -> bool
     }
 }
 
-/// Whether the target of the item at this address passes the item on the way.
-fn passes_by(
+/// Whether this item, at its address, is the taken one, or an assignment behind these instances whose target passes that.
+fn goes(
     alloc: Global,
-    whole: &Description,
-    way: &Address,
+    reach: &Reach,
     at: &Address,
+    found: &Item,
+    firsts: &Firsts,
 ) -> Result<bool, AllocError>
-    requires { depth whole.now.items ≤ 16 }
-    ensures { IfOk result (λ answer. answer ≡ passes_by way.now (through whole.now.items at.now)) }
-{
-    match through(alloc, whole, at)? {
-        Some(path) => Ok(is_on(way, path.as_slice())),
-        None => Ok(false),
-    }
-}
-
-/// Whether this item, at its address, is the taken one, or an assignment whose target passes that. Only a target that may
-/// do so is searched.
-fn goes(alloc: Global, reach: &Reach, at: &Address, found: &Item) -> Result<bool, AllocError>
     requires nesting { depth reach.now.whole.now.items ≤ 16 }
     requires known { Knows reach.now }
     requires here { item at.now reach.now.whole.now.items ≡ Some found.now }
+    requires firsts { AreFirsts reach.now.whole.now.items (holder_of reach.now.way.now) (holder_of at.now) (number_of at.now) firsts.now }
     ensures { IfOk result (λ answer. answer ≡ goes reach.now.whole.now.items reach.now.way.now at.now) }
 {
     if at == reach.way {
@@ -105,29 +96,28 @@ fn goes(alloc: Global, reach: &Reach, at: &Address, found: &Item) -> Result<bool
     }
     match found {
         Item::Dynamic(target, ..) => {
-            if reach.may_be_passed(at, target.names()) {
-                passes_by(alloc, reach.whole, reach.way, at)
-            } else {
-                Ok(false)
-            }
+            let path = passed(alloc, reach, at, target.names(), firsts)?;
+            Ok(path.is_some())
         }
         _ => Ok(false),
     }
 }
 
-/// What becomes of this item, at its address, where the one on the way is taken out.
+/// What becomes of this item, at its address behind these instances, where the one on the way is taken out.
 pub(crate) fn fate(
     alloc: Global,
     reach: &Reach,
     at: &Address,
     found: &Item,
+    firsts: &Firsts,
 ) -> Result<Fate, AllocError>
     requires nesting { depth reach.now.whole.now.items ≤ 16 }
     requires known { Knows reach.now }
     requires here { item at.now reach.now.whole.now.items ≡ Some found.now }
+    requires firsts { AreFirsts reach.now.whole.now.items (holder_of reach.now.way.now) (holder_of at.now) (number_of at.now) firsts.now }
     ensures { IfOk result (λ fate. fate ≡ fate_in_removal reach.now.whole.now.items reach.now.way.now at.now) }
 {
-    if goes(alloc, reach, at, found)? {
+    if goes(alloc, reach, at, found, firsts)? {
         Ok(Fate::Dropped)
     } else {
         Ok(Fate::Kept)

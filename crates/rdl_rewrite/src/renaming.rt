@@ -1,24 +1,27 @@
 //! What follows the name of an item.
-ghost use Rattle.std.specs.Prelude.{◌≡◌, ◌≤◌, ◌<◌, [], true, is_ok, Some, IfOk, IfErr, IsErrOf, option_copied, if◌then◌else◌};
+ghost use Rattle.std.specs.Prelude.{◌≡◌, ◌≤◌, ◌<◌, [], length, true, is_ok, Some, IfOk, IfErr, IsErrOf, option_copied, if◌then◌else◌};
+ghost use Rattle.rdl_tree.specs.Address.{holder_of, number_of};
 ghost use Rattle.rdl_tree.specs.Depth.{depth};
 ghost use Rattle.rdl_scope.specs.Types.{item};
-ghost use Rattle.rdl_scope.specs.Target.{through};
-ghost use Rattle.rdl_rewrite.specs.Addresses.{passes_by};
+ghost use Rattle.rdl_scope.specs.Target.{passes};
+ghost use Rattle.rdl_rewrite.specs.Firsts.{AreFirsts};
+ghost use Rattle.rdl_rewrite.specs.Passed.{if_passed};
 ghost use Rattle.rdl_rewrite.specs.Led.{IsLed};
 ghost use Rattle.rdl_rewrite.specs.Reach.{Knows};
-ghost use Rattle.rdl_rewrite.specs.Fates.{given_if, fate_in_renaming, fate, fate_patches};
+ghost use Rattle.rdl_rewrite.specs.Fates.{given_if, fate_of_target, fate_in_renaming, fate, fate_patches};
 ghost use Rattle.rdl_rewrite.specs.Names.{has_name};
-ghost use Rattle.rdl_rewrite.specs.Renaming.{renamed_names, renamed_target, is_reserved, names_in, is_taken, renamed};
+ghost use Rattle.rdl_rewrite.specs.Renaming.{renamed_names, is_reserved, names_in, is_taken, renamed};
 ghost use Rattle.rdl_rewrite.specs.Refuses.{RefusesEdit};
 ghost use Rattle.rdl_rewrite.specs.declared.edit.Refusal.{Refusal};
 
 use crate::edit::Refusal;
 use crate::fate::Fate;
-use crate::leads::{is_at, is_on, leads_to};
+use crate::firsts::Firsts;
+use crate::leads::{is_at, leads_to};
 use crate::names::{is_defined, is_instantiated};
+use crate::passed::passed;
 use crate::reach::Reach;
 use rdl_parse::class::Class;
-use rdl_scope::targets::through;
 use rdl_scope::types::item_at;
 use rdl_text::name::Name;
 use rdl_tree::address::Address;
@@ -84,30 +87,34 @@ fn shell_fate(alloc: Global, name: &Name, shell: &Shell) -> Result<Fate, AllocEr
     Ok(Fate::Given(Part::OfShell(new)))
 }
 
-/// The target of the assignment at this address gets the name where it passes the item on the way.
+/// The target of the assignment at this address, behind these instances, gets the name where it passes the item on the
+/// way.
 fn target_fate(
     alloc: Global,
-    whole: &Description,
-    way: &Address,
+    reach: &Reach,
     name: &Name,
     at: &Address,
     target: &Target,
+    firsts: &Firsts,
 ) -> Result<Fate, AllocError>
-    requires { depth whole.now.items ≤ 16 }
-    ensures { IfOk result (λ fate. fate ≡ given_if (passes_by way.now (through whole.now.items at.now)) (Part.OfTarget (renamed_target way.now name.now (through whole.now.items at.now) target.now))) }
+    requires nesting { depth reach.now.whole.now.items ≤ 16 }
+    requires known { Knows reach.now }
+    requires stands { 0 < length at.now }
+    requires room { length at.now ≤ 17 }
+    requires firsts { AreFirsts reach.now.whole.now.items (holder_of reach.now.way.now) (holder_of at.now) (number_of at.now) firsts.now }
+    ensures { IfOk result (λ fate. fate ≡ fate_of_target reach.now.way.now name.now target.now (if_passed reach.now.way.now (passes reach.now.whole.now.items (holder_of at.now) (number_of at.now) target.now))) }
 {
-    let Some(path) = through(alloc, whole, at)? else {
-        return Ok(Fate::Kept);
-    };
-    if !is_on(way, path.as_slice()) {
-        return Ok(Fate::Kept);
+    match passed(alloc, reach, at, target.names(), firsts)? {
+        Some(path) => {
+            let names = renamed_names(alloc, reach.way, name, path.as_slice(), target.names())?;
+            Ok(Fate::Given(Part::OfTarget(Target::from_vec(names))))
+        }
+        None => Ok(Fate::Kept),
     }
-    let names = renamed_names(alloc, way, name, path.as_slice(), target.names())?;
-    Ok(Fate::Given(Part::OfTarget(Target::from_vec(names))))
 }
 
-/// What becomes of this item, at its address, where the one on the way gets the name. `led` says whether a reference to the
-/// old name leads to that here. Only a target that may pass it is searched.
+/// What becomes of this item, at its address behind these instances, where the one on the way gets the name. `led` says
+/// whether a reference to the old name leads to that here.
 pub(crate) fn fate(
     alloc: Global,
     reach: &Reach,
@@ -115,11 +122,13 @@ pub(crate) fn fate(
     at: &Address,
     found: &Item,
     led: bool,
+    firsts: &Firsts,
 ) -> Result<Fate, AllocError>
     requires nesting { depth reach.now.whole.now.items ≤ 16 }
     requires known { Knows reach.now }
     requires here { item at.now reach.now.whole.now.items ≡ Some found.now }
     requires led { IsLed reach.now.whole.now.items reach.now.way.now at.now led }
+    requires firsts { AreFirsts reach.now.whole.now.items (holder_of reach.now.way.now) (holder_of at.now) (number_of at.now) firsts.now }
     ensures { IfOk result (λ fate. fate ≡ fate_in_renaming reach.now.whole.now.items reach.now.way.now name.now at.now found.now) }
 {
     match found {
@@ -133,12 +142,7 @@ pub(crate) fn fate(
                 Of::Anonymous(_) => Ok(Fate::Kept),
             }
         }
-        Item::Dynamic(target, ..) => {
-            if !reach.may_be_passed(at, target.names()) {
-                return Ok(Fate::Kept);
-            }
-            target_fate(alloc, reach.whole, reach.way, name, at, target)
-        }
+        Item::Dynamic(target, ..) => target_fate(alloc, reach, name, at, target, firsts),
         Item::Own(..) => Ok(Fate::Kept),
         Item::Default(..) => Ok(Fate::Kept),
     }

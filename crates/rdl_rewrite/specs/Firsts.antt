@@ -1,0 +1,38 @@
+-- What a walk keeps of the instances before an item in its body: of the first of each name the number, and whether its
+-- component is the one in which the item on the way stands.
+-- own: no part of what a target passes; `passes` (Target of rdl_scope) says that by a search through whole bodies.
+use Rattle.std.specs.Prelude.{◌≡◌, ℕ, Bool, false, ◌&&◌, List, [], ◌∷◌, ◌++◌, Option, option_map, option_and_then}
+use Rattle.std.specs.BTreeMap.{get_by}
+use Rattle.std.specs.Cmp.Lexicographic.{slice_cmp}
+use Rattle.std.specs.Ordering.{nat_cmp}
+use Rattle.rdl_tree.specs.Items.{Items}
+use Rattle.rdl_tree.specs.Address.{body_at}
+use Rattle.rdl_tree.specs.declared.description.Item.{Item}
+use Rattle.rdl_tree.specs.declared.description.Item.TheVariants.{Define, Instance, Own, Default, Dynamic}
+use Rattle.rdl_tree.specs.declared.description.Of.TheVariants.{Named, Anonymous}
+use Rattle.rdl_scope.specs.Types.{component_of}
+use Rattle.rdl_scope.specs.Target.{instance_before}
+use Rattle.rdl_scope.specs.Walk.{is_definition}
+use Rattle.rdl_rewrite.specs.Addresses.{same, leads_to}
+use Rattle.rdl_rewrite.specs.declared.firsts.Firsts.{Firsts}
+
+abbrev pub first_under : Firsts → List ℕ → Option (ℕ × Bool)
+first_under firsts q = get_by (λ k. slice_cmp nat_cmp q k.now) firsts.instances
+
+-- of the instance of number k of the body at b
+abbrev pub first_at : Items → (place b : List ℕ) → ℕ → ℕ × Bool
+first_at d place b k = (k, leads_to place (component_of d (b ++ k ∷ [])))
+
+-- these are the first among the first n items of the body at b, for a taken item in the component at this place
+pub record AreFirsts (d : Items) (place b : List ℕ) (n : ℕ) (firsts : Firsts) : Type 0 where
+  pub found : (q : List ℕ) → first_under firsts q ≡ option_map (first_at d place b) (option_and_then (instance_before q n) (body_at b d))
+
+-- the component of the item at this address is the one at the place, which the holder holds; led says whether a reference
+-- to the holder's name leads to that from here
+abbrev pub is_inside : (place : List ℕ) → (holder : Option Item) → (at : List ℕ) → (led : Bool) → Item → Bool
+is_inside place holder at led (Instance s (Named t)) = led && is_definition t holder
+is_inside place holder at led (Instance s (Anonymous c)) = same at place
+is_inside place holder at led (Define n c) = false
+is_inside place holder at led (Own p v) = false
+is_inside place holder at led (Default p v) = false
+is_inside place holder at led (Dynamic t p v) = false

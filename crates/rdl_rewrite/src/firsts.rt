@@ -1,0 +1,61 @@
+//! The instances before an item in its body.
+use rdl_tree::description::Item;
+use std::alloc::{AllocError, Global};
+use std::collections::BTreeMap;
+
+/// The number of the first instance of each name, and whether its component is the one in which the taken item stands.
+#[derive(Drop)]
+pub(crate) struct Firsts<'a> {
+    instances: BTreeMap<&'a str, (usize, bool)>,
+}
+
+impl<'a> Firsts<'a> {
+    ghost use Rattle.std.specs.Prelude.{◌≡◌, ℕ, List, Some, None, OnOk, bytes_eq, if◌then◌else◌};
+    ghost use Rattle.std.specs.Option.{option_or};
+    ghost use Rattle.rdl_scope.specs.Walk.{is_instance};
+    ghost use Rattle.rdl_rewrite.specs.Firsts.{first_under};
+
+    pub(crate) fn new(alloc: Global) -> Firsts<'a>
+        ensures { (q : List ℕ) → first_under result q ≡ None }
+    {
+        Firsts {
+            instances: BTreeMap::new(alloc),
+        }
+    }
+
+    pub(crate) fn get(&self, name: &str) -> Option<(usize, bool)>
+        ensures { result ≡ first_under self.now name.now }
+    {
+        match self.instances.get(name) {
+            Some(first) => Some(*first),
+            None => None,
+        }
+    }
+
+    fn put(&mut self, name: &'a str, number: usize, is_inside: bool) -> Result<(), AllocError>
+        ensures { OnOk result ((q : List ℕ) → first_under self.new q ≡ option_or (first_under self.old q) (if bytes_eq name.now q then Some (number, is_inside) else None)) }
+    {
+        match self.get(name) {
+            Some(_) => Ok(()),
+            None => {
+                self.instances.insert(name, (number, is_inside))?;
+                Ok(())
+            }
+        }
+    }
+
+    /// Notes the item of this number, if it is the first instance of its name.
+    pub(crate) fn note(
+        &mut self,
+        found: &'a Item,
+        number: usize,
+        is_inside: bool,
+    ) -> Result<(), AllocError>
+        ensures { OnOk result ((q : List ℕ) → first_under self.new q ≡ option_or (first_under self.old q) (if is_instance q (Some found.now) then Some (number, is_inside) else None)) }
+    {
+        match found {
+            Item::Instance(shell, _) => self.put(shell.name.as_str(), number, is_inside),
+            _ => Ok(()),
+        }
+    }
+}

@@ -1,0 +1,144 @@
+//! The instances that a target passes, as a walk finds them.
+ghost use Rattle.std.specs.Prelude.{◌≡◌, ◌≤◌, ◌<◌, length, Some, IfOk, option_map, option_copied};
+ghost use Rattle.rdl_tree.specs.Address.{holder_of, number_of};
+ghost use Rattle.rdl_tree.specs.Depth.{depth};
+ghost use Rattle.rdl_scope.specs.Target.{passes};
+ghost use Rattle.rdl_scope.specs.Types.{component_of};
+ghost use Rattle.rdl_rewrite.specs.Addresses.{leads_to};
+ghost use Rattle.rdl_rewrite.specs.Firsts.{AreFirsts};
+ghost use Rattle.rdl_rewrite.specs.Passed.{may_hold, may_pass, passes_from, if_passed};
+ghost use Rattle.rdl_rewrite.specs.Reach.{Knows};
+
+use crate::firsts::Firsts;
+use crate::leads::is_on;
+use crate::reach::Reach;
+use rdl_scope::targets::{is_instance, passes};
+use rdl_text::name::Name;
+use rdl_tree::address::Address;
+use rdl_tree::description::Item;
+use std::alloc::{AllocError, Global};
+
+/// Whether an instance of this name may have the component that the item holds.
+fn may_hold(holder: Option<&Item>, name: &Name) -> bool
+    ensures { result ≡ may_hold (option_copied holder.entry) name.now }
+{
+    match holder {
+        Some(Item::Define(..)) => true,
+        Some(Item::Instance(shell, _)) => &shell.name == name,
+        _ => false,
+    }
+}
+
+/// Whether these names may pass the taken item, which stands in the component that the holder holds. `is_inside` says
+/// whether they begin there.
+fn may_pass(
+    taken: Option<&Item>,
+    holder: Option<&Item>,
+    mut is_inside: bool,
+    names: &[Name],
+) -> bool
+    ensures { result ≡ may_pass (option_copied taken.entry) (option_copied holder.entry) is_inside names.now }
+{
+    'names: for name in names {
+        if is_inside && is_instance(taken, name) {
+            return true;
+        }
+        is_inside = may_hold(holder, name);
+    }
+    false
+}
+
+/// The path, if it passes the item on the way.
+fn if_passed(way: &Address, path: Option<Vec<Address>>) -> Option<Vec<Address>>
+    ensures { option_map (λ v. v.items) result ≡ if_passed way.now (option_map (λ v. v.items) path) }
+{
+    match path {
+        Some(path) => {
+            if is_on(way, path.as_slice()) {
+                Some(path)
+            } else {
+                None
+            }
+        }
+        None => None,
+    }
+}
+
+/// The instance, and those that the other names pass, if there are any. The instance's component is the one in which the
+/// taken item stands.
+fn path_inside(
+    alloc: Global,
+    reach: &Reach,
+    instance: Address,
+    names: &[Name],
+) -> Result<Option<Vec<Address>>, AllocError>
+    requires nesting { depth reach.now.whole.now.items ≤ 16 }
+    requires known { Knows reach.now }
+    requires inside { 0 < length names.now → component_of reach.now.whole.now.items instance ≡ Some (holder_of reach.now.way.now) }
+    ensures { IfOk result (λ path. option_map (λ v. v.items) path ≡ passes_from reach.now.whole.now.items instance names.now) }
+{
+    if names.is_empty() {
+        return Ok(Some(vec![in alloc; instance]?));
+    }
+    match passes(alloc, reach.whole, &reach.place, reach.siblings, names)? {
+        Some(mut path) => {
+            path.insert(0, instance)?;
+            Ok(Some(path))
+        }
+        None => Ok(None),
+    }
+}
+
+/// The instances that the names pass, the first of which stands for this instance, for the assignment at this address.
+/// `is_inside` says whether the instance's component is the one in which the taken item stands.
+fn path(
+    alloc: Global,
+    reach: &Reach,
+    at: &Address,
+    names: &[Name],
+    instance: Address,
+    is_inside: bool,
+    rest: &[Name],
+) -> Result<Option<Vec<Address>>, AllocError>
+    requires nesting { depth reach.now.whole.now.items ≤ 16 }
+    requires known { Knows reach.now }
+    requires stands { 0 < length at.now }
+    requires first { passes reach.now.whole.now.items (holder_of at.now) (number_of at.now) names.now ≡ passes_from reach.now.whole.now.items instance rest.now }
+    requires inside { is_inside ≡ leads_to (holder_of reach.now.way.now) (component_of reach.now.whole.now.items instance) }
+    ensures { IfOk result (λ path. option_map (λ v. v.items) path ≡ passes reach.now.whole.now.items (holder_of at.now) (number_of at.now) names.now) }
+{
+    if is_inside || rest.is_empty() {
+        return path_inside(alloc, reach, instance, rest);
+    }
+    passes(alloc, reach.whole, &at.holder(), at.number(), names)
+}
+
+/// The instances that the names pass, if the taken item is one of them, for the assignment at this address, which stands
+/// behind these instances. Bodies are searched only where the names say that this may be so.
+pub(crate) fn passed(
+    alloc: Global,
+    reach: &Reach,
+    at: &Address,
+    names: &[Name],
+    firsts: &Firsts,
+) -> Result<Option<Vec<Address>>, AllocError>
+    requires nesting { depth reach.now.whole.now.items ≤ 16 }
+    requires known { Knows reach.now }
+    requires stands { 0 < length at.now }
+    requires room { length at.now ≤ 17 }
+    requires firsts { AreFirsts reach.now.whole.now.items (holder_of reach.now.way.now) (holder_of at.now) (number_of at.now) firsts.now }
+    ensures { IfOk result (λ path. option_map (λ v. v.items) path ≡ if_passed reach.now.way.now (passes reach.now.whole.now.items (holder_of at.now) (number_of at.now) names.now)) }
+{
+    let Some((name, rest)) = names.split_first() else {
+        return Ok(None);
+    };
+    let Some((number, is_inside)) = firsts.get(name.as_str()) else {
+        return Ok(None);
+    };
+    let instance = at.holder().inside(number);
+    if &instance != reach.way && !may_pass(reach.taken, reach.holder, is_inside, rest) {
+        return Ok(None);
+    }
+    let path = path(alloc, reach, at, names, instance, is_inside, rest)?;
+    Ok(if_passed(reach.way, path))
+}
