@@ -1,6 +1,6 @@
 -- Steps along a stack of defaults, which a contract sees from its other end.
-use Rattle.std.proofs.Common.{◌≡◌, ℕ, ◌-◌, ◌≤◌, List, ◌++◌, length, take, drop, map, reverse, ap, ◌∙◌, sym, arith}
-use Rattle.std.proofs.Math.Seq.{drop-append_seam}
+use Rattle.std.proofs.Common.{◌≡◌, ℕ, suc, ◌+◌, ◌-◌, ◌<◌, ◌≤◌, List, [], ◌∷◌, ◌++◌, length, take, drop, get_or, map, reverse, ap, ◌∙◌, sym, add-one, arith}
+use Rattle.std.proofs.Math.Seq.{drop-append_seam, drop-cons}
 use Rattle.std.proofs.lemmas.List.{reverse-append, length-reverse, length-drop, take-append-drop, take-map}
 use Rattle.rdl_tree.specs.declared.value.Value.{Value}
 use Rattle.rdl_elab.specs.declared.defaults.Default.{Default}
@@ -21,3 +21,16 @@ pub stack-shorter : {X Y : Type 0} (f : X → Y) (n : ℕ) (xs : List X) → n �
 stack-shorter f n xs h =
     let short : n ≤ length (map f xs) = omega (arith, length-reverse (map f xs)) in
     ap reverse (sym (take-map f n xs)) ∙ reverse-take n (map f xs) short
+
+-- the defaults behind the first i, the last first
+abbrev pub nearest : ℕ → List Default → List (List ℕ × Value)
+nearest i xs = reverse (map (λ (e : Default). (e.property.now, e.value.now)) (drop i xs))
+
+-- with one more
+pub nearest-next : (i : ℕ) (xs : List Default) (x : Default) → i < length xs → nearest i xs ≡ nearest (i + 1) xs ++ ((get_or xs i x).property.now, (get_or xs i x).value.now) ∷ []
+nearest-next i xs x l =
+    let pair : Default → List ℕ × Value = λ e. (e.property.now, e.value.now) in
+    let rest = map pair (drop (suc i) xs) in
+    ap (λ ys. reverse (map pair ys)) (drop-cons xs i x l)
+    ∙ reverse-append (pair (get_or xs i x) ∷ []) rest
+    ∙ ap (λ n. nearest n xs ++ pair (get_or xs i x) ∷ []) (sym (add-one i))

@@ -32,6 +32,7 @@ pub mod Onward
 pub mod ListedValues
 pub mod BareHeads
 pub mod Unstated
+pub mod StatedLists
 pub mod Tops
 pub mod TypeStacks
 pub mod Assignments

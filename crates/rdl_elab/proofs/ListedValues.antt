@@ -12,7 +12,8 @@ use Rattle.rdl_tree.specs.declared.value.Value.{Value}
 use Rattle.rdl_scope.specs.Value.{shown}
 use Rattle.rdl_elab.specs.declared.row.PropertyValue.{PropertyValue}
 use Rattle.rdl_elab.specs.Shown.{valued}
-use Rattle.rdl_elab.specs.Reaches.{Reach, reached, reset_value, value_under, value_along, values_among, are_distinct, past}
+use Rattle.rdl_elab.specs.Reaches.{Reach, reached, reset_value, value_under, are_distinct, past}
+use Rattle.rdl_elab.specs.StatedValues.{value_over, values_over}
 use Rattle.rdl_elab.proofs.ValueLists.{found-next}
 
 -- the value of each of these properties is the same in both lists
@@ -60,14 +61,14 @@ first-same own rest (p ∷ ps) zero x l same = same.0
 first-same own rest (p ∷ ps) (suc i) x l same = first-same own rest ps i x (omega arith) same
 
 -- with the value of one property more, found in what is left of the list
-pub with-next : (k : Kind) (reset : Option ℕ) (rs : List Reach) (own rest : List PropertyValue) (ps : List Property) (i : ℕ) (x : Property) (value : Option Value) (before after : List PropertyValue) → i < length ps → AreSame own rest (drop i ps) → value ≡ value_along k reset rs rest (get_or ps i x)
-    → before ≡ values_among k reset rs own (take i ps) → after ≡ before ++ cons_option (option_map (valued (get_or ps i x)) value) []
-    → after ≡ values_among k reset rs own (take (i + 1) ps)
-with-next k reset rs own rest ps i x value before after l same e f g =
+pub with-next : (k : Kind) (reset : Option ℕ) (rs : List Reach) (stated own rest : List PropertyValue) (ps : List Property) (i : ℕ) (x : Property) (value : Option Value) (before after : List PropertyValue) → i < length ps → AreSame own rest (drop i ps) → value ≡ value_over k reset rs stated rest (get_or ps i x)
+    → before ≡ values_over k reset rs stated own (take i ps) → after ≡ before ++ cons_option (option_map (valued (get_or ps i x)) value) []
+    → after ≡ values_over k reset rs stated own (take (i + 1) ps)
+with-next k reset rs stated own rest ps i x value before after l same e f g =
     let p = get_or ps i x in
-    let there : value ≡ value_along k reset rs own p =
-    e ∙ ap (λ v. if on p k then option_or (option_map (shown (row p).form) (option_or (reached (row p).name rs) (reset_value p reset))) v else None) (sym (first-same own rest ps i x l same)) in
+    let there : value ≡ value_over k reset rs stated own p =
+    e ∙ ap (λ v. if on p k then option_or (option_map (shown (row p).form) (option_or (reached (row p).name rs) (reset_value p reset))) (option_or (value_under p stated) v) else None) (sym (first-same own rest ps i x l same)) in
     g
     ∙ ap (λ xs. xs ++ cons_option (option_map (valued p) value) []) f
-    ∙ ap (λ v. values_among k reset rs own (take i ps) ++ cons_option (option_map (valued p) v) []) there
-    ∙ sym (found-next (λ p. option_map (valued p) (value_along k reset rs own p)) i ps x l)
+    ∙ ap (λ v. values_over k reset rs stated own (take i ps) ++ cons_option (option_map (valued p) v) []) there
+    ∙ sym (found-next (λ p. option_map (valued p) (value_over k reset rs stated own p)) i ps x l)

@@ -38,3 +38,4 @@ pub mod Known
 pub mod Found
 pub mod Tracked
 pub mod EditedBodies
+pub mod StatedValues

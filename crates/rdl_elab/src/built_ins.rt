@@ -2,22 +2,21 @@
 ghost use Rattle.std.specs.Prelude.{◌≡◌, IfOk};
 ghost use Rattle.rdl_elab.specs.Shown.{built_in_values};
 
-use crate::defaults::Defaults;
-use crate::row_values::ComponentValues;
-use crate::values::stated_values;
-use rdl_tree::description::Body;
+use crate::row::PropertyValue;
+use crate::values::built_in_values;
 use rdl_tree::shell::Kind;
 use std::alloc::{AllocError, Global};
 use std::marker::Model;
+use std::rc::Rc;
 
 /// The values of components without assignments that no default reaches, for each kind once. All of them are the same,
 /// so a contract sees nothing of them.
 #[derive(Drop)]
 pub(crate) struct BuiltIns {
-    addrmap: ComponentValues,
-    regfile: ComponentValues,
-    reg: ComponentValues,
-    field: ComponentValues,
+    addrmap: Rc<Vec<PropertyValue>>,
+    regfile: Rc<Vec<PropertyValue>>,
+    reg: Rc<Vec<PropertyValue>>,
+    field: Rc<Vec<PropertyValue>>,
 }
 
 impl Model for BuiltIns {
@@ -27,13 +26,14 @@ impl Model for BuiltIns {
 
     ghost view = { λ b. tt };
 
-    ghost invariant = { λ b. AreBuiltIns b.addrmap b.regfile b.reg b.field };
+    ghost invariant = { λ b. AreBuiltIns b.addrmap.value.items b.regfile.value.items b.reg.value.items b.field.value.items };
 }
 
-fn built_in_values(alloc: Global, kind: Kind) -> Result<ComponentValues, AllocError>
-    ensures { IfOk result (λ values. values ≡ built_in_values kind) }
+fn shared(alloc: Global, kind: Kind) -> Result<Rc<Vec<PropertyValue>>, AllocError>
+    ensures { IfOk result (λ values. values.value.items ≡ built_in_values kind) }
 {
-    stated_values(alloc, kind, &Body::new(alloc), &Defaults::new(alloc))
+    let values = built_in_values(alloc, kind)?;
+    Ok(Rc::new(alloc, values)?)
 }
 
 impl BuiltIns {
@@ -42,16 +42,16 @@ impl BuiltIns {
 
     pub(crate) fn new(alloc: Global) -> Result<BuiltIns, AllocError> {
         Ok(BuiltIns {
-            addrmap: built_in_values(alloc, Kind::Addrmap)?,
-            regfile: built_in_values(alloc, Kind::Regfile)?,
-            reg: built_in_values(alloc, Kind::Reg)?,
-            field: built_in_values(alloc, Kind::Field)?,
+            addrmap: shared(alloc, Kind::Addrmap)?,
+            regfile: shared(alloc, Kind::Regfile)?,
+            reg: shared(alloc, Kind::Reg)?,
+            field: shared(alloc, Kind::Field)?,
         })
     }
 
     /// Those of a component of this kind.
-    pub(crate) fn of(&self, kind: Kind) -> &ComponentValues
-        ensures { result.now ≡ built_in_values kind }
+    pub(crate) fn of(&self, kind: Kind) -> &Rc<Vec<PropertyValue>>
+        ensures { result.now.value.items ≡ built_in_values kind }
     {
         match kind {
             Kind::Addrmap => &self.addrmap,

@@ -1,5 +1,8 @@
 //! The defaults before an item.
+use crate::row::PropertyValue;
+use crate::values::add_assigned;
 use rdl_text::name::Name;
+use rdl_tree::shell::Kind;
 use rdl_tree::value::Value;
 use std::alloc::{AllocError, Global};
 use std::marker::Model;
@@ -30,7 +33,12 @@ impl<'a> Model for Defaults<'a> {
 
 impl<'a> Defaults<'a> {
     ghost use Rattle.std.specs.Prelude.{◌≡◌, ◌-◌, ◌∷◌, ◌≤◌, [], length, drop, OnOk, option_copied};
+    ghost use Rattle.std.specs.Option.{option_or};
+    ghost use Rattle.rdl_tree.specs.Properties.{row};
+    ghost use Rattle.rdl_tree.specs.declared.property.Property.{Property};
     ghost use Rattle.rdl_scope.specs.Closed.{lookup};
+    ghost use Rattle.rdl_elab.specs.Reaches.{value_under};
+    ghost use Rattle.rdl_elab.specs.StatedValues.{shown_on};
 
     pub(crate) fn new(alloc: Global) -> Defaults<'a>
         ensures { result ≡ [] }
@@ -72,5 +80,23 @@ impl<'a> Defaults<'a> {
             }
         }
         nearest
+    }
+
+    /// Adds what these defaults, the nearest first, state for a component of this kind, unless a value before states it.
+    pub(crate) fn add_to(
+        &self,
+        alloc: Global,
+        kind: Kind,
+        items: &mut Vec<PropertyValue>,
+    ) -> Result<(), AllocError>
+        ensures { OnOk result ((p : Property) → value_under p items.new.items ≡ option_or (value_under p items.old.items) (shown_on kind p (lookup (row p).name self.now))) }
+    {
+        let mut left = self.items.len();
+        while left > 0 {
+            left -= 1;
+            let default = &self.items[left];
+            add_assigned(alloc, kind, items, default.property.as_str(), default.value)?;
+        }
+        Ok(())
     }
 }

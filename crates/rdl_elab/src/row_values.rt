@@ -1,6 +1,6 @@
 //! The values of rows.
 use crate::row::PropertyValue;
-use crate::values::value_under;
+use crate::values::under_either;
 use rdl_text::token::Number;
 use rdl_tree::property::Property;
 use rdl_tree::shell::Kind;
@@ -9,46 +9,86 @@ use std::alloc::{AllocError, Global};
 use std::marker::Model;
 use std::rc::Rc;
 
-/// The values of a component, in the order of the table of properties, which its rows share. A contract sees the list.
+/// The values of a component, which its rows share. A contract sees the list of all, in the order of the table of
+/// properties.
+///
+/// All components of a kind share the values that it has built in. Beside them stand those that the component states,
+/// in any order.
 #[derive(Debug, Drop)]
 pub(crate) struct ComponentValues {
-    items: Rc<Vec<PropertyValue>>,
+    stated: Option<Rc<Vec<PropertyValue>>>,
+    built_ins: Rc<Vec<PropertyValue>>,
 }
 
 impl Model for ComponentValues {
-    ghost use Rattle.std.specs.Prelude.{List};
+    ghost use Rattle.std.specs.Prelude.{List, option_map};
     ghost use Rattle.rdl_elab.specs.declared.row.PropertyValue.{PropertyValue};
+    ghost use Rattle.rdl_elab.specs.StatedValues.{over};
 
     ghost Value = { List PropertyValue };
 
-    ghost view = { λ values. values.items.value.items };
+    ghost view = { λ values. over (option_map (λ stated. stated.value.items) values.stated) values.built_ins.value.items };
 }
 
 impl ComponentValues {
-    ghost use Rattle.std.specs.Prelude.{◌≡◌, IfOk};
+    ghost use Rattle.std.specs.Prelude.{◌≡◌, Some, IfOk, option_copied};
+    ghost use Rattle.rdl_tree.specs.declared.property.Property.{Property};
+    ghost use Rattle.rdl_elab.specs.Reaches.{value_under};
+    ghost use Rattle.rdl_elab.specs.StatedValues.{over, under_either};
 
-    pub(crate) fn from_vec(
-        alloc: Global,
-        items: Vec<PropertyValue>,
-    ) -> Result<ComponentValues, AllocError>
-        ensures { IfOk result (λ values. values ≡ items.items) }
+    /// Those of a component that states none.
+    pub(crate) fn built_in(built_ins: Rc<Vec<PropertyValue>>) -> ComponentValues
+        ensures { result ≡ built_ins.value.items }
     {
-        let items = Rc::new(alloc, items)?;
-        Ok(ComponentValues { items })
+        ComponentValues {
+            stated: None,
+            built_ins,
+        }
     }
 
-    pub(crate) fn as_slice(&self) -> &[PropertyValue]
-        ensures { result.now ≡ self.now }
+    /// Those that the component states, over those that its kind has built in.
+    pub(crate) fn over(
+        alloc: Global,
+        stated: Vec<PropertyValue>,
+        built_ins: Rc<Vec<PropertyValue>>,
+    ) -> Result<ComponentValues, AllocError>
+        ensures { IfOk result (λ values. values ≡ over (Some stated.items) built_ins.value.items) }
     {
-        self.items.as_slice()
+        let stated = Rc::new(alloc, stated)?;
+        Ok(ComponentValues {
+            stated: Some(stated),
+            built_ins,
+        })
+    }
+
+    /// The values that the component states, and those that its kind has built in.
+    pub(crate) fn parts<'v>(&'v self) -> (&'v [PropertyValue], &'v [PropertyValue])
+        ensures { (p : Property) → value_under p self.now ≡ under_either result.0.now result.1.now p }
+    {
+        match &self.stated {
+            Some(stated) => (stated.as_slice(), self.built_ins.as_slice()),
+            None => (&[], self.built_ins.as_slice()),
+        }
+    }
+
+    /// The value of the property, if it has one.
+    pub(crate) fn get(&self, property: Property) -> Option<&Value>
+        ensures { option_copied result ≡ value_under property self.now }
+    {
+        let (stated, built_ins) = self.parts();
+        under_either(property, stated, built_ins)
     }
 
     /// The same values once more, which costs no memory.
     pub(crate) fn share(&self) -> Result<ComponentValues, AllocError>
         ensures { IfOk result (λ values. values ≡ self.now) }
     {
-        let items = self.items.clone()?;
-        Ok(ComponentValues { items })
+        let stated = match &self.stated {
+            Some(stated) => Some(stated.clone()?),
+            None => None,
+        };
+        let built_ins = self.built_ins.clone()?;
+        Ok(ComponentValues { stated, built_ins })
     }
 }
 
@@ -65,7 +105,7 @@ impl InstanceReset {
     ghost use Rattle.rdl_elab.specs.Reaches.{value_along};
 
     /// The value of a property of the instance, whose component has these values.
-    fn get<'v>(&'v self, own: &'v [PropertyValue], property: Property) -> Option<&'v Value>
+    fn get<'v>(&'v self, own: &'v ComponentValues, property: Property) -> Option<&'v Value>
         ensures { option_copied result ≡ value_along self.now.kind (number self.now) [] own.now property }
     {
         if !property.on(self.kind) {
@@ -73,7 +113,7 @@ impl InstanceReset {
         }
         match (property, &self.value) {
             (Property::Reset, Value::Number(_)) => Some(&self.value),
-            _ => value_under(property, own),
+            _ => own.get(property),
         }
     }
 }
@@ -105,7 +145,8 @@ impl RowValues {
     pub fn from_vec(alloc: Global, items: Vec<PropertyValue>) -> Result<RowValues, AllocError>
         ensures { IfOk result (λ values. values ≡ items.items) }
     {
-        Ok(RowValues::of(ComponentValues::from_vec(alloc, items)?))
+        let items = Rc::new(alloc, items)?;
+        Ok(RowValues::of(ComponentValues::built_in(items)))
     }
 
     /// Those of the component.
@@ -129,14 +170,12 @@ impl RowValues {
     }
 
     /// The value of the property, if it has one.
-
     pub fn get(&self, property: Property) -> Option<&Value>
         ensures { option_copied result ≡ value_under property self.now }
     {
-        let own = self.own.as_slice();
         match &self.reset {
-            Some(reset) => reset.get(own, property),
-            None => value_under(property, own),
+            Some(reset) => reset.get(&self.own, property),
+            None => self.own.get(property),
         }
     }
 

@@ -1,16 +1,19 @@
 //! The values of components and of rows.
-ghost use Rattle.std.specs.Prelude.{◌≡◌, ◌++◌, ℕ, List, [], true, Some, None, IfOk, OnOk, IsTrue, option_copied, option_map, bytes_eq};
+ghost use Rattle.std.specs.Prelude.{◌≡◌, ◌++◌, ℕ, List, [], true, Some, None, IfOk, OnOk, IsTrue, option_copied, option_map, is_some, bytes_eq};
 ghost use Rattle.std.specs.Option.{option_or};
 ghost use Rattle.rdl_tree.specs.Properties.{row, properties};
 ghost use Rattle.rdl_tree.specs.declared.shell.Kind.{Kind};
 ghost use Rattle.rdl_scope.specs.Closed.{Head, stated, built_in, head_value};
-ghost use Rattle.rdl_scope.specs.Value.{shown};
+ghost use Rattle.rdl_tree.specs.declared.property.Property.{Property};
+ghost use Rattle.rdl_scope.specs.Value.{shown, own_value};
+ghost use Rattle.rdl_scope.specs.Walk.{owned_by};
 ghost use Rattle.rdl_elab.specs.Layouts.{values_of, number_in, power_in, width_in, mode_in};
 ghost use Rattle.std.specs.List.{list_any, cons_option};
 ghost use Rattle.rdl_tree.specs.Items.{no_items};
-ghost use Rattle.rdl_elab.specs.Shown.{bare, shown_value, shown_among, shown_values, is_own};
+ghost use Rattle.rdl_elab.specs.Shown.{bare, shown_value, shown_among, shown_values, built_in_values, is_own};
 ghost use Rattle.rdl_elab.specs.Shown.{valued};
-ghost use Rattle.rdl_elab.specs.Reaches.{are_distinct, past, value_along, values_among, values_along, reset_value, value_under};
+ghost use Rattle.rdl_elab.specs.Reaches.{are_distinct, past, values_along, reset_value, value_under};
+ghost use Rattle.rdl_elab.specs.StatedValues.{shown_on, if_named, stated_for, under_either, value_over, values_over};
 
 use crate::built_ins::BuiltIns;
 use crate::defaults::Defaults;
@@ -21,6 +24,7 @@ use crate::row_values::{ComponentValues, RowValues};
 use rdl_scope::values::{own_value, shown};
 use rdl_text::token::Number;
 use rdl_tree::description::{Body, Item};
+use rdl_tree::properties::property;
 use rdl_tree::property::{Form, Property};
 use rdl_tree::shell::Kind;
 use rdl_tree::value::{Value, Word};
@@ -218,7 +222,7 @@ fn room(kind: Kind) -> usize {
     }
 }
 
-/// The values that there are of these properties.
+/// The values that there are of these properties, each looked for.
 #[tactic(auto, using(crate::proofs::ValueLists::steps))]
 fn shown_among(
     alloc: Global,
@@ -226,8 +230,8 @@ fn shown_among(
     body: &Body,
     defaults: &Defaults,
     properties: &[Property],
-) -> Result<ComponentValues, AllocError>
-    ensures { IfOk result (λ values. values ≡ shown_among (bare kind body.now defaults.now) properties.now) }
+) -> Result<Vec<PropertyValue>, AllocError>
+    ensures { IfOk result (λ values. values.items ≡ shown_among (bare kind body.now defaults.now) properties.now) }
 {
     let mut items = Vec::with_capacity(alloc, room(kind))?;
     for property in properties {
@@ -238,19 +242,117 @@ fn shown_among(
             })?;
         }
     }
-    ComponentValues::from_vec(alloc, items)
+    Ok(items)
 }
 
-/// The values of a component of this kind with this body, where these defaults reach it, each looked for.
-pub(crate) fn stated_values(
+/// The values of a component of this kind without assignments that no default reaches.
+pub(crate) fn built_in_values(alloc: Global, kind: Kind) -> Result<Vec<PropertyValue>, AllocError>
+    ensures { IfOk result (λ values. values.items ≡ built_in_values kind) }
+{
+    shown_among(
+        alloc,
+        kind,
+        &Body::new(alloc),
+        &Defaults::new(alloc),
+        &Property::ALL,
+    )
+}
+
+fn has_value(property: Property, items: &[PropertyValue]) -> bool
+    ensures { result ≡ is_some (value_under property items.now) }
+{
+    value_under(property, items).is_some()
+}
+
+/// Adds a value that a component of this kind states, unless it hasn't the property or a value before states it.
+fn add_stated(
+    alloc: Global,
+    kind: Kind,
+    items: &mut Vec<PropertyValue>,
+    property: Property,
+    value: &Value,
+) -> Result<(), AllocError>
+    ensures { OnOk result ((p : Property) → value_under p items.new.items ≡ option_or (value_under p items.old.items) (if_named (row property).name (shown_on kind property (Some value.now)) p)) }
+{
+    if !property.on(kind) {
+        return Ok(());
+    }
+    if has_value(property, items.as_slice()) {
+        return Ok(());
+    }
+    let value = shown(property.form(), value.try_copy(alloc)?);
+    items.push(PropertyValue { property, value })?;
+    Ok(())
+}
+
+/// The same of an assignment to the property of this name.
+pub(crate) fn add_assigned(
+    alloc: Global,
+    kind: Kind,
+    items: &mut Vec<PropertyValue>,
+    name: &str,
+    value: &Value,
+) -> Result<(), AllocError>
+    ensures { OnOk result ((p : Property) → value_under p items.new.items ≡ option_or (value_under p items.old.items) (shown_on kind p (if_named name.now (Some value.now) p))) }
+{
+    match property(name) {
+        Some(property) => add_stated(alloc, kind, items, property, value),
+        None => Ok(()),
+    }
+}
+
+fn add_own(
+    alloc: Global,
+    kind: Kind,
+    items: &mut Vec<PropertyValue>,
+    item: Option<&Item>,
+) -> Result<(), AllocError>
+    ensures { OnOk result ((p : Property) → value_under p items.new.items ≡ option_or (value_under p items.old.items) (shown_on kind p (owned_by (row p).name (option_copied item.entry)))) }
+{
+    match item {
+        Some(Item::Own(name, value)) => add_assigned(alloc, kind, items, name.as_str(), value),
+        _ => Ok(()),
+    }
+}
+
+/// The values that the own assignments in the body of a component of this kind state.
+fn own_values(alloc: Global, kind: Kind, body: &Body) -> Result<Vec<PropertyValue>, AllocError>
+    ensures { IfOk result (λ values. (p : Property) → value_under p values.items ≡ shown_on kind p (own_value (row p).name body.now)) }
+{
+    let mut items = Vec::new(alloc);
+    for i in 0..body.len() {
+        add_own(alloc, kind, &mut items, body.item(i))?;
+    }
+    Ok(items)
+}
+
+/// Adds the accesswidth that a stated regwidth is, unless a value before states it.
+fn add_accesswidth(
+    alloc: Global,
+    kind: Kind,
+    items: &mut Vec<PropertyValue>,
+) -> Result<(), AllocError>
+    ensures { OnOk result ((p : Property) → value_under p items.new.items ≡ option_or (value_under p items.old.items) (if_named (row Property.Accesswidth).name (shown_on kind Property.Accesswidth (value_under Property.Regwidth items.old.items)) p)) }
+{
+    match copied(alloc, value_under(Property::Regwidth, items.as_slice()))? {
+        Some(regwidth) => add_stated(alloc, kind, items, Property::Accesswidth, &regwidth),
+        None => Ok(()),
+    }
+}
+
+/// The values that a component of this kind with this body states, where these defaults reach it.
+fn stated_values(
     alloc: Global,
     kind: Kind,
     body: &Body,
     defaults: &Defaults,
-) -> Result<ComponentValues, AllocError>
-    ensures { IfOk result (λ values. values ≡ shown_values (bare kind body.now defaults.now)) }
+) -> Result<Vec<PropertyValue>, AllocError>
+    ensures { IfOk result (λ values. (p : Property) → value_under p values.items ≡ shown_on kind p (stated_for (bare kind body.now defaults.now) p)) }
 {
-    shown_among(alloc, kind, body, defaults, &Property::ALL)
+    let mut items = own_values(alloc, kind, body)?;
+    defaults.add_to(alloc, kind, &mut items)?;
+    add_accesswidth(alloc, kind, &mut items)?;
+    Ok(items)
 }
 
 /// The values of a component of this kind with this body, where these defaults reach it.
@@ -263,11 +365,15 @@ pub(crate) fn shown_values(
 ) -> Result<ComponentValues, AllocError>
     ensures { IfOk result (λ values. (h : Head) → h.kind ≡ kind → h.body ≡ body.now → h.defaults ≡ defaults.now → values ≡ shown_values h) }
 {
+    let built_ins = built_ins.of(kind).clone()?;
     if states_nothing(body, defaults) {
-        built_ins.of(kind).share()
-    } else {
-        stated_values(alloc, kind, body, defaults)
+        return Ok(ComponentValues::built_in(built_ins));
     }
+    let stated = stated_values(alloc, kind, body, defaults)?;
+    if stated.is_empty() {
+        return Ok(ComponentValues::built_in(built_ins));
+    }
+    ComponentValues::over(alloc, stated, built_ins)
 }
 
 fn reset_value(property: Property, reset: Option<Number>) -> Option<Value>
@@ -286,7 +392,7 @@ fn same_property(a: Property, b: Property) -> bool
     a == b
 }
 
-pub(crate) fn value_under(property: Property, own: &[PropertyValue]) -> Option<&Value>
+fn value_under(property: Property, own: &[PropertyValue]) -> Option<&Value>
     ensures { option_copied result ≡ value_under property own.now }
 {
     for value in own {
@@ -297,16 +403,31 @@ pub(crate) fn value_under(property: Property, own: &[PropertyValue]) -> Option<&
     None
 }
 
-/// The value of a property of the row of such an instance.
-fn value_along(
+/// The value of the property among those that are stated, or else among those that are built in.
+pub(crate) fn under_either<'v>(
+    property: Property,
+    stated: &'v [PropertyValue],
+    built_ins: &'v [PropertyValue],
+) -> Option<&'v Value>
+    ensures { option_copied result ≡ under_either stated.now built_ins.now property }
+{
+    match value_under(property, stated) {
+        Some(value) => Some(value),
+        None => value_under(property, built_ins),
+    }
+}
+
+/// The value of a property of the row of such an instance, whose component states these values over those.
+fn value_over(
     alloc: Global,
     kind: Kind,
     reset: Option<Number>,
     reaching: &[Assignment],
-    own: &[PropertyValue],
+    stated: &[PropertyValue],
+    built_ins: &[PropertyValue],
     property: Property,
 ) -> Result<Option<Value>, AllocError>
-    ensures { IfOk result (λ v. v ≡ value_along kind reset reaching.now own.now property) }
+    ensures { IfOk result (λ v. v ≡ value_over kind reset reaching.now stated.now built_ins.now property) }
 {
     if !property.on(kind) {
         return Ok(None);
@@ -316,7 +437,7 @@ fn value_along(
     }
     match reset_value(property, reset) {
         Some(value) => Ok(Some(shown(property.form(), value))),
-        None => copied(alloc, value_under(property, own)),
+        None => copied(alloc, under_either(property, stated, built_ins)),
     }
 }
 
@@ -345,22 +466,27 @@ fn past(own: &[PropertyValue], property: Property) -> &[PropertyValue]
 
 /// The values that there are of these properties of the row of such an instance.
 ///
-/// The values of a component stand in the order of the properties, so each is looked for behind those that were found.
-fn values_among(
+/// The built-in values stand in the order of the properties, so each is looked for behind those that were found.
+fn values_over(
     alloc: Global,
     kind: Kind,
     reset: Option<Number>,
     reaching: &[Assignment],
-    own: &[PropertyValue],
+    stated: &[PropertyValue],
+    built_ins: &[PropertyValue],
     properties: &[Property],
 ) -> Result<RowValues, AllocError>
     requires { IsTrue (are_distinct properties.now) }
-    ensures { IfOk result (λ values. values ≡ values_among kind reset reaching.now own.now properties.now) }
+    ensures { IfOk result (λ values. values ≡ values_over kind reset reaching.now stated.now built_ins.now properties.now) }
 {
-    let mut items = Vec::with_capacity(alloc, own.len().saturating_add(1))?;
-    let mut rest = own;
+    let room = built_ins
+        .len()
+        .saturating_add(stated.len())
+        .saturating_add(1);
+    let mut items = Vec::with_capacity(alloc, room)?;
+    let mut rest = built_ins;
     'properties: for property in properties {
-        let value = value_along(alloc, kind, reset, reaching, rest, *property)?;
+        let value = value_over(alloc, kind, reset, reaching, stated, rest, *property)?;
         add_value(&mut items, *property, value)?;
         rest = past(rest, *property);
     }
@@ -380,5 +506,14 @@ pub(crate) fn row_values(
 ) -> Result<RowValues, AllocError>
     ensures { IfOk result (λ values. values ≡ values_along kind reset reaching.now own.now) }
 {
-    values_among(alloc, kind, reset, reaching, own.as_slice(), &Property::ALL)
+    let (stated, built_ins) = own.parts();
+    values_over(
+        alloc,
+        kind,
+        reset,
+        reaching,
+        stated,
+        built_ins,
+        &Property::ALL,
+    )
 }

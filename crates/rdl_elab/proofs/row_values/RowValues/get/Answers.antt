@@ -7,7 +7,7 @@ use Rattle.rdl_elab.proofs.row_values.RowValues.get.Goals as goal
 pub returns-in-Some : goal.returns-in-Some
 returns-in-Some c =
     let p = c.args.property in
-    let found : option_copied c.get.result ≡ value_along c.in-Some.reset.kind (number c.in-Some.reset) [] c.self.inside.own p = c.get.ensures ∙ ap (λ own. value_along c.in-Some.reset.kind (number c.in-Some.reset) [] own p) c.as_slice-own.ensures in
+    let found : option_copied c.get.result ≡ value_along c.in-Some.reset.kind (number c.in-Some.reset) [] c.self.inside.own p = c.get.ensures in
     let view : with_reset c.self.inside.reset c.self.inside.own ≡ c.args.self.now = c.self.view_is in
     found
     ∙ sym (under_along c.in-Some.reset.kind (number c.in-Some.reset) [] c.self.inside.own p)
