@@ -15,9 +15,7 @@ ghost use Rattle.rdl_edit.specs.Ways.{IsMisfit, stop_at, refused, place_of, way_
 
 use crate::back::Back;
 use crate::edit::is_memory;
-use crate::turning::reordered;
 use rdl_elab::kept::Kept;
-use rdl_tree::address::Address;
 use rdl_tree::description::Description;
 use rdl_tree::fault::Fault;
 use rdl_tree::patch::Patch;
@@ -121,13 +119,12 @@ fn faulty(place: Where, fault: Fault) -> SessionFault
     }
 }
 
-/// Lays out the map at a place. In these bodies items stand for those of their name before the step.
+/// Lays out the map at a place.
 fn judge(
     alloc: Global,
     description: &Description,
     kept: &mut Kept,
     name: Option<&str>,
-    bodies: &[Address],
     place: Where,
 ) -> Result<(), SessionFault>
     ensures laid_out { OnOk result (IsLaidOut (record { description = description.now.items; option = option_copied name.entry }) kept.new) }
@@ -135,7 +132,7 @@ fn judge(
     ensures faultless { OnOk result (place_fault place (option_copied name.entry) description.now.items ≡ None) }
     ensures refused { IfErr result (λ f. (place_fault place (option_copied name.entry) description.now.items ≡ Some f) ⊎ (f ≡ Memory)) }
 {
-    match kept.relay(alloc, description, name, bodies) {
+    match kept.relay(alloc, description, name) {
         Ok(()) => Ok(()),
         Err(fault) => Err(faulty(place, fault)),
     }
@@ -174,14 +171,11 @@ fn take_step(
     }
     let read = step.read();
     let patches = step.into_vec();
-    let Ok(bodies) = reordered(alloc, patches.as_slice()) else {
-        return Err(SessionFault::Memory);
-    };
     let back = match turn_all(alloc, description, patches) {
         Ok(back) => back,
         Err(stop) => return Err(stopped(place, stop)),
     };
-    match judge(alloc, description, kept, name, bodies.as_slice(), place) {
+    match judge(alloc, description, kept, name, place) {
         Ok(()) => Ok(Back::new(back, read)),
         Err(fault) => Err(fault),
     }
@@ -294,7 +288,7 @@ pub(crate) fn visit(
     if stays {
         return Ok(steps);
     }
-    match kept.relay_known(alloc, description, name, &[]) {
+    match kept.relay_known(alloc, description, name) {
         Ok(()) => Ok(steps),
         Err(_) => Err(SessionFault::Memory),
     }

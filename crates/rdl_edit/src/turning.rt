@@ -7,11 +7,10 @@ ghost use Rattle.rdl_edit.specs.Backs.{IsWayBack, IsCheap};
 ghost use Rattle.rdl_edit.specs.Faults.{refused};
 ghost use Rattle.rdl_edit.specs.Step.{HasRows, IsJudged};
 ghost use Rattle.rdl_edit.specs.Keeping.{Keeps};
-ghost use Rattle.rdl_edit.specs.Placing.{IsFew, KeepsLayouts, reordered};
+ghost use Rattle.rdl_edit.specs.Placing.{IsFew, KeepsLayouts};
 
 use crate::edit::{Refusal, is_memory};
 use rdl_elab::kept::Kept;
-use rdl_tree::address::Address;
 use rdl_tree::description::Description;
 use rdl_tree::fault::Fault;
 use rdl_tree::patch::Patch;
@@ -28,21 +27,6 @@ fn refused(fault: Fault) -> Refusal
     }
 }
 
-/// The bodies in which a patch moves an item.
-pub(crate) fn reordered(alloc: Global, patches: &[Patch]) -> Result<Vec<Address>, AllocError>
-    ensures { IfOk result (λ bodies. bodies.items ≡ reordered patches.now) }
-{
-    let mut bodies = Vec::new(alloc);
-    for patch in patches {
-        if let Patch::Shift(address, _) = patch {
-            if !address.is_empty() {
-                bodies.push(address.holder())?;
-            }
-        }
-    }
-    Ok(bodies)
-}
-
 /// Applies the patches, and answers what takes them back. Where the map that they make has a fault, the description and
 /// its layouts are as before.
 pub(crate) fn turn(
@@ -56,8 +40,8 @@ pub(crate) fn turn(
     requires fit { AllFit patches.items description.old.items }
     ensures made { OnOk result (description.new.items ≡ image patches.items description.old.items) }
     ensures keeps { OnOk result (Keeps (record { description = description.new.items; option = option_copied name.entry }) kept.new) }
-    ensures few { OnOk result (kept.old.description ≡ description.old.items → IsFew description.old.items patches.items (image patches.items description.old.items) kept.new.placed) }
-    ensures none { OnOk result (kept.old.description ≡ description.old.items → KeepsLayouts patches.items description.old.items → kept.new.placed ≡ 0) }
+    ensures few { OnOk result (AreOf description.old.items kept.old → IsFew description.old.items patches.items (image patches.items description.old.items) kept.new.placed) }
+    ensures none { OnOk result (AreOf description.old.items kept.old → KeepsLayouts patches.items description.old.items → kept.new.placed ≡ 0) }
     ensures back_keeps { IfOk result (λ back. KeepsLayouts patches.items description.old.items → KeepsLayouts back.items description.new.items) }
     ensures inverse { IfOk result (λ back. back.items ≡ inverses patches.items description.old.items) }
     ensures back { IfOk result (λ back. IsWayBack description.old.items description.new.items back.items) }
@@ -66,11 +50,10 @@ pub(crate) fn turn(
     ensures err { OnErr result (description.new.items ≡ description.old.items) }
     ensures unmoved { OnErr result (kept.new ≡ kept.old) }
 {
-    let bodies = reordered(alloc, patches.as_slice())?;
     let Ok(mut turned) = description.turn(alloc, patches) else {
         return Err(Refusal::Memory);
     };
-    match kept.relay(alloc, turned.description(), name, bodies.as_slice()) {
+    match kept.relay(alloc, turned.description(), name) {
         Ok(()) => Ok(turned.keep()),
         Err(fault) => {
             let _patches = turned.back();
@@ -93,8 +76,8 @@ pub(crate) fn again(
     requires known { HasRows (record { description = image patches.items description.old.items; option = option_copied name }) }
     ensures made { OnOk result (description.new.items ≡ image patches.items description.old.items) }
     ensures keeps { OnOk result (Keeps (record { description = description.new.items; option = option_copied name.entry }) kept.new) }
-    ensures few { OnOk result (kept.old.description ≡ description.old.items → IsFew description.old.items patches.items (image patches.items description.old.items) kept.new.placed) }
-    ensures none { OnOk result (kept.old.description ≡ description.old.items → KeepsLayouts patches.items description.old.items → kept.new.placed ≡ 0) }
+    ensures few { OnOk result (AreOf description.old.items kept.old → IsFew description.old.items patches.items (image patches.items description.old.items) kept.new.placed) }
+    ensures none { OnOk result (AreOf description.old.items kept.old → KeepsLayouts patches.items description.old.items → kept.new.placed ≡ 0) }
     ensures back_keeps { IfOk result (λ back. KeepsLayouts patches.items description.old.items → KeepsLayouts back.items description.new.items) }
     ensures inverse { IfOk result (λ back. back.items ≡ inverses patches.items description.old.items) }
     ensures back { IfOk result (λ back. IsWayBack description.old.items description.new.items back.items) }
@@ -103,14 +86,11 @@ pub(crate) fn again(
     ensures err { OnErr result (description.new.items ≡ description.old.items) }
     ensures unmoved { OnErr result (kept.new ≡ kept.old) }
 {
-    let Ok(bodies) = reordered(alloc, patches.as_slice()) else {
-        return Err(patches);
-    };
     let mut turned = match description.turn(alloc, patches) {
         Ok(turned) => turned,
         Err(same) => return Err(same),
     };
-    match kept.relay_known(alloc, turned.description(), name, bodies.as_slice()) {
+    match kept.relay_known(alloc, turned.description(), name) {
         Ok(()) => Ok(turned.keep()),
         Err(_) => Err(turned.back()),
     }

@@ -1,5 +1,5 @@
 -- The layout of the component at an address stands at the component's number.
-use Rattle.std.proofs.Common.{◌≡◌, ℕ, zero, suc, ◌<◌, ◌^◌, Bool, true, false, List, [], ◌∷◌, map, length, Option, Some, None, refl, ap, sym, subst, ◌∙◌, arith}
+use Rattle.std.proofs.Common.{◌≡◌, ℕ, zero, suc, ◌<◌, ◌^◌, Bool, true, false, List, [], ◌∷◌, map, length, Option, Some, None, refl, ap, sym, ◌∙◌, arith}
 use Rattle.std.specs.Prelude.{option_map, option_and_then, slice_get}
 use Rattle.rdl_tree.specs.Items.{Items}
 use Rattle.rdl_tree.specs.Weight.{capped}
@@ -7,21 +7,20 @@ use Rattle.rdl_tree.specs.declared.shell.Kind.{Kind}
 use Rattle.rdl_tree.specs.declared.shell.Kind.TheVariants.{Addrmap, Regfile, Reg, Field}
 use Rattle.rdl_scope.specs.Types.{component_at}
 use Rattle.rdl_scope.specs.Closed.{Made, component, nothing, IsAsFound}
-use Rattle.slab.specs.Slab.{Slab, get}
 use Rattle.rdl_elab.specs.declared.layout.Mode.{Mode}
 use Rattle.rdl_elab.specs.declared.layout.Layout.{Layout}
 use Rattle.rdl_elab.specs.Layouts.{layout}
 use Rattle.rdl_elab.specs.Capped.{capped_layout}
-use Rattle.rdl_elab.specs.Written.{all_written}
-use Rattle.rdl_elab.specs.Kept.{MadeOf}
-use Rattle.rdl_elab.specs.MadeOf.{made_of, all_made, layout_made}
+use Rattle.rdl_elab.specs.Finished.{under}
+use Rattle.rdl_elab.specs.Written.{all_written, layouts_kept, all_layouts}
+use Rattle.rdl_elab.specs.Kept.{Layouts}
+use Rattle.rdl_elab.specs.MadeOf.{made_of}
+use Rattle.rdl_elab.specs.Words.{words, is_among, AreFoundAgain}
 use Rattle.rdl_elab.specs.Numbers.{components, number}
 use Rattle.rdl_elab.specs.AllKept.{shown_layout, has_layout, has_layout_by, layout_at, IsAsBefore, IsAsBeforeBut, AreFoundBut}
 use Rattle.rdl_elab.specs.StandIns.{stand_ins}
-use Rattle.rdl_elab.specs.KeptBodies.{key_at}
-use Rattle.std.specs.List.{AllZip}
-use Rattle.rdl_elab.specs.Stored.{IsStored}
-use Rattle.rdl_elab.proofs.Making.{layout-made}
+use Rattle.std.specs.List.{AllZip, AllByRecursion}
+use Rattle.rdl_elab.proofs.Making.{under-kept}
 use Rattle.rdl_elab.proofs.Numbering.{numbered, number-less, written-length, unnumbered}
 
 abbrev pub AreFound : Items → Type 0
@@ -61,29 +60,21 @@ slice_get-map f [] k = refl
 slice_get-map f (x ∷ xs) zero = refl
 slice_get-map f (x ∷ xs) (suc k) = slice_get-map f xs k
 
-pub layout-numbered : (d : Items) (a : List ℕ) (m : Mode) (k : ℕ) → AreFound d → number a d ≡ Some k → has_layout (component_at d a) ≡ true → option_map (layout_made m) (slice_get (all_made d) k) ≡ layout_at d a m
+pub layout-numbered : (d : Items) (a : List ℕ) (m : Mode) (k : ℕ) → AreFound d → number a d ≡ Some k → has_layout (component_at d a) ≡ true → option_map (under m) (slice_get (all_layouts d) k) ≡ layout_at d a m
 layout-numbered d a m k found at is =
-    ap (option_map (layout_made m)) (slice_get-map made_of (all_written d) k ∙ ap (option_map made_of) (numbered a nothing [] d k at))
+    ap (option_map (under m)) (slice_get-map layouts_kept (all_written d) k ∙ ap (option_map layouts_kept) (numbered a nothing [] d k at))
     ∙ by (component d a) refl ∙ sym (by-component d a m (component d a) refl)
   where
-    by : (o : Option Made) → component d a ≡ o → option_map (layout_made m) (option_map made_of o) ≡ option_and_then (shown_of m) o
+    by : (o : Option Made) → component d a ≡ o → option_map (under m) (option_map layouts_kept o) ≡ option_and_then (shown_of m) o
     by None e = refl
-    by (Some c) e = ap Some (layout-made m c) ∙ sym (shown-some c.head.kind (capped_layout (layout m c)) (sym (ap has_layout (found a c e).component) ∙ is))
+    by (Some c) e = ap Some (under-kept m c) ∙ sym (shown-some c.head.kind (capped_layout (layout m c)) (sym (ap has_layout (found a c e).component) ∙ is))
 
 map-length : {X Y : Type 0} (f : X → Y) (xs : List X) → length (map f xs) ≡ length xs
 map-length f [] = refl
 map-length f (x ∷ xs) = omega (arith, map-length f xs)
 
-pub few : (d : Items) (s : Slab MadeOf) (keys : List ℕ) (n : ℕ) → IsStored s keys (all_made d) → n ≡ length keys → n ≡ components d
-few d s keys n is e =
-    omega (arith, e, map-length (get s) keys, ap length is, map-length (λ (a : MadeOf). Some a) (all_made d), map-length made_of (all_written d), written-length nothing [] 0 d)
-
-pub stored-at : (s : Slab MadeOf) (keys : List ℕ) (all : List MadeOf) (k : ℕ) → IsStored s keys all → option_and_then (get s) (slice_get keys k) ≡ slice_get all k
-stored-at s [] [] k e = refl
-stored-at s [] (l ∷ ls) k e = cc
-stored-at s (i ∷ keys) [] k e = cc
-stored-at s (i ∷ keys) (l ∷ ls) zero e = let first : get s i ≡ Some l = cc in first
-stored-at s (i ∷ keys) (l ∷ ls) (suc k) e = let rest : map (get s) keys ≡ map Some ls = cc in stored-at s keys ls k rest
+pub few : (d : Items) (all : List Layouts) (n : ℕ) → all ≡ all_layouts d → n ≡ length all → n ≡ components d
+few d all n is e = omega (arith, e, ap length is, map-length layouts_kept (all_written d), written-length nothing [] 0 d)
 
 -- a number that is kept below a limit is exact
 exact : (d : Items) (a : List ℕ) (o : Option ℕ) (k : ℕ) → number a d ≡ o → option_map capped o ≡ Some k → components d < 2 ^ 64 → o ≡ Some k
@@ -97,25 +88,23 @@ pub no-number : (o : Option ℕ) → option_map capped o ≡ None → o ≡ None
 no-number None e = refl
 no-number (Some n) e = cc
 
--- what is kept under the key of a component that was made of the same
-pub found-as-before : (old : Items) (s : Slab MadeOf) (keys : List ℕ) (at : Option (List ℕ)) (c : Made) → IsStored s keys (all_made old) → IsAsBefore old at c → option_and_then (get s) (key_at old keys at) ≡ Some (made_of c)
-found-as-before old s keys None c is h = cc
-found-as-before old s keys (Some a) c is h = by (number a old) refl
+-- what a component that is as before was made of is kept
+pub found-as-before : (old : Items) (all : List (List ℕ)) (at : Option (List ℕ)) (c : Made) → AreFoundAgain old all → IsAsBefore old at c → is_among (words (made_of c)) all ≡ true
+found-as-before old all None c found h = cc
+found-as-before old all (Some a) c found h = by (component old a) refl h
   where
-    by : (o : Option ℕ) → number a old ≡ o → option_and_then (get s) (option_and_then (slice_get keys) o) ≡ Some (made_of c)
-    by None e = let no = unnumbered a nothing [] old e in sym (ap (option_map made_of) no) ∙ h
-    by (Some k) e =
-        stored-at s keys (all_made old) k is ∙ slice_get-map made_of (all_written old) k ∙ ap (option_map made_of) (numbered a nothing [] old k e) ∙ h
+    by : (o : Option Made) → component old a ≡ o → option_map made_of o ≡ Some (made_of c) → is_among (words (made_of c)) all ≡ true
+    by None e g = cc
+    by (Some k) e g =
+        let same : made_of k ≡ made_of c = cc in
+        ap (λ x. is_among (words x) all) (sym same) ∙ found a k e
 
-zip-before : (marked : List ℕ → Bool) (old : Items) (s : Slab MadeOf) (keys : List ℕ) (ats : List (Option (List ℕ))) (cs : List Made) → IsStored s keys (all_made old)
-    → AllZip (λ at (c : Made). marked c.head.at ≡ false → IsAsBefore old at c) ats cs
-    → AllZip (λ key (c : Made). marked c.head.at ≡ false → option_and_then (get s) key ≡ Some (made_of c)) (map (key_at old keys) ats) cs
-zip-before marked old s keys [] [] is h = h
-zip-before marked old s keys [] (c ∷ cs) is h = absurd h
-zip-before marked old s keys (at ∷ ats) [] is h = absurd h
-zip-before marked old s keys (at ∷ ats) (c ∷ cs) is h = (λ e. found-as-before old s keys at c is (h.0 e), zip-before marked old s keys ats cs is h.1)
+zip-before : (marked : List ℕ → Bool) (old : Items) (all : List (List ℕ)) (ats : List (Option (List ℕ))) (cs : List Made) → AreFoundAgain old all → AllZip (λ at (c : Made). marked c.head.at ≡ false → IsAsBefore old at c) ats cs
+    → AllByRecursion (λ (c : Made). marked c.head.at ≡ false → is_among (words (made_of c)) all ≡ true) cs
+zip-before marked old all [] [] found h = tt
+zip-before marked old all [] (c ∷ cs) found h = absurd h
+zip-before marked old all (at ∷ ats) [] found h = absurd h
+zip-before marked old all (at ∷ ats) (c ∷ cs) found h = (λ e. found-as-before old all at c found (h.0 e), zip-before marked old all ats cs found h.1)
 
-pub all-before : (marked : List ℕ → Bool) (old new : Items) (bodies : List (List ℕ)) (s : Slab MadeOf) (keys : List ℕ) (found : List (Option ℕ)) → IsStored s keys (all_made old)
-    → found ≡ map (key_at old keys) (stand_ins old bodies new) → IsAsBeforeBut marked old bodies new → AreFoundBut marked s found new
-all-before marked old new bodies s keys found is e h =
-    subst (λ ks. AreFoundBut marked s ks new) (sym e) (zip-before marked old s keys (stand_ins old bodies new) (all_written new) is h)
+pub all-before : (marked : List ℕ → Bool) (old new : Items) (bodies : List (List ℕ)) (all : List (List ℕ)) → AreFoundAgain old all → IsAsBeforeBut marked old bodies new → AreFoundBut marked all new
+all-before marked old new bodies all found h = zip-before marked old all (stand_ins old bodies new) (all_written new) found h

@@ -18,11 +18,9 @@ pub mod RangesKept
 pub mod Telling
 pub mod Cleaning
 pub mod Counting
-pub mod SameMembers
 pub mod EachMember
 pub mod Insides
 pub mod Making
-pub mod SelfEqual
 pub mod Goings
 pub mod Writing
 pub mod Roots
@@ -49,7 +47,8 @@ pub mod SameLevels
 pub mod FieldsInside
 pub mod KeptAnswers
 pub mod KnownRows
-pub mod Storing
+pub mod Spelled
+pub mod FoundAgain
 pub mod Numbering
 pub mod FoundLayouts
 pub mod AllTaken

@@ -3,25 +3,28 @@ use Rattle.std.proofs.Common.{◌≡◌, ℕ, List, [], ◌∷◌, map, Some, re
 use Rattle.std.specs.Prelude.{option_map}
 use Rattle.std.specs.List.{cons_option}
 use Rattle.rdl_tree.specs.Items.{Items}
+use Rattle.rdl_tree.specs.declared.shell.Kind.{Kind}
 use Rattle.rdl_tree.specs.declared.shell.Shell.{Shell}
 use Rattle.rdl_scope.specs.Closed.{Parts, no_parts, part, Made}
 use Rattle.rdl_elab.specs.declared.layout.Mode.{Mode}
 use Rattle.rdl_elab.specs.declared.layout.Mode.TheVariants.{Compact, Regalign, Fullalign}
+use Rattle.rdl_elab.specs.declared.layout.LayoutValues.{LayoutValues}
 use Rattle.rdl_elab.specs.declared.layout.Member.{Member}
 use Rattle.rdl_elab.specs.declared.finished.Finished.{Finished}
 use Rattle.rdl_elab.specs.Kept.{Part, EachMember}
-use Rattle.rdl_elab.specs.Layouts.{values_of, mode_inside, laid_out, layouts, layout}
+use Rattle.rdl_elab.specs.Layouts.{values_of, mode_inside, laid_out, layouts, layout, member}
 use Rattle.rdl_elab.specs.Capped.{capped_layout, capped_instance}
 use Rattle.rdl_elab.specs.Finished.{under, IsPart, AreParts}
+use Rattle.rdl_elab.specs.Inside.{kept_parts}
 use Rattle.rdl_elab.specs.EachMember.{member_under, shown_each}
 use Rattle.rdl_elab.specs.LaidOut.{shown_member, kept_member, kept_members}
 use Rattle.rdl_elab.specs.Written.{all_written, layouts_kept, all_layouts}
 use Rattle.rdl_elab.specs.MadeOf.{each_member, members_of, made_of, all_made, layout_made, layouts_made}
 use Rattle.rdl_elab.proofs.Counting.{members-shown}
-use Rattle.rdl_elab.proofs.EachMember.{one-under}
+use Rattle.rdl_elab.proofs.EachMember.{one-under, members-kept}
 use Rattle.rdl_elab.proofs.KeptLayouts.{kept-laid_out}
 
-under-kept : (m : Mode) (c : Made) → under m (layouts_kept c) ≡ capped_layout (layout m c)
+pub under-kept : (m : Mode) (c : Made) → under m (layouts_kept c) ≡ capped_layout (layout m c)
 under-kept Compact c = refl
 under-kept Regalign c = refl
 under-kept Fullalign c = refl
@@ -66,3 +69,10 @@ all-members d fs n (p ∷ ps) (part at s k inside rest) h =
 
 pub members-are : (d : Items) (fs : List Finished) (n : ℕ) (ps : List Part) (inside : Parts) (ms : List EachMember) → AreParts d fs n ps inside → ms ≡ kept_members fs ps → ms ≡ members_of inside
 members-are d fs n ps inside ms are h = h ∙ all-members d fs n ps inside are
+
+-- the layouts that are made of this kind, these values and what is taken of these instances
+pub kept-made : (k : Kind) (v : LayoutValues) (m : Mode) (fs : List Finished) (ps : List Part)
+    → layout_made m (record { kind = k; values = v; members = kept_members fs ps }) ≡ (let n = mode_inside k v m in capped_layout (laid_out k v n (map member (kept_parts n fs ps))))
+kept-made k v m fs ps =
+    let n = mode_inside k v m in
+    ap (λ (ms : List Member). capped_layout (laid_out k v n ms)) (members-kept n fs ps) ∙ members-shown k v n (kept_parts n fs ps)

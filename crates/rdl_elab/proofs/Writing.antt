@@ -1,8 +1,5 @@
 -- A walk finishes the components that are written, one after another.
-use Rattle.std.proofs.Common.{◌≡◌, ℕ, suc, ◌+◌, ◌<◌, List, [], ◌∷◌, ◌++◌, length, take, get_or, length-append, refl, ap, sym, subst, ◌∙◌, arith, append_assoc}
-use Rattle.std.specs.Prelude.{Some, IfSome}
-use Rattle.std.specs.Option.{IsSome}
-use Rattle.slab.specs.Slab.{get}
+use Rattle.std.proofs.Common.{◌≡◌, ℕ, true, suc, ◌+◌, ◌<◌, List, [], ◌∷◌, ◌++◌, length, take, get_or, refl, ap, sym, subst, ◌∙◌, arith, append_assoc}
 use Rattle.rdl_tree.specs.Items.{Items, no_items}
 use Rattle.rdl_tree.specs.View.{add, items_of, list_of}
 use Rattle.rdl_tree.proofs.Rounds.{items_of-list_of}
@@ -13,50 +10,44 @@ use Rattle.rdl_tree.specs.declared.description.Component.{Component}
 use Rattle.rdl_scope.specs.Closed.{Made, Standing, standing}
 use Rattle.rdl_elab.specs.declared.layout.Mode.TheVariants.{Compact, Regalign, Fullalign}
 use Rattle.rdl_elab.specs.declared.finished.Finished.{Finished}
-use Rattle.rdl_elab.specs.declared.laid_out.Before.{Before}
 use Rattle.rdl_elab.specs.Finished.{IsKept}
 use Rattle.rdl_elab.specs.Stands.{made_at, after_item}
 use Rattle.rdl_elab.specs.Written.{written, item_written}
 use Rattle.rdl_elab.specs.MadeOf.{made_of}
-use Rattle.rdl_elab.specs.Finishes.{kept_for, IsLaidOut, AreLaidOut, Finishes}
+use Rattle.rdl_elab.specs.Words.{words, is_among}
+use Rattle.rdl_elab.specs.Finishes.{IsLaidOut, AreLaidOut, Finishes}
 use Rattle.rdl_elab.proofs.Goings.{append_nil, standing-add, item-taken, item-place}
 
-module _ (before : Before) where
+module _ (before : List (List ℕ)) where
   pub finishes-none : (fs : List Finished) → Finishes before fs fs []
   finishes-none fs = record { more = []; is = sym (append_nil fs); are = tt }
 
-  laid-append : (n : ℕ) (fs gs : List Finished) (cs ds : List Made) → AreLaidOut before n fs cs → AreLaidOut before (n + length fs) gs ds → AreLaidOut before n (fs ++ gs) (cs ++ ds)
-  laid-append n [] gs [] ds h g = let same : n + 0 ≡ n = omega arith in subst (λ k. AreLaidOut before k gs ds) same g
-  laid-append n [] gs (c ∷ cs) ds h g = absurd h
-  laid-append n (f ∷ fs) gs [] ds h g = absurd h
-  laid-append n (f ∷ fs) gs (c ∷ cs) ds h g =
-      let same : n + suc (length fs) ≡ suc n + length fs = omega arith in
-      (h.0, laid-append (suc n) fs gs cs ds h.1 (subst (λ k. AreLaidOut before k gs ds) same g))
+  laid-append : (fs gs : List Finished) (cs ds : List Made) → AreLaidOut before fs cs → AreLaidOut before gs ds → AreLaidOut before (fs ++ gs) (cs ++ ds)
+  laid-append [] gs [] ds h g = g
+  laid-append [] gs (c ∷ cs) ds h g = absurd h
+  laid-append (f ∷ fs) gs [] ds h g = absurd h
+  laid-append (f ∷ fs) gs (c ∷ cs) ds h g = (h.0, laid-append fs gs cs ds h.1 g)
 
   pub finishes-on : (x y z : List Finished) (cs ds : List Made) → Finishes before x y cs → Finishes before y z ds → Finishes before x z (cs ++ ds)
-  finishes-on x y z cs ds g h =
-      let size : length y ≡ length x + length g.more = ap length g.is ∙ length-append x g.more in
-      record {
-        more = g.more ++ h.more;
-        is = h.is ∙ ap (λ (v : List Finished). v ++ h.more) g.is ∙ append_assoc x g.more h.more;
-        are = laid-append (length x) g.more h.more cs ds g.are (subst (λ k. AreLaidOut before k h.more ds) size h.are);
-      }
+  finishes-on x y z cs ds g h = record {
+    more = g.more ++ h.more;
+    is = h.is ∙ ap (λ (v : List Finished). v ++ h.more) g.is ∙ append_assoc x g.more h.more;
+    are = laid-append g.more h.more cs ds g.are h.are;
+  }
 
-  pub finishes-push : (fs gs : List Finished) (f : Finished) (c : Made) → gs ≡ fs ++ f ∷ [] → IsLaidOut before (length fs) f c → Finishes before fs gs (c ∷ [])
+  pub finishes-push : (fs gs : List Finished) (f : Finished) (c : Made) → gs ≡ fs ++ f ∷ [] → IsLaidOut before f c → Finishes before fs gs (c ∷ [])
   finishes-push fs gs f c is h = record { more = f ∷ []; is = is; are = (h, tt) }
 
-  pub laid-out : (d : Items) (n : ℕ) (f : Finished) (c : Made) → IsKept d f c → f.laid_out ≡ made_of c → IfSome f.key (λ k. get before.layouts.now k ≡ Some f.laid_out)
-      → (kept_for before n ≡ Some f.laid_out → IsSome f.key) → IsLaidOut before n f c
-  laid-out d n f c h made k taken = record {
+  pub laid-out : (d : Items) (f : Finished) (c : Made) → IsKept d f c → f.laid_out.words ≡ words (made_of c) → (is_among f.laid_out.words before ≡ true → f.is_kept ≡ true) → IsLaidOut before f c
+  laid-out d f c h e taken = record {
     layouts = λ i. record { compact = h.layouts Compact i; regalign = h.layouts Regalign i; fullalign = h.layouts Fullalign i };
-    made = made;
-    kept = k;
-    taken = λ e. taken (e ∙ ap Some (sym made));
+    made = e;
+    taken = λ among. taken (ap (λ ws. is_among ws before) e ∙ among);
   }
 
   -- a component behind those inside it
   pub finishes-made : (old mid new : List Finished) (at : List ℕ) (c : Component) (e : Standing) (xs : List Item) (f : Finished) → xs ≡ list_of c.body → new ≡ mid ++ f ∷ []
-      → Finishes before old mid (written e at 0 (items_of xs)) → IsLaidOut before (length mid) f (made_at e at c) → Finishes before old new (written e at 0 c.body ++ made_at e at c ∷ [])
+      → Finishes before old mid (written e at 0 (items_of xs)) → IsLaidOut before f (made_at e at c) → Finishes before old new (written e at 0 c.body ++ made_at e at c ∷ [])
   finishes-made old mid new at c e xs f body is h made =
       finishes-on old mid new (written e at 0 c.body) (made_at e at c ∷ [])
       (subst (λ t. Finishes before old mid (written e at 0 t)) (ap items_of body ∙ items_of-list_of c.body) h)
@@ -90,7 +81,7 @@ written-last e b n (y ∷ xs) x =
     one n k = omega arith
 
 -- one more item
-pub finishes-next : (before : Before) (old mid new : List Finished) (at below : List ℕ) (xs : List Item) (i : ℕ) (x : Item) → i < length xs → x ≡ get_or xs i x → below ≡ at ++ i ∷ [] → (e : Standing)
+pub finishes-next : (before : List (List ℕ)) (old mid new : List Finished) (at below : List ℕ) (xs : List Item) (i : ℕ) (x : Item) → i < length xs → x ≡ get_or xs i x → below ≡ at ++ i ∷ [] → (e : Standing)
     → Finishes before old mid (written e at 0 (items_of (take i xs))) → Finishes before mid new (item_written (standing e at 0 (items_of (take i xs))) below x)
     → Finishes before old new (written e at 0 (items_of (take (i + 1) xs)))
 finishes-next before old mid new at below xs i x h is b e g f =

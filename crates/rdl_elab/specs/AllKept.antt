@@ -1,8 +1,7 @@
 -- What is kept of a description's layouts from one description to the next.
 -- own: SystemRDL 2.0 says how components are laid out, and nothing of edits.
 use Rattle.std.specs.Prelude.{◌≡◌, ℕ, ◌+◌, List, length, sum_by, Option, Some, None, Ok, option_and_then, option_map, Result, Err, Bool, true, false, if◌then◌else◌}
-use Rattle.std.specs.List.{AllZip}
-use Rattle.slab.specs.Slab.{Slab, get}
+use Rattle.std.specs.List.{AllZip, AllByRecursion}
 use Rattle.rdl_tree.specs.Items.{Items}
 use Rattle.rdl_tree.specs.declared.shell.Kind.{Kind}
 use Rattle.rdl_tree.specs.declared.shell.Kind.TheVariants.{Addrmap, Regfile, Reg, Field}
@@ -13,28 +12,27 @@ use Rattle.rdl_elab.specs.declared.layout.Mode.{Mode}
 use Rattle.rdl_elab.specs.declared.layout.Layout.{Layout}
 use Rattle.rdl_elab.specs.declared.row.Row.{Row}
 use Rattle.rdl_elab.specs.Kept.{Layouts}
-use Rattle.rdl_elab.specs.declared.laid_out.Taken.{Taken}
 use Rattle.rdl_elab.specs.declared.finished.Finished.{Finished}
 use Rattle.rdl_elab.specs.Layouts.{layout}
 use Rattle.rdl_elab.specs.Capped.{capped_layout}
 use Rattle.rdl_elab.specs.Faults.{elaborated}
 use Rattle.rdl_elab.specs.Written.{all_written, all_layouts}
-use Rattle.rdl_elab.specs.Kept.{MadeOf}
 use Rattle.rdl_elab.specs.MadeOf.{made_of}
+use Rattle.rdl_elab.specs.Words.{words, is_among, AreFoundAgain}
 use Rattle.rdl_elab.specs.StandIns.{stand_ins}
 
--- the layouts of all components, each behind those inside it; the description that was laid out last; the name that was asked of its
--- top; and how many instances were placed, once for each mode
+-- the layouts of all components, each behind those inside it; the words of what is kept; the name that was asked of the top; and how
+-- many instances were placed, once for each mode
 pub record KeptLayouts : Type 0 where
   pub layouts : List Layouts
-  pub description : Items
+  pub words : List (List ℕ)
   pub top : Option (List ℕ)
   pub placed : ℕ
 
--- they are those of this description, which has no fault
+-- they are those of this description, which has no fault, and each is found by what it is made of
 pub record AreOf (d : Items) (k : KeptLayouts) : Type 0 where
   pub layouts : k.layouts ≡ all_layouts d
-  pub description : k.description ≡ d
+  pub found : AreFoundAgain d k.words
   pub rows : List Row
   pub faultless : elaborated d k.top ≡ Ok rows
 
@@ -86,18 +84,17 @@ IsAsBeforeBut marked old bodies new = AllZip (λ kept (c : Made). marked c.head.
 abbrev pub instances_at : (List ℕ → Bool) → Items → ℕ
 instances_at marked d = sum_by (λ (c : Made). if marked c.head.at then how_many c.parts else 0) (all_written d)
 
--- under their key stands what these were made of, but for those at these addresses
-abbrev pub AreFoundBut : (List ℕ → Bool) → Slab MadeOf → List (Option ℕ) → Items → Type 0
-AreFoundBut marked s keys d = AllZip (λ key (c : Made). marked c.head.at ≡ false → option_and_then (get s) key ≡ Some (made_of c)) keys (all_written d)
+-- what these were made of is kept, but for those at these addresses
+abbrev pub AreFoundBut : (List ℕ → Bool) → List (List ℕ) → Items → Type 0
+AreFoundBut marked all d = AllByRecursion (λ (c : Made). marked c.head.at ≡ false → is_among (words (made_of c)) all ≡ true) (all_written d)
 
--- what is taken over of a finished component
-pub record TakesOver (t : Taken) (f : Finished) : Type 0 where
-  pub laid_out : t.laid_out ≡ f.laid_out
-  pub key : t.key ≡ f.key
+-- so are the words of these finished components
+abbrev pub AreKept : List (List ℕ) → List Finished → Type 0
+AreKept all fs = AllByRecursion (λ (f : Finished). is_among f.laid_out.words all ≡ true) fs
 
 -- the spans of a component's layouts, and those that are new
 abbrev pub all_spans : Layouts → ℕ
 all_spans l = length l.compact.spans + length l.regalign.spans + length l.fullalign.spans
 
 abbrev pub new_spans : Finished → ℕ
-new_spans f = elim f.key [ None ↦ all_spans f.layouts | Some k ↦ 0 ]
+new_spans f = if f.is_kept then 0 else all_spans f.layouts

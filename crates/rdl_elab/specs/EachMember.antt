@@ -1,4 +1,4 @@
--- What is taken of an instance under each mode: what it says of its place, and how large its component is. How that is kept.
+-- What is taken of an instance under each mode: what it says of its place, and how large its component is.
 -- own: SystemRDL 2.0 speaks of definitions and instances.
 use Rattle.std.specs.Prelude.{ℕ, ◌-◌, ◌^◌, min, List, [], ◌∷◌, Option, Some, None, is_some, unwrap_or}
 use Rattle.rdl_tree.specs.declared.shell.Shell.{Shell}
@@ -8,8 +8,6 @@ use Rattle.rdl_elab.specs.declared.layout.Mode.TheVariants.{Compact, Regalign, F
 use Rattle.rdl_elab.specs.declared.layout.Layout.{Layout}
 use Rattle.rdl_elab.specs.declared.layout.Member.{Member}
 use Rattle.rdl_elab.specs.declared.each_member.Said.{Said}
-use Rattle.rdl_elab.specs.declared.each_member.Stated.{Stated}
-use Rattle.rdl_elab.specs.declared.each_member.Stated.TheVariants.{Size, More}
 use Rattle.rdl_elab.specs.declared.each_member.Extent.{Extent}
 use Rattle.rdl_elab.specs.declared.each_member.Extents.{Extents}
 use Rattle.rdl_elab.specs.Kept.{Layouts, EachMember}
@@ -22,15 +20,6 @@ first_of (n ∷ ns) = Some n
 abbrev pub said_of : Shell → Said
 said_of s =
     record { elements = min (product s.dims) (2 ^ 128 - 1); size = first_of s.dims; address = s.address; stride = s.stride; align = s.align; range = s.range }
-
--- what one says that has no more than one dimension
-abbrev pub only_size : Option ℕ → Said
-only_size size = record { elements = unwrap_or size 1; size = size; address = None; stride = None; align = None; range = None }
-
--- as it is kept
-abbrev pub said_by : Stated → Said
-said_by (Size size) = only_size size
-said_by (More said) = said.value
 
 -- how large a component is
 abbrev pub extent_of : Layout → Extent

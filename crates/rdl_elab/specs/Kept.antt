@@ -34,3 +34,8 @@ pub record MadeOf : Type 0 where
   pub kind : Kind
   pub values : LayoutValues
   pub members : List EachMember
+
+-- layouts, and the words of what they are made of
+pub record LaidOut : Type 0 where
+  pub words : List ℕ
+  pub layouts : Layouts

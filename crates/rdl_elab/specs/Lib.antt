@@ -23,14 +23,13 @@ pub mod Inside
 pub mod LaidOut
 pub mod Written
 pub mod MadeOf
+pub mod Words
 pub mod StandIns
-pub mod KeptBodies
 pub mod Finishes
 pub mod AllKept
 pub mod Reach
 pub mod Skeleton
 pub mod Numbers
-pub mod Stored
 pub mod Stands
 pub mod TypeStacks
 pub mod Tops

@@ -77,8 +77,3 @@ body_stand_ins old bodies b kept t = stand_ins_in old bodies b kept (goes_by_nam
 -- the root body stands for the kept root body
 abbrev pub stand_ins : Items → List (List ℕ) → Items → List (Option (List ℕ))
 stand_ins old bodies new = body_stand_ins old bodies [] (Some []) new
-
--- those of an item's own component, if it has one, and of those inside it
-abbrev pub own_stand_ins : Items → List (List ℕ) → List ℕ → Option (List ℕ) → Option Items → List (Option (List ℕ))
-own_stand_ins old bodies at kept None = []
-own_stand_ins old bodies at kept (Some body) = body_stand_ins old bodies at kept body ++ kept ∷ []

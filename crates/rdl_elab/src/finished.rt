@@ -1,5 +1,5 @@
 //! Components that are laid out.
-use crate::laid_out::{SharedLaidOut, SharedLayouts};
+use crate::laid_out::{LaidOut, SharedLayouts};
 use crate::layout::{Layout, LayoutValues, Mode};
 use crate::part_list::PartList;
 use crate::reaches::Assignment;
@@ -214,10 +214,10 @@ pub(crate) struct Finished<'a> {
     pub assignments: Vec<Assignment<'a>>,
     pub parts: PartList<'a>,
     pub layouts: SharedLayouts,
-    /// The same layouts, with what they were made of.
-    pub laid_out: SharedLaidOut,
-    /// The key of its layouts, if they were kept before.
-    pub key: Option<usize>,
+    /// The same layouts, with the words of what they are made of.
+    pub laid_out: LaidOut,
+    /// Whether its layouts were kept before.
+    pub is_kept: bool,
     /// The names of the longest path below it, at most 16.
     pub levels: usize,
     /// The rows below it, at most 65,536.

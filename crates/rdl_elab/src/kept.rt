@@ -1,34 +1,30 @@
 //! Layouts that are kept from one description to the next.
 ghost use Rattle.std.specs.Prelude.{◌≡◌, ◌⊎◌, ◌*◌, ◌≤◌, ◌∷◌, [], ℕ, Bool, List, Ok, Err, Some, None, IfOk, IfErr, OnOk, OnErr, map, sum_by, option_map, option_copied, option_and_then, slice_get};
-ghost use Rattle.slab.specs.Slab.{get, SameValues};
 ghost use Rattle.rdl_tree.specs.Depth.{depth};
 ghost use Rattle.rdl_scope.specs.Closed.{component, root_type};
 ghost use Rattle.rdl_scope.specs.ItemFaults.{fault_of, out_of_memory};
 ghost use Rattle.rdl_scope.specs.Types.{component_at};
 ghost use Rattle.rdl_elab.specs.Faults.{elaborated, with_top};
-ghost use Rattle.rdl_elab.specs.Stored.{IsStored, AreTaken};
-ghost use Rattle.std.specs.List.{AllZip};
 ghost use Rattle.std.specs.String.{string_bytes};
-ghost use Rattle.rdl_elab.specs.MadeOf.{all_made};
+ghost use Rattle.rdl_elab.specs.Written.{all_layouts};
+ghost use Rattle.rdl_elab.specs.Words.{AreFoundAgain};
 ghost use Rattle.rdl_elab.specs.KeptRows.{kept_answer};
-ghost use Rattle.rdl_elab.specs.AllKept.{TakesOver, fault_in, new_spans, has_layout, all_instances, instances_at, AreFoundBut};
+ghost use Rattle.rdl_elab.specs.AllKept.{fault_in, new_spans, has_layout, all_instances, instances_at, AreFoundBut};
 
 use crate::clean::is_clean_map;
 use crate::elaborate::{Top, checked_top, known_rows, known_top, rows_under};
 use crate::finished::Finished;
-use crate::laid_out::{Before, Taken};
+use crate::laid_out::Before;
 use crate::layout::{Layout, Mode};
 use crate::numbers::number;
 use crate::row::Rows;
-use crate::stand_ins::stand_ins;
 use crate::stored::Stored;
 use crate::walk::lay_out_all;
 use rdl_scope::types::own_component;
 use rdl_tree::address::Address;
-use rdl_tree::description::{Body, Description};
+use rdl_tree::description::Description;
 use rdl_tree::fault::{Fault, FaultKind};
 use rdl_tree::shell::Kind;
-use slab::Slab;
 use std::alloc::{AllocError, Global};
 use std::marker::Model;
 use std::string::String;
@@ -42,34 +38,13 @@ fn no_memory() -> Fault
     }
 }
 
-/// What is taken over of a finished component.
-fn take_over(finished: Finished) -> Taken
-    ensures laid_out { result.laid_out ≡ finished.entry.laid_out }
-    ensures key { result.key ≡ finished.entry.key }
-{
-    Taken {
-        laid_out: finished.laid_out,
-        key: finished.key,
-    }
-}
-
-fn all_taken(alloc: Global, components: Vec<Finished>) -> Result<Vec<Taken>, AllocError>
-    ensures { IfOk result (λ ts. AllZip TakesOver ts.items components.entry.items) }
-{
-    let mut all = Vec::with_capacity(alloc, components.len())?;
-    for finished in components {
-        all.push(take_over(finished))?;
-    }
-    Ok(all)
-}
-
 /// How many instances were placed for these components, once for each mode in which they were.
 fn all_placed(components: &[Finished]) -> u64
     ensures { result ≤ sum_by new_spans components.now }
 {
     let mut placed = 0u64;
     for finished in components {
-        if finished.key.is_none() {
+        if !finished.is_kept {
             placed = placed.saturating_add(finished.layouts.placed());
         }
     }
@@ -141,42 +116,32 @@ fn fault_under<'a>(
     }
 }
 
-/// Lays out all components of this description, and keeps them instead of those that are stored if the map with this top
-/// has no fault. What stands under these keys is taken over where it was made of the same. The number of instances that
-/// were placed, or the fault.
+/// Lays out all components of this description, and takes over what was kept before where it was made of the same.
+/// What is then to be kept, or the fault of the map with this top.
 fn lay_out(
     alloc: Global,
-    stored: &mut Stored,
+    before: &Before,
     description: &Description,
     top: &Top,
-    keys: &[Option<usize>],
     judgement: Judgement,
-) -> Result<Result<u64, Fault>, AllocError>
+) -> Result<Result<Stored, Fault>, AllocError>
     requires nesting { depth description.now.items ≤ 16 }
     requires faultless { fault_of description.now.items ≡ None }
     requires top { root_type description.now.items top.now.1 ≡ component description.now.items (top.now.0 ∷ []) }
     requires known { judgement ≡ Judgement.Known → fault_in (with_top description.now.items (Some top.now)) ≡ None }
-    ensures stored { IfOk result (λ answer. OnOk answer (IsStored stored.new.layouts stored.new.keys.items (all_made description.now.items))) }
-    ensures placed { IfOk result (λ answer. IfOk answer (λ placed. placed ≤ 3 * all_instances description.now.items)) }
-    ensures few { IfOk result (λ answer. IfOk answer (λ placed. (marked : List ℕ → Bool) → AreFoundBut marked stored.old.layouts keys.now description.now.items → placed ≤ 3 * instances_at marked description.now.items)) }
+    ensures layouts { IfOk result (λ answer. IfOk answer (λ s. s.layouts.items ≡ all_layouts description.now.items)) }
+    ensures found { IfOk result (λ answer. IfOk answer (λ s. AreFoundAgain description.now.items s.before)) }
+    ensures placed { IfOk result (λ answer. IfOk answer (λ s. s.placed ≤ 3 * all_instances description.now.items)) }
+    ensures few { IfOk result (λ answer. IfOk answer (λ s. (marked : List ℕ → Bool) → AreFoundBut marked before.now description.now.items → s.placed ≤ 3 * instances_at marked description.now.items)) }
     ensures judged { IfOk result (λ answer. fault_in answer ≡ fault_in (with_top description.now.items (Some top.now))) }
-    ensures refused { IfOk result (λ answer. OnErr answer (stored.new ≡ stored.old)) }
-    ensures layouts { OnErr result (SameValues stored.old.layouts stored.new.layouts) }
-    ensures keys { OnErr result (stored.new.keys ≡ stored.old.keys) }
 {
-    let before = Before {
-        layouts: &stored.layouts,
-        keys,
-    };
-    let all = lay_out_all(alloc, description, top.name, &before)?;
+    let all = lay_out_all(alloc, description, top.name, before)?;
     let components = all.components.as_slice();
     if let Some(fault) = fault_under(alloc, components, all.number, top, judgement)? {
         return Ok(Err(fault));
     }
     let placed = all_placed(all.components.as_slice());
-    let taken = all_taken(alloc, all.components)?;
-    stored.replace(alloc, taken)?;
-    Ok(Ok(placed))
+    Ok(Ok(Stored::of(alloc, all.components, placed)?))
 }
 
 /// The layouts of all components of a description, used or not, and how many instances were placed for them. A contract
@@ -184,32 +149,22 @@ fn lay_out(
 #[derive(Debug, Drop)]
 pub struct Kept {
     stored: Stored,
-    description: Description,
     top: Option<String>,
-    placed: u64,
 }
 
 impl Model for Kept {
-    ghost use Rattle.std.specs.Prelude.{map, option_map};
+    ghost use Rattle.std.specs.Prelude.{option_map};
     ghost use Rattle.std.specs.String.{string_bytes};
     ghost use Rattle.rdl_elab.specs.AllKept.{KeptLayouts};
-    ghost use Rattle.rdl_elab.specs.MadeOf.{all_made, layouts_made};
-    ghost use Rattle.rdl_elab.specs.Stored.{IsStored, all_under};
 
     ghost Value = { KeptLayouts };
 
-    ghost use Rattle.std.specs.Coded.{codes};
-    ghost use Rattle.rdl_tree.specs.Codes.{coded_items};
-
-    ghost coded = { Prim.hlevel (codes, coded_items) };
-
-    ghost view = { λ k. record { layouts = map layouts_made (all_under k.stored.layouts k.stored.keys.items); description = k.description.items; top = option_map string_bytes k.top; placed = k.placed } };
-
-    ghost invariant = { λ k. IsStored k.stored.layouts k.stored.keys.items (all_made k.description.items) };
+    ghost view = { λ k. record { layouts = k.stored.layouts.items; words = k.stored.before; top = option_map string_bytes k.top; placed = k.stored.placed } };
 }
 
 impl Kept {
     ghost use Rattle.std.specs.Prelude.{◌≡◌, ◌≤◌, ◌*◌, ◌⊎◌, ℕ, Bool, List, [], Ok, Err, Some, None, IfOk, IfErr, OnOk, OnErr, option_copied};
+    ghost use Rattle.rdl_tree.specs.Items.{Items};
     ghost use Rattle.rdl_tree.specs.Depth.{depth};
     ghost use Rattle.rdl_scope.specs.ItemFaults.{fault_of, out_of_memory};
     ghost use Rattle.rdl_elab.specs.Faults.{elaborated, top_from};
@@ -221,27 +176,19 @@ impl Kept {
     /// Nothing is kept.
     fn empty(alloc: Global) -> Kept {
         Kept {
-            stored: Stored {
-                layouts: Slab::new(alloc),
-                keys: Vec::new(alloc),
-            },
-            description: Description {
-                items: Body::new(alloc),
-            },
+            stored: Stored::empty(alloc),
             top: None,
-            placed: 0,
         }
     }
 
-    /// Lays out all components of this description, and takes over the layouts of those for which they stand where these
-    /// were made of the same. Nothing changes if the map with this top has a fault.
+    /// Lays out all components of this description, and takes over what was kept where it was made of the same. Nothing
+    /// changes if the map with this top has a fault.
     fn follow(
         &mut self,
         alloc: Global,
         description: &Description,
         top: &Top,
         wanted: Option<&str>,
-        bodies: &[Address],
         judgement: Judgement,
     ) -> Result<Result<(), Fault>, AllocError>
         requires nesting { depth description.now.items ≤ 16 }
@@ -251,27 +198,16 @@ impl Kept {
         ensures layouts { IfOk result (λ answer. OnOk answer (AreOf description.now.items self.new)) }
         ensures top { IfOk result (λ answer. OnOk answer (self.new.top ≡ option_copied wanted.entry)) }
         ensures placed { IfOk result (λ answer. OnOk answer (self.new.placed ≤ 3 * all_instances description.now.items)) }
-        ensures few { IfOk result (λ answer. OnOk answer ((marked : List ℕ → Bool) → IsAsBeforeBut marked self.old.description bodies.now description.now.items → self.new.placed ≤ 3 * instances_at marked description.now.items)) }
+        ensures few { IfOk result (λ answer. OnOk answer ((old : Items) (bodies : List (List ℕ)) (marked : List ℕ → Bool) → AreOf old self.old → IsAsBeforeBut marked old bodies description.now.items → self.new.placed ≤ 3 * instances_at marked description.now.items)) }
         ensures refused { IfOk result (λ answer. IfErr answer (λ fault. elaborated description.now.items (option_copied wanted.entry) ≡ Err fault)) }
         ensures unchanged { IfOk result (λ answer. OnErr answer (self.new ≡ self.old)) }
         ensures err { OnErr result (self.new ≡ self.old) }
     {
         let wanted = text_of(alloc, wanted)?;
-        let copy = description.try_copy(alloc)?;
-        let keys = self.stored.keys.as_slice();
-        let keys = stand_ins(alloc, &self.description, keys, description, bodies)?;
-        match lay_out(
-            alloc,
-            &mut self.stored,
-            description,
-            top,
-            keys.as_slice(),
-            judgement,
-        )? {
-            Ok(placed) => {
-                self.description = copy;
+        match lay_out(alloc, &self.stored.before, description, top, judgement)? {
+            Ok(stored) => {
+                self.stored = stored;
                 self.top = wanted;
-                self.placed = placed;
                 Ok(Ok(()))
             }
             Err(fault) => Ok(Err(fault)),
@@ -286,34 +222,31 @@ impl Kept {
         ensures refused { IfErr result (λ fault. (elaborated description.now.items (option_copied top.entry) ≡ Err fault) ⊎ (fault ≡ out_of_memory)) }
     {
         let mut kept = Kept::empty(alloc);
-        match kept.relay(alloc, description, top, &[]) {
+        match kept.relay(alloc, description, top) {
             Ok(()) => Ok(kept),
             Err(fault) => Err(fault),
         }
     }
 
-    /// Lays out this description instead, and places anew the instances of those components alone that stand for no kept
-    /// one, or for one of which something has changed that its layout is made of. In these bodies, and in those with
-    /// another number of definitions and instances, each of them stands for the kept one of its name, and in others for
-    /// the one at its place.
+    /// Lays out this description instead, and places anew the instances of those components alone whose layouts are made
+    /// of something of which none were kept.
     pub fn relay(
         &mut self,
         alloc: Global,
         description: &Description,
         top: Option<&str>,
-        bodies: &[Address],
     ) -> Result<(), Fault>
         ensures layouts { OnOk result (AreOf description.now.items self.new) }
         ensures top { OnOk result (self.new.top ≡ option_copied top.entry) }
         ensures placed { OnOk result (self.new.placed ≤ 3 * all_instances description.now.items) }
-        ensures few { OnOk result ((marked : List ℕ → Bool) → IsAsBeforeBut marked self.old.description bodies.now description.now.items → self.new.placed ≤ 3 * instances_at marked description.now.items) }
-        ensures reached { OnOk result ((edited : List ℕ → Bool) → AreUnchangedBut edited self.old.description bodies.now description.now.items → self.new.placed ≤ 3 * instances_at (in_reach edited description.now.items) description.now.items) }
-        ensures still { OnOk result (bodies.now ≡ [] → skeleton self.old.description ≡ skeleton description.now.items → self.new.placed ≡ 0) }
+        ensures few { OnOk result ((old : Items) (bodies : List (List ℕ)) (marked : List ℕ → Bool) → AreOf old self.old → IsAsBeforeBut marked old bodies description.now.items → self.new.placed ≤ 3 * instances_at marked description.now.items) }
+        ensures reached { OnOk result ((old : Items) (bodies : List (List ℕ)) (edited : List ℕ → Bool) → AreOf old self.old → AreUnchangedBut edited old bodies description.now.items → self.new.placed ≤ 3 * instances_at (in_reach edited description.now.items) description.now.items) }
+        ensures still { OnOk result ((old : Items) → AreOf old self.old → skeleton old ≡ skeleton description.now.items → self.new.placed ≡ 0) }
         ensures refused { IfErr result (λ fault. (elaborated description.now.items (option_copied top.entry) ≡ Err fault) ⊎ (fault ≡ out_of_memory)) }
         ensures err { OnErr result (self.new ≡ self.old) }
     {
         let found = checked_top(alloc, description, top)?;
-        match self.follow(alloc, description, &found, top, bodies, Judgement::Needed) {
+        match self.follow(alloc, description, &found, top, Judgement::Needed) {
             Ok(answer) => answer,
             Err(_) => Err(no_memory()),
         }
@@ -326,19 +259,18 @@ impl Kept {
         alloc: Global,
         description: &Description,
         top: Option<&str>,
-        bodies: &[Address],
     ) -> Result<(), AllocError>
         requires { HasRows description.now.items (option_copied top) }
         ensures layouts { OnOk result (AreOf description.now.items self.new) }
         ensures top { OnOk result (self.new.top ≡ option_copied top.entry) }
         ensures placed { OnOk result (self.new.placed ≤ 3 * all_instances description.now.items) }
-        ensures few { OnOk result ((marked : List ℕ → Bool) → IsAsBeforeBut marked self.old.description bodies.now description.now.items → self.new.placed ≤ 3 * instances_at marked description.now.items) }
-        ensures reached { OnOk result ((edited : List ℕ → Bool) → AreUnchangedBut edited self.old.description bodies.now description.now.items → self.new.placed ≤ 3 * instances_at (in_reach edited description.now.items) description.now.items) }
-        ensures still { OnOk result (bodies.now ≡ [] → skeleton self.old.description ≡ skeleton description.now.items → self.new.placed ≡ 0) }
+        ensures few { OnOk result ((old : Items) (bodies : List (List ℕ)) (marked : List ℕ → Bool) → AreOf old self.old → IsAsBeforeBut marked old bodies description.now.items → self.new.placed ≤ 3 * instances_at marked description.now.items) }
+        ensures reached { OnOk result ((old : Items) (bodies : List (List ℕ)) (edited : List ℕ → Bool) → AreOf old self.old → AreUnchangedBut edited old bodies description.now.items → self.new.placed ≤ 3 * instances_at (in_reach edited description.now.items) description.now.items) }
+        ensures still { OnOk result ((old : Items) → AreOf old self.old → skeleton old ≡ skeleton description.now.items → self.new.placed ≡ 0) }
         ensures err { OnErr result (self.new ≡ self.old) }
     {
         let found = known_top(description, top);
-        match self.follow(alloc, description, &found, top, bodies, Judgement::Known)? {
+        match self.follow(alloc, description, &found, top, Judgement::Known)? {
             Ok(()) => Ok(()),
             Err(_) => unreachable!(),
         }
@@ -372,6 +304,6 @@ impl Kept {
     pub fn placed(&self) -> u64
         ensures { result ≡ self.now.placed }
     {
-        self.placed
+        self.stored.placed
     }
 }

@@ -10,7 +10,7 @@ use rdl_tree::description::{Body, Item};
 
 /// How many components are written in a body.
 #[cycle(components)]
-pub(crate) fn components(body: &Body) -> usize
+fn components(body: &Body) -> usize
     ensures { result ≡ capped (components body.now) }
 {
     let mut sum = 0usize;
@@ -32,7 +32,7 @@ fn item_components(item: &Item) -> usize
 }
 
 /// How many are written in these items.
-pub(crate) fn components_in(items: &[Item]) -> usize
+fn components_in(items: &[Item]) -> usize
     ensures { result ≡ capped (components (items_of items.now)) }
 {
     let mut sum = 0usize;

@@ -1,15 +1,15 @@
 //! The walk that lays out components, once for all their instances.
-ghost use Rattle.std.specs.Prelude.{◌≡◌, ℕ, ◌∷◌, ◌++◌, ◌+◌, ◌≤◌, [], length, Some, IfOk, IfSome};
-ghost use Rattle.std.specs.Option.{is_some, IsSome};
+ghost use Rattle.std.specs.Prelude.{◌≡◌, ℕ, ◌∷◌, ◌++◌, ◌+◌, ◌≤◌, [], true, length, Some, IfOk, IfSome};
+ghost use Rattle.std.specs.Option.{is_some};
 ghost use Rattle.rdl_tree.specs.Depth.{depth};
 ghost use Rattle.rdl_tree.specs.declared.description.Item.TheVariants.{Instance};
 ghost use Rattle.rdl_tree.specs.View.{items_of};
 ghost use Rattle.rdl_scope.specs.Closed.{Made, Parts, Standing, component, head_at, lookup, nothing, parts, root_type, standing};
 ghost use Rattle.rdl_elab.specs.Finished.{IsFinished, IsKept, AreParts};
-ghost use Rattle.slab.specs.Slab.{get};
 ghost use Rattle.rdl_elab.specs.Written.{written, item_written, all_written};
 ghost use Rattle.rdl_elab.specs.MadeOf.{made_of};
-ghost use Rattle.rdl_elab.specs.Finishes.{kept_for, AreLaidOut, Finishes};
+ghost use Rattle.rdl_elab.specs.Words.{words, is_among};
+ghost use Rattle.rdl_elab.specs.Finishes.{AreLaidOut, Finishes};
 ghost use Rattle.rdl_elab.specs.Stands.{made_at, after_item, item_parts, in_list, placed, LeadsTo, IsType, Stands, Grows, IsBehind};
 
 use crate::built_ins::BuiltIns;
@@ -28,7 +28,6 @@ use rdl_text::name::Name;
 use rdl_tree::address::Address;
 use rdl_tree::description::{Component, Description, Item, Of};
 use rdl_tree::shell::Shell;
-use slab::Slab;
 use std::alloc::{AllocError, Global};
 
 /// Components that are laid out, each after those of its instances, and the number of one of them.
@@ -77,9 +76,8 @@ fn finished<'a>(
     requires { depth description.now.items ≤ 16 }
     ensures kept { IfOk result (λ f. (e : Standing) (inside : Parts) (n : ℕ) → walk.now.defaults ≡ e.defaults → AreParts description.now.items walk.now.components.items n parts.entry.items inside → IsKept description.now.items f (record { head = head_at at.now component.now.kind component.now.body e; parts = inside })) }
     ensures parts { IfOk result (λ f. f.parts.items ≡ parts.entry.items) }
-    ensures made { IfOk result (λ f. (e : Standing) (inside : Parts) (n : ℕ) → walk.now.defaults ≡ e.defaults → AreParts description.now.items walk.now.components.items n parts.entry.items inside → f.laid_out ≡ made_of (record { head = head_at at.now component.now.kind component.now.body e; parts = inside })) }
-    ensures before { IfOk result (λ f. IfSome f.key (λ k. get before.now.layouts.now k ≡ Some f.laid_out)) }
-    ensures taken { IfOk result (λ f. kept_for before.now (length walk.now.components.items) ≡ Some f.laid_out → IsSome f.key) }
+    ensures words { IfOk result (λ f. (e : Standing) (inside : Parts) (n : ℕ) → walk.now.defaults ≡ e.defaults → AreParts description.now.items walk.now.components.items n parts.entry.items inside → f.laid_out.words ≡ words (made_of (record { head = head_at at.now component.now.kind component.now.body e; parts = inside }))) }
+    ensures taken { IfOk result (λ f. is_among f.laid_out.words before.now ≡ true → f.is_kept ≡ true) }
 {
     let kind = component.kind;
     let body = &component.body;
@@ -98,7 +96,7 @@ fn finished<'a>(
         assignments,
         layouts,
         laid_out: taken.laid_out,
-        key: taken.key,
+        is_kept: taken.is_kept,
         levels: levels(parts.as_slice(), components),
         rows: rows(parts.as_slice(), components),
         first_empty,
@@ -318,11 +316,7 @@ pub(crate) fn lay_out_item<'a>(
         return Ok(None);
     };
     let mut walk = Walk::new(alloc, description)?;
-    let none = Slab::new(alloc);
-    let before = Before {
-        layouts: &none,
-        keys: &[],
-    };
+    let before = Before::new(alloc);
     let number = finish_behind(
         alloc,
         description,
@@ -347,7 +341,7 @@ pub(crate) fn lay_out_all<'a>(
     before: &Before,
 ) -> Result<AllWalked<'a>, AllocError>
     requires { depth description.now.items ≤ 16 }
-    ensures laid_out { IfOk result (λ all. AreLaidOut before.now 0 all.components.items (all_written description.now.items)) }
+    ensures laid_out { IfOk result (λ all. AreLaidOut before.now all.components.items (all_written description.now.items)) }
     ensures number { IfOk result (λ all. IsType description.now.items all.components.items all.number (root_type description.now.items name.now)) }
 {
     let mut walk = Walk::new(alloc, description)?;

@@ -1,8 +1,7 @@
-use Rattle.std.proofs.Common.{◌≡◌, ap, sym, subst, rules, ◌∙◌, option_copied}
+use Rattle.std.proofs.Common.{◌≡◌, sym, subst, rules, ◌∙◌, option_copied}
 use Rattle.rdl_tree.specs.Patch.{image}
 use Rattle.rdl_elab.specs.Known.{HasRows}
-use Rattle.rdl_edit.specs.Placing.{reordered}
-use Rattle.rdl_edit.proofs.Placings.{back-keeps, few-placed, none-placed}
+use Rattle.rdl_edit.proofs.Placings.{back-keeps, few-placed, none-placed, keeps-made}
 use Rattle.rdl_edit.proofs.WaysBack.{way-back, cheap}
 use Rattle.rdl_edit.proofs.turning.again.Goals as goal
 
@@ -15,26 +14,30 @@ relay_known-requires c =
 pub returns-in-Ok-relay_known-clause-back : goal.returns-in-Ok-relay_known-clause-back
 returns-in-Ok-relay_known-clause-back c =
     way-back c.args.patches.items c.keep.result.items c.args.description.now.items _ c.requires.fit c.requires.nesting
-    (search rules) (c.keep.ensures.patches ∙ c.in-Ok-turn.ensures.kept)
+    (search rules) (c.keep.ensures.patches ∙ c.in-Ok.ensures.kept)
 
 pub returns-in-Ok-relay_known-clause-cost : goal.returns-in-Ok-relay_known-clause-cost
 returns-in-Ok-relay_known-clause-cost c =
     cheap c.args.patches.items c.keep.result.items c.args.description.now.items c.requires.fit c.requires.nesting
-    (c.keep.ensures.patches ∙ c.in-Ok-turn.ensures.kept)
+    (c.keep.ensures.patches ∙ c.in-Ok.ensures.kept)
 
 pub returns-in-Ok-relay_known-clause-back_keeps : goal.returns-in-Ok-relay_known-clause-back_keeps
 returns-in-Ok-relay_known-clause-back_keeps c =
     back-keeps c.args.patches.items c.keep.result.items c.args.description.now.items _ c.requires.fit
-    (search rules) (c.keep.ensures.patches ∙ c.in-Ok-turn.ensures.kept)
+    (search rules) (c.keep.ensures.patches ∙ c.in-Ok.ensures.kept)
 
 pub returns-in-Ok-relay_known-clause-few : goal.returns-in-Ok-relay_known-clause-few
 returns-in-Ok-relay_known-clause-few c =
-    let named : c.as_slice-2.result.now ≡ reordered c.args.patches.items = c.as_slice-2.ensures.value ∙ c.in-Ok.ensures ∙ ap reordered c.as_slice.ensures.value in
     let made : c.description.result.now.items ≡ image c.args.patches.items c.args.description.now.items = search rules in
-    few-placed c.args.kept.now.description c.args.description.now.items c.description.result.now.items c.args.patches.items c.as_slice-2.result.now c.relay_known.new.self.placed named made c.in-Ok-relay_known.ensures.reached
+    few-placed c.args.kept.now c.args.description.now.items c.description.result.now.items c.args.patches.items c.relay_known.new.self.placed made c.in-Ok-relay_known.ensures.reached
 
 pub returns-in-Ok-relay_known-clause-none : goal.returns-in-Ok-relay_known-clause-none
 returns-in-Ok-relay_known-clause-none c =
-    let named : c.as_slice-2.result.now ≡ reordered c.args.patches.items = c.as_slice-2.ensures.value ∙ c.in-Ok.ensures ∙ ap reordered c.as_slice.ensures.value in
     let made : c.description.result.now.items ≡ image c.args.patches.items c.args.description.now.items = search rules in
-    none-placed c.args.kept.now.description c.args.description.now.items c.description.result.now.items c.args.patches.items c.as_slice-2.result.now c.relay_known.new.self.placed named made c.in-Ok-relay_known.ensures.still
+    none-placed c.args.kept.now c.args.description.now.items c.description.result.now.items c.args.patches.items c.relay_known.new.self.placed made c.in-Ok-relay_known.ensures.still
+
+pub returns-in-Ok-relay_known-clause-keeps : goal.returns-in-Ok-relay_known-clause-keeps
+returns-in-Ok-relay_known-clause-keeps c =
+    let made : c.description.result.now.items ≡ image c.args.patches.items c.args.description.now.items = search rules in
+    keeps-made c.description.result.now.items _ (image c.args.patches.items c.args.description.now.items) (option_copied c.args.name) c.relay_known.new.self c.in-Ok-relay_known.ensures.layouts
+    c.in-Ok-relay_known.ensures.top made (search rules)

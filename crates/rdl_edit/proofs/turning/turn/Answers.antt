@@ -1,8 +1,8 @@
-use Rattle.std.proofs.Common.{◌≡◌, ap, rules, ◌∙◌}
+use Rattle.std.proofs.Common.{◌≡◌, rules, sym, subst, ◌∙◌, option_copied}
 use Rattle.rdl_tree.specs.Patch.{image}
-use Rattle.rdl_edit.specs.Placing.{reordered}
-use Rattle.rdl_edit.proofs.Placings.{back-keeps, few-placed, none-placed}
+use Rattle.rdl_edit.proofs.Placings.{back-keeps, few-placed, none-placed, keeps-made, judged-made}
 use Rattle.rdl_edit.proofs.WaysBack.{way-back, cheap}
+use Rattle.rdl_edit.specs.Step.{IsJudged}
 use Rattle.rdl_edit.proofs.turning.turn.Goals as goal
 
 pub returns-in-Ok-relay-clause-back : goal.returns-in-Ok-relay-clause-back
@@ -22,12 +22,23 @@ returns-in-Ok-relay-clause-back_keeps c =
 
 pub returns-in-Ok-relay-clause-few : goal.returns-in-Ok-relay-clause-few
 returns-in-Ok-relay-clause-few c =
-    let named : c.as_slice-2.result.now ≡ reordered c.args.patches.items = c.as_slice-2.ensures.value ∙ c.in_ok-bodies.ensures ∙ ap reordered c.as_slice.ensures.value in
     let made : c.description.result.now.items ≡ image c.args.patches.items c.args.description.now.items = search rules in
-    few-placed c.args.kept.now.description c.args.description.now.items c.description.result.now.items c.args.patches.items c.as_slice-2.result.now c.relay.new.self.placed named made c.in-Ok-relay.ensures.reached
+    few-placed c.args.kept.now c.args.description.now.items c.description.result.now.items c.args.patches.items c.relay.new.self.placed made c.in-Ok-relay.ensures.reached
 
 pub returns-in-Ok-relay-clause-none : goal.returns-in-Ok-relay-clause-none
 returns-in-Ok-relay-clause-none c =
-    let named : c.as_slice-2.result.now ≡ reordered c.args.patches.items = c.as_slice-2.ensures.value ∙ c.in_ok-bodies.ensures ∙ ap reordered c.as_slice.ensures.value in
     let made : c.description.result.now.items ≡ image c.args.patches.items c.args.description.now.items = search rules in
-    none-placed c.args.kept.now.description c.args.description.now.items c.description.result.now.items c.args.patches.items c.as_slice-2.result.now c.relay.new.self.placed named made c.in-Ok-relay.ensures.still
+    none-placed c.args.kept.now c.args.description.now.items c.description.result.now.items c.args.patches.items c.relay.new.self.placed made c.in-Ok-relay.ensures.still
+
+pub returns-in-Ok-relay-clause-keeps : goal.returns-in-Ok-relay-clause-keeps
+returns-in-Ok-relay-clause-keeps c =
+    let made : c.description.result.now.items ≡ image c.args.patches.items c.args.description.now.items = search rules in
+    keeps-made c.description.result.now.items _ (image c.args.patches.items c.args.description.now.items) (option_copied c.args.name) c.relay.new.self c.in-Ok-relay.ensures.layouts c.in-Ok-relay.ensures.top
+    made (search rules)
+
+pub returns-in-Err-clause-refused : goal.returns-in-Err-clause-refused
+returns-in-Err-clause-refused c =
+    let d = image c.args.patches.items c.args.description.now.items in
+    let made : c.description.result.now.items ≡ d = search rules in
+    subst (IsJudged (record { description = d; option = option_copied c.args.name })) (sym c.refused.ensures)
+    (judged-made c.description.result.now.items d (option_copied c.args.name) c.in-Err.fault c.in-Err.ensures.refused made)

@@ -4,11 +4,13 @@ use Rattle.rdl_elab.specs.declared.layout.LayoutValues.{LayoutValues}
 use Rattle.rdl_elab.specs.Kept.{Part}
 use Rattle.rdl_elab.specs.declared.finished.Finished.{Finished}
 use Rattle.rdl_elab.specs.Capped.{IsAlignment}
-use Rattle.rdl_elab.specs.Finished.{AreParts}
-use Rattle.rdl_elab.specs.MadeOf.{layout_made}
+use Rattle.rdl_elab.specs.Finished.{under, AreParts}
+use Rattle.rdl_elab.specs.LaidOut.{kept_members}
+use Rattle.rdl_elab.specs.MadeOf.{made_of}
 use Rattle.rdl_elab.specs.Reaches.{reaches_by}
+use Rattle.rdl_elab.specs.Words.{words}
 use Rattle.rdl_elab.proofs.KeptTargets.{target-same}
-use Rattle.rdl_elab.proofs.Making.{layout-made, members-are}
+use Rattle.rdl_elab.proofs.Making.{layouts-made, under-kept, members-are}
 use Rattle.rdl_elab.proofs.Powers.{alignment-power}
 use Rattle.rdl_elab.proofs.Insides.{levels-kept, rows-kept, empty-kept}
 use Rattle.rdl_elab.proofs.walk.finished.Goals as goal
@@ -18,17 +20,17 @@ take_layouts-requires c =
     let h : Head = record { at = []; kind = c.args.component.now.kind; body = c.args.component.now.body; defaults = c.args.walk.now.defaults } in
     subst (λ (v : LayoutValues). IsAlignment v.alignment) (sym (c.layout_values-values.ensures h refl refl)) (alignment-power (head_value h))
 
-pub returns-clause-made : goal.returns-clause-made
-returns-clause-made c = λ e inside n same are.
+pub returns-clause-words : goal.returns-clause-words
+returns-clause-words c = λ e inside n same are.
     let d = c.args.description.now.items in
     let fs = c.as_slice-components.result.now in
-    let taken = c.in_ok-taken.taken.laid_out in
+    let ps = c.as_slice.result.now in
     let h = head_at c.args.at.now c.args.component.now.kind c.args.component.now.body e in
-    let here = subst (λ (gs : List Finished). AreParts d gs n c.as_slice.result.now inside) (sym c.as_slice-components.ensures.value)
+    let here = subst (λ (gs : List Finished). AreParts d gs n ps inside) (sym c.as_slice-components.ensures.value)
     (subst (λ (qs : List Part). AreParts d c.args.walk.now.components.items n qs inside) (sym (c.as_slice.ensures ∙ c.in_ok-parts.ensures)) are) in
-    let values = c.in_ok-taken.ensures.values ∙ c.layout_values-values.ensures h refl (sym same) in
-    let members = members-are d fs n c.as_slice.result.now inside taken.members here c.in_ok-taken.ensures.members in
-    λ i. record { kind = c.in_ok-taken.ensures.kind i; values = values i; members = members i }
+    let values = c.layout_values-values.ensures h refl (sym same) in
+    let members = members-are d fs n ps inside (kept_members fs ps) here refl in
+    c.in_ok-taken.ensures.words ∙ (λ i. words (record { kind = c.args.component.now.kind; values = values i; members = members i }))
 
 pub returns-clause-kept : goal.returns-clause-kept
 returns-clause-kept c = λ e inside n same are.
@@ -45,7 +47,7 @@ returns-clause-kept c = λ e inside n same are.
       assignments = λ none here.
           c.in_ok-assignments.ensures
           ∙ (λ i. reaches_by (λ k names. target-same d fs none c.args.at.now made n c.in_ok-parts.parts.items here (moved c.in_ok-parts.parts.items c.in_ok-parts.ensures) k names i) 0 c.args.component.now.body);
-      layouts = λ m. c.in_ok-layouts.ensures m ∙ ap (layout_made m) (returns-clause-made c e inside n same are) ∙ layout-made m made;
+      layouts = λ m. sym (ap (under m) (c.in_ok-layouts.ensures (made_of made) (sym (returns-clause-words c e inside n same are)))) ∙ ap (under m) (layouts-made made) ∙ under-kept m made;
       levels = c.levels.ensures ∙ levels-kept d fs n c.as_slice-3.result.now inside (moved c.as_slice-3.result.now (c.as_slice-3.ensures ∙ c.in_ok-parts.ensures));
       rows = c.rows.ensures ∙ rows-kept d fs n c.as_slice-4.result.now inside (moved c.as_slice-4.result.now (c.as_slice-4.ensures ∙ c.in_ok-parts.ensures));
       first_empty = c.in_ok-first_empty.ensures ∙ empty-kept d fs n c.as_slice-2.result.now inside (moved c.as_slice-2.result.now (c.as_slice-2.ensures ∙ c.in_ok-parts.ensures));

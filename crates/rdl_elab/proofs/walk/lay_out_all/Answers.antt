@@ -1,4 +1,4 @@
-use Rattle.std.proofs.Common.{◌≡◌, ◌++◌, List, [], length, ap, sym, subst, ◌∙◌, arith}
+use Rattle.std.proofs.Common.{◌++◌, List, [], length, ap, sym, subst, ◌∙◌, arith}
 use Rattle.rdl_tree.specs.Depth.{depth}
 use Rattle.rdl_tree.specs.View.{items_of}
 use Rattle.rdl_tree.proofs.Rounds.{items_of-list_of}
@@ -24,9 +24,8 @@ returns-clause-laid_out c =
     let all = c.in_ok-walk_items.ensures.finishes nothing first in
     let whole = subst (λ t. Finishes before c.in_ok-walk.walk.components.items new (written nothing [] 0 t)) (ap items_of c.as_slice-items.ensures ∙ items_of-list_of d)
     (subst (λ b. Finishes before c.in_ok-walk.walk.components.items new (written nothing b 0 (items_of c.as_slice-items.result.now))) c.new-root.ensures all) in
-    let size : length c.in_ok-walk.walk.components.items ≡ 0 = ap length c.in_ok-walk.ensures.components in
-    subst (λ (fs : List Finished). AreLaidOut before 0 fs (all_written d))
-    (sym (whole.is ∙ ap (λ (fs : List Finished). fs ++ whole.more) c.in_ok-walk.ensures.components)) (subst (λ n. AreLaidOut before n whole.more (all_written d)) size whole.are)
+    subst (λ (fs : List Finished). AreLaidOut before fs (all_written d))
+    (sym (whole.is ∙ ap (λ (fs : List Finished). fs ++ whole.more) c.in_ok-walk.ensures.components)) whole.are
 
 pub returns-clause-number : goal.returns-clause-number
 returns-clause-number c =

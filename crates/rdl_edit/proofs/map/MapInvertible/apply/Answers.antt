@@ -24,15 +24,14 @@ returns-clause-few c =
     let same : d ≡ c.args.self.now.state.description = search rules in
     let which : c.in_ok-patches.patches.items ≡ patches d c.args.edit.now = search rules in
     let asked : c.in_ok-patches.patches.items ≡ patches c.args.self.now.state.description c.args.edit.now = which ∙ ap (λ t. patches t c.args.edit.now) same in
-    let laid_out : c.self.inside.kept.description ≡ d = c.self.invariant.layouts.description in
-    few-there d c.args.self.now.state.description c.turn.new.description.items (patches c.args.self.now.state.description c.args.edit.now) c.in_ok-patches.patches.items _ same asked c.in_ok-back.ensures.made (c.in_ok-back.ensures.few laid_out)
+    few-there d c.args.self.now.state.description c.turn.new.description.items (patches c.args.self.now.state.description c.args.edit.now) c.in_ok-patches.patches.items _ same asked c.in_ok-back.ensures.made (c.in_ok-back.ensures.few c.self.invariant.layouts)
 
 pub returns-clause-none : goal.returns-clause-none
 returns-clause-none c = λ h.
     let s : State = record { description = c.self.inside.description.items; option = c.self.inside.name } in
     let made : rewritten s.description c.args.edit.now ≡ Ok (image c.in_ok-patches.patches.items s.description) = search rules in
     let which : c.in_ok-patches.patches.items ≡ patches s.description c.args.edit.now = search rules in
-    c.in_ok-back.ensures.none c.self.invariant.layouts.description (edit-keeps s c.self.inside.kept c.args.edit.now c.in_ok-patches.patches.items c.self.invariant made which h)
+    c.in_ok-back.ensures.none c.self.invariant.layouts (edit-keeps s c.self.inside.kept c.args.edit.now c.in_ok-patches.patches.items c.self.invariant made which h)
 
 pub returns-clause-back_keeps : goal.returns-clause-back_keeps
 returns-clause-back_keeps c = λ h.

@@ -26,8 +26,7 @@ returns-clause-few c =
     let d = c.self.inside.description.items in
     let same : d ≡ c.args.self.now.state.description = search rules in
     let which : c.into_vec-patches.result.items ≡ c.args.back.patches = search rules in
-    let laid_out : c.self.inside.kept.description ≡ d = c.self.invariant.layouts.description in
-    few-there d c.args.self.now.state.description c.again.new.description.items c.args.back.patches c.into_vec-patches.result.items _ same which c.in-Ok.ensures.made (c.in-Ok.ensures.few laid_out)
+    few-there d c.args.self.now.state.description c.again.new.description.items c.args.back.patches c.into_vec-patches.result.items _ same which c.in-Ok.ensures.made (c.in-Ok.ensures.few c.self.invariant.layouts)
 
 pub returns-clause-edited : goal.returns-clause-edited
 returns-clause-edited c = λ h.

@@ -1,11 +1,11 @@
-use Rattle.std.proofs.Common.{◌<◌, ◌^◌, ap, sym, subst, ◌∙◌, arith}
-use Rattle.std.specs.Prelude.{option_map}
+use Rattle.std.proofs.Common.{◌≡◌, ◌<◌, ◌^◌, List, ap, sym, ◌∙◌, arith}
+use Rattle.std.specs.Prelude.{option_map, slice_get}
 use Rattle.rdl_tree.specs.Weight.{capped}
 use Rattle.rdl_scope.proofs.AsFound.{as_found}
-use Rattle.rdl_tree.specs.Items.{Items}
 use Rattle.rdl_elab.specs.AllKept.{KeptLayouts}
-use Rattle.rdl_elab.specs.MadeOf.{all_made}
-use Rattle.rdl_elab.specs.Stored.{IsStored}
+use Rattle.rdl_elab.specs.Finished.{under}
+use Rattle.rdl_elab.specs.Kept.{Layouts}
+use Rattle.rdl_elab.specs.Written.{all_layouts}
 use Rattle.rdl_elab.specs.Numbers.{components, number}
 use Rattle.rdl_elab.proofs.Numbering.{number-less}
 use Rattle.rdl_elab.proofs.FoundLayouts.{layout-none, layout-unnumbered, layout-numbered, few, exact-number, no-number}
@@ -19,24 +19,24 @@ pub returns-in-Some : goal.returns-in-Some
 returns-in-Some c =
     let d = c.args.description.now.items in
     let a = c.args.body.now in
-    let slab = c.self.inside.stored.layouts in
-    let keys = c.self.inside.stored.keys.items in
-    let is : IsStored slab keys (all_made d) = subst (λ (t : Items). IsStored slab keys (all_made t)) (ap (λ (k : KeptLayouts). k.description) c.self.view_is ∙ c.requires.description) c.self.invariant in
-    let small : components d < 2 ^ 64 = omega (arith, few d slab keys c.len.result is c.len.ensures, c.len.type_inv) in
-    let at = exact-number d a c.in-Some.number (ap (λ b. option_map capped (number b d)) (sym c.as_slice.ensures.value) ∙ sym c.number.ensures ∙ c.in-Some.is) small in
-    c.layout.ensures (all_made d) is ∙ layout-numbered d a c.args.mode c.in-Some.number (as_found d) at (sym c.has_layout.ensures ∙ c.if-not-has_layout.false)
+    let n = c.in-Some.number in
+    let all = c.self.inside.stored.layouts.items in
+    let is : all ≡ all_layouts d = ap (λ (k : KeptLayouts). k.layouts) c.self.view_is ∙ c.requires.layouts in
+    let small : components d < 2 ^ 64 = omega (arith, few d all c.len.result is c.len.ensures, c.len.type_inv) in
+    let at = exact-number d a n (ap (λ b. option_map capped (number b d)) (sym c.as_slice.ensures.value) ∙ sym c.number.ensures ∙ c.in-Some.is) small in
+    c.layout.ensures ∙ ap (λ (ls : List Layouts). option_map (under c.args.mode) (slice_get ls n)) is
+    ∙ layout-numbered d a c.args.mode n (as_found d) at (sym c.has_layout.ensures ∙ c.if-not-has_layout.false)
 
 pub returns-in_default : goal.returns-in_default
 returns-in_default c =
     let d = c.args.description.now.items in
     let a = c.args.body.now in
-    let slab = c.self.inside.stored.layouts in
-    let keys = c.self.inside.stored.keys.items in
-    let is : IsStored slab keys (all_made d) = subst (λ (t : Items). IsStored slab keys (all_made t)) (ap (λ (k : KeptLayouts). k.description) c.self.view_is ∙ c.requires.description) c.self.invariant in
+    let all = c.self.inside.stored.layouts.items in
+    let is : all ≡ all_layouts d = ap (λ (k : KeptLayouts). k.layouts) c.self.view_is ∙ c.requires.layouts in
     let numbers = ap (λ b. option_map capped (number b d)) (sym c.as_slice.ensures.value) ∙ sym c.number.ensures in
     elim c.in_default.branch [
       | in_default-via-in-Some+else-number-len w ↦
-          let count = few d slab keys w.len.result is w.len.ensures in
+          let count = few d all w.len.result is w.len.ensures in
           let small : components d < 2 ^ 64 = omega (arith, count, w.len.type_inv) in
           let at = exact-number d a w.in-Some.number (numbers ∙ w.in-Some.is) small in
           let no : ⊥ = omega (arith, count, w.if-number-len.false, number-less a d w.in-Some.number at) in

@@ -1,6 +1,5 @@
-use Rattle.std.proofs.Common.{rules, ◌≡◌, false, sym, subst, arith, option_copied}
+use Rattle.std.proofs.Common.{rules, ◌≡◌, false, [], subst, arith, option_copied}
 use Rattle.std.specs.Prelude.{IfErr, Err}
-use Rattle.rdl_elab.specs.AllKept.{IsAsBeforeBut}
 use Rattle.rdl_elab.specs.Faults.{elaborated}
 use Rattle.rdl_elab.specs.Reach.{in_reach}
 use Rattle.rdl_elab.proofs.AsBefore.{none-marked}
@@ -19,16 +18,11 @@ pub returns-clause-few : goal.returns-clause-few
 returns-clause-few c = search rules
 
 pub returns-clause-reached : goal.returns-clause-reached
-returns-clause-reached c = λ edited unchanged.
-    let old = c.args.self.now.description in
-    let bodies = c.args.bodies.now in
+returns-clause-reached c = λ old bodies edited are unchanged.
     let new = c.args.description.now.items in
-    returns-clause-few c (in_reach edited new) (reach edited old bodies new unchanged)
+    returns-clause-few c old bodies (in_reach edited new) are (reach edited old bodies new unchanged)
 
 pub returns-clause-still : goal.returns-clause-still
-returns-clause-still c = λ none same.
-    let old = c.args.self.now.description in
-    let bodies = c.args.bodies.now in
+returns-clause-still c = λ old are same.
     let new = c.args.description.now.items in
-    let before : IsAsBeforeBut (λ a. false) old bodies new = subst (λ bodies. IsAsBeforeBut (λ a. false) old bodies new) (sym none) (nothing-differs old new same) in
-    omega (arith, returns-clause-few c (λ a. false) before, none-marked new)
+    omega (arith, returns-clause-few c old [] (λ a. false) are (nothing-differs old new same), none-marked new)
