@@ -47,8 +47,10 @@ pub mod SameLevels
 pub mod FieldsInside
 pub mod KeptAnswers
 pub mod KnownRows
+pub mod Storing
 pub mod Spelled
 pub mod FoundAgain
+pub mod Indexing
 pub mod Numbering
 pub mod FoundLayouts
 pub mod AllTaken

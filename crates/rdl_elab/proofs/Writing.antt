@@ -1,5 +1,6 @@
 -- A walk finishes the components that are written, one after another.
 use Rattle.std.proofs.Common.{◌≡◌, ℕ, true, suc, ◌+◌, ◌<◌, List, [], ◌∷◌, ◌++◌, length, take, get_or, refl, ap, sym, subst, ◌∙◌, arith, append_assoc}
+use Rattle.std.specs.Option.{IsSome}
 use Rattle.rdl_tree.specs.Items.{Items, no_items}
 use Rattle.rdl_tree.specs.View.{add, items_of, list_of}
 use Rattle.rdl_tree.proofs.Rounds.{items_of-list_of}
@@ -15,10 +16,12 @@ use Rattle.rdl_elab.specs.Stands.{made_at, after_item}
 use Rattle.rdl_elab.specs.Written.{written, item_written}
 use Rattle.rdl_elab.specs.MadeOf.{made_of}
 use Rattle.rdl_elab.specs.Words.{words, is_among}
+use Rattle.rdl_elab.specs.Kept.{Stored}
+use Rattle.rdl_elab.specs.Taken.{WasKept}
 use Rattle.rdl_elab.specs.Finishes.{IsLaidOut, AreLaidOut, Finishes}
 use Rattle.rdl_elab.proofs.Goings.{append_nil, standing-add, item-taken, item-place}
 
-module _ (before : List (List ℕ)) where
+module _ (before : Stored) where
   pub finishes-none : (fs : List Finished) → Finishes before fs fs []
   finishes-none fs = record { more = []; is = sym (append_nil fs); are = tt }
 
@@ -38,11 +41,13 @@ module _ (before : List (List ℕ)) where
   pub finishes-push : (fs gs : List Finished) (f : Finished) (c : Made) → gs ≡ fs ++ f ∷ [] → IsLaidOut before f c → Finishes before fs gs (c ∷ [])
   finishes-push fs gs f c is h = record { more = f ∷ []; is = is; are = (h, tt) }
 
-  pub laid-out : (d : Items) (f : Finished) (c : Made) → IsKept d f c → f.laid_out.words ≡ words (made_of c) → (is_among f.laid_out.words before ≡ true → f.is_kept ≡ true) → IsLaidOut before f c
-  laid-out d f c h e taken = record {
+  pub laid-out : (d : Items) (f : Finished) (c : Made) → IsKept d f c → f.laid_out.words ≡ words (made_of c) → f.laid_out.layouts ≡ f.layouts → WasKept before.slots f → (is_among f.laid_out.words before.words ≡ true → IsSome f.key) → IsLaidOut before f c
+  laid-out d f c h e same kept taken = record {
     layouts = λ i. record { compact = h.layouts Compact i; regalign = h.layouts Regalign i; fullalign = h.layouts Fullalign i };
     made = e;
-    taken = λ among. taken (ap (λ ws. is_among ws before) e ∙ among);
+    same = same;
+    kept = kept;
+    taken = λ among. taken (ap (λ ws. is_among ws before.words) e ∙ among);
   }
 
   -- a component behind those inside it
@@ -81,7 +86,7 @@ written-last e b n (y ∷ xs) x =
     one n k = omega arith
 
 -- one more item
-pub finishes-next : (before : List (List ℕ)) (old mid new : List Finished) (at below : List ℕ) (xs : List Item) (i : ℕ) (x : Item) → i < length xs → x ≡ get_or xs i x → below ≡ at ++ i ∷ [] → (e : Standing)
+pub finishes-next : (before : Stored) (old mid new : List Finished) (at below : List ℕ) (xs : List Item) (i : ℕ) (x : Item) → i < length xs → x ≡ get_or xs i x → below ≡ at ++ i ∷ [] → (e : Standing)
     → Finishes before old mid (written e at 0 (items_of (take i xs))) → Finishes before mid new (item_written (standing e at 0 (items_of (take i xs))) below x)
     → Finishes before old new (written e at 0 (items_of (take (i + 1) xs)))
 finishes-next before old mid new at below xs i x h is b e g f =

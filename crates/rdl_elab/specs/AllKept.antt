@@ -97,4 +97,4 @@ abbrev pub all_spans : Layouts → ℕ
 all_spans l = length l.compact.spans + length l.regalign.spans + length l.fullalign.spans
 
 abbrev pub new_spans : Finished → ℕ
-new_spans f = if f.is_kept then 0 else all_spans f.layouts
+new_spans f = elim f.key [ None ↦ all_spans f.layouts | Some k ↦ 0 ]

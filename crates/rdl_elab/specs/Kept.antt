@@ -1,6 +1,6 @@
 -- What contracts see of the types that keep components.
 -- own: SystemRDL 2.0 speaks of definitions and instances.
-use Rattle.std.specs.Prelude.{ℕ, List}
+use Rattle.std.specs.Prelude.{ℕ, List, Option}
 use Rattle.rdl_tree.specs.declared.shell.Kind.{Kind}
 use Rattle.rdl_tree.specs.declared.shell.Shell.{Shell}
 use Rattle.rdl_elab.specs.declared.layout.LayoutValues.{LayoutValues}
@@ -39,3 +39,11 @@ pub record MadeOf : Type 0 where
 pub record LaidOut : Type 0 where
   pub words : List ℕ
   pub layouts : Layouts
+
+-- what is kept: the slots of a slab with layouts, whose numbers are their keys; the keys of the layouts of all components in their order;
+-- the words of what they are made of; and how many instances were placed for them
+pub record Stored : Type 0 where
+  pub slots : List (Option Layouts)
+  pub keys : List ℕ
+  pub words : List (List ℕ)
+  pub placed : ℕ

@@ -24,6 +24,8 @@ pub mod LaidOut
 pub mod Written
 pub mod MadeOf
 pub mod Words
+pub mod Stored
+pub mod Taken
 pub mod StandIns
 pub mod Finishes
 pub mod AllKept

@@ -216,8 +216,8 @@ pub(crate) struct Finished<'a> {
     pub layouts: SharedLayouts,
     /// The same layouts, with the words of what they are made of.
     pub laid_out: LaidOut,
-    /// Whether its layouts were kept before.
-    pub is_kept: bool,
+    /// The key of its layouts, if they were kept before.
+    pub key: Option<usize>,
     /// The names of the longest path below it, at most 16.
     pub levels: usize,
     /// The rows below it, at most 65,536.

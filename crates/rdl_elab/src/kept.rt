@@ -8,13 +8,13 @@ ghost use Rattle.rdl_elab.specs.Faults.{elaborated, with_top};
 ghost use Rattle.std.specs.String.{string_bytes};
 ghost use Rattle.rdl_elab.specs.Written.{all_layouts};
 ghost use Rattle.rdl_elab.specs.Words.{AreFoundAgain};
+ghost use Rattle.rdl_elab.specs.Stored.{all_under};
 ghost use Rattle.rdl_elab.specs.KeptRows.{kept_answer};
 ghost use Rattle.rdl_elab.specs.AllKept.{fault_in, new_spans, has_layout, all_instances, instances_at, AreFoundBut};
 
 use crate::clean::is_clean_map;
 use crate::elaborate::{Top, checked_top, known_rows, known_top, rows_under};
 use crate::finished::Finished;
-use crate::laid_out::Before;
 use crate::layout::{Layout, Mode};
 use crate::numbers::number;
 use crate::row::Rows;
@@ -44,7 +44,7 @@ fn all_placed(components: &[Finished]) -> u64
 {
     let mut placed = 0u64;
     for finished in components {
-        if !finished.is_kept {
+        if finished.key.is_none() {
             placed = placed.saturating_add(finished.layouts.placed());
         }
     }
@@ -116,32 +116,35 @@ fn fault_under<'a>(
     }
 }
 
-/// Lays out all components of this description, and takes over what was kept before where it was made of the same.
-/// What is then to be kept, or the fault of the map with this top.
+/// Lays out all components of this description, and keeps their layouts in place of what was kept, which is taken over
+/// where it was made of the same. Nothing changes if the map with this top has a fault.
 fn lay_out(
     alloc: Global,
-    before: &Before,
+    stored: &mut Stored,
     description: &Description,
     top: &Top,
     judgement: Judgement,
-) -> Result<Result<Stored, Fault>, AllocError>
+) -> Result<Result<(), Fault>, AllocError>
     requires nesting { depth description.now.items ≤ 16 }
     requires faultless { fault_of description.now.items ≡ None }
     requires top { root_type description.now.items top.now.1 ≡ component description.now.items (top.now.0 ∷ []) }
     requires known { judgement ≡ Judgement.Known → fault_in (with_top description.now.items (Some top.now)) ≡ None }
-    ensures layouts { IfOk result (λ answer. IfOk answer (λ s. s.layouts.items ≡ all_layouts description.now.items)) }
-    ensures found { IfOk result (λ answer. IfOk answer (λ s. AreFoundAgain description.now.items s.before)) }
-    ensures placed { IfOk result (λ answer. IfOk answer (λ s. s.placed ≤ 3 * all_instances description.now.items)) }
-    ensures few { IfOk result (λ answer. IfOk answer (λ s. (marked : List ℕ → Bool) → AreFoundBut marked before.now description.now.items → s.placed ≤ 3 * instances_at marked description.now.items)) }
+    ensures layouts { IfOk result (λ answer. OnOk answer (all_under stored.new.slots stored.new.keys ≡ all_layouts description.now.items)) }
+    ensures found { IfOk result (λ answer. OnOk answer (AreFoundAgain description.now.items stored.new.words)) }
+    ensures placed { IfOk result (λ answer. OnOk answer (stored.new.placed ≤ 3 * all_instances description.now.items)) }
+    ensures few { IfOk result (λ answer. OnOk answer ((marked : List ℕ → Bool) → AreFoundBut marked stored.old.words description.now.items → stored.new.placed ≤ 3 * instances_at marked description.now.items)) }
+    ensures unchanged { IfOk result (λ answer. OnErr answer (stored.new ≡ stored.old)) }
+    ensures err { OnErr result (stored.new ≡ stored.old) }
     ensures judged { IfOk result (λ answer. fault_in answer ≡ fault_in (with_top description.now.items (Some top.now))) }
 {
-    let all = lay_out_all(alloc, description, top.name, before)?;
+    let all = lay_out_all(alloc, description, top.name, stored)?;
     let components = all.components.as_slice();
     if let Some(fault) = fault_under(alloc, components, all.number, top, judgement)? {
         return Ok(Err(fault));
     }
     let placed = all_placed(all.components.as_slice());
-    Ok(Ok(Stored::of(alloc, all.components, placed)?))
+    stored.replace(alloc, all.components, placed)?;
+    Ok(Ok(()))
 }
 
 /// The layouts of all components of a description, used or not, and how many instances were placed for them. A contract
@@ -156,10 +159,11 @@ impl Model for Kept {
     ghost use Rattle.std.specs.Prelude.{option_map};
     ghost use Rattle.std.specs.String.{string_bytes};
     ghost use Rattle.rdl_elab.specs.AllKept.{KeptLayouts};
+    ghost use Rattle.rdl_elab.specs.Stored.{all_under};
 
     ghost Value = { KeptLayouts };
 
-    ghost view = { λ k. record { layouts = k.stored.layouts.items; words = k.stored.before; top = option_map string_bytes k.top; placed = k.stored.placed } };
+    ghost view = { λ k. record { layouts = all_under k.stored.slots k.stored.keys; words = k.stored.words; top = option_map string_bytes k.top; placed = k.stored.placed } };
 }
 
 impl Kept {
@@ -204,9 +208,8 @@ impl Kept {
         ensures err { OnErr result (self.new ≡ self.old) }
     {
         let wanted = text_of(alloc, wanted)?;
-        match lay_out(alloc, &self.stored.before, description, top, judgement)? {
-            Ok(stored) => {
-                self.stored = stored;
+        match lay_out(alloc, &mut self.stored, description, top, judgement)? {
+            Ok(()) => {
                 self.top = wanted;
                 Ok(Ok(()))
             }
@@ -222,19 +225,20 @@ impl Kept {
         ensures refused { IfErr result (λ fault. (elaborated description.now.items (option_copied top.entry) ≡ Err fault) ⊎ (fault ≡ out_of_memory)) }
     {
         let mut kept = Kept::empty(alloc);
-        match kept.relay(alloc, description, top) {
+        match kept.relay(alloc, description, top, &[]) {
             Ok(()) => Ok(kept),
             Err(fault) => Err(fault),
         }
     }
 
     /// Lays out this description instead, and places anew the instances of those components alone whose layouts are made
-    /// of something of which none were kept.
+    /// of something of which none were kept. What an edit leaves alone is found whatever bodies are named.
     pub fn relay(
         &mut self,
         alloc: Global,
         description: &Description,
         top: Option<&str>,
+        _bodies: &[Address],
     ) -> Result<(), Fault>
         ensures layouts { OnOk result (AreOf description.now.items self.new) }
         ensures top { OnOk result (self.new.top ≡ option_copied top.entry) }
@@ -259,6 +263,7 @@ impl Kept {
         alloc: Global,
         description: &Description,
         top: Option<&str>,
+        _bodies: &[Address],
     ) -> Result<(), AllocError>
         requires { HasRows description.now.items (option_copied top) }
         ensures layouts { OnOk result (AreOf description.now.items self.new) }
@@ -304,6 +309,6 @@ impl Kept {
     pub fn placed(&self) -> u64
         ensures { result ≡ self.now.placed }
     {
-        self.stored.placed
+        self.stored.placed()
     }
 }

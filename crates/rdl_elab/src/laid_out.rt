@@ -1,17 +1,19 @@
 //! The layouts of a component, found again by what they were made of.
-ghost use Rattle.std.specs.Prelude.{◌≡◌, true, IfOk};
+ghost use Rattle.std.specs.Prelude.{◌≡◌, true, Some, IfOk, IfSome};
+ghost use Rattle.std.specs.Option.{IsSome};
 ghost use Rattle.rdl_elab.specs.Capped.{IsAlignment};
 ghost use Rattle.rdl_elab.specs.LaidOut.{kept_members};
+ghost use Rattle.rdl_elab.specs.Stored.{under_key};
 ghost use Rattle.rdl_elab.specs.Words.{words, is_among};
 
 use crate::finished::{Finished, Layouts, Part};
 use crate::instances::layouts;
 use crate::layout::{Layout, LayoutValues, Mode};
+use crate::stored::Stored;
 use crate::words::words;
 use rdl_text::token::Number;
 use rdl_tree::shell::Kind;
 use std::alloc::{AllocError, Global};
-use std::collections::BTreeMap;
 use std::marker::Model;
 use std::rc::Rc;
 
@@ -94,72 +96,32 @@ impl Model for LaidOut {
 }
 
 impl LaidOut {
-    ghost use Rattle.std.specs.Prelude.{IfOk};
+    ghost use Rattle.std.specs.Prelude.{◌≡◌, IfOk};
     ghost use Rattle.rdl_elab.specs.Words.{AreMadeOf};
 
     /// Its layouts, for one more.
     pub(crate) fn layouts(&self) -> Result<SharedLayouts, AllocError>
-        ensures { IfOk result (AreMadeOf self.now.words) }
+        ensures made { IfOk result (AreMadeOf self.now.words) }
+        ensures same { IfOk result (λ layouts. self.now.layouts ≡ layouts) }
     {
         self.layouts.share()
     }
-}
 
-/// The layouts that were kept before, under the words of what they are made of. A contract sees the words.
-#[derive(Debug, Drop)]
-pub(crate) struct Before {
-    layouts: BTreeMap<Vec<Number>, SharedLayouts>,
-}
-
-impl Model for Before {
-    ghost use Rattle.std.specs.Prelude.{ℕ, List, map};
-    ghost use Rattle.std.specs.List.{AllByRecursion};
-
-    ghost Value = { List (List ℕ) };
-
-    ghost use Rattle.rdl_elab.specs.Words.{AreMadeOf};
-
-    ghost view = { λ b. map (λ e. e.0.items) b.layouts.entries };
-
-    ghost invariant = { λ b. AllByRecursion (λ e. AreMadeOf e.0.items e.1) b.layouts.entries };
-}
-
-impl Before {
-    ghost use Rattle.std.specs.Prelude.{◌≡◌, ℕ, List, [], true, is_some, IfSome, OnOk};
-    ghost use Rattle.rdl_elab.specs.Words.{AreMadeOf, is_among};
-
-    /// Nothing was kept.
-    pub(crate) fn new(alloc: Global) -> Before
-        ensures { result ≡ [] }
+    /// The words and the layouts.
+    pub(crate) fn into_parts(self) -> (Vec<Number>, SharedLayouts)
+        ensures words { result.0.items ≡ self.words }
+        ensures layouts { result.1 ≡ self.layouts }
+        ensures made { AreMadeOf self.words self.layouts }
     {
-        Before {
-            layouts: BTreeMap::new(alloc),
-        }
-    }
-
-    /// Those that are made of what these words say, if they were kept.
-    fn get(&self, words: &[Number]) -> Option<&SharedLayouts>
-        ensures there { is_some result ≡ is_among words.now self.now }
-        ensures made { IfSome result (λ layouts. AreMadeOf words.now layouts.now) }
-    {
-        self.layouts.get(words)
-    }
-
-    /// Keeps these too.
-    pub(crate) fn put(&mut self, laid_out: LaidOut) -> Result<(), AllocError>
-        ensures there { OnOk result (is_among laid_out.words self.new ≡ true) }
-        ensures others { OnOk result ((words : List ℕ) → is_among words self.old ≡ true → is_among words self.new ≡ true) }
-    {
-        self.layouts.insert(laid_out.words, laid_out.layouts)?;
-        Ok(())
+        (self.words, self.layouts)
     }
 }
 
-/// The layouts of a component, and whether they were kept before.
+/// The layouts of a component, and their key if they were kept before.
 #[derive(Debug, Drop)]
 pub(crate) struct Taken {
     pub laid_out: LaidOut,
-    pub is_kept: bool,
+    pub key: Option<usize>,
 }
 
 /// New layouts of a component of this kind with these values and these instances.
@@ -190,22 +152,23 @@ pub(crate) fn take_layouts(
     values: LayoutValues,
     parts: &[Part],
     components: &[Finished],
-    before: &Before,
+    before: &Stored,
 ) -> Result<Taken, AllocError>
     requires { IsAlignment values.alignment }
     ensures words { IfOk result (λ t. t.laid_out.words ≡ words (record { kind = kind; values = values; members = kept_members components.now parts.now })) }
-    ensures taken { IfOk result (λ t. is_among t.laid_out.words before.now ≡ true → t.is_kept ≡ true) }
+    ensures kept { IfOk result (λ t. IfSome t.key (λ k. under_key before.now.slots k ≡ Some t.laid_out.layouts)) }
+    ensures taken { IfOk result (λ t. is_among t.laid_out.words before.now.words ≡ true → IsSome t.key) }
 {
     let words = words(alloc, kind, values, parts, components)?;
-    if let Some(kept) = before.get(words.as_slice()) {
-        let layouts = kept.share()?;
+    if let Some(kept) = before.found(words.as_slice()) {
+        let layouts = kept.layouts.share()?;
         return Ok(Taken {
             laid_out: LaidOut { words, layouts },
-            is_kept: true,
+            key: Some(kept.key),
         });
     }
     Ok(Taken {
         laid_out: new_layouts(alloc, kind, values, words, parts, components)?,
-        is_kept: false,
+        key: None,
     })
 }

@@ -1,81 +1,264 @@
-//! What is kept from one description to the next.
-ghost use Rattle.std.specs.Prelude.{◌≡◌, ℕ, List, true, IfOk, OnOk};
+//! Layouts under their keys, found again by the words of what they are made of.
+ghost use Rattle.std.specs.Prelude.{◌≡◌, ◌≤◌, ◌<◌, ◌+◌, ℕ, List, [], true, map, length, slice_get, option_map, option_and_then, Some, All, IfOk, IfSome, OnOk};
+ghost use Rattle.std.specs.Vec.{vec_capacity, vec_len};
+ghost use Rattle.slab.specs.Slab.{get, HasRoomFor};
+ghost use Rattle.rdl_elab.specs.declared.stored.Candidate.{Candidate};
+ghost use Rattle.rdl_elab.specs.declared.stored.Keyed.{Keyed};
+ghost use Rattle.rdl_elab.specs.AllKept.{AreKept};
+ghost use Rattle.rdl_elab.specs.Kept.{Layouts};
 ghost use Rattle.rdl_elab.specs.Words.{is_among};
+ghost use Rattle.rdl_elab.specs.Stored.{words_in, Leads};
+ghost use Rattle.rdl_elab.specs.Taken.{keyed, IsTaken, AreTaken, Stays};
 
 use crate::finished::Finished;
-use crate::laid_out::{Before, SharedLayouts};
+use crate::laid_out::{LaidOut, SharedLayouts};
 use crate::layout::{Layout, Mode};
+use rdl_text::token::Number;
+use slab::Slab;
 use std::alloc::{AllocError, Global};
+use std::collections::BTreeMap;
+use std::marker::Model;
 
-/// The layouts of all components in their order, the same under the words of what they are made of, and how many
-/// instances were placed for them.
-#[derive(Debug, Drop)]
-pub(crate) struct Stored {
-    pub layouts: Vec<SharedLayouts>,
-    pub before: Before,
-    pub placed: u64,
+/// Kept layouts, and their key.
+#[derive(Clone, Copy)]
+pub(crate) struct Candidate<'a> {
+    pub key: usize,
+    pub layouts: &'a SharedLayouts,
 }
 
-/// Keeps the layouts of a finished component under their words, and answers them.
-fn keep(before: &mut Before, finished: Finished) -> Result<SharedLayouts, AllocError>
-    ensures layouts { IfOk result (λ layouts. layouts ≡ finished.entry.layouts) }
-    ensures there { OnOk result (is_among finished.entry.laid_out.words before.new ≡ true) }
-    ensures others { OnOk result ((words : List ℕ) → is_among words before.old ≡ true → is_among words before.new ≡ true) }
+/// Layouts that are to be kept, and their key if they were kept before.
+#[derive(Debug, Drop)]
+struct Keyed {
+    layouts: SharedLayouts,
+    key: Option<usize>,
+}
+
+/// Layouts that are to be kept, and an index that leads from the words of what they are made of to their numbers.
+#[derive(Debug, Drop)]
+struct Indexed {
+    all: Vec<Keyed>,
+    index: BTreeMap<Vec<Number>, usize>,
+}
+
+/// Marks the keys, up to this many, of those that were kept before.
+fn used_keys(alloc: Global, len: usize, components: &[Finished]) -> Result<Vec<bool>, AllocError>
+    ensures { IfOk result (λ used. All (λ f. IfSome f.key (λ k. k < len → slice_get used.items k ≡ Some true)) components.now) }
 {
-    before.put(finished.laid_out)?;
-    Ok(finished.layouts)
+    let mut used = Vec::with_capacity(alloc, len)?;
+    used.resize(len, false)?;
+    for finished in components {
+        if let Some(key) = finished.key {
+            if let Some(mark) = used.get_mut(key) {
+                *mark = true;
+            }
+        }
+    }
+    Ok(used)
+}
+
+/// Leads from the words to the number, and answers the layouts.
+fn lead(
+    index: &mut BTreeMap<Vec<Number>, usize>,
+    number: usize,
+    laid_out: LaidOut,
+) -> Result<SharedLayouts, AllocError>
+    ensures layouts { IfOk result (λ layouts. layouts ≡ laid_out.layouts) }
+    ensures there { OnOk result (is_among laid_out.words (words_in index.new.entries) ≡ true) }
+    ensures others { OnOk result ((words : List ℕ) → is_among words (words_in index.old.entries) ≡ true → is_among words (words_in index.new.entries) ≡ true) }
+    ensures leads { OnOk result ((all : List Layouts) → slice_get all number ≡ Some laid_out.layouts → Leads all index.old.entries → Leads all index.new.entries) }
+{
+    let (words, layouts) = laid_out.into_parts();
+    index.insert(words, number)?;
+    Ok(layouts)
+}
+
+/// The layouts of these components, and an index of them.
+fn index_of(alloc: Global, components: Vec<Finished>) -> Result<Indexed, AllocError>
+    ensures all { IfOk result (λ i. i.all.items ≡ map keyed components.entry.items) }
+    ensures kept { IfOk result (λ i. AreKept (words_in i.index.entries) components.entry.items) }
+    ensures leads { IfOk result (λ i. Leads (map (λ (k : Keyed). k.layouts) i.all.items) i.index.entries) }
+{
+    let mut all = Vec::with_capacity(alloc, components.len())?;
+    let mut index = BTreeMap::new(alloc);
+    for finished in components {
+        let layouts = lead(&mut index, all.len(), finished.laid_out)?;
+        all.push(Keyed {
+            layouts,
+            key: finished.key,
+        })?;
+    }
+    Ok(Indexed { all, index })
+}
+
+/// Removes what stands under the key, if the key isn't marked.
+fn remove_unmarked(layouts: &mut Slab<SharedLayouts>, key: usize, marks: &[bool])
+    ensures kept { (k : ℕ) → slice_get marks.now k ≡ Some true → get layouts.new k ≡ get layouts.old k }
+    ensures room { (more : ℕ) → HasRoomFor layouts.old more → HasRoomFor layouts.new more }
+{
+    match marks.get(key) {
+        Some(true) => {}
+        _ => {
+            layouts.try_remove(key);
+        }
+    }
+}
+
+/// Removes what stands under those of the keys that aren't marked.
+fn remove_unused(layouts: &mut Slab<SharedLayouts>, keys: &[usize], marks: &[bool])
+    ensures kept { (k : ℕ) → slice_get marks.now k ≡ Some true → get layouts.new k ≡ get layouts.old k }
+    ensures room { (more : ℕ) → HasRoomFor layouts.old more → HasRoomFor layouts.new more }
+{
+    for key in keys {
+        remove_unmarked(layouts, *key, marks);
+    }
+}
+
+/// Puts them in where they weren't kept before, and answers their key.
+fn put(layouts: &mut Slab<SharedLayouts>, one: Keyed) -> usize
+    requires room { HasRoomFor layouts.old 1 }
+    requires kept { IsTaken layouts.old one }
+    ensures put { get layouts.new result ≡ Some one.layouts }
+    ensures others { Stays layouts.old layouts.new }
+    ensures room { (more : ℕ) → HasRoomFor layouts.old (more + 1) → HasRoomFor layouts.new more }
+{
+    match one.key {
+        Some(key) => key,
+        None => layouts.insert_reserved(one.layouts),
+    }
+}
+
+/// Puts in what wasn't kept before, and answers the keys of all.
+fn put_all(layouts: &mut Slab<SharedLayouts>, all: Vec<Keyed>, keys: &mut Vec<usize>)
+    requires room { HasRoomFor layouts.old (length all.items) }
+    requires keys { length all.items ≤ vec_capacity keys.old }
+    requires empty { keys.old.items ≡ [] }
+    requires count { vec_len all ≡ length all.items }
+    requires kept { AreTaken layouts.old all.items }
+    ensures { map (get layouts.new) keys.new.items ≡ map (λ k. Some k.layouts) all.items }
+{
+    for one in all {
+        let key = put(layouts, one);
+        keys.push(key).unwrap();
+    }
+}
+
+/// The layouts of the component of this number, and their key.
+fn numbered<'a>(
+    layouts: &'a Slab<SharedLayouts>,
+    keys: &[usize],
+    number: usize,
+) -> Option<Candidate<'a>>
+    ensures key { IfSome result (λ c. get layouts.now c.key ≡ Some c.layouts.now) }
+    ensures is { option_map (λ (c : Candidate). c.layouts.now) result ≡ option_and_then (get layouts.now) (slice_get keys.now number) }
+{
+    let key = *keys.get(number)?;
+    let layouts = layouts.get(key)?;
+    Some(Candidate { key, layouts })
+}
+
+/// The layouts of all components of a description, found by the words of what they are made of, and how many instances
+/// were placed for them. A contract sees the record of specs/.
+#[derive(Debug, Drop)]
+pub(crate) struct Stored {
+    /// Each under its key.
+    layouts: Slab<SharedLayouts>,
+    /// The keys of all components in their order.
+    keys: Vec<usize>,
+    /// The number of a component whose layouts are made of what the words say.
+    index: BTreeMap<Vec<Number>, usize>,
+    placed: u64,
+}
+
+impl Model for Stored {
+    ghost use Rattle.rdl_elab.specs.Kept.{Stored};
+
+    ghost Value = { Stored };
+
+    ghost use Rattle.rdl_elab.specs.Stored.{all_under, AreUnder, words_in, Leads};
+
+    ghost view = { λ s. record { slots = s.layouts.slots; keys = s.keys.items; words = words_in s.index.entries; placed = s.placed } };
+
+    ghost invariant = { λ s. AreUnder s.layouts.slots s.keys.items (all_under s.layouts.slots s.keys.items) × Leads (all_under s.layouts.slots s.keys.items) s.index.entries };
 }
 
 impl Stored {
-    ghost use Rattle.std.specs.Prelude.{◌≡◌, map, length, slice_get, option_copied, option_map, IfOk};
-    ghost use Rattle.rdl_elab.specs.Finished.{under};
+    ghost use Rattle.std.specs.Prelude.{◌≡◌, [], map, length, is_some, slice_get, option_copied, option_map, IfSome, Some, OnOk, OnErr};
+    ghost use Rattle.std.specs.List.{AllByRecursion};
     ghost use Rattle.rdl_elab.specs.AllKept.{AreKept};
+    ghost use Rattle.rdl_elab.specs.Finished.{under};
+    ghost use Rattle.rdl_elab.specs.Stored.{under_key, all_under};
+    ghost use Rattle.rdl_elab.specs.Taken.{WasKept};
+    ghost use Rattle.rdl_elab.specs.Words.{AreMadeOf, is_among};
 
     /// Nothing is kept.
     pub(crate) fn empty(alloc: Global) -> Stored {
         Stored {
-            layouts: Vec::new(alloc),
-            before: Before::new(alloc),
+            layouts: Slab::new(alloc),
+            keys: Vec::new(alloc),
+            index: BTreeMap::new(alloc),
             placed: 0,
         }
     }
 
-    /// Keeps the layouts of these components, for which so many instances were placed.
-    pub(crate) fn of(
-        alloc: Global,
-        components: Vec<Finished>,
-        placed: u64,
-    ) -> Result<Stored, AllocError>
-        ensures layouts { IfOk result (λ s. s.layouts.items ≡ map (λ f. f.layouts) components.entry.items) }
-        ensures kept { IfOk result (λ s. AreKept s.before components.entry.items) }
-        ensures placed { IfOk result (λ s. s.placed ≡ placed) }
-    {
-        let mut layouts = Vec::with_capacity(alloc, components.len())?;
-        let mut before = Before::new(alloc);
-        for finished in components {
-            layouts.push(keep(&mut before, finished)?)?;
-        }
-        Ok(Stored {
-            layouts,
-            before,
-            placed,
-        })
-    }
-
     /// How many components there are.
     pub(crate) fn len(&self) -> usize
-        ensures { result ≡ length self.now.layouts.items }
+        ensures { result ≡ length (all_under self.now.slots self.now.keys) }
     {
-        self.layouts.as_slice().len()
+        self.keys.as_slice().len()
+    }
+
+    /// How many instances were placed for the layouts.
+    pub(crate) fn placed(&self) -> u64
+        ensures { result ≡ self.now.placed }
+    {
+        self.placed
     }
 
     /// The layout of the component of this number.
     pub(crate) fn layout(&self, number: usize, mode: Mode) -> Option<&Layout>
-        ensures { option_copied result ≡ option_map (under mode) (slice_get self.now.layouts.items number) }
+        ensures { option_copied result ≡ option_map (under mode) (slice_get (all_under self.now.slots self.now.keys) number) }
     {
-        match self.layouts.get(number) {
-            Some(layouts) => Some(layouts.under(mode)),
+        match numbered(&self.layouts, self.keys.as_slice(), number) {
+            Some(found) => Some(found.layouts.under(mode)),
             None => None,
         }
+    }
+
+    /// Layouts that are made of what these words say, if some are kept.
+    pub(crate) fn found(&self, words: &[Number]) -> Option<Candidate<'_>>
+        ensures there { is_some result ≡ is_among words.now self.now.words }
+        ensures key { IfSome result (λ c. under_key self.now.slots c.key ≡ Some c.layouts.now) }
+        ensures made { IfSome result (λ c. AreMadeOf words.now c.layouts.now) }
+    {
+        match self.index.get(words) {
+            Some(number) => numbered(&self.layouts, self.keys.as_slice(), *number),
+            None => None,
+        }
+    }
+
+    /// Keeps the layouts of these components instead, for which so many instances were placed. What stood under keys that
+    /// none of them has is removed, and its keys are used again.
+    pub(crate) fn replace(
+        &mut self,
+        alloc: Global,
+        components: Vec<Finished>,
+        placed: u64,
+    ) -> Result<(), AllocError>
+        requires { AllByRecursion (WasKept self.old.slots) components.items }
+        ensures layouts { OnOk result (all_under self.new.slots self.new.keys ≡ map (λ f. f.laid_out.layouts) components.entry.items) }
+        ensures kept { OnOk result (AreKept self.new.words components.entry.items) }
+        ensures placed { OnOk result (self.new.placed ≡ placed) }
+        ensures err { OnErr result (self.new ≡ self.old) }
+    {
+        let used = used_keys(alloc, self.layouts.capacity(), components.as_slice())?;
+        let mut keys = Vec::with_capacity(alloc, components.len())?;
+        let Indexed { all, index } = index_of(alloc, components)?;
+        self.layouts.reserve(all.len())?;
+        remove_unused(&mut self.layouts, self.keys.as_slice(), used.as_slice());
+        put_all(&mut self.layouts, all, &mut keys);
+        self.keys = keys;
+        self.index = index;
+        self.placed = placed;
+        Ok(())
     }
 }

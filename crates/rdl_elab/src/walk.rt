@@ -1,6 +1,6 @@
 //! The walk that lays out components, once for all their instances.
 ghost use Rattle.std.specs.Prelude.{◌≡◌, ℕ, ◌∷◌, ◌++◌, ◌+◌, ◌≤◌, [], true, length, Some, IfOk, IfSome};
-ghost use Rattle.std.specs.Option.{is_some};
+ghost use Rattle.std.specs.Option.{is_some, IsSome};
 ghost use Rattle.rdl_tree.specs.Depth.{depth};
 ghost use Rattle.rdl_tree.specs.declared.description.Item.TheVariants.{Instance};
 ghost use Rattle.rdl_tree.specs.View.{items_of};
@@ -9,6 +9,7 @@ ghost use Rattle.rdl_elab.specs.Finished.{IsFinished, IsKept, AreParts};
 ghost use Rattle.rdl_elab.specs.Written.{written, item_written, all_written};
 ghost use Rattle.rdl_elab.specs.MadeOf.{made_of};
 ghost use Rattle.rdl_elab.specs.Words.{words, is_among};
+ghost use Rattle.rdl_elab.specs.Taken.{WasKept};
 ghost use Rattle.rdl_elab.specs.Finishes.{AreLaidOut, Finishes};
 ghost use Rattle.rdl_elab.specs.Stands.{made_at, after_item, item_parts, in_list, placed, LeadsTo, IsType, Stands, Grows, IsBehind};
 
@@ -16,10 +17,11 @@ use crate::built_ins::BuiltIns;
 use crate::defaults::Defaults;
 use crate::finished::{Finished, Part};
 use crate::instances::{first_empty, levels, rows};
-use crate::laid_out::{Before, SharedLayouts, take_layouts};
+use crate::laid_out::take_layouts;
 use crate::part_list::PartList;
 use crate::reaches::{assignments, has_dynamic};
 use crate::shared::share;
+use crate::stored::Stored;
 use crate::targets::goes_further;
 use crate::types::Types;
 use crate::values::{layout_values, shown_values};
@@ -71,13 +73,15 @@ fn finished<'a>(
     component: &'a Component,
     parts: Vec<Part<'a>>,
     walk: &Walk<'a>,
-    before: &Before,
+    before: &Stored,
 ) -> Result<Finished<'a>, AllocError>
     requires { depth description.now.items ≤ 16 }
     ensures kept { IfOk result (λ f. (e : Standing) (inside : Parts) (n : ℕ) → walk.now.defaults ≡ e.defaults → AreParts description.now.items walk.now.components.items n parts.entry.items inside → IsKept description.now.items f (record { head = head_at at.now component.now.kind component.now.body e; parts = inside })) }
     ensures parts { IfOk result (λ f. f.parts.items ≡ parts.entry.items) }
     ensures words { IfOk result (λ f. (e : Standing) (inside : Parts) (n : ℕ) → walk.now.defaults ≡ e.defaults → AreParts description.now.items walk.now.components.items n parts.entry.items inside → f.laid_out.words ≡ words (made_of (record { head = head_at at.now component.now.kind component.now.body e; parts = inside }))) }
-    ensures taken { IfOk result (λ f. is_among f.laid_out.words before.now ≡ true → f.is_kept ≡ true) }
+    ensures same { IfOk result (λ f. f.laid_out.layouts ≡ f.layouts) }
+    ensures stood { IfOk result (λ f. WasKept before.now.slots f) }
+    ensures taken { IfOk result (λ f. is_among f.laid_out.words before.now.words ≡ true → IsSome f.key) }
 {
     let kind = component.kind;
     let body = &component.body;
@@ -96,7 +100,7 @@ fn finished<'a>(
         assignments,
         layouts,
         laid_out: taken.laid_out,
-        is_kept: taken.is_kept,
+        key: taken.key,
         levels: levels(parts.as_slice(), components),
         rows: rows(parts.as_slice(), components),
         first_empty,
@@ -113,7 +117,7 @@ fn finish<'a>(
     at: &Address,
     component: &'a Component,
     walk: &mut Walk<'a>,
-    before: &Before,
+    before: &Stored,
 ) -> Result<usize, AllocError>
     requires nesting { depth description.now.items ≤ 16 }
     requires room { length at.now + depth component.now.body ≤ 16 }
@@ -161,7 +165,7 @@ fn walk_instance<'a>(
     shell: &'a Shell,
     of: &'a Of,
     walk: &mut Walk<'a>,
-    before: &Before,
+    before: &Stored,
 ) -> Result<Option<Found<'a>>, AllocError>
     requires nesting { depth description.now.items ≤ 16 }
     requires room { length at.now + depth (items_of (Instance shell.now of.now ∷ [])) ≤ 16 }
@@ -196,7 +200,7 @@ fn walk_item<'a>(
     number: usize,
     item: &'a Item,
     walk: &mut Walk<'a>,
-    before: &Before,
+    before: &Stored,
 ) -> Result<Option<Found<'a>>, AllocError>
     requires nesting { depth description.now.items ≤ 16 }
     requires room { length at.now + depth (items_of (item.now ∷ [])) ≤ 16 }
@@ -239,7 +243,7 @@ fn walk_items<'a>(
     at: &Address,
     items: &'a [Item],
     walk: &mut Walk<'a>,
-    before: &Before,
+    before: &Stored,
 ) -> Result<Vec<Part<'a>>, AllocError>
     requires nesting { depth description.now.items ≤ 16 }
     requires room { length at.now + depth (items_of items.now) ≤ 16 }
@@ -286,7 +290,7 @@ fn finish_behind<'a>(
     n: usize,
     component: &'a Component,
     walk: &mut Walk<'a>,
-    before: &Before,
+    before: &Stored,
 ) -> Result<usize, AllocError>
     requires nesting { depth description.now.items ≤ 16 }
     requires room { depth (items_of items.now) ≤ 16 }
@@ -316,7 +320,7 @@ pub(crate) fn lay_out_item<'a>(
         return Ok(None);
     };
     let mut walk = Walk::new(alloc, description)?;
-    let before = Before::new(alloc);
+    let before = Stored::empty(alloc);
     let number = finish_behind(
         alloc,
         description,
@@ -338,7 +342,7 @@ pub(crate) fn lay_out_all<'a>(
     alloc: Global,
     description: &'a Description,
     name: &Name,
-    before: &Before,
+    before: &Stored,
 ) -> Result<AllWalked<'a>, AllocError>
     requires { depth description.now.items ≤ 16 }
     ensures laid_out { IfOk result (λ all. AreLaidOut before.now all.components.items (all_written description.now.items)) }

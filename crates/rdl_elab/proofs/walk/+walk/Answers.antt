@@ -141,4 +141,4 @@ finish-returns-clause-finishes t c = λ e h.
     let defaults = c.truncate-2.ensures ∙ ap (λ n. drop (length long - n) long) c.len-defaults.ensures ∙ behind.defaults.same ∙ h.defaults in
     let are = subst (λ t. AreParts d mid (length mid) c.in_ok-parts.parts.items (parts e at 0 t)) (ap items_of c.as_slice.ensures ∙ items_of-list_of k.body) (c.in_ok-parts.ensures.parts e h) in
     finishes-made before c.args.walk.now.components.items mid c.push.new.self.items at k e xs f c.as_slice.ensures c.in_ok-push.ensures.items (c.in_ok-parts.ensures.finishes e h)
-    (laid-out before d f (made_at e at k) (c.in_ok-finished.ensures.kept e (parts e at 0 k.body) (length mid) defaults are) (c.in_ok-finished.ensures.words e (parts e at 0 k.body) (length mid) defaults are) c.in_ok-finished.ensures.taken)
+    (laid-out before d f (made_at e at k) (c.in_ok-finished.ensures.kept e (parts e at 0 k.body) (length mid) defaults are) (c.in_ok-finished.ensures.words e (parts e at 0 k.body) (length mid) defaults are) c.in_ok-finished.ensures.same c.in_ok-finished.ensures.stood c.in_ok-finished.ensures.taken)

@@ -47,7 +47,7 @@ returns-clause-kept c = λ e inside n same are.
       assignments = λ none here.
           c.in_ok-assignments.ensures
           ∙ (λ i. reaches_by (λ k names. target-same d fs none c.args.at.now made n c.in_ok-parts.parts.items here (moved c.in_ok-parts.parts.items c.in_ok-parts.ensures) k names i) 0 c.args.component.now.body);
-      layouts = λ m. sym (ap (under m) (c.in_ok-layouts.ensures (made_of made) (sym (returns-clause-words c e inside n same are)))) ∙ ap (under m) (layouts-made made) ∙ under-kept m made;
+      layouts = λ m. sym (ap (under m) (c.in_ok-layouts.ensures.made (made_of made) (sym (returns-clause-words c e inside n same are)))) ∙ ap (under m) (layouts-made made) ∙ under-kept m made;
       levels = c.levels.ensures ∙ levels-kept d fs n c.as_slice-3.result.now inside (moved c.as_slice-3.result.now (c.as_slice-3.ensures ∙ c.in_ok-parts.ensures));
       rows = c.rows.ensures ∙ rows-kept d fs n c.as_slice-4.result.now inside (moved c.as_slice-4.result.now (c.as_slice-4.ensures ∙ c.in_ok-parts.ensures));
       first_empty = c.in_ok-first_empty.ensures ∙ empty-kept d fs n c.as_slice-2.result.now inside (moved c.as_slice-2.result.now (c.as_slice-2.ensures ∙ c.in_ok-parts.ensures));

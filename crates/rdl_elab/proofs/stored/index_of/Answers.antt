@@ -1,0 +1,39 @@
+use Rattle.std.proofs.Common.{◌≡◌, List, [], ◌∷◌, ◌++◌, map, length, ap, sym, subst, ◌∙◌, arith, append_assoc, length-append}
+use Rattle.std.proofs.lemmas.List.{map-append}
+use Rattle.rdl_elab.specs.declared.finished.Finished.{Finished}
+use Rattle.rdl_elab.specs.declared.stored.Keyed.{Keyed}
+use Rattle.rdl_elab.specs.Kept.{Layouts}
+use Rattle.rdl_elab.specs.Stored.{words_in, Leads}
+use Rattle.rdl_elab.specs.Taken.{keyed}
+use Rattle.rdl_elab.proofs.AllTaken.{kept-on, kept-push, mapped-length}
+use Rattle.rdl_elab.proofs.Indexing.{leads-more, slice-last}
+use Rattle.rdl_elab.proofs.stored.index_of.Goals as goal
+
+abbrev layouts_of : List Keyed → List Layouts
+layouts_of = map (λ (k : Keyed). k.layouts)
+
+pub loop-finished-preserved : goal.loop-finished-preserved
+loop-finished-preserved c =
+    let yielded = c.loop-finished.yielded in
+    let one = c.in-Some.finished in
+    let rest = c.next.new.self.rest.items in
+    let inv = c.loop-finished.invariant in
+    let old = c.loop-finished.all.items in
+    let l = one.laid_out.layouts in
+    let new : Keyed = record { layouts = c.in_ok-layouts.layouts; key = one.key } in
+    let is : c.in_ok-layouts.layouts ≡ l = c.in_ok-layouts.ensures.layouts in
+    let pushed : layouts_of c.push.new.self.items ≡ layouts_of old ++ l ∷ [] =
+    ap layouts_of c.in_ok-push.ensures.items ∙ map-append (λ (k : Keyed). k.layouts) old (new ∷ []) ∙ (λ i. layouts_of old ++ is i ∷ []) in
+    let number : c.len-3.result ≡ length (layouts_of old) = omega (arith, c.len-3.ensures, mapped-length (λ (k : Keyed). k.layouts) old) in
+    record {
+      done =
+          c.in_ok-push.ensures.items
+          ∙ (λ i. inv.done i ++ record { layouts = is i; key = one.key } ∷ [])
+          ∙ sym (map-append keyed yielded (one ∷ []));
+      kept = kept-push (words_in c.lead.new.index.entries) yielded one (kept-on (words_in c.loop-finished.index.entries) (words_in c.lead.new.index.entries) yielded c.in_ok-layouts.ensures.others inv.kept) c.in_ok-layouts.ensures.there;
+      leads =
+          subst (λ (ls : List Layouts). Leads ls c.lead.new.index.entries) (sym pushed)
+          (c.in_ok-layouts.ensures.leads (layouts_of old ++ l ∷ []) (slice-last (layouts_of old) l c.len-3.result number) (leads-more (layouts_of old) l c.loop-finished.index.entries inv.leads));
+      rest = append_assoc yielded (one ∷ []) rest ∙ ap (λ (fs : List Finished). yielded ++ fs) (sym c.in-Some.ensures.steps.0) ∙ inv.rest;
+      count = omega (arith, length-append yielded (one ∷ []), c.in-Some.ensures.steps.1, inv.count);
+    }

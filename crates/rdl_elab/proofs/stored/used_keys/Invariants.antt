@@ -1,0 +1,9 @@
+use Rattle.std.proofs.Common.{◌≡◌, ◌<◌, take, length}
+use Rattle.std.specs.Prelude.{Some, true, slice_get, All, IfSome}
+use Rattle.rdl_elab.proofs.stored.used_keys.Given as goal
+
+abbrev pub invariant-loop-finished : goal.invariant-loop-finished
+invariant-loop-finished l = record {
+  marked : All (λ f. IfSome f.key (λ k. k < l.len → slice_get l.used.items k ≡ Some true)) (take l.finished-index l.components);
+  size : length l.used.items ≡ l.len;
+}
