@@ -72,6 +72,22 @@ fn lead(
     Ok(layouts)
 }
 
+/// Leads from the words of a finished component to its number, and answers what is to be kept of it.
+fn keep(
+    index: &mut BTreeMap<Vec<Number>, usize>,
+    number: usize,
+    finished: Finished,
+) -> Result<Keyed, AllocError>
+    ensures keyed { IfOk result (λ k. k ≡ keyed finished.entry) }
+    ensures there { OnOk result (is_among finished.entry.laid_out.words (words_in index.new.entries) ≡ true) }
+    ensures others { OnOk result ((words : List ℕ) → is_among words (words_in index.old.entries) ≡ true → is_among words (words_in index.new.entries) ≡ true) }
+    ensures leads { OnOk result ((all : List Layouts) → slice_get all number ≡ Some finished.entry.laid_out.layouts → Leads all index.old.entries → Leads all index.new.entries) }
+{
+    let key = finished.key;
+    let layouts = lead(index, number, finished.laid_out)?;
+    Ok(Keyed { layouts, key })
+}
+
 /// The layouts of these components, and an index of them.
 fn index_of(alloc: Global, components: Vec<Finished>) -> Result<Indexed, AllocError>
     ensures all { IfOk result (λ i. i.all.items ≡ map keyed components.entry.items) }
@@ -81,11 +97,8 @@ fn index_of(alloc: Global, components: Vec<Finished>) -> Result<Indexed, AllocEr
     let mut all = Vec::with_capacity(alloc, components.len())?;
     let mut index = BTreeMap::new(alloc);
     for finished in components {
-        let layouts = lead(&mut index, all.len(), finished.laid_out)?;
-        all.push(Keyed {
-            layouts,
-            key: finished.key,
-        })?;
+        let number = all.len();
+        all.push(keep(&mut index, number, finished)?)?;
     }
     Ok(Indexed { all, index })
 }

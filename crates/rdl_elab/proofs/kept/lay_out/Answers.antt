@@ -3,39 +3,42 @@ use Rattle.std.specs.Prelude.{sum_by}
 use Rattle.rdl_elab.specs.declared.finished.Finished.{Finished}
 use Rattle.rdl_elab.specs.AllKept.{new_spans}
 use Rattle.rdl_elab.specs.Written.{all_written}
-use Rattle.rdl_elab.proofs.AllTaken.{all-placed, few-placed, laid-layouts, laid-among}
+use Rattle.rdl_elab.proofs.AllTaken.{all-placed, few-placed, laid-layouts, laid-among, were-kept}
 use Rattle.rdl_elab.proofs.FoundAgain.{found-again}
 use Rattle.rdl_elab.proofs.TopTypes.{fault-walked}
 use Rattle.rdl_elab.proofs.kept.lay_out.Goals as goal
 
+pub replace-requires : goal.replace-requires
+replace-requires c = were-kept c.args.stored.now c.in_ok-all.all.components.items (all_written c.args.description.now.items) c.in_ok-all.ensures.laid_out
+
 pub returns-clause-layouts : goal.returns-clause-layouts
 returns-clause-layouts c =
-    c.in_ok-of.ensures.layouts ∙ laid-layouts c.args.before.now c.in_ok-all.all.components.items (all_written c.args.description.now.items) c.in_ok-all.ensures.laid_out
+    c.in_ok-replace.ensures.layouts ∙ laid-layouts c.args.stored.now c.in_ok-all.all.components.items (all_written c.args.description.now.items) c.in_ok-all.ensures.laid_out
 
 pub returns-clause-found : goal.returns-clause-found
 returns-clause-found c =
     let d = c.args.description.now.items in
-    let all = c.in_ok-of.field-0.before in
-    found-again d all (laid-among c.args.before.now all c.in_ok-all.all.components.items (all_written d) c.in_ok-of.ensures.kept c.in_ok-all.ensures.laid_out)
+    let all = c.replace.new.self.words in
+    found-again d all (laid-among c.args.stored.now all c.in_ok-all.all.components.items (all_written d) c.in_ok-replace.ensures.kept c.in_ok-all.ensures.laid_out)
 
 pub returns-clause-placed : goal.returns-clause-placed
 returns-clause-placed c =
     omega (
       arith,
-      c.in_ok-of.ensures.placed,
+      c.in_ok-replace.ensures.placed,
       c.all_placed-placed.ensures,
       ap (λ (fs : List Finished). sum_by new_spans fs) c.as_slice.ensures.value,
-      all-placed c.args.before.now c.in_ok-all.all.components.items (all_written c.args.description.now.items) c.in_ok-all.ensures.laid_out,
+      all-placed c.args.stored.now c.in_ok-all.all.components.items (all_written c.args.description.now.items) c.in_ok-all.ensures.laid_out,
     )
 
 pub returns-clause-few : goal.returns-clause-few
 returns-clause-few c = λ marked found.
     omega (
       arith,
-      c.in_ok-of.ensures.placed,
+      c.in_ok-replace.ensures.placed,
       c.all_placed-placed.ensures,
       ap (λ (fs : List Finished). sum_by new_spans fs) c.as_slice.ensures.value,
-      few-placed c.args.before.now marked c.in_ok-all.all.components.items (all_written c.args.description.now.items) found c.in_ok-all.ensures.laid_out,
+      few-placed c.args.stored.now marked c.in_ok-all.all.components.items (all_written c.args.description.now.items) found c.in_ok-all.ensures.laid_out,
     )
 
 pub fault_under-requires : goal.fault_under-requires

@@ -20,20 +20,16 @@ loop-finished-preserved c =
     let inv = c.loop-finished.invariant in
     let old = c.loop-finished.all.items in
     let l = one.laid_out.layouts in
-    let new : Keyed = record { layouts = c.in_ok-layouts.layouts; key = one.key } in
-    let is : c.in_ok-layouts.layouts ≡ l = c.in_ok-layouts.ensures.layouts in
-    let pushed : layouts_of c.push.new.self.items ≡ layouts_of old ++ l ∷ [] =
-    ap layouts_of c.in_ok-push.ensures.items ∙ map-append (λ (k : Keyed). k.layouts) old (new ∷ []) ∙ (λ i. layouts_of old ++ is i ∷ []) in
-    let number : c.len-3.result ≡ length (layouts_of old) = omega (arith, c.len-3.ensures, mapped-length (λ (k : Keyed). k.layouts) old) in
+    let entries = c.keep.new.index.entries in
+    let pushed : c.push.new.self.items ≡ old ++ keyed one ∷ [] = c.in_ok-push.ensures.items ∙ (λ i. old ++ c.in_ok-keep.ensures.keyed i ∷ []) in
+    let layouts : layouts_of c.push.new.self.items ≡ layouts_of old ++ l ∷ [] = ap layouts_of pushed ∙ map-append (λ (k : Keyed). k.layouts) old (keyed one ∷ []) in
+    let number : c.len-number.result ≡ length (layouts_of old) = omega (arith, c.len-number.ensures, mapped-length (λ (k : Keyed). k.layouts) old) in
     record {
-      done =
-          c.in_ok-push.ensures.items
-          ∙ (λ i. inv.done i ++ record { layouts = is i; key = one.key } ∷ [])
-          ∙ sym (map-append keyed yielded (one ∷ []));
-      kept = kept-push (words_in c.lead.new.index.entries) yielded one (kept-on (words_in c.loop-finished.index.entries) (words_in c.lead.new.index.entries) yielded c.in_ok-layouts.ensures.others inv.kept) c.in_ok-layouts.ensures.there;
+      done = pushed ∙ (λ i. inv.done i ++ keyed one ∷ []) ∙ sym (map-append keyed yielded (one ∷ []));
+      kept = kept-push (words_in entries) yielded one (kept-on (words_in c.loop-finished.index.entries) (words_in entries) yielded c.in_ok-keep.ensures.others inv.kept) c.in_ok-keep.ensures.there;
       leads =
-          subst (λ (ls : List Layouts). Leads ls c.lead.new.index.entries) (sym pushed)
-          (c.in_ok-layouts.ensures.leads (layouts_of old ++ l ∷ []) (slice-last (layouts_of old) l c.len-3.result number) (leads-more (layouts_of old) l c.loop-finished.index.entries inv.leads));
+          subst (λ (ls : List Layouts). Leads ls entries) (sym layouts)
+          (c.in_ok-keep.ensures.leads (layouts_of old ++ l ∷ []) (slice-last (layouts_of old) l c.len-number.result number) (leads-more (layouts_of old) l c.loop-finished.index.entries inv.leads));
       rest = append_assoc yielded (one ∷ []) rest ∙ ap (λ (fs : List Finished). yielded ++ fs) (sym c.in-Some.ensures.steps.0) ∙ inv.rest;
       count = omega (arith, length-append yielded (one ∷ []), c.in-Some.ensures.steps.1, inv.count);
     }

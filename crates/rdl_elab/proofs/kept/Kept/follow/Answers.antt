@@ -24,8 +24,8 @@ returns-in-Ok-clause-layouts c =
     let top = Some c.args.top.now in
     let there = rows-there (with_top d top) (sym c.in_ok-stored.ensures.judged ∙ ap fault_in c.in-Ok.is) in
     record {
-      layouts = subst (λ answer. IfOk answer (λ (s : Stored). s.layouts.items ≡ all_layouts d)) c.in-Ok.is c.in_ok-stored.ensures.layouts;
-      found = subst (λ answer. IfOk answer (λ (s : Stored). AreFoundAgain d s.before)) c.in-Ok.is c.in_ok-stored.ensures.found;
+      layouts = subst (λ answer. OnOk answer (all_under new.slots new.keys ≡ all_layouts d)) c.in-Ok.is c.in_ok-match.ensures.layouts;
+      found = subst (λ answer. OnOk answer (AreFoundAgain d new.words)) c.in-Ok.is c.in_ok-match.ensures.found;
       rows = there.0;
       faultless = ap (elaborated d) c.in_ok-wanted.ensures ∙ judged-top d (option_copied c.args.wanted) top c.requires.faultless c.requires.top ∙ there.1;
     }
