@@ -132,7 +132,7 @@ fn judge(
     ensures faultless { OnOk result (place_fault place (option_copied name.entry) description.now.items ≡ None) }
     ensures refused { IfErr result (λ f. (place_fault place (option_copied name.entry) description.now.items ≡ Some f) ⊎ (f ≡ Memory)) }
 {
-    match kept.relay(alloc, description, name) {
+    match kept.relay(alloc, description, name, &[]) {
         Ok(()) => Ok(()),
         Err(fault) => Err(faulty(place, fault)),
     }
@@ -288,7 +288,7 @@ pub(crate) fn visit(
     if stays {
         return Ok(steps);
     }
-    match kept.relay_known(alloc, description, name) {
+    match kept.relay_known(alloc, description, name, &[]) {
         Ok(()) => Ok(steps),
         Err(_) => Err(SessionFault::Memory),
     }

@@ -53,7 +53,7 @@ pub(crate) fn turn(
     let Ok(mut turned) = description.turn(alloc, patches) else {
         return Err(Refusal::Memory);
     };
-    match kept.relay(alloc, turned.description(), name) {
+    match kept.relay(alloc, turned.description(), name, &[]) {
         Ok(()) => Ok(turned.keep()),
         Err(fault) => {
             let _patches = turned.back();
@@ -90,7 +90,7 @@ pub(crate) fn again(
         Ok(turned) => turned,
         Err(same) => return Err(same),
     };
-    match kept.relay_known(alloc, turned.description(), name) {
+    match kept.relay_known(alloc, turned.description(), name, &[]) {
         Ok(()) => Ok(turned.keep()),
         Err(_) => Err(turned.back()),
     }

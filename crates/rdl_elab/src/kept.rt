@@ -208,7 +208,8 @@ impl Kept {
         ensures err { OnErr result (self.new ≡ self.old) }
     {
         let wanted = text_of(alloc, wanted)?;
-        match lay_out(alloc, &mut self.stored, description, top, judgement)? {
+        let answer = lay_out(alloc, &mut self.stored, description, top, judgement)?;
+        match answer {
             Ok(()) => {
                 self.top = wanted;
                 Ok(Ok(()))

@@ -1,8 +1,8 @@
 use Rattle.std.proofs.Common.{◌≡◌, ℕ, ◌≤◌, ◌*◌, Bool, List, Some, option_copied, ap, sym, subst, ◌∙◌}
-use Rattle.std.specs.Prelude.{IfOk}
-use Rattle.rdl_elab.specs.declared.stored.Stored.{Stored}
+use Rattle.std.specs.Prelude.{OnOk}
 use Rattle.rdl_elab.specs.AllKept.{KeptLayouts, AreFoundBut, fault_in, instances_at}
 use Rattle.rdl_elab.specs.Faults.{elaborated, with_top}
+use Rattle.rdl_elab.specs.Stored.{all_under}
 use Rattle.rdl_elab.specs.Words.{AreFoundAgain}
 use Rattle.rdl_elab.specs.Written.{all_layouts}
 use Rattle.rdl_elab.proofs.FoundLayouts.{all-before}
@@ -22,10 +22,11 @@ pub returns-in-Ok-clause-layouts : goal.returns-in-Ok-clause-layouts
 returns-in-Ok-clause-layouts c =
     let d = c.args.description.now.items in
     let top = Some c.args.top.now in
-    let there = rows-there (with_top d top) (sym c.in_ok-stored.ensures.judged ∙ ap fault_in c.in-Ok.is) in
+    let new = c.lay_out.new.stored in
+    let there = rows-there (with_top d top) (sym c.in_ok-answer.ensures.judged ∙ ap fault_in c.in-Ok.is) in
     record {
-      layouts = subst (λ answer. OnOk answer (all_under new.slots new.keys ≡ all_layouts d)) c.in-Ok.is c.in_ok-match.ensures.layouts;
-      found = subst (λ answer. OnOk answer (AreFoundAgain d new.words)) c.in-Ok.is c.in_ok-match.ensures.found;
+      layouts = subst (λ answer. OnOk answer (all_under new.slots new.keys ≡ all_layouts d)) c.in-Ok.is c.in_ok-answer.ensures.layouts;
+      found = subst (λ answer. OnOk answer (AreFoundAgain d new.words)) c.in-Ok.is c.in_ok-answer.ensures.found;
       rows = there.0;
       faultless = ap (elaborated d) c.in_ok-wanted.ensures ∙ judged-top d (option_copied c.args.wanted) top c.requires.faultless c.requires.top ∙ there.1;
     }
@@ -33,7 +34,8 @@ returns-in-Ok-clause-layouts c =
 pub returns-in-Ok-clause-few : goal.returns-in-Ok-clause-few
 returns-in-Ok-clause-few c = λ old bodies marked are h.
     let new = c.args.description.now.items in
-    let all = c.self.inside.stored.before in
+    let all = c.self.inside.stored.words in
+    let placed = c.lay_out.new.stored.placed in
     let found : AreFoundAgain old all = subst (λ (k : KeptLayouts). AreFoundAgain old k.words) (sym c.self.view_is) are.found in
-    let few = subst (λ answer. IfOk answer (λ (s : Stored). (marked : List ℕ → Bool) → AreFoundBut marked all new → s.placed ≤ 3 * instances_at marked new)) c.in-Ok.is c.in_ok-stored.ensures.few in
+    let few = subst (λ answer. OnOk answer ((marked : List ℕ → Bool) → AreFoundBut marked all new → placed ≤ 3 * instances_at marked new)) c.in-Ok.is c.in_ok-answer.ensures.few in
     few marked (all-before marked old new bodies all found h)

@@ -5,6 +5,7 @@ use Rattle.rdl_scope.proofs.AsFound.{as_found}
 use Rattle.rdl_elab.specs.AllKept.{KeptLayouts}
 use Rattle.rdl_elab.specs.Finished.{under}
 use Rattle.rdl_elab.specs.Kept.{Layouts}
+use Rattle.rdl_elab.specs.Stored.{all_under}
 use Rattle.rdl_elab.specs.Written.{all_layouts}
 use Rattle.rdl_elab.specs.Numbers.{components, number}
 use Rattle.rdl_elab.proofs.Numbering.{number-less}
@@ -20,7 +21,7 @@ returns-in-Some c =
     let d = c.args.description.now.items in
     let a = c.args.body.now in
     let n = c.in-Some.number in
-    let all = c.self.inside.stored.layouts.items in
+    let all = all_under c.self.inside.stored.slots c.self.inside.stored.keys in
     let is : all ≡ all_layouts d = ap (λ (k : KeptLayouts). k.layouts) c.self.view_is ∙ c.requires.layouts in
     let small : components d < 2 ^ 64 = omega (arith, few d all c.len.result is c.len.ensures, c.len.type_inv) in
     let at = exact-number d a n (ap (λ b. option_map capped (number b d)) (sym c.as_slice.ensures.value) ∙ sym c.number.ensures ∙ c.in-Some.is) small in
@@ -31,7 +32,7 @@ pub returns-in_default : goal.returns-in_default
 returns-in_default c =
     let d = c.args.description.now.items in
     let a = c.args.body.now in
-    let all = c.self.inside.stored.layouts.items in
+    let all = all_under c.self.inside.stored.slots c.self.inside.stored.keys in
     let is : all ≡ all_layouts d = ap (λ (k : KeptLayouts). k.layouts) c.self.view_is ∙ c.requires.layouts in
     let numbers = ap (λ b. option_map capped (number b d)) (sym c.as_slice.ensures.value) ∙ sym c.number.ensures in
     elim c.in_default.branch [
