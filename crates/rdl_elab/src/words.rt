@@ -2,9 +2,9 @@
 ghost use Rattle.std.specs.Prelude.{◌≡◌, IfOk, OnOk};
 ghost use Rattle.rdl_elab.specs.EachMember.{shown_each};
 ghost use Rattle.rdl_elab.specs.LaidOut.{kept_members};
-ghost use Rattle.rdl_elab.specs.Words.{kind_word, mode_word, number_words, range_words, values_words, said_words, extent_words, extents_words, member_words, words, Puts};
+ghost use Rattle.rdl_elab.specs.Words.{kind_word, mode_word, number_words, range_words, values_words, said_words, extents_words, member_words, words, Puts};
 
-use crate::each_member::{Extent, Extents, Said};
+use crate::each_member::{Extents, Said};
 use crate::finished::{Finished, Part};
 use crate::laid_out::SharedLayouts;
 use crate::layout::{LayoutValues, Mode};
@@ -77,21 +77,20 @@ fn put_said(words: &mut Vec<Number>, said: Said) -> Result<(), AllocError>
     Ok(())
 }
 
-fn put_extent(words: &mut Vec<Number>, extent: Extent) -> Result<(), AllocError>
-    ensures { OnOk result (Puts (extent_words extent) words.old.items words.new.items) }
-{
-    let size = Number::from(extent.size);
-    let access = Number::from(extent.access);
-    words.extend_from_slice(&[size, access])?;
-    Ok(())
-}
-
 fn put_extents(words: &mut Vec<Number>, extents: Extents) -> Result<(), AllocError>
     ensures { OnOk result (Puts (extents_words extents) words.old.items words.new.items) }
 {
-    put_extent(words, extents.compact)?;
-    put_extent(words, extents.regalign)?;
-    put_extent(words, extents.fullalign)?;
+    let compact = extents.compact;
+    let regalign = extents.regalign;
+    let fullalign = extents.fullalign;
+    words.extend_from_slice(&[
+        Number::from(compact.size),
+        Number::from(compact.access),
+        Number::from(regalign.size),
+        Number::from(regalign.access),
+        Number::from(fullalign.size),
+        Number::from(fullalign.access),
+    ])?;
     Ok(())
 }
 
@@ -118,7 +117,8 @@ pub(crate) fn words(
 ) -> Result<Vec<Number>, AllocError>
     ensures { IfOk result (λ ws. ws.items ≡ words (record { kind = kind; values = values; members = kept_members components.now parts.now })) }
 {
-    let mut words = Vec::new(alloc);
+    let room = parts.len().saturating_mul(20).saturating_add(8);
+    let mut words = Vec::with_capacity(alloc, room)?;
     put_values(&mut words, kind, values)?;
     for part in parts {
         if let Some(finished) = part.component(components) {

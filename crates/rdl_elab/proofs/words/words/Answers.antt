@@ -11,7 +11,7 @@ use Rattle.rdl_elab.proofs.words.words.Goals.{in-Some+in_ok-put_member, in_defau
 pub loop-part-init : goal.loop-part-init
 loop-part-init c =
     let rest = members_words (kept_members c.args.components.now (drop 0 c.args.parts.now)) in
-    c.in_ok-put_values.ensures rest ∙ ap (λ (xs : List ℕ). xs ++ values_words c.args.kind c.args.values rest) c.new-words.ensures.items
+    c.in_ok-put_values.ensures rest ∙ ap (λ (xs : List ℕ). xs ++ values_words c.args.kind c.args.values rest) c.in_ok-words.ensures.items
 
 pub loop-part-preserved : goal.loop-part-preserved
 loop-part-preserved c =
