@@ -33,6 +33,8 @@ pub mod Numbers
 pub mod Stored
 pub mod Stands
 pub mod TypeStacks
+pub mod DefaultStacks
+pub mod OwnValues
 pub mod Tops
 pub mod Known
 pub mod Found

@@ -1,5 +1,5 @@
 //! The walk that lays out components, once for all their instances.
-ghost use Rattle.std.specs.Prelude.{◌≡◌, ℕ, ◌∷◌, ◌++◌, ◌+◌, ◌≤◌, [], length, Some, IfOk, IfSome};
+ghost use Rattle.std.specs.Prelude.{◌≡◌, ℕ, ◌∷◌, ◌++◌, ◌+◌, ◌≤◌, [], length, Some, IfOk, IfSome, OnOk};
 ghost use Rattle.std.specs.Option.{is_some, IsSome};
 ghost use Rattle.rdl_tree.specs.Depth.{depth};
 ghost use Rattle.rdl_tree.specs.declared.description.Item.TheVariants.{Instance};
@@ -17,6 +17,7 @@ use crate::defaults::Defaults;
 use crate::finished::{Finished, Part};
 use crate::instances::{first_empty, levels, rows};
 use crate::laid_out::{Before, SharedLayouts, take_layouts};
+use crate::own_values::OwnValues;
 use crate::part_list::PartList;
 use crate::reaches::{assignments, has_dynamic};
 use crate::shared::share;
@@ -71,21 +72,23 @@ fn finished<'a>(
     at: &Address,
     component: &'a Component,
     parts: Vec<Part<'a>>,
-    walk: &Walk<'a>,
+    walk: &mut Walk<'a>,
     before: &Before,
 ) -> Result<Finished<'a>, AllocError>
     requires { depth description.now.items ≤ 16 }
-    ensures kept { IfOk result (λ f. (e : Standing) (inside : Parts) (n : ℕ) → walk.now.defaults ≡ e.defaults → AreParts description.now.items walk.now.components.items n parts.entry.items inside → IsKept description.now.items f (record { head = head_at at.now component.now.kind component.now.body e; parts = inside })) }
+    ensures kept { IfOk result (λ f. (e : Standing) (inside : Parts) (n : ℕ) → walk.old.defaults ≡ e.defaults → AreParts description.now.items walk.old.components.items n parts.entry.items inside → IsKept description.now.items f (record { head = head_at at.now component.now.kind component.now.body e; parts = inside })) }
     ensures parts { IfOk result (λ f. f.parts.items ≡ parts.entry.items) }
-    ensures made { IfOk result (λ f. (e : Standing) (inside : Parts) (n : ℕ) → walk.now.defaults ≡ e.defaults → AreParts description.now.items walk.now.components.items n parts.entry.items inside → f.laid_out ≡ made_of (record { head = head_at at.now component.now.kind component.now.body e; parts = inside })) }
+    ensures made { IfOk result (λ f. (e : Standing) (inside : Parts) (n : ℕ) → walk.old.defaults ≡ e.defaults → AreParts description.now.items walk.old.components.items n parts.entry.items inside → f.laid_out ≡ made_of (record { head = head_at at.now component.now.kind component.now.body e; parts = inside })) }
     ensures before { IfOk result (λ f. IfSome f.key (λ k. get before.now.layouts.now k ≡ Some f.laid_out)) }
-    ensures taken { IfOk result (λ f. kept_for before.now (length walk.now.components.items) ≡ Some f.laid_out → IsSome f.key) }
+    ensures taken { IfOk result (λ f. kept_for before.now (length walk.old.components.items) ≡ Some f.laid_out → IsSome f.key) }
+    ensures walk { OnOk result (walk.new ≡ walk.old) }
 {
     let kind = component.kind;
     let body = &component.body;
+    let own = OwnValues::of(alloc, body)?;
+    let values = layout_values(&own, &mut walk.defaults);
+    let shown = shown_values(alloc, kind, &own, &mut walk.defaults, &walk.built_ins)?;
     let components = walk.components.as_slice();
-    let values = layout_values(body, &walk.defaults);
-    let shown = shown_values(alloc, kind, body, &walk.defaults, &walk.built_ins)?;
     let parts = PartList::of(alloc, parts, walk.by_name || has_dynamic(body))?;
     let assignments = assignments(alloc, components, &parts, body)?;
     let taken = take_layouts(alloc, kind, values, parts.as_slice(), components, before)?;
