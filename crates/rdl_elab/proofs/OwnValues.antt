@@ -32,17 +32,19 @@ none-assigned p old name v none =
     adds-none old (if_named name (Some v) p) (ap (λ b. if b then Some v else None) (not-its-name name p (bytes_eq name (row p).name) refl none))
 
 -- what is stated, with one assignment more
-pub one-stated : (k : Kind) (p : Property) (i : ℕ) (xs : List Assigned) (x : Assigned) (first before after : Option Value) → i < length xs
-    → before ≡ option_or first (shown_on k p (assigned_to p (take i xs))) → after ≡ option_or before (if_named (row (get_or xs i x).property).name (shown_on k (get_or xs i x).property (Some (get_or xs i x).value.now)) p)
+pub one-stated : (k : Kind) (p : Property) (i : ℕ) (xs : List Assigned) (x : Assigned) (first before after : Option Value) → i < length xs → x ≡ get_or xs i x
+    → before ≡ option_or first (shown_on k p (assigned_to p (take i xs))) → after ≡ option_or before (if_named (row x.property).name (shown_on k x.property (Some x.value.now)) p)
     → after ≡ option_or first (shown_on k p (assigned_to p (take (i + 1) xs)))
-one-stated k p i xs x first before after l e f =
-    let item = get_or xs i x in
+one-stated k p i xs x first before after l is e f =
     let behind = assigned_to p (take i xs) in
-    let this = if bytes_eq (row item.property).name (row p).name then Some item.value.now else None in
+    let this = if bytes_eq (row x.property).name (row p).name then Some x.value.now else None in
     let all : assigned_to p (take (i + 1) xs) ≡ option_or behind this =
-    ap (λ n. assigned_to p (take n xs)) (add-one i) ∙ ap (assigned_to p) (take-suc xs i x l) ∙ assigned-append p (take i xs) (item ∷ []) in
+    ap (λ n. assigned_to p (take n xs)) (add-one i)
+    ∙ ap (assigned_to p) (take-suc xs i x l)
+    ∙ assigned-append p (take i xs) (get_or xs i x ∷ [])
+    ∙ ap (λ (a : Assigned). option_or behind (assigned_to p (a ∷ []))) (sym is) in
     f
-    ∙ (λ j. option_or (e j) (same-named k item.property p item.value.now (bytes_eq (row item.property).name (row p).name) (names-apart item.property p) j))
+    ∙ (λ j. option_or (e j) (same-named k x.property p x.value.now (bytes_eq (row x.property).name (row p).name) (names-apart x.property p) j))
     ∙ or-assoc first (shown_on k p behind) (shown_on k p this)
     ∙ ap (option_or first) (shown-or k p behind this)
     ∙ ap (λ o. option_or first (shown_on k p o)) (sym all)

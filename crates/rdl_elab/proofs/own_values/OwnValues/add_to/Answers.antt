@@ -1,4 +1,4 @@
-use Rattle.std.proofs.Common.{◌≡◌, List, ap, sym, ◌∙◌}
+use Rattle.std.proofs.Common.{◌≡◌, List, get_or, ap, ◌∙◌, rules}
 use Rattle.std.specs.Option.{option_or}
 use Rattle.std.proofs.lemmas.List.{take_all}
 use Rattle.rdl_tree.specs.Properties.{row, on}
@@ -16,9 +16,13 @@ pub loop-assigned-init : goal.loop-assigned-init
 loop-assigned-init c = λ p. adds-none (value_under p c.args.items.now.items) _ (if-none (on p c.args.kind))
 
 pub loop-assigned-preserved : goal.loop-assigned-preserved
-loop-assigned-preserved c = λ p.
-    one-stated c.args.kind p c.loop-assigned.assigned-index c.deref-assigned-items.result.now _ (value_under p c.args.items.now.items) (value_under p c.loop-assigned.items.items) (value_under p c.add_stated.new.items.items)
-    c.loop-assigned-test.true (c.loop-assigned.invariant p) (c.in_ok-add_stated.ensures p)
+loop-assigned-preserved c =
+    let xs = c.deref-assigned-items.result.now in
+    let item = c.assigned-item.result in
+    let is : item ≡ get_or xs c.loop-assigned.assigned-index item = search rules in
+    λ p.
+    one-stated c.args.kind p c.loop-assigned.assigned-index xs item (value_under p c.args.items.now.items) (value_under p c.loop-assigned.items.items) (value_under p c.add_stated.new.items.items)
+    c.loop-assigned-test.true is (c.loop-assigned.invariant p) (c.in_ok-add_stated.ensures p)
 
 pub returns : goal.returns
 returns c = λ p.
