@@ -1,11 +1,10 @@
 -- Steps along a stack of defaults, which a contract sees from its other end.
-use Rattle.std.proofs.Common.{◌≡◌, ℕ, suc, zero, ◌+◌, ◌-◌, ◌<◌, ◌≤◌, List, [], ◌∷◌, ◌++◌, length, take, drop, get_or, slice_get, Some, set, map, reverse, refl, ap, ◌∙◌, sym, subst, add-one, arith}
+use Rattle.std.proofs.Common.{◌≡◌, ℕ, suc, zero, ◌+◌, ◌-◌, ◌<◌, ◌≤◌, List, [], ◌∷◌, ◌++◌, length, take, drop, get_or, slice_get, Some, set, reverse, ap, ◌∙◌, sym, subst, add-one, arith}
 use Rattle.std.proofs.Math.Seq.{drop-append_seam, drop-cons, take-suc, take-suc-set}
 use Rattle.std.proofs.lemmas.List.{reverse-append, length-reverse, length-drop, take-append-drop, drop-map, map-append, length-map, length-set, take_all}
 use Rattle.std.proofs.lemmas.Option.{slice_get_within, get_or_from_slice_get}
 use Rattle.rdl_tree.specs.declared.value.Value.{Value}
 use Rattle.rdl_elab.specs.declared.defaults.Default.{Default}
-use Rattle.rdl_elab.specs.declared.defaults.SharedValues.{SharedValues}
 use Rattle.rdl_elab.specs.DefaultStacks.{pairs, AreShared, AreStacked}
 
 -- the defaults among the first i, the last first

@@ -1,7 +1,7 @@
 use Rattle.std.proofs.Common.{◌≡◌, OnOk, Result, Ok, Err, refl, sym, ◌∙◌}
 use Rattle.std.proofs.lemmas.Result.{IfOk-weaker, IfOk-from_err}
 use Rattle.rdl_scope.specs.Closed.{Head}
-use Rattle.rdl_elab.specs.Shown.{bare, shown_values}
+use Rattle.rdl_elab.specs.Shown.{shown_values}
 use Rattle.rdl_elab.proofs.BareHeads.{shown-bare}
 use Rattle.rdl_elab.proofs.Unstated.{shown-unassigned}
 use Rattle.rdl_elab.proofs.values.shown_values.Goals as goal

@@ -1,4 +1,4 @@
-use Rattle.std.proofs.Common.{◌≡◌, ◌-◌, suc, length, refl, sym, ◌∙◌, arith}
+use Rattle.std.proofs.Common.{◌≡◌, ◌-◌, suc, length, refl, ◌∙◌, arith}
 use Rattle.rdl_elab.specs.declared.defaults.Default.{Default}
 use Rattle.rdl_elab.proofs.DefaultStacks.{pairs-stay, stays-stacked}
 use Rattle.rdl_elab.proofs.defaults.Defaults.keep_layout.Goals as goal

@@ -1,4 +1,4 @@
-use Rattle.std.proofs.Common.{◌≡◌, ◌-◌, Some, length, slice_get, sym, ◌∙◌, rules}
+use Rattle.std.proofs.Common.{◌≡◌, ◌-◌, Some, length, slice_get, rules}
 use Rattle.rdl_elab.proofs.DefaultStacks.{shared-last}
 use Rattle.rdl_elab.proofs.defaults.Defaults.kept.Goals as goal
 
