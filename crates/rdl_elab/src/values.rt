@@ -313,7 +313,7 @@ fn stated_values(
     Ok(items)
 }
 
-/// The values of a component of this kind with these assignments, where these defaults reach it.
+/// Makes the values of a component of this kind with these assignments, where these defaults reach it.
 fn bare_values(
     alloc: Global,
     kind: Kind,
@@ -331,7 +331,8 @@ fn bare_values(
     ComponentValues::over(alloc, stated, built_ins)
 }
 
-/// The same. Those of a component without assignments are kept for the next one of this kind.
+/// The values of a component of this kind with these assignments, where these defaults reach it. Those of a component
+/// without assignments are kept for the next one of the kind.
 pub(crate) fn shown_values(
     alloc: Global,
     kind: Kind,
