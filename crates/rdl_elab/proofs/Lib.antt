@@ -31,6 +31,7 @@ pub mod ListedValues
 pub mod BareHeads
 pub mod Unstated
 pub mod StatedLists
+pub mod OwnValues
 pub mod Tops
 pub mod TypeStacks
 pub mod Assignments

@@ -34,7 +34,7 @@ if-same : {X : Type 0} (b : Bool) (x : X) → (if b then x else x) ≡ x
 if-same true x = refl
 if-same false x = refl
 
-if-none : (b : Bool) → (let none : Option Value = None in if b then none else none) ≡ None
+pub if-none : (b : Bool) → (let none : Option Value = None in if b then none else none) ≡ None
 if-none b = if-same b None
 
 -- one list behind another
@@ -79,11 +79,11 @@ find-passes t (y ∷ ys) x e =
       | false ↦ λ is f. find-passes t ys x f
     ] refl e
 
-name-of : (name : List ℕ) (q : Property) → property_of name ≡ Some q → name ≡ (row q).name
+pub name-of : (name : List ℕ) (q : Property) → property_of name ≡ Some q → name ≡ (row q).name
 unfolding property_of
 name-of name q e = (bytes_eq-Decides name (row q).name).0 (find-passes (λ p. bytes_eq name (row p).name) properties q e)
 
-same-named : (k : Kind) (q p : Property) (v : Value) (b : Bool) → (b ≡ true → q ≡ p) → (if b then shown_on k q (Some v) else None) ≡ shown_on k p (if b then Some v else None)
+pub same-named : (k : Kind) (q p : Property) (v : Value) (b : Bool) → (b ≡ true → q ≡ p) → (if b then shown_on k q (Some v) else None) ≡ shown_on k p (if b then Some v else None)
 same-named k q p v true h = ap (λ r. shown_on k r (Some v)) (h refl)
 same-named k q p v false h = sym (if-none (on p k))
 
@@ -92,7 +92,7 @@ of-property k name q p v e =
     same-named k q p v (bytes_eq (row q).name (row p).name) (names-apart q p)
     ∙ ap (λ n. shown_on k p (if_named n (Some v) p)) (sym (name-of name q e))
 
-not-its-name : (name : List ℕ) (p : Property) (b : Bool) → bytes_eq name (row p).name ≡ b → property_of name ≡ None → b ≡ false
+pub not-its-name : (name : List ℕ) (p : Property) (b : Bool) → bytes_eq name (row p).name ≡ b → property_of name ≡ None → b ≡ false
 not-its-name name p true is none =
     let found : property_of name ≡ Some p = ap property_of ((bytes_eq-Decides name (row p).name).0 is) ∙ named-back p in
     absurd cc
@@ -185,27 +185,27 @@ of-parts items own o r xs ys built_ins view is first second p =
     ∙ (λ i. under_either (sym first i) (sym second i) p)
 
 -- nothing more is stated
-pub of-nothing : (k : Kind) (p : Property) (old o : Option Value) → o ≡ None → old ≡ option_or old (shown_on k p o)
-of-nothing k p old o e = sym (or-none old) ∙ ap (option_or old) (sym (if-none (on p k))) ∙ ap (λ x. option_or old (shown_on k p x)) (sym e)
+pub adds-none : (old o : Option Value) → o ≡ None → old ≡ option_or old o
+adds-none old o e = sym (or-none old) ∙ ap (option_or old) (sym e)
 
 -- one default more, where those behind it are in
-pub one-nearer : (k : Kind) (p : Property) (left : ℕ) (xs : List Default) (x : Default) (text : List ℕ) (first before after : Option Value) → 0 < left → left ≤ length xs → x ≡ get_or xs (left - 1) x → text ≡ x.property.now
-    → before ≡ option_or first (shown_on k p (lookup (row p).name (nearest left xs))) → after ≡ option_or before (shown_on k p (if_named text (Some x.value.now) p))
+pub one-nearer : (k : Kind) (p : Property) (left : ℕ) (xs : List Default) (x : Default) (first before after : Option Value) → 0 < left → left ≤ length xs → x ≡ get_or xs (left - 1) x
+    → before ≡ option_or first (shown_on k p (lookup (row p).name (nearest left xs))) → after ≡ option_or before (shown_on k p (if_named x.name (Some x.value.now) p))
     → after ≡ option_or first (shown_on k p (lookup (row p).name (nearest (left - 1) xs)))
-one-nearer k p left xs x text first before after some within is named e f =
+one-nearer k p left xs x first before after some within is e f =
     let name = (row p).name in
     let i = left - 1 in
     let back : i + 1 ≡ left = omega arith in
     let inside : i < length xs = omega arith in
     let behind = lookup name (nearest left xs) in
-    let this = if_named x.property.now (Some x.value.now) p in
-    let item : Default → List (List ℕ × Value) = λ (d : Default). (d.property.now, d.value.now) ∷ [] in
+    let this = if_named x.name (Some x.value.now) p in
+    let item : Default → List (List ℕ × Value) = λ (d : Default). (d.name, d.value.now) ∷ [] in
     let all : lookup name (nearest i xs) ≡ option_or behind this =
     ap (lookup name) (nearest-next i xs x inside)
     ∙ (λ j. lookup name (nearest (back j) xs ++ item (sym is j)))
     ∙ lookup-append name (nearest left xs) (item x) in
     f
-    ∙ (λ j. option_or (e j) (shown_on k p (if_named (named j) (Some x.value.now) p)))
+    ∙ (λ j. option_or (e j) (shown_on k p this))
     ∙ or-assoc first (shown_on k p behind) (shown_on k p this)
     ∙ ap (option_or first) (shown-or k p behind this)
     ∙ ap (λ o. option_or first (shown_on k p o)) (sym all)

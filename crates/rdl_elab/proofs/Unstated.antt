@@ -1,44 +1,29 @@
--- A component that states nothing has the built-in values alone.
-use Rattle.std.proofs.Common.{◌≡◌, ℕ, List, [], ◌∷◌, length, false, None, refl, sym, arith, option_map}
+-- A component without assignments has the values of one with an empty body.
+use Rattle.std.proofs.Common.{◌≡◌, ℕ, List, None, option_map}
 use Rattle.std.specs.Prelude.{if◌then◌else◌}
-use Rattle.std.specs.List.{filter_map, list_any}
+use Rattle.std.specs.List.{filter_map}
 use Rattle.std.specs.Option.{option_or}
-use Rattle.std.proofs.lemmas.Bool.{false≢true}
-use Rattle.rdl_tree.specs.Items.{Items, no_items, plain, holder, own, named, default, dynamic, define, anonymous}
-use Rattle.rdl_tree.specs.View.{list_of}
+use Rattle.rdl_tree.specs.Items.{Items, no_items}
 use Rattle.rdl_tree.specs.Properties.{row, on, properties}
 use Rattle.rdl_tree.specs.declared.shell.Kind.{Kind}
 use Rattle.rdl_tree.specs.declared.property.Property.{Property}
 use Rattle.rdl_tree.specs.declared.property.Property.TheVariants.{Regwidth, Accesswidth}
 use Rattle.rdl_tree.specs.declared.value.Value.{Value}
 use Rattle.rdl_scope.specs.Value.{shown, own_value}
-use Rattle.rdl_scope.specs.Closed.{stated, head_value, lookup}
-use Rattle.rdl_elab.specs.Shown.{valued}
-use Rattle.rdl_elab.specs.Shown.{bare, shown_among, shown_values, built_in_values, is_own}
+use Rattle.rdl_scope.specs.Closed.{head_value, lookup}
+use Rattle.rdl_elab.specs.Layouts.{values_of, layout_values}
+use Rattle.rdl_elab.specs.Shown.{valued, bare, shown_among, shown_values}
 
-none-own : (t : Items) (name : List ℕ) → list_any is_own (list_of t) ≡ false → own_value name t ≡ None
-none-own no_items name e = refl
-none-own (plain (own p v) rest) name e = absurd (false≢true (sym e))
-none-own (plain (named s t) rest) name e = none-own rest name e
-none-own (plain (default p v) rest) name e = none-own rest name e
-none-own (plain (dynamic t p v) rest) name e = none-own rest name e
-none-own (holder (define n k) body rest) name e = none-own rest name e
-none-own (holder (anonymous s k) body rest) name e = none-own rest name e
+module _ (k : Kind) (t : Items) (ds : List (List ℕ × Value)) (none : (p : Property) → own_value (row p).name t ≡ None) where
+  value-unassigned : (p : Property) → head_value (bare k t ds) p ≡ head_value (bare k no_items ds) p
+  value-unassigned Accesswidth = λ i. option_or (option_or (none Accesswidth i) (lookup (row Accesswidth).name ds)) (option_or (option_or (none Regwidth i) (lookup (row Regwidth).name ds)) (row Regwidth).built_in)
+  value-unassigned p = λ i. option_or (option_or (none p i) (lookup (row p).name ds)) (row p).built_in
 
-none-reaches : (ds : List (List ℕ × Value)) (name : List ℕ) → length ds ≡ 0 → lookup name ds ≡ None
-none-reaches [] name e = refl
-none-reaches (d ∷ ds) name e = absurd (omega (arith, e))
+  pub layout-unassigned : values_of (bare k t ds) ≡ values_of (bare k no_items ds)
+  layout-unassigned = λ i. layout_values (λ p. value-unassigned p i)
 
-pub nothing-stated : (t : Items) (ds : List (List ℕ × Value)) → length ds ≡ 0 → list_any is_own (list_of t) ≡ false → (name : List ℕ) → option_or (own_value name t) (lookup name ds) ≡ None
-nothing-stated t ds e f name = λ i. option_or (none-own t name f i) (none-reaches ds name e i)
-
--- each value is the built-in one
-value-unstated : (k : Kind) (t : Items) (ds : List (List ℕ × Value)) → ((name : List ℕ) → stated (bare k t ds) name ≡ None) → (p : Property) → head_value (bare k t ds) p ≡ head_value (bare k no_items []) p
-value-unstated k t ds none Accesswidth = λ i. option_or (none (row Accesswidth).name i) (option_or (none (row Regwidth).name i) (row Regwidth).built_in)
-value-unstated k t ds none p = λ i. option_or (none (row p).name i) (row p).built_in
-
-pub shown-unstated : (k : Kind) (t : Items) (ds : List (List ℕ × Value)) → ((name : List ℕ) → stated (bare k t ds) name ≡ None) → shown_values (bare k t ds) ≡ built_in_values k
-shown-unstated k t ds none =
-    let all : (xs : List Property) → shown_among (bare k t ds) xs ≡ shown_among (bare k no_items []) xs =
-    λ xs i. filter_map (λ p. option_map (valued p) (if on p k then option_map (shown (row p).form) (value-unstated k t ds none p i) else None)) xs in
-    all properties
+  pub shown-unassigned : shown_values (bare k t ds) ≡ shown_values (bare k no_items ds)
+  shown-unassigned =
+      let all : (xs : List Property) → shown_among (bare k t ds) xs ≡ shown_among (bare k no_items ds) xs =
+      λ xs i. filter_map (λ p. option_map (valued p) (if on p k then option_map (shown (row p).form) (value-unassigned p i) else None)) xs in
+      all properties

@@ -34,6 +34,8 @@ pub mod Skeleton
 pub mod Numbers
 pub mod Stands
 pub mod TypeStacks
+pub mod DefaultStacks
+pub mod OwnValues
 pub mod Tops
 pub mod Known
 pub mod Found

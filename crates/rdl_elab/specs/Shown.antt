@@ -1,10 +1,8 @@
 -- The values that a component has by itself, as the rows of its instances show them.
 -- SystemRDL 2.0, clause 5, property assignment. own: that a row shows them in the order of the table of properties.
-use Rattle.std.specs.Prelude.{◌≡◌, ℕ, Bool, true, false, List, [], Option, None, option_map, if◌then◌else◌}
+use Rattle.std.specs.Prelude.{◌≡◌, ℕ, List, [], Option, None, option_map, if◌then◌else◌}
 use Rattle.std.specs.List.{filter_map}
 use Rattle.rdl_tree.specs.Items.{Items, no_items}
-use Rattle.rdl_tree.specs.declared.description.Item.{Item}
-use Rattle.rdl_tree.specs.declared.description.Item.TheVariants.{Define, Instance, Own, Default, Dynamic}
 use Rattle.rdl_tree.specs.Properties.{row, on, properties}
 use Rattle.rdl_tree.specs.declared.shell.Kind.{Kind}
 use Rattle.rdl_tree.specs.declared.shell.Kind.TheVariants.{Addrmap, Regfile, Reg, Field}
@@ -41,11 +39,3 @@ pub record AreBuiltIns (addrmap regfile reg field : List PropertyValue) : Type 0
   pub regfiles : regfile ≡ built_in_values Regfile
   pub regs : reg ≡ built_in_values Reg
   pub fields : field ≡ built_in_values Field
-
--- the item is an assignment of its body's own component
-abbrev pub is_own : Item → Bool
-is_own (Own p v) = true
-is_own (Define n c) = false
-is_own (Instance s o) = false
-is_own (Default p v) = false
-is_own (Dynamic t p v) = false

@@ -15,6 +15,7 @@ mod laid_out;
 pub mod laws;
 pub mod layout;
 mod numbers;
+mod own_values;
 mod part_list;
 pub mod place;
 mod reaches;

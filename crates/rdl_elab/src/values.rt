@@ -1,16 +1,15 @@
 //! The values of components and of rows.
 ghost use Rattle.std.specs.Prelude.{◌≡◌, ◌++◌, ℕ, List, [], true, Some, None, IfOk, OnOk, IsTrue, option_copied, option_map, is_some, bytes_eq};
 ghost use Rattle.std.specs.Option.{option_or};
-ghost use Rattle.rdl_tree.specs.Properties.{row, properties};
+ghost use Rattle.rdl_tree.specs.Properties.{row, properties, property_of};
 ghost use Rattle.rdl_tree.specs.declared.shell.Kind.{Kind};
 ghost use Rattle.rdl_scope.specs.Closed.{Head, stated, built_in, head_value};
 ghost use Rattle.rdl_tree.specs.declared.property.Property.{Property};
-ghost use Rattle.rdl_scope.specs.Value.{shown, own_value};
-ghost use Rattle.rdl_scope.specs.Walk.{owned_by};
+ghost use Rattle.rdl_scope.specs.Value.{shown};
 ghost use Rattle.rdl_elab.specs.Layouts.{values_of, number_in, power_in, width_in, mode_in};
-ghost use Rattle.std.specs.List.{list_any, cons_option};
+ghost use Rattle.std.specs.List.{cons_option};
 ghost use Rattle.rdl_tree.specs.Items.{no_items};
-ghost use Rattle.rdl_elab.specs.Shown.{bare, shown_value, shown_among, shown_values, built_in_values, is_own};
+ghost use Rattle.rdl_elab.specs.Shown.{bare, shown_value, shown_among, shown_values, built_in_values};
 ghost use Rattle.rdl_elab.specs.Shown.{valued};
 ghost use Rattle.rdl_elab.specs.Reaches.{are_distinct, past, values_along, reset_value, value_under};
 ghost use Rattle.rdl_elab.specs.StatedValues.{shown_on, if_named, stated_for, under_either, value_over, values_over};
@@ -18,25 +17,25 @@ ghost use Rattle.rdl_elab.specs.StatedValues.{shown_on, if_named, stated_for, un
 use crate::built_ins::BuiltIns;
 use crate::defaults::Defaults;
 use crate::layout::{LayoutValues, Mode};
+use crate::own_values::OwnValues;
 use crate::reaches::{Assignment, reached};
 use crate::row::PropertyValue;
 use crate::row_values::{ComponentValues, RowValues};
-use rdl_scope::values::{own_value, shown};
+use rdl_scope::values::shown;
 use rdl_text::token::Number;
-use rdl_tree::description::{Body, Item};
-use rdl_tree::properties::property;
+use rdl_tree::description::Body;
 use rdl_tree::property::{Form, Property};
 use rdl_tree::shell::Kind;
 use rdl_tree::value::{Value, Word};
 use std::alloc::{AllocError, Global};
 
 /// The own assignment of the property, or else the nearest default.
-fn stated<'a>(body: &'a Body, defaults: &Defaults<'a>, name: &str) -> Option<&'a Value>
-    ensures { option_copied result ≡ stated (bare Kind.Field body.now defaults.now) name.now }
+fn stated<'a>(own: &OwnValues<'a>, defaults: &Defaults<'a>, property: Property) -> Option<&'a Value>
+    ensures { option_copied result ≡ stated (bare Kind.Field own.now defaults.now) (row property).name }
 {
-    match own_value(body, name) {
+    match own.get(property) {
         Some(value) => Some(value),
-        None => defaults.get(name),
+        None => defaults.get(property),
     }
 }
 
@@ -49,10 +48,10 @@ fn number_in(value: &Value) -> Option<Number>
     }
 }
 
-fn stated_number(body: &Body, defaults: &Defaults, property: Property) -> Option<Number>
-    ensures { result ≡ number_in (option_or (stated (bare Kind.Field body.now defaults.now) (row property).name) (row property).built_in) }
+fn stated_number(own: &OwnValues, defaults: &Defaults, property: Property) -> Option<Number>
+    ensures { result ≡ number_in (option_or (stated (bare Kind.Field own.now defaults.now) (row property).name) (row property).built_in) }
 {
-    match stated(body, defaults, property.name()) {
+    match stated(own, defaults, property) {
         Some(value) => number_in(value),
         None => number_in(&property.built_in()?),
     }
@@ -86,24 +85,24 @@ fn mode_in(value: Option<&Value>) -> Mode
     }
 }
 
-fn bare_layout_values(body: &Body, defaults: &Defaults) -> LayoutValues
-    ensures { result ≡ values_of (bare Kind.Field body.now defaults.now) }
+fn bare_layout_values(own: &OwnValues, defaults: &Defaults) -> LayoutValues
+    ensures { result ≡ values_of (bare Kind.Field own.now defaults.now) }
 {
-    let regwidth = stated_number(body, defaults, Property::Regwidth);
-    let accesswidth = match stated(body, defaults, Property::Accesswidth.name()) {
+    let regwidth = stated_number(own, defaults, Property::Regwidth);
+    let accesswidth = match stated(own, defaults, Property::Accesswidth) {
         Some(value) => number_in(value),
         None => regwidth,
     };
     LayoutValues {
-        addressing: mode_in(stated(body, defaults, Property::Addressing.name())),
-        alignment: power_in(stated_number(body, defaults, Property::Alignment)),
+        addressing: mode_in(stated(own, defaults, Property::Addressing)),
+        alignment: power_in(stated_number(own, defaults, Property::Alignment)),
         regwidth: width_in(regwidth),
         accesswidth: width_in(accesswidth),
-        fieldwidth: stated_number(body, defaults, Property::Fieldwidth).unwrap_or(0),
+        fieldwidth: stated_number(own, defaults, Property::Fieldwidth).unwrap_or(0),
     }
 }
 
-fn built_in_layout_values() -> LayoutValues
+pub(crate) fn built_in_layout_values() -> LayoutValues
     ensures { result ≡ values_of (bare Kind.Field no_items []) }
 {
     LayoutValues {
@@ -115,34 +114,21 @@ fn built_in_layout_values() -> LayoutValues
     }
 }
 
-fn is_own(item: &Item) -> bool
-    ensures { result ≡ is_own item.now }
+/// The values on which the layout of a component with these assignments depends, where these defaults reach it. Those
+/// of a component without assignments are kept for the next one.
+pub(crate) fn layout_values(own: &OwnValues, defaults: &mut Defaults) -> LayoutValues
+    ensures values { (h : Head) → h.body ≡ own.now → h.defaults ≡ defaults.old → result ≡ values_of h }
+    ensures stays { defaults.new ≡ defaults.old }
 {
-    matches!(item, Item::Own(_, _))
-}
-
-fn has_own(items: &[Item]) -> bool
-    ensures { result ≡ list_any is_own items.now }
-{
-    items.iter().any(|item| is_own(item))
-}
-
-/// Whether a component with this body, where these defaults reach it, has the built-in values alone.
-fn states_nothing(body: &Body, defaults: &Defaults) -> bool
-    ensures { result ≡ true → (name : List ℕ) → stated (bare Kind.Field body.now defaults.now) name ≡ None }
-{
-    defaults.len() == 0 && !has_own(body.as_slice())
-}
-
-/// The values on which the layout of a component with this body depends, where these defaults reach it.
-pub(crate) fn layout_values(body: &Body, defaults: &Defaults) -> LayoutValues
-    ensures { (h : Head) → h.body ≡ body.now → h.defaults ≡ defaults.now → result ≡ values_of h }
-{
-    if states_nothing(body, defaults) {
-        built_in_layout_values()
-    } else {
-        bare_layout_values(body, defaults)
+    if !own.is_empty() {
+        return bare_layout_values(own, defaults);
     }
+    if let Some(values) = defaults.kept_layout() {
+        return values;
+    }
+    let values = bare_layout_values(own, defaults);
+    defaults.keep_layout(values);
+    values
 }
 
 fn copied(alloc: Global, value: Option<&Value>) -> Result<Option<Value>, AllocError>
@@ -156,14 +142,14 @@ fn copied(alloc: Global, value: Option<&Value>) -> Result<Option<Value>, AllocEr
 
 fn built_in(
     alloc: Global,
-    body: &Body,
+    own: &OwnValues,
     defaults: &Defaults,
     property: Property,
 ) -> Result<Option<Value>, AllocError>
-    ensures { IfOk result (λ v. v ≡ built_in (bare Kind.Field body.now defaults.now) property) }
+    ensures { IfOk result (λ v. v ≡ built_in (bare Kind.Field own.now defaults.now) property) }
 {
     match property {
-        Property::Accesswidth => match stated(body, defaults, Property::Regwidth.name()) {
+        Property::Accesswidth => match stated(own, defaults, Property::Regwidth) {
             Some(value) => Ok(Some(value.try_copy(alloc)?)),
             None => Ok(Property::Regwidth.built_in()),
         },
@@ -171,18 +157,18 @@ fn built_in(
     }
 }
 
-/// The value of a property of a component with this body, where these defaults reach it.
+/// The value of a property of a component with these assignments, where these defaults reach it.
 fn component_value(
     alloc: Global,
-    body: &Body,
+    own: &OwnValues,
     defaults: &Defaults,
     property: Property,
 ) -> Result<Option<Value>, AllocError>
-    ensures { IfOk result (λ v. v ≡ head_value (bare Kind.Field body.now defaults.now) property) }
+    ensures { IfOk result (λ v. v ≡ head_value (bare Kind.Field own.now defaults.now) property) }
 {
-    match stated(body, defaults, property.name()) {
+    match stated(own, defaults, property) {
         Some(value) => Ok(Some(value.try_copy(alloc)?)),
-        None => built_in(alloc, body, defaults, property),
+        None => built_in(alloc, own, defaults, property),
     }
 }
 
@@ -198,14 +184,14 @@ fn shown_option(form: Form, value: Option<Value>) -> Option<Value>
 fn shown_value(
     alloc: Global,
     kind: Kind,
-    body: &Body,
+    own: &OwnValues,
     defaults: &Defaults,
     property: Property,
 ) -> Result<Option<Value>, AllocError>
-    ensures { IfOk result (λ v. v ≡ shown_value (bare kind body.now defaults.now) property) }
+    ensures { IfOk result (λ v. v ≡ shown_value (bare kind own.now defaults.now) property) }
 {
     if property.on(kind) {
-        let value = component_value(alloc, body, defaults, property)?;
+        let value = component_value(alloc, own, defaults, property)?;
         Ok(shown_option(property.form(), value))
     } else {
         Ok(None)
@@ -227,15 +213,15 @@ fn room(kind: Kind) -> usize {
 fn shown_among(
     alloc: Global,
     kind: Kind,
-    body: &Body,
+    own: &OwnValues,
     defaults: &Defaults,
     properties: &[Property],
 ) -> Result<Vec<PropertyValue>, AllocError>
-    ensures { IfOk result (λ values. values.items ≡ shown_among (bare kind body.now defaults.now) properties.now) }
+    ensures { IfOk result (λ values. values.items ≡ shown_among (bare kind own.now defaults.now) properties.now) }
 {
     let mut items = Vec::with_capacity(alloc, room(kind))?;
     for property in properties {
-        if let Some(value) = shown_value(alloc, kind, body, defaults, *property)? {
+        if let Some(value) = shown_value(alloc, kind, own, defaults, *property)? {
             items.push(PropertyValue {
                 property: *property,
                 value,
@@ -249,13 +235,9 @@ fn shown_among(
 pub(crate) fn built_in_values(alloc: Global, kind: Kind) -> Result<Vec<PropertyValue>, AllocError>
     ensures { IfOk result (λ values. values.items ≡ built_in_values kind) }
 {
-    shown_among(
-        alloc,
-        kind,
-        &Body::new(alloc),
-        &Defaults::new(alloc),
-        &Property::ALL,
-    )
+    let body = Body::new(alloc);
+    let own = OwnValues::of(alloc, &body)?;
+    shown_among(alloc, kind, &own, &Defaults::new(alloc), &Property::ALL)
 }
 
 fn has_value(property: Property, items: &[PropertyValue]) -> bool
@@ -265,7 +247,7 @@ fn has_value(property: Property, items: &[PropertyValue]) -> bool
 }
 
 /// Adds a value that a component of this kind states, unless it hasn't the property or a value before states it.
-fn add_stated(
+pub(crate) fn add_stated(
     alloc: Global,
     kind: Kind,
     items: &mut Vec<PropertyValue>,
@@ -285,45 +267,20 @@ fn add_stated(
     Ok(())
 }
 
-/// The same of an assignment to the property of this name.
+/// The same of an assignment to the property of a name, if there is one.
 pub(crate) fn add_assigned(
     alloc: Global,
     kind: Kind,
     items: &mut Vec<PropertyValue>,
-    name: &str,
+    property: Option<Property>,
     value: &Value,
 ) -> Result<(), AllocError>
-    ensures { OnOk result ((p : Property) → value_under p items.new.items ≡ option_or (value_under p items.old.items) (shown_on kind p (if_named name.now (Some value.now) p))) }
+    ensures { OnOk result ((name : List ℕ) (p : Property) → property ≡ property_of name → value_under p items.new.items ≡ option_or (value_under p items.old.items) (shown_on kind p (if_named name (Some value.now) p))) }
 {
-    match property(name) {
+    match property {
         Some(property) => add_stated(alloc, kind, items, property, value),
         None => Ok(()),
     }
-}
-
-fn add_own(
-    alloc: Global,
-    kind: Kind,
-    items: &mut Vec<PropertyValue>,
-    item: Option<&Item>,
-) -> Result<(), AllocError>
-    ensures { OnOk result ((p : Property) → value_under p items.new.items ≡ option_or (value_under p items.old.items) (shown_on kind p (owned_by (row p).name (option_copied item.entry)))) }
-{
-    match item {
-        Some(Item::Own(name, value)) => add_assigned(alloc, kind, items, name.as_str(), value),
-        _ => Ok(()),
-    }
-}
-
-/// The values that the own assignments in the body of a component of this kind state.
-fn own_values(alloc: Global, kind: Kind, body: &Body) -> Result<Vec<PropertyValue>, AllocError>
-    ensures { IfOk result (λ values. (p : Property) → value_under p values.items ≡ shown_on kind p (own_value (row p).name body.now)) }
-{
-    let mut items = Vec::new(alloc);
-    for i in 0..body.len() {
-        add_own(alloc, kind, &mut items, body.item(i))?;
-    }
-    Ok(items)
 }
 
 /// Adds the accesswidth that a stated regwidth is, unless a value before states it.
@@ -340,40 +297,61 @@ fn add_accesswidth(
     }
 }
 
-/// The values that a component of this kind with this body states, where these defaults reach it.
+/// The values that a component of this kind with these assignments states, where these defaults reach it.
 fn stated_values(
     alloc: Global,
     kind: Kind,
-    body: &Body,
+    own: &OwnValues,
     defaults: &Defaults,
 ) -> Result<Vec<PropertyValue>, AllocError>
-    ensures { IfOk result (λ values. (p : Property) → value_under p values.items ≡ shown_on kind p (stated_for (bare kind body.now defaults.now) p)) }
+    ensures { IfOk result (λ values. (p : Property) → value_under p values.items ≡ shown_on kind p (stated_for (bare kind own.now defaults.now) p)) }
 {
-    let mut items = own_values(alloc, kind, body)?;
+    let mut items = Vec::new(alloc);
+    own.add_to(alloc, kind, &mut items)?;
     defaults.add_to(alloc, kind, &mut items)?;
     add_accesswidth(alloc, kind, &mut items)?;
     Ok(items)
 }
 
-/// The values of a component of this kind with this body, where these defaults reach it.
-pub(crate) fn shown_values(
+/// Makes the values of a component of this kind with these assignments, where these defaults reach it.
+fn bare_values(
     alloc: Global,
     kind: Kind,
-    body: &Body,
+    own: &OwnValues,
     defaults: &Defaults,
     built_ins: &BuiltIns,
 ) -> Result<ComponentValues, AllocError>
-    ensures { IfOk result (λ values. (h : Head) → h.kind ≡ kind → h.body ≡ body.now → h.defaults ≡ defaults.now → values ≡ shown_values h) }
+    ensures { IfOk result (λ values. values ≡ shown_values (bare kind own.now defaults.now)) }
 {
     let built_ins = built_ins.of(kind).clone()?;
-    if states_nothing(body, defaults) {
-        return Ok(ComponentValues::built_in(built_ins));
-    }
-    let stated = stated_values(alloc, kind, body, defaults)?;
+    let stated = stated_values(alloc, kind, own, defaults)?;
     if stated.is_empty() {
         return Ok(ComponentValues::built_in(built_ins));
     }
     ComponentValues::over(alloc, stated, built_ins)
+}
+
+/// The values of a component of this kind with these assignments, where these defaults reach it. Those of a component
+/// without assignments are kept for the next one of the kind.
+pub(crate) fn shown_values(
+    alloc: Global,
+    kind: Kind,
+    own: &OwnValues,
+    defaults: &mut Defaults,
+    built_ins: &BuiltIns,
+) -> Result<ComponentValues, AllocError>
+    ensures values { IfOk result (λ values. (h : Head) → h.kind ≡ kind → h.body ≡ own.now → h.defaults ≡ defaults.old → values ≡ shown_values h) }
+    ensures stays { OnOk result (defaults.new ≡ defaults.old) }
+{
+    if !own.is_empty() {
+        return bare_values(alloc, kind, own, defaults, built_ins);
+    }
+    if let Some(values) = defaults.kept(kind) {
+        return values.share();
+    }
+    let values = bare_values(alloc, kind, own, defaults, built_ins)?;
+    defaults.keep(kind, values.share()?);
+    Ok(values)
 }
 
 fn reset_value(property: Property, reset: Option<Number>) -> Option<Value>
@@ -386,7 +364,7 @@ fn reset_value(property: Property, reset: Option<Number>) -> Option<Value>
 }
 
 /// Whether they are the same. No two properties have one name.
-fn same_property(a: Property, b: Property) -> bool
+pub(crate) fn same_property(a: Property, b: Property) -> bool
     ensures { result ≡ bytes_eq (row a).name (row b).name }
 {
     a == b

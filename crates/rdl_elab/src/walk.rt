@@ -1,5 +1,5 @@
 //! The walk that lays out components, once for all their instances.
-ghost use Rattle.std.specs.Prelude.{◌≡◌, ℕ, ◌∷◌, ◌++◌, ◌+◌, ◌≤◌, [], true, length, Some, IfOk, IfSome};
+ghost use Rattle.std.specs.Prelude.{◌≡◌, ℕ, ◌∷◌, ◌++◌, ◌+◌, ◌≤◌, [], true, length, Some, IfOk, IfSome, OnOk};
 ghost use Rattle.std.specs.Option.{is_some, IsSome};
 ghost use Rattle.rdl_tree.specs.Depth.{depth};
 ghost use Rattle.rdl_tree.specs.declared.description.Item.TheVariants.{Instance};
@@ -18,6 +18,7 @@ use crate::defaults::Defaults;
 use crate::finished::{Finished, Part};
 use crate::instances::{first_empty, levels, rows};
 use crate::laid_out::take_layouts;
+use crate::own_values::OwnValues;
 use crate::part_list::PartList;
 use crate::reaches::{assignments, has_dynamic};
 use crate::shared::share;
@@ -72,22 +73,24 @@ fn finished<'a>(
     at: &Address,
     component: &'a Component,
     parts: Vec<Part<'a>>,
-    walk: &Walk<'a>,
+    walk: &mut Walk<'a>,
     before: &Stored,
 ) -> Result<Finished<'a>, AllocError>
     requires { depth description.now.items ≤ 16 }
-    ensures kept { IfOk result (λ f. (e : Standing) (inside : Parts) (n : ℕ) → walk.now.defaults ≡ e.defaults → AreParts description.now.items walk.now.components.items n parts.entry.items inside → IsKept description.now.items f (record { head = head_at at.now component.now.kind component.now.body e; parts = inside })) }
+    ensures kept { IfOk result (λ f. (e : Standing) (inside : Parts) (n : ℕ) → walk.old.defaults ≡ e.defaults → AreParts description.now.items walk.old.components.items n parts.entry.items inside → IsKept description.now.items f (record { head = head_at at.now component.now.kind component.now.body e; parts = inside })) }
     ensures parts { IfOk result (λ f. f.parts.items ≡ parts.entry.items) }
-    ensures words { IfOk result (λ f. (e : Standing) (inside : Parts) (n : ℕ) → walk.now.defaults ≡ e.defaults → AreParts description.now.items walk.now.components.items n parts.entry.items inside → f.laid_out.words ≡ words (made_of (record { head = head_at at.now component.now.kind component.now.body e; parts = inside }))) }
+    ensures words { IfOk result (λ f. (e : Standing) (inside : Parts) (n : ℕ) → walk.old.defaults ≡ e.defaults → AreParts description.now.items walk.old.components.items n parts.entry.items inside → f.laid_out.words ≡ words (made_of (record { head = head_at at.now component.now.kind component.now.body e; parts = inside }))) }
     ensures same { IfOk result (λ f. f.laid_out.layouts ≡ f.layouts) }
     ensures stood { IfOk result (λ f. WasKept before.now.slots f) }
     ensures taken { IfOk result (λ f. is_among f.laid_out.words before.now.words ≡ true → IsSome f.key) }
+    ensures walk { OnOk result (walk.new ≡ walk.old) }
 {
     let kind = component.kind;
     let body = &component.body;
+    let own = OwnValues::of(alloc, body)?;
+    let values = layout_values(&own, &mut walk.defaults);
+    let shown = shown_values(alloc, kind, &own, &mut walk.defaults, &walk.built_ins)?;
     let components = walk.components.as_slice();
-    let values = layout_values(body, &walk.defaults);
-    let shown = shown_values(alloc, kind, body, &walk.defaults, &walk.built_ins)?;
     let parts = PartList::of(alloc, parts, walk.by_name || has_dynamic(body))?;
     let assignments = assignments(alloc, components, &parts, body)?;
     let taken = take_layouts(alloc, kind, values, parts.as_slice(), components, before)?;

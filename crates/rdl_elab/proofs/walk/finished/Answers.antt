@@ -18,7 +18,7 @@ use Rattle.rdl_elab.proofs.walk.finished.Goals as goal
 pub take_layouts-requires : goal.take_layouts-requires
 take_layouts-requires c =
     let h : Head = record { at = []; kind = c.args.component.now.kind; body = c.args.component.now.body; defaults = c.args.walk.now.defaults } in
-    subst (λ (v : LayoutValues). IsAlignment v.alignment) (sym (c.layout_values-values.ensures h refl refl)) (alignment-power (head_value h))
+    subst (λ (v : LayoutValues). IsAlignment v.alignment) (sym (c.layout_values-values.ensures.values h (sym c.in_ok-own.ensures) refl)) (alignment-power (head_value h))
 
 pub returns-clause-words : goal.returns-clause-words
 returns-clause-words c = λ e inside n same are.
@@ -28,7 +28,7 @@ returns-clause-words c = λ e inside n same are.
     let h = head_at c.args.at.now c.args.component.now.kind c.args.component.now.body e in
     let here = subst (λ (gs : List Finished). AreParts d gs n ps inside) (sym c.as_slice-components.ensures.value)
     (subst (λ (qs : List Part). AreParts d c.args.walk.now.components.items n qs inside) (sym (c.as_slice.ensures ∙ c.in_ok-parts.ensures)) are) in
-    let values = c.layout_values-values.ensures h refl (sym same) in
+    let values = c.layout_values-values.ensures.values h (sym c.in_ok-own.ensures) (sym same) in
     let members = members-are d fs n ps inside (kept_members fs ps) here refl in
     c.in_ok-taken.ensures.words ∙ (λ i. words (record { kind = c.args.component.now.kind; values = values i; members = members i }))
 
@@ -42,8 +42,8 @@ returns-clause-kept c = λ e inside n same are.
     subst (λ (gs : List Finished). AreParts d gs n ps inside) (sym c.as_slice-components.ensures.value) (subst (λ (qs : List Part). AreParts d c.args.walk.now.components.items n qs inside) (sym g) are) in
     record {
       kind = refl;
-      values = c.layout_values-values.ensures h refl (sym same);
-      shown = c.in_ok-shown.ensures h refl refl (sym same);
+      values = c.layout_values-values.ensures.values h (sym c.in_ok-own.ensures) (sym same);
+      shown = c.in_ok-shown.ensures.values h refl (sym c.in_ok-own.ensures) (sym same ∙ sym c.layout_values-values.ensures.stays);
       assignments = λ none here.
           c.in_ok-assignments.ensures
           ∙ (λ i. reaches_by (λ k names. target-same d fs none c.args.at.now made n c.in_ok-parts.parts.items here (moved c.in_ok-parts.parts.items c.in_ok-parts.ensures) k names i) 0 c.args.component.now.body);

@@ -14,12 +14,10 @@ loop-left-preserved c =
     let item = c.index-default.result.now in
     let xs = c.self.inside.items.items in
     let index = c.index-default.ensures in
-    let text = c.as_str.ensures in
     let is : item ≡ get_or xs (c.loop-left.left - 1) item = search rules in
-    let named : c.as_str.result.now ≡ item.property.now = search rules in
     record {
       within = omega arith;
-      so_far = λ p. one-nearer c.args.kind p c.loop-left.left xs item c.as_str.result.now (value_under p c.args.items.now.items) (value_under p c.loop-left.items.items) (value_under p c.add_assigned.new.items.items) c.loop-left-test.true c.loop-left.invariant.within is named (c.loop-left.invariant.so_far p) (c.in_ok-add_assigned.ensures p);
+      so_far = λ p. one-nearer c.args.kind p c.loop-left.left xs item (value_under p c.args.items.now.items) (value_under p c.loop-left.items.items) (value_under p c.add_assigned.new.items.items) c.loop-left-test.true c.loop-left.invariant.within is (c.loop-left.invariant.so_far p) (c.in_ok-add_assigned.ensures item.name p c.property.ensures);
     }
 
 pub returns : goal.returns

@@ -5,23 +5,19 @@ use Rattle.rdl_tree.specs.View.{list_of}
 use Rattle.rdl_scope.specs.Value.{own_before}
 use Rattle.rdl_scope.specs.Walk.{owned_by}
 use Rattle.rdl_scope.proofs.ValueSearches.{own-suc, own-all}
-use Rattle.rdl_elab.specs.StatedValues.{shown_on}
-use Rattle.rdl_elab.proofs.StatedLists.{shown-or}
-use Rattle.rdl_elab.proofs.values.own_values.Goals as goal
+use Rattle.rdl_elab.proofs.own_values.OwnValues.of.Goals as goal
 
 pub loop-i-preserved : goal.loop-i-preserved
 loop-i-preserved c = λ p.
-    let k = c.args.kind in
     let name = (row p).name in
     let body = c.args.body.now in
     let i = c.loop-i.i in
     c.in_ok-add_own.ensures p
-    ∙ (λ j. option_or (c.loop-i.invariant p j) (shown_on k p (owned_by name (c.item.ensures j))))
-    ∙ shown-or k p (own_before name i body) _
-    ∙ ap (shown_on k p) (sym (own-suc name i body))
-    ∙ ap (λ n. shown_on k p (own_before name n body)) (sym (add-one i))
+    ∙ (λ j. option_or (c.loop-i.invariant p j) (owned_by name (c.item.ensures j)))
+    ∙ sym (own-suc name i body)
+    ∙ ap (λ n. own_before name n body) (sym (add-one i))
 
-pub returns : goal.returns
-returns c =
+pub invariant_of-result : goal.invariant_of-result
+invariant_of-result c =
     let past_all : length (list_of c.args.body.now) ≤ c.loop-i.i = omega arith in
-    λ p. c.loop-i.invariant p ∙ ap (shown_on c.args.kind p) (own-all (row p).name c.loop-i.i c.args.body.now past_all)
+    λ p. c.loop-i.invariant p ∙ own-all (row p).name c.loop-i.i c.args.body.now past_all

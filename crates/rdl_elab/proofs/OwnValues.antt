@@ -1,0 +1,50 @@
+-- Steps along the own assignments in a body.
+use Rattle.std.proofs.Common.{◌≡◌, ℕ, ◌+◌, ◌<◌, List, [], ◌∷◌, ◌++◌, length, take, get_or, true, false, Some, None, Option, refl, ap, sym, ◌∙◌, add-one}
+use Rattle.std.specs.Prelude.{bytes_eq, if◌then◌else◌}
+use Rattle.std.specs.Option.{option_or}
+use Rattle.std.proofs.Math.Seq.{take-suc}
+use Rattle.rdl_tree.specs.Properties.{row, property_of}
+use Rattle.rdl_tree.specs.declared.shell.Kind.{Kind}
+use Rattle.rdl_tree.specs.declared.property.Property.{Property}
+use Rattle.rdl_tree.specs.declared.value.Value.{Value}
+use Rattle.rdl_elab.specs.declared.own_values.Assigned.{Assigned}
+use Rattle.rdl_elab.specs.OwnValues.{assigned_to}
+use Rattle.rdl_elab.specs.StatedValues.{shown_on, if_named}
+use Rattle.rdl_elab.proofs.Names.{names-apart}
+use Rattle.rdl_elab.proofs.StatedLists.{or-assoc, shown-or, same-named, name-of, not-its-name, adds-none}
+
+assigned-append : (p : Property) (xs ys : List Assigned) → assigned_to p (xs ++ ys) ≡ option_or (assigned_to p xs) (assigned_to p ys)
+assigned-append p [] ys = refl
+assigned-append p (x ∷ xs) ys =
+    elim (bytes_eq (row x.property).name (row p).name) as (λ b. (if b then Some x.value.now else assigned_to p (xs ++ ys)) ≡ option_or (if b then Some x.value.now else assigned_to p xs) (assigned_to p ys)) [
+      | true ↦ refl
+      | false ↦ assigned-append p xs ys
+    ]
+
+-- one assignment more, to a property or to no property's name
+pub one-assigned : (p : Property) (xs : List Assigned) (x : Assigned) (name : List ℕ) → property_of name ≡ Some x.property → assigned_to p (xs ++ x ∷ []) ≡ option_or (assigned_to p xs) (if_named name (Some x.value.now) p)
+one-assigned p xs x name e =
+    assigned-append p xs (x ∷ [])
+    ∙ ap (λ n. option_or (assigned_to p xs) (if bytes_eq n (row p).name then Some x.value.now else None)) (sym (name-of name x.property e))
+
+pub none-assigned : (p : Property) (old : Option Value) (name : List ℕ) (v : Value) → property_of name ≡ None → old ≡ option_or old (if_named name (Some v) p)
+none-assigned p old name v none =
+    adds-none old (if_named name (Some v) p) (ap (λ b. if b then Some v else None) (not-its-name name p (bytes_eq name (row p).name) refl none))
+
+-- what is stated, with one assignment more
+pub one-stated : (k : Kind) (p : Property) (i : ℕ) (xs : List Assigned) (x : Assigned) (first before after : Option Value) → i < length xs → x ≡ get_or xs i x
+    → before ≡ option_or first (shown_on k p (assigned_to p (take i xs))) → after ≡ option_or before (if_named (row x.property).name (shown_on k x.property (Some x.value.now)) p)
+    → after ≡ option_or first (shown_on k p (assigned_to p (take (i + 1) xs)))
+one-stated k p i xs x first before after l is e f =
+    let behind = assigned_to p (take i xs) in
+    let this = if bytes_eq (row x.property).name (row p).name then Some x.value.now else None in
+    let all : assigned_to p (take (i + 1) xs) ≡ option_or behind this =
+    ap (λ n. assigned_to p (take n xs)) (add-one i)
+    ∙ ap (assigned_to p) (take-suc xs i x l)
+    ∙ assigned-append p (take i xs) (get_or xs i x ∷ [])
+    ∙ ap (λ (a : Assigned). option_or behind (assigned_to p (a ∷ []))) (sym is) in
+    f
+    ∙ (λ j. option_or (e j) (same-named k x.property p x.value.now (bytes_eq (row x.property).name (row p).name) (names-apart x.property p) j))
+    ∙ or-assoc first (shown_on k p behind) (shown_on k p this)
+    ∙ ap (option_or first) (shown-or k p behind this)
+    ∙ ap (λ o. option_or first (shown_on k p o)) (sym all)
