@@ -4,6 +4,7 @@ pub mod Bodies
 pub mod Depths
 pub mod Examples
 pub mod Firsts
+pub mod Fronts
 pub mod Holds
 pub mod InstanceKinds
 pub mod Instances

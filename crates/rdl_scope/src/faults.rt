@@ -93,13 +93,13 @@ fn kind_below(
 /// The kind of the component to which a target leads, from the `n`-th item of the body at this address. These are the
 /// places of the components of the instances before it.
 #[tactic(auto, using(crate::proofs::TargetKinds::targets))]
-fn target_kind(
+fn target_kind<'a>(
     alloc: Global,
     description: &Description,
     at: &Address,
     n: usize,
-    names: &[Name],
-    places: &Places,
+    names: &'a [Name],
+    places: &Places<'a>,
 ) -> Result<Option<Kind>, AllocError>
     requires nesting { depth description.now.items ≤ 16 }
     requires room { length at.now < 17 }
@@ -152,8 +152,8 @@ fn item_fault<'a>(
     body: &Body,
     n: usize,
     item: &'a Item,
-    levels: &[Names],
-    definitions: &Names,
+    levels: &[Names<'a>],
+    definitions: &Names<'a>,
     passed: &mut Passed<'a>,
 ) -> Result<Option<FaultKind>, AllocError>
     requires nesting { depth description.now.items ≤ 16 }

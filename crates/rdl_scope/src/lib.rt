@@ -4,6 +4,7 @@
 
 mod assignments;
 pub mod faults;
+mod front;
 mod keys;
 mod kinds;
 pub mod laws;
