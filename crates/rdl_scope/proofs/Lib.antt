@@ -15,6 +15,7 @@ pub mod Passing
 pub mod Products
 pub mod Repeats
 pub mod Searches
+pub mod Sizes
 pub mod StandingBefore
 pub mod TargetKinds
 pub mod ValueSearches

@@ -21,6 +21,7 @@ use crate::names::Names;
 use crate::passed::Passed;
 use crate::places::{Places, address_of, kind_of, place_of};
 use crate::shells::instance_fault;
+use crate::size::body_size;
 use crate::targets::passes;
 use crate::types::{component_at, component_of, items_in, own_component};
 use crate::values::{is_false, own_before};
@@ -309,9 +310,8 @@ fn first_fault<'a>(
 fn is_too_large(description: &Description) -> bool
     ensures { result ≡ is_too_large description.now.items }
 {
-    description.items.depth() > 16
-        || description.items.count() > 65_536
-        || description.weight() > 8_388_608
+    let size = body_size(&description.items);
+    size.depth > 16 || size.count > 65_536 || size.weight > 8_388_608
 }
 
 fn judge(alloc: Global, description: &Description) -> Result<Option<Fault>, AllocError>

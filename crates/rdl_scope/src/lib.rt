@@ -13,6 +13,7 @@ mod names;
 mod passed;
 mod places;
 pub mod shells;
+mod size;
 pub mod targets;
 pub mod types;
 pub mod values;
