@@ -14,6 +14,7 @@ pub mod OuterAssignments
 pub mod Passing
 pub mod Products
 pub mod Repeats
+pub mod Rivals
 pub mod Searches
 pub mod Sizes
 pub mod StandingBefore
