@@ -4,6 +4,7 @@ pub mod Bodies
 pub mod Depths
 pub mod Examples
 pub mod Firsts
+pub mod Fronts
 pub mod Holds
 pub mod InstanceKinds
 pub mod Instances
@@ -13,7 +14,9 @@ pub mod OuterAssignments
 pub mod Passing
 pub mod Products
 pub mod Repeats
+pub mod Rivals
 pub mod Searches
+pub mod Sizes
 pub mod StandingBefore
 pub mod TargetKinds
 pub mod ValueSearches

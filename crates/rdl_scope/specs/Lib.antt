@@ -1,4 +1,5 @@
 pub mod Closed
+pub mod Front
 pub mod ItemFaults
 pub mod Keys
 pub mod Scopes

@@ -21,6 +21,7 @@ use crate::names::Names;
 use crate::passed::Passed;
 use crate::places::{Places, address_of, kind_of, place_of};
 use crate::shells::instance_fault;
+use crate::size::body_size;
 use crate::targets::passes;
 use crate::types::{component_at, component_of, items_in, own_component};
 use crate::values::{is_false, own_before};
@@ -93,13 +94,13 @@ fn kind_below(
 /// The kind of the component to which a target leads, from the `n`-th item of the body at this address. These are the
 /// places of the components of the instances before it.
 #[tactic(auto, using(crate::proofs::TargetKinds::targets))]
-fn target_kind(
+fn target_kind<'a>(
     alloc: Global,
     description: &Description,
     at: &Address,
     n: usize,
-    names: &[Name],
-    places: &Places,
+    names: &'a [Name],
+    places: &Places<'a>,
 ) -> Result<Option<Kind>, AllocError>
     requires nesting { depth description.now.items ≤ 16 }
     requires room { length at.now < 17 }
@@ -124,19 +125,30 @@ fn is_set(value: Option<&Value>) -> bool
     }
 }
 
-fn any_is_set(n: usize, body: &Body, rivals: &[Property]) -> bool
-    ensures { result ≡ list_any (λ rival. is_set (own_before (row rival).name n body.now)) rivals.now }
+/// Whether the own assignment of this name among the first `n` items is set. It is searched for only if the name is among
+/// these.
+fn rival_is_set<'a>(n: usize, body: &Body, owns: &Names<'a>, name: &'a str) -> bool
+    ensures { result ≡ (is_some (number_under owns.now name.now) && is_set (own_before name.now n body.now)) }
+{
+    owns.has(name) && is_set(own_before(body, n, name))
+}
+
+fn any_is_set(n: usize, body: &Body, owns: &Names, rivals: &[Property]) -> bool
+    ensures { result ≡ list_any (λ rival. is_some (number_under owns.now (row rival).name) && is_set (own_before (row rival).name n body.now)) rivals.now }
 {
     rivals
         .iter()
-        .any(|rival| is_set(own_before(body, n, rival.name())))
+        .any(|rival| rival_is_set(n, body, owns, rival.name()))
 }
 
-fn excluded_by(n: usize, body: &Body, property: Option<Property>) -> bool
+/// Whether a rival of the property is set among the first `n` items, whose own assignments these are.
+#[tactic(auto, using(crate::proofs::Rivals::known))]
+fn excluded_by(n: usize, body: &Body, owns: &Names, property: Option<Property>) -> bool
+    requires owns { (q : List ℕ) → is_some (number_under owns.now q) ≡ is_some (own_before q n body.now) }
     ensures { result ≡ excluded_by n body.now property }
 {
     match property {
-        Some(property) => any_is_set(n, body, rivals(property)),
+        Some(property) => any_is_set(n, body, owns, rivals(property)),
         None => false,
     }
 }
@@ -152,8 +164,8 @@ fn item_fault<'a>(
     body: &Body,
     n: usize,
     item: &'a Item,
-    levels: &[Names],
-    definitions: &Names,
+    levels: &[Names<'a>],
+    definitions: &Names<'a>,
     passed: &mut Passed<'a>,
 ) -> Result<Option<FaultKind>, AllocError>
     requires nesting { depth description.now.items ≤ 16 }
@@ -178,9 +190,9 @@ fn item_fault<'a>(
             Ok(instance_fault(around, twice, shell, kind))
         }
         Item::Own(name, value) => {
-            let twice = passed.owns.note(name.as_str(), n)?;
             let property = property(name.as_str());
-            let excluded = excluded_by(n, body, property);
+            let excluded = excluded_by(n, body, &passed.owns, property);
+            let twice = passed.owns.note(name.as_str(), n)?;
             Ok(own_fault(around, twice, excluded, property, value))
         }
         Item::Default(name, value) => {
@@ -309,9 +321,8 @@ fn first_fault<'a>(
 fn is_too_large(description: &Description) -> bool
     ensures { result ≡ is_too_large description.now.items }
 {
-    description.items.depth() > 16
-        || description.items.count() > 65_536
-        || description.weight() > 8_388_608
+    let size = body_size(&description.items);
+    size.depth > 16 || size.count > 65_536 || size.weight > 8_388_608
 }
 
 fn judge(alloc: Global, description: &Description) -> Result<Option<Fault>, AllocError>

@@ -5,7 +5,7 @@ ghost use Rattle.rdl_scope.specs.Scopes.{level_found, scope_found};
 use crate::names::Names;
 
 /// The level and number of the innermost definition of the name.
-fn level_found(levels: &[Names], name: &str) -> Option<(usize, usize)>
+fn level_found<'a>(levels: &[Names<'a>], name: &'a str) -> Option<(usize, usize)>
     ensures { result ≡ level_found 0 levels.now name.now }
 {
     let (level, outer) = levels.split_last()?;
@@ -16,10 +16,10 @@ fn level_found(levels: &[Names], name: &str) -> Option<(usize, usize)>
 }
 
 /// The same, where these are the definitions of the innermost level.
-pub(crate) fn scope_found(
-    levels: &[Names],
-    definitions: &Names,
-    name: &str,
+pub(crate) fn scope_found<'a>(
+    levels: &[Names<'a>],
+    definitions: &Names<'a>,
+    name: &'a str,
 ) -> Option<(usize, usize)>
     ensures { result ≡ scope_found levels.now definitions.now name.now }
 {

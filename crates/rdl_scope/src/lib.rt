@@ -4,6 +4,7 @@
 
 mod assignments;
 pub mod faults;
+mod front;
 mod keys;
 mod kinds;
 pub mod laws;
@@ -12,6 +13,7 @@ mod names;
 mod passed;
 mod places;
 pub mod shells;
+mod size;
 pub mod targets;
 pub mod types;
 pub mod values;

@@ -1,4 +1,5 @@
 //! Items under their names.
+use crate::front::key_of;
 use rdl_tree::description::Item;
 use std::alloc::{AllocError, Global};
 use std::collections::BTreeMap;
@@ -6,7 +7,7 @@ use std::collections::BTreeMap;
 /// The numbers of items under their names.
 #[derive(Drop)]
 pub(crate) struct Names<'a> {
-    numbers: BTreeMap<&'a str, usize>,
+    numbers: BTreeMap<(u64, &'a str), usize>,
 }
 
 impl<'a> Names<'a> {
@@ -23,16 +24,16 @@ impl<'a> Names<'a> {
         }
     }
 
-    pub(crate) fn get(&self, name: &str) -> Option<usize>
+    pub(crate) fn get(&self, name: &'a str) -> Option<usize>
         ensures { result ≡ number_under self.now name.now }
     {
-        match self.numbers.get(name) {
+        match self.numbers.get(&key_of(name)) {
             Some(number) => Some(*number),
             None => None,
         }
     }
 
-    pub(crate) fn has(&self, name: &str) -> bool
+    pub(crate) fn has(&self, name: &'a str) -> bool
         ensures { result ≡ is_some (number_under self.now name.now) }
     {
         self.get(name).is_some()
@@ -43,7 +44,7 @@ impl<'a> Names<'a> {
         ensures twice { IfOk result (λ twice. twice ≡ is_some (number_under self.old name.now)) }
         ensures noted { OnOk result ((q : List ℕ) → number_under self.new q ≡ (if bytes_eq name.now q then Some number else number_under self.old q)) }
     {
-        let before = self.numbers.insert(name, number)?;
+        let before = self.numbers.insert(key_of(name), number)?;
         Ok(before.is_some())
     }
 

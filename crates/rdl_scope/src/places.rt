@@ -4,6 +4,7 @@ ghost use Rattle.rdl_scope.specs.Types.{item};
 ghost use Rattle.rdl_scope.specs.ItemFaults.{kind_at};
 ghost use Rattle.rdl_scope.specs.Scopes.{along_place, place_held, kind_held, scope_found};
 
+use crate::front::key_of;
 use crate::levels::scope_found;
 use crate::names::Names;
 use crate::types::{own_component, prefix};
@@ -23,7 +24,7 @@ pub(crate) struct Place {
 /// The places of the components of instances, under the instances' names.
 #[derive(Drop)]
 pub(crate) struct Places<'a> {
-    places: BTreeMap<&'a str, Place>,
+    places: BTreeMap<(u64, &'a str), Place>,
 }
 
 impl<'a> Places<'a> {
@@ -39,10 +40,10 @@ impl<'a> Places<'a> {
         }
     }
 
-    pub(crate) fn get(&self, name: &str) -> Option<Place>
+    pub(crate) fn get(&self, name: &'a str) -> Option<Place>
         ensures { result ≡ place_under self.now name.now }
     {
-        match self.places.get(name) {
+        match self.places.get(&key_of(name)) {
             Some(place) => Some(*place),
             None => None,
         }
@@ -55,7 +56,7 @@ impl<'a> Places<'a> {
     {
         match place {
             Some(place) => {
-                let before = self.places.insert(name, place)?;
+                let before = self.places.insert(key_of(name), place)?;
                 Ok(before.is_some())
             }
             None => Ok(self.get(name).is_some()),
@@ -91,12 +92,12 @@ fn kind_at(description: &Description, at: &Address, place: Place) -> Option<Kind
 }
 
 /// The place of the component of item `n` of the body at this address, which is an instance of this.
-pub(crate) fn place_of(
+pub(crate) fn place_of<'a>(
     at: &Address,
     n: usize,
-    of: &Of,
-    levels: &[Names],
-    definitions: &Names,
+    of: &'a Of,
+    levels: &[Names<'a>],
+    definitions: &Names<'a>,
 ) -> Option<Place>
     ensures { result ≡ place_held at.now n of.now (scope_found levels.now definitions.now) }
 {

@@ -56,7 +56,7 @@ returns-in_ok-twice-in-Instance-clause-passed c = λ none.
 pub returns-in_ok-twice-in-Own-clause-passed : goal.returns-in_ok-twice-in-Own-clause-passed
 returns-in_ok-twice-in-Own-clause-passed c = λ none.
     know-own c.args.description.now.items c.args.at.now c.args.body.now c.args.n c.args.passed.now c.in-Own.name c.in-Own.value c.note-in-Own.new.self
-    c.requires.here (c.requires.item ∙ ap Some c.in-Own.is) (λ q. c.in_ok-twice-in-Own.ensures.noted q ∙ ap (λ m. cond (bytes_eq m q) (Some c.args.n) (number_under c.args.passed.now.owns q)) c.as_str-in-Own.ensures) c.requires.passed
+    c.requires.here (c.requires.item ∙ ap Some c.in-Own.is) (λ q. c.in_ok-twice-in-Own.ensures.noted q ∙ ap (λ m. cond (bytes_eq m q) (Some c.args.n) (number_under c.args.passed.now.owns q)) c.as_str-in-Own-2.ensures) c.requires.passed
 
 pub returns-in_ok-twice-in-Default-clause-passed :
     goal.returns-in_ok-twice-in-Default-clause-passed

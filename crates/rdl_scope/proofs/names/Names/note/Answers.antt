@@ -1,5 +1,5 @@
-use Rattle.std.proofs.lemmas.Map.Text.{btree_map_updates_str}
+use Rattle.rdl_scope.proofs.Fronts.{name_updates}
 use Rattle.rdl_scope.proofs.names.Names.note.Goals as goal
 
 pub returns-clause-noted : goal.returns-clause-noted
-returns-clause-noted c = λ q. btree_map_updates_str c.args.name.now c.args.self.now.numbers c.insert.new.self _ c.in_ok-before.ensures.updates q
+returns-clause-noted c = λ q. name_updates c.args.self.now.numbers c.insert.new.self c.args.name.now c.key_of.result _ c.key_of.ensures.front c.key_of.ensures.name c.in_ok-before.ensures.updates q
