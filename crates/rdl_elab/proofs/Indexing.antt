@@ -1,7 +1,7 @@
 -- An index leads from words to layouts that are made of whatever has them, through the keys under which these stand.
 use Rattle.std.proofs.Common.{◌≡◌, ℕ, zero, suc, true, List, [], ◌∷◌, ◌++◌, map, length, Option, Some, None, refl, ap, sym, subst, ◌∙◌, arith}
 use Rattle.std.specs.Prelude.{IfSome, IsSomeAnd, is_some, slice_get, option_map, option_and_then}
-use Rattle.std.specs.List.{cons_option, AllByRecursion}
+use Rattle.std.specs.List.{cons_option}
 use Rattle.std.specs.Global.{Vec}
 use Rattle.rdl_elab.specs.Kept.{Layouts}
 use Rattle.rdl_elab.specs.Words.{AreMadeOf}

@@ -1,6 +1,6 @@
 -- A walk finishes the components that are written, and takes kept layouts over where they were made of the same.
 -- own: SystemRDL 2.0 has no edits.
-use Rattle.std.specs.Prelude.{◌≡◌, ℕ, true, List, [], ◌∷◌, ◌++◌}
+use Rattle.std.specs.Prelude.{◌≡◌, true, List, [], ◌∷◌, ◌++◌}
 use Rattle.std.specs.Option.{IsSome}
 use Rattle.rdl_scope.specs.Closed.{Made}
 use Rattle.rdl_elab.specs.declared.finished.Finished.{Finished}

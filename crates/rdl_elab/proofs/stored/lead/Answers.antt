@@ -1,8 +1,6 @@
-use Rattle.std.proofs.Common.{ℕ, List, map, ap, sym, subst, ◌∙◌}
-use Rattle.std.specs.Prelude.{Some, IsSomeAnd, slice_get}
-use Rattle.std.specs.List.{AllByRecursion}
+use Rattle.std.proofs.Common.{ℕ, List, ap, sym, subst, ◌∙◌}
+use Rattle.std.specs.Prelude.{IsSomeAnd, slice_get}
 use Rattle.std.specs.Global.{Vec}
-use Rattle.rdl_elab.specs.Kept.{Layouts}
 use Rattle.rdl_elab.specs.Words.{is_among, AreMadeOf}
 use Rattle.rdl_elab.specs.Stored.{words_in, Leads}
 use Rattle.rdl_elab.proofs.FoundAgain.{insert-holds, insert-there, insert-others}

@@ -1,4 +1,4 @@
-use Rattle.std.proofs.Common.{◌≡◌, ℕ, true, List, Option, Some, None, refl, ap, sym, subst, ◌∙◌, Bor}
+use Rattle.std.proofs.Common.{◌≡◌, ℕ, true, List, ap, sym, subst, ◌∙◌}
 use Rattle.std.specs.Prelude.{is_some, IfSome, IsSomeAnd, slice_get, option_copied, option_and_then}
 use Rattle.std.specs.Global.{Vec}
 use Rattle.rdl_elab.specs.declared.stored.Candidate.{Candidate}

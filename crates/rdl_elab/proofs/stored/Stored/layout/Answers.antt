@@ -1,4 +1,4 @@
-use Rattle.std.proofs.Common.{◌≡◌, ℕ, List, Some, None, ap, sym, ◌∙◌}
+use Rattle.std.proofs.Common.{ℕ, List, Some, ap, sym, ◌∙◌}
 use Rattle.std.specs.Prelude.{option_map, option_and_then, slice_get}
 use Rattle.rdl_elab.specs.declared.stored.Candidate.{Candidate}
 use Rattle.rdl_elab.specs.Finished.{under}

@@ -1,5 +1,5 @@
-use Rattle.std.proofs.Common.{rules, ◌≡◌, ◌≤◌, ℕ, List, map, length, ap, sym, subst, ◌∙◌, arith}
-use Rattle.std.specs.Prelude.{All, IfSome, Option, Some, true, slice_get, ◌<◌}
+use Rattle.std.proofs.Common.{rules, ◌≡◌, ℕ, List, map, length, ap, sym, subst, ◌∙◌}
+use Rattle.std.specs.Prelude.{All, IfSome, Some, true, slice_get, ◌<◌}
 use Rattle.std.specs.List.{AllByRecursion}
 use Rattle.slab.specs.Slab.{Slab, get, HasRoomFor}
 use Rattle.rdl_elab.specs.declared.finished.Finished.{Finished}
