@@ -1,6 +1,6 @@
 -- The front of a name: a number by which two names are mostly told apart, so that their bytes are seldom compared.
 -- own: no part of what a name is; the maps by name keep it beside the name.
-use Rattle.std.specs.Prelude.{ℕ, ◌+◌, ◌*◌, ◌^◌, ◌%◌, List, take}
+use Rattle.std.specs.Prelude.{ℕ, ◌+◌, ◌*◌, ◌^◌, ◌%◌, List}
 use Rattle.std.specs.List.{fold}
 use Rattle.std.specs.Cmp.Lexicographic.{slice_cmp}
 use Rattle.std.specs.Ordering.{nat_cmp, ordering_then}
@@ -9,11 +9,11 @@ use denote.Ref.{Bor}
 
 -- the number of some bytes, with one more behind them
 abbrev pub with_byte : ℕ → ℕ → ℕ
-with_byte n byte = (((n * 256) % 2 ^ 64) + byte) % 2 ^ 64
+with_byte n byte = (((n * 131) % 2 ^ 64) + byte) % 2 ^ 64
 
--- the number that the first eight bytes make
+-- the number of a name: its bytes to the base 131, which is greater than each byte of a name, so far as a `u64` holds it
 abbrev pub front : List ℕ → ℕ
-front q = fold with_byte 0 (take 8 q)
+front q = fold with_byte 0 q
 
 -- a name compared to a key of a map by name: by their fronts, and where these are equal by their bytes
 abbrev pub name_cmp : List ℕ → ℕ × Bor (List ℕ) → Ordering

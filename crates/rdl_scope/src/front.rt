@@ -1,25 +1,17 @@
 //! The front of a name: a number by which two names are mostly told apart.
 ghost use Rattle.std.specs.Prelude.{◌≡◌};
-ghost use Rattle.std.specs.List.{fold};
-ghost use Rattle.rdl_scope.specs.Front.{front, with_byte};
+ghost use Rattle.rdl_scope.specs.Front.{front};
 
-/// The number that the bytes make, the first of them its highest.
-fn number_of(bytes: &[u8]) -> u64
-    ensures { result ≡ fold with_byte 0 bytes.now }
-{
-    let mut number = 0u64;
-    for byte in bytes {
-        number = number.wrapping_mul(256).wrapping_add(u64::from(*byte));
-    }
-    number
-}
-
-/// The number that the first eight bytes of the name make.
+/// A number that each byte of the name has a part in. By names of one length that differ only near their ends it goes as
+/// they go, so that names which are numbered in order come to stand in order.
 fn front(name: &str) -> u64
     ensures { result ≡ front name.now }
 {
-    let bytes = name.as_bytes();
-    number_of(&bytes[..bytes.len().min(8)])
+    let mut front = 0u64;
+    for byte in name.as_bytes() {
+        front = front.wrapping_mul(131).wrapping_add(u64::from(*byte));
+    }
+    front
 }
 
 /// The key of a name: its front, and the name.
