@@ -1,5 +1,5 @@
 //! Laws of reading what was written, as contracts of functions that do nothing.
-ghost use Rattle.std.specs.Prelude.{◌≡◌, ◌≤◌, ℕ, List, ◌++◌, length, Ok};
+ghost use Rattle.std.specs.Prelude.{◌≡◌, ◌≤◌, ℕ, List, ◌++◌, length, None, Ok};
 ghost use Rattle.rdl_text.specs.Word.{Word};
 ghost use Rattle.rdl_text.specs.Words.{words};
 ghost use Rattle.rdl_tree.specs.Address.{map_body};
@@ -14,6 +14,7 @@ ghost use Rattle.rdl_parse.specs.Faults.{max_text};
 ghost use Rattle.rdl_parse.specs.FirstFault.{parse_reading};
 ghost use Rattle.rdl_parse.specs.Parsing.{SpellsText};
 ghost use Rattle.rdl_parse.specs.Places.{Located};
+ghost use Rattle.rdl_scope.specs.ItemFaults.{fault_of};
 ghost use Rattle.rdl_write.specs.MapText.{map_text};
 ghost use Rattle.rdl_round.specs.OfWords.{IsOfWords};
 ghost use Rattle.rdl_round.specs.Spellable.{IsSpellable};
@@ -55,6 +56,12 @@ pub fn spelled_is_of_words()
 /// So the text of the map that is written of what a text spells spells the same description, where it isn't too long.
 pub fn read_maps_read_back()
     ensures { (text : List ℕ) (d : Items) (p : Located) → SpellsText text d p → length (map_text d) ≤ max_text → (q : Located) × SpellsText (map_text d) d q }
+{}
+
+/// The text of a written map isn't too long where the map is made of words and has no fault: it has no more than 65,536 items then,
+/// at most four sizes for each instance, and its names and strings have no more than 8,388,608 bytes.
+pub fn faultless_maps_are_short()
+    ensures { (d : Items) → IsOfWords d → fault_of d ≡ None → length (map_text d) ≤ max_text }
 {}
 
 /// Reading the text of a written map within the limits gives the description that was written.
