@@ -1,9 +1,10 @@
 //! Laws of what the lines of a script bring, and so of the maps to which a script leads.
-ghost use Rattle.std.specs.Prelude.{◌≡◌, ◌++◌, ℕ, Bool, true, false, List, Option, Ok, All, IsUtf8};
+ghost use Rattle.std.specs.Prelude.{◌≡◌, ◌≤◌, ◌++◌, ℕ, Bool, true, false, List, length, Option, Ok, All, IsUtf8};
 ghost use Rattle.journal_core.specs.History.{History, IsAt};
 ghost use Rattle.rdl_tree.specs.View.{items_of};
 ghost use Rattle.rdl_tree.specs.declared.description.Item.{Item};
 ghost use Rattle.rdl_tree.specs.declared.path.Segment.{Segment};
+ghost use Rattle.rdl_parse.specs.Faults.{max_text};
 ghost use Rattle.rdl_parse.specs.FirstFault.{parse_reading};
 ghost use Rattle.rdl_parse.specs.Places.{Located};
 ghost use Rattle.rdl_rewrite.specs.declared.edit.Edit.{Edit};
@@ -49,12 +50,14 @@ pub fn opened_maps_are_writable()
 {}
 
 /// So from a map or a session that was opened each map to which a script leads reads back: that at the place, those before
-/// it, and those that can be redone. The text that a run leaves as its map is read as the map to which the script led.
+/// it, and those that can be redone. The text that a run leaves as its map is read as the map to which the script led, so it
+/// isn't too long.
 pub fn runs_read_back()
     ensures all { (option : Option (List ℕ)) (limit : ℕ) (bytes : List ℕ) (first : History State) (script replies : List ℕ) (refuses : Bool) (last : History State)
         → OpensHistory option limit bytes first → Serves first (lines_of script) replies refuses last → All (λ s. ReadsBack s.description) last.states }
     ensures current { (option : Option (List ℕ)) (limit : ℕ) (bytes : List ℕ) (first : History State) (script replies : List ℕ) (refuses : Bool) (last : History State) (now : State)
         → OpensHistory option limit bytes first → Serves first (lines_of script) replies refuses last → IsAt last now → ReadsBack now.description }
+    ensures short { (options : Options) (map script : List ℕ) (out : Output) → RunsScript options map script out → length out.rdl ≤ max_text }
     ensures written { (options : Options) (map script : List ℕ) (out : Output) (ran : RunsScript options map script out)
         → (p : Located) × (parse_reading out.rdl ≡ Ok (ran.runs.closes.now.description, p)) }
 {}
