@@ -30,19 +30,19 @@ use Rattle.rdl_round.proofs.KnownNames.{known-spelled, reached-free}
 
 -- ---- Tests, and lists of them.
 
-neither : (a b : Bool) → (a || b) ≡ false → (a ≡ false) × (b ≡ false)
+pub neither : (a b : Bool) → (a || b) ≡ false → (a ≡ false) × (b ≡ false)
 neither true b e = absurd (true≢false e)
 neither false b e = (refl, e)
 
-first_none : (t : Bool) (k : FaultKind) (fs : List (Bool × FaultKind)) → first_of ((t, k) ∷ fs) ≡ None → (t ≡ false) × (first_of fs ≡ None)
+pub first_none : (t : Bool) (k : FaultKind) (fs : List (Bool × FaultKind)) → first_of ((t, k) ∷ fs) ≡ None → (t ≡ false) × (first_of fs ≡ None)
 first_none true k fs e = absurd (none-some k (sym e))
 first_none false k fs e = (refl, e)
 
-neither_fault : (a b : Option Fault) → option_or a b ≡ None → (a ≡ None) × (b ≡ None)
+pub neither_fault : (a b : Option Fault) → option_or a b ≡ None → (a ≡ None) × (b ≡ None)
 neither_fault None b e = (refl, e)
 neither_fault (Some f) b e = absurd (none-some f (sym e))
 
-no_kind : (a : List ℕ) (k : Option FaultKind) → fault_at a k ≡ None → k ≡ None
+pub no_kind : (a : List ℕ) (k : Option FaultKind) → fault_at a k ≡ None → k ≡ None
 no_kind a None e = refl
 no_kind a (Some k) e = absurd (none-some (record { kind = k; address = a }) (sym e))
 
@@ -138,7 +138,7 @@ items-fit d around b body n (holder k inside rest) h f e =
 -- ---- The map.
 
 -- a map without a fault isn't too large, and none of its items has one
-clear : (d : Items) → fault_of d ≡ None → (is_too_large d ≡ false) × (first_fault d None [] d 0 d ≡ None)
+pub clear : (d : Items) → fault_of d ≡ None → (is_too_large d ≡ false) × (first_fault d None [] d 0 d ≡ None)
 clear d h = by (is_too_large d) h
   where
     by : (z : Bool) → ◌≡◌ {A = Option Fault} (elim z [ true ↦ Some (record { kind = DescriptionTooLarge; address = [] }) | false ↦ first_fault d None [] d 0 d ]) None → (z ≡ false) × (first_fault d None [] d 0 d ≡ None)

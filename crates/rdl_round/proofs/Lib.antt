@@ -13,6 +13,8 @@ pub mod FreeNames
 pub mod NewWords
 pub mod KnownNames
 pub mod Faultless
+pub mod TextSizes
+pub mod FewSizes
 pub mod Stepped
 pub mod Back
 pub mod Parsed

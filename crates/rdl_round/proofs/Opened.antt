@@ -16,7 +16,8 @@ use Rattle.rdl_round.specs.Histories.{IsWritable}
 use Rattle.rdl_round.specs.Sessions.{IsWritablePatch, AreWritable}
 use Rattle.rdl_round.proofs.Inverted.{IsGood, map-good, of-words, spellable, image-good}
 use Rattle.rdl_round.proofs.SpelledSessions.{map-writable, steps-writable, all-spelled}
-use Rattle.rdl_round.proofs.Stepped.{rows-within, begun-writable}
+use Rattle.rdl_round.proofs.Faultless.{without-fault}
+use Rattle.rdl_round.proofs.Stepped.{IsSound, rows-within, begun-writable}
 
 abbrev IsGoodState : State → Type 0
 IsGoodState s = IsGood s.description
@@ -67,3 +68,13 @@ pub opened-writable : (option : Option (List ℕ)) (limit : ℕ) (bytes : List �
 opened-writable option limit bytes h (inl m) =
     subst (λ (k : History State). All IsStateWritable k.states) (sym m.opened) (begun-writable bytes m.first m.opens.places limit m.opens.read.spelled m.opens.whole)
 opened-writable option limit bytes h (inr o) = with-rows h.states (session-good option limit bytes h o) (opened-elaborates option limit bytes h (inr o)).rows
+
+-- ---- Each elaborates besides, so it has no fault.
+
+all-sound : (states : List State) → All IsStateWritable states → AllHaveRows states → All IsSound states
+all-sound [] w h = All-nil IsSound
+all-sound (s ∷ ss) w h =
+    All-cons IsSound s ss (All-head IsStateWritable s ss w, without-fault s.description s.option h.0.rows h.0.are) (all-sound ss (All-tail IsStateWritable s ss w) h.1)
+
+pub opened-sound : (option : Option (List ℕ)) (limit : ℕ) (bytes : List ℕ) (h : History State) → OpensHistory option limit bytes h → All IsSound h.states
+opened-sound option limit bytes h o = all-sound h.states (opened-writable option limit bytes h o) (opened-elaborates option limit bytes h o).rows

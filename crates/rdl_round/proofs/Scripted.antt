@@ -1,6 +1,5 @@
 -- The lines of a script do nothing to a history but accepted edits, undos and redos, and what the edits bring is made of words.
 use Rattle.std.proofs.Common.{◌≡◌, ℕ, Bool, List, [], ◌∷◌, length, ◌≤◌, Option, Ok, All, ◌⊎◌, inl, inr, arith, sym, subst}
-use Rattle.std.proofs.lemmas.List.Elements.{All-weaker}
 use Rattle.journal_core.specs.History.{History, IsAt, Edits, after_undo, after_redo}
 use Rattle.rdl_tree.specs.declared.path.Segment.{Segment}
 use Rattle.rdl_tree.specs.View.{items_of}
@@ -20,8 +19,9 @@ use Rattle.rdl_run.specs.Output.{Output, RunsScript}
 use Rattle.rdl_run.specs.declared.run.Options.{Options}
 use Rattle.rdl_round.specs.Histories.{ReadsBack, IsWritable, Action, edit, undo, redo, Follows, BringWords}
 use Rattle.rdl_round.proofs.Brought.{IsGood, BringsGood, line-good, read-good}
-use Rattle.rdl_round.proofs.Opened.{opened-writable}
-use Rattle.rdl_round.proofs.Stepped.{followed, reads-back, at-place}
+use Rattle.rdl_round.proofs.FewSizes.{text-fits}
+use Rattle.rdl_round.proofs.Opened.{opened-sound}
+use Rattle.rdl_round.proofs.Stepped.{IsSound, followed, followed-sound, all-sound-read-back, at-place}
 
 abbrev pub BringsOnly : History State → History State → Type 0
 BringsOnly old new = (actions : List Action) × BringWords actions × Follows old actions new
@@ -102,11 +102,17 @@ served-writable old new lines text refuses all serves =
 
 -- ---- From a map or a session that was opened.
 
+-- each map to which a script leads can be written and has no fault
+run-sound : (option : Option (List ℕ)) (limit : ℕ) (bytes : List ℕ) (first : History State) (script replies : List ℕ) (refuses : Bool) (last : History State)
+    → OpensHistory option limit bytes first → Serves first (lines_of script) replies refuses last → All IsSound last.states
+run-sound option limit bytes first script replies refuses last opens serves =
+    let only = served first last (lines_of script) replies refuses serves in
+    followed-sound first last only.0 (opened-sound option limit bytes first opens) only.1 only.2
+
 pub run-reads-back : (option : Option (List ℕ)) (limit : ℕ) (bytes : List ℕ) (first : History State) (script replies : List ℕ) (refuses : Bool) (last : History State)
     → OpensHistory option limit bytes first → Serves first (lines_of script) replies refuses last → All (λ s. ReadsBack s.description) last.states
 run-reads-back option limit bytes first script replies refuses last opens serves =
-    All-weaker (λ (s : State). IsWritable s.description) (λ s. ReadsBack s.description) (λ s w. reads-back s.description w) last.states
-    (served-writable first last (lines_of script) replies refuses (opened-writable option limit bytes first opens) serves)
+    all-sound-read-back last (run-sound option limit bytes first script replies refuses last opens serves)
 
 pub place-of-run-reads-back : (option : Option (List ℕ)) (limit : ℕ) (bytes : List ℕ) (first : History State) (script replies : List ℕ) (refuses : Bool) (last : History State) (now : State)
     → OpensHistory option limit bytes first → Serves first (lines_of script) replies refuses last → IsAt last now → ReadsBack now.description
@@ -115,9 +121,17 @@ place-of-run-reads-back option limit bytes first script replies refuses last now
 
 -- the map's text that a run leaves is read as the map to which the script led
 pub output-reads-back : (options : Options) (map script : List ℕ) (out : Output) (ran : RunsScript options map script out)
-    → length out.rdl ≤ max_text → (p : Located) × (parse_reading out.rdl ≡ Ok (ran.runs.closes.now.description, p))
+    → (p : Located) × (parse_reading out.rdl ≡ Ok (ran.runs.closes.now.description, p))
 output-reads-back options map script out ran =
     let r = ran.runs in
     let now = r.closes.now in
-    subst (λ text. length text ≤ max_text → (p : Located) × (parse_reading text ≡ Ok (now.description, p))) (sym r.closes.rdl_is)
+    subst (λ text. (p : Located) × (parse_reading text ≡ Ok (now.description, p))) (sym r.closes.rdl_is)
     (place-of-run-reads-back options.top options.history map ran.first script r.replies r.refuses r.last now ran.opens r.serves r.closes.at)
+
+-- and it isn't too long
+pub output-short : (options : Options) (map script : List ℕ) (out : Output) → RunsScript options map script out → length out.rdl ≤ max_text
+output-short options map script out ran =
+    let r = ran.runs in
+    let d = r.closes.now.description in
+    let sound = at-place IsSound r.last.states r.last.place r.closes.now (run-sound options.top options.history map ran.first script r.replies r.refuses r.last ran.opens r.serves) r.closes.at in
+    subst (λ text. length text ≤ max_text) (sym r.closes.rdl_is) (text-fits d sound.0.of_words sound.1)

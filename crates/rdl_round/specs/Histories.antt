@@ -1,10 +1,9 @@
 -- What accepted edits, undos and redos make of a history, one after another.
 -- own: SystemRDL 2.0 has no edits.
-use Rattle.std.specs.Prelude.{◌≡◌, ◌≤◌, ℕ, true, List, [], ◌∷◌, length, Ok}
+use Rattle.std.specs.Prelude.{◌≡◌, ℕ, true, List, [], ◌∷◌, Ok}
 use Rattle.journal_core.specs.History.{History, Edits, after_undo, after_redo}
 use Rattle.rdl_tree.specs.Items.{Items}
 use Rattle.rdl_tree.specs.Limits.{IsWithinLimits}
-use Rattle.rdl_parse.specs.Faults.{max_text}
 use Rattle.rdl_parse.specs.FirstFault.{parse_reading}
 use Rattle.rdl_parse.specs.Places.{Located}
 use Rattle.rdl_write.specs.MapText.{map_text}
@@ -14,11 +13,11 @@ use Rattle.rdl_round.specs.NewParts.{IsEditOfWords, IsEditSpellable}
 use Rattle.rdl_round.specs.OfWords.{IsOfWords}
 use Rattle.rdl_round.specs.Spellable.{IsSpellable}
 
--- the written text of the description, where it isn't too long, is read as that description
+-- the written text of the description is read as that description
 abbrev pub ReadsBack : Items → Type 0
-ReadsBack d = length (map_text d) ≤ max_text → (p : Located) × (parse_reading (map_text d) ≡ Ok (d, p))
+ReadsBack d = (p : Located) × (parse_reading (map_text d) ≡ Ok (d, p))
 
--- so is one that is made of words, that a text can spell, and that is within the limits
+-- it is made of words, a text can spell it, and it is within the limits
 pub record IsWritable (d : Items) : Type 0 where
   pub of_words : IsOfWords d
   pub spellable : IsSpellable d

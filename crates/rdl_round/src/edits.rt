@@ -1,10 +1,12 @@
 //! Laws of maps that edits made: they can be written and read back too.
-ghost use Rattle.std.specs.Prelude.{◌≡◌, ℕ, List, Option, Ok, All};
+ghost use Rattle.std.specs.Prelude.{◌≡◌, ◌≤◌, ℕ, List, length, Option, Ok, All};
 ghost use Rattle.journal_core.specs.History.{History, IsAt};
 ghost use Rattle.rdl_tree.specs.Items.{Items};
 ghost use Rattle.rdl_tree.specs.Limits.{IsWithinLimits};
+ghost use Rattle.rdl_parse.specs.Faults.{max_text};
 ghost use Rattle.rdl_parse.specs.Parsing.{SpellsText};
 ghost use Rattle.rdl_parse.specs.Places.{Located};
+ghost use Rattle.rdl_write.specs.MapText.{map_text};
 ghost use Rattle.rdl_elab.specs.Faults.{elaborated};
 ghost use Rattle.rdl_elab.specs.declared.row.Row.{Row};
 ghost use Rattle.rdl_rewrite.specs.declared.edit.Edit.{Edit};
@@ -19,6 +21,13 @@ pub fn maps_with_rows_are_within_limits()
     ensures { (d : Items) (option : Option (List ℕ)) (rows : List Row) → elaborated d option ≡ Ok rows → IsWithinLimits d }
 {}
 
+/// So the text of a map that a text spells and that has rows isn't too long, and reading it gives the map.
+pub fn maps_with_rows_read_back()
+    ensures short { (text : List ℕ) (d : Items) (p : Located) (option : Option (List ℕ)) (rows : List Row) → SpellsText text d p → elaborated d option ≡ Ok rows
+        → length (map_text d) ≤ max_text }
+    ensures read { (text : List ℕ) (d : Items) (p : Located) (option : Option (List ℕ)) (rows : List Row) → SpellsText text d p → elaborated d option ≡ Ok rows → ReadsBack d }
+{}
+
 /// An accepted edit leads from a map that a text can spell to another, where a text can spell the items that it adds.
 /// Nothing is asked of other edits: a reserved new name is refused, and so is a map in which an assignment names a
 /// property that isn't known or instances that aren't there, or an instance has both sizes and a range.
@@ -31,7 +40,7 @@ pub fn edited_maps_are_of_words()
     ensures { (old : State) (e : Edit) (new : State) → step old e ≡ Ok new → IsOfWords old.description → IsEditOfWords e → IsOfWords new.description }
 {}
 
-/// So where a text spells the old map, reading the text of the new one gives the new one, if it isn't too long.
+/// So where a text spells the old map, reading the text of the new one gives the new one.
 pub fn edited_maps_read_back()
     ensures { (text : List ℕ) (old new : State) (p : Located) (e : Edit) → SpellsText text old.description p → IsEditOfWords e → IsEditSpellable e
         → step old e ≡ Ok new → ReadsBack new.description }

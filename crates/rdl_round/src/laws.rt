@@ -1,5 +1,5 @@
 //! Laws of reading what was written, as contracts of functions that do nothing.
-ghost use Rattle.std.specs.Prelude.{◌≡◌, ◌≤◌, ℕ, List, ◌++◌, length, Ok};
+ghost use Rattle.std.specs.Prelude.{◌≡◌, ◌≤◌, ℕ, List, ◌++◌, length, None, Ok};
 ghost use Rattle.rdl_text.specs.Word.{Word};
 ghost use Rattle.rdl_text.specs.Words.{words};
 ghost use Rattle.rdl_tree.specs.Address.{map_body};
@@ -14,6 +14,7 @@ ghost use Rattle.rdl_parse.specs.Faults.{max_text};
 ghost use Rattle.rdl_parse.specs.FirstFault.{parse_reading};
 ghost use Rattle.rdl_parse.specs.Parsing.{SpellsText};
 ghost use Rattle.rdl_parse.specs.Places.{Located};
+ghost use Rattle.rdl_scope.specs.ItemFaults.{fault_of};
 ghost use Rattle.rdl_write.specs.MapText.{map_text};
 ghost use Rattle.rdl_round.specs.OfWords.{IsOfWords};
 ghost use Rattle.rdl_round.specs.Spellable.{IsSpellable};
@@ -41,10 +42,17 @@ pub fn written_text_has_words()
     ensures { (d : Items) → IsOfWords d → HasSymbols (map_text d) (map_words d) }
 {}
 
+/// The text of a written map isn't too long where the map is made of words and has no fault: it has no more than 65,536 items then,
+/// at most four sizes for each instance, and its names and strings have no more than 8,388,608 bytes.
+pub fn faultless_maps_are_short()
+    ensures { (d : Items) → IsOfWords d → fault_of d ≡ None → length (map_text d) ≤ max_text }
+{}
+
 /// The text of a written map spells the description that was written, where the description is made of words and spellable
-/// and the text isn't too long.
+/// and the text isn't too long, or the description has no fault.
 pub fn written_maps_read_back()
-    ensures { (d : Items) → IsOfWords d → IsSpellable d → length (map_text d) ≤ max_text → (p : Located) × SpellsText (map_text d) d p }
+    ensures faultless { (d : Items) → IsOfWords d → IsSpellable d → fault_of d ≡ None → (p : Located) × SpellsText (map_text d) d p }
+    ensures short { (d : Items) → IsOfWords d → IsSpellable d → length (map_text d) ≤ max_text → (p : Located) × SpellsText (map_text d) d p }
 {}
 
 /// Every description that the words of a text spell is made of words.
@@ -52,20 +60,25 @@ pub fn spelled_is_of_words()
     ensures { (text : List ℕ) (ws : List Word) (d : Items) (at : List Spot) → words text ≡ Ok ws → Spells (symbols ws) d at → IsOfWords d }
 {}
 
-/// So the text of the map that is written of what a text spells spells the same description, where it isn't too long.
+/// So the text of the map that is written of what a text spells spells the same description, where it isn't too long or the
+/// description has no fault.
 pub fn read_maps_read_back()
-    ensures { (text : List ℕ) (d : Items) (p : Located) → SpellsText text d p → length (map_text d) ≤ max_text → (q : Located) × SpellsText (map_text d) d q }
+    ensures faultless { (text : List ℕ) (d : Items) (p : Located) → SpellsText text d p → fault_of d ≡ None → (q : Located) × SpellsText (map_text d) d q }
+    ensures short { (text : List ℕ) (d : Items) (p : Located) → SpellsText text d p → length (map_text d) ≤ max_text → (q : Located) × SpellsText (map_text d) d q }
 {}
 
-/// Reading the text of a written map within the limits gives the description that was written.
+/// Reading the text of a written map gives the description that was written, where that has no fault, or it is within the
+/// limits and the text isn't too long.
 pub fn written_maps_are_parsed()
-    ensures { (d : Items) → IsOfWords d → IsSpellable d → IsWithinLimits d → length (map_text d) ≤ max_text → (p : Located) × (parse_reading (map_text d) ≡ Ok (d, p)) }
+    ensures faultless { (d : Items) → IsOfWords d → IsSpellable d → fault_of d ≡ None → (p : Located) × (parse_reading (map_text d) ≡ Ok (d, p)) }
+    ensures short { (d : Items) → IsOfWords d → IsSpellable d → IsWithinLimits d → length (map_text d) ≤ max_text → (p : Located) × (parse_reading (map_text d) ≡ Ok (d, p)) }
 {}
 
 /// So what was read, is then written and read again is the same: this is what `parse` answers for the text that `rdl`
 /// writes of what `parse` answered, where memory suffices.
 pub fn read_maps_are_parsed_again()
-    ensures { (text : List ℕ) (d : Items) (p : Located) → SpellsText text d p → IsWithinLimits d → length (map_text d) ≤ max_text → (q : Located) × (parse_reading (map_text d) ≡ Ok (d, q)) }
+    ensures faultless { (text : List ℕ) (d : Items) (p : Located) → SpellsText text d p → fault_of d ≡ None → (q : Located) × (parse_reading (map_text d) ≡ Ok (d, q)) }
+    ensures short { (text : List ℕ) (d : Items) (p : Located) → SpellsText text d p → IsWithinLimits d → length (map_text d) ≤ max_text → (q : Located) × (parse_reading (map_text d) ≡ Ok (d, q)) }
 {}
 
 /// The items of a statement too are spellable and made of words.

@@ -50,15 +50,16 @@ pub fn opened_maps_are_writable()
 {}
 
 /// So from a map or a session that was opened each map to which a script leads reads back: that at the place, those before
-/// it, and those that can be redone. The text that a run leaves as its map is read as the map to which the script led, if it
+/// it, and those that can be redone. The text that a run leaves as its map is read as the map to which the script led, so it
 /// isn't too long.
 pub fn runs_read_back()
     ensures all { (option : Option (List ℕ)) (limit : ℕ) (bytes : List ℕ) (first : History State) (script replies : List ℕ) (refuses : Bool) (last : History State)
         → OpensHistory option limit bytes first → Serves first (lines_of script) replies refuses last → All (λ s. ReadsBack s.description) last.states }
     ensures current { (option : Option (List ℕ)) (limit : ℕ) (bytes : List ℕ) (first : History State) (script replies : List ℕ) (refuses : Bool) (last : History State) (now : State)
         → OpensHistory option limit bytes first → Serves first (lines_of script) replies refuses last → IsAt last now → ReadsBack now.description }
+    ensures short { (options : Options) (map script : List ℕ) (out : Output) → RunsScript options map script out → length out.rdl ≤ max_text }
     ensures written { (options : Options) (map script : List ℕ) (out : Output) (ran : RunsScript options map script out)
-        → length out.rdl ≤ max_text → (p : Located) × (parse_reading out.rdl ≡ Ok (ran.runs.closes.now.description, p)) }
+        → (p : Located) × (parse_reading out.rdl ≡ Ok (ran.runs.closes.now.description, p)) }
 {}
 
 /// All maps of a history that was opened, and all to which a script leads from it, have the option of the run.

@@ -1,5 +1,8 @@
-use Rattle.rdl_round.proofs.Back.{again}
+use Rattle.rdl_round.proofs.Back.{again, faultless-again}
 use Rattle.rdl_round.proofs.laws.read_maps_read_back.Goals as goal
 
-pub returns : goal.returns
-returns c = again
+pub returns-clause-faultless : goal.returns-clause-faultless
+returns-clause-faultless c = faultless-again
+
+pub returns-clause-short : goal.returns-clause-short
+returns-clause-short c = again

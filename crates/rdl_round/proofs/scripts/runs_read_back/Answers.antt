@@ -1,4 +1,4 @@
-use Rattle.rdl_round.proofs.Scripted.{run-reads-back, place-of-run-reads-back, output-reads-back}
+use Rattle.rdl_round.proofs.Scripted.{run-reads-back, place-of-run-reads-back, output-reads-back, output-short}
 use Rattle.rdl_round.proofs.scripts.runs_read_back.Goals as goal
 
 pub returns-clause-all : goal.returns-clause-all
@@ -9,3 +9,6 @@ returns-clause-current c = place-of-run-reads-back
 
 pub returns-clause-written : goal.returns-clause-written
 returns-clause-written c = output-reads-back
+
+pub returns-clause-short : goal.returns-clause-short
+returns-clause-short c = output-short
