@@ -3,6 +3,7 @@ pub mod Changes
 pub mod Components
 pub mod Edits
 pub mod Gaps
+pub mod Held
 pub mod Nesting
 pub mod PatchExamples
 pub mod PatchWeights
@@ -15,5 +16,6 @@ pub mod Runs
 pub mod Sizes
 pub mod Stepped
 pub mod Steps
+pub mod Turns
 pub mod Undone
 pub mod Ways
