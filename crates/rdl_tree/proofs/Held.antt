@@ -27,7 +27,7 @@ room-more (Delete at) t n m h e = refl
 room-more (Shift at to) t n m h e = refl
 room-more (Exchange at part) t n m h e = refl
 
-if-more : (b : Bool) (n m : ℕ) → n ≤ m → (if b then n else 0) ≤ (if b then m else 0)
+pub if-more : (b : Bool) (n m : ℕ) → n ≤ m → (if b then n else 0) ≤ (if b then m else 0)
 if-more true n m h = h
 if-more false n m h = omega arith
 

@@ -110,12 +110,15 @@ fn put_again(
     if !is_within(&step, holder, front.len() + behind.len(), front.capacity()) {
         return Err(step);
     }
-    match step.back {
+    let Step { back, room: _room } = step;
+    match back {
         Patch::Insert(address, item) => {
             put_between(front, behind, address.number(), item);
             Ok(Patch::Delete(address))
         }
-        Patch::Delete(_) | Patch::Shift(_, _) | Patch::Exchange(_, _) => unreachable!(),
+        Patch::Delete(_address) => unreachable!(),
+        Patch::Shift(_address, _to) => unreachable!(),
+        Patch::Exchange(_address, _part) => unreachable!(),
     }
 }
 

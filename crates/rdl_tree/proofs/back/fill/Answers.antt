@@ -1,0 +1,5 @@
+use Rattle.std.proofs.Common.{refl}
+use Rattle.rdl_tree.proofs.back.fill.Goals as goal
+
+pub returns-clause-way : goal.returns-clause-way
+returns-clause-way c = ?
