@@ -4,10 +4,10 @@ use Rattle.std.specs.Prelude.{IsTrue, IsFalse, Bool, true, false, not, ◌&&◌,
 use Rattle.std.proofs.Math.Nat.{le-max_left, max-zero}
 use Rattle.std.proofs.lemmas.Bool.{false≢true, and_parts, and_from, ltb-true, leb-true, lt-ltb, le-leb}
 use Rattle.std.proofs.lemmas.Bool.Decides.{leb_tells, eqb_tells}
-use Rattle.std.proofs.lemmas.List.{length-reverse}
+use Rattle.std.proofs.lemmas.List.{append-nil, length-reverse}
 use Rattle.std.proofs.lemmas.Slice.Eq.{bytes_eq-Decides}
 use Rattle.rdl_tree.specs.Items.{Items}
-use Rattle.rdl_tree.specs.View.{list_of}
+use Rattle.rdl_tree.specs.View.{items_of, list_of}
 use Rattle.rdl_tree.specs.Address.{holder_of, number_of, body_at, map_body}
 use Rattle.rdl_tree.specs.Edit.{insert_item}
 use Rattle.rdl_tree.specs.Patch.{patched, inverse, has_place, length_of}
@@ -34,8 +34,8 @@ held-most path n q = by (bytes_eq path q)
     by true = omega arith
     by false = omega arith
 
-most_of : (a b c : ℕ) → a ≤ c → b ≤ c → max a b ≤ c
-most_of a b c h k = omega (arith, le-max_left a b)
+most_of : (a b c d : ℕ) → a ≤ c → b ≤ c → c ≤ d → max a b ≤ d
+most_of a b c d h k l = omega (arith, le-max_left a b)
 
 -- a step that went in holds the same body open
 pub held_on : (s : Step) (path : List ℕ) (count room more : ℕ) → IsTrue (goes_in s path count room) → room ≤ more → (q : List ℕ) → held_behind s.back (room_of s (held_at path room)) q ≤ held_at path more q
@@ -47,7 +47,7 @@ held_on s path count room more e h q = from s.back (vec_capacity s.room) e
         let into = and_parts _ _ (and_parts _ _ parts.0).1 in
         let same : path ≡ holder_of at = (bytes_eq-Decides path (holder_of at)).0 into.0 in
         let low : own ≤ room = leb-true own room (and_parts _ _ parts.1).0 in
-        let most : max own (held_at path room (holder_of at)) ≤ more = omega (arith, most_of own (held_at path room (holder_of at)) room low (held-most path room (holder_of at)), h) in
+        let most : max own (held_at path room (holder_of at)) ≤ more = most_of own (held_at path room (holder_of at)) room more low (held-most path room (holder_of at)) h in
         subst (λ r. held_at r (max own (held_at path room (holder_of at))) q ≤ held_at path more q) same (if-more (bytes_eq path q) (max own (held_at path room (holder_of at))) more most)
     from (Delete at) own e = absurd (false≢true e)
     from (Shift at to) own e = absurd (false≢true e)
@@ -162,3 +162,21 @@ filled_at at path x held steps less room more t b new e h w = λ start all u.
     let there : body_at (holder_of at) t ≡ Some b = ap (λ q. body_at q t) (sym e) ∙ h in
     subst (λ d. IsOnWay none_held less d start more all) (map_body-twice (holder_of at) (insert_item (number_of at) x) (λ _. new) t ∙ ap (λ q. map_body q (λ _. new) t) (sym e))
     (w (patched (Insert at x) t) (body_at-map (holder_of at) (insert_item (number_of at) x) t b there) start all u)
+
+-- all items went into the room, and one more
+pub moved : (front behind items : List Item) (n m : ℕ) (x : Item) (t : Items) → behind ≡ [] → items_of front ≡ insert_item n x (items_of items) → n ≡ m → items_of items ≡ t → around front behind ≡ insert_item m x t
+moved front behind items n m x t e f g h =
+    ap (λ (ys : List Item). around front ys) e ∙ ap items_of (append-nil front) ∙ f ∙ ap (λ k. insert_item k x (items_of items)) g ∙ ap (λ b. insert_item m x b) h
+
+pub counted : (xs : List Item) (t : Items) → items_of xs ≡ t → length xs ≡ length (list_of t)
+counted xs t e = ap length (sym (list_of-items_of xs)) ∙ ap (λ b. length (list_of b)) e
+
+-- the first step puts an item in
+pub first_put : (at : List ℕ) (x : Item) (rest : List Step) (s : Step) (t end : Items) (room patches : List Patch) → s.back ≡ Insert at x → IsOnWay none_held (rest ++ s ∷ []) t end room patches → IsOnWay (held_at (holder_of at) (vec_capacity s.room)) rest (patched (Insert at x) t) end (room ++ Delete at ∷ []) patches
+first_put at x rest s t end room patches e w =
+    subst (λ p. IsOnWay (held_behind p (vec_capacity s.room)) rest (patched p t) end (room ++ Delete at ∷ []) patches) e
+    (first_taken rest s t (patched s.back t) end room (room ++ Delete at ∷ []) patches (Delete at) refl (ap (λ p. inverse p t) e) refl w)
+
+-- the steps, seen again
+pub seen_steps : (held : Held) (steps same : List Step) (here start : Items) (left all : List Patch) → steps ≡ same → IsOnWay held steps here start left all → IsOnWay held same here start left all
+seen_steps held steps same here start left all e w = subst (λ ss. IsOnWay held ss here start left all) e w
