@@ -2,7 +2,7 @@
 use Rattle.std.proofs.Common.{◌≡◌, ℕ, ◌+◌, max, ◌<◌, ◌≤◌, List, [], ◌∷◌, ◌++◌, length, Some, ⊎_elim, refl, ap, sym, ◌∙◌, arith, subst, length-append}
 use Rattle.std.specs.Prelude.{IsTrue, IsFalse, Bool, true, false, not, ◌&&◌, ◌==◌, nat_le, nat_lt, bytes_eq, if◌then◌else◌, reverse, vec_capacity}
 use Rattle.std.proofs.Math.Nat.{le-max_left, max-zero}
-use Rattle.std.proofs.lemmas.Bool.{false≢true, and_parts, and_from, ltb-true, leb-true, lt-ltb, le-leb}
+use Rattle.std.proofs.lemmas.Bool.{false≢true, and_parts, and_from, ltb-true, leb-true, lt-ltb}
 use Rattle.std.proofs.lemmas.Bool.Decides.{leb_tells, eqb_tells}
 use Rattle.std.proofs.lemmas.List.{append-nil, length-reverse}
 use Rattle.std.proofs.lemmas.Slice.Eq.{bytes_eq-Decides}
@@ -11,7 +11,7 @@ use Rattle.rdl_tree.specs.View.{items_of, list_of}
 use Rattle.rdl_tree.specs.Address.{holder_of, number_of, body_at, map_body}
 use Rattle.rdl_tree.specs.Edit.{insert_item}
 use Rattle.rdl_tree.specs.Patch.{patched, inverse, has_place, length_of}
-use Rattle.rdl_tree.specs.Way.{Held, none_held, held_at, held_for, held_behind, room_of, is_below, has_room, is_placed, is_ready_in, are_ready_in}
+use Rattle.rdl_tree.specs.Way.{Held, none_held, held_at, held_for, held_behind, room_of, is_below, has_room, is_placed, are_ready_in}
 use Rattle.rdl_tree.specs.Walk.{IsOnWay}
 use Rattle.rdl_tree.specs.Gap.{around, is_into, goes_in, IsBackWithin, ComesBackWithin, ComesBack}
 use Rattle.rdl_tree.specs.declared.description.Item.{Item}

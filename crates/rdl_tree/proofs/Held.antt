@@ -1,5 +1,5 @@
 -- Steps that are ready within the room that is held open, and with more of it.
-use Rattle.std.proofs.Common.{◌≡◌, ℕ, max, ◌<◌, ◌≤◌, List, [], ◌∷◌, ◌++◌, length, Option, Some, None, refl, ap, sym, ◌∙◌, arith, subst}
+use Rattle.std.proofs.Common.{◌≡◌, ℕ, max, ◌≤◌, List, [], ◌∷◌, ◌++◌, Option, Some, None, refl, ap, sym, ◌∙◌, arith, subst}
 use Rattle.std.specs.Prelude.{IsTrue, Bool, true, false, ◌&&◌, bytes_eq, if◌then◌else◌, reverse, vec_capacity, IfOk, Result, Ok, Err}
 use Rattle.std.proofs.Math.Nat.{le-max_left, le-max_right, max-zero}
 use Rattle.std.proofs.lemmas.Bool.{false≢true, and_parts, and_from, ltb-true, lt-ltb}

@@ -6,7 +6,7 @@ use Rattle.rdl_tree.specs.View.{list_of}
 use Rattle.rdl_tree.specs.Address.{holder_of, number_of, body_at, map_body}
 use Rattle.rdl_tree.specs.Edit.{insert_item, remove_item}
 use Rattle.rdl_tree.specs.Patch.{length_of}
-use Rattle.rdl_tree.specs.Way.{has_room, held_at, held_for, held_behind}
+use Rattle.rdl_tree.specs.Way.{has_room, held_behind}
 use Rattle.rdl_tree.specs.Gap.{IsStepWithin, GoesOnWithin, IsLent}
 use Rattle.rdl_tree.specs.Walk.{IsUnderWay}
 use Rattle.rdl_tree.specs.declared.description.Item.{Item}
@@ -15,7 +15,7 @@ use Rattle.rdl_tree.specs.declared.patch.Patch.TheVariants.{Insert, Delete}
 use Rattle.rdl_tree.specs.declared.way.Step.{Step}
 use Rattle.rdl_tree.proofs.Changes.{map_body-cong, map_body-same}
 use Rattle.rdl_tree.proofs.Places.{body_at-map, map_body-twice}
-use Rattle.rdl_tree.proofs.Held.{room-more, held_open-for}
+use Rattle.rdl_tree.proofs.Held.{room-more}
 use Rattle.rdl_tree.proofs.Reached.{changed_at, again_there}
 use Rattle.rdl_tree.proofs.Stepped.{is_step, room_again}
 use Rattle.rdl_tree.proofs.Backs.{advanced, still_under_way, next_fits}

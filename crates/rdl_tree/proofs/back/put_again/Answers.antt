@@ -1,6 +1,6 @@
 use Rattle.std.proofs.Common.{◌+◌, length, rules, arith}
 use Rattle.std.specs.Prelude.{IsTrue, vec_capacity}
-use Rattle.rdl_tree.specs.Gap.{around, goes_in}
+use Rattle.rdl_tree.specs.Gap.{goes_in}
 use Rattle.rdl_tree.proofs.Fills.{went_in, put_again}
 use Rattle.rdl_tree.proofs.back.put_again.Goals as goal
 

@@ -1,4 +1,4 @@
-use Rattle.std.proofs.Common.{refl, ◌∙◌, rules}
+use Rattle.std.proofs.Common.{refl, rules}
 use Rattle.rdl_tree.proofs.Runs.{taken_within}
 use Rattle.rdl_tree.proofs.Held.{lent_to}
 use Rattle.rdl_tree.proofs.run.take_within.Goals as goal
