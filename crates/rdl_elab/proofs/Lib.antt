@@ -49,6 +49,7 @@ pub mod FieldsInside
 pub mod KeptAnswers
 pub mod KnownRows
 pub mod Storing
+pub mod Coding
 pub mod Spelled
 pub mod FoundAgain
 pub mod Indexing

@@ -13,7 +13,6 @@ ghost use Rattle.rdl_elab.specs.Taken.{keyed, IsTaken, AreTaken, Stays};
 use crate::finished::Finished;
 use crate::laid_out::{LaidOut, SharedLayouts};
 use crate::layout::{Layout, Mode};
-use rdl_text::token::Number;
 use slab::Slab;
 use std::alloc::{AllocError, Global};
 use std::collections::BTreeMap;
@@ -37,7 +36,7 @@ struct Keyed {
 #[derive(Debug, Drop)]
 struct Indexed {
     all: Vec<Keyed>,
-    index: BTreeMap<Vec<Number>, usize>,
+    index: BTreeMap<Vec<u8>, usize>,
 }
 
 /// Marks the keys, up to this many, of those that were kept before.
@@ -58,7 +57,7 @@ fn used_keys(alloc: Global, len: usize, components: &[Finished]) -> Result<Vec<b
 
 /// Leads from the words to the number, and answers the layouts.
 fn lead(
-    index: &mut BTreeMap<Vec<Number>, usize>,
+    index: &mut BTreeMap<Vec<u8>, usize>,
     number: usize,
     laid_out: LaidOut,
 ) -> Result<SharedLayouts, AllocError>
@@ -74,7 +73,7 @@ fn lead(
 
 /// Leads from the words of a finished component to its number, and answers what is to be kept of it.
 fn keep(
-    index: &mut BTreeMap<Vec<Number>, usize>,
+    index: &mut BTreeMap<Vec<u8>, usize>,
     number: usize,
     finished: Finished,
 ) -> Result<Keyed, AllocError>
@@ -178,7 +177,7 @@ pub(crate) struct Stored {
     /// The keys of all components in their order.
     keys: Vec<usize>,
     /// The number of a component whose layouts are made of what the words say.
-    index: BTreeMap<Vec<Number>, usize>,
+    index: BTreeMap<Vec<u8>, usize>,
     placed: u64,
 }
 
@@ -238,7 +237,7 @@ impl Stored {
     }
 
     /// Layouts that are made of what these words say, if some are kept.
-    pub(crate) fn found(&self, words: &[Number]) -> Option<Candidate<'_>>
+    pub(crate) fn found(&self, words: &[u8]) -> Option<Candidate<'_>>
         ensures there { is_some result ≡ is_among words.now self.now.words }
         ensures key { IfSome result (λ c. under_key self.now.slots c.key ≡ Some c.layouts.now) }
         ensures made { IfSome result (λ c. AreMadeOf words.now c.layouts.now) }

@@ -8,7 +8,7 @@ ghost use Rattle.rdl_scope.specs.Closed.{Made, Parts, Standing, component, head_
 ghost use Rattle.rdl_elab.specs.Finished.{IsFinished, IsKept, AreParts};
 ghost use Rattle.rdl_elab.specs.Written.{written, item_written, all_written};
 ghost use Rattle.rdl_elab.specs.MadeOf.{made_of};
-ghost use Rattle.rdl_elab.specs.Words.{words, is_among};
+ghost use Rattle.rdl_elab.specs.Words.{spelling, is_among};
 ghost use Rattle.rdl_elab.specs.Taken.{WasKept};
 ghost use Rattle.rdl_elab.specs.Finishes.{AreLaidOut, Finishes};
 ghost use Rattle.rdl_elab.specs.Stands.{made_at, after_item, item_parts, in_list, placed, LeadsTo, IsType, Stands, Grows, IsBehind};
@@ -79,7 +79,7 @@ fn finished<'a>(
     requires { depth description.now.items ≤ 16 }
     ensures kept { IfOk result (λ f. (e : Standing) (inside : Parts) (n : ℕ) → walk.old.defaults ≡ e.defaults → AreParts description.now.items walk.old.components.items n parts.entry.items inside → IsKept description.now.items f (record { head = head_at at.now component.now.kind component.now.body e; parts = inside })) }
     ensures parts { IfOk result (λ f. f.parts.items ≡ parts.entry.items) }
-    ensures words { IfOk result (λ f. (e : Standing) (inside : Parts) (n : ℕ) → walk.old.defaults ≡ e.defaults → AreParts description.now.items walk.old.components.items n parts.entry.items inside → f.laid_out.words ≡ words (made_of (record { head = head_at at.now component.now.kind component.now.body e; parts = inside }))) }
+    ensures words { IfOk result (λ f. (e : Standing) (inside : Parts) (n : ℕ) → walk.old.defaults ≡ e.defaults → AreParts description.now.items walk.old.components.items n parts.entry.items inside → f.laid_out.words ≡ spelling (made_of (record { head = head_at at.now component.now.kind component.now.body e; parts = inside }))) }
     ensures same { IfOk result (λ f. f.laid_out.layouts ≡ f.layouts) }
     ensures stood { IfOk result (λ f. WasKept before.now.slots f) }
     ensures taken { IfOk result (λ f. is_among f.laid_out.words before.now.words ≡ true → IsSome f.key) }
