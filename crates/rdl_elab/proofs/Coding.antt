@@ -1,5 +1,5 @@
 -- Codes tell numbers apart, and say where they end.
-use Rattle.std.proofs.Common.{◌≡◌, ℕ, zero, suc, ◌+◌, ◌*◌, ◌/◌, ◌%◌, ◌^◌, ◌<◌, ◌≤◌, ◌⊎◌, inl, inr, Bool, true, false, List, [], ◌∷◌, ◌++◌, cond, refl, ap, sym, subst, ◌∙◌, append_assoc, arith}
+use Rattle.std.proofs.Common.{◌≡◌, ℕ, zero, suc, ◌+◌, ◌*◌, ◌/◌, ◌%◌, ◌^◌, ◌<◌, ◌≤◌, ◌⊎◌, inl, inr, List, [], ◌∷◌, ◌++◌, cond, refl, ap, sym, subst, ◌∙◌, append_assoc, arith}
 use Rattle.std.specs.Int.{w128, byte_at, bytes_low_first, to_le_bytes}
 use Rattle.std.proofs.lemmas.Bool.{cases_lt, lt-ltb, le-ltb}
 use Rattle.std.proofs.lemmas.Nat.{div-add-mod'}
@@ -52,6 +52,7 @@ some-code n q e = by_size (cases_lt n 255)
   where
     none : (x : ℕ) (xs : List ℕ) → [] ≡ x ∷ xs → ⊥
     none x xs f = cc
+
     by_size : ((n < 255) ⊎ (255 ≤ n)) → ⊥
     by_size (inl h) = none n q (e ∙ ap (λ xs. xs ++ q) (code-small n h))
     by_size (inr h) = none 255 (low_first 15 n ++ q) (e ∙ ap (λ xs. xs ++ q) (code-large n h))
@@ -82,16 +83,20 @@ bytes-are zero i n h = ap (λ b. b ∷ []) (byte-is i n ∙ mod-eq_of_lt ((div-l
   where
     above : (i : ℕ) → 0 < 256 ^ i
     above i = omega (arith, one-le-pow i 256 (omega arith))
+
     one : i + 1 ≡ suc i
     one = omega arith
+
     less : n < 256 * 256 ^ i
     less = subst (λ p. n < p) (ap (λ j. 256 ^ j) one ∙ pow-succ' 256 i) h
 bytes-are (suc k) i n h = λ j. byte-is i n j ∷ (bytes-are k (suc i) n less ∙ ap (low_first k) on) j
   where
     one : i + suc (suc k) ≡ suc i + suc k
     one = omega arith
+
     less : n < 256 ^ (suc i + suc k)
     less = subst (λ j. n < 256 ^ j) one h
+
     on : n / 256 ^ suc i ≡ n / 256 ^ i / 256
     on = ap (λ p. n / p) (pow-suc 256 i) ∙ sym (div-div-eq-div-mul n (256 ^ i) 256)
 

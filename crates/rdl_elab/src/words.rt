@@ -116,11 +116,7 @@ fn put_extents(bytes: &mut Vec<u8>, extents: Extents) -> Result<(), AllocError>
 }
 
 /// Puts the words of what is taken of an instance with this shell, whose component has these layouts.
-fn put_member(
-    bytes: &mut Vec<u8>,
-    shell: &Shell,
-    layouts: &SharedLayouts,
-) -> Result<(), AllocError>
+fn put_member(bytes: &mut Vec<u8>, shell: &Shell, layouts: &SharedLayouts) -> Result<(), AllocError>
     ensures { OnOk result (Puts (member_words (shown_each shell.now layouts.now)) bytes.old.items bytes.new.items) }
 {
     put_said(bytes, Said::of(shell))?;
