@@ -37,7 +37,8 @@ fn mode_word(mode: Mode) -> Number
 fn put_word(bytes: &mut Vec<u8>, word: Number) -> Result<(), AllocError>
     ensures { OnOk result (Puts (λ rest. word ∷ rest) bytes.old.items bytes.new.items) }
 {
-    if word < 255 {
+    let is_small = word < 255;
+    if is_small {
         bytes.push(word as u8)?;
     } else {
         bytes.push(255)?;
