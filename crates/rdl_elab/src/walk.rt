@@ -150,7 +150,7 @@ fn finish<'a>(
 
 /// The instance of a type, if the type stands.
 #[tactic(auto, using(crate::proofs::Goings::goings, crate::proofs::Writing::writings))]
-fn named_part<'a>(shell: &'a Shell, name: &Name, types: &Types) -> Option<Found<'a>>
+fn named_part<'a>(shell: &'a Shell, name: &'a Name, types: &Types<'a>) -> Option<Found<'a>>
     ensures { LeadsTo shell.now (lookup name.now types.now) result }
 {
     let component = types.get(name)?;
@@ -344,7 +344,7 @@ pub(crate) fn lay_out_item<'a>(
 pub(crate) fn lay_out_all<'a>(
     alloc: Global,
     description: &'a Description,
-    name: &Name,
+    name: &'a Name,
     before: &Stored,
 ) -> Result<AllWalked<'a>, AllocError>
     requires { depth description.now.items ≤ 16 }

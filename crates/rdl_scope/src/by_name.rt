@@ -10,7 +10,7 @@ pub struct ByName<'a, V> {
 }
 
 impl<'a, V: Copy> ByName<'a, V> {
-    ghost use Rattle.std.specs.Prelude.{◌≡◌, ℕ, List, Some, None, IfOk, OnOk, bytes_eq, if◌then◌else◌};
+    ghost use Rattle.std.specs.Prelude.{◌≡◌, ℕ, List, Some, None, IfOk, OnOk, OnErr, bytes_eq, if◌then◌else◌};
     ghost use Rattle.rdl_scope.specs.ByName.{value_under};
 
     /// Nothing under any name.
@@ -32,10 +32,13 @@ impl<'a, V: Copy> ByName<'a, V> {
         }
     }
 
-    /// Puts the value under the name, in the place of what was there, and answers that.
+    /// Puts the value under the name, in the place of what was there, and answers that. It can want for memory only where
+    /// nothing was there.
     pub fn put(&mut self, name: &'a str, value: V) -> Result<Option<V>, AllocError>
         ensures before { IfOk result (λ before. before ≡ value_under self.old name.now) }
         ensures after { OnOk result ((q : List ℕ) → value_under self.new q ≡ (if bytes_eq name.now q then Some value else value_under self.old q)) }
+        ensures absent { OnErr result (value_under self.old name.now ≡ None) }
+        ensures err { OnErr result ((q : List ℕ) → value_under self.new q ≡ value_under self.old q) }
     {
         let before = self.values.insert(key_of(name), value)?;
         Ok(before)
