@@ -4,6 +4,7 @@ use Rattle.std.specs.Int.{w128, byte_at, bytes_low_first, to_le_bytes}
 use Rattle.std.proofs.lemmas.Bool.{cases_lt, lt-ltb, le-ltb}
 use Rattle.std.proofs.lemmas.Nat.{div-add-mod'}
 use Rattle.std.proofs.Math.Nat.{pow-suc, pow-succ', one-le-pow, mod-eq_of_lt, div-one, div-div-eq-div-mul, div-lt_iff_lt-mul}
+use Rattle.std.specs.List.{AllByRecursion}
 use Rattle.rdl_elab.specs.Coded.{low_first, code, coded}
 
 pub same-first : (x y : ℕ) (xs ys : List ℕ) → x ∷ xs ≡ y ∷ ys → (x ≡ y) × (xs ≡ ys)
@@ -115,3 +116,11 @@ large-put n old mid new rest h small e f =
     let is : new ≡ old ++ code n =
     f ∙ ap (λ xs. xs ++ to_le_bytes w128 n) e ∙ append_assoc old (255 ∷ []) (to_le_bytes w128 n) ∙ ap (λ xs. old ++ xs) (sym (code-bytes n h small)) in
     ap (λ xs. xs ++ coded rest) is ∙ append_assoc old (code n) (coded rest)
+
+pub small-puts : (ws old new rest : List ℕ) → AllByRecursion (λ w. w < 255) ws → new ≡ old ++ ws → new ++ coded rest ≡ old ++ coded (ws ++ rest)
+unfolding coded
+small-puts ws old new rest h e = ap (λ xs. xs ++ coded rest) e ∙ append_assoc old ws (coded rest) ∙ ap (λ xs. old ++ xs) (all ws h)
+  where
+    all : (ws : List ℕ) → AllByRecursion (λ w. w < 255) ws → ws ++ coded rest ≡ coded (ws ++ rest)
+    all [] h = refl
+    all (w ∷ ws) h = ap (λ xs. w ∷ xs) (all ws h.1) ∙ sym (ap (λ xs. xs ++ coded (ws ++ rest)) (code-small w h.0))

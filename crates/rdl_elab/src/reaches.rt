@@ -4,7 +4,7 @@ ghost use Rattle.rdl_tree.specs.Address.{number_of};
 ghost use Rattle.rdl_elab.specs.KeptTargets.{kept_target};
 ghost use Rattle.rdl_elab.specs.Reaches.{reaches_by, behind, reached, reach_by};
 
-use crate::finished::Finished;
+use crate::finished::{Finished, Part};
 use crate::part_list::PartList;
 use crate::targets::target_path;
 use rdl_text::name::Name;
@@ -237,12 +237,12 @@ impl<'a> Onward<'a> {
     pub(crate) fn behind(
         &self,
         alloc: Global,
-        instance: &Address,
+        part: &Part,
     ) -> Result<Vec<Assignment<'a>>, AllocError>
-        ensures { IfOk result (λ list. (reaching : List Reach) → IsOnward self.now reaching → list.items ≡ behind instance.now reaching) }
+        ensures { IfOk result (λ list. (reaching : List Reach) → IsOnward self.now reaching → list.items ≡ behind part.now.at reaching) }
     {
-        match self.by_number.get(&number_of(instance)) {
-            Some(list) => behind(alloc, instance, list.as_slice()),
+        match self.by_number.get(&part.place()) {
+            Some(list) => behind(alloc, &part.at(), list.as_slice()),
             None => Ok(Vec::new(alloc)),
         }
     }

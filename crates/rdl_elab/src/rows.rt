@@ -124,7 +124,7 @@ pub(crate) fn behind_part<'a>(
 ) -> Result<Vec<Assignment<'a>>, AllocError>
     ensures { IfOk result (λ list. (reaching : List Reach) → IsOnward onward.now reaching → list.items ≡ behind part.now.at reaching) }
 {
-    onward.behind(alloc, &part.at())
+    onward.behind(alloc, part)
 }
 
 fn row(

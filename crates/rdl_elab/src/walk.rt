@@ -33,6 +33,9 @@ use rdl_tree::description::{Component, Description, Item, Of};
 use rdl_tree::shell::Shell;
 use std::alloc::{AllocError, Global};
 
+/// How many more components than before there is room for: an edit seldom adds as many.
+const NEW: usize = 64;
+
 /// Components that are laid out, each after those of its instances, and the number of one of them.
 #[derive(Drop)]
 pub(crate) struct Walked<'a> {
@@ -269,8 +272,12 @@ fn walk_items<'a>(
 impl<'a> Walk<'a> {
     ghost use Rattle.std.specs.Prelude.{◌≡◌, [], IfOk};
 
-    /// Nothing is laid out, and nothing stands before the next item.
-    fn new(alloc: Global, description: &Description) -> Result<Walk<'a>, AllocError>
+    /// Nothing is laid out, with room for so many components, and nothing stands before the next item.
+    fn new(
+        alloc: Global,
+        description: &Description,
+        room: usize,
+    ) -> Result<Walk<'a>, AllocError>
         ensures types { IfOk result (λ walk. walk.types ≡ []) }
         ensures defaults { IfOk result (λ walk. walk.defaults ≡ []) }
         ensures components { IfOk result (λ walk. walk.components.items ≡ []) }
@@ -278,7 +285,7 @@ impl<'a> Walk<'a> {
         Ok(Walk {
             types: Types::new(alloc),
             defaults: Defaults::new(alloc),
-            components: Vec::new(alloc),
+            components: Vec::with_capacity(alloc, room)?,
             built_ins: BuiltIns::new(alloc)?,
             by_name: goes_further(&description.items),
         })
@@ -322,7 +329,7 @@ pub(crate) fn lay_out_item<'a>(
     let Some(component) = own_component(&items[n]) else {
         return Ok(None);
     };
-    let mut walk = Walk::new(alloc, description)?;
+    let mut walk = Walk::new(alloc, description, 0)?;
     let before = Stored::empty(alloc);
     let number = finish_behind(
         alloc,
@@ -351,7 +358,7 @@ pub(crate) fn lay_out_all<'a>(
     ensures laid_out { IfOk result (λ all. AreLaidOut before.now all.components.items (all_written description.now.items)) }
     ensures number { IfOk result (λ all. IsType description.now.items all.components.items all.number (root_type description.now.items name.now)) }
 {
-    let mut walk = Walk::new(alloc, description)?;
+    let mut walk = Walk::new(alloc, description, before.len().saturating_add(NEW))?;
     let root = Address::new();
     let items = description.items.as_slice();
     walk_items(alloc, description, &root, items, &mut walk, before)?;

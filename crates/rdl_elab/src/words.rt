@@ -1,5 +1,6 @@
 //! The words of what layouts are made of, as bytes, by which they are found again.
-ghost use Rattle.std.specs.Prelude.{◌≡◌, ◌∷◌, IfOk, OnOk};
+ghost use Rattle.std.specs.Prelude.{◌≡◌, ◌<◌, ◌∷◌, ◌++◌, ℕ, List, true, IfOk, OnOk};
+ghost use Rattle.std.specs.List.{AllByRecursion};
 ghost use Rattle.rdl_elab.specs.EachMember.{shown_each};
 ghost use Rattle.rdl_elab.specs.LaidOut.{kept_members};
 ghost use Rattle.rdl_elab.specs.Words.{kind_word, mode_word, number_words, range_words, values_words, said_words, extent_words, extents_words, member_words, spelling, Puts};
@@ -47,6 +48,15 @@ fn put_word(bytes: &mut Vec<u8>, word: Number) -> Result<(), AllocError>
     Ok(())
 }
 
+/// Puts words that are one byte each.
+fn put_small(bytes: &mut Vec<u8>, words: &[u8]) -> Result<(), AllocError>
+    requires { AllByRecursion (λ word. word < 255) words.now }
+    ensures { OnOk result (Puts (λ rest. words.now ++ rest) bytes.old.items bytes.new.items) }
+{
+    bytes.extend_from_slice(words)?;
+    Ok(())
+}
+
 fn put_number(bytes: &mut Vec<u8>, number: Option<Number>) -> Result<(), AllocError>
     ensures { OnOk result (Puts (number_words number) bytes.old.items bytes.new.items) }
 {
@@ -87,9 +97,25 @@ fn put_values(bytes: &mut Vec<u8>, kind: Kind, values: LayoutValues) -> Result<(
     Ok(())
 }
 
+/// Whether an instance says nothing of its place, and has few elements.
+fn is_bare(said: Said) -> bool
+    ensures few { result ≡ true → said.elements < 255 }
+    ensures bare { result ≡ true → (rest : List ℕ) → said_words said rest ≡ said.elements ∷ 0 ∷ 0 ∷ 0 ∷ 0 ∷ 0 ∷ rest }
+{
+    said.elements < 255
+        && said.size.is_none()
+        && said.address.is_none()
+        && said.stride.is_none()
+        && said.align.is_none()
+        && said.range.is_none()
+}
+
 fn put_said(bytes: &mut Vec<u8>, said: Said) -> Result<(), AllocError>
     ensures { OnOk result (Puts (said_words said) bytes.old.items bytes.new.items) }
 {
+    if is_bare(said) {
+        return put_small(bytes, &[said.elements as u8, 0, 0, 0, 0, 0]);
+    }
     put_word(bytes, said.elements)?;
     put_number(bytes, said.size)?;
     put_number(bytes, said.address)?;
@@ -107,9 +133,32 @@ fn put_extent(bytes: &mut Vec<u8>, extent: Extent) -> Result<(), AllocError>
     Ok(())
 }
 
+fn is_small(extent: Extent) -> bool
+    ensures size { result ≡ true → extent.size < 255 }
+    ensures access { result ≡ true → extent.access < 255 }
+{
+    extent.size < 255 && extent.access < 255
+}
+
 fn put_extents(bytes: &mut Vec<u8>, extents: Extents) -> Result<(), AllocError>
     ensures { OnOk result (Puts (extents_words extents) bytes.old.items bytes.new.items) }
 {
+    let Extents {
+        compact,
+        regalign,
+        fullalign,
+    } = extents;
+    if is_small(compact) && is_small(regalign) && is_small(fullalign) {
+        let words = [
+            compact.size as u8,
+            compact.access as u8,
+            regalign.size as u8,
+            regalign.access as u8,
+            fullalign.size as u8,
+            fullalign.access as u8,
+        ];
+        return put_small(bytes, &words);
+    }
     put_extent(bytes, extents.compact)?;
     put_extent(bytes, extents.regalign)?;
     put_extent(bytes, extents.fullalign)?;
