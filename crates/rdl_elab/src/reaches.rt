@@ -2,7 +2,8 @@
 ghost use Rattle.std.specs.Prelude.{◌≡◌, ℕ, ◌++◌, List, [], true, IfOk, OnOk, option_copied};
 ghost use Rattle.rdl_tree.specs.Address.{number_of};
 ghost use Rattle.rdl_elab.specs.KeptTargets.{kept_target};
-ghost use Rattle.rdl_elab.specs.Reaches.{reaches_by, behind, reached, reach_by};
+ghost use Rattle.std.specs.List.{list_any};
+ghost use Rattle.rdl_elab.specs.Reaches.{Reach, reaches_by, behind, reached, reach_by, has_ended};
 
 use crate::finished::{Finished, Part};
 use crate::part_list::PartList;
@@ -178,6 +179,13 @@ pub(crate) fn have_ended(reaching: &[Assignment]) -> bool
         }
     }
     true
+}
+
+/// Whether one of them has passed all its instances.
+pub(crate) fn has_come(reaching: &[Assignment]) -> bool
+    ensures { result ≡ list_any (λ (a : Reach). has_ended a.path) reaching.now }
+{
+    reaching.iter().any(|assignment| assignment.has_ended())
 }
 
 /// Those whose targets pass this instance.
