@@ -26,6 +26,7 @@ pub mod Writing
 pub mod Roots
 pub mod DefaultStacks
 pub mod ValueLists
+pub mod OnlyKept
 pub mod Onward
 pub mod ListedValues
 pub mod BareHeads
