@@ -51,9 +51,7 @@ impl<'a> Places<'a> {
         ensures noted { OnOk result ((q : List ℕ) → place_under self.new q ≡ place_put name.now q place (place_under self.old q)) }
     {
         match place {
-            Some(place) => {
-                Ok(self.places.put(name, place)?.is_some())
-            }
+            Some(place) => Ok(self.places.put(name, place)?.is_some()),
             None => Ok(self.get(name).is_some()),
         }
     }
