@@ -1,5 +1,5 @@
 //! One line of a script after another.
-ghost use Rattle.std.specs.Prelude.{◌≡◌, ◌⊎◌, ℕ, ◌≤◌, ◌<◌, ◌^◌, List, ◌∷◌, true, length, string_bytes, Err, IfOk, IfErr, OnOk, OnErr, IsErrOf, IsOkUnless};
+ghost use Rattle.std.specs.Prelude.{◌≡◌, ◌⊎◌, ℕ, ◌≤◌, ◌<◌, ◌^◌, List, ◌∷◌, length, string_bytes, Err, IfOk, IfErr, OnOk, OnErr, IsErrOf, IsOkUnless};
 ghost use Rattle.std.specs.Io.KnownBytes.{Appends};
 ghost use Rattle.std.specs.List.{prefix_len};
 ghost use Rattle.std.specs.Option.{option_copied};
@@ -13,7 +13,7 @@ ghost use Rattle.rdl_run.specs.ScriptLines.{is_in_line, left_len};
 ghost use Rattle.rdl_script.specs.Seen.{seen};
 ghost use Rattle.rdl_run.specs.Replies.{said};
 ghost use Rattle.rdl_run.specs.Faulted.{StopsServing};
-ghost use Rattle.rdl_run.specs.Turns.{IsOpen};
+ghost use Rattle.rdl_run.specs.Turns.{IsGivenUp, IsOpen};
 
 use crate::counted::CountedWriter;
 use crate::output::write_counted;
@@ -192,7 +192,8 @@ pub fn serve_all<E: Write>(
     ensures served { IfOk result (λ refused. (text : List ℕ) × (Serves journal.old (lines_of script.now) text refused journal.new) × (Appends (E.contents messages.old.writer.now) (E.contents messages.new.writer.now) text)) }
     ensures fault { IfErr result (λ fault. (fault ≡ RunFault.Memory) ⊎ (fault ≡ RunFault.Write)) }
     ensures stopped { IfErr result (StopsServing journal.old (lines_of script.now) (E.contents messages.old.writer.now) (E.contents messages.new.writer.now)) }
-    ensures ended { IsErrOf result RunFault.Write → messages.new.counts.ended ≡ true }
+    ensures ended { IsErrOf result RunFault.Write → IsGivenUp messages.new.counts }
+    ensures unended { IsErrOf result RunFault.Memory → IsOpen messages.new.counts }
     ensures few { messages.new.counts.interrupts ≤ 1000 }
     ensures asked { OnOk result (IsOpen messages.new.counts) }
     ensures same_reference { messages.new.writer.ghost_name ≡ messages.old.writer.ghost_name }
