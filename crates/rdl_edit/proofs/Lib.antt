@@ -6,6 +6,7 @@ pub mod OrdinaryBacks
 pub mod OrdinaryEdits
 pub mod OrdinarySteps
 pub mod OwnSteps
+pub mod OwnLayouts
 pub mod Placings
 pub mod Staying
 pub mod SteppedBodies
