@@ -166,3 +166,28 @@ taken-own prior turns own (Ok x) old new from from' to to' s m f t h = moved-own
 taken-own prior turns own (Err e) old new from from' to to' s m f t h =
     (subst (λ x. FitInTurn prior own x (reverse from')) (sym m) (subst (λ bs. FitInTurn prior own old (reverse bs)) (sym f) h.0),
       subst (λ x. FitInTurn prior own x (reverse to')) (sym m) (subst (λ bs. FitInTurn prior own old (reverse bs)) (sym t) h.1))
+
+-- ---- Steps that fit on a stack fit in turn.
+
+abbrev led-to : {S B : Type 0} → (S → B → S) → S → List B → S
+led-to prior now [] = now
+led-to prior now (b ∷ bs) = led-to prior (prior now b) bs
+
+led-last : {S B : Type 0} (prior : S → B → S) (now : S) (bs : List B) (b : B) → led-to prior now (bs ++ b ∷ []) ≡ prior (led-to prior now bs) b
+led-last prior now [] b = refl
+led-last prior now (x ∷ bs) b = led-last prior (prior now x) bs b
+
+fit-last : {S B : Type 0} (prior : S → B → S) (fits : S → B → Type 0) (now : S) (bs : List B) (b : B) → FitInTurn prior fits now bs → fits (led-to prior now bs) b → FitInTurn prior fits now (bs ++ b ∷ [])
+fit-last prior fits now [] b h f = (f, tt)
+fit-last prior fits now (x ∷ bs) b h f = (h.0, fit-last prior fits (prior now x) bs b h.1 f)
+
+led-back : {S B : Type 0} (prior : S → B → S) (now : S) (bs : List B) → led-to prior now (reverse bs) ≡ back_to prior now bs
+led-back prior now [] = refl
+led-back prior now (b ∷ bs) =
+    ap (led-to prior now) (reverse-append (b ∷ []) bs) ∙ led-last prior now (reverse bs) b ∙ ap (λ s. prior s b) (led-back prior now bs)
+
+pub turn-reverse : {S B : Type 0} (prior : S → B → S) (fits : S → B → Type 0) (now : S) (bs : List B) → FitAlong prior fits now bs → FitInTurn prior fits now (reverse bs)
+turn-reverse prior fits now [] h = tt
+turn-reverse prior fits now (b ∷ bs) h =
+    subst (FitInTurn prior fits now) (sym (reverse-append (b ∷ []) bs))
+    (fit-last prior fits now (reverse bs) b (turn-reverse prior fits now bs h.1) (subst (λ s. fits s b) (sym (led-back prior now bs)) h.0))

@@ -135,7 +135,8 @@ impl<M: Invertible> Journal<M> {
 
     /// The map, at the history's place.
     pub fn map(&self) -> &M
-        ensures { IsAt self.now.history (M.state result.now) }
+        ensures at { IsAt self.now.history (M.state result.now) }
+        ensures fit { AllAre M.prior M.fits self.now }
     {
         &self.map
     }

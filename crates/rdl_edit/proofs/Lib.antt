@@ -1,5 +1,6 @@
 pub mod EditsLead
 pub mod KeepingLayouts
+pub mod LightSteps
 pub mod NewNames
 pub mod OneWaySteps
 pub mod OrdinaryBacks
