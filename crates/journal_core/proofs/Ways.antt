@@ -127,3 +127,7 @@ past_reverse {X} xs i o e = (
     | inr past ↦ omega (arith, past.0, length-reverse xs)
   ],
 )
+
+-- steps that were handed over with the next one first
+pub handed-back : {X : Type 0} (xs ys : List X) → ys ≡ reverse xs → reverse ys ≡ xs
+handed-back xs ys e = ap reverse e ∙ reverse-reverse xs

@@ -92,10 +92,10 @@ fn run_script<R: Write, H: Write, Z: Write, E: Write>(
     requires rdl_asked { IsOpen rdl.old.counts }
     requires header_asked { IsOpen header.old.counts }
     requires session_asked { IsOpen session.old.counts }
-    ensures ran { IfOk result (RanFrom has_session journal.old script.now
+    ensures ran { IfOk result (RanFrom has_session journal.old.history script.now
         (record { messages = E.contents messages.old.writer.now; rdl = R.contents rdl.old.writer.now; header = H.contents header.old.writer.now; session = Z.contents session.old.writer.now })
         (record { messages = E.contents messages.new.writer.now; rdl = R.contents rdl.new.writer.now; header = H.contents header.new.writer.now; session = Z.contents session.new.writer.now })) }
-    ensures faulted { EachElaborates journal.old → IfErr result (FaultedFrom has_session journal.old script.now
+    ensures faulted { EachElaborates journal.old.history → IfErr result (FaultedFrom has_session journal.old.history script.now
         (record { messages = E.contents messages.old.writer.now; rdl = R.contents rdl.old.writer.now; header = H.contents header.old.writer.now; session = Z.contents session.old.writer.now })
         (record { messages = E.contents messages.new.writer.now; rdl = R.contents rdl.new.writer.now; header = H.contents header.new.writer.now; session = Z.contents session.new.writer.now })) }
     ensures write_ended { IsErrOf result RunFault.Write → GivesUp messages.new.counts rdl.new.counts header.new.counts session.new.counts }

@@ -12,7 +12,7 @@ returns-clause-leads g c =
     let now = m.state j.map in
     let i = c.args.i in
     let found : option_copied c.from_the_end.result ≡ slice_get (reverse j.done.items) i = c.from_the_end.ensures ∙ ap (λ xs. slice_get (reverse xs) i) c.as_slice.ensures.value in
-    subst (λ h. IfSome c.from_the_end.result (λ back. LeadsBetween m.prior m.fits h.states (h.place - i) (h.place - i - 1) back.now)) c.self.view_is
+    subst (λ k. IfSome c.from_the_end.result (λ back. LeadsBetween m.prior m.fits k.history.states (k.history.place - i) (k.history.place - i - 1) back.now)) c.self.view_is
     (of_value c.from_the_end.result (slice_get (reverse j.done.items) i) (LeadsBetween m.prior m.fits _ (length j.done.items - i) (length j.done.items - i - 1)) found
     (λ b e. back-at m.prior m.fits now j.done.items (reverse (states_along m.prior now j.undone.items)) i b c.self.invariant.done_fit (within_reverse j.done.items i b e) e))
 
@@ -23,6 +23,12 @@ returns-clause-own g c = λ is_own.
     let now = m.state j.map in
     let i = c.args.i in
     let found : option_copied c.from_the_end.result ≡ slice_get (reverse j.done.items) i = c.from_the_end.ensures ∙ ap (λ xs. slice_get (reverse xs) i) c.as_slice.ensures.value in
-    subst (λ h. IfSome c.from_the_end.result (λ back. LeadsBetween m.prior m.own h.states (h.place - i) (h.place - i - 1) back.now)) c.self.view_is
+    subst (λ k. IfSome c.from_the_end.result (λ back. LeadsBetween m.prior m.own k.history.states (k.history.place - i) (k.history.place - i - 1) back.now)) c.self.view_is
     (of_value c.from_the_end.result (slice_get (reverse j.done.items) i) (LeadsBetween m.prior m.own _ (length j.done.items - i) (length j.done.items - i - 1)) found
-    (λ b e. back-at m.prior m.own now j.done.items (reverse (states_along m.prior now j.undone.items)) i b (c.self.invariant.done_own (ap (λ h. h.own) c.self.view_is ∙ is_own)) (within_reverse j.done.items i b e) e))
+    (λ b e. back-at m.prior m.own now j.done.items (reverse (states_along m.prior now j.undone.items)) i b (c.self.invariant.done_own (ap (λ k. k.history.own) c.self.view_is ∙ is_own)) (within_reverse j.done.items i b e) e))
+
+pub returns-clause-step : goal.returns-clause-step
+returns-clause-step g c =
+    let j = c.self.inside in
+    let i = c.args.i in
+    c.from_the_end.ensures ∙ ap (λ xs. slice_get (reverse xs) i) c.as_slice.ensures.value ∙ ap (λ k. slice_get k.undo i) c.self.view_is
