@@ -273,11 +273,7 @@ impl<'a> Walk<'a> {
     ghost use Rattle.std.specs.Prelude.{◌≡◌, [], IfOk};
 
     /// Nothing is laid out, with room for so many components, and nothing stands before the next item.
-    fn new(
-        alloc: Global,
-        description: &Description,
-        room: usize,
-    ) -> Result<Walk<'a>, AllocError>
+    fn new(alloc: Global, description: &Description, room: usize) -> Result<Walk<'a>, AllocError>
         ensures types { IfOk result (λ walk. walk.types ≡ []) }
         ensures defaults { IfOk result (λ walk. walk.defaults ≡ []) }
         ensures components { IfOk result (λ walk. walk.components.items ≡ []) }

@@ -318,8 +318,7 @@ const FOUR_WRITTEN: &str = "addrmap top {
 /// One register of three is removed, and its removal undone; then another one is removed, and nothing can be redone.
 const REMOVE: &str = "undo\nremove /$top/c\nundo\nremove /$top/b\nredo\n";
 
-const REMOVE_MESSAGES: &str =
-    "script:1: J2 nothing to undo\nscript:5: J3 nothing to redo\n";
+const REMOVE_MESSAGES: &str = "script:1: J2 nothing to undo\nscript:5: J3 nothing to redo\n";
 
 const TWO_WRITTEN: &str = "addrmap top {
     reg {
