@@ -122,9 +122,10 @@ pub moved-own : {S B : Type 0} (prior : S → B → S) (turns : S → B → B �
 moved-own {S} {B} prior turns own old new from from' to to' s f t =
     let first : FitInTurn prior own old (s.back ∷ reverse from') = subst (FitInTurn prior own old) (ap reverse s.taken ∙ reverse-last from' s.back) f in
     let again : own new s.forward = subst (λ x. own x s.forward) (sym s.there) (s.turned.1 first.0) in
-    let rest : FitInTurn prior own (prior new s.forward) (reverse to) = subst (λ x. FitInTurn prior own x (reverse to)) (sym s.again) t in
-    (subst (λ x. FitInTurn prior own x (reverse from')) (sym s.there) first.1,
-      subst (FitInTurn prior own new) (sym (ap reverse s.put ∙ reverse-last to s.forward)) (again, rest))
+    let rest : FitInTurn prior own (prior new s.forward) (reverse to) = subst (λ x. FitInTurn prior own x (reverse to)) (sym s.again) t in (
+      subst (λ x. FitInTurn prior own x (reverse from')) (sym s.there) first.1,
+      subst (FitInTurn prior own new) (sym (ap reverse s.put ∙ reverse-last to s.forward)) (again, rest),
+    )
 
 pub added-own : {S B : Type 0} (prior : S → B → S) (own : S → B → Type 0) (old new : S) (done done' : List B) (back : B) → done' ≡ done ++ back ∷ [] → prior new back ≡ old → own new back
     → FitInTurn prior own old (reverse done) → FitInTurn prior own new (reverse done')
@@ -163,9 +164,10 @@ pub taken-own : {S B T E : Type 0} (prior : S → B → S) (turns : S → B → 
     → OnOk r (Steps prior (TurnsOwn prior own turns) old new from from' to to') → OnErr r (new ≡ old) → OnErr r (from' ≡ from) → OnErr r (to' ≡ to)
     → FitInTurn prior own old (reverse from) × FitInTurn prior own old (reverse to) → FitInTurn prior own new (reverse from') × FitInTurn prior own new (reverse to')
 taken-own prior turns own (Ok x) old new from from' to to' s m f t h = moved-own prior turns own old new from from' to to' s h.0 h.1
-taken-own prior turns own (Err e) old new from from' to to' s m f t h =
-    (subst (λ x. FitInTurn prior own x (reverse from')) (sym m) (subst (λ bs. FitInTurn prior own old (reverse bs)) (sym f) h.0),
-      subst (λ x. FitInTurn prior own x (reverse to')) (sym m) (subst (λ bs. FitInTurn prior own old (reverse bs)) (sym t) h.1))
+taken-own prior turns own (Err e) old new from from' to to' s m f t h = (
+  subst (λ x. FitInTurn prior own x (reverse from')) (sym m) (subst (λ bs. FitInTurn prior own old (reverse bs)) (sym f) h.0),
+  subst (λ x. FitInTurn prior own x (reverse to')) (sym m) (subst (λ bs. FitInTurn prior own old (reverse bs)) (sym t) h.1),
+)
 
 -- ---- Steps that fit on a stack fit in turn.
 

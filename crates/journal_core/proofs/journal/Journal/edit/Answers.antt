@@ -70,6 +70,7 @@ returns-in-Ok-clause-stay_own g c = λ own.
     let new = m.state c.apply.new.self in
     let items : c.push.new.self.items ≡ j.done.items ++ c.in-Ok.back ∷ [] = search rules in
     let kept = all-now m.prior m.own j.limit now j.done.items j.undone.items j.is_own (subst (AllAre m.prior m.own) (sym c.self.view_is) own) in
-    now-all m.prior m.own j.limit new c.push.new.self.items c.clear.new.self.items j.is_own
-    (added-own m.prior m.own now new j.done.items c.push.new.self.items c.in-Ok.back items c.in-Ok.ensures.back c.in-Ok.ensures.own kept.0,
-      subst (λ bs. FitInTurn m.prior m.own new (reverse bs)) (sym c.clear.ensures.items) tt)
+    now-all m.prior m.own j.limit new c.push.new.self.items c.clear.new.self.items j.is_own (
+      added-own m.prior m.own now new j.done.items c.push.new.self.items c.in-Ok.back items c.in-Ok.ensures.back c.in-Ok.ensures.own kept.0,
+      subst (λ bs. FitInTurn m.prior m.own new (reverse bs)) (sym c.clear.ensures.items) tt,
+    )

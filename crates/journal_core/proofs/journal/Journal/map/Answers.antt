@@ -16,4 +16,4 @@ returns-clause-fit g c =
     let now = m.state j.map in
     subst (AllAre m.prior m.fits) c.self.view_is
     (now-all m.prior m.fits j.limit now j.done.items j.undone.items j.is_own
-      (turn-reverse m.prior m.fits now j.done.items c.self.invariant.done_fit, turn-reverse m.prior m.fits now j.undone.items c.self.invariant.undone_fit))
+    (turn-reverse m.prior m.fits now j.done.items c.self.invariant.done_fit, turn-reverse m.prior m.fits now j.undone.items c.self.invariant.undone_fit))

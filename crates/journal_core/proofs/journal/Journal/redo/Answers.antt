@@ -25,7 +25,7 @@ returns-clause-steps g c =
     let there = stands m.prior j.limit now j.done.items j.undone.items j.is_own in
     on_ok_weaker c.take_step.result
     (λ s. subst (λ k. Moves m.turns k.history k.redo (reverse c.take_step.new.from.items) k.undo (reverse c.take_step.new.to.items)) c.self.view_is
-      (stacks-moved m.prior m.turns m.own _ now _ j.undone.items c.take_step.new.from.items j.done.items c.take_step.new.to.items there s))
+    (stacks-moved m.prior m.turns m.own _ now _ j.undone.items c.take_step.new.from.items j.done.items c.take_step.new.to.items there s))
     c.take_step.ensures.ok
 
 pub returns-clause-stay_own : goal.returns-clause-stay_own
