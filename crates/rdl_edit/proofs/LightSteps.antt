@@ -1,8 +1,8 @@
 -- Steps that are kept weigh at most what the edits changed that they take back.
-use Rattle.std.proofs.Common.{◌≡◌, ℕ, ◌≤◌, ◌+◌, ◌*◌, List, [], ◌∷◌, length, ap, arith}
+use Rattle.std.proofs.Common.{◌≤◌, List, [], ◌∷◌, ap, arith}
 use Rattle.journal_core.specs.Along.{FitInTurn}
-use Rattle.rdl_tree.specs.Patch.{AllFit, image, inverses}
-use Rattle.rdl_tree.specs.PatchWeight.{patches_weight, taken}
+use Rattle.rdl_tree.specs.Patch.{image, inverses}
+use Rattle.rdl_tree.specs.PatchWeight.{patches_weight}
 use Rattle.rdl_tree.proofs.Nesting.{AllFit-inverses}
 use Rattle.rdl_tree.proofs.Patching.{inverses-inverses, length-inverses}
 use Rattle.rdl_tree.proofs.PatchWeights.{weight-inverses}
