@@ -2,6 +2,7 @@
 -- may be past the limit. Own.
 use Rattle.std.specs.Prelude.{◌≡◌, Bool, false, ℕ, slice_get, Some, zero, suc, ◌+◌, ◌-◌, ◌<◌, nat_lt, if◌then◌else◌, List, [], ◌∷◌, ◌++◌, length, take, Some, slice_get}
 use mathlib.Core.List.{reverse}
+use Rattle.journal_core.specs.Along.{FitInTurn}
 
 pub record History (S : Type 0) : Type 0 where
   pub limit : ℕ
@@ -9,6 +10,13 @@ pub record History (S : Type 0) : Type 0 where
   pub place : ℕ
   -- each of its steps was left behind by a change made in it, or takes such a step back; none was handed over to it
   pub own : Bool
+
+-- a history, with the steps that it keeps: those that lead back, and those that lead on, each list with the next one to be
+-- taken first
+pub record Kept (S B : Type 0) : Type 0 where
+  pub history : History S
+  pub undo : List B
+  pub redo : List B
 
 -- at the state that is now, between those behind it and those ahead of it, each with the nearest first
 abbrev pub resumed : {S : Type 0} → (limit : ℕ) → (behind : List S) → (now : S) → (ahead : List S) → History S
@@ -61,6 +69,32 @@ pub record Edits {S C : Type 0} (leads : S → C → S → Type 0) (change : C) 
   pub stood : IsAt old from
   pub led : leads from change to
   pub edited : new ≡ after_edit old to
+
+-- a change leaves a step behind at the place, which is the next one back, and nothing can be redone
+pub record Adds {S C B : Type 0} (leaves : S → C → B → Type 0) (change : C) (old new : Kept S B) : Type 0 where
+  pub step : B
+  pub from : S
+  pub stood : IsAt old.history from
+  pub left : leaves from change step
+  pub undo : new.undo ≡ step ∷ old.undo
+  pub redo : new.redo ≡ []
+
+-- the first step of one list is taken at the place, and what leads there again comes first in the other
+pub record Moves {S B : Type 0} (turns : S → B → B → Type 0) (old : History S) (from from' to to' : List B) : Type 0 where
+  pub step : B
+  pub again : B
+  pub at : S
+  pub stood : IsAt old at
+  pub turned : turns at step again
+  pub taken : from ≡ step ∷ from'
+  pub put : to' ≡ again ∷ to
+
+-- each step that is kept is of this sort where the steps before it lead
+pub record AllAre {S B : Type 0} (prior : S → B → S) (sort : S → B → Type 0) (k : Kept S B) : Type 0 where
+  pub now : S
+  pub at : IsAt k.history now
+  pub undo : FitInTurn prior sort now k.undo
+  pub redo : FitInTurn prior sort now k.redo
 
 -- a change is refused at the place
 pub record Refuses {S C R : Type 0} (refuses : S → C → R → Type 0) (change : C) (old : History S) (refusal : R) : Type 0 where

@@ -62,7 +62,7 @@ impl Numbers {
 }
 
 impl Invertible for Numbers {
-    ghost use Rattle.std.specs.Prelude.{ℕ, List};
+    ghost use Rattle.std.specs.Prelude.{◌≡◌, ℕ, List};
     ghost use Rattle.journal_core.specs.Example.{Leads, Refuses};
 
     type Change = Change;
@@ -80,6 +80,10 @@ impl Invertible for Numbers {
     ghost fits = { λ s b. Unit {0} };
 
     ghost own = { λ s b. Unit {0} };
+
+    ghost leaves = { λ s change b. b.items ≡ s };
+
+    ghost turns = { λ s b c. c.items ≡ s };
 
     ghost leads = { Leads };
 
@@ -116,7 +120,9 @@ pub fn between(
     behind: Vec<Vec<u64>>,
     ahead: Vec<Vec<u64>>,
 ) -> Journal<Numbers>
-    ensures { result ≡ resumed limit (map (λ list. list.items) behind.items) now.items.items (map (λ list. list.items) ahead.items) }
+    ensures history { result.history ≡ resumed limit (map (λ list. list.items) behind.items) now.items.items (map (λ list. list.items) ahead.items) }
+    ensures undo { result.undo ≡ behind.items }
+    ensures redo { result.redo ≡ ahead.items }
 {
     Journal::resume(now, limit, behind, ahead)
 }

@@ -22,6 +22,10 @@ pub trait Invertible {
     ghost fits: { Self.State → Self.Back → Type 0 };
     /// A step back that a change made of this object leaves there, or that takes such a step back.
     ghost own: { Self.State → Self.Back → Type 0 };
+    /// A step back that such a change leaves, made at the first state.
+    ghost leaves: { Self.State → Self.Change → Self.Back → Type 0 };
+    /// Where the first step is taken there, the second leads forward again.
+    ghost turns: { Self.State → Self.Back → Self.Back → Type 0 };
     /// A change may lead from the first state to the second.
     ghost leads: { Self.State → Self.Change → Self.State → Type 0 };
     /// A change may be refused there, in this way.
@@ -33,6 +37,7 @@ pub trait Invertible {
         ensures fits { IfOk result (λ back. fits (state self.new) back) }
         ensures own { IfOk result (λ back. own (state self.new) back) }
         ensures back { IfOk result (λ back. prior (state self.new) back ≡ state self.old) }
+        ensures leaves { IfOk result (λ back. leaves (state self.old) change.now back) }
         ensures refused { IfErr result (λ refusal. refuses (state self.old) change.now refusal) }
         ensures err { OnErr result (state self.new ≡ state self.old) };
 
@@ -44,6 +49,7 @@ pub trait Invertible {
         ensures fits { IfOk result (λ forward. fits (state self.new) forward) }
         ensures own { IfOk result (λ forward. own (state self.old) back → own (state self.new) forward) }
         ensures back { IfOk result (λ forward. prior (state self.new) forward ≡ state self.old) }
+        ensures turns { IfOk result (λ forward. turns (state self.old) back forward) }
         ensures handed { IfErr result (λ same. same ≡ back) }
         ensures err { OnErr result (state self.new ≡ state self.old) };
 }

@@ -3,8 +3,8 @@ ghost use Rattle.std.specs.Prelude.{◌≡◌, true, ◌+◌, ◌-◌, ◌≤◌
 ghost use mathlib.Core.List.{reverse};
 ghost use Rattle.journal_core.specs.declared.fault.EditFault.{EditFault};
 ghost use Rattle.journal_core.specs.declared.fault.StepFault.TheVariants.{Nothing};
-ghost use Rattle.journal_core.specs.Along.{FitAlong, FitInTurn, Steps, led_through};
-ghost use Rattle.journal_core.specs.History.{after_undo, after_redo, resumed, Edits, IsAt, LeadsBetween};
+ghost use Rattle.journal_core.specs.Along.{FitAlong, FitInTurn, Steps, TurnsOwn, led_through};
+ghost use Rattle.journal_core.specs.History.{after_undo, after_redo, resumed, Adds, AllAre, Edits, IsAt, LeadsBetween, Moves};
 ghost use Rattle.journal_core.specs.Faults.{Explains};
 
 use crate::fault::{EditFault, StepFault};
@@ -21,7 +21,7 @@ fn take_step<M: Invertible>(
 ) -> Result<(), StepFault>
     requires from_fit { (FitAlong M.prior M.fits (M.state map.old) from.old.items) }
     requires to_fit { (FitAlong M.prior M.fits (M.state map.old) to.old.items) }
-    ensures ok { OnOk result (Steps M.prior (M.state map.old) (M.state map.new) from.old.items from.new.items to.old.items to.new.items) }
+    ensures ok { OnOk result (Steps M.prior (TurnsOwn M.prior M.own M.turns) (M.state map.old) (M.state map.new) from.old.items from.new.items to.old.items to.new.items) }
     ensures nothing { (length from.old.items ≡ 0) ↔ (result ≡ Err Nothing) }
     ensures map { OnErr result (M.state map.new ≡ M.state map.old) }
     ensures from { OnErr result (from.new.items ≡ from.old.items) }
@@ -83,15 +83,19 @@ impl<M: Invertible> Model for Journal<M> {
     ghost use Rattle.std.specs.Prelude.{ℕ, List, length, ◌++◌, ◌∷◌};
     ghost use mathlib.Core.List.{reverse};
     ghost use Rattle.journal_core.specs.Along.{states_along, IsSound};
-    ghost use Rattle.journal_core.specs.History.{History};
+    ghost use Rattle.journal_core.specs.History.{Kept};
 
-    ghost Value = { History M.State };
+    ghost Value = { Kept M.State M.Back };
 
     ghost view = { λ j. record {
-      limit = j.limit;
-      states = states_along M.prior (M.state j.map) j.done.items ++ M.state j.map ∷ reverse (states_along M.prior (M.state j.map) j.undone.items);
-      place = length j.done.items;
-      own = j.is_own;
+      history = record {
+        limit = j.limit;
+        states = states_along M.prior (M.state j.map) j.done.items ++ M.state j.map ∷ reverse (states_along M.prior (M.state j.map) j.undone.items);
+        place = length j.done.items;
+        own = j.is_own;
+      };
+      undo = reverse j.done.items;
+      redo = reverse j.undone.items;
     } };
 
     ghost invariant = { λ j. IsSound M.prior M.fits M.own (M.state j.map) j.done.items j.undone.items j.is_own };
@@ -100,7 +104,7 @@ impl<M: Invertible> Model for Journal<M> {
 impl<M: Invertible> Journal<M> {
     /// A history of the map alone. It takes no memory.
     pub fn new(alloc: Global, map: M, limit: u32) -> Journal<M>
-        ensures { result ≡ record { limit = limit; states = M.state map ∷ []; place = 0; own = true } }
+        ensures { result ≡ record { history = record { limit = limit; states = M.state map ∷ []; place = 0; own = true }; undo = []; redo = [] } }
     {
         Journal {
             map,
@@ -116,7 +120,9 @@ impl<M: Invertible> Journal<M> {
     pub fn resume(map: M, limit: u32, undo: Vec<M::Back>, redo: Vec<M::Back>) -> Journal<M>
         requires undo_fits { FitInTurn M.prior M.fits (M.state map) undo.items }
         requires redo_fits { FitInTurn M.prior M.fits (M.state map) redo.items }
-        ensures { result ≡ resumed limit (led_through M.prior (M.state map) undo.items) (M.state map) (led_through M.prior (M.state map) redo.items) }
+        ensures history { result.history ≡ resumed limit (led_through M.prior (M.state map) undo.items) (M.state map) (led_through M.prior (M.state map) redo.items) }
+        ensures undo { result.undo ≡ undo.items }
+        ensures redo { result.redo ≡ redo.items }
     {
         Journal {
             map,
@@ -129,49 +135,58 @@ impl<M: Invertible> Journal<M> {
 
     /// The map, at the history's place.
     pub fn map(&self) -> &M
-        ensures { IsAt self.now (M.state result.now) }
+        ensures at { IsAt self.now.history (M.state result.now) }
+        ensures fit { AllAre M.prior M.fits self.now }
     {
         &self.map
     }
 
     /// How many changes can be undone.
     pub fn undo_len(&self) -> usize
-        ensures { result ≡ self.now.place }
+        ensures place { result ≡ self.now.history.place }
+        ensures steps { result ≡ length self.now.undo }
     {
         self.done.len()
     }
 
     /// How many changes can be redone.
     pub fn redo_len(&self) -> usize
-        ensures { self.now.place + result + 1 ≡ length self.now.states }
+        ensures place { self.now.history.place + result + 1 ≡ length self.now.history.states }
+        ensures steps { result ≡ length self.now.redo }
     {
         self.undone.len()
     }
 
     /// The step back that is taken after `i` others.
     pub fn undo_at(&self, i: usize) -> Option<&M::Back>
-        ensures none { (self.now.place ≤ i) ↔ (option_copied result ≡ None) }
-        ensures leads { IfSome result (λ back. LeadsBetween M.prior M.fits self.now.states (self.now.place - i) (self.now.place - i - 1) back.now) }
-        ensures own { self.now.own ≡ true → IfSome result (λ back. LeadsBetween M.prior M.own self.now.states (self.now.place - i) (self.now.place - i - 1) back.now) }
+        ensures step { option_copied result ≡ slice_get self.now.undo i }
+        ensures none { (self.now.history.place ≤ i) ↔ (option_copied result ≡ None) }
+        ensures leads { IfSome result (λ back. LeadsBetween M.prior M.fits self.now.history.states (self.now.history.place - i) (self.now.history.place - i - 1) back.now) }
+        ensures own { self.now.history.own ≡ true → IfSome result (λ back. LeadsBetween M.prior M.own self.now.history.states (self.now.history.place - i) (self.now.history.place - i - 1) back.now) }
+        ensures all_own { AllAre M.prior M.own self.now → IfSome result (λ back. LeadsBetween M.prior M.own self.now.history.states (self.now.history.place - i) (self.now.history.place - i - 1) back.now) }
     {
         from_the_end(self.done.as_slice(), i)
     }
 
     /// The step on that is taken after `i` others.
     pub fn redo_at(&self, i: usize) -> Option<&M::Back>
-        ensures none { (length self.now.states ≤ self.now.place + i + 1) ↔ (option_copied result ≡ None) }
-        ensures leads { IfSome result (λ step. LeadsBetween M.prior M.fits self.now.states (self.now.place + i) (self.now.place + i + 1) step.now) }
-        ensures own { self.now.own ≡ true → IfSome result (λ step. LeadsBetween M.prior M.own self.now.states (self.now.place + i) (self.now.place + i + 1) step.now) }
+        ensures step { option_copied result ≡ slice_get self.now.redo i }
+        ensures none { (length self.now.history.states ≤ self.now.history.place + i + 1) ↔ (option_copied result ≡ None) }
+        ensures leads { IfSome result (λ step. LeadsBetween M.prior M.fits self.now.history.states (self.now.history.place + i) (self.now.history.place + i + 1) step.now) }
+        ensures own { self.now.history.own ≡ true → IfSome result (λ step. LeadsBetween M.prior M.own self.now.history.states (self.now.history.place + i) (self.now.history.place + i + 1) step.now) }
+        ensures all_own { AllAre M.prior M.own self.now → IfSome result (λ step. LeadsBetween M.prior M.own self.now.history.states (self.now.history.place + i) (self.now.history.place + i + 1) step.now) }
     {
         from_the_end(self.undone.as_slice(), i)
     }
 
     /// Makes a change, after which nothing can be redone.
     pub fn edit(&mut self, alloc: Global, change: &M::Change) -> Result<(), EditFault<M::Refusal>>
-        ensures ok { OnOk result (Edits M.leads change.now self.old self.new) }
-        ensures full { self.old.limit ≤ self.old.place → result ≡ Err EditFault.Full }
-        ensures fault { IfErr result (Explains M.refuses change.now self.old) }
+        ensures ok { OnOk result (Edits M.leads change.now self.old.history self.new.history) }
+        ensures steps { OnOk result (Adds M.leaves change.now self.old self.new) }
+        ensures full { self.old.history.limit ≤ self.old.history.place → result ≡ Err EditFault.Full }
+        ensures fault { IfErr result (Explains M.refuses change.now self.old.history) }
         ensures err { OnErr result (self.new ≡ self.old) }
+        ensures stay_own { AllAre M.prior M.own self.old → AllAre M.prior M.own self.new }
     {
         if self.done.len() >= self.limit as usize {
             return Err(EditFault::Full);
@@ -191,18 +206,22 @@ impl<M: Invertible> Journal<M> {
 
     /// Takes the last change back.
     pub fn undo(&mut self, alloc: Global) -> Result<(), StepFault>
-        ensures ok { OnOk result (self.new ≡ after_undo self.old) }
-        ensures nothing { (self.old.place ≡ 0) ↔ (result ≡ Err Nothing) }
+        ensures ok { OnOk result (self.new.history ≡ after_undo self.old.history) }
+        ensures steps { OnOk result (Moves M.turns self.old.history self.old.undo self.new.undo self.old.redo self.new.redo) }
+        ensures nothing { (self.old.history.place ≡ 0) ↔ (result ≡ Err Nothing) }
         ensures err { OnErr result (self.new ≡ self.old) }
+        ensures stay_own { AllAre M.prior M.own self.old → AllAre M.prior M.own self.new }
     {
         take_step(alloc, &mut self.map, &mut self.done, &mut self.undone)
     }
 
     /// Makes the change again that was taken back last.
     pub fn redo(&mut self, alloc: Global) -> Result<(), StepFault>
-        ensures ok { OnOk result (self.new ≡ after_redo self.old) }
-        ensures nothing { (self.old.place + 1 ≡ length self.old.states) ↔ (result ≡ Err Nothing) }
+        ensures ok { OnOk result (self.new.history ≡ after_redo self.old.history) }
+        ensures steps { OnOk result (Moves M.turns self.old.history self.old.redo self.new.redo self.old.undo self.new.undo) }
+        ensures nothing { (self.old.history.place + 1 ≡ length self.old.history.states) ↔ (result ≡ Err Nothing) }
         ensures err { OnErr result (self.new ≡ self.old) }
+        ensures stay_own { AllAre M.prior M.own self.old → AllAre M.prior M.own self.new }
     {
         take_step(alloc, &mut self.map, &mut self.undone, &mut self.done)
     }

@@ -1,11 +1,13 @@
 pub mod EditsLead
 pub mod KeepingLayouts
+pub mod LightSteps
 pub mod NewNames
 pub mod OneWaySteps
 pub mod OrdinaryBacks
 pub mod OrdinaryEdits
 pub mod OrdinarySteps
 pub mod OwnSteps
+pub mod OwnLayouts
 pub mod Placings
 pub mod Staying
 pub mod SteppedBodies

@@ -34,7 +34,7 @@ new-step ps d = new-along ps (untouched d) ∙ ap (image ps) (new-untouched d)
 pub back-ordinary : (ps back : List Patch) (old new : Items) → AllFit ps old → new ≡ image ps old → back ≡ inverses ps old → IsOrdinary ps old → IsOrdinary back new
 back-ordinary ps back old new fit made is h = subst (IsOrdinary back) (sym made) (subst (λ qs. IsOrdinary qs (image ps old)) (sym is) (ordinary-back ps old fit h))
 
-rename-keeps : (e : Edit) → is_rename e ≡ true → keeps_layouts e ≡ true
+pub rename-keeps : (e : Edit) → is_rename e ≡ true → keeps_layouts e ≡ true
 rename-keeps (Rename path name) h = refl
 rename-keeps e h = cc
 

@@ -8,3 +8,4 @@ pub mod Step
 pub mod Still
 pub mod Tracking
 pub mod Ways
+pub mod Weights

@@ -1,5 +1,5 @@
 //! What the definitions have in common. Each function here is a law: it does nothing when it runs.
-ghost use Rattle.std.specs.Prelude.{◌≡◌, true, false, ℕ, List, None, Ok};
+ghost use Rattle.std.specs.Prelude.{◌≡◌, ◌≤◌, ◌⊎◌, true, false, ℕ, List, None, Ok};
 ghost use Rattle.rdl_tree.specs.Items.{Items};
 ghost use Rattle.rdl_tree.specs.Patch.{AllFit, image, inverses};
 ghost use Rattle.rdl_tree.specs.declared.patch.Patch.{Patch};
@@ -8,7 +8,11 @@ ghost use Rattle.rdl_elab.specs.Tracked.{Tracked, old_of, new_of, untouched};
 ghost use Rattle.rdl_elab.specs.Skeleton.{skeleton};
 ghost use Rattle.rdl_edit.specs.Step.{State, HasRows, Leads};
 ghost use Rattle.rdl_edit.specs.Still.{AreStill, moves_any, is_still_edit, keeps_layouts};
-ghost use Rattle.rdl_edit.specs.Placing.{reordered};
+ghost use Rattle.rdl_edit.specs.Backs.{Reversal, Fits, prior};
+ghost use Rattle.rdl_edit.specs.Weights.{steps_weight, changed_along};
+ghost use Rattle.journal_core.specs.Along.{FitInTurn};
+ghost use Rattle.rdl_edit.specs.OfEdits.{IsOwn};
+ghost use Rattle.rdl_edit.specs.Placing.{KeepsLayouts, reordered};
 ghost use Rattle.rdl_edit.specs.Tracking.{tracked_along, tracked_step, IsOrdinary, is_rename};
 ghost use Rattle.rdl_scope.specs.ItemFaults.{fault_of};
 ghost use Rattle.rdl_rewrite.specs.Patches.{patches};
@@ -59,6 +63,18 @@ pub fn ordinary_patches_go_by_name()
 pub fn edits_have_ordinary_patches()
     ensures edits { (d : Items) (e : Edit) → is_rename e ≡ false → IsOrdinary (patches d e) d }
     ensures back { (patches : List Patch) (d : Items) → AllFit patches d → IsOrdinary patches d → IsOrdinary (inverses patches d) (image patches d) }
+{}
+
+/// A step that an edit left behind, or that takes such a step back, is ordinary, or it keeps the layouts. So what `revert`
+/// places with it is bounded, by its clause `edited` or by `none`.
+pub fn own_steps_are_ordinary_or_keep_layouts()
+    ensures { (s : State) (back : Reversal) → HasRows s → IsOwn s back → IsOrdinary back.patches s.description ⊎ KeepsLayouts back.patches s.description }
+{}
+
+/// The steps that a history of maps keeps, each fitting where those before it led, weigh together at most what was dropped
+/// and replaced on the ways that they take back, and 20 for each of their patches.
+pub fn kept_steps_are_light()
+    ensures { (s : State) (steps : List Reversal) → HasRows s → FitInTurn prior Fits s steps → steps_weight steps ≤ changed_along s steps }
 {}
 
 /// The patches of an accepted edit of a map that has rows fit, and lead to the map that the edit makes. What takes them back

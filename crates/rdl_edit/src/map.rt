@@ -12,7 +12,7 @@ ghost use Rattle.rdl_edit.specs.Placing.{IsFew, KeepsLayouts};
 ghost use Rattle.rdl_edit.specs.Still.{keeps_layouts};
 ghost use Rattle.rdl_edit.specs.Tracking.{steps_edit, steps_change, IsOrdinary, is_rename};
 ghost use Rattle.rdl_edit.specs.Backs.{read_back, prior, Fits, IsCheap};
-ghost use Rattle.rdl_edit.specs.OfEdits.{IsOwn};
+ghost use Rattle.rdl_edit.specs.OfEdits.{IsLeft, IsOwn, IsTurned};
 ghost use Rattle.rdl_edit.specs.Resuming.{session_fault};
 ghost use Rattle.rdl_rewrite.specs.Patches.{patches};
 
@@ -202,7 +202,7 @@ impl Map {
 impl Invertible for Map {
     ghost use Rattle.rdl_edit.specs.Step.{Leads, Refuses};
     ghost use Rattle.rdl_edit.specs.Backs.{prior, Fits};
-    ghost use Rattle.rdl_edit.specs.OfEdits.{IsOwn};
+    ghost use Rattle.rdl_edit.specs.OfEdits.{IsLeft, IsOwn, IsTurned};
 
     type Change = Edit;
 
@@ -220,6 +220,10 @@ impl Invertible for Map {
 
     ghost own = { IsOwn };
 
+    ghost leaves = { IsLeft };
+
+    ghost turns = { IsTurned };
+
     ghost leads = { Leads };
 
     ghost refuses = { Refuses };
@@ -230,6 +234,7 @@ impl Invertible for Map {
         ensures fits { IfOk result (λ back. Fits self.new.state back) }
         ensures own { IfOk result (λ back. IsOwn self.new.state back) }
         ensures back { IfOk result (λ back. prior self.new.state back ≡ self.old.state) }
+        ensures leaves { IfOk result (λ back. IsLeft self.old.state edit.now back) }
         ensures mark { IfOk result (λ back. back.read ≡ false) }
         ensures inverse { IfOk result (λ back. back.patches ≡ inverses (patches self.old.state.description edit.now) self.old.state.description) }
         ensures cost { IfOk result (λ back. IsCheap (patches self.old.state.description edit.now) self.old.state.description back.patches) }
@@ -254,6 +259,7 @@ impl Invertible for Map {
         ensures fits { IfOk result (λ forward. Fits self.new.state forward) }
         ensures own { IfOk result (λ forward. IsOwn self.old.state back → IsOwn self.new.state forward) }
         ensures back { IfOk result (λ forward. prior self.new.state forward ≡ self.old.state) }
+        ensures turns { IfOk result (λ forward. IsTurned self.old.state back forward) }
         ensures mark { IfOk result (λ forward. forward.read ≡ back.read) }
         ensures inverse { IfOk result (λ forward. forward.patches ≡ inverses back.patches self.old.state.description) }
         ensures cost { IfOk result (λ forward. IsCheap back.patches self.old.state.description forward.patches) }

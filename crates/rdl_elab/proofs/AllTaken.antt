@@ -21,7 +21,7 @@ use Rattle.rdl_elab.specs.Layouts.{values_of, mode_inside, laid_out, layouts, la
 use Rattle.rdl_elab.specs.Capped.{capped_span, capped_layout}
 use Rattle.rdl_elab.specs.Written.{layouts_kept}
 use Rattle.rdl_elab.specs.MadeOf.{made_of}
-use Rattle.rdl_elab.specs.Words.{words, is_among}
+use Rattle.rdl_elab.specs.Words.{spelling, is_among}
 use Rattle.rdl_elab.specs.Kept.{Stored}
 use Rattle.rdl_elab.specs.Taken.{WasKept}
 use Rattle.rdl_elab.specs.Finishes.{IsLaidOut, AreLaidOut}
@@ -84,7 +84,7 @@ module _ (before : Stored) where
 
   module _ (marked : List ℕ → Bool) where
     abbrev IsFound : Made → Type 0
-    IsFound c = marked c.head.at ≡ false → is_among (words (made_of c)) before.words ≡ true
+    IsFound c = marked c.head.at ≡ false → is_among (spelling (made_of c)) before.words ≡ true
 
     abbrev many : Made → ℕ
     many c = if marked c.head.at then how_many c.parts else 0
@@ -110,7 +110,7 @@ module _ (before : Stored) where
   laid-layouts (f ∷ fs) [] h = absurd h
   laid-layouts (f ∷ fs) (c ∷ cs) h = λ i. (h.0.same ∙ h.0.layouts) i ∷ laid-layouts fs cs h.1 i
 
-  pub laid-among : (all : List (List ℕ)) (fs : List Finished) (cs : List Made) → AreKept all fs → AreLaidOut before fs cs → AllByRecursion (λ (c : Made). is_among (words (made_of c)) all ≡ true) cs
+  pub laid-among : (all : List (List ℕ)) (fs : List Finished) (cs : List Made) → AreKept all fs → AreLaidOut before fs cs → AllByRecursion (λ (c : Made). is_among (spelling (made_of c)) all ≡ true) cs
   laid-among all [] [] k h = tt
   laid-among all [] (c ∷ cs) k h = absurd h
   laid-among all (f ∷ fs) [] k h = absurd h

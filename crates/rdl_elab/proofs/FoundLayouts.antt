@@ -15,7 +15,7 @@ use Rattle.rdl_elab.specs.Finished.{under}
 use Rattle.rdl_elab.specs.Written.{all_written, layouts_kept, all_layouts}
 use Rattle.rdl_elab.specs.Kept.{Layouts}
 use Rattle.rdl_elab.specs.MadeOf.{made_of}
-use Rattle.rdl_elab.specs.Words.{words, is_among, AreFoundAgain}
+use Rattle.rdl_elab.specs.Words.{spelling, is_among, AreFoundAgain}
 use Rattle.rdl_elab.specs.Numbers.{components, number}
 use Rattle.rdl_elab.specs.AllKept.{shown_layout, has_layout, has_layout_by, layout_at, IsAsBefore, IsAsBeforeBut, AreFoundBut}
 use Rattle.rdl_elab.specs.StandIns.{stand_ins}
@@ -89,18 +89,18 @@ no-number None e = refl
 no-number (Some n) e = cc
 
 -- what a component that is as before was made of is kept
-pub found-as-before : (old : Items) (all : List (List ℕ)) (at : Option (List ℕ)) (c : Made) → AreFoundAgain old all → IsAsBefore old at c → is_among (words (made_of c)) all ≡ true
+pub found-as-before : (old : Items) (all : List (List ℕ)) (at : Option (List ℕ)) (c : Made) → AreFoundAgain old all → IsAsBefore old at c → is_among (spelling (made_of c)) all ≡ true
 found-as-before old all None c found h = cc
 found-as-before old all (Some a) c found h = by (component old a) refl h
   where
-    by : (o : Option Made) → component old a ≡ o → option_map made_of o ≡ Some (made_of c) → is_among (words (made_of c)) all ≡ true
+    by : (o : Option Made) → component old a ≡ o → option_map made_of o ≡ Some (made_of c) → is_among (spelling (made_of c)) all ≡ true
     by None e g = cc
     by (Some k) e g =
         let same : made_of k ≡ made_of c = cc in
-        ap (λ x. is_among (words x) all) (sym same) ∙ found a k e
+        ap (λ x. is_among (spelling x) all) (sym same) ∙ found a k e
 
 zip-before : (marked : List ℕ → Bool) (old : Items) (all : List (List ℕ)) (ats : List (Option (List ℕ))) (cs : List Made) → AreFoundAgain old all → AllZip (λ at (c : Made). marked c.head.at ≡ false → IsAsBefore old at c) ats cs
-    → AllByRecursion (λ (c : Made). marked c.head.at ≡ false → is_among (words (made_of c)) all ≡ true) cs
+    → AllByRecursion (λ (c : Made). marked c.head.at ≡ false → is_among (spelling (made_of c)) all ≡ true) cs
 zip-before marked old all [] [] found h = tt
 zip-before marked old all [] (c ∷ cs) found h = absurd h
 zip-before marked old all (at ∷ ats) [] found h = absurd h

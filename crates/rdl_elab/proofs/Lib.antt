@@ -26,6 +26,7 @@ pub mod Writing
 pub mod Roots
 pub mod DefaultStacks
 pub mod ValueLists
+pub mod OnlyKept
 pub mod Onward
 pub mod ListedValues
 pub mod BareHeads
@@ -49,6 +50,7 @@ pub mod FieldsInside
 pub mod KeptAnswers
 pub mod KnownRows
 pub mod Storing
+pub mod Coding
 pub mod Spelled
 pub mod FoundAgain
 pub mod Indexing

@@ -1,5 +1,5 @@
 -- Words tell apart what layouts are made of.
-use Rattle.std.proofs.Common.{◌≡◌, ℕ, List, [], ◌∷◌, ◌++◌, Option, Some, None, refl, ap, ◌∙◌, append_assoc, arith}
+use Rattle.std.proofs.Common.{◌≡◌, ℕ, List, [], ◌∷◌, Option, Some, None, refl, ap, ◌∙◌, arith}
 use Rattle.rdl_tree.specs.declared.shell.Kind.{Kind}
 use Rattle.rdl_tree.specs.declared.shell.Kind.TheVariants.{Addrmap, Regfile, Reg, Field}
 use Rattle.rdl_elab.specs.declared.layout.Mode.{Mode}
@@ -10,16 +10,11 @@ use Rattle.rdl_elab.specs.declared.each_member.Extent.{Extent}
 use Rattle.rdl_elab.specs.declared.each_member.Extents.{Extents}
 use Rattle.rdl_elab.specs.Kept.{Layouts, EachMember, MadeOf}
 use Rattle.rdl_elab.specs.MadeOf.{layouts_made}
-use Rattle.rdl_elab.specs.Words.{kind_word, mode_word, number_words, range_words, values_words, said_words, extent_words, extents_words, members_words, words, AreMadeOf, Puts}
+use Rattle.rdl_elab.specs.Words.{kind_word, mode_word, number_words, range_words, values_words, said_words, extent_words, extents_words, members_words, words, spelling, AreMadeOf}
+use Rattle.rdl_elab.proofs.Coding.{same-first, same-coded}
 
 apart : (◌≡◌ {A = ℕ} 0 1 → ⊥) × (◌≡◌ {A = ℕ} 1 0 → ⊥)
 apart = (λ e. omega (arith, e), λ e. omega (arith, e))
-
-same-first : (x y : ℕ) (xs ys : List ℕ) → x ∷ xs ≡ y ∷ ys → (x ≡ y) × (xs ≡ ys)
-same-first x y xs ys e =
-    let first : x ≡ y = cc in
-    let rest : xs ≡ ys = cc in
-    (first, rest)
 
 same-kind : (k l : Kind) → kind_word k ≡ kind_word l → k ≡ l
 same-kind Addrmap Addrmap e = refl
@@ -125,16 +120,12 @@ same-members (x ∷ xs) (y ∷ ys) e =
 
 -- ---- The whole.
 
-same-made : (a b : MadeOf) → words a ≡ words b → a ≡ b
+same-made : (a b : MadeOf) → spelling a ≡ spelling b → a ≡ b
 same-made a b e =
-    let h = same-values a.kind b.kind a.values b.values (members_words a.members) (members_words b.members) e in
+    let h = same-values a.kind b.kind a.values b.values (members_words a.members) (members_words b.members) (same-coded (words a) (words b) e) in
     let members = same-members a.members b.members h.2 in
     λ i. record { kind = h.0 i; values = h.1 i; members = members i }
 
--- layouts that are made of something are made of whatever has its words
-pub made-of-words : (a : MadeOf) (ws : List ℕ) (l : Layouts) → ws ≡ words a → layouts_made a ≡ l → AreMadeOf ws l
-made-of-words a ws l e h b f = ap layouts_made (same-made b a (f ∙ e)) ∙ h
-
--- words that are put behind a list, and words behind these
-pub puts-more : (old new more : List ℕ) → new ≡ old ++ more → Puts (λ rest. more ++ rest) old new
-puts-more old new more e rest = ap (λ xs. xs ++ rest) e ∙ append_assoc old more rest
+-- layouts that are made of something are made of whatever is spelled as it
+pub made-of-words : (a : MadeOf) (bytes : List ℕ) (l : Layouts) → bytes ≡ spelling a → layouts_made a ≡ l → AreMadeOf bytes l
+made-of-words a bytes l e h b f = ap layouts_made (same-made b a (f ∙ e)) ∙ h

@@ -15,7 +15,7 @@ use Rattle.rdl_elab.specs.Finished.{IsKept}
 use Rattle.rdl_elab.specs.Stands.{made_at, after_item}
 use Rattle.rdl_elab.specs.Written.{written, item_written}
 use Rattle.rdl_elab.specs.MadeOf.{made_of}
-use Rattle.rdl_elab.specs.Words.{words, is_among}
+use Rattle.rdl_elab.specs.Words.{spelling, is_among}
 use Rattle.rdl_elab.specs.Kept.{Stored}
 use Rattle.rdl_elab.specs.Taken.{WasKept}
 use Rattle.rdl_elab.specs.Finishes.{IsLaidOut, AreLaidOut, Finishes}
@@ -41,7 +41,7 @@ module _ (before : Stored) where
   pub finishes-push : (fs gs : List Finished) (f : Finished) (c : Made) → gs ≡ fs ++ f ∷ [] → IsLaidOut before f c → Finishes before fs gs (c ∷ [])
   finishes-push fs gs f c is h = record { more = f ∷ []; is = is; are = (h, tt) }
 
-  pub laid-out : (d : Items) (f : Finished) (c : Made) → IsKept d f c → f.laid_out.words ≡ words (made_of c) → f.laid_out.layouts ≡ f.layouts → WasKept before.slots f → (is_among f.laid_out.words before.words ≡ true → IsSome f.key) → IsLaidOut before f c
+  pub laid-out : (d : Items) (f : Finished) (c : Made) → IsKept d f c → f.laid_out.words ≡ spelling (made_of c) → f.laid_out.layouts ≡ f.layouts → WasKept before.slots f → (is_among f.laid_out.words before.words ≡ true → IsSome f.key) → IsLaidOut before f c
   laid-out d f c h e same kept taken = record {
     layouts = λ i. record { compact = h.layouts Compact i; regalign = h.layouts Regalign i; fullalign = h.layouts Fullalign i };
     made = e;

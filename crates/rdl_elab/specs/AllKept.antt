@@ -18,10 +18,10 @@ use Rattle.rdl_elab.specs.Capped.{capped_layout}
 use Rattle.rdl_elab.specs.Faults.{elaborated}
 use Rattle.rdl_elab.specs.Written.{all_written, all_layouts}
 use Rattle.rdl_elab.specs.MadeOf.{made_of}
-use Rattle.rdl_elab.specs.Words.{words, is_among, AreFoundAgain}
+use Rattle.rdl_elab.specs.Words.{spelling, is_among, AreFoundAgain}
 use Rattle.rdl_elab.specs.StandIns.{stand_ins}
 
--- the layouts of all components, each behind those inside it; the words of what is kept; the name that was asked of the top; and how
+-- the layouts of all components, each behind those inside it; the words of what is kept, as bytes; the name that was asked of the top; and how
 -- many instances were placed, once for each mode
 pub record KeptLayouts : Type 0 where
   pub layouts : List Layouts
@@ -86,7 +86,7 @@ instances_at marked d = sum_by (λ (c : Made). if marked c.head.at then how_many
 
 -- what these were made of is kept, but for those at these addresses
 abbrev pub AreFoundBut : (List ℕ → Bool) → List (List ℕ) → Items → Type 0
-AreFoundBut marked all d = AllByRecursion (λ (c : Made). marked c.head.at ≡ false → is_among (words (made_of c)) all ≡ true) (all_written d)
+AreFoundBut marked all d = AllByRecursion (λ (c : Made). marked c.head.at ≡ false → is_among (spelling (made_of c)) all ≡ true) (all_written d)
 
 -- so are the words of these finished components
 abbrev pub AreKept : List (List ℕ) → List Finished → Type 0

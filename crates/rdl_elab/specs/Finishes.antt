@@ -7,17 +7,17 @@ use Rattle.rdl_elab.specs.declared.finished.Finished.{Finished}
 use Rattle.rdl_elab.specs.Kept.{Stored}
 use Rattle.rdl_elab.specs.Written.{layouts_kept}
 use Rattle.rdl_elab.specs.MadeOf.{made_of}
-use Rattle.rdl_elab.specs.Words.{words, is_among}
+use Rattle.rdl_elab.specs.Words.{spelling, is_among}
 use Rattle.rdl_elab.specs.Taken.{WasKept}
 
--- a finished component has the layouts of this one, and the words of what they are made of; layouts with a key are those that stand under
+-- a finished component has the layouts of this one, and the words of what they are made of, as bytes; layouts with a key are those that stand under
 -- it, and where these words are among the words of what is kept, they have one
 pub record IsLaidOut (before : Stored) (f : Finished) (c : Made) : Type 0 where
   pub layouts : f.layouts ≡ layouts_kept c
-  pub made : f.laid_out.words ≡ words (made_of c)
+  pub made : f.laid_out.words ≡ spelling (made_of c)
   pub same : f.laid_out.layouts ≡ f.layouts
   pub kept : WasKept before.slots f
-  pub taken : is_among (words (made_of c)) before.words ≡ true → IsSome f.key
+  pub taken : is_among (spelling (made_of c)) before.words ≡ true → IsSome f.key
 
 abbrev pub AreLaidOut : Stored → List Finished → List Made → Type 0
 AreLaidOut before [] [] = Unit {0}

@@ -7,7 +7,7 @@ use Rattle.rdl_elab.specs.Layouts.{number_in}
 use Rattle.rdl_elab.specs.Reaches.{values_along}
 
 abbrev pub number : InstanceReset → Option ℕ
-number reset = number_in (Some reset.value)
+number reset = number_in reset.value
 
 abbrev pub with_reset : Option InstanceReset → List PropertyValue → List PropertyValue
 with_reset None own = own

@@ -35,13 +35,13 @@ pub record MadeOf : Type 0 where
   pub values : LayoutValues
   pub members : List EachMember
 
--- layouts, and the words of what they are made of
+-- layouts, and the words of what they are made of, as bytes
 pub record LaidOut : Type 0 where
   pub words : List ℕ
   pub layouts : Layouts
 
 -- what is kept: the slots of a slab with layouts, whose numbers are their keys; the keys of the layouts of all components in their order;
--- the words of what they are made of; and how many instances were placed for them
+-- the words of what they are made of, as bytes; and how many instances were placed for them
 pub record Stored : Type 0 where
   pub slots : List (Option Layouts)
   pub keys : List ℕ

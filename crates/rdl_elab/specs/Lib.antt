@@ -23,6 +23,7 @@ pub mod Inside
 pub mod LaidOut
 pub mod Written
 pub mod MadeOf
+pub mod Coded
 pub mod Words
 pub mod Stored
 pub mod Taken

@@ -1,9 +1,7 @@
 -- The instances of a component by their names.
 -- own: how they are looked up.
 use Rattle.std.specs.Prelude.{◌≡◌, ℕ, suc, List, [], ◌∷◌, Option, Some, None, option_map, bytes_eq, if◌then◌else◌}
-use Rattle.std.specs.BTreeMap.{get_by}
-use Rattle.std.specs.Cmp.Lexicographic.{slice_cmp}
-use Rattle.std.specs.Ordering.{nat_cmp}
+use Rattle.rdl_scope.specs.ByName.{value_under}
 use Rattle.rdl_elab.specs.Kept.{Part}
 use Rattle.rdl_elab.specs.declared.part_list.PartNames.{PartNames}
 
@@ -19,7 +17,7 @@ place_named name (p ∷ ps) = if bytes_eq p.shell.name name then Some 0 else opt
 
 -- the number under a name
 abbrev pub place_under : PartNames → List ℕ → Option ℕ
-place_under names q = get_by (λ k. slice_cmp nat_cmp q k.now) names.places
+place_under names q = value_under names.places q
 
 -- under each name stands the number of its first instance
 abbrev pub AreNamed : PartNames → List Part → Type 0

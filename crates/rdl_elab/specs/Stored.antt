@@ -1,6 +1,6 @@
 -- Layouts under keys, and how they are found by the words of what they are made of.
 -- own: how they are kept.
-use Rattle.std.specs.Prelude.{◌≡◌, ℕ, List, map, Option, Some, None, IsSomeAnd, slice_get, slice_index_or}
+use Rattle.std.specs.Prelude.{◌≡◌, ℕ, List, map, Option, Some, None, IsSome, IsSomeAnd, Contains, slice_get, slice_index_or}
 use Rattle.std.specs.List.{filter_map, AllByRecursion}
 use Rattle.std.specs.Global.{Vec}
 use Rattle.rdl_elab.specs.Kept.{Layouts}
@@ -17,6 +17,10 @@ all_under slots keys = filter_map (under_key slots) keys
 -- under these keys stand these layouts
 abbrev pub AreUnder : List (Option Layouts) → List ℕ → List Layouts → Type 0
 AreUnder slots keys all = map (under_key slots) keys ≡ map Some all
+
+-- nothing stands but under these keys
+abbrev pub HoldsOnly : List (Option Layouts) → List ℕ → Type 0
+HoldsOnly slots keys = (k : ℕ) → IsSome (under_key slots k) → Contains keys k
 
 -- the words of an index
 abbrev pub words_in : List (Vec ℕ × ℕ) → List (List ℕ)

@@ -1,6 +1,6 @@
 -- What is taken over of finished components.
 -- own: how layouts are kept.
-use Rattle.std.specs.Prelude.{◌≡◌, ℕ, List, All, Option, Some, IfSome}
+use Rattle.std.specs.Prelude.{◌≡◌, ℕ, Bool, true, List, All, Contains, Option, Some, IfSome, slice_get}
 use Rattle.slab.specs.Slab.{Slab, get}
 use Rattle.rdl_elab.specs.Kept.{Layouts}
 use Rattle.rdl_elab.specs.Stored.{under_key}
@@ -25,3 +25,11 @@ WasKept slots f = IfSome f.key (λ n. under_key slots n ≡ Some f.laid_out.layo
 -- what stood under a key goes on to stand there
 abbrev pub Stays : Slab Layouts → Slab Layouts → Type 0
 Stays old new = (k : ℕ) (l : Layouts) → get old k ≡ Some l → get new k ≡ Some l
+
+-- the keys that are there are among these
+abbrev pub AreAmong : List (Option ℕ) → List ℕ → Type 0
+AreAmong some keys = (k : ℕ) → Contains some (Some k) → Contains keys k
+
+-- what is marked is one of the keys that are there
+abbrev pub AreMarkedOf : List Bool → List (Option ℕ) → Type 0
+AreMarkedOf marks some = (k : ℕ) → slice_get marks k ≡ Some true → Contains some (Some k)

@@ -1,9 +1,7 @@
 -- The types before an item as a stack, with an index of the nearest of each name.
 -- own: how the types are kept. Which of them a name means `lookup` says.
 use Rattle.std.specs.Prelude.{◌≡◌, ℕ, List, [], ◌∷◌, map, Option, None}
-use Rattle.std.specs.BTreeMap.{get_by}
-use Rattle.std.specs.Cmp.Lexicographic.{slice_cmp}
-use Rattle.std.specs.Ordering.{nat_cmp}
+use Rattle.rdl_scope.specs.ByName.{value_under}
 use Rattle.rdl_scope.specs.Closed.{lookup}
 use Rattle.rdl_elab.specs.declared.types.TypeEntry.{TypeEntry}
 use Rattle.rdl_elab.specs.declared.types.TypeIndex.{TypeIndex}
@@ -19,7 +17,7 @@ Hides (e ∷ es) = (e.hidden ≡ lookup e.name.now (pairs es)) × Hides es
 
 -- the index has the nearest of each name
 abbrev pub IsIndex : TypeIndex → List (List ℕ × ℕ) → Type 0
-IsIndex index types = (q : List ℕ) → get_by (λ k. slice_cmp nat_cmp q k.now) index.components ≡ lookup q types
+IsIndex index types = (q : List ℕ) → value_under index.components q ≡ lookup q types
 
 -- without the nearest type the index has again the one whose name it hid
 abbrev pub Uncovers : List ℕ → Option ℕ → TypeIndex → TypeIndex → Type 0

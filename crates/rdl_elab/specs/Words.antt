@@ -1,4 +1,4 @@
--- What layouts are made of as one list of numbers, its words, by which they are found again.
+-- What layouts are made of as one list of numbers, its words, and these as bytes, by which they are found again.
 -- own: how they are kept.
 use Rattle.std.specs.Prelude.{◌≡◌, ℕ, Bool, true, List, [], ◌∷◌, ◌++◌, Option, Some, None, bytes_eq}
 use Rattle.std.specs.List.{list_any, AllByRecursion}
@@ -12,6 +12,7 @@ use Rattle.rdl_elab.specs.declared.layout.LayoutValues.{LayoutValues}
 use Rattle.rdl_elab.specs.declared.each_member.Said.{Said}
 use Rattle.rdl_elab.specs.declared.each_member.Extent.{Extent}
 use Rattle.rdl_elab.specs.declared.each_member.Extents.{Extents}
+use Rattle.rdl_elab.specs.Coded.{coded}
 use Rattle.rdl_elab.specs.Kept.{Layouts, EachMember, MadeOf}
 use Rattle.rdl_elab.specs.MadeOf.{made_of, layouts_made}
 
@@ -58,22 +59,27 @@ members_words (m ∷ ms) = member_words m (members_words ms)
 abbrev pub words : MadeOf → List ℕ
 words a = values_words a.kind a.values (members_words a.members)
 
--- such words are put behind a list
+-- ---- As bytes.
+
+abbrev pub spelling : MadeOf → List ℕ
+spelling a = coded (words a)
+
+-- such words are put behind some bytes
 abbrev pub Puts : (List ℕ → List ℕ) → List ℕ → List ℕ → Type 0
-Puts more old new = (rest : List ℕ) → new ++ rest ≡ old ++ more rest
+Puts more old new = (rest : List ℕ) → new ++ coded rest ≡ old ++ coded (more rest)
 
 -- ---- What is found by them.
 
--- layouts that are made of whatever has these words
+-- layouts that are made of whatever these bytes spell
 abbrev pub AreMadeOf : List ℕ → Layouts → Type 0
-AreMadeOf ws l = (a : MadeOf) → words a ≡ ws → layouts_made a ≡ l
+AreMadeOf bytes l = (a : MadeOf) → spelling a ≡ bytes → layouts_made a ≡ l
 
 abbrev pub is_among : List ℕ → List (List ℕ) → Bool
 is_among ws all = list_any (λ vs. bytes_eq ws vs) all
 
 -- the layouts of each component are found by what they are made of
 abbrev pub AreFoundAgain : Items → List (List ℕ) → Type 0
-AreFoundAgain d all = (a : List ℕ) (c : Made) → component d a ≡ Some c → is_among (words (made_of c)) all ≡ true
+AreFoundAgain d all = (a : List ℕ) (c : Made) → component d a ≡ Some c → is_among (spelling (made_of c)) all ≡ true
 
 abbrev pub AreAmong : List (List ℕ) → List MadeOf → Type 0
-AreAmong all xs = AllByRecursion (λ a. is_among (words a) all ≡ true) xs
+AreAmong all xs = AllByRecursion (λ a. is_among (spelling a) all ≡ true) xs

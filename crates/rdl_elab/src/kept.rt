@@ -118,11 +118,11 @@ fn fault_under<'a>(
 
 /// Lays out all components of this description, and keeps their layouts in place of what was kept, which is taken over
 /// where it was made of the same. Nothing changes if the map with this top has a fault.
-fn lay_out(
+fn lay_out<'a>(
     alloc: Global,
     stored: &mut Stored,
-    description: &Description,
-    top: &Top,
+    description: &'a Description,
+    top: &Top<'a>,
     judgement: Judgement,
 ) -> Result<Result<(), Fault>, AllocError>
     requires nesting { depth description.now.items ≤ 16 }
@@ -187,11 +187,11 @@ impl Kept {
 
     /// Lays out all components of this description, and takes over what was kept where it was made of the same. Nothing
     /// changes if the map with this top has a fault.
-    fn follow(
+    fn follow<'a>(
         &mut self,
         alloc: Global,
-        description: &Description,
-        top: &Top,
+        description: &'a Description,
+        top: &Top<'a>,
         wanted: Option<&str>,
         judgement: Judgement,
     ) -> Result<Result<(), Fault>, AllocError>

@@ -4,14 +4,13 @@ ghost use Rattle.std.specs.Option.{IsSome};
 ghost use Rattle.rdl_elab.specs.Capped.{IsAlignment};
 ghost use Rattle.rdl_elab.specs.LaidOut.{kept_members};
 ghost use Rattle.rdl_elab.specs.Stored.{under_key};
-ghost use Rattle.rdl_elab.specs.Words.{words, is_among};
+ghost use Rattle.rdl_elab.specs.Words.{spelling, is_among};
 
 use crate::finished::{Finished, Layouts, Part};
 use crate::instances::layouts;
 use crate::layout::{Layout, LayoutValues, Mode};
 use crate::stored::Stored;
 use crate::words::words;
-use rdl_text::token::Number;
 use rdl_tree::shell::Kind;
 use std::alloc::{AllocError, Global};
 use std::marker::Model;
@@ -76,10 +75,10 @@ impl SharedLayouts {
     }
 }
 
-/// The layouts of a component, with the words of what they are made of. A contract sees the record of specs/.
+/// The layouts of a component, with the words of what they are made of, as bytes. A contract sees the record of specs/.
 #[derive(Debug, Drop)]
 pub(crate) struct LaidOut {
-    words: Vec<Number>,
+    words: Vec<u8>,
     layouts: SharedLayouts,
 }
 
@@ -108,7 +107,7 @@ impl LaidOut {
     }
 
     /// The words and the layouts.
-    pub(crate) fn into_parts(self) -> (Vec<Number>, SharedLayouts)
+    pub(crate) fn into_parts(self) -> (Vec<u8>, SharedLayouts)
         ensures words { result.0.items ≡ self.words }
         ensures layouts { result.1 ≡ self.layouts }
         ensures made { AreMadeOf self.words self.layouts }
@@ -129,12 +128,12 @@ fn new_layouts(
     alloc: Global,
     kind: Kind,
     values: LayoutValues,
-    spelled: Vec<Number>,
+    spelled: Vec<u8>,
     parts: &[Part],
     components: &[Finished],
 ) -> Result<LaidOut, AllocError>
     requires alignment { IsAlignment values.alignment }
-    requires spelled { spelled.items ≡ words (record { kind = kind; values = values; members = kept_members components.now parts.now }) }
+    requires spelled { spelled.items ≡ spelling (record { kind = kind; values = values; members = kept_members components.now parts.now }) }
     ensures { IfOk result (λ new. new.words ≡ spelled.items) }
 {
     let layouts = layouts(alloc, kind, values, parts, components)?;
@@ -155,7 +154,7 @@ pub(crate) fn take_layouts(
     before: &Stored,
 ) -> Result<Taken, AllocError>
     requires { IsAlignment values.alignment }
-    ensures words { IfOk result (λ t. t.laid_out.words ≡ words (record { kind = kind; values = values; members = kept_members components.now parts.now })) }
+    ensures words { IfOk result (λ t. t.laid_out.words ≡ spelling (record { kind = kind; values = values; members = kept_members components.now parts.now })) }
     ensures kept { IfOk result (λ t. IfSome t.key (λ k. under_key before.now.slots k ≡ Some t.laid_out.layouts)) }
     ensures taken { IfOk result (λ t. is_among t.laid_out.words before.now.words ≡ true → IsSome t.key) }
 {

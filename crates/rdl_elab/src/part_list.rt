@@ -3,15 +3,15 @@ ghost use Rattle.std.specs.Prelude.{◌≡◌, option_and_then, option_copied, s
 ghost use Rattle.rdl_elab.specs.PartNames.{part_named};
 
 use crate::finished::Part;
+use rdl_scope::by_name::ByName;
 use rdl_text::name::Name;
 use std::alloc::{AllocError, Global};
-use std::collections::BTreeMap;
 use std::marker::Model;
 
 /// The number of the first instance of each name.
 #[derive(Drop)]
 pub(crate) struct PartNames<'a> {
-    places: BTreeMap<&'a str, usize>,
+    places: ByName<'a, usize>,
 }
 
 /// The instances of a component. A contract sees their list.
@@ -29,7 +29,7 @@ impl<'a> PartNames<'a> {
     fn put(&mut self, name: &'a str, place: usize) -> Result<(), AllocError>
         ensures { OnOk result ((q : List ℕ) → place_under self.new q ≡ (if bytes_eq name.now q then Some place else place_under self.old q)) }
     {
-        self.places.insert(name, place)?;
+        self.places.put(name, place)?;
         Ok(())
     }
 
@@ -37,7 +37,7 @@ impl<'a> PartNames<'a> {
         ensures { IfOk result (λ names. AreNamed names parts.now) }
     {
         let mut names = PartNames {
-            places: BTreeMap::new(alloc),
+            places: ByName::new(alloc),
         };
         for i in (0..parts.len()).rev() {
             names.put(parts[i].shell().name.as_str(), i)?;
@@ -45,10 +45,10 @@ impl<'a> PartNames<'a> {
         Ok(names)
     }
 
-    fn get(&self, name: &str) -> Option<usize>
+    fn get(&self, name: &'a str) -> Option<usize>
         ensures { result ≡ place_under self.now name.now }
     {
-        self.places.get(name).copied()
+        self.places.get(name)
     }
 }
 
@@ -110,7 +110,7 @@ impl<'a> PartList<'a> {
     }
 
     /// The first instance of this name.
-    pub(crate) fn named(&self, name: &Name) -> Option<&Part<'a>>
+    pub(crate) fn named(&self, name: &'a Name) -> Option<&Part<'a>>
         ensures { option_copied result ≡ part_named name.now self.now.items }
     {
         let parts = self.items.as_slice();

@@ -2,9 +2,10 @@
 ghost use Rattle.std.specs.Prelude.{◌≡◌, ℕ, ◌++◌, List, [], true, IfOk, OnOk, option_copied};
 ghost use Rattle.rdl_tree.specs.Address.{number_of};
 ghost use Rattle.rdl_elab.specs.KeptTargets.{kept_target};
-ghost use Rattle.rdl_elab.specs.Reaches.{reaches_by, behind, reached, reach_by};
+ghost use Rattle.std.specs.List.{list_any};
+ghost use Rattle.rdl_elab.specs.Reaches.{Reach, reaches_by, behind, reached, reach_by, has_ended};
 
-use crate::finished::Finished;
+use crate::finished::{Finished, Part};
 use crate::part_list::PartList;
 use crate::targets::target_path;
 use rdl_text::name::Name;
@@ -180,6 +181,13 @@ pub(crate) fn have_ended(reaching: &[Assignment]) -> bool
     true
 }
 
+/// Whether one of them has passed all its instances.
+pub(crate) fn has_come(reaching: &[Assignment]) -> bool
+    ensures { result ≡ list_any (λ (a : Reach). has_ended a.path) reaching.now }
+{
+    reaching.iter().any(|assignment| assignment.has_ended())
+}
+
 /// Those whose targets pass this instance.
 #[tactic(auto, using(crate::proofs::ValueLists::steps))]
 fn behind<'a>(
@@ -237,12 +245,12 @@ impl<'a> Onward<'a> {
     pub(crate) fn behind(
         &self,
         alloc: Global,
-        instance: &Address,
+        part: &Part,
     ) -> Result<Vec<Assignment<'a>>, AllocError>
-        ensures { IfOk result (λ list. (reaching : List Reach) → IsOnward self.now reaching → list.items ≡ behind instance.now reaching) }
+        ensures { IfOk result (λ list. (reaching : List Reach) → IsOnward self.now reaching → list.items ≡ behind part.now.at reaching) }
     {
-        match self.by_number.get(&number_of(instance)) {
-            Some(list) => behind(alloc, instance, list.as_slice()),
+        match self.by_number.get(&part.place()) {
+            Some(list) => behind(alloc, &part.at(), list.as_slice()),
             None => Ok(Vec::new(alloc)),
         }
     }

@@ -92,11 +92,11 @@ impl ComponentValues {
     }
 }
 
-/// The number behind the `=` of an instance of a component of this kind.
+/// The number behind the `=` of an instance of a component of this kind, if there is one.
 #[derive(Debug, Drop)]
 pub(crate) struct InstanceReset {
     kind: Kind,
-    value: Value,
+    value: Option<Value>,
 }
 
 impl InstanceReset {
@@ -112,7 +112,7 @@ impl InstanceReset {
             return None;
         }
         match (property, &self.value) {
-            (Property::Reset, Value::Number(_)) => Some(&self.value),
+            (Property::Reset, Some(Value::Number(_))) => self.value.as_ref(),
             _ => own.get(property),
         }
     }
@@ -157,14 +157,14 @@ impl RowValues {
     }
 
     /// Those of an instance with this reset, whose component, of this kind, has these values by itself.
-    pub(crate) fn with_reset(own: ComponentValues, kind: Kind, reset: Number) -> RowValues
-        ensures { result ≡ values_along kind (Some reset) [] own }
+    pub(crate) fn with_reset(own: ComponentValues, kind: Kind, reset: Option<Number>) -> RowValues
+        ensures { result ≡ values_along kind reset [] own }
     {
         RowValues {
             own,
             reset: Some(InstanceReset {
                 kind,
-                value: Value::Number(reset),
+                value: reset.map(Value::Number),
             }),
         }
     }

@@ -1,17 +1,19 @@
 //! The rows of a map, level by level, up to the first that has a fault.
-ghost use Rattle.std.specs.Prelude.{◌≡◌, ℕ, ◌+◌, ◌^◌, ◌-◌, ◌++◌, ◌∷◌, [], List, min, map, nat_lt, unwrap_or, zero, suc, Some, None, IfOk, OnOk, option_copied, slice_get};
+ghost use Rattle.std.specs.Prelude.{◌≡◌, ℕ, ◌+◌, ◌^◌, ◌-◌, ◌++◌, ◌∷◌, [], List, min, map, nat_lt, unwrap_or, zero, suc, true, false, Some, None, IfOk, OnOk, option_copied, slice_get};
 ghost use Rattle.rdl_scope.specs.ItemFaults.{fault_at};
 ghost use Rattle.rdl_elab.specs.Layouts.{number_in};
 ghost use Rattle.rdl_elab.specs.Rows.{place_of};
 ghost use Rattle.rdl_elab.specs.Onward.{IsOnward};
-ghost use Rattle.rdl_elab.specs.Reaches.{Reach, behind, value_under};
+ghost use Rattle.rdl_elab.specs.Reaches.{Reach, behind, value_under, values_along};
+ghost use Rattle.rdl_tree.specs.declared.shell.Kind.{Kind};
+ghost use Rattle.rdl_elab.specs.declared.row.PropertyValue.{PropertyValue};
 ghost use Rattle.rdl_elab.specs.Finished.{under};
 ghost use Rattle.rdl_elab.specs.KeptRows.{kept_base, kept_values, kept_row, seen, kept_fault, field_fault, extent_fault, judged, surroundings_inside, level_rows, kept_rows, told_one, told};
 
 use crate::finished::{Finished, Part};
 use crate::instances::mode_inside;
 use crate::layout::{Mode, Span};
-use crate::reaches::{Assignment, Onward, with_own};
+use crate::reaches::{Assignment, Onward, has_come, with_own};
 use crate::row::{Extent, Place, Row, RowPath};
 use crate::row_values::{ComponentValues, RowValues};
 use crate::siblings::{Sibling, Siblings, as_sibling, is_reset_too_wide};
@@ -96,6 +98,17 @@ fn longer(alloc: Global, names: &[Name], name: &Name) -> Result<Rc<Vec<Name>>, A
     Ok(Rc::new(alloc, copies)?)
 }
 
+/// Whether nothing reaches an instance with this reset.
+fn is_alone(reset: Option<Number>, reaching: &[Assignment]) -> bool
+    ensures alone { result ≡ true → (k : Kind) (own : List PropertyValue) → own ≡ kept_values k reset reaching.now own }
+    ensures reached { result ≡ false → (k : Kind) (own : List PropertyValue) → values_along k reset reaching.now own ≡ kept_values k reset reaching.now own }
+{
+    match reset {
+        Some(_) => false,
+        None => reaching.is_empty(),
+    }
+}
+
 /// The values of the row of an instance with this reset, whose component has these values by itself.
 pub(crate) fn values(
     alloc: Global,
@@ -106,14 +119,14 @@ pub(crate) fn values(
 ) -> Result<RowValues, AllocError>
     ensures { IfOk result (λ values. values ≡ kept_values kind reset reaching.now own.now) }
 {
-    if !reaching.is_empty() {
+    if has_come(reaching) {
         return row_values(alloc, kind, reset, reaching, own);
     }
     let own = own.share()?;
-    Ok(match reset {
-        Some(number) => RowValues::with_reset(own, kind, number),
-        None => RowValues::of(own),
-    })
+    if is_alone(reset, reaching) {
+        return Ok(RowValues::of(own));
+    }
+    Ok(RowValues::with_reset(own, kind, reset))
 }
 
 /// The assignments whose targets pass this instance.
@@ -124,7 +137,7 @@ pub(crate) fn behind_part<'a>(
 ) -> Result<Vec<Assignment<'a>>, AllocError>
     ensures { IfOk result (λ list. (reaching : List Reach) → IsOnward onward.now reaching → list.items ≡ behind part.now.at reaching) }
 {
-    onward.behind(alloc, &part.at())
+    onward.behind(alloc, part)
 }
 
 fn row(

@@ -1,19 +1,19 @@
 //! Layouts under their keys, found again by the words of what they are made of.
-ghost use Rattle.std.specs.Prelude.{◌≡◌, ◌≤◌, ◌<◌, ◌+◌, ℕ, List, [], true, map, length, slice_get, option_map, option_and_then, Some, All, IfOk, IfSome, OnOk};
+ghost use Rattle.std.specs.Prelude.{◌≡◌, ◌⊎◌, ◌≤◌, ◌<◌, ◌+◌, ℕ, List, [], true, map, length, slice_get, option_map, option_and_then, Some, All, Contains, IfOk, IfSome, IsSome, OnOk};
 ghost use Rattle.std.specs.Vec.{vec_capacity, vec_len};
 ghost use Rattle.slab.specs.Slab.{get, HasRoomFor};
+ghost use Rattle.rdl_elab.specs.declared.finished.Finished.{Finished};
 ghost use Rattle.rdl_elab.specs.declared.stored.Candidate.{Candidate};
 ghost use Rattle.rdl_elab.specs.declared.stored.Keyed.{Keyed};
 ghost use Rattle.rdl_elab.specs.AllKept.{AreKept};
 ghost use Rattle.rdl_elab.specs.Kept.{Layouts};
 ghost use Rattle.rdl_elab.specs.Words.{is_among};
 ghost use Rattle.rdl_elab.specs.Stored.{words_in, Leads};
-ghost use Rattle.rdl_elab.specs.Taken.{keyed, IsTaken, AreTaken, Stays};
+ghost use Rattle.rdl_elab.specs.Taken.{keyed, IsTaken, AreTaken, Stays, AreMarkedOf, AreAmong};
 
 use crate::finished::Finished;
 use crate::laid_out::{LaidOut, SharedLayouts};
 use crate::layout::{Layout, Mode};
-use rdl_text::token::Number;
 use slab::Slab;
 use std::alloc::{AllocError, Global};
 use std::collections::BTreeMap;
@@ -37,28 +37,39 @@ struct Keyed {
 #[derive(Debug, Drop)]
 struct Indexed {
     all: Vec<Keyed>,
-    index: BTreeMap<Vec<Number>, usize>,
+    index: BTreeMap<Vec<u8>, usize>,
+}
+
+/// Marks the key, if there is one that is within.
+fn mark(used: &mut Vec<bool>, key: Option<usize>)
+    ensures marked { IfSome key (λ k. k < length used.old.items → slice_get used.new.items k ≡ Some true) }
+    ensures stays { (k : ℕ) → slice_get used.old.items k ≡ Some true → slice_get used.new.items k ≡ Some true }
+    ensures only { (k : ℕ) → slice_get used.new.items k ≡ Some true → (slice_get used.old.items k ≡ Some true) ⊎ (key ≡ Some k) }
+    ensures size { length used.new.items ≡ length used.old.items }
+{
+    if let Some(key) = key {
+        if let Some(mark) = used.get_mut(key) {
+            *mark = true;
+        }
+    }
 }
 
 /// Marks the keys, up to this many, of those that were kept before.
 fn used_keys(alloc: Global, len: usize, components: &[Finished]) -> Result<Vec<bool>, AllocError>
-    ensures { IfOk result (λ used. All (λ f. IfSome f.key (λ k. k < len → slice_get used.items k ≡ Some true)) components.now) }
+    ensures marked { IfOk result (λ used. All (λ f. IfSome f.key (λ k. k < len → slice_get used.items k ≡ Some true)) components.now) }
+    ensures only { IfOk result (λ used. AreMarkedOf used.items (map (λ (f : Finished). f.key) components.now)) }
 {
     let mut used = Vec::with_capacity(alloc, len)?;
     used.resize(len, false)?;
     for finished in components {
-        if let Some(key) = finished.key {
-            if let Some(mark) = used.get_mut(key) {
-                *mark = true;
-            }
-        }
+        mark(&mut used, finished.key);
     }
     Ok(used)
 }
 
 /// Leads from the words to the number, and answers the layouts.
 fn lead(
-    index: &mut BTreeMap<Vec<Number>, usize>,
+    index: &mut BTreeMap<Vec<u8>, usize>,
     number: usize,
     laid_out: LaidOut,
 ) -> Result<SharedLayouts, AllocError>
@@ -74,7 +85,7 @@ fn lead(
 
 /// Leads from the words of a finished component to its number, and answers what is to be kept of it.
 fn keep(
-    index: &mut BTreeMap<Vec<Number>, usize>,
+    index: &mut BTreeMap<Vec<u8>, usize>,
     number: usize,
     finished: Finished,
 ) -> Result<Keyed, AllocError>
@@ -107,6 +118,8 @@ fn index_of(alloc: Global, components: Vec<Finished>) -> Result<Indexed, AllocEr
 fn remove_unmarked(layouts: &mut Slab<SharedLayouts>, key: usize, marks: &[bool])
     ensures kept { (k : ℕ) → slice_get marks.now k ≡ Some true → get layouts.new k ≡ get layouts.old k }
     ensures room { (more : ℕ) → HasRoomFor layouts.old more → HasRoomFor layouts.new more }
+    ensures left { (k : ℕ) → IsSome (get layouts.new k) → IsSome (get layouts.old k) }
+    ensures gone { IsSome (get layouts.new key) → slice_get marks.now key ≡ Some true }
 {
     match marks.get(key) {
         Some(true) => {}
@@ -120,6 +133,8 @@ fn remove_unmarked(layouts: &mut Slab<SharedLayouts>, key: usize, marks: &[bool]
 fn remove_unused(layouts: &mut Slab<SharedLayouts>, keys: &[usize], marks: &[bool])
     ensures kept { (k : ℕ) → slice_get marks.now k ≡ Some true → get layouts.new k ≡ get layouts.old k }
     ensures room { (more : ℕ) → HasRoomFor layouts.old more → HasRoomFor layouts.new more }
+    ensures left { (k : ℕ) → IsSome (get layouts.new k) → IsSome (get layouts.old k) }
+    ensures gone { (k : ℕ) → Contains keys.now k → IsSome (get layouts.new k) → slice_get marks.now k ≡ Some true }
 {
     for key in keys {
         remove_unmarked(layouts, *key, marks);
@@ -133,6 +148,8 @@ fn put(layouts: &mut Slab<SharedLayouts>, one: Keyed) -> usize
     ensures put { get layouts.new result ≡ Some one.layouts }
     ensures others { Stays layouts.old layouts.new }
     ensures room { (more : ℕ) → HasRoomFor layouts.old (more + 1) → HasRoomFor layouts.new more }
+    ensures key { IfSome one.key (λ k. k ≡ result) }
+    ensures only { (k : ℕ) → IsSome (get layouts.new k) → IsSome (get layouts.old k) ⊎ (k ≡ result) }
 {
     match one.key {
         Some(key) => key,
@@ -147,7 +164,9 @@ fn put_all(layouts: &mut Slab<SharedLayouts>, all: Vec<Keyed>, keys: &mut Vec<us
     requires empty { keys.old.items ≡ [] }
     requires count { vec_len all ≡ length all.items }
     requires kept { AreTaken layouts.old all.items }
-    ensures { map (get layouts.new) keys.new.items ≡ map (λ k. Some k.layouts) all.items }
+    ensures under { map (get layouts.new) keys.new.items ≡ map (λ k. Some k.layouts) all.items }
+    ensures keys { AreAmong (map (λ (k : Keyed). k.key) all.items) keys.new.items }
+    ensures only { (k : ℕ) → IsSome (get layouts.new k) → IsSome (get layouts.old k) ⊎ Contains keys.new.items k }
 {
     for one in all {
         let key = put(layouts, one);
@@ -178,7 +197,7 @@ pub(crate) struct Stored {
     /// The keys of all components in their order.
     keys: Vec<usize>,
     /// The number of a component whose layouts are made of what the words say.
-    index: BTreeMap<Vec<Number>, usize>,
+    index: BTreeMap<Vec<u8>, usize>,
     placed: u64,
 }
 
@@ -187,11 +206,11 @@ impl Model for Stored {
 
     ghost Value = { Stored };
 
-    ghost use Rattle.rdl_elab.specs.Stored.{all_under, AreUnder, words_in, Leads};
+    ghost use Rattle.rdl_elab.specs.Stored.{all_under, AreUnder, HoldsOnly, words_in, Leads};
 
     ghost view = { λ s. record { slots = s.layouts.slots; keys = s.keys.items; words = words_in s.index.entries; placed = s.placed } };
 
-    ghost invariant = { λ s. AreUnder s.layouts.slots s.keys.items (all_under s.layouts.slots s.keys.items) × Leads (all_under s.layouts.slots s.keys.items) s.index.entries };
+    ghost invariant = { λ s. AreUnder s.layouts.slots s.keys.items (all_under s.layouts.slots s.keys.items) × Leads (all_under s.layouts.slots s.keys.items) s.index.entries × HoldsOnly s.layouts.slots s.keys.items };
 }
 
 impl Stored {
@@ -238,7 +257,7 @@ impl Stored {
     }
 
     /// Layouts that are made of what these words say, if some are kept.
-    pub(crate) fn found(&self, words: &[Number]) -> Option<Candidate<'_>>
+    pub(crate) fn found(&self, words: &[u8]) -> Option<Candidate<'_>>
         ensures there { is_some result ≡ is_among words.now self.now.words }
         ensures key { IfSome result (λ c. under_key self.now.slots c.key ≡ Some c.layouts.now) }
         ensures made { IfSome result (λ c. AreMadeOf words.now c.layouts.now) }

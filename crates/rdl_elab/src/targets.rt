@@ -37,7 +37,7 @@ fn item_goes_further(item: &Item) -> bool {
 fn add_passed<'a>(
     components: &[Finished<'a>],
     parts: &PartList<'a>,
-    names: &[Name],
+    names: &'a [Name],
     path: &mut Vec<Address>,
 ) -> Result<bool, AllocError>
     ensures { IfOk result (λ there. (if there then Some path.new.items else None) ≡ after path.old.items (kept_passes components.now parts.now.items names.now)) }
@@ -59,7 +59,7 @@ fn add_passed<'a>(
 }
 
 /// Whether the first of these names is that of an instance before item `n`.
-fn begins_before(n: usize, parts: &PartList, names: &[Name]) -> bool
+fn begins_before<'a>(n: usize, parts: &PartList<'a>, names: &'a [Name]) -> bool
     ensures { result ≡ is_before n (first_named names.now parts.now.items) }
 {
     match names {
@@ -77,7 +77,7 @@ pub(crate) fn target_path<'a>(
     components: &[Finished<'a>],
     parts: &PartList<'a>,
     n: usize,
-    names: &[Name],
+    names: &'a [Name],
 ) -> Result<Option<Vec<Address>>, AllocError>
     ensures { IfOk result (λ path. option_map (λ v. v.items) path ≡ kept_target components.now parts.now.items n names.now) }
 {

@@ -1,7 +1,7 @@
 //! The types before an item.
+use rdl_scope::by_name::ByName;
 use rdl_text::name::Name;
 use std::alloc::{AllocError, Global};
-use std::collections::BTreeMap;
 use std::marker::Model;
 
 /// A type, the number of its component among the finished ones, and that of the type whose name it hides.
@@ -15,7 +15,7 @@ pub(crate) struct TypeEntry<'a> {
 /// The component of the nearest type of each name.
 #[derive(Drop)]
 pub(crate) struct TypeIndex<'a> {
-    components: BTreeMap<&'a str, usize>,
+    components: ByName<'a, usize>,
 }
 
 /// The types that stand before an item, those of the bodies around it included. A contract sees their list, the
@@ -35,14 +35,14 @@ impl<'a> TypeIndex<'a> {
         ensures { IsIndex result [] }
     {
         TypeIndex {
-            components: BTreeMap::new(alloc),
+            components: ByName::new(alloc),
         }
     }
 
-    fn get(&self, name: &str) -> Option<usize>
+    fn get(&self, name: &'a str) -> Option<usize>
         ensures { (types : List (List ℕ × ℕ)) → IsIndex self.now types → result ≡ lookup name.now types }
     {
-        self.components.get(name).copied()
+        self.components.get(name)
     }
 
     /// One more type.
@@ -50,7 +50,7 @@ impl<'a> TypeIndex<'a> {
         ensures ok { OnOk result ((types : List (List ℕ × ℕ)) → IsIndex self.old types → IsIndex self.new ((name.now, component) ∷ types)) }
         ensures err { OnErr result ((types : List (List ℕ × ℕ)) → IsIndex self.old types → IsIndex self.new types) }
     {
-        self.components.insert(name, component)?;
+        self.components.put(name, component)?;
         Ok(())
     }
 
@@ -61,7 +61,7 @@ impl<'a> TypeIndex<'a> {
     {
         match hidden {
             Some(component) => {
-                self.components.insert(name, component)?;
+                self.components.put(name, component)?;
             }
             None => {
                 self.components.remove(name);
@@ -139,7 +139,7 @@ impl<'a> Types<'a> {
     }
 
     /// The component of the nearest type of the name.
-    pub(crate) fn get(&self, name: &Name) -> Option<usize>
+    pub(crate) fn get(&self, name: &'a Name) -> Option<usize>
         ensures { result ≡ lookup name.now self.now }
     {
         self.nearest.get(name.as_str())

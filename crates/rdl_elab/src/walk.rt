@@ -8,7 +8,7 @@ ghost use Rattle.rdl_scope.specs.Closed.{Made, Parts, Standing, component, head_
 ghost use Rattle.rdl_elab.specs.Finished.{IsFinished, IsKept, AreParts};
 ghost use Rattle.rdl_elab.specs.Written.{written, item_written, all_written};
 ghost use Rattle.rdl_elab.specs.MadeOf.{made_of};
-ghost use Rattle.rdl_elab.specs.Words.{words, is_among};
+ghost use Rattle.rdl_elab.specs.Words.{spelling, is_among};
 ghost use Rattle.rdl_elab.specs.Taken.{WasKept};
 ghost use Rattle.rdl_elab.specs.Finishes.{AreLaidOut, Finishes};
 ghost use Rattle.rdl_elab.specs.Stands.{made_at, after_item, item_parts, in_list, placed, LeadsTo, IsType, Stands, Grows, IsBehind};
@@ -32,6 +32,9 @@ use rdl_tree::address::Address;
 use rdl_tree::description::{Component, Description, Item, Of};
 use rdl_tree::shell::Shell;
 use std::alloc::{AllocError, Global};
+
+/// How many more components than before there is room for: an edit seldom adds as many.
+const NEW: usize = 64;
 
 /// Components that are laid out, each after those of its instances, and the number of one of them.
 #[derive(Drop)]
@@ -79,7 +82,7 @@ fn finished<'a>(
     requires { depth description.now.items ≤ 16 }
     ensures kept { IfOk result (λ f. (e : Standing) (inside : Parts) (n : ℕ) → walk.old.defaults ≡ e.defaults → AreParts description.now.items walk.old.components.items n parts.entry.items inside → IsKept description.now.items f (record { head = head_at at.now component.now.kind component.now.body e; parts = inside })) }
     ensures parts { IfOk result (λ f. f.parts.items ≡ parts.entry.items) }
-    ensures words { IfOk result (λ f. (e : Standing) (inside : Parts) (n : ℕ) → walk.old.defaults ≡ e.defaults → AreParts description.now.items walk.old.components.items n parts.entry.items inside → f.laid_out.words ≡ words (made_of (record { head = head_at at.now component.now.kind component.now.body e; parts = inside }))) }
+    ensures words { IfOk result (λ f. (e : Standing) (inside : Parts) (n : ℕ) → walk.old.defaults ≡ e.defaults → AreParts description.now.items walk.old.components.items n parts.entry.items inside → f.laid_out.words ≡ spelling (made_of (record { head = head_at at.now component.now.kind component.now.body e; parts = inside }))) }
     ensures same { IfOk result (λ f. f.laid_out.layouts ≡ f.layouts) }
     ensures stood { IfOk result (λ f. WasKept before.now.slots f) }
     ensures taken { IfOk result (λ f. is_among f.laid_out.words before.now.words ≡ true → IsSome f.key) }
@@ -150,7 +153,7 @@ fn finish<'a>(
 
 /// The instance of a type, if the type stands.
 #[tactic(auto, using(crate::proofs::Goings::goings, crate::proofs::Writing::writings))]
-fn named_part<'a>(shell: &'a Shell, name: &Name, types: &Types) -> Option<Found<'a>>
+fn named_part<'a>(shell: &'a Shell, name: &'a Name, types: &Types<'a>) -> Option<Found<'a>>
     ensures { LeadsTo shell.now (lookup name.now types.now) result }
 {
     let component = types.get(name)?;
@@ -269,8 +272,8 @@ fn walk_items<'a>(
 impl<'a> Walk<'a> {
     ghost use Rattle.std.specs.Prelude.{◌≡◌, [], IfOk};
 
-    /// Nothing is laid out, and nothing stands before the next item.
-    fn new(alloc: Global, description: &Description) -> Result<Walk<'a>, AllocError>
+    /// Nothing is laid out, with room for so many components, and nothing stands before the next item.
+    fn new(alloc: Global, description: &Description, room: usize) -> Result<Walk<'a>, AllocError>
         ensures types { IfOk result (λ walk. walk.types ≡ []) }
         ensures defaults { IfOk result (λ walk. walk.defaults ≡ []) }
         ensures components { IfOk result (λ walk. walk.components.items ≡ []) }
@@ -278,7 +281,7 @@ impl<'a> Walk<'a> {
         Ok(Walk {
             types: Types::new(alloc),
             defaults: Defaults::new(alloc),
-            components: Vec::new(alloc),
+            components: Vec::with_capacity(alloc, room)?,
             built_ins: BuiltIns::new(alloc)?,
             by_name: goes_further(&description.items),
         })
@@ -322,7 +325,7 @@ pub(crate) fn lay_out_item<'a>(
     let Some(component) = own_component(&items[n]) else {
         return Ok(None);
     };
-    let mut walk = Walk::new(alloc, description)?;
+    let mut walk = Walk::new(alloc, description, 0)?;
     let before = Stored::empty(alloc);
     let number = finish_behind(
         alloc,
@@ -344,14 +347,14 @@ pub(crate) fn lay_out_item<'a>(
 pub(crate) fn lay_out_all<'a>(
     alloc: Global,
     description: &'a Description,
-    name: &Name,
+    name: &'a Name,
     before: &Stored,
 ) -> Result<AllWalked<'a>, AllocError>
     requires { depth description.now.items ≤ 16 }
     ensures laid_out { IfOk result (λ all. AreLaidOut before.now all.components.items (all_written description.now.items)) }
     ensures number { IfOk result (λ all. IsType description.now.items all.components.items all.number (root_type description.now.items name.now)) }
 {
-    let mut walk = Walk::new(alloc, description)?;
+    let mut walk = Walk::new(alloc, description, before.len().saturating_add(NEW))?;
     let root = Address::new();
     let items = description.items.as_slice();
     walk_items(alloc, description, &root, items, &mut walk, before)?;

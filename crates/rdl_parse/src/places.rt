@@ -62,16 +62,16 @@ fn front(places: &[Place], count: usize) -> &[Place]
     }
 }
 
-/// These places from the item of this number on.
+/// These places from the item of this number on. It goes past no more items than there are.
 fn from_item(places: &[Place], number: usize) -> &[Place]
     ensures { result.now ≡ spec.from_item number places.now }
 {
     let mut rest = places;
     'siblings: for _ in 0..number {
-        rest = match rest {
-            [] => rest,
-            [first, others @ ..] => past(others, first.inside),
-        };
+        match rest {
+            [] => return rest,
+            [first, others @ ..] => rest = past(others, first.inside),
+        }
     }
     rest
 }

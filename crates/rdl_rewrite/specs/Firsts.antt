@@ -2,14 +2,12 @@
 -- component is the one in which the item on the way stands.
 -- own: no part of what a target passes; `passes` (Target of rdl_scope) says that by a search through whole bodies.
 use Rattle.std.specs.Prelude.{◌≡◌, ℕ, Bool, false, ◌&&◌, List, [], ◌∷◌, ◌++◌, Option, option_map, option_and_then}
-use Rattle.std.specs.BTreeMap.{get_by}
-use Rattle.std.specs.Cmp.Lexicographic.{slice_cmp}
-use Rattle.std.specs.Ordering.{nat_cmp}
 use Rattle.rdl_tree.specs.Items.{Items}
 use Rattle.rdl_tree.specs.Address.{body_at}
 use Rattle.rdl_tree.specs.declared.description.Item.{Item}
 use Rattle.rdl_tree.specs.declared.description.Item.TheVariants.{Define, Instance, Own, Default, Dynamic}
 use Rattle.rdl_tree.specs.declared.description.Of.TheVariants.{Named, Anonymous}
+use Rattle.rdl_scope.specs.ByName.{value_under}
 use Rattle.rdl_scope.specs.Types.{component_of}
 use Rattle.rdl_scope.specs.Target.{instance_before}
 use Rattle.rdl_scope.specs.Walk.{is_definition}
@@ -17,7 +15,7 @@ use Rattle.rdl_rewrite.specs.Addresses.{same, leads_to}
 use Rattle.rdl_rewrite.specs.declared.firsts.Firsts.{Firsts}
 
 abbrev pub first_under : Firsts → List ℕ → Option (ℕ × Bool)
-first_under firsts q = get_by (λ k. slice_cmp nat_cmp q k.now) firsts.instances
+first_under firsts q = value_under firsts.instances q
 
 -- of the instance of number k of the body at b
 abbrev pub first_at : Items → (place b : List ℕ) → ℕ → ℕ × Bool

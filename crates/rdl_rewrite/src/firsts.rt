@@ -1,12 +1,12 @@
 //! The instances before an item in its body.
+use rdl_scope::by_name::ByName;
 use rdl_tree::description::Item;
 use std::alloc::{AllocError, Global};
-use std::collections::BTreeMap;
 
 /// The number of the first instance of each name, and whether its component is the one in which the taken item stands.
 #[derive(Drop)]
 pub(crate) struct Firsts<'a> {
-    instances: BTreeMap<&'a str, (usize, bool)>,
+    instances: ByName<'a, (usize, bool)>,
 }
 
 impl<'a> Firsts<'a> {
@@ -19,17 +19,14 @@ impl<'a> Firsts<'a> {
         ensures { (q : List ℕ) → first_under result q ≡ None }
     {
         Firsts {
-            instances: BTreeMap::new(alloc),
+            instances: ByName::new(alloc),
         }
     }
 
-    pub(crate) fn get(&self, name: &str) -> Option<(usize, bool)>
+    pub(crate) fn get(&self, name: &'a str) -> Option<(usize, bool)>
         ensures { result ≡ first_under self.now name.now }
     {
-        match self.instances.get(name) {
-            Some(first) => Some(*first),
-            None => None,
-        }
+        self.instances.get(name)
     }
 
     fn put(&mut self, name: &'a str, number: usize, is_inside: bool) -> Result<(), AllocError>
@@ -38,7 +35,7 @@ impl<'a> Firsts<'a> {
         match self.get(name) {
             Some(_) => Ok(()),
             None => {
-                self.instances.insert(name, (number, is_inside))?;
+                self.instances.put(name, (number, is_inside))?;
                 Ok(())
             }
         }

@@ -115,12 +115,12 @@ fn path(
 
 /// The instances that the names pass, if the taken item is one of them, for the assignment at this address, which stands
 /// behind these instances. Bodies are searched only where the names say that this may be so.
-pub(crate) fn passed(
+pub(crate) fn passed<'a>(
     alloc: Global,
-    reach: &Reach,
+    reach: &Reach<'a>,
     at: &Address,
-    names: &[Name],
-    firsts: &Firsts,
+    names: &'a [Name],
+    firsts: &Firsts<'a>,
 ) -> Result<Option<Vec<Address>>, AllocError>
     requires nesting { depth reach.now.whole.now.items ≤ 16 }
     requires known { Knows reach.now }

@@ -87,9 +87,9 @@ impl<'a> Reach<'a> {
         &self,
         alloc: Global,
         at: &Address,
-        found: &Item,
+        found: &'a Item,
         led: bool,
-        firsts: &Firsts,
+        firsts: &Firsts<'a>,
     ) -> Result<Fate, AllocError>
         requires nesting { depth self.now.whole.now.items ≤ 16 }
         requires known { Knows self.now }
@@ -147,7 +147,7 @@ impl<'a> Reach<'a> {
         found: &'a Item,
         led: bool,
         inside_led: bool,
-        firsts: &Firsts,
+        firsts: &Firsts<'a>,
         patches: &mut Vec<Patch>,
     ) -> Result<(), AllocError>
         requires nesting { depth self.now.whole.now.items ≤ 16 }

@@ -78,12 +78,12 @@ fn is_in_use(reach: &Reach) -> bool
 }
 
 /// Whether this item, at its address, is the taken one, or an assignment behind these instances whose target passes that.
-fn goes(
+fn goes<'a>(
     alloc: Global,
-    reach: &Reach,
+    reach: &Reach<'a>,
     at: &Address,
-    found: &Item,
-    firsts: &Firsts,
+    found: &'a Item,
+    firsts: &Firsts<'a>,
 ) -> Result<bool, AllocError>
     requires nesting { depth reach.now.whole.now.items ≤ 16 }
     requires known { Knows reach.now }
@@ -104,12 +104,12 @@ fn goes(
 }
 
 /// What becomes of this item, at its address behind these instances, where the one on the way is taken out.
-pub(crate) fn fate(
+pub(crate) fn fate<'a>(
     alloc: Global,
-    reach: &Reach,
+    reach: &Reach<'a>,
     at: &Address,
-    found: &Item,
-    firsts: &Firsts,
+    found: &'a Item,
+    firsts: &Firsts<'a>,
 ) -> Result<Fate, AllocError>
     requires nesting { depth reach.now.whole.now.items ≤ 16 }
     requires known { Knows reach.now }

@@ -89,13 +89,13 @@ fn shell_fate(alloc: Global, name: &Name, shell: &Shell) -> Result<Fate, AllocEr
 
 /// The target of the assignment at this address, behind these instances, gets the name where it passes the item on the
 /// way.
-fn target_fate(
+fn target_fate<'a>(
     alloc: Global,
-    reach: &Reach,
+    reach: &Reach<'a>,
     name: &Name,
     at: &Address,
-    target: &Target,
-    firsts: &Firsts,
+    target: &'a Target,
+    firsts: &Firsts<'a>,
 ) -> Result<Fate, AllocError>
     requires nesting { depth reach.now.whole.now.items ≤ 16 }
     requires known { Knows reach.now }
@@ -115,14 +115,14 @@ fn target_fate(
 
 /// What becomes of this item, at its address behind these instances, where the one on the way gets the name. `led` says
 /// whether a reference to the old name leads to that here.
-pub(crate) fn fate(
+pub(crate) fn fate<'a>(
     alloc: Global,
-    reach: &Reach,
+    reach: &Reach<'a>,
     name: &Name,
     at: &Address,
-    found: &Item,
+    found: &'a Item,
     led: bool,
-    firsts: &Firsts,
+    firsts: &Firsts<'a>,
 ) -> Result<Fate, AllocError>
     requires nesting { depth reach.now.whole.now.items ≤ 16 }
     requires known { Knows reach.now }

@@ -1,7 +1,8 @@
 -- From the parts of a run to the whole.
-use Rattle.std.proofs.Common.{inl, ℕ, Bool, List, [], ◌++◌, Option, refl}
+use Rattle.std.proofs.Common.{inl, ℕ, Bool, List, [], ◌++◌, Option, IsUtf8, refl}
 use Rattle.std.specs.Io.KnownBytes.{Appends}
 use Rattle.std.proofs.KnownBytes.{Appends-nil, Appends-trans}
+use Rattle.std.proofs.lemmas.Str.{IsUtf8-nil}
 use Rattle.rdl_run.specs.Answers.{History', Serves}
 use Rattle.rdl_script.specs.Commands.{lines_of}
 use Rattle.rdl_run.specs.Closing.{Closes}
@@ -19,9 +20,9 @@ outputs messages rdl header session = record { messages = messages; rdl = rdl; h
 pub ran_from : (asked : Bool) (first : History') (script : List ℕ) (refuses : Bool) (status : Status) (last : History')
     (message rdl header session : List ℕ) (m mid m' r r' h h' z z' : Option (List ℕ))
     → (replies : List ℕ) × Serves first (lines_of script) replies refuses last × Appends m mid replies
-    → Closes asked last refuses message rdl header session status → Appends mid m' message → Appends r r' rdl → Appends h h' header → Appends z z' session
+    → Closes asked last refuses message rdl header session status → Appends mid m' message → Appends r r' rdl → Appends h h' header → Appends z z' session → IsUtf8 rdl → IsUtf8 header → IsUtf8 session
     → RanFrom asked first script (outputs m r h z) (outputs m' r' h' z') status
-ran_from asked first script refuses status last message rdl header session m mid m' r r' h h' z z' served closes said wrote_rdl wrote_header wrote_session = record {
+ran_from asked first script refuses status last message rdl header session m mid m' r r' h h' z z' served closes said wrote_rdl wrote_header wrote_session rdl_utf8 header_utf8 session_utf8 = record {
   out = record { messages = served.0 ++ message; rdl = rdl; header = header; session = session; status = status };
   runs = record {
     last = last;
@@ -32,6 +33,7 @@ ran_from asked first script refuses status last message rdl header session m mid
     closes = closes;
     messages = refl;
   };
+  texts = record { rdl = rdl_utf8; header = header_utf8; session = session_utf8 };
   holds = record { messages = Appends-trans m mid m' served.0 message served.2 said; rdl = wrote_rdl; header = wrote_header; session = wrote_session; answer = refl };
 }
 
@@ -46,5 +48,6 @@ refused_run options map script map_bytes script_bytes message m m' r h z p q ref
   script_given = q;
   out = record { messages = message; rdl = []; header = []; session = []; status = MapRefused };
   is_output = inl (record { refused = refused; rdl = refl; header = refl; session = refl; status = refl });
+  texts = record { rdl = IsUtf8-nil; header = IsUtf8-nil; session = IsUtf8-nil };
   holds = record { messages = wrote; rdl = Appends-nil r; header = Appends-nil h; session = Appends-nil z; answer = refl };
 }

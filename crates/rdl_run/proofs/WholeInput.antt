@@ -1,7 +1,11 @@
 -- What one more read tells of all that was read.
-use Rattle.std.proofs.Common.{◌≡◌, ◌<◌, ◌≤◌, ◌-◌, ℕ, List, ◌++◌, length, take, Some, None, Option, IfSome, ap, ◌∙◌, arith, append-nil, length-append, length-take}
+use Rattle.std.proofs.Common.{◌≡◌, ◌<◌, ◌≤◌, ◌+◌, ◌-◌, ℕ, List, ◌++◌, length, take, true, false, inl, inr, Some, None, Option, Result, Ok, Err, IfSome, OnOk, sym, ap, subst, ◌∙◌, arith, append-nil, length-append, length-take}
 use Rattle.std.specs.Io.KnownBytes.{Consumes, IsAtEnd}
-use Rattle.rdl_run.specs.Known.{Gives}
+use Rattle.std.specs.declared.io.Error.{Error}
+use Rattle.rdl_run.specs.Known.{Gives, IsWithin, most_bytes}
+use Rattle.rdl_run.specs.Turns.{CountedRead}
+use Rattle.rdl_run.specs.declared.counted.Reads.{Reads}
+use Rattle.rdl_run.specs.declared.status.RunFault.{RunFault}
 
 -- the reader is at its end
 pub all_read : (a b c : Option (List ℕ)) (bs buffer : List ℕ) (n : ℕ) → Consumes a b bs → Consumes b c (take n buffer) → n ≡ 0 → IsAtEnd c → Gives a bs
@@ -19,3 +23,21 @@ over_limit (Some xs) None c bs buffer n limit before now within over = absurd be
 over_limit (Some xs) (Some ys) None bs buffer n limit before now within over = absurd now
 over_limit (Some xs) (Some ys) (Some zs) bs buffer n limit before now within over =
     omega (arith, ap length before, length-append bs ys, ap length now, length-append (take n buffer) zs, length-take n buffer, within, over)
+
+-- all of it was read
+pub within : (known : Option (List ℕ)) (bytes : List ℕ) → Gives known bytes → length bytes ≤ most_bytes → IsWithin known
+within None bytes given few = tt
+within (Some xs) bytes given few = subst (λ (l : List ℕ). length l ≤ most_bytes) (sym given) few
+
+pub on_ok : {X : Type 0} {P : Type 0} (r : Result X RunFault) → P → OnOk r P
+on_ok (Ok x) p = p
+on_ok (Err f) p = tt
+
+-- ---- How often it was asked.
+
+-- a read that didn't answer and didn't fail was interrupted
+pub interrupted_once : (old new : Reads) (e : Error) → CountedRead old new (Err e) → new.failed ≡ false → new ≡ record old { reads = old.reads + 1; interrupts = old.interrupts + 1 }
+interrupted_once old new e (inl h) unfailed = h.1
+interrupted_once old new e (inr h) unfailed =
+    let failed : new.failed ≡ true = ap (λ (c : Reads). c.failed) h.1 in
+    cc

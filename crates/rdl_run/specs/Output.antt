@@ -1,5 +1,5 @@
 -- The output of a run: messages, the files' texts and the status, from the bytes of the map or session and of the script. Own.
-use Rattle.std.specs.Prelude.{◌≡◌, ◌⊎◌, ℕ, Bool, List, [], ◌++◌, Option}
+use Rattle.std.specs.Prelude.{◌≡◌, ◌⊎◌, ℕ, Bool, List, [], ◌++◌, Option, IsUtf8}
 use Rattle.std.specs.Io.KnownBytes.{Appends}
 use Rattle.rdl_run.specs.Answers.{History', Serves}
 use Rattle.rdl_script.specs.Commands.{lines_of}
@@ -62,10 +62,17 @@ pub record Holds (old new : Outputs) (status : Status) (out : Output) : Type 0 w
   pub session : Appends old.session new.session out.session
   pub answer : status ≡ out.status
 
+-- what was written to the files is UTF-8
+pub record AreTexts (out : Output) : Type 0 where
+  pub rdl : IsUtf8 out.rdl
+  pub header : IsUtf8 out.header
+  pub session : IsUtf8 out.session
+
 -- a run of a script from a history that was opened
 pub record RanFrom (asked : Bool) (first : History') (script : List ℕ) (old new : Outputs) (status : Status) : Type 0 where
   pub out : Output
   pub runs : Runs asked first script out
+  pub texts : AreTexts out
   pub holds : Holds old new status out
 
 -- a whole run, on bytes that are the readers' where those are known
@@ -76,4 +83,5 @@ pub record Ran (options : Options) (map script : Option (List ℕ)) (old new : O
   pub script_given : Gives script script_bytes
   pub out : Output
   pub is_output : IsOutput options map_bytes script_bytes out
+  pub texts : AreTexts out
   pub holds : Holds old new status out

@@ -82,7 +82,7 @@ impl Closing {
         is_refused: bool,
         has_session: bool,
     ) -> Result<Closing, RunFault>
-        ensures closes { IfOk result (λ c. Closes has_session journal.now is_refused (string_bytes c.message) (string_bytes c.rdl) (string_bytes c.header) (string_bytes c.session) c.status) }
+        ensures closes { IfOk result (λ c. Closes has_session journal.now.history is_refused (string_bytes c.message) (string_bytes c.rdl) (string_bytes c.header) (string_bytes c.session) c.status) }
         ensures fault { IsOkUnless result RunFault.Memory }
     {
         let rdl = rdl(alloc, journal.map().description())?;

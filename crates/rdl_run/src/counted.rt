@@ -1,52 +1,68 @@
 //! Readers and writers that are asked through a count.
-ghost use Rattle.std.specs.Prelude.{◌≡◌, ◌≤◌, ◌<◌, ◌+◌, ◌^◌, false, OnOk};
+ghost use Rattle.std.specs.Prelude.{◌≡◌, ◌≤◌, ◌<◌, ◌+◌, ◌^◌};
 ghost use Rattle.std.specs.Io.{ReadsAtMost};
 ghost use Rattle.std.specs.Io.KnownBytes.{ReadConsumes};
-ghost use Rattle.rdl_run.specs.Turns.{Counted, IsOpen, WritesOnce};
+ghost use Rattle.rdl_run.specs.Turns.{Counted, CountedRead, IsOpen, MayBeRead, WritesOnce, unread, unwritten};
 
 use crate::status::MOST_INTERRUPTS;
 use std::io;
 use std::io::{ErrorKind, Read, Write};
 
-/// A reader, how often it was asked, and whether a read has failed.
+/// How often a reader was asked, how many of these reads were interrupted, and whether one has failed.
+#[derive(Clone, Copy, Debug, Drop)]
+pub(crate) struct Reads {
+    reads: usize,
+    interrupts: usize,
+    failed: bool,
+}
+
+/// A reader, and how often it was asked.
 #[derive(Drop)]
 pub(crate) struct CountedReader<'a, R> {
     reader: &'a mut R,
-    reads: usize,
-    failed: bool,
+    counts: Reads,
 }
 
 impl<'a, R: Read> CountedReader<'a, R> {
     pub(crate) fn new(reader: &'a mut R) -> CountedReader<'a, R>
-        ensures { result ≡ record { reader = reader.entry; reads = 0; failed = false } }
+        ensures { result ≡ record { reader = reader.entry; counts = unread } }
     {
-        CountedReader {
-            reader,
+        let counts = Reads {
             reads: 0,
+            interrupts: 0,
             failed: false,
-        }
+        };
+        CountedReader { reader, counts }
+    }
+
+    pub(crate) fn interrupts(&self) -> usize
+        ensures { result ≡ self.now.counts.interrupts }
+    {
+        self.counts.interrupts
     }
 
     pub(crate) fn has_failed(&self) -> bool
-        ensures { result ≡ self.now.failed }
+        ensures { result ≡ self.now.counts.failed }
     {
-        self.failed
+        self.counts.failed
     }
 
     /// Asks the reader once. The read has failed if it answers an error that is no interruption.
     pub(crate) fn read(&mut self, buffer: &mut [u8]) -> io::Result<usize>
-        requires room { self.old.reads + 1 < 2 ^ 64 }
+        requires room { self.old.counts.reads + 1 < 2 ^ 64 }
+        requires asked { MayBeRead self.old.counts }
         ensures bound { ReadsAtMost result buffer.new }
         ensures bytes { ReadConsumes (R.remaining self.old.reader.now) (R.remaining self.new.reader.now) result buffer.new }
-        ensures counted { self.new.reads ≡ self.old.reads + 1 }
-        ensures failed { OnOk result (self.new.failed ≡ self.old.failed) }
+        ensures counted { CountedRead self.old.counts self.new.counts result }
         ensures same_reference { self.new.reader.ghost_name ≡ self.old.reader.ghost_name }
     {
-        self.reads += 1;
+        self.counts.reads += 1;
         let answer = self.reader.read(buffer);
         if let Err(e) = &answer {
-            if e.kind() != ErrorKind::Interrupted {
-                self.failed = true;
+            if e.kind() == ErrorKind::Interrupted {
+                self.counts.interrupts += 1;
+            } else {
+                self.counts.failed = true;
             }
         }
         answer
@@ -60,16 +76,19 @@ pub(crate) enum Outcome {
     Took(usize),
     /// It was interrupted, and may be tried again.
     Interrupted,
-    /// It took nothing, and is the last.
-    Ended,
+    /// It took nothing or failed, and is the last.
+    Refused,
+    /// It was interrupted as so many before it, and is the last.
+    Exhausted,
 }
 
 /// How often a writer was asked: writes that took a byte, counted up to the greatest number; writes that were
-/// interrupted; and whether one has ended the output.
+/// interrupted and may be tried again; whether one took nothing or failed; and whether one has ended the output.
 #[derive(Clone, Copy, Debug, Drop)]
 pub(crate) struct Counts {
     takes: u64,
     interrupts: usize,
+    refused: bool,
     ended: bool,
 }
 
@@ -83,11 +102,12 @@ pub(crate) struct CountedWriter<'a, W> {
 impl<'a, W: Write> CountedWriter<'a, W> {
     /// A writer that was interrupted so often.
     pub(crate) fn new(writer: &'a mut W, interrupts: usize) -> CountedWriter<'a, W>
-        ensures { result ≡ record { writer = writer.entry; counts = record { takes = 0; interrupts = interrupts; ended = false } } }
+        ensures { result ≡ record { writer = writer.entry; counts = record unwritten { interrupts = interrupts } } }
     {
         let counts = Counts {
             takes: 0,
             interrupts,
+            refused: false,
             ended: false,
         };
         CountedWriter { writer, counts }
@@ -110,17 +130,22 @@ impl<'a, W: Write> CountedWriter<'a, W> {
         match self.writer.write(bytes) {
             Ok(n) if n > 0 => {
                 self.counts.takes = self.counts.takes.saturating_add(1);
-                return Outcome::Took(n);
+                Outcome::Took(n)
             }
             Err(e) if e.kind() == ErrorKind::Interrupted => {
                 if self.counts.interrupts < MOST_INTERRUPTS {
                     self.counts.interrupts += 1;
-                    return Outcome::Interrupted;
+                    Outcome::Interrupted
+                } else {
+                    self.counts.ended = true;
+                    Outcome::Exhausted
                 }
             }
-            _ => {}
+            _ => {
+                self.counts.refused = true;
+                self.counts.ended = true;
+                Outcome::Refused
+            }
         }
-        self.counts.ended = true;
-        Outcome::Ended
     }
 }

@@ -2,6 +2,7 @@
 ghost use Rattle.std.specs.Prelude.{◌≡◌, ◌≢◌, true, ◌^◌, ◌<◌, ◌≤◌, ◌+◌, length, Err, IfOk, OnOk, IfSome, IsErrOf};
 ghost use Rattle.std.specs.Io.KnownBytes.{IsAtEnd};
 ghost use Rattle.rdl_run.specs.Known.{Gives};
+ghost use Rattle.rdl_run.specs.Turns.{IsInterrupted, unread};
 ghost use Rattle.rdl_run.specs.declared.status.RunFault.{RunFault};
 
 use crate::counted::CountedReader;
@@ -16,18 +17,18 @@ pub(crate) fn read_counted<R: Read>(
     limit: usize,
 ) -> Result<Vec<u8>, RunFault>
     requires limit { limit < 2 ^ 32 }
-    requires fresh { input.old.reads ≡ 0 }
+    requires fresh { input.old.counts ≡ unread }
     ensures bytes { IfOk result (λ bytes. Gives (R.remaining input.old.reader.now) bytes.items) }
     ensures end { OnOk result (IsAtEnd (R.remaining input.new.reader.now)) }
     ensures bound { IfOk result (λ bytes. length bytes.items ≤ limit) }
     ensures too_long { IsErrOf result RunFault.TooLong → IfSome (R.remaining input.old.reader.now) (λ xs. limit < length xs) }
     ensures no_write { result ≢ Err RunFault.Write }
-    ensures failed { IsErrOf result RunFault.Read → input.new.failed ≡ true }
-    ensures reads { input.new.reads ≤ limit + 1001 }
+    ensures failed { IsErrOf result RunFault.Read → input.new.counts.failed ≡ true }
+    ensures interrupted { IsErrOf result RunFault.Interrupted → IsInterrupted input.new.counts }
+    ensures reads { input.new.counts.reads ≤ limit + 1001 }
     ensures same_reference { input.new.reader.ghost_name ≡ input.old.reader.ghost_name }
 {
     let mut bytes = Vec::new(alloc);
-    let mut interrupts = 0usize;
     let mut buffer = [0u8; 4096];
     for _turn in 0..limit + MOST_INTERRUPTS + 1 {
         match input.read(&mut buffer) {
@@ -44,10 +45,9 @@ pub(crate) fn read_counted<R: Read>(
                 if input.has_failed() {
                     return Err(RunFault::Read);
                 }
-                if interrupts == MOST_INTERRUPTS {
+                if input.interrupts() > MOST_INTERRUPTS {
                     return Err(RunFault::Interrupted);
                 }
-                interrupts += 1;
             }
         }
     }

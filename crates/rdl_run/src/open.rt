@@ -129,7 +129,7 @@ fn open_session(
     limit: u32,
 ) -> Result<Journal<Map>, OpenFault>
     requires { is_session bytes.now ≡ true }
-    ensures opens { IfOk result (λ journal. OpensSession (option_copied name.entry) limit bytes.now journal) }
+    ensures opens { IfOk result (λ journal. OpensSession (option_copied name.entry) limit bytes.now journal.history) }
     ensures refused { IfErr result (λ fault. IfRefusedToOpen fault (RefusedSession (option_copied name.entry) bytes.now)) }
 {
     match resumed(alloc, bytes, name) {
@@ -151,8 +151,8 @@ pub fn open(
     name: Option<&Name>,
     limit: u32,
 ) -> Result<Journal<Map>, OpenFault>
-    ensures opens { IfOk result (λ journal. OpensHistory (option_copied name.entry) limit bytes.now journal) }
-    ensures elaborates { IfOk result (λ journal. EachElaborates journal) }
+    ensures opens { IfOk result (λ journal. OpensHistory (option_copied name.entry) limit bytes.now journal.history) }
+    ensures elaborates { IfOk result (λ journal. EachElaborates journal.history) }
     ensures refused { IfErr result (λ fault. IfRefusedToOpen fault (RefusesToOpen (option_copied name.entry) bytes.now)) }
 {
     if is_session(bytes) {

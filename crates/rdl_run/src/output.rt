@@ -1,8 +1,8 @@
 //! Writing a text whole.
-ghost use Rattle.std.specs.Prelude.{◌≡◌, ◌≤◌, ◌+◌, true, length, OnOk, OnErr, IsOkUnless};
+ghost use Rattle.std.specs.Prelude.{◌≡◌, ◌≤◌, ◌+◌, length, OnOk, OnErr, IsOkUnless};
 ghost use Rattle.std.specs.Io.KnownBytes.{Appends};
 ghost use Rattle.rdl_run.specs.Known.{AppendsFront};
-ghost use Rattle.rdl_run.specs.Turns.{IsOpen};
+ghost use Rattle.rdl_run.specs.Turns.{IsGivenUp, IsOpen};
 ghost use Rattle.rdl_run.specs.declared.status.RunFault.{RunFault};
 
 use crate::counted::{CountedWriter, Outcome};
@@ -18,7 +18,7 @@ pub(crate) fn write_counted<W: Write>(
     ensures ok { OnOk result (Appends (W.contents output.old.writer.now) (W.contents output.new.writer.now) bytes.now) }
     ensures err { OnErr result (AppendsFront (W.contents output.old.writer.now) (W.contents output.new.writer.now) bytes.now) }
     ensures fault { IsOkUnless result RunFault.Write }
-    ensures ended { OnErr result (output.new.counts.ended ≡ true) }
+    ensures ended { OnErr result (IsGivenUp output.new.counts) }
     ensures takes { output.new.counts.takes ≤ output.old.counts.takes + length bytes.now }
     ensures few { output.new.counts.interrupts ≤ 1000 }
     ensures asked { OnOk result (IsOpen output.new.counts) }
@@ -29,7 +29,7 @@ pub(crate) fn write_counted<W: Write>(
         match output.write(&bytes[at..]) {
             Outcome::Took(n) => at += n,
             Outcome::Interrupted => {}
-            Outcome::Ended => return Err(RunFault::Write),
+            Outcome::Refused | Outcome::Exhausted => return Err(RunFault::Write),
         }
     }
     Ok(())

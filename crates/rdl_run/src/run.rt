@@ -4,7 +4,8 @@ ghost use Rattle.rdl_run.specs.Opening.{EachElaborates};
 ghost use Rattle.rdl_run.specs.Faulted.{Faulted, FaultedFrom, Leaves};
 ghost use Rattle.rdl_run.specs.ClosingTexts.{texts_of};
 ghost use Rattle.rdl_run.specs.Output.{Holds, Ran, RanFrom};
-ghost use Rattle.rdl_run.specs.Turns.{IsOpen, HasEnded};
+ghost use Rattle.rdl_run.specs.Known.{IsOver, IsWithin};
+ghost use Rattle.rdl_run.specs.Turns.{AreOpen, GivesUp, HasEnded, IsInterrupted, IsOpen, unread, unwritten};
 ghost use Rattle.rdl_run.specs.declared.status.RunFault.{RunFault};
 
 use crate::closing::Closing;
@@ -55,7 +56,8 @@ fn write_closing<R: Write, H: Write, Z: Write, E: Write>(
         (record { messages = E.contents messages.new.writer.now; rdl = R.contents rdl.new.writer.now; header = H.contents header.new.writer.now; session = Z.contents session.new.writer.now })
         (texts_of closing.now)) }
     ensures fault { IsOkUnless result RunFault.Write }
-    ensures ended { OnErr result (HasEnded messages.new.counts rdl.new.counts header.new.counts session.new.counts) }
+    ensures ended { OnErr result (GivesUp messages.new.counts rdl.new.counts header.new.counts session.new.counts) }
+    ensures all_open { OnOk result (AreOpen messages.new.counts rdl.new.counts header.new.counts session.new.counts) }
     ensures few { messages.new.counts.interrupts ≤ 1000 }
     ensures rdl_few { rdl.new.counts.interrupts ≤ 1000 }
     ensures header_few { header.new.counts.interrupts ≤ 1000 }
@@ -90,14 +92,18 @@ fn run_script<R: Write, H: Write, Z: Write, E: Write>(
     requires rdl_asked { IsOpen rdl.old.counts }
     requires header_asked { IsOpen header.old.counts }
     requires session_asked { IsOpen session.old.counts }
-    ensures ran { IfOk result (RanFrom has_session journal.old script.now
+    ensures ran { IfOk result (RanFrom has_session journal.old.history script.now
         (record { messages = E.contents messages.old.writer.now; rdl = R.contents rdl.old.writer.now; header = H.contents header.old.writer.now; session = Z.contents session.old.writer.now })
         (record { messages = E.contents messages.new.writer.now; rdl = R.contents rdl.new.writer.now; header = H.contents header.new.writer.now; session = Z.contents session.new.writer.now })) }
-    ensures faulted { EachElaborates journal.old → IfErr result (FaultedFrom has_session journal.old script.now
+    ensures faulted { EachElaborates journal.old.history → IfErr result (FaultedFrom has_session journal.old.history script.now
         (record { messages = E.contents messages.old.writer.now; rdl = R.contents rdl.old.writer.now; header = H.contents header.old.writer.now; session = Z.contents session.old.writer.now })
         (record { messages = E.contents messages.new.writer.now; rdl = R.contents rdl.new.writer.now; header = H.contents header.new.writer.now; session = Z.contents session.new.writer.now })) }
-    ensures write_ended { IsErrOf result RunFault.Write → HasEnded messages.new.counts rdl.new.counts header.new.counts session.new.counts }
+    ensures write_ended { IsErrOf result RunFault.Write → GivesUp messages.new.counts rdl.new.counts header.new.counts session.new.counts }
+    ensures all_open { OnOk result (AreOpen messages.new.counts rdl.new.counts header.new.counts session.new.counts) }
+    ensures ends { HasEnded messages.new.counts rdl.new.counts header.new.counts session.new.counts → result ≡ Err RunFault.Write }
     ensures no_read { result ≢ Err RunFault.Read }
+    ensures no_too_long { result ≢ Err RunFault.TooLong }
+    ensures no_interrupted { result ≢ Err RunFault.Interrupted }
     ensures few { messages.new.counts.interrupts ≤ 1000 }
     ensures rdl_few { rdl.new.counts.interrupts ≤ 1000 }
     ensures header_few { header.new.counts.interrupts ≤ 1000 }
@@ -124,22 +130,27 @@ fn run_counted<M: Read, S: Read, R: Write, H: Write, Z: Write, E: Write>(
     session: &mut CountedWriter<'_, Z>,
     messages: &mut CountedWriter<'_, E>,
 ) -> Result<Status, RunFault>
-    requires map_fresh { map.old.reads ≡ 0 }
-    requires script_fresh { script.old.reads ≡ 0 }
-    requires asked { IsOpen messages.old.counts }
-    requires rdl_asked { IsOpen rdl.old.counts }
-    requires header_asked { IsOpen header.old.counts }
-    requires session_asked { IsOpen session.old.counts }
+    requires map_fresh { map.old.counts ≡ unread }
+    requires script_fresh { script.old.counts ≡ unread }
+    requires fresh { messages.old.counts ≡ unwritten }
+    requires rdl_fresh { rdl.old.counts ≡ unwritten }
+    requires header_fresh { header.old.counts ≡ unwritten }
+    requires session_fresh { session.old.counts ≡ unwritten }
     ensures ran { IfOk result (Ran options.now (M.remaining map.old.reader.now) (S.remaining script.old.reader.now)
         (record { messages = E.contents messages.old.writer.now; rdl = R.contents rdl.old.writer.now; header = H.contents header.old.writer.now; session = Z.contents session.old.writer.now })
         (record { messages = E.contents messages.new.writer.now; rdl = R.contents rdl.new.writer.now; header = H.contents header.new.writer.now; session = Z.contents session.new.writer.now })) }
     ensures faulted { IfErr result (Faulted options.now (M.remaining map.old.reader.now) (S.remaining script.old.reader.now)
         (record { messages = E.contents messages.old.writer.now; rdl = R.contents rdl.old.writer.now; header = H.contents header.old.writer.now; session = Z.contents session.old.writer.now })
         (record { messages = E.contents messages.new.writer.now; rdl = R.contents rdl.new.writer.now; header = H.contents header.new.writer.now; session = Z.contents session.new.writer.now })) }
-    ensures write_ended { IsErrOf result RunFault.Write → HasEnded messages.new.counts rdl.new.counts header.new.counts session.new.counts }
-    ensures read_failed { IsErrOf result RunFault.Read → (map.new.failed ≡ true) ⊎ (script.new.failed ≡ true) }
-    ensures map_reads { map.new.reads ≤ 67109865 }
-    ensures script_reads { script.new.reads ≤ 67109865 }
+    ensures write_ended { IsErrOf result RunFault.Write → GivesUp messages.new.counts rdl.new.counts header.new.counts session.new.counts }
+    ensures all_open { OnOk result (AreOpen messages.new.counts rdl.new.counts header.new.counts session.new.counts) }
+    ensures ends { HasEnded messages.new.counts rdl.new.counts header.new.counts session.new.counts → result ≡ Err RunFault.Write }
+    ensures too_long { IsErrOf result RunFault.TooLong → IsOver (M.remaining map.old.reader.now) ⊎ IsOver (S.remaining script.old.reader.now) }
+    ensures bound { OnOk result (IsWithin (M.remaining map.old.reader.now) × IsWithin (S.remaining script.old.reader.now)) }
+    ensures interrupted { IsErrOf result RunFault.Interrupted → IsInterrupted map.new.counts ⊎ IsInterrupted script.new.counts }
+    ensures read_failed { IsErrOf result RunFault.Read → (map.new.counts.failed ≡ true) ⊎ (script.new.counts.failed ≡ true) }
+    ensures map_reads { map.new.counts.reads ≤ 67109865 }
+    ensures script_reads { script.new.counts.reads ≤ 67109865 }
     ensures few { messages.new.counts.interrupts ≤ 1000 }
     ensures rdl_few { rdl.new.counts.interrupts ≤ 1000 }
     ensures header_few { header.new.counts.interrupts ≤ 1000 }
@@ -194,6 +205,10 @@ pub fn run<M: Read, S: Read, R: Write, H: Write, Z: Write, E: Write>(
     ensures faulted { IfErr result (Faulted options.now (M.remaining map.old) (S.remaining script.old)
         (record { messages = E.contents messages.old; rdl = R.contents rdl.old; header = H.contents header.old; session = Z.contents session.old })
         (record { messages = E.contents messages.new; rdl = R.contents rdl.new; header = H.contents header.new; session = Z.contents session.new })) }
+
+    // Where a reader tells its bytes, it stops for too many only if there are more than 67,108,864.
+    ensures too_long { IsErrOf result RunFault.TooLong → IsOver (M.remaining map.old) ⊎ IsOver (S.remaining script.old) }
+    ensures bound { OnOk result (IsWithin (M.remaining map.old) × IsWithin (S.remaining script.old)) }
 {
     let mut map = CountedReader::new(map);
     let mut script = CountedReader::new(script);

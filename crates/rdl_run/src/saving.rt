@@ -16,7 +16,7 @@ use std::alloc::{AllocError, Global};
 
 /// The steps that lead back, the next one first.
 fn steps_back<'a>(alloc: Global, journal: &'a Journal<Map>) -> Result<Vec<&'a [Patch]>, AllocError>
-    ensures { IfOk result (λ steps. LeadBack journal.entry.now (map (λ step. step.now) steps.items)) }
+    ensures { IfOk result (λ steps. LeadBack journal.entry.now.history (map (λ step. step.now) steps.items)) }
 {
     let mut steps = Vec::with_capacity(alloc, journal.undo_len())?;
     'steps: while let Some(back) = journal.undo_at(steps.len()) {
@@ -27,7 +27,7 @@ fn steps_back<'a>(alloc: Global, journal: &'a Journal<Map>) -> Result<Vec<&'a [P
 
 /// The steps that lead on, the next one first.
 fn steps_on<'a>(alloc: Global, journal: &'a Journal<Map>) -> Result<Vec<&'a [Patch]>, AllocError>
-    ensures { IfOk result (λ steps. LeadOn journal.entry.now (map (λ step. step.now) steps.items)) }
+    ensures { IfOk result (λ steps. LeadOn journal.entry.now.history (map (λ step. step.now) steps.items)) }
 {
     let mut steps = Vec::with_capacity(alloc, journal.redo_len())?;
     'steps: while let Some(step) = journal.redo_at(steps.len()) {
@@ -38,7 +38,7 @@ fn steps_on<'a>(alloc: Global, journal: &'a Journal<Map>) -> Result<Vec<&'a [Pat
 
 /// The session of a history at its place, or what is said where it is too long.
 fn saved(alloc: Global, journal: &Journal<Map>) -> Result<Part, RunFault>
-    ensures saves { IfOk result (λ part. Saves journal.now (string_bytes part.message) (string_bytes part.text) part.is_left_out) }
+    ensures saves { IfOk result (λ part. Saves journal.now.history (string_bytes part.message) (string_bytes part.text) part.is_left_out) }
     ensures fault { IsOkUnless result RunFault.Memory }
 {
     let undo = steps_back(alloc, journal)?;
@@ -60,7 +60,7 @@ pub(crate) fn session_part(
     journal: &Journal<Map>,
     is_asked: bool,
 ) -> Result<Part, RunFault>
-    ensures saves { IfOk result (λ part. SavesIf is_asked journal.now (string_bytes part.message) (string_bytes part.text) part.is_left_out) }
+    ensures saves { IfOk result (λ part. SavesIf is_asked journal.now.history (string_bytes part.message) (string_bytes part.text) part.is_left_out) }
     ensures fault { IsOkUnless result RunFault.Memory }
 {
     if is_asked {

@@ -1,5 +1,5 @@
 //! One line of a script after another.
-ghost use Rattle.std.specs.Prelude.{◌≡◌, ◌⊎◌, ℕ, ◌≤◌, ◌<◌, ◌^◌, List, ◌∷◌, true, length, string_bytes, Err, IfOk, IfErr, OnOk, OnErr, IsErrOf, IsOkUnless};
+ghost use Rattle.std.specs.Prelude.{◌≡◌, ◌⊎◌, ℕ, ◌≤◌, ◌<◌, ◌^◌, List, ◌∷◌, length, string_bytes, Err, IfOk, IfErr, OnOk, OnErr, IsErrOf, IsOkUnless};
 ghost use Rattle.std.specs.Io.KnownBytes.{Appends};
 ghost use Rattle.std.specs.List.{prefix_len};
 ghost use Rattle.std.specs.Option.{option_copied};
@@ -13,7 +13,7 @@ ghost use Rattle.rdl_run.specs.ScriptLines.{is_in_line, left_len};
 ghost use Rattle.rdl_script.specs.Seen.{seen};
 ghost use Rattle.rdl_run.specs.Replies.{said};
 ghost use Rattle.rdl_run.specs.Faulted.{StopsServing};
-ghost use Rattle.rdl_run.specs.Turns.{IsOpen};
+ghost use Rattle.rdl_run.specs.Turns.{IsGivenUp, IsOpen};
 
 use crate::counted::CountedWriter;
 use crate::output::write_counted;
@@ -35,16 +35,16 @@ use std::io::Write;
 
 /// Makes the edit, and lets it go.
 fn make(alloc: Global, journal: &mut Journal<Map>, edit: Edit) -> Result<(), EditFault<Refusal>>
-    ensures ok { OnOk result (Edits Leads edit journal.old journal.new) }
-    ensures full { journal.old.limit ≤ journal.old.place → result ≡ Err EditFault.Full }
-    ensures fault { IfErr result (Explains Refuses edit journal.old) }
+    ensures ok { OnOk result (Edits Leads edit journal.old.history journal.new.history) }
+    ensures full { journal.old.history.limit ≤ journal.old.history.place → result ≡ Err EditFault.Full }
+    ensures fault { IfErr result (Explains Refuses edit journal.old.history) }
     ensures err { OnErr result (journal.new ≡ journal.old) }
 {
     journal.edit(alloc, &edit)
 }
 
 fn edit(alloc: Global, journal: &mut Journal<Map>, edit: Edit) -> Result<Reply, RunFault>
-    ensures answers { IfOk result (λ reply. AnswersEdit journal.old edit (said reply) journal.new) }
+    ensures answers { IfOk result (λ reply. AnswersEdit journal.old.history edit (said reply) journal.new.history) }
     ensures fault { IsOkUnless result RunFault.Memory }
 {
     match make(alloc, journal, edit) {
@@ -64,7 +64,7 @@ fn add(
     place: Place,
     text: &[u8],
 ) -> Result<Reply, RunFault>
-    ensures answers { IfOk result (λ reply. AnswersAdd journal.old path place text.now (said reply) journal.new) }
+    ensures answers { IfOk result (λ reply. AnswersAdd journal.old.history path place text.now (said reply) journal.new.history) }
     ensures fault { IsOkUnless result RunFault.Memory }
 {
     match items_of(alloc, text) {
@@ -79,7 +79,7 @@ fn add(
 }
 
 fn undo(alloc: Global, journal: &mut Journal<Map>) -> Result<Reply, RunFault>
-    ensures answers { IfOk result (λ reply. Answers journal.old undo (said reply) journal.new) }
+    ensures answers { IfOk result (λ reply. Answers journal.old.history undo (said reply) journal.new.history) }
     ensures fault { IsOkUnless result RunFault.Memory }
 {
     match journal.undo(alloc) {
@@ -90,7 +90,7 @@ fn undo(alloc: Global, journal: &mut Journal<Map>) -> Result<Reply, RunFault>
 }
 
 fn redo(alloc: Global, journal: &mut Journal<Map>) -> Result<Reply, RunFault>
-    ensures answers { IfOk result (λ reply. Answers journal.old redo (said reply) journal.new) }
+    ensures answers { IfOk result (λ reply. Answers journal.old.history redo (said reply) journal.new.history) }
     ensures fault { IsOkUnless result RunFault.Memory }
 {
     match journal.redo(alloc) {
@@ -120,7 +120,7 @@ pub fn serve(
     journal: &mut Journal<Map>,
     request: Request<'_>,
 ) -> Result<Reply, RunFault>
-    ensures answers { IfOk result (λ reply. Answers journal.old (seen request.entry) (said reply) journal.new) }
+    ensures answers { IfOk result (λ reply. Answers journal.old.history (seen request.entry) (said reply) journal.new.history) }
     ensures fault { IsOkUnless result RunFault.Memory }
 {
     match request {
@@ -161,7 +161,7 @@ fn serve_line(
     number: usize,
     line: &[u8],
 ) -> Result<(String, bool), RunFault>
-    ensures replied { IfOk result (λ r. Replied journal.old line.now number (string_bytes r.0) r.1 journal.new) }
+    ensures replied { IfOk result (λ r. Replied journal.old.history line.now number (string_bytes r.0) r.1 journal.new.history) }
     ensures fault { IsOkUnless result RunFault.Memory }
 {
     let request = match request_of(alloc, line) {
@@ -189,10 +189,11 @@ pub fn serve_all<E: Write>(
 ) -> Result<bool, RunFault>
     requires length { length script.now < 2 ^ 32 }
     requires asked { IsOpen messages.old.counts }
-    ensures served { IfOk result (λ refused. (text : List ℕ) × (Serves journal.old (lines_of script.now) text refused journal.new) × (Appends (E.contents messages.old.writer.now) (E.contents messages.new.writer.now) text)) }
+    ensures served { IfOk result (λ refused. (text : List ℕ) × (Serves journal.old.history (lines_of script.now) text refused journal.new.history) × (Appends (E.contents messages.old.writer.now) (E.contents messages.new.writer.now) text)) }
     ensures fault { IfErr result (λ fault. (fault ≡ RunFault.Memory) ⊎ (fault ≡ RunFault.Write)) }
-    ensures stopped { IfErr result (StopsServing journal.old (lines_of script.now) (E.contents messages.old.writer.now) (E.contents messages.new.writer.now)) }
-    ensures ended { IsErrOf result RunFault.Write → messages.new.counts.ended ≡ true }
+    ensures stopped { IfErr result (StopsServing journal.old.history (lines_of script.now) (E.contents messages.old.writer.now) (E.contents messages.new.writer.now)) }
+    ensures ended { IsErrOf result RunFault.Write → IsGivenUp messages.new.counts }
+    ensures unended { IsErrOf result RunFault.Memory → IsOpen messages.new.counts }
     ensures few { messages.new.counts.interrupts ≤ 1000 }
     ensures asked { OnOk result (IsOpen messages.new.counts) }
     ensures same_reference { messages.new.writer.ghost_name ≡ messages.old.writer.ghost_name }

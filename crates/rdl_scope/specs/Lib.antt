@@ -1,3 +1,4 @@
+pub mod ByName
 pub mod Closed
 pub mod Front
 pub mod ItemFaults

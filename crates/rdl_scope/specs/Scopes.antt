@@ -2,7 +2,6 @@
 -- own: no part of what a type is; `found` (Walk) says the same by a search through whole bodies.
 use Rattle.std.specs.Prelude.{◌≡◌, ℕ, suc, List, [], ◌∷◌, ◌++◌, take, Option, None, Some, option_map, option_and_then, length, bytes_eq, if◌then◌else◌}
 use Rattle.std.specs.Option.{option_or, is_some}
-use Rattle.std.specs.BTreeMap.{get_by}
 use Rattle.rdl_tree.specs.Items.{Items}
 use Rattle.rdl_tree.specs.declared.shell.Kind.{Kind}
 use Rattle.rdl_tree.specs.View.{list_of}
@@ -12,7 +11,7 @@ use Rattle.rdl_scope.specs.Types.{component_of, items_in}
 use Rattle.rdl_scope.specs.Target.{instance_before, instance_in}
 use Rattle.rdl_scope.specs.Value.{own_before, last_default}
 use Rattle.rdl_scope.specs.ItemFaults.{kind_at, target_kind}
-use Rattle.rdl_scope.specs.Front.{name_cmp}
+use Rattle.rdl_scope.specs.ByName.{value_under}
 use Rattle.rdl_scope.specs.Keys.{Holds, key_before}
 use Rattle.rdl_scope.specs.declared.names.Names.{Names}
 use Rattle.rdl_scope.specs.declared.places.Place.{Place}
@@ -21,7 +20,7 @@ use Rattle.rdl_scope.specs.declared.passed.Passed.{Passed}
 
 -- the number under a name
 abbrev pub number_under : Names → List ℕ → Option ℕ
-number_under m q = get_by (name_cmp q) m.numbers
+number_under m q = value_under m.numbers q
 
 -- the level and number under a name: of several the innermost; the outermost is at this level
 abbrev pub level_found : ℕ → List Names → List ℕ → Option (ℕ × ℕ)
@@ -34,7 +33,7 @@ scope_found levels m q = option_or (option_map (λ k. (length levels, k)) (numbe
 
 -- the place under a name
 abbrev pub place_under : Places → List ℕ → Option Place
-place_under m q = get_by (name_cmp q) m.places
+place_under m q = value_under m.places q
 
 -- the address of a place along the address of a body
 abbrev pub along_place : List ℕ → Place → List ℕ

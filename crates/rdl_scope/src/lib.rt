@@ -3,6 +3,7 @@
 #![tactic(auto)]
 
 mod assignments;
+pub mod by_name;
 pub mod faults;
 mod front;
 mod keys;

@@ -1,13 +1,12 @@
 //! Items under their names.
-use crate::front::key_of;
+use crate::by_name::ByName;
 use rdl_tree::description::Item;
 use std::alloc::{AllocError, Global};
-use std::collections::BTreeMap;
 
 /// The numbers of items under their names.
 #[derive(Drop)]
 pub(crate) struct Names<'a> {
-    numbers: BTreeMap<(u64, &'a str), usize>,
+    numbers: ByName<'a, usize>,
 }
 
 impl<'a> Names<'a> {
@@ -20,17 +19,14 @@ impl<'a> Names<'a> {
         ensures { (q : List ℕ) → number_under result q ≡ None }
     {
         Names {
-            numbers: BTreeMap::new(alloc),
+            numbers: ByName::new(alloc),
         }
     }
 
     pub(crate) fn get(&self, name: &'a str) -> Option<usize>
         ensures { result ≡ number_under self.now name.now }
     {
-        match self.numbers.get(&key_of(name)) {
-            Some(number) => Some(*number),
-            None => None,
-        }
+        self.numbers.get(name)
     }
 
     pub(crate) fn has(&self, name: &'a str) -> bool
@@ -44,8 +40,7 @@ impl<'a> Names<'a> {
         ensures twice { IfOk result (λ twice. twice ≡ is_some (number_under self.old name.now)) }
         ensures noted { OnOk result ((q : List ℕ) → number_under self.new q ≡ (if bytes_eq name.now q then Some number else number_under self.old q)) }
     {
-        let before = self.numbers.insert(key_of(name), number)?;
-        Ok(before.is_some())
+        Ok(self.numbers.put(name, number)?.is_some())
     }
 
     /// Puts the number under the item's name, if it is a definition.

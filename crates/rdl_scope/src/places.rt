@@ -4,7 +4,7 @@ ghost use Rattle.rdl_scope.specs.Types.{item};
 ghost use Rattle.rdl_scope.specs.ItemFaults.{kind_at};
 ghost use Rattle.rdl_scope.specs.Scopes.{along_place, place_held, kind_held, scope_found};
 
-use crate::front::key_of;
+use crate::by_name::ByName;
 use crate::levels::scope_found;
 use crate::names::Names;
 use crate::types::{own_component, prefix};
@@ -12,7 +12,6 @@ use rdl_tree::address::Address;
 use rdl_tree::description::{Body, Description, Item, Of};
 use rdl_tree::shell::Kind;
 use std::alloc::{AllocError, Global};
-use std::collections::BTreeMap;
 
 /// The place of an item as a body at some address sees it: its number in the body that is so deep along the address.
 #[derive(Clone, Copy)]
@@ -24,7 +23,7 @@ pub(crate) struct Place {
 /// The places of the components of instances, under the instances' names.
 #[derive(Drop)]
 pub(crate) struct Places<'a> {
-    places: BTreeMap<(u64, &'a str), Place>,
+    places: ByName<'a, Place>,
 }
 
 impl<'a> Places<'a> {
@@ -36,17 +35,14 @@ impl<'a> Places<'a> {
         ensures { (q : List ℕ) → place_under result q ≡ None }
     {
         Places {
-            places: BTreeMap::new(alloc),
+            places: ByName::new(alloc),
         }
     }
 
     pub(crate) fn get(&self, name: &'a str) -> Option<Place>
         ensures { result ≡ place_under self.now name.now }
     {
-        match self.places.get(&key_of(name)) {
-            Some(place) => Some(*place),
-            None => None,
-        }
+        self.places.get(name)
     }
 
     /// Puts the place, if there is one, under the name, and answers whether one was there.
@@ -55,10 +51,7 @@ impl<'a> Places<'a> {
         ensures noted { OnOk result ((q : List ℕ) → place_under self.new q ≡ place_put name.now q place (place_under self.old q)) }
     {
         match place {
-            Some(place) => {
-                let before = self.places.insert(key_of(name), place)?;
-                Ok(before.is_some())
-            }
+            Some(place) => Ok(self.places.put(name, place)?.is_some()),
             None => Ok(self.get(name).is_some()),
         }
     }

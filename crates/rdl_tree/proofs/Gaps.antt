@@ -37,9 +37,9 @@ both_counted xs ys t v = omega (arith, ap length (seen (xs ++ reverse ys) t v), 
 
 pub ruleset gaps = (both_counted, list_of-items_of, length-append, length-reverse)
 
-pub put_in_front : (xs more ys cs bs : List Item) (n : ℕ) (x : Item) (t : Items) → length xs ≡ n → xs ++ reverse ys ≡ cs ++ reverse bs → more ≡ insert xs n x → items_of (cs ++ reverse bs) ≡ t → items_of (more ++ reverse ys) ≡ insert_item n x t
+pub put_in_front : (xs more ys cs bs : List Item) (n : ℕ) (x : Item) (t : Items) → n ≤ length xs → xs ++ reverse ys ≡ cs ++ reverse bs → more ≡ insert xs n x → items_of (cs ++ reverse bs) ≡ t → items_of (more ++ reverse ys) ≡ insert_item n x t
 put_in_front xs more ys cs bs n x t e h f v =
-    ap items_of (ap (λ (zs : List Item). zs ++ reverse ys) f ∙ sym (insert-append_left xs (reverse ys) n x (omega (arith, e)))
+    ap items_of (ap (λ (zs : List Item). zs ++ reverse ys) f ∙ sym (insert-append_left xs (reverse ys) n x e)
     ∙ ap (λ (zs : List Item). insert zs n x) (h ∙ seen (cs ++ reverse bs) t v))
 
 pub taken_from_front : (xs less ys cs bs : List Item) (n : ℕ) (t : Items) → length xs ≡ n + 1 → xs ++ reverse ys ≡ cs ++ reverse bs → less ≡ remove xs n → items_of (cs ++ reverse bs) ≡ t → items_of (less ++ reverse ys) ≡ remove_item n t

@@ -2,7 +2,9 @@ pub mod Backs
 pub mod Changes
 pub mod Components
 pub mod Edits
+pub mod Fills
 pub mod Gaps
+pub mod Held
 pub mod Nesting
 pub mod PatchExamples
 pub mod PatchWeights
@@ -15,5 +17,6 @@ pub mod Runs
 pub mod Sizes
 pub mod Stepped
 pub mod Steps
+pub mod Turns
 pub mod Undone
 pub mod Ways

@@ -1,5 +1,5 @@
 //! Changes of a body's own items.
-ghost use Rattle.std.specs.Prelude.{◌≡◌, ◌<◌, ◌≤◌, ◌++◌, ◌∷◌, [], length, is_ok, if◌then◌else◌, IfErr, Some, slice_get, vec_capacity};
+ghost use Rattle.std.specs.Prelude.{◌≡◌, ◌<◌, ◌≤◌, ◌++◌, ◌∷◌, [], length, is_ok, if◌then◌else◌, IfErr, Some, slice_get};
 ghost use Rattle.rdl_tree.specs.View.{list_of, items_of};
 ghost use Rattle.rdl_tree.specs.Edit.{insert_item, remove_item, shift_item, replace_item};
 
@@ -25,25 +25,6 @@ impl Body {
         ensures value_returned { IfErr result (λ refused. refused.value ≡ item) }
     {
         self.items.insert(number, item)
-    }
-
-    /// Puts the item where it has this number, and all items into the room. This takes no memory.
-    #[tactic(auto, using(crate::proofs::Rounds::views))]
-    pub(crate) fn insert_within(&mut self, number: usize, item: Item, mut room: Vec<Item>)
-        requires within { number ≤ length (list_of self.old) }
-        requires empty { length room.items ≡ 0 }
-        requires room { length (list_of self.old) < vec_capacity room }
-        ensures { self.new ≡ insert_item number item self.old }
-    {
-        match room.append(&mut self.items) {
-            Ok(()) => {}
-            Err(_) => unreachable!(),
-        }
-        match room.insert(number, item) {
-            Ok(()) => {}
-            Err(_) => unreachable!(),
-        }
-        self.items = room;
     }
 
     #[tactic(auto, using(crate::proofs::Rounds::views))]

@@ -111,7 +111,7 @@ fn seek(front: &mut Vec<Item>, behind: &mut Vec<Item>, number: usize)
 }
 
 /// Moves items from the end of one list to the end of the other, the last one first, until so many are left.
-fn pour(from: &mut Vec<Item>, to: &mut Vec<Item>, left: usize)
+pub(crate) fn pour(from: &mut Vec<Item>, to: &mut Vec<Item>, left: usize)
     requires there { left ≤ length from.old.items }
     requires room { length from.old.items + length to.old.items ≤ vec_capacity to.old }
     ensures same { from.new.items ++ reverse to.new.items ≡ from.old.items ++ reverse to.old.items }

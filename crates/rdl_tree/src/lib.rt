@@ -2,6 +2,7 @@
 #![tactic(auto)]
 
 pub mod address;
+mod back;
 pub mod copy;
 pub mod count;
 pub mod depth;

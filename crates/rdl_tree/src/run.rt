@@ -1,7 +1,8 @@
 //! Patches that put items into one body or take them out of it, one after another, in one pass.
-ghost use Rattle.std.specs.Prelude.{◌≡◌, ◌==◌, ◌+◌, ◌<◌, ◌≤◌, IsTrue, IfOk, IfErr, OnErr, length, vec_capacity};
+ghost use Rattle.std.specs.Prelude.{◌≡◌, ◌==◌, ℕ, ◌+◌, ◌<◌, ◌≤◌, IsTrue, IfOk, IfErr, OnErr, IfSome, IfNone, length, vec_capacity};
 ghost use Rattle.rdl_tree.specs.Address.{holder_of, number_of};
-ghost use Rattle.rdl_tree.specs.Gap.{IsStepWithin, GoesOn, GoesOnWithin};
+ghost use Rattle.rdl_tree.specs.Gap.{IsStepWithin, IsLent, GoesOn, GoesOnWithin};
+ghost use Rattle.rdl_tree.specs.Way.{held_at, held_for, held_behind};
 ghost use Rattle.rdl_tree.specs.declared.patch.Patch.{Patch};
 
 use crate::address::Address;
@@ -9,7 +10,7 @@ use crate::description::{Body, Description, Item};
 use crate::gap::Gap;
 use crate::patch::Patch;
 use crate::way::Step;
-use std::alloc::Global;
+use std::alloc::{AllocError, Global};
 
 /// Applies the patches that come next, from the last one on, as far as they put items into one body or take them out
 /// of it, and memory can be had.
@@ -108,7 +109,7 @@ fn advance_within(
     ensures steps { length patches.new.items + length steps.new.items ≤ vec_capacity steps.new }
 {
     'patches: while let Some(patch) = patches.pop() {
-        match apply_within(gap, alloc, holder, patch) {
+        match apply_within(gap, alloc, holder, patch, steps) {
             Ok(step) => steps.push(step).unwrap(),
             Err(same) => {
                 patches.push(same).unwrap();
@@ -119,15 +120,25 @@ fn advance_within(
 }
 
 /// Applies the patch, if it puts an item into this body or takes one out of it, and memory for it can be had. Else it
-/// gives the same patch.
-fn apply_within(gap: &mut Gap, alloc: Global, holder: &Address, patch: Patch) -> Result<Step, Patch>
+/// gives the same patch. The steps before it may lend their room to the step back.
+fn apply_within(
+    gap: &mut Gap,
+    alloc: Global,
+    holder: &Address,
+    patch: Patch,
+    steps: &mut Vec<Step>,
+) -> Result<Step, Patch>
     ensures applied { IfOk result (λ step. IsStepWithin holder.now patch gap.old gap.new step) }
+    ensures lent { IfOk result (λ step. IsLent (held_behind step.back (vec_capacity step.room)) steps.old.items steps.new.items) }
     ensures refused { IfErr result (λ same. same ≡ patch) }
     ensures stays { OnErr result (gap.new ≡ gap.old) }
+    ensures keeps { OnErr result (steps.new.items ≡ steps.old.items) }
+    ensures count { length steps.new.items ≡ length steps.old.items }
+    ensures capacity { vec_capacity steps.old ≤ vec_capacity steps.new }
 {
     match patch {
         Patch::Insert(address, item) => put_within(gap, alloc, holder, address, item),
-        Patch::Delete(address) => take_within(gap, alloc, holder, address),
+        Patch::Delete(address) => take_within(gap, alloc, holder, address, steps),
         other => Err(other),
     }
 }
@@ -153,27 +164,82 @@ fn put_within(
     }
 }
 
-/// Takes the item out, if it stands in this body and memory to put it in again can be had.
+/// Takes the item out, if it stands in this body and there is room to put it in again.
 fn take_within(
     gap: &mut Gap,
     alloc: Global,
     holder: &Address,
     address: Address,
+    steps: &mut Vec<Step>,
 ) -> Result<Step, Patch>
     ensures applied { IfOk result (λ step. IsStepWithin holder.now (Patch.Delete address) gap.old gap.new step) }
+    ensures lent { IfOk result (λ step. IsLent (held_behind step.back (vec_capacity step.room)) steps.old.items steps.new.items) }
     ensures refused { IfErr result (λ same. same ≡ Patch.Delete address) }
     ensures stays { OnErr result (gap.new ≡ gap.old) }
+    ensures keeps { OnErr result (steps.new.items ≡ steps.old.items) }
+    ensures count { length steps.new.items ≡ length steps.old.items }
+    ensures capacity { vec_capacity steps.old ≤ vec_capacity steps.new }
 {
     if !is_in(&address, holder) || address.number() >= gap.len() {
         return Err(Patch::Delete(address));
     }
-    match Vec::with_capacity(alloc, gap.len()) {
+    match room_within(steps, alloc, holder, gap.len()) {
         Ok(room) => {
             let item = gap.remove(address.number());
             let back = Patch::Insert(address, item);
             Ok(Step { back, room })
         }
         Err(_) => Err(Patch::Delete(address)),
+    }
+}
+
+/// Room for so many items of this body: the last step's, where that one lends it, or else new room.
+fn room_within(
+    steps: &mut Vec<Step>,
+    alloc: Global,
+    holder: &Address,
+    len: usize,
+) -> Result<Vec<Item>, AllocError>
+    ensures empty { IfOk result (λ room. length room.items ≡ 0) }
+    ensures enough { IfOk result (λ room. len ≤ vec_capacity room) }
+    ensures lent { IfOk result (λ room. IsLent (held_at holder.now (vec_capacity room)) steps.old.items steps.new.items) }
+    ensures keeps { OnErr result (steps.new.items ≡ steps.old.items) }
+    ensures count { length steps.new.items ≡ length steps.old.items }
+    ensures capacity { vec_capacity steps.old ≤ vec_capacity steps.new }
+{
+    match lend(steps, alloc, holder, len) {
+        Some(room) => Ok(room),
+        None => Vec::with_capacity(alloc, len),
+    }
+}
+
+/// Takes the last step's room, if that step puts an item into this body, and it is room for so many. On the way back,
+/// this body is held open once the room's new owner was taken back, so that the step finds the same room.
+fn lend(steps: &mut Vec<Step>, alloc: Global, holder: &Address, len: usize) -> Option<Vec<Item>>
+    ensures empty { IfSome result (λ room. length room.items ≡ 0) }
+    ensures enough { IfSome result (λ room. len ≤ vec_capacity room) }
+    ensures lent { IfSome result (λ room. IsLent (held_at holder.now (vec_capacity room)) steps.old.items steps.new.items) }
+    ensures keeps { IfNone result (steps.new.items ≡ steps.old.items) }
+    ensures count { length steps.new.items ≡ length steps.old.items }
+    ensures capacity { vec_capacity steps.old ≤ vec_capacity steps.new }
+{
+    let step = steps.pop()?;
+    if len > step.room.capacity() || !puts_into(&step.back, holder) {
+        steps.push(step).unwrap();
+        return None;
+    }
+    let Step { back, room } = step;
+    steps.push(Step::new(alloc, back)).unwrap();
+    Some(room)
+}
+
+/// Whether the patch puts an item into this body.
+fn puts_into(patch: &Patch, holder: &Address) -> bool
+    ensures { IsTrue result → (room : ℕ) → room ≤ held_for patch.now (held_at holder.now room) }
+{
+    match patch {
+        Patch::Insert(address, _) => is_in(address, holder),
+        _ => false,
     }
 }
 

@@ -1,29 +1,48 @@
 //! One patch applied, and one step taken back.
-ghost use Rattle.std.specs.Prelude.{◌≡◌, [], ◌∷◌, IsTrue, IfOk, IfErr, OnOk, OnErr, Some, length, vec_capacity};
+ghost use Rattle.std.specs.Prelude.{◌≡◌, [], ◌∷◌, ◌++◌, ◌+◌, ◌<◌, ◌≤◌, IsTrue, IfOk, IfErr, OnOk, OnErr, Some, length, vec_capacity};
 ghost use Rattle.rdl_tree.specs.Address.{body_at, holder_of};
 ghost use Rattle.rdl_tree.specs.Patch.{patched, fits, inverse, length_of};
-ghost use Rattle.rdl_tree.specs.Way.{is_placed, has_room, is_ready};
+ghost use Rattle.rdl_tree.specs.Way.{none_held, held_at, is_placed, has_room, is_ready};
+ghost use Rattle.rdl_tree.specs.Gap.{ComesBack};
 ghost use Rattle.rdl_tree.specs.Step.{IsStep};
 
 use crate::address::Address;
+use crate::back::fill;
 use crate::description::{Description, Item};
 use crate::part::Part;
 use crate::patch::Patch;
 use crate::way::Step;
 use std::alloc::{AllocError, Global};
 
-/// Takes one step back, and gives the patch that leads on again. This takes no memory.
-pub(crate) fn step_back(description: &mut Description, step: Step) -> Patch
-    requires { IsTrue (is_ready step description.old.items) }
-    ensures back { description.new.items ≡ patched step.back description.old.items }
-    ensures patch { inverse step.back description.old.items ≡ result ∷ [] }
+/// Takes a step back. Where it puts an item into a body, the steps that come next are taken back, too, as far as they put
+/// items into the same body. The patches that take each of them back go behind the others. This takes no memory.
+pub(crate) fn step_back(
+    description: &mut Description,
+    step: Step,
+    steps: &mut Vec<Step>,
+    patches: &mut Vec<Patch>,
+)
+    requires ready { IsTrue (is_ready step description.old.items) }
+    requires room { length patches.old.items + length steps.old.items < vec_capacity patches.old }
+    ensures way { ComesBack none_held (steps.old.items ++ step ∷ []) steps.new.items patches.old.items patches.new.items description.old.items description.new.items }
+    ensures less { length steps.new.items ≤ length steps.old.items }
+    ensures room { length patches.new.items + length steps.new.items ≤ vec_capacity patches.new }
 {
     let Step { back, room } = step;
     match back {
-        Patch::Insert(address, item) => put_in(description, address, item, room),
-        Patch::Delete(address) => take_out(description, address),
-        Patch::Shift(address, to) => shift(description, address, to),
-        Patch::Exchange(address, part) => exchange(description, address, part),
+        Patch::Insert(address, item) => put_in(description, address, item, room, steps, patches),
+        Patch::Delete(address) => {
+            let patch = take_out(description, address);
+            patches.push(patch).unwrap();
+        }
+        Patch::Shift(address, to) => {
+            let patch = shift(description, address, to);
+            patches.push(patch).unwrap();
+        }
+        Patch::Exchange(address, part) => {
+            let patch = exchange(description, address, part);
+            patches.push(patch).unwrap();
+        }
     }
 }
 
@@ -110,19 +129,27 @@ fn room_for(
     }
 }
 
-/// Puts the item in, within the room.
-fn put_in(description: &mut Description, address: Address, item: Item, room: Vec<Item>) -> Patch
+/// Puts the item in, within the room, and goes on with the steps that put items into the same body.
+fn put_in(
+    description: &mut Description,
+    address: Address,
+    item: Item,
+    room: Vec<Item>,
+    steps: &mut Vec<Step>,
+    patches: &mut Vec<Patch>,
+)
     requires placed { IsTrue (is_placed (Patch.Insert address item) description.old.items) }
     requires room { IsTrue (has_room (Patch.Insert address item) (vec_capacity room) description.old.items) }
     requires empty { length room.items ≡ 0 }
-    ensures changed { description.new.items ≡ patched (Patch.Insert address item) description.old.items }
-    ensures inverse { result ≡ Patch.Delete address }
+    requires patches { length patches.old.items + length steps.old.items < vec_capacity patches.old }
+    ensures way { ComesBack (held_at (holder_of address) (vec_capacity room)) steps.old.items steps.new.items (patches.old.items ++ Patch.Delete address ∷ []) patches.new.items (patched (Patch.Insert address item) description.old.items) description.new.items }
+    ensures less { length steps.new.items ≤ length steps.old.items }
+    ensures patches { length patches.new.items + length steps.new.items ≤ vec_capacity patches.new }
 {
     match description.body_mut(&address.holder()) {
-        Some(body) => body.insert_within(address.number(), item, room),
+        Some(body) => fill(body, address, item, room, steps, patches),
         None => unreachable!(),
     }
-    Patch::Delete(address)
 }
 
 /// Takes the item out, and gives the patch that puts it in again.

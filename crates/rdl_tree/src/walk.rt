@@ -98,7 +98,6 @@ pub(crate) fn steps_back(
     ensures none { steps.new.items ≡ [] }
 {
     'steps: while let Some(step) = steps.pop() {
-        let patch = step_back(description, step);
-        room.push(patch).unwrap();
+        step_back(description, step, steps, room);
     }
 }

@@ -1,6 +1,7 @@
 //! A run over files: they are read whole before it, and replaced whole behind it.
 ghost use Rattle.std.specs.Prelude.{◌≡◌, IfOk, map};
 ghost use Rattle.regedit.specs.Files.{files_of, seen};
+ghost use Rattle.regedit.specs.RunTexts.{AreOfOutput, AreRun};
 
 use crate::paths::Paths;
 use rdl_run::run::{Options, run};
@@ -155,7 +156,7 @@ struct Texts {
     session: Vec<u8>,
 }
 
-/// Runs the script of the second input on the map or session of the first.
+/// Runs the script of the second input on the map or session of the first. The texts are those of the run, each under its name.
 fn run_inputs<'a, F: Read, M: Write>(
     alloc: Global,
     paths: &'a Paths,
@@ -163,7 +164,10 @@ fn run_inputs<'a, F: Read, M: Write>(
     map: &mut NotedReader<F>,
     script: &mut NotedReader<F>,
     messages: &mut NotedWriter<'_, M>,
-) -> Result<Texts, Stop<'a>> {
+) -> Result<Texts, Stop<'a>>
+    ensures ran { IfOk result (AreRun options.now (F.remaining map.old.reader) (F.remaining script.old.reader)
+        (M.contents messages.old.writer.now) (M.contents messages.new.writer.now)) }
+{
     let mut rdl = Vec::new(alloc);
     let mut header = Vec::new(alloc);
     let mut session = Vec::new(alloc);
@@ -193,7 +197,9 @@ fn run_in_memory<'a, R: Files, M: Write>(
     paths: &'a Paths,
     options: &Options,
     messages: &mut M,
-) -> Result<Texts, Stop<'a>> {
+) -> Result<Texts, Stop<'a>>
+    ensures output { IfOk result (AreOfOutput options.now) }
+{
     let mut map = open_input(rt, paths.map.as_str())?;
     let mut script = open_input(rt, paths.script.as_str())?;
     let mut messages = NotedWriter::new(messages);

@@ -2,27 +2,39 @@
 use crate::assert_holds;
 use crate::history::{is_made, opened};
 use crate::layouts::is_laid_out;
+use crate::parse::description;
 use crate::tree::address;
 use journal_core::journal::Journal;
 use rdl_edit::map::Map;
+use rdl_elab::kept::Kept;
 use rdl_elab::layout::Mode;
 use std::alloc::{AllocError, Global};
 use std::process::Abort;
 use std::test::Fail;
 
-/// A register file of a thousand registers, another one of one register, and both in one map.
-fn two_files(alloc: Global) -> Result<String, AllocError> {
+/// A register file of a thousand registers, another one of one register that is written so, and both in one map.
+fn two_files(alloc: Global, second: &str) -> Result<String, AllocError> {
     let mut text = String::from_str(alloc, "regfile A { reg R { field {} f; };\n")?;
     for i in 0..1000u32 {
         write!(text, "R r{i};\n")?;
     }
-    text.push_str("};\nregfile B { reg { field {} f; } x; };\naddrmap top { A a; B b; };\n")?;
+    write!(
+        text,
+        "}};\nregfile B {{ reg {{ field {{}} f; }} {second}; }};\naddrmap top {{ A a; B b; }};\n"
+    )?;
     Ok(text)
 }
 
-/// Lines of a script, and how many instances each places at most, once for each mode.
-const STEPS: [(&str, u64); 18] = [
-    ("resize /$B/x [2]", 9),
+/// How many instances are placed at first: those of the two register files in three modes, and those of the map and the
+/// fields of the two registers in one.
+const AT_FIRST: u64 = 3_007;
+
+/// Lines of a script, and how many instances each places anew, once for each mode in which they stand: those of the
+/// second register file in three, and those of the map, and fields, in one.
+const STEPS: [(&str, u64); 20] = [
+    ("resize /$B/x [2]", 5),
+    ("undo", 5),
+    ("redo", 5),
     ("rename /$B/x y", 0),
     ("undo", 0),
     ("redo", 0),
@@ -31,15 +43,18 @@ const STEPS: [(&str, u64); 18] = [
     ("redo", 0),
     ("set /$B name \"second\"", 0),
     ("reset /$B/y/f 1", 0),
-    ("add /$B last reg { field {} g; } z;", 15),
-    ("undo", 9),
-    ("redo", 15),
-    ("move /$B/z first", 15),
-    ("default /$B regwidth 64", 18),
-    ("undo", 18),
-    ("remove /$B/z", 9),
-    ("undo", 15),
-    ("move /$B/z last", 15),
+    // the field of the new register stands as that of the other one
+    ("add /$B last reg { field {} g; } z;", 8),
+    ("undo", 5),
+    ("redo", 8),
+    // `fullalign` leaves a gap between them then
+    ("move /$B/z first", 8),
+    // both registers are wider, so their fields are placed anew, too
+    ("default /$B regwidth 64", 10),
+    ("undo", 8),
+    ("remove /$B/z", 5),
+    ("undo", 8),
+    ("move /$B/z last", 8),
 ];
 
 fn placed_by(alloc: Global, journal: &mut Journal<Map>, line: &str) -> Result<u64, Fail> {
@@ -60,19 +75,39 @@ fn assert_each_places(
     journal: &mut Journal<Map>,
     steps: &[(&str, u64)],
 ) -> Result<(), Fail> {
-    for (line, most) in steps {
-        assert_holds(rt, placed_by(alloc, journal, line)? <= *most, line);
+    for (line, count) in steps {
+        assert_holds(rt, placed_by(alloc, journal, line)? == *count, line);
     }
     Ok(())
 }
 
-// the second register file and the map have 3 instances, and the first a thousand; where a register comes or moves, that and its field are
-// laid out too, and under a default both registers with their fields
+// what is placed where everything is: over three thousand
 #[test]
 fn relay_places_everything(rt: HostRuntime) -> Result<(), Fail> {
-    let text = two_files(rt.alloc())?;
+    let text = two_files(rt.alloc(), "x")?;
     let mut journal = opened(rt.alloc(), text.as_str(), 100)?;
+    assert_holds(&rt, journal.map().placed() == AT_FIRST, "the opening");
     assert_each_places(&rt, rt.alloc(), &mut journal, steps())
+}
+
+/// How many instances are placed where this text is laid out instead.
+fn placed_again(alloc: Global, kept: &mut Kept, text: &str) -> Result<u64, Fail> {
+    kept.relay(alloc, &description(alloc, text)?, None, &[])?;
+    Ok(kept.placed())
+}
+
+// the counts of an opening, of a register that becomes two, and of none that changes, by the calls of the layouts alone
+#[test]
+fn counts_no_placement(rt: HostRuntime) -> Result<(), Fail> {
+    let one = two_files(rt.alloc(), "x")?;
+    let two = two_files(rt.alloc(), "x[2]")?;
+    let mut kept = Kept::of(rt.alloc(), &description(rt.alloc(), one.as_str())?, None)?;
+    assert_holds(&rt, kept.placed() == AT_FIRST, "the opening");
+    for (text, count) in [(&two, 5), (&two, 0), (&one, 5)] {
+        let placed = placed_again(rt.alloc(), &mut kept, text.as_str())?;
+        assert_holds(&rt, placed == count, "another text");
+    }
+    Ok(())
 }
 
 /// The starts and the size of the layout of the component at this address, under a mode.

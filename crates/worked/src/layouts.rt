@@ -1,4 +1,5 @@
 //! Rows and layouts of whole maps that no run prints: values of rows, very many rows, and registers that go down.
+use crate::history::map_of;
 use crate::map::rows_or_fault;
 use crate::{assert_holds, assert_same};
 use rdl_elab::layout::{Layout, Span};
@@ -129,6 +130,31 @@ fn assert_each_held(
 #[test]
 fn holds_values(rt: HostRuntime) -> Result<(), Fail> {
     assert_each_held(&rt, rt.alloc(), &HELD)?;
+    Ok(())
+}
+
+/// Rows of `WITH_NAMES`, and what each holds for its name.
+const NAMES: [(usize, Held); 5] = [
+    (1, Held::Nothing),
+    (2, Held::Text("outer")),
+    (3, Held::Nothing),
+    (4, Held::Text("near")),
+    (5, Held::Text("own")),
+];
+
+fn assert_names(rt: &impl Abort, rows: &Rows, names: &[(usize, Held)]) {
+    for (number, held) in names {
+        let is_held = holds(rows, *number, Property::Name, held);
+        assert_holds(rt, is_held, "a name in a map");
+    }
+}
+
+// as the rows of a map that is open show them
+#[test]
+fn holds_names_in_a_map(rt: HostRuntime) -> Result<(), Fail> {
+    let map = map_of(rt.alloc(), WITH_NAMES)?;
+    let rows = map.rows(rt.alloc())?;
+    assert_names(&rt, &rows, &NAMES);
     Ok(())
 }
 

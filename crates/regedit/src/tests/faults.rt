@@ -26,15 +26,31 @@ impl Read for Interrupted<'_> {
     }
 }
 
-/// A reader of so many bytes 0, which are kept nowhere.
+/// A reader of a text, and of blanks behind it, which are kept nowhere.
 #[derive(Drop)]
-struct Zeros(usize);
+struct Padded<'a> {
+    text: &'a [u8],
+    blanks: usize,
+}
 
-impl Read for Zeros {
+impl Padded<'_> {
+    /// So many bytes in all, where the text has no more.
+    fn new(text: &[u8], len: usize) -> Padded<'_> {
+        Padded {
+            text,
+            blanks: len.saturating_sub(text.len()),
+        }
+    }
+}
+
+impl Read for Padded<'_> {
     fn read(&mut self, buffer: &mut [u8]) -> io::Result<usize> {
-        let count = buffer.len().min(self.0);
-        buffer[..count].fill(0);
-        self.0 -= count;
+        if !self.text.is_empty() {
+            return self.text.read(buffer);
+        }
+        let count = buffer.len().min(self.blanks);
+        buffer[..count].fill(b' ');
+        self.blanks -= count;
         Ok(count)
     }
 }
@@ -77,14 +93,27 @@ fn reads_that_fail(rt: HostRuntime) {
     assert!(rt; run_interrupted(&rt, 0, true) == Err(RunFault::Read));
 }
 
+fn run_interrupted_map(rt: &HostRuntime, times: u32) -> Result<Status, RunFault> {
+    let mut map = Interrupted {
+        times,
+        fails: false,
+        rest: MAP.as_bytes(),
+    };
+    let mut script = b"".as_slice();
+    let mut messages: Vec<u8> = Vec::new(rt.alloc());
+    run_with(rt.alloc(), &mut map, &mut script, &mut messages)
+}
+
 #[test]
 fn reads_that_are_interrupted(rt: HostRuntime) {
     assert!(rt; run_interrupted(&rt, 1_000, false) == Ok(Status::LineRefused));
     assert!(rt; run_interrupted(&rt, 1_001, false) == Err(RunFault::Interrupted));
+    assert!(rt; run_interrupted_map(&rt, 1_000) == Ok(Status::Accepted));
+    assert!(rt; run_interrupted_map(&rt, 1_001) == Err(RunFault::Interrupted));
 }
 
-fn read_zeros(rt: &HostRuntime, len: usize) -> Result<usize, RunFault> {
-    match read_whole(rt.alloc(), &mut Zeros(len), 10_000) {
+fn read_blanks(rt: &HostRuntime, len: usize) -> Result<usize, RunFault> {
+    match read_whole(rt.alloc(), &mut Padded::new(b"", len), 10_000) {
         Ok(bytes) => Ok(bytes.len()),
         Err(fault) => Err(fault),
     }
@@ -93,25 +122,36 @@ fn read_zeros(rt: &HostRuntime, len: usize) -> Result<usize, RunFault> {
 // At a small limit, up to which all is read.
 #[test]
 fn inputs_that_are_too_long(rt: HostRuntime) {
-    assert!(rt; read_zeros(&rt, 10_000) == Ok(10_000));
-    assert!(rt; read_zeros(&rt, 10_001) == Err(RunFault::TooLong));
+    assert!(rt; read_blanks(&rt, 10_000) == Ok(10_000));
+    assert!(rt; read_blanks(&rt, 10_001) == Err(RunFault::TooLong));
 }
 
-fn run_zeros(rt: &HostRuntime, map: usize, script: usize) -> Result<Status, RunFault> {
+/// A map and a script of so many bytes, of which comments have most.
+fn run_padded(rt: &HostRuntime, map: usize, script: usize) -> Result<Status, RunFault> {
     let mut messages: Vec<u8> = Vec::new(rt.alloc());
     run_with(
         rt.alloc(),
-        &mut Zeros(map),
-        &mut Zeros(script),
+        &mut Padded::new(b"addrmap top { reg { field {} f; } a; }; //", map),
+        &mut Padded::new(b"undo\n#", script),
         &mut messages,
     )
 }
 
-// The script is read before the map is found to be no text.
+#[test]
+fn maps_of_64_mebibytes(rt: HostRuntime) {
+    assert!(rt; run_padded(&rt, 67_108_864, 0) == Ok(Status::LineRefused));
+}
+
+// The first line finds nothing to undo, so the script was served.
+#[test]
+fn scripts_of_64_mebibytes(rt: HostRuntime) {
+    assert!(rt; run_padded(&rt, 0, 67_108_864) == Ok(Status::LineRefused));
+}
+
 #[test]
 fn inputs_of_over_64_mebibytes(rt: HostRuntime) {
-    assert!(rt; run_zeros(&rt, 67_108_865, 0) == Err(RunFault::TooLong));
-    assert!(rt; run_zeros(&rt, 1, 67_108_865) == Err(RunFault::TooLong));
+    assert!(rt; run_padded(&rt, 67_108_865, 0) == Err(RunFault::TooLong));
+    assert!(rt; run_padded(&rt, 0, 67_108_865) == Err(RunFault::TooLong));
 }
 
 fn undo_into(rt: &HostRuntime, room: usize, fails: bool) -> Result<Status, RunFault> {

@@ -1,5 +1,5 @@
 //! The program on files.
-use super::{MAP, assert_same};
+use super::{MAP, THREE, assert_same};
 use crate::command::command;
 use std::alloc::AllocError;
 use std::process::Abort;
@@ -279,6 +279,71 @@ fn are_written_where_a_line_is_refused(rt: HostRuntime) -> Result<(), Fail> {
     let said = (1, "script:1: J2 nothing to undo\n", "");
     let behind = &[("out.rdl", "addrmap top {\n};\n")];
     assert_run(&rt, &rt, "refused", before, said, behind)
+}
+
+/// A register is added to three, undone and redone.
+const ADD: &str = "add /$top after a reg { field {} g; } x;\nundo\nredo\nlist\n";
+
+const FOUR_LINES: &str = "0x0 addrmap top size 0x10
+0x0 reg top.a size 0x4
+[7:0] field top.a.f reset 0x5
+0x4 reg top.x size 0x4
+[0:0] field top.x.g
+0x8 reg top.b size 0x4
+[0:0] field top.b.f
+0xC reg top.c size 0x4
+[7:4] field top.c.f
+";
+
+const FOUR_WRITTEN: &str = "addrmap top {
+    reg {
+        field {
+        } f[8] = 0x5;
+    } a;
+    reg {
+        field {
+        } g;
+    } x;
+    reg {
+        field {
+        } f;
+    } b;
+    reg {
+        field {
+        } f[7:4];
+    } c;
+};
+";
+
+/// One register of three is removed, and its removal undone; then another one is removed, and nothing can be redone.
+const REMOVE: &str = "undo\nremove /$top/c\nundo\nremove /$top/b\nredo\n";
+
+const REMOVE_MESSAGES: &str = "script:1: J2 nothing to undo\nscript:5: J3 nothing to redo\n";
+
+const TWO_WRITTEN: &str = "addrmap top {
+    reg {
+        field {
+        } f[8] = 0x5;
+    } a;
+    reg {
+        field {
+        } f[7:4];
+    } c;
+};
+";
+
+#[test]
+fn are_written_behind_an_addition(rt: HostRuntime) -> Result<(), Fail> {
+    let before = &[("map.rdl", THREE), ("script.txt", ADD)];
+    let behind = &[("out.rdl", FOUR_WRITTEN)];
+    assert_run(&rt, &rt, "added", before, (0, FOUR_LINES, ""), behind)
+}
+
+#[test]
+fn are_written_where_nothing_can_be_redone(rt: HostRuntime) -> Result<(), Fail> {
+    let before = &[("map.rdl", THREE), ("script.txt", REMOVE)];
+    let behind = &[("out.rdl", TWO_WRITTEN)];
+    assert_run(&rt, &rt, "redone", before, (1, REMOVE_MESSAGES, ""), behind)
 }
 
 #[test]

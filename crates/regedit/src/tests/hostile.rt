@@ -32,7 +32,7 @@ fn assert_only_whole(rt: &impl Abort, alloc: Global, map: &str) -> Result<(), Fa
     Ok(())
 }
 
-const USED: &str =
+pub(super) const USED: &str =
     "reg T { field {} e; field {} f; }; addrmap top { T u; T v; u.f->reset = 1; T w; v.f->reset = 0; v.e->sw = r; };";
 
 const COMMENTED: &str = "// demo

@@ -62,11 +62,13 @@ impl Read for Trickle<'_> {
     }
 }
 
-/// A writer that is interrupted so often, and takes one byte a call until it has taken so many.
+/// A writer that is interrupted so often, and takes one byte a call until it has taken so many. Then it fails, or takes
+/// nothing.
 #[derive(Drop)]
 struct Drip {
     interrupts: usize,
     room: usize,
+    fails: bool,
     taken: Vec<u8>,
 }
 
@@ -75,6 +77,7 @@ impl Drip {
         Drip {
             interrupts: 0,
             room,
+            fails: true,
             taken: Vec::new(alloc),
         }
     }
@@ -86,8 +89,11 @@ impl Write for Drip {
             self.interrupts -= 1;
             return Err(io::Error::from(ErrorKind::Interrupted));
         }
-        if self.room == 0 {
+        if self.room == 0 && self.fails {
             return Err(io::Error::from(ErrorKind::Other));
+        }
+        if self.room == 0 {
+            return Ok(0);
         }
         self.room -= 1;
         let count = bytes.len().min(1);
@@ -301,5 +307,30 @@ fn at_too_many_interruptions(rt: HostRuntime) {
     ];
     for interrupts in cases {
         assert!(rt; run_interrupted(alloc, interrupts) == Err(RunFault::Write));
+    }
+}
+
+fn run_into_narrow(alloc: Global, rooms: Rooms) -> Result<Status, RunFault> {
+    let mut drips = writers(alloc, rooms);
+    drips.messages.fails = false;
+    drips.rdl.fails = false;
+    drips.header.fails = false;
+    drips.session.fails = false;
+    run_into(alloc, READ, &mut drips)
+}
+
+// Each output takes one byte at least, and then nothing where it has no more room.
+#[test]
+fn at_writes_that_take_nothing(rt: HostRuntime) {
+    let alloc = rt.alloc();
+    assert!(rt; run_into_narrow(alloc, TAKEN) == Ok(Status::Accepted));
+    let cases = [
+        (1, MANY, MANY, MANY),
+        (MANY, 1, MANY, MANY),
+        (MANY, MANY, 1, MANY),
+        (MANY, MANY, MANY, 1),
+    ];
+    for rooms in cases {
+        assert!(rt; run_into_narrow(alloc, rooms) == Err(RunFault::Write));
     }
 }

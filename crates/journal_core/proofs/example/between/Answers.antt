@@ -8,5 +8,5 @@ resume-requires-clause-undo_fits c = copies_fit c.args.now.items.items c.args.be
 pub resume-requires-clause-redo_fits : goal.resume-requires-clause-redo_fits
 resume-requires-clause-redo_fits c = copies_fit c.args.now.items.items c.args.ahead.items
 
-pub returns : goal.returns
-returns c = c.resume.ensures ∙ copies_resumed c.args.limit c.args.now.items.items c.args.behind.items c.args.ahead.items
+pub returns-clause-history : goal.returns-clause-history
+returns-clause-history c = c.resume.ensures.history ∙ copies_resumed c.args.limit c.args.now.items.items c.args.behind.items c.args.ahead.items

@@ -8,7 +8,7 @@ use Rattle.rdl_elab.specs.Finished.{under, AreParts}
 use Rattle.rdl_elab.specs.LaidOut.{kept_members}
 use Rattle.rdl_elab.specs.MadeOf.{made_of}
 use Rattle.rdl_elab.specs.Reaches.{reaches_by}
-use Rattle.rdl_elab.specs.Words.{words}
+use Rattle.rdl_elab.specs.Words.{spelling}
 use Rattle.rdl_elab.proofs.KeptTargets.{target-same}
 use Rattle.rdl_elab.proofs.Making.{layouts-made, under-kept, members-are}
 use Rattle.rdl_elab.proofs.Powers.{alignment-power}
@@ -30,7 +30,7 @@ returns-clause-words c = λ e inside n same are.
     (subst (λ (qs : List Part). AreParts d c.args.walk.now.components.items n qs inside) (sym (c.as_slice.ensures ∙ c.in_ok-parts.ensures)) are) in
     let values = c.layout_values-values.ensures.values h (sym c.in_ok-own.ensures) (sym same) in
     let members = members-are d fs n ps inside (kept_members fs ps) here refl in
-    c.in_ok-taken.ensures.words ∙ (λ i. words (record { kind = c.args.component.now.kind; values = values i; members = members i }))
+    c.in_ok-taken.ensures.words ∙ (λ i. spelling (record { kind = c.args.component.now.kind; values = values i; members = members i }))
 
 pub returns-clause-kept : goal.returns-clause-kept
 returns-clause-kept c = λ e inside n same are.

@@ -9,6 +9,7 @@ use Rattle.rdl_run.specs.declared.open.OpenFault.TheVariants.{Refused}
 use Rattle.rdl_run.specs.declared.status.RunFault.TheVariants.{Memory}
 use Rattle.rdl_run.proofs.RunLemmas.{outputs, refused_run}
 use Rattle.rdl_run.proofs.Stopped.{went, not_write, memory≢write, unwritten, failed_refusal}
+use Rattle.rdl_run.proofs.WholeInput.{on_ok, within}
 use Rattle.rdl_run.proofs.run.run_counted.Goals as goal
 
 pub returns-in-Err-Refused-clause-ran : goal.returns-in-Err-Refused-clause-ran
@@ -23,6 +24,12 @@ returns-in-Err-Refused-clause-ran g c =
     subst (λ m. Appends (contents c.args.messages.now.writer.now) (contents c.write_counted.new.output.writer.now) (string_bytes m)) c.in-Err-Refused.message-is
     (subst (Appends (contents c.args.messages.now.writer.now) (contents c.write_counted.new.output.writer.now)) c.as_bytes.ensures.value c.in_ok-write_counted-in-Err-Refused.ensures.ok) in
     refused_run c.args.options.now _ _ _ _ _ _ _ _ _ _ c.in_ok-map_bytes.ensures.bytes c.in_ok-script_bytes.ensures.bytes refused wrote
+
+pub returns-in-Ok-clause-bound : goal.returns-in-Ok-clause-bound
+returns-in-Ok-clause-bound g c = on_ok c.run_script.result (
+  within (g.M.Read.remaining c.args.map.now.reader.now) c.in_ok-map_bytes.map_bytes.items c.in_ok-map_bytes.ensures.bytes c.in_ok-map_bytes.ensures.bound,
+  within (g.S.Read.remaining c.args.script.now.reader.now) c.in_ok-script_bytes.script_bytes.items c.in_ok-script_bytes.ensures.bytes c.in_ok-script_bytes.ensures.bound,
+)
 
 pub returns-in_err-map_bytes-clause-faulted : goal.returns-in_err-map_bytes-clause-faulted
 returns-in_err-map_bytes-clause-faulted g c =

@@ -1,4 +1,4 @@
-use Rattle.std.proofs.Common.{inl, inr, refl, string_bytes, sym, subst}
+use Rattle.std.proofs.Common.{inl, inr, refl, sym, subst}
 use Rattle.std.specs.Io.KnownBytes.{Appends}
 use Rattle.rdl_run.specs.ClosingTexts.{texts_of}
 use Rattle.rdl_run.specs.Faulted.{Leaves}

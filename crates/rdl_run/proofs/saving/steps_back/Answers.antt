@@ -8,7 +8,7 @@ use Rattle.rdl_run.proofs.saving.steps_back.Goals as goal
 
 pub steps-preserved : goal.steps-preserved
 steps-preserved c =
-    let j = c.args.journal.now in
+    let j = c.args.journal.now.history in
     let xs = c.steps.steps.items in
     let x = c.patches.result in
     let pushed : c.push.new.self.items ≡ xs ++ x ∷ [] = search rules in

@@ -5,9 +5,9 @@ use Rattle.rdl_run.proofs.saving.steps_on.Given as goal
 
 abbrev pub invariant-steps : goal.invariant-steps
 invariant-steps l = record {
-  few : l.journal.place + length l.steps.items + 1 ≤ length l.journal.states;
-  each : EachIs (λ i. LeadsAlong l.journal.own l.journal.states (l.journal.place + i) (l.journal.place + i + 1)) (map (λ step. step.now) l.steps.items);
+  few : l.journal.history.place + length l.steps.items + 1 ≤ length l.journal.history.states;
+  each : EachIs (λ i. LeadsAlong l.journal.history.own l.journal.history.states (l.journal.history.place + i) (l.journal.history.place + i + 1)) (map (λ step. step.now) l.steps.items);
 }
 
 abbrev pub decreases-steps : goal.decreases-steps
-decreases-steps l = length l.journal.states - length l.steps.items
+decreases-steps l = length l.journal.history.states - length l.steps.items

@@ -7,7 +7,7 @@ use Rattle.rdl_run.proofs.serve.serve_all.Given as goal
 
 abbrev pub invariant-lines : goal.invariant-lines
 invariant-lines g l = record {
-  so_far : SoFar l.fn.journal l.script (option_copied l.rest) l.number (g.E.Write.contents l.fn.messages.writer.now) (g.E.Write.contents l.messages.writer.now) l.refused l.journal;
+  so_far : SoFar l.fn.journal.history l.script (option_copied l.rest) l.number (g.E.Write.contents l.fn.messages.writer.now) (g.E.Write.contents l.messages.writer.now) l.refused l.journal.history;
   room : l.number + left_len (option_copied l.rest) ≤ length l.script + 1;
   asked : IsOpen l.messages.counts;
   same : l.messages.writer.ghost_name ≡ l.fn.messages.writer.ghost_name;

@@ -1,8 +1,8 @@
-use Rattle.std.proofs.Common.{◌≡◌, ◌+◌, ◌≤◌, ◌↔◌, None, ap, ◌∙◌, subst, arith, option_copied, slice_get, length, IfSome}
+use Rattle.std.proofs.Common.{◌≡◌, ◌+◌, ◌≤◌, ◌↔◌, None, ap, sym, ◌∙◌, subst, arith, option_copied, slice_get, length, IfSome}
 use mathlib.Core.List.{reverse}
-use Rattle.journal_core.specs.History.{LeadsBetween}
-use Rattle.journal_core.proofs.Stacks.{length-states-all}
-use Rattle.journal_core.proofs.Ways.{of_value, within_reverse, past_reverse, on-at}
+use Rattle.journal_core.specs.History.{AllAre, LeadsBetween}
+use Rattle.journal_core.proofs.Stacks.{all-now, length-states-all}
+use Rattle.journal_core.proofs.Ways.{fit-stack, of_value, within_reverse, past_reverse, on-at}
 use Rattle.journal_core.proofs.journal.Journal.redo_at.Goals as goal
 
 pub returns-clause-none : goal.returns-clause-none
@@ -11,8 +11,8 @@ returns-clause-none g c =
     let j = c.self.inside in
     let i = c.args.i in
     let found : option_copied c.from_the_end.result ≡ slice_get (reverse j.undone.items) i = c.from_the_end.ensures ∙ ap (λ xs. slice_get (reverse xs) i) c.as_slice.ensures.value in
-    let len : length c.args.self.now.states ≡ c.args.self.now.place + (length j.undone.items + 1) =
-    subst (λ h. length h.states ≡ h.place + (length j.undone.items + 1)) c.self.view_is (length-states-all m.prior (m.state j.map) j.done.items j.undone.items) in
+    let len : length c.args.self.now.history.states ≡ c.args.self.now.history.place + (length j.undone.items + 1) =
+    subst (λ k. length k.history.states ≡ k.history.place + (length j.undone.items + 1)) c.self.view_is (length-states-all m.prior (m.state j.map) j.done.items j.undone.items) in
     let past : (length j.undone.items ≤ i) ↔ (option_copied c.from_the_end.result ≡ None) = past_reverse j.undone.items i _ found in
     (λ h. past.0 (omega (arith, len, h)), λ e. let h : length j.undone.items ≤ i = past.1 e in omega (arith, len, h))
 
@@ -23,7 +23,7 @@ returns-clause-leads g c =
     let now = m.state j.map in
     let i = c.args.i in
     let found : option_copied c.from_the_end.result ≡ slice_get (reverse j.undone.items) i = c.from_the_end.ensures ∙ ap (λ xs. slice_get (reverse xs) i) c.as_slice.ensures.value in
-    subst (λ h. IfSome c.from_the_end.result (λ step. LeadsBetween m.prior m.fits h.states (h.place + i) (h.place + i + 1) step.now)) c.self.view_is
+    subst (λ k. IfSome c.from_the_end.result (λ step. LeadsBetween m.prior m.fits k.history.states (k.history.place + i) (k.history.place + i + 1) step.now)) c.self.view_is
     (of_value c.from_the_end.result (slice_get (reverse j.undone.items) i) (LeadsBetween m.prior m.fits _ (length j.done.items + i) (length j.done.items + i + 1)) found
     (λ b e. on-at m.prior m.fits now j.done.items j.undone.items i b c.self.invariant.undone_fit (within_reverse j.undone.items i b e) e))
 
@@ -34,6 +34,23 @@ returns-clause-own g c = λ is_own.
     let now = m.state j.map in
     let i = c.args.i in
     let found : option_copied c.from_the_end.result ≡ slice_get (reverse j.undone.items) i = c.from_the_end.ensures ∙ ap (λ xs. slice_get (reverse xs) i) c.as_slice.ensures.value in
-    subst (λ h. IfSome c.from_the_end.result (λ step. LeadsBetween m.prior m.own h.states (h.place + i) (h.place + i + 1) step.now)) c.self.view_is
+    subst (λ k. IfSome c.from_the_end.result (λ step. LeadsBetween m.prior m.own k.history.states (k.history.place + i) (k.history.place + i + 1) step.now)) c.self.view_is
     (of_value c.from_the_end.result (slice_get (reverse j.undone.items) i) (LeadsBetween m.prior m.own _ (length j.done.items + i) (length j.done.items + i + 1)) found
-    (λ b e. on-at m.prior m.own now j.done.items j.undone.items i b (c.self.invariant.undone_own (ap (λ h. h.own) c.self.view_is ∙ is_own)) (within_reverse j.undone.items i b e) e))
+    (λ b e. on-at m.prior m.own now j.done.items j.undone.items i b (c.self.invariant.undone_own (ap (λ k. k.history.own) c.self.view_is ∙ is_own)) (within_reverse j.undone.items i b e) e))
+
+pub returns-clause-step : goal.returns-clause-step
+returns-clause-step g c =
+    let j = c.self.inside in
+    let i = c.args.i in
+    c.from_the_end.ensures ∙ ap (λ xs. slice_get (reverse xs) i) c.as_slice.ensures.value ∙ ap (λ k. slice_get k.redo i) c.self.view_is
+
+pub returns-clause-all_own : goal.returns-clause-all_own
+returns-clause-all_own g c = λ all.
+    let m = g.M.Invertible in
+    let j = c.self.inside in
+    let now = m.state j.map in
+    let i = c.args.i in
+    let found : option_copied c.from_the_end.result ≡ slice_get (reverse j.undone.items) i = c.from_the_end.ensures ∙ ap (λ xs. slice_get (reverse xs) i) c.as_slice.ensures.value in
+    subst (λ k. IfSome c.from_the_end.result (λ step. LeadsBetween m.prior m.own k.history.states (k.history.place + i) (k.history.place + i + 1) step.now)) c.self.view_is
+    (of_value c.from_the_end.result (slice_get (reverse j.undone.items) i) (LeadsBetween m.prior m.own _ (length j.done.items + i) (length j.done.items + i + 1)) found
+    (λ b e. on-at m.prior m.own now j.done.items j.undone.items i b (fit-stack m.prior m.own now j.undone.items (all-now m.prior m.own j.limit now j.done.items j.undone.items j.is_own (subst (AllAre m.prior m.own) (sym c.self.view_is) all)).1) (within_reverse j.undone.items i b e) e))

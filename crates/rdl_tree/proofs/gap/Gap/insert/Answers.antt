@@ -7,4 +7,4 @@ seek-requires-clause-there c = omega (arith, c.requires, both_counted c.self.ins
 
 pub returns-clause-after : goal.returns-clause-after
 returns-clause-after c =
-    put_in_front c.seek.new.front.items c.insert.new.self.items c.seek.new.behind.items c.self.inside.front.items c.self.inside.behind.items c.args.number c.args.item c.args.self.now c.seek.ensures.number c.seek.ensures.same c.in-Ok.ensures.items c.self.view_is
+    put_in_front c.seek.new.front.items c.insert.new.self.items c.seek.new.behind.items c.self.inside.front.items c.self.inside.behind.items c.args.number c.args.item c.args.self.now (omega (arith, c.seek.ensures.number)) c.seek.ensures.same c.in-Ok.ensures.items c.self.view_is
