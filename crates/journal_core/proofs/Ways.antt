@@ -131,3 +131,7 @@ past_reverse {X} xs i o e = (
 -- steps that were handed over with the next one first
 pub handed-back : {X : Type 0} (xs ys : List X) → ys ≡ reverse xs → reverse ys ≡ xs
 handed-back xs ys e = ap reverse e ∙ reverse-reverse xs
+
+-- steps that are of a sort in turn are so on their stack
+pub fit-stack : {S B : Type 0} (prior : S → B → S) (sort : S → B → Type 0) (now : S) (bs : List B) → FitInTurn prior sort now (reverse bs) → FitAlong prior sort now bs
+fit-stack prior sort now bs h = subst (FitAlong prior sort now) (reverse-reverse bs) (fit-reverse prior sort now (reverse bs) h)

@@ -163,6 +163,7 @@ impl<M: Invertible> Journal<M> {
         ensures none { (self.now.history.place ≤ i) ↔ (option_copied result ≡ None) }
         ensures leads { IfSome result (λ back. LeadsBetween M.prior M.fits self.now.history.states (self.now.history.place - i) (self.now.history.place - i - 1) back.now) }
         ensures own { self.now.history.own ≡ true → IfSome result (λ back. LeadsBetween M.prior M.own self.now.history.states (self.now.history.place - i) (self.now.history.place - i - 1) back.now) }
+        ensures all_own { AllAre M.prior M.own self.now → IfSome result (λ back. LeadsBetween M.prior M.own self.now.history.states (self.now.history.place - i) (self.now.history.place - i - 1) back.now) }
     {
         from_the_end(self.done.as_slice(), i)
     }
@@ -173,6 +174,7 @@ impl<M: Invertible> Journal<M> {
         ensures none { (length self.now.history.states ≤ self.now.history.place + i + 1) ↔ (option_copied result ≡ None) }
         ensures leads { IfSome result (λ step. LeadsBetween M.prior M.fits self.now.history.states (self.now.history.place + i) (self.now.history.place + i + 1) step.now) }
         ensures own { self.now.history.own ≡ true → IfSome result (λ step. LeadsBetween M.prior M.own self.now.history.states (self.now.history.place + i) (self.now.history.place + i + 1) step.now) }
+        ensures all_own { AllAre M.prior M.own self.now → IfSome result (λ step. LeadsBetween M.prior M.own self.now.history.states (self.now.history.place + i) (self.now.history.place + i + 1) step.now) }
     {
         from_the_end(self.undone.as_slice(), i)
     }

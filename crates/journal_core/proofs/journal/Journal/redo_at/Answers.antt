@@ -1,8 +1,8 @@
-use Rattle.std.proofs.Common.{◌≡◌, ◌+◌, ◌≤◌, ◌↔◌, None, ap, ◌∙◌, subst, arith, option_copied, slice_get, length, IfSome}
+use Rattle.std.proofs.Common.{◌≡◌, ◌+◌, ◌≤◌, ◌↔◌, None, ap, sym, ◌∙◌, subst, arith, option_copied, slice_get, length, IfSome}
 use mathlib.Core.List.{reverse}
-use Rattle.journal_core.specs.History.{LeadsBetween}
-use Rattle.journal_core.proofs.Stacks.{length-states-all}
-use Rattle.journal_core.proofs.Ways.{of_value, within_reverse, past_reverse, on-at}
+use Rattle.journal_core.specs.History.{AllAre, LeadsBetween}
+use Rattle.journal_core.proofs.Stacks.{all-now, length-states-all}
+use Rattle.journal_core.proofs.Ways.{fit-stack, of_value, within_reverse, past_reverse, on-at}
 use Rattle.journal_core.proofs.journal.Journal.redo_at.Goals as goal
 
 pub returns-clause-none : goal.returns-clause-none
@@ -43,3 +43,14 @@ returns-clause-step g c =
     let j = c.self.inside in
     let i = c.args.i in
     c.from_the_end.ensures ∙ ap (λ xs. slice_get (reverse xs) i) c.as_slice.ensures.value ∙ ap (λ k. slice_get k.redo i) c.self.view_is
+
+pub returns-clause-all_own : goal.returns-clause-all_own
+returns-clause-all_own g c = λ all.
+    let m = g.M.Invertible in
+    let j = c.self.inside in
+    let now = m.state j.map in
+    let i = c.args.i in
+    let found : option_copied c.from_the_end.result ≡ slice_get (reverse j.undone.items) i = c.from_the_end.ensures ∙ ap (λ xs. slice_get (reverse xs) i) c.as_slice.ensures.value in
+    subst (λ k. IfSome c.from_the_end.result (λ step. LeadsBetween m.prior m.own k.history.states (k.history.place + i) (k.history.place + i + 1) step.now)) c.self.view_is
+    (of_value c.from_the_end.result (slice_get (reverse j.undone.items) i) (LeadsBetween m.prior m.own _ (length j.done.items + i) (length j.done.items + i + 1)) found
+    (λ b e. on-at m.prior m.own now j.done.items j.undone.items i b (fit-stack m.prior m.own now j.undone.items (all-now m.prior m.own j.limit now j.done.items j.undone.items j.is_own (subst (AllAre m.prior m.own) (sym c.self.view_is) all)).1) (within_reverse j.undone.items i b e) e))
