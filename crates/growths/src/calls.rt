@@ -9,6 +9,7 @@ use crate::examples::{
 use crate::{Answer, assert_answered};
 use rdl_edit::map::Map;
 use rdl_elab::elaborate::elaborate;
+use rdl_elab::kept::Kept;
 use rdl_elab::row::Rows;
 use rdl_header::{HeaderFault, header};
 use rdl_list::list_text;
@@ -43,6 +44,7 @@ enum Call {
     Elaborate,
     Open,
     Rows,
+    Kept,
     Header,
 }
 
@@ -165,7 +167,7 @@ fn copy_items_answer(alloc: Global, text: &str) -> Answer {
 }
 
 /// A fault of a description; E24 is want of memory.
-fn fault_answer(alloc: Global, fault: &Fault) -> Answer {
+pub(crate) fn fault_answer(alloc: Global, fault: &Fault) -> Answer {
     if fault.kind == FaultKind::Memory {
         Err(AllocError)
     } else {
@@ -216,6 +218,15 @@ fn rows_answer(alloc: Global, text: &str) -> Answer {
     lines(alloc, &opened(alloc, text)?)
 }
 
+/// The lines of the rows of layouts that are kept.
+fn kept_answer(alloc: Global, text: &str) -> Answer {
+    let description = description(alloc, text)?;
+    match Kept::of(alloc, &description, None) {
+        Ok(kept) => list_text(alloc, kept.rows(alloc, &description)?.as_slice()),
+        Err(fault) => fault_answer(alloc, &fault),
+    }
+}
+
 /// The header, or the name that is defined twice.
 fn header_of(alloc: Global, rows: &Rows) -> Answer {
     match header(alloc, rows.as_slice()) {
@@ -247,6 +258,7 @@ fn answer(alloc: Global, call: Call, text: &str) -> Answer {
         Call::Elaborate => elaborate_answer(alloc, text),
         Call::Open => open_answer(alloc, text),
         Call::Rows => rows_answer(alloc, text),
+        Call::Kept => kept_answer(alloc, text),
         Call::Header => header_answer(alloc, text),
     }
 }
@@ -312,7 +324,7 @@ const WIDE: &str = "addrmap top { reg { field {} f[33]; } a; };";
 
 const UNTYPED: &str = "addrmap top { T u; };";
 
-const OF_MAPS: [Case; 18] = [
+const OF_MAPS: [Case; 21] = [
     (Call::Check, THREE, "none"),
     (Call::Check, SHARED, "none"),
     (Call::Check, NESTED, "none"),
@@ -328,6 +340,9 @@ const OF_MAPS: [Case; 18] = [
     (Call::Rows, THREE, THREE_LINES),
     (Call::Rows, SHARED, SHARED_LINES),
     (Call::Rows, NESTED, NESTED_LINES),
+    (Call::Kept, THREE, THREE_LINES),
+    (Call::Kept, WITH_NAMES, WITH_NAMES_LINES),
+    (Call::Kept, WIDE, "E21 at 0.0.0"),
     (Call::Header, THREE, THREE_HEADER),
     (Call::Header, SHARED, SHARED_HEADER),
     (Call::Header, NESTED, NESTED_HEADER),
@@ -437,6 +452,14 @@ field B {};
 addrmap top {
     reg { default name = \"near\"; A a; B b; field {} c; field { name = \"own\"; } d; } x;
 };";
+
+const WITH_NAMES_LINES: &str = "0x0 addrmap top size 0x4
+0x0 reg top.x size 0x4
+[0:0] field top.x.a
+[1:1] field top.x.b
+[2:2] field top.x.c
+[3:3] field top.x.d
+";
 
 /// A map, the number of its top, a path below it, a property, and its value.
 type Known = (

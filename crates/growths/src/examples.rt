@@ -1,4 +1,5 @@
 //! The maps of the worked examples, how they are written and listed, and their headers.
+use std::alloc::{AllocError, Global};
 
 /// Three registers.
 pub(crate) const THREE: &str = "addrmap top {
@@ -304,6 +305,16 @@ pub(crate) const TWO_FILES: &str = "regfile A { reg R { field {} f; }; R r0; R r
 regfile B { reg { field {} f; } x; };
 addrmap top { A a; B b; };
 ";
+
+/// The same with a thousand registers in the first one.
+pub(crate) fn two_large_files(alloc: Global) -> Result<String, AllocError> {
+    let mut text = String::from_str(alloc, "regfile A { reg R { field {} f; };\n")?;
+    for i in 0..1000u32 {
+        write!(text, "R r{i};\n")?;
+    }
+    text.push_str("};\nregfile B { reg { field {} f; } x; };\naddrmap top { A a; B b; };\n")?;
+    Ok(text)
+}
 
 /// The session of an empty address map, and a step on that puts a register in.
 pub(crate) const ONE_STEP_ON: &str = "regedit session 1

@@ -4,7 +4,7 @@ use crate::calls::{lines, opened, shown};
 use crate::examples::{
     BARE_LINES, FOUR_LINES, FOUR_WRITTEN, NESTED, NESTED_LINES, NESTED_WRITTEN, REMOVED_WRITTEN,
     RENAMED_WRITTEN, SHARED, SHARED_LINES, SHARED_WRITTEN, THREE, THREE_LINES, THREE_WRITTEN,
-    TWO_FILES, UNASSIGNED_LINES, UNASSIGNED_WRITTEN,
+    TWO_FILES, UNASSIGNED_LINES, UNASSIGNED_WRITTEN, two_large_files,
 };
 use crate::sessions::session_fault_answer;
 use crate::{Answer, assert_answered, is_same};
@@ -343,6 +343,83 @@ fn placed() -> &'static [Step] {
 #[test]
 fn of_kept_layouts(rt: HostRuntime) {
     follow(&rt, rt.alloc(), TWO_FILES, 10_000, placed());
+}
+
+/// The history behind these lines.
+fn followed(alloc: Global, text: &str, steps: &[Step]) -> Result<Journal<Map>, AllocError> {
+    let mut journal = begun(alloc, text, 10_000)?;
+    for (line, _) in steps {
+        answer(alloc, &mut journal, line)?;
+    }
+    Ok(journal)
+}
+
+/// What a line answers. Where memory is wanted, all has to stand as where the lines before it are followed anew.
+fn asked_behind(
+    alloc: Global,
+    journal: &mut Journal<Map>,
+    text: &str,
+    before: &[Step],
+    line: &str,
+) -> Answer {
+    if let Ok(found) = answer(alloc, journal, line) {
+        return Ok(found);
+    }
+    let anew = followed(alloc, text, before)?;
+    if is_same(&seen(alloc, &anew), &seen(alloc, journal)) {
+        answer(alloc, journal, line)
+    } else {
+        String::from_str(alloc, "a change")
+    }
+}
+
+/// Looks at the answer to each line on a large map.
+fn follow_behind(rt: &impl Abort, alloc: Global, text: &str, steps: &[Step]) {
+    let mut journal = begun(alloc, text, 10_000);
+    if journal.is_err() {
+        journal = begun(alloc, text, 10_000);
+    }
+    let Ok(mut journal) = journal else {
+        assert!(rt; false, "no map");
+        return;
+    };
+    for (number, (line, want)) in steps.iter().enumerate() {
+        let found = asked_behind(alloc, &mut journal, text, &steps[..number], line);
+        assert_answered(rt, &found, want, line);
+    }
+}
+
+// The opening places the registers of both files in three modes, and their two fields and the two files in one; a line
+// that enlarges the second file places its register and the two files.
+const PLACED_LARGE: [Step; 12] = [
+    ("placed", "3007"),
+    ("resize /$B/x [2]", ""),
+    ("placed", "5"),
+    ("rename /$B/x y", ""),
+    ("placed", "0"),
+    ("undo", ""),
+    ("placed", "0"),
+    ("redo", ""),
+    ("placed", "0"),
+    ("assign /$top b.y.f reset 1", ""),
+    ("placed", "0"),
+    ("count", "3 0"),
+];
+
+fn placed_large() -> &'static [Step] {
+    &PLACED_LARGE
+}
+
+#[test]
+fn of_many_kept_layouts(rt: HostRuntime) {
+    let mut text = two_large_files(rt.alloc());
+    if text.is_err() {
+        text = two_large_files(rt.alloc());
+    }
+    match text {
+        Ok(text) => follow_behind(&rt, rt.alloc(), text.as_str(), placed_large()),
+        Err(_) => assert!(rt; false, "no text"),
+    }
 }
 
 const RENAME: [Step; 8] = [
