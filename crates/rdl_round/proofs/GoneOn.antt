@@ -122,14 +122,19 @@ module _ (options again : Options) (map script more : List ℕ) (out later whole
       same-files again.session again.session l.runs.last w.runs.last l.runs.refuses w.runs.refuses l.runs.message later.rdl later.header later.session later.status
       w.runs.message whole.rdl whole.header whole.session whole.status last l.runs.closes w.runs.closes
 
-  pub gone-on : is_session map ≡ false → options.session ≡ true → ran.runs.closes.no_session ≡ false → IsUtf8 out.session → IsOutput again out.session more later
-      → IsOutput again map (script ++ newline ++ more) whole → (later.rdl ≡ whole.rdl) × (later.header ≡ whole.header)
-  gone-on unnamed asked kept utf8 l w = by l w
+  -- where its session opens that history
+  pub gone-on-from : OpensHistory options.top again.history out.session its-history → IsOutput again out.session more later → IsOutput again map (script ++ newline ++ more) whole
+      → (later.rdl ≡ whole.rdl) × (later.header ≡ whole.header)
+  gone-on-from opened l w = by l w
     where
       opens : OpensHistory again.top again.history out.session its-history
-      opens = subst (λ t. OpensHistory t again.history out.session its-history) (sym same_top) (saved-opens options map script out ran unnamed asked kept utf8 again.history)
+      opens = subst (λ t. OpensHistory t again.history out.session its-history) (sym same_top) opened
 
       by : IsOutput again out.session more later → IsOutput again map (script ++ newline ++ more) whole → (later.rdl ≡ whole.rdl) × (later.header ≡ whole.header)
       by (inl r) w = absurd (opened-or-not again.top again.history out.session its-history later.messages opens r.refused)
       by (inr l) (inl r) = absurd (opened-or-not again.top again.history map ran.first whole.messages opens-first r.refused)
       by (inr l) (inr w) = both-run opens l w
+
+  pub gone-on : is_session map ≡ false → options.session ≡ true → ran.runs.closes.no_session ≡ false → IsUtf8 out.session → IsOutput again out.session more later
+      → IsOutput again map (script ++ newline ++ more) whole → (later.rdl ≡ whole.rdl) × (later.header ≡ whole.header)
+  gone-on unnamed asked kept utf8 = gone-on-from (saved-opens options map script out ran unnamed asked kept utf8 again.history)

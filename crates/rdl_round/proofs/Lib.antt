@@ -35,3 +35,4 @@ pub mod SameOption
 pub mod OpenedAgain
 pub mod SavedRuns
 pub mod GoneOn
+pub mod Stops

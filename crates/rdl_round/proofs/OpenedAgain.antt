@@ -1,11 +1,11 @@
 -- A session that spells a history opens it again: the same list of maps, at the same place.
-use Rattle.std.proofs.Common.{◌≡◌, ℕ, zero, suc, ◌+◌, ◌-◌, ◌<◌, true, false, List, [], ◌∷◌, ◌++◌, length, Option, Some, None, All, IsUtf8, inr, refl, sym, ap, ◌∙◌, subst, arith, slice_get, length-append}
+use Rattle.std.proofs.Common.{◌≡◌, ℕ, zero, suc, ◌+◌, ◌-◌, ◌<◌, Bool, true, false, List, [], ◌∷◌, ◌++◌, length, Option, Some, None, All, IsUtf8, inl, inr, refl, sym, ap, ◌∙◌, subst, arith, slice_get, length-append}
 use mathlib.Core.List.{reverse}
 use Rattle.std.proofs.lemmas.List.{length-reverse, reverse-reverse}
 use Rattle.std.proofs.lemmas.Option.{none-some, same_Some, slice_get_within}
 use Rattle.std.specs.Option.{option_or}
 use Rattle.std.specs.Prelude.{map}
-use Rattle.journal_core.specs.Along.{led_through}
+use Rattle.journal_core.specs.Along.{FitInTurn, led_through}
 use Rattle.journal_core.specs.History.{History, IsAt}
 use Rattle.journal_core.proofs.Ways.{get-reverse, from-the-end}
 use Rattle.rdl_tree.specs.Patch.{AllFit, image}
@@ -15,11 +15,14 @@ use Rattle.rdl_tree.specs.declared.session.SessionFault.{SessionFault}
 use Rattle.rdl_tree.specs.declared.session.Where.{Where}
 use Rattle.rdl_tree.specs.declared.session.Where.TheVariants as where_
 use Rattle.rdl_edit.specs.Backs.{prior, read_back}
+use Rattle.rdl_edit.specs.OfEdits.{IsOfEdit, IsOwn}
 use Rattle.rdl_edit.specs.Resuming.{judged, place_fault, steps_fault}
 use Rattle.rdl_edit.specs.Step.{State, HasRows}
 use Rattle.rdl_edit.proofs.Walking.{step-judged}
+use Rattle.rdl_parse.proofs.SessionMeant.{one-session}
 use Rattle.rdl_run.specs.Opening.{OpensHistory, AllHaveRows, EachElaborates}
-use Rattle.rdl_run.specs.Sessions.{LeadBack, LeadOn, history_of, is_session}
+use Rattle.rdl_run.specs.OwnSteps.{OpensOwn, owned}
+use Rattle.rdl_run.specs.Sessions.{LeadBack, LeadOn, LeadsAlong, history_of, is_session}
 use Rattle.rdl_round.specs.Sessions.{SpellsHistory}
 use Rattle.rdl_round.proofs.Stepped.{at-place}
 
@@ -224,3 +227,67 @@ opened-again option limit bytes now h g same at utf8 spells =
     let own : now.option ≡ option = at-place (λ (s : State). s.option ≡ option) h.states h.place now same at in
     subst (λ o. OpensHistory o limit bytes (record { limit = limit; states = h.states; place = h.place; own = false })) own
     (opens-own limit bytes now h g (subst (λ o. All (λ (s : State). s.option ≡ o) h.states) (sym own) same) at utf8 spells)
+
+-- ---- Steps that edits left behind.
+
+led-by-any : (own : Bool) (states : List State) (from to : ℕ) (step : List Patch) → LeadsAlong true states from to step → LeadsAlong own states from to step
+led-by-any own states from to step a =
+    record { start = a.start; stood = a.stood; fit = a.fit; end = a.end; reached = a.reached; led = a.led; of_edit = λ is_own. a.of_edit refl }
+
+pub back-by-any : (h : History State) (steps : List (List Patch)) → LeadBack (owned h) steps → LeadBack h steps
+back-by-any h steps l = record { as_many = l.as_many; each = λ i step e. led-by-any h.own h.states (h.place - i) (h.place - i - 1) step (l.each i step e) }
+
+pub on-by-any : (h : History State) (steps : List (List Patch)) → LeadOn (owned h) steps → LeadOn h steps
+on-by-any h steps l = record { as_many = l.as_many; each = λ i step e. led-by-any h.own h.states (h.place + i) (h.place + i + 1) step (l.each i step e) }
+
+-- each step is of an edit at the map with its number
+abbrev AreOfEdits : List State → List (List Patch) → Type 0
+AreOfEdits states steps = (i : ℕ) (step : List Patch) (start : State) → slice_get steps i ≡ Some step → slice_get states i ≡ Some start → IsOfEdit start step
+
+of-edits-in-turn : (s : State) (steps : List (List Patch)) → AreOfEdits (s ∷ led_through prior s (map read_back steps)) steps → FitInTurn prior IsOwn s (map read_back steps)
+of-edits-in-turn s [] each = tt
+of-edits-in-turn s (step ∷ steps) each =
+    (each zero step s refl refl, of-edits-in-turn (prior s (read_back step)) steps (λ i later start e stood. each (suc i) later start e stood))
+
+module _ (option : Option (List ℕ)) (h : History State) (g : EachElaborates h) (same : All (λ s. s.option ≡ option) h.states) (now : State) (at : IsAt h now) where
+  own-back : (undo : List (List Patch)) → LeadBack (owned h) undo → FitInTurn prior IsOwn now (map read_back undo)
+  own-back undo l =
+      let p = parted h.states h.place now at in
+      let through = (back-through option h g same now p undo (back-by-any h undo l)).through in
+      of-edits-in-turn now undo (λ i step start e stood.
+      let inside : i < length undo = slice_get_within undo i step e in
+      let along = l.each i step e in
+      let from = h.place - i in
+      let here : slice_get h.states from ≡ slice_get (now ∷ reverse p.before) i =
+      ap (λ (ss : List State). slice_get ss from) p.whole ∙ get-before p.before p.after now i from (omega (arith, p.as_many, l.as_many, inside)) in
+      let there : slice_get (now ∷ led_through prior now (map read_back undo)) i ≡ slice_get (now ∷ reverse p.before) i =
+      ap (λ (ss : List State). slice_get (now ∷ ss) i) through in
+      let one : along.start ≡ start = same_Some along.start start (sym along.stood ∙ here ∙ sym there ∙ stood) in
+      subst (λ s. IsOfEdit s step) one (along.of_edit refl))
+
+  own-on : (redo : List (List Patch)) → LeadOn (owned h) redo → FitInTurn prior IsOwn now (map read_back redo)
+  own-on redo l =
+      let p = parted h.states h.place now at in
+      let through = (on-through option h g same now p redo (on-by-any h redo l)).through in
+      of-edits-in-turn now redo (λ i step start e stood.
+      let along = l.each i step e in
+      let from = h.place + i in
+      let here : slice_get h.states from ≡ slice_get (now ∷ p.after) i =
+      ap (λ (ss : List State). slice_get ss from) p.whole ∙ get-past p.before (now ∷ p.after) i from (omega (arith, p.as_many)) in
+      let there : slice_get (now ∷ led_through prior now (map read_back redo)) i ≡ slice_get (now ∷ p.after) i =
+      ap (λ (ss : List State). slice_get (now ∷ ss) i) through in
+      let one : along.start ≡ start = same_Some along.start start (sym along.stood ∙ here ∙ sym there ∙ stood) in
+      subst (λ s. IsOfEdit s step) one (along.of_edit refl))
+
+  -- what spells the history with such steps opens with such steps
+  pub opens-of-edits : (bytes : List ℕ) → SpellsHistory bytes now (owned h) → (limit : ℕ) (k : History State) (o : OpensHistory option limit bytes k) → OpensOwn o
+  opens-of-edits bytes spells limit k (inl m) = tt
+  opens-of-edits bytes spells limit k (inr o) =
+      let s : State = record { description = o.description; option = option } in
+      let one = one-session bytes now.description o.description spells.undo spells.redo o.undo o.redo spells.spelled o.read.spelled in
+      let here : now ≡ s = same-state now s one.0 (at-place (λ (t : State). t.option ≡ option) h.states h.place now same at) in (
+        subst (λ t. FitInTurn prior IsOwn t (map read_back o.undo)) here
+            (subst (λ steps. FitInTurn prior IsOwn now (map read_back steps)) one.1 (own-back spells.undo spells.back)),
+        subst (λ t. FitInTurn prior IsOwn t (map read_back o.redo)) here
+            (subst (λ steps. FitInTurn prior IsOwn now (map read_back steps)) one.2 (own-on spells.redo spells.on)),
+      )

@@ -1,5 +1,6 @@
 //! Laws of what the lines of a script bring, and so of the maps to which a script leads.
-ghost use Rattle.std.specs.Prelude.{◌≡◌, ◌≤◌, ◌++◌, ℕ, Bool, true, false, List, length, Option, Ok, All, IsUtf8};
+ghost use Rattle.std.specs.Prelude.{◌≡◌, ◌≢◌, ◌≤◌, ◌++◌, [], ℕ, Bool, true, false, List, length, Option, Ok, All, IsUtf8};
+ghost use Rattle.std.proofs.Common.{inr};
 ghost use Rattle.journal_core.specs.History.{History, IsAt};
 ghost use Rattle.rdl_tree.specs.View.{items_of};
 ghost use Rattle.rdl_tree.specs.declared.description.Item.{Item};
@@ -15,14 +16,13 @@ ghost use Rattle.rdl_edit.specs.Step.{State};
 ghost use Rattle.rdl_script.specs.Commands.{edit, add, command_of, lines_of};
 ghost use Rattle.rdl_run.specs.Answers.{Serves};
 ghost use Rattle.rdl_run.specs.Opening.{OpensHistory, EachElaborates};
-ghost use Rattle.rdl_run.specs.Output.{Output, Outputs, RunsScript, IsOutput, Ran};
+ghost use Rattle.rdl_run.specs.Output.{Output, RunsScript, IsOutput, Wrote};
 ghost use Rattle.rdl_run.specs.Readings.{ReadsItems};
 ghost use Rattle.rdl_run.specs.Sessions.{is_session};
 ghost use Rattle.rdl_run.specs.declared.run.Options.{Options};
-ghost use Rattle.rdl_run.specs.declared.status.Status.{Status};
 ghost use Rattle.rdl_round.specs.Histories.{ReadsBack, IsWritable, Action, Follows, BringWords};
 ghost use Rattle.rdl_round.specs.NewParts.{IsEditOfWords, IsEditSpellable};
-ghost use Rattle.rdl_round.specs.Sessions.{SpellsHistory};
+ghost use Rattle.rdl_round.specs.Sessions.{GoesOnFrom, SpellsHistory, joined};
 
 /// The edit that a line asks for brings only what is made of words and what a text can spell. Of an `add` the text has to
 /// be read first: with the items that it spells, whichever they are, this is so of the `add` too.
@@ -78,20 +78,31 @@ pub fn spelled_histories_open_again()
 {}
 
 /// The session that a run of a map leaves, where it is asked for and isn't too long, spells the history to which the script
-/// led. Given back, it opens the same list of maps at the same place, whatever limit it is opened with.
+/// led. Given back, it opens the same list of maps at the same place, whatever limit it is opened with. That is so of each
+/// session that is UTF-8; so of what a run wrote, and of what it wrote where it went on from such a session, after any number
+/// of stops.
 pub fn saved_sessions_read_back()
-    ensures spelled { (options : Options) (map script : Option (List ℕ)) (old new : Outputs) (status : Status) (run : Ran options map script old new status) (ran : RunsScript options run.map_bytes run.script_bytes run.out)
-        → is_session run.map_bytes ≡ false → options.session ≡ true → ran.runs.closes.no_session ≡ false → SpellsHistory run.out.session ran.runs.closes.now ran.runs.last }
-    ensures opened { (options : Options) (map script : Option (List ℕ)) (old new : Outputs) (status : Status) (run : Ran options map script old new status) (ran : RunsScript options run.map_bytes run.script_bytes run.out)
-        → is_session run.map_bytes ≡ false → options.session ≡ true → ran.runs.closes.no_session ≡ false → (limit : ℕ)
-        → OpensHistory options.top limit run.out.session (record { limit = limit; states = ran.runs.last.states; place = ran.runs.last.place; own = false }) }
+    ensures text_spelled { (options : Options) (map script : List ℕ) (out : Output) (ran : RunsScript options map script out)
+        → is_session map ≡ false → options.session ≡ true → ran.runs.closes.no_session ≡ false → IsUtf8 out.session → SpellsHistory out.session ran.runs.closes.now ran.runs.last }
+    ensures text_opened { (options : Options) (map script : List ℕ) (out : Output) (ran : RunsScript options map script out)
+        → is_session map ≡ false → options.session ≡ true → ran.runs.closes.no_session ≡ false → IsUtf8 out.session → (limit : ℕ)
+        → OpensHistory options.top limit out.session (record { limit = limit; states = ran.runs.last.states; place = ran.runs.last.place; own = false }) }
+    ensures spelled { (options : Options) (map bytes script : List ℕ) (scripts : List (List ℕ)) (out : Output) → is_session map ≡ false → GoesOnFrom options map scripts bytes
+        → (wrote : Wrote options bytes script out) (ran : RunsScript options bytes script out) → wrote.is_output ≡ inr ran → out.session ≢ []
+        → SpellsHistory out.session ran.runs.closes.now ran.runs.last }
+    ensures opened { (options : Options) (map bytes script : List ℕ) (scripts : List (List ℕ)) (out : Output) → is_session map ≡ false → GoesOnFrom options map scripts bytes
+        → (wrote : Wrote options bytes script out) (ran : RunsScript options bytes script out) → wrote.is_output ≡ inr ran → out.session ≢ [] → (limit : ℕ)
+        → OpensHistory options.top limit out.session (record { limit = limit; states = ran.runs.last.states; place = ran.runs.last.place; own = false }) }
 {}
 
 /// A run of a map that stops, and another that goes on from its session with the same top and history, leave the map and the
-/// header that one run of both scripts leaves.
+/// header that one run of both scripts leaves. That is so of each session that is UTF-8; and of any number of stops, of which
+/// each leaves a session.
 pub fn stopped_runs_go_on()
-    ensures { (options again : Options) (map script : Option (List ℕ)) (old new : Outputs) (status : Status) (run : Ran options map script old new status) (ran : RunsScript options run.map_bytes run.script_bytes run.out)
-        (more : List ℕ) (later whole : Output) → again.top ≡ options.top → again.history ≡ options.history
-        → is_session run.map_bytes ≡ false → options.session ≡ true → ran.runs.closes.no_session ≡ false
-        → IsOutput again run.out.session more later → IsOutput again run.map_bytes (run.script_bytes ++ newline ++ more) whole → (later.rdl ≡ whole.rdl) × (later.header ≡ whole.header) }
+    ensures text { (options again : Options) (map script more : List ℕ) (out later whole : Output) (ran : RunsScript options map script out)
+        → again.top ≡ options.top → again.history ≡ options.history → is_session map ≡ false → options.session ≡ true → ran.runs.closes.no_session ≡ false → IsUtf8 out.session
+        → IsOutput again out.session more later → IsOutput again map (script ++ newline ++ more) whole → (later.rdl ≡ whole.rdl) × (later.header ≡ whole.header) }
+    ensures any_number { (options again : Options) (map bytes more : List ℕ) (scripts : List (List ℕ)) (later whole : Output)
+        → again.top ≡ options.top → again.history ≡ options.history → is_session map ≡ false → GoesOnFrom options map scripts bytes
+        → IsOutput again bytes more later → IsOutput again map (joined scripts more) whole → (later.rdl ≡ whole.rdl) × (later.header ≡ whole.header) }
 {}

@@ -1,8 +1,13 @@
 -- A map or a session that is opened, and a session that is refused.
-use Rattle.std.proofs.Common.{◌≡◌, ◌⊎◌, inl, inr, ℕ, List, Option, [], ◌∷◌, Result, Ok, Err, IfOk, None, IsUtf8, refl, sym, ap, ◌∙◌, subst}
+use Rattle.std.proofs.Common.{◌≡◌, true, false, length, ◌⊎◌, inl, inr, ℕ, List, Option, [], ◌∷◌, Result, Ok, Err, IfOk, None, IsUtf8, refl, sym, ap, ◌∙◌, subst}
 use Rattle.std.specs.Prelude.{map}
-use Rattle.journal_core.specs.Along.{FitInTurn}
+use mathlib.Core.List.{reverse}
+use Rattle.std.proofs.lemmas.List.{length-reverse}
+use Rattle.journal_core.specs.Along.{FitInTurn, led_through}
+use Rattle.journal_core.specs.History.{IsAt, Kept, resumed}
+use Rattle.journal_core.proofs.Stacks.{slice_get_at}
 use Rattle.rdl_edit.specs.Backs.{Reversal, prior, read_back, Fits}
+use Rattle.rdl_edit.specs.OfEdits.{IsOwn}
 use Rattle.rdl_edit.specs.Resuming.{session_fault}
 use Rattle.rdl_edit.specs.declared.map.Resumed.{Resumed}
 use Rattle.rdl_edit.specs.Step.{State, HasRows}
@@ -13,10 +18,11 @@ use Rattle.rdl_tree.specs.declared.session.SessionFault.{SessionFault}
 use Rattle.rdl_tree.specs.declared.session.SessionFault.TheVariants.{NotASession, Memory}
 use Rattle.rdl_parse.specs.Session.{SpellsSession}
 use Rattle.rdl_run.specs.Answers.{History'}
-use Rattle.rdl_run.specs.Opening.{Opens, EachElaborates}
+use Rattle.rdl_run.specs.Opening.{Opens, OpensHistory, EachElaborates, one_map}
+use Rattle.rdl_run.specs.OwnSteps.{OpensKept}
 use Rattle.rdl_run.specs.Readings.{ReadsMap}
 use Rattle.rdl_run.specs.Resumed.{ResumesFrom}
-use Rattle.rdl_run.specs.Sessions.{IsNoSession, ReadsSession, FaultySession, OpensSession}
+use Rattle.rdl_run.specs.Sessions.{IsNoSession, ReadsSession, FaultySession, OpensSession, is_session}
 use Rattle.rdl_run.proofs.Openings.{opened-elaborates}
 
 pub opened : (option name : Option (List ℕ)) (bytes : List ℕ) (d : Items) (places : Located) (m : State) → ReadsMap bytes d places → m ≡ record { description = d; option = name } → HasRows (record { description = d; option = name }) → name ≡ option → Opens option bytes m
@@ -61,3 +67,44 @@ module _ (option name : Option (List ℕ)) (bytes text : List ℕ) (d : Items) (
     undo_fits = undo_fits;
     redo_fits = redo_fits;
   }
+
+-- ---- With their steps.
+
+-- the history of a map that isn't taken for a session
+pub opened-unnamed : (option : Option (List ℕ)) (limit : ℕ) (bytes : List ℕ) (s : State) → is_session bytes ≡ false → Opens option bytes s → OpensHistory option limit bytes (one_map limit s)
+opened-unnamed option limit bytes s unnamed opens = inl (record { unnamed = unnamed; first = s; opens = opens; opened = refl })
+
+-- it has no steps
+pub map-kept : (option : Option (List ℕ)) (limit : ℕ) (bytes : List ℕ) (s : State) (k : Kept State Reversal) → OpensHistory option limit bytes (one_map limit s)
+    → k ≡ record { history = one_map limit s; undo = []; redo = [] } → OpensKept option limit bytes k
+map-kept option limit bytes s k opens is =
+    subst (OpensKept option limit bytes) (sym is) (record { opens = opens; own = λ h. record { now = s; at = refl; undo = tt; redo = tt } })
+
+-- that of a session has those that were read
+pub resumed-kept : (option : Option (List ℕ)) (limit : ℕ) (bytes : List ℕ) (r : Resumed) (k : Kept State Reversal) → is_session bytes ≡ true → ResumesFrom option bytes r
+    → k.history ≡ resumed limit (led_through prior r.map.state r.undo.items) r.map.state (led_through prior r.map.state r.redo.items) → k.undo ≡ r.undo.items → k.redo ≡ r.redo.items
+    → OpensKept option limit bytes k
+resumed-kept option limit bytes r k named f history undo redo =
+    let now = r.map.state in
+    let s : State = record { description = now.description; option = option } in
+    let same : now ≡ s = λ i. record { description = now.description; option = f.same_option i } in
+    let behind = led_through prior now r.undo.items in
+    let ahead = led_through prior now r.redo.items in
+    let at : IsAt (resumed limit behind now ahead) now = slice_get_at (reverse behind) ahead now (length behind) (length-reverse behind) in
+    record {
+      opens = inr (record {
+        named = named;
+        description = now.description;
+        undo = f.undo;
+        redo = f.redo;
+        read = f.read;
+        faultless = f.faultless;
+        opened = history ∙ (λ i. resumed limit (led_through prior (same i) (f.undo_is i)) (same i) (led_through prior (same i) (f.redo_is i)));
+      });
+      own = λ h. record {
+        now = now;
+        at = subst (λ g. IsAt g now) (sym history) at;
+        undo = subst (FitInTurn prior IsOwn now) (sym (undo ∙ f.undo_is)) (subst (λ t. FitInTurn prior IsOwn t (map read_back f.undo)) (sym same) h.0);
+        redo = subst (FitInTurn prior IsOwn now) (sym (redo ∙ f.redo_is)) (subst (λ t. FitInTurn prior IsOwn t (map read_back f.redo)) (sym same) h.1);
+      };
+    }

@@ -1,15 +1,20 @@
 -- From the parts of a run to the whole.
-use Rattle.std.proofs.Common.{inl, ℕ, Bool, List, [], ◌++◌, Option, IsUtf8, refl}
+use Rattle.std.proofs.Common.{inl, inr, ℕ, Bool, List, [], ◌++◌, Option, Result, Ok, Err, IfOk, IsUtf8, refl}
 use Rattle.std.specs.Io.KnownBytes.{Appends}
 use Rattle.std.proofs.KnownBytes.{Appends-nil, Appends-trans}
 use Rattle.std.proofs.lemmas.Str.{IsUtf8-nil}
+use Rattle.journal_core.specs.History.{Kept}
+use Rattle.rdl_edit.specs.Backs.{Reversal}
+use Rattle.rdl_edit.specs.Step.{State}
 use Rattle.rdl_run.specs.Answers.{History', Serves}
 use Rattle.rdl_script.specs.Commands.{lines_of}
 use Rattle.rdl_run.specs.Closing.{Closes}
 use Rattle.rdl_run.specs.Known.{Gives}
 use Rattle.rdl_run.specs.Opening.{RefusesToOpen}
+use Rattle.rdl_run.specs.OwnSteps.{AllOwn, IsOwnSession, OpensKept}
 use Rattle.rdl_run.specs.Output.{Outputs, RanFrom, Ran}
 use Rattle.rdl_run.specs.declared.run.Options.{Options}
+use Rattle.rdl_run.specs.declared.status.RunFault.{RunFault}
 use Rattle.rdl_run.specs.declared.status.Status.{Status}
 use Rattle.rdl_run.specs.declared.status.Status.TheVariants.{MapRefused}
 
@@ -17,12 +22,12 @@ abbrev pub outputs : (messages rdl header session : Option (List ℕ)) → Outpu
 outputs messages rdl header session = record { messages = messages; rdl = rdl; header = header; session = session }
 
 -- the script was run, and all was written that closes the run
-pub ran_from : (asked : Bool) (first : History') (script : List ℕ) (refuses : Bool) (status : Status) (last : History')
+pub ran_from : (are_own : Type 0) (asked : Bool) (first : History') (script : List ℕ) (refuses : Bool) (status : Status) (last : History')
     (message rdl header session : List ℕ) (m mid m' r r' h h' z z' : Option (List ℕ))
     → (replies : List ℕ) × Serves first (lines_of script) replies refuses last × Appends m mid replies
-    → Closes asked last refuses message rdl header session status → Appends mid m' message → Appends r r' rdl → Appends h h' header → Appends z z' session → IsUtf8 rdl → IsUtf8 header → IsUtf8 session
-    → RanFrom asked first script (outputs m r h z) (outputs m' r' h' z') status
-ran_from asked first script refuses status last message rdl header session m mid m' r r' h h' z z' served closes said wrote_rdl wrote_header wrote_session rdl_utf8 header_utf8 session_utf8 = record {
+    → Closes asked last refuses message rdl header session status → Appends mid m' message → Appends r r' rdl → Appends h h' header → Appends z z' session → IsUtf8 rdl → IsUtf8 header → IsUtf8 session → (are_own → IsOwnSession last session)
+    → RanFrom are_own asked first script (outputs m r h z) (outputs m' r' h' z') status
+ran_from are_own asked first script refuses status last message rdl header session m mid m' r r' h h' z z' served closes said wrote_rdl wrote_header wrote_session rdl_utf8 header_utf8 session_utf8 own = record {
   out = record { messages = served.0 ++ message; rdl = rdl; header = header; session = session; status = status };
   runs = record {
     last = last;
@@ -34,6 +39,7 @@ ran_from asked first script refuses status last message rdl header session m mid
     messages = refl;
   };
   texts = record { rdl = rdl_utf8; header = header_utf8; session = session_utf8 };
+  own = own;
   holds = record { messages = Appends-trans m mid m' served.0 message served.2 said; rdl = wrote_rdl; header = wrote_header; session = wrote_session; answer = refl };
 }
 
@@ -47,7 +53,34 @@ refused_run options map script map_bytes script_bytes message m m' r h z p q ref
   map_given = p;
   script_given = q;
   out = record { messages = message; rdl = []; header = []; session = []; status = MapRefused };
-  is_output = inl (record { refused = refused; rdl = refl; header = refl; session = refl; status = refl });
-  texts = record { rdl = IsUtf8-nil; header = IsUtf8-nil; session = IsUtf8-nil };
+  wrote = record {
+    is_output = inl (record { refused = refused; rdl = refl; header = refl; session = refl; status = refl });
+    texts = record { rdl = IsUtf8-nil; header = IsUtf8-nil; session = IsUtf8-nil };
+    own = tt;
+  };
   holds = record { messages = wrote; rdl = Appends-nil r; header = Appends-nil h; session = Appends-nil z; answer = refl };
 }
+
+-- the script was run from what was opened
+ran_opened : (options : Options) (map script : Option (List ℕ)) (map_bytes script_bytes : List ℕ) (k : Kept State Reversal) (old new : Outputs) (status : Status)
+    → Gives map map_bytes → Gives script script_bytes → OpensKept options.top options.history map_bytes k
+    → RanFrom (AllOwn k) options.session k.history script_bytes old new status → Ran options map script old new status
+ran_opened options map script map_bytes script_bytes k old new status p q o r = record {
+  map_bytes = map_bytes;
+  script_bytes = script_bytes;
+  map_given = p;
+  script_given = q;
+  out = r.out;
+  wrote = record {
+    is_output = inr (record { first = k.history; opens = o.opens; runs = r.runs });
+    texts = r.texts;
+    own = λ opened. r.own (o.own opened);
+  };
+  holds = r.holds;
+}
+
+pub ran_if : (options : Options) (map script : Option (List ℕ)) (map_bytes script_bytes : List ℕ) (k : Kept State Reversal) (old new : Outputs) (r : Result Status RunFault)
+    → Gives map map_bytes → Gives script script_bytes → OpensKept options.top options.history map_bytes k
+    → IfOk r (RanFrom (AllOwn k) options.session k.history script_bytes old new) → IfOk r (Ran options map script old new)
+ran_if options map script map_bytes script_bytes k old new (Ok status) p q o ran = ran_opened options map script map_bytes script_bytes k old new status p q o ran
+ran_if options map script map_bytes script_bytes k old new (Err fault) p q o ran = tt

@@ -225,3 +225,8 @@ module _ (options : Options) (map script : Option (List ℕ)) where
     is_output = inl (record { refused = refused; rdl = refl; header = refl; session = refl; status = refl });
     leaves = inl (record { messages = wrote; rdl = refl; header = refl; session = refl });
   }
+
+  pub faulted_if : (map_bytes script_bytes : List ℕ) (first : History') (old new : Outputs) (r : Result Status RunFault) → Gives map map_bytes → Gives script script_bytes
+      → OpensHistory options.top options.history map_bytes first → IfErr r (FaultedFrom options.session first script_bytes old new) → IfErr r (Faulted options map script old new)
+  faulted_if map_bytes script_bytes first old new (Ok status) p q o stopped = tt
+  faulted_if map_bytes script_bytes first old new (Err fault) p q o stopped = faulted_script map_bytes script_bytes first old new fault p q o stopped

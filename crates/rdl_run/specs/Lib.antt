@@ -15,3 +15,4 @@ pub mod Resumed
 pub mod ScriptLines
 pub mod Sessions
 pub mod Turns
+pub mod OwnSteps

@@ -1,11 +1,13 @@
 -- The output of a run: messages, the files' texts and the status, from the bytes of the map or session and of the script. Own.
 use Rattle.std.specs.Prelude.{◌≡◌, ◌⊎◌, ℕ, Bool, List, [], ◌++◌, Option, IsUtf8}
+use Rattle.std.proofs.Common.{inl, inr}
 use Rattle.std.specs.Io.KnownBytes.{Appends}
 use Rattle.rdl_run.specs.Answers.{History', Serves}
 use Rattle.rdl_script.specs.Commands.{lines_of}
 use Rattle.rdl_run.specs.Closing.{Closes}
 use Rattle.rdl_run.specs.Known.{Gives}
 use Rattle.rdl_run.specs.Opening.{OpensHistory, RefusesToOpen}
+use Rattle.rdl_run.specs.OwnSteps.{IsOwnSession, OpensOwn}
 use Rattle.rdl_run.specs.declared.run.Options.{Options}
 use Rattle.rdl_run.specs.declared.status.Status.{Status}
 use Rattle.rdl_run.specs.declared.status.Status.TheVariants.{MapRefused}
@@ -69,11 +71,23 @@ pub record AreTexts (out : Output) : Type 0 where
   pub session : IsUtf8 out.session
 
 -- a run of a script from a history that was opened
-pub record RanFrom (asked : Bool) (first : History') (script : List ℕ) (old new : Outputs) (status : Status) : Type 0 where
+pub record RanFrom (are_own : Type 0) (asked : Bool) (first : History') (script : List ℕ) (old new : Outputs) (status : Status) : Type 0 where
   pub out : Output
   pub runs : Runs asked first script out
   pub texts : AreTexts out
+  pub own : are_own → IsOwnSession runs.last out.session
   pub holds : Holds old new status out
+
+-- where the steps of the history that was opened are of edits, so are those of its session
+abbrev pub LeavesOwn : {options : Options} {map script : List ℕ} {out : Output} → IsOutput options map script out → Type 0
+LeavesOwn (inl refused) = Unit {0}
+LeavesOwn {options} {map} {script} {out} (inr ran) = OpensOwn ran.opens → IsOwnSession ran.runs.last out.session
+
+-- what a run of these bytes writes
+pub record Wrote (options : Options) (map script : List ℕ) (out : Output) : Type 0 where
+  pub is_output : IsOutput options map script out
+  pub texts : AreTexts out
+  pub own : LeavesOwn is_output
 
 -- a whole run, on bytes that are the readers' where those are known
 pub record Ran (options : Options) (map script : Option (List ℕ)) (old new : Outputs) (status : Status) : Type 0 where
@@ -82,6 +96,5 @@ pub record Ran (options : Options) (map script : Option (List ℕ)) (old new : O
   pub map_given : Gives map map_bytes
   pub script_given : Gives script script_bytes
   pub out : Output
-  pub is_output : IsOutput options map_bytes script_bytes out
-  pub texts : AreTexts out
+  pub wrote : Wrote options map_bytes script_bytes out
   pub holds : Holds old new status out

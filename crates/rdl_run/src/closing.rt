@@ -72,6 +72,7 @@ fn joined(mut text: String, more: &String) -> Result<String, AllocError>
 impl Closing {
     ghost use Rattle.std.specs.Prelude.{string_bytes, IfOk, IsOkUnless};
     ghost use Rattle.rdl_run.specs.Closing.{Closes};
+    ghost use Rattle.rdl_run.specs.OwnSteps.{AllOwn, IsOwnSession};
     ghost use Rattle.rdl_run.specs.declared.status.RunFault.{RunFault};
 
     /// Makes the texts of the map to which a script led, and of the history if the session is asked for, or the messages in
@@ -83,6 +84,7 @@ impl Closing {
         has_session: bool,
     ) -> Result<Closing, RunFault>
         ensures closes { IfOk result (λ c. Closes has_session journal.now.history is_refused (string_bytes c.message) (string_bytes c.rdl) (string_bytes c.header) (string_bytes c.session) c.status) }
+        ensures own { AllOwn journal.now → IfOk result (λ c. IsOwnSession journal.now.history (string_bytes c.session)) }
         ensures fault { IsOkUnless result RunFault.Memory }
     {
         let rdl = rdl(alloc, journal.map().description())?;

@@ -4,6 +4,7 @@ ghost use Rattle.std.specs.Option.{option_copied};
 ghost use Rattle.rdl_tree.specs.declared.session.SessionFault.TheVariants.{Memory};
 ghost use Rattle.rdl_run.specs.Messages.{session_line};
 ghost use Rattle.rdl_run.specs.Opening.{text_line, fault_line, Opens, OpensHistory, EachElaborates, RefusedText, RefusedMap, RefusesToOpen};
+ghost use Rattle.rdl_run.specs.OwnSteps.{OpensKept};
 ghost use Rattle.rdl_run.specs.Resumed.{ResumesFrom};
 ghost use Rattle.rdl_run.specs.Sessions.{is_session, IsNoSession, FaultySession, OpensSession, RefusedSession};
 ghost use Rattle.rdl_run.specs.OpeningFaults.{IfRefusedToOpen};
@@ -130,6 +131,7 @@ fn open_session(
 ) -> Result<Journal<Map>, OpenFault>
     requires { is_session bytes.now ≡ true }
     ensures opens { IfOk result (λ journal. OpensSession (option_copied name.entry) limit bytes.now journal.history) }
+    ensures kept { IfOk result (OpensKept (option_copied name.entry) limit bytes.now) }
     ensures refused { IfErr result (λ fault. IfRefusedToOpen fault (RefusedSession (option_copied name.entry) bytes.now)) }
 {
     match resumed(alloc, bytes, name) {
@@ -152,6 +154,7 @@ pub fn open(
     limit: u32,
 ) -> Result<Journal<Map>, OpenFault>
     ensures opens { IfOk result (λ journal. OpensHistory (option_copied name.entry) limit bytes.now journal.history) }
+    ensures kept { IfOk result (OpensKept (option_copied name.entry) limit bytes.now) }
     ensures elaborates { IfOk result (λ journal. EachElaborates journal.history) }
     ensures refused { IfErr result (λ fault. IfRefusedToOpen fault (RefusesToOpen (option_copied name.entry) bytes.now)) }
 {

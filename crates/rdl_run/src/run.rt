@@ -3,6 +3,7 @@ ghost use Rattle.std.specs.Prelude.{◌≡◌, ◌≢◌, ◌⊎◌, ◌^◌, �
 ghost use Rattle.rdl_run.specs.Opening.{EachElaborates};
 ghost use Rattle.rdl_run.specs.Faulted.{Faulted, FaultedFrom, Leaves};
 ghost use Rattle.rdl_run.specs.ClosingTexts.{texts_of};
+ghost use Rattle.rdl_run.specs.OwnSteps.{AllOwn};
 ghost use Rattle.rdl_run.specs.Output.{Holds, Ran, RanFrom};
 ghost use Rattle.rdl_run.specs.Known.{IsOver, IsWithin};
 ghost use Rattle.rdl_run.specs.Turns.{AreOpen, GivesUp, HasEnded, IsInterrupted, IsOpen, unread, unwritten};
@@ -92,7 +93,7 @@ fn run_script<R: Write, H: Write, Z: Write, E: Write>(
     requires rdl_asked { IsOpen rdl.old.counts }
     requires header_asked { IsOpen header.old.counts }
     requires session_asked { IsOpen session.old.counts }
-    ensures ran { IfOk result (RanFrom has_session journal.old.history script.now
+    ensures ran { IfOk result (RanFrom (AllOwn journal.old) has_session journal.old.history script.now
         (record { messages = E.contents messages.old.writer.now; rdl = R.contents rdl.old.writer.now; header = H.contents header.old.writer.now; session = Z.contents session.old.writer.now })
         (record { messages = E.contents messages.new.writer.now; rdl = R.contents rdl.new.writer.now; header = H.contents header.new.writer.now; session = Z.contents session.new.writer.now })) }
     ensures faulted { EachElaborates journal.old.history → IfErr result (FaultedFrom has_session journal.old.history script.now

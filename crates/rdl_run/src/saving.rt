@@ -1,6 +1,7 @@
 //! The session of a history: its map, with the steps that lead back from it and on.
 ghost use Rattle.std.specs.Prelude.{◌≡◌, [], map, string_bytes, IfOk, IsOkUnless};
 ghost use Rattle.journal_core.specs.History.{IsAt};
+ghost use Rattle.rdl_run.specs.OwnSteps.{AllOwn, IsOwnSession, owned};
 ghost use Rattle.rdl_run.specs.Sessions.{LeadBack, LeadOn, SavesIf, Saves};
 ghost use Rattle.rdl_run.specs.declared.status.RunFault.{RunFault};
 
@@ -16,7 +17,8 @@ use std::alloc::{AllocError, Global};
 
 /// The steps that lead back, the next one first.
 fn steps_back<'a>(alloc: Global, journal: &'a Journal<Map>) -> Result<Vec<&'a [Patch]>, AllocError>
-    ensures { IfOk result (λ steps. LeadBack journal.entry.now.history (map (λ step. step.now) steps.items)) }
+    ensures leads { IfOk result (λ steps. LeadBack journal.entry.now.history (map (λ step. step.now) steps.items)) }
+    ensures own { AllOwn journal.entry.now → IfOk result (λ steps. LeadBack (owned journal.entry.now.history) (map (λ step. step.now) steps.items)) }
 {
     let mut steps = Vec::with_capacity(alloc, journal.undo_len())?;
     'steps: while let Some(back) = journal.undo_at(steps.len()) {
@@ -27,7 +29,8 @@ fn steps_back<'a>(alloc: Global, journal: &'a Journal<Map>) -> Result<Vec<&'a [P
 
 /// The steps that lead on, the next one first.
 fn steps_on<'a>(alloc: Global, journal: &'a Journal<Map>) -> Result<Vec<&'a [Patch]>, AllocError>
-    ensures { IfOk result (λ steps. LeadOn journal.entry.now.history (map (λ step. step.now) steps.items)) }
+    ensures leads { IfOk result (λ steps. LeadOn journal.entry.now.history (map (λ step. step.now) steps.items)) }
+    ensures own { AllOwn journal.entry.now → IfOk result (λ steps. LeadOn (owned journal.entry.now.history) (map (λ step. step.now) steps.items)) }
 {
     let mut steps = Vec::with_capacity(alloc, journal.redo_len())?;
     'steps: while let Some(step) = journal.redo_at(steps.len()) {
@@ -39,6 +42,7 @@ fn steps_on<'a>(alloc: Global, journal: &'a Journal<Map>) -> Result<Vec<&'a [Pat
 /// The session of a history at its place, or what is said where it is too long.
 fn saved(alloc: Global, journal: &Journal<Map>) -> Result<Part, RunFault>
     ensures saves { IfOk result (λ part. Saves journal.now.history (string_bytes part.message) (string_bytes part.text) part.is_left_out) }
+    ensures own { AllOwn journal.now → IfOk result (λ part. IsOwnSession journal.now.history (string_bytes part.text)) }
     ensures fault { IsOkUnless result RunFault.Memory }
 {
     let undo = steps_back(alloc, journal)?;
@@ -61,6 +65,7 @@ pub(crate) fn session_part(
     is_asked: bool,
 ) -> Result<Part, RunFault>
     ensures saves { IfOk result (λ part. SavesIf is_asked journal.now.history (string_bytes part.message) (string_bytes part.text) part.is_left_out) }
+    ensures own { AllOwn journal.now → IfOk result (λ part. IsOwnSession journal.now.history (string_bytes part.text)) }
     ensures fault { IsOkUnless result RunFault.Memory }
 {
     if is_asked {

@@ -7,6 +7,7 @@ ghost use Rattle.journal_core.specs.History.{Edits};
 ghost use Rattle.journal_core.specs.Faults.{Explains};
 ghost use Rattle.journal_core.specs.declared.fault.EditFault.{EditFault};
 ghost use Rattle.rdl_edit.specs.Step.{Leads, Refuses};
+ghost use Rattle.rdl_run.specs.OwnSteps.{AllOwn};
 ghost use Rattle.rdl_run.specs.Answers.{Answers, AnswersAdd, AnswersEdit, IsListOf, Replied, Serves};
 ghost use Rattle.rdl_script.specs.Commands.{undo, redo, lines_of, lines_left};
 ghost use Rattle.rdl_run.specs.ScriptLines.{is_in_line, left_len};
@@ -36,6 +37,7 @@ use std::io::Write;
 /// Makes the edit, and lets it go.
 fn make(alloc: Global, journal: &mut Journal<Map>, edit: Edit) -> Result<(), EditFault<Refusal>>
     ensures ok { OnOk result (Edits Leads edit journal.old.history journal.new.history) }
+    ensures stay_own { AllOwn journal.old → AllOwn journal.new }
     ensures full { journal.old.history.limit ≤ journal.old.history.place → result ≡ Err EditFault.Full }
     ensures fault { IfErr result (Explains Refuses edit journal.old.history) }
     ensures err { OnErr result (journal.new ≡ journal.old) }
@@ -45,6 +47,7 @@ fn make(alloc: Global, journal: &mut Journal<Map>, edit: Edit) -> Result<(), Edi
 
 fn edit(alloc: Global, journal: &mut Journal<Map>, edit: Edit) -> Result<Reply, RunFault>
     ensures answers { IfOk result (λ reply. AnswersEdit journal.old.history edit (said reply) journal.new.history) }
+    ensures stay_own { AllOwn journal.old → AllOwn journal.new }
     ensures fault { IsOkUnless result RunFault.Memory }
 {
     match make(alloc, journal, edit) {
@@ -65,6 +68,7 @@ fn add(
     text: &[u8],
 ) -> Result<Reply, RunFault>
     ensures answers { IfOk result (λ reply. AnswersAdd journal.old.history path place text.now (said reply) journal.new.history) }
+    ensures stay_own { AllOwn journal.old → AllOwn journal.new }
     ensures fault { IsOkUnless result RunFault.Memory }
 {
     match items_of(alloc, text) {
@@ -80,6 +84,7 @@ fn add(
 
 fn undo(alloc: Global, journal: &mut Journal<Map>) -> Result<Reply, RunFault>
     ensures answers { IfOk result (λ reply. Answers journal.old.history undo (said reply) journal.new.history) }
+    ensures stay_own { AllOwn journal.old → AllOwn journal.new }
     ensures fault { IsOkUnless result RunFault.Memory }
 {
     match journal.undo(alloc) {
@@ -91,6 +96,7 @@ fn undo(alloc: Global, journal: &mut Journal<Map>) -> Result<Reply, RunFault>
 
 fn redo(alloc: Global, journal: &mut Journal<Map>) -> Result<Reply, RunFault>
     ensures answers { IfOk result (λ reply. Answers journal.old.history redo (said reply) journal.new.history) }
+    ensures stay_own { AllOwn journal.old → AllOwn journal.new }
     ensures fault { IsOkUnless result RunFault.Memory }
 {
     match journal.redo(alloc) {
@@ -121,6 +127,7 @@ pub fn serve(
     request: Request<'_>,
 ) -> Result<Reply, RunFault>
     ensures answers { IfOk result (λ reply. Answers journal.old.history (seen request.entry) (said reply) journal.new.history) }
+    ensures stay_own { AllOwn journal.old → AllOwn journal.new }
     ensures fault { IsOkUnless result RunFault.Memory }
 {
     match request {
@@ -162,6 +169,7 @@ fn serve_line(
     line: &[u8],
 ) -> Result<(String, bool), RunFault>
     ensures replied { IfOk result (λ r. Replied journal.old.history line.now number (string_bytes r.0) r.1 journal.new.history) }
+    ensures stay_own { AllOwn journal.old → AllOwn journal.new }
     ensures fault { IsOkUnless result RunFault.Memory }
 {
     let request = match request_of(alloc, line) {
@@ -190,6 +198,7 @@ pub fn serve_all<E: Write>(
     requires length { length script.now < 2 ^ 32 }
     requires asked { IsOpen messages.old.counts }
     ensures served { IfOk result (λ refused. (text : List ℕ) × (Serves journal.old.history (lines_of script.now) text refused journal.new.history) × (Appends (E.contents messages.old.writer.now) (E.contents messages.new.writer.now) text)) }
+    ensures stay_own { AllOwn journal.old → AllOwn journal.new }
     ensures fault { IfErr result (λ fault. (fault ≡ RunFault.Memory) ⊎ (fault ≡ RunFault.Write)) }
     ensures stopped { IfErr result (StopsServing journal.old.history (lines_of script.now) (E.contents messages.old.writer.now) (E.contents messages.new.writer.now)) }
     ensures ended { IsErrOf result RunFault.Write → IsGivenUp messages.new.counts }

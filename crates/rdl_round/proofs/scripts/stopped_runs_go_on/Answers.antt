@@ -1,6 +1,11 @@
 use Rattle.rdl_round.proofs.GoneOn.{gone-on}
+use Rattle.rdl_round.proofs.Stops.{stopped}
 use Rattle.rdl_round.proofs.scripts.stopped_runs_go_on.Goals as goal
 
-pub returns : goal.returns
-returns c = λ options again map script old new status run ran more later whole same_top same_history unnamed asked kept.
-    gone-on options again run.map_bytes run.script_bytes more run.out later whole ran same_top same_history unnamed asked kept run.texts.session
+pub returns-clause-text : goal.returns-clause-text
+returns-clause-text c = λ options again map script more out later whole ran same_top same_history unnamed asked kept utf8.
+    gone-on options again map script more out later whole ran same_top same_history unnamed asked kept utf8
+
+pub returns-clause-any_number : goal.returns-clause-any_number
+returns-clause-any_number c = λ options again map bytes more scripts later whole same_top same_history unnamed from o w.
+    stopped options again same_top same_history map scripts bytes more later whole unnamed from o w

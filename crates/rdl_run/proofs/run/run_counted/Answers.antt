@@ -1,14 +1,17 @@
-use Rattle.std.proofs.Common.{string_bytes, sym, subst}
+use Rattle.std.proofs.Common.{IfOk, string_bytes, sym, subst}
+use Rattle.std.specs.Prelude.{IfErr}
 use Rattle.std.specs.Option.{option_copied}
 use Rattle.std.specs.Io.KnownBytes.{Appends}
-use Rattle.rdl_run.specs.Faulted.{Faulted}
+use Rattle.rdl_run.specs.Faulted.{Faulted, FaultedFrom}
 use Rattle.rdl_run.specs.Known.{AppendsFront}
-use Rattle.rdl_run.specs.Opening.{RefusesToOpen}
+use Rattle.rdl_run.specs.Opening.{OpensHistory, RefusesToOpen}
 use Rattle.rdl_run.specs.OpeningFaults.{IfRefusedToOpen}
+use Rattle.rdl_run.specs.Output.{RanFrom}
+use Rattle.rdl_run.specs.OwnSteps.{AllOwn, OpensKept}
 use Rattle.rdl_run.specs.declared.open.OpenFault.TheVariants.{Refused}
 use Rattle.rdl_run.specs.declared.status.RunFault.TheVariants.{Memory}
-use Rattle.rdl_run.proofs.RunLemmas.{outputs, refused_run}
-use Rattle.rdl_run.proofs.Stopped.{went, not_write, memory≢write, unwritten, failed_refusal}
+use Rattle.rdl_run.proofs.RunLemmas.{outputs, refused_run, ran_if}
+use Rattle.rdl_run.proofs.Stopped.{faulted_if, went, not_write, memory≢write, unwritten, failed_refusal}
 use Rattle.rdl_run.proofs.WholeInput.{on_ok, within}
 use Rattle.rdl_run.proofs.run.run_counted.Goals as goal
 
@@ -24,6 +27,34 @@ returns-in-Err-Refused-clause-ran g c =
     subst (λ m. Appends (contents c.args.messages.now.writer.now) (contents c.write_counted.new.output.writer.now) (string_bytes m)) c.in-Err-Refused.message-is
     (subst (Appends (contents c.args.messages.now.writer.now) (contents c.write_counted.new.output.writer.now)) c.as_bytes.ensures.value c.in_ok-write_counted-in-Err-Refused.ensures.ok) in
     refused_run c.args.options.now _ _ _ _ _ _ _ _ _ _ c.in_ok-map_bytes.ensures.bytes c.in_ok-script_bytes.ensures.bytes refused wrote
+
+pub returns-in-Ok-clause-ran : goal.returns-in-Ok-clause-ran
+returns-in-Ok-clause-ran g c =
+    let options = c.args.options.now in
+    let old = outputs (g.E.Write.contents c.args.messages.now.writer.now) (g.R.Write.contents c.args.rdl.now.writer.now) (g.H.Write.contents c.args.header.now.writer.now) (g.Z.Write.contents c.args.session.now.writer.now) in
+    let new = outputs (g.E.Write.contents c.run_script.new.messages.writer.now) (g.R.Write.contents c.run_script.new.rdl.writer.now) (g.H.Write.contents c.run_script.new.header.writer.now) (g.Z.Write.contents c.run_script.new.session.writer.now) in
+    let map_bytes = c.in_ok-map_bytes.map_bytes.items in
+    let k = c.in-Ok.journal in
+    let kept : OpensKept options.top options.history map_bytes k =
+    subst (λ o. OpensKept o options.history map_bytes k) c.as_ref.ensures.value
+    (subst (λ bytes. OpensKept (option_copied c.as_ref.result) options.history bytes k) c.as_slice.ensures.value c.in-Ok.ensures.kept) in
+    let ran : IfOk c.run_script.result (RanFrom (AllOwn k) options.session k.history c.in_ok-script_bytes.script_bytes.items old new) =
+    subst (λ bytes. IfOk c.run_script.result (RanFrom (AllOwn k) options.session k.history bytes old new)) c.as_slice-in-Ok.ensures.value c.run_script.ensures.ran in
+    ran_if options _ _ map_bytes _ k old new c.run_script.result c.in_ok-map_bytes.ensures.bytes c.in_ok-script_bytes.ensures.bytes kept ran
+
+pub returns-in-Ok-clause-faulted : goal.returns-in-Ok-clause-faulted
+returns-in-Ok-clause-faulted g c =
+    let options = c.args.options.now in
+    let old = outputs (g.E.Write.contents c.args.messages.now.writer.now) (g.R.Write.contents c.args.rdl.now.writer.now) (g.H.Write.contents c.args.header.now.writer.now) (g.Z.Write.contents c.args.session.now.writer.now) in
+    let new = outputs (g.E.Write.contents c.run_script.new.messages.writer.now) (g.R.Write.contents c.run_script.new.rdl.writer.now) (g.H.Write.contents c.run_script.new.header.writer.now) (g.Z.Write.contents c.run_script.new.session.writer.now) in
+    let map_bytes = c.in_ok-map_bytes.map_bytes.items in
+    let first = c.in-Ok.journal.history in
+    let opens : OpensHistory options.top options.history map_bytes first =
+    subst (λ o. OpensHistory o options.history map_bytes first) c.as_ref.ensures.value
+    (subst (λ bytes. OpensHistory (option_copied c.as_ref.result) options.history bytes first) c.as_slice.ensures.value c.in-Ok.ensures.opens) in
+    let stopped : IfErr c.run_script.result (FaultedFrom options.session first c.in_ok-script_bytes.script_bytes.items old new) =
+    subst (λ bytes. IfErr c.run_script.result (FaultedFrom options.session first bytes old new)) c.as_slice-in-Ok.ensures.value (c.run_script.ensures.faulted c.in-Ok.ensures.elaborates) in
+    faulted_if options _ _ map_bytes _ first old new c.run_script.result c.in_ok-map_bytes.ensures.bytes c.in_ok-script_bytes.ensures.bytes opens stopped
 
 pub returns-in-Ok-clause-bound : goal.returns-in-Ok-clause-bound
 returns-in-Ok-clause-bound g c = on_ok c.run_script.result (

@@ -1,6 +1,7 @@
 use Rattle.std.proofs.Common.{string_bytes, sym, subst}
 use Rattle.std.proofs.lemmas.Str.{IsUtf8-string_bytes}
 use Rattle.rdl_run.specs.ClosingTexts.{texts_of}
+use Rattle.rdl_run.specs.OwnSteps.{AllOwn}
 use Rattle.rdl_run.specs.Faulted.{FaultedFrom, Leaves}
 use Rattle.rdl_run.proofs.RunLemmas.{outputs, ran_from}
 use Rattle.rdl_run.proofs.Stopped.{went, stopped_serving, stopped_closing, failed_closing}
@@ -10,9 +11,10 @@ pub returns-clause-ran : goal.returns-clause-ran
 returns-clause-ran g c =
     let held = c.in_ok-write_closing.ensures.wrote in
     let closing = c.in_ok-closing.closing in
-    ran_from c.args.has_session c.args.journal.now.history c.args.script.now c.in_ok-is_refused.is_refused _ c.serve_all.new.journal.history _ _ _ _ _ _ _ _ _ _ _ _ _
+    ran_from (AllOwn c.args.journal.now) c.args.has_session c.args.journal.now.history c.args.script.now c.in_ok-is_refused.is_refused _ c.serve_all.new.journal.history _ _ _ _ _ _ _ _ _ _ _ _ _
     c.in_ok-is_refused.ensures.served c.in_ok-closing.ensures.closes held.messages held.rdl held.header held.session
     (IsUtf8-string_bytes closing.rdl) (IsUtf8-string_bytes closing.header) (IsUtf8-string_bytes closing.session)
+    (λ own. c.in_ok-closing.ensures.own (c.serve_all.ensures.stay_own own))
 
 pub returns-in_err-is_refused-clause-faulted : goal.returns-in_err-is_refused-clause-faulted
 returns-in_err-is_refused-clause-faulted g c = λ whole.

@@ -24,4 +24,10 @@ steps-preserved c =
     record {
       few = omega (arith, ap length pushed, length-append xs (x ∷ []), room);
       each = subst (λ ys. EachIs (λ i. LeadsAlong j.own j.states (j.place - i) (j.place - i - 1)) (map (λ step. step.now) ys)) (sym pushed) (more-seen (λ step. step.now) (λ i. LeadsAlong j.own j.states (j.place - i) (j.place - i - 1)) xs x c.steps.invariant.each led);
+      own = λ all.
+          let own : LeadsBetween prior IsOwn j.states (j.place - length xs) (j.place - length xs - 1) step =
+          subst (λ n. LeadsBetween prior IsOwn j.states (j.place - n) (j.place - n - 1) step) turns (c.in-Some.ensures.all_own all) in
+          let made : LeadsAlong true j.states (j.place - length xs) (j.place - length xs - 1) x.now = subst (LeadsAlong true j.states (j.place - length xs) (j.place - length xs - 1)) (sym seen) (along true j.states (j.place - length xs) (j.place - length xs - 1) step leads (λ e. own)) in
+          subst (λ ys. EachIs (λ i. LeadsAlong true j.states (j.place - i) (j.place - i - 1)) (map (λ step. step.now) ys)) (sym pushed)
+          (more-seen (λ step. step.now) (λ i. LeadsAlong true j.states (j.place - i) (j.place - i - 1)) xs x (c.steps.invariant.own all) made);
     }

@@ -13,6 +13,7 @@ pub lines-init : goal.lines-init
 lines-init g c = record {
   so_far = nothing_yet c.args.journal.now.history c.args.script.now (g.E.Write.contents c.args.messages.now.writer.now) (Appends-nil (g.E.Write.contents c.args.messages.now.writer.now));
   room = omega arith;
+  own = λ own. own;
   asked = c.requires.asked;
   same = refl;
 }
@@ -40,6 +41,7 @@ lines-preserved g c =
           (one_more c.args.journal.now.history c.lines.journal.history c.serve_line.new.journal.history c.args.script.now bytes _ _ (option_copied c.split_line.result.1) c.lines.number _ (contents c.lines.messages.writer.now) _ c.lines.refused refuses
           so_far c.split_line.ensures.lines c.in-Ok.ensures.replied wrote);
       room = omega (arith, room, c.split_line.ensures.less);
+      own = λ own. c.serve_line.ensures.stay_own (c.lines.invariant.own own);
       asked = search rules;
       same = search rules;
     }
