@@ -14,6 +14,7 @@ pub mod SessionPlaces
 pub mod SoFar
 pub mod Steps
 pub mod Stopped
+pub mod Tallied
 pub mod Texts
 pub mod WholeInput
 pub mod WholeLines

@@ -10,7 +10,10 @@ use Rattle.rdl_script.specs.Commands.{lines_of, lines_left, command_of}
 use Rattle.rdl_run.specs.Messages.{reply_text}
 use Rattle.rdl_run.specs.Answers.{History', Answers, Run, Replied, Serves, is_refused, messages_from}
 use Rattle.rdl_run.specs.Replies.{Said}
+use Rattle.rdl_run.specs.Turns.{HasTaken}
+use Rattle.rdl_run.specs.declared.counted.Counts.{Counts}
 use Rattle.rdl_run.specs.declared.status.RunFault.TheVariants.{Write}
+use Rattle.rdl_run.proofs.Tallied.{taken-none, taken-both}
 use Rattle.rdl_run.proofs.Written.{concat-append, AppendsFront-after}
 
 pub Run-more : (a b c : History') (ls : List (List ℕ)) (rs : List Said) (l : List ℕ) (r : Said) → Run a ls rs b → Answers b (command_of l) r c → Run a (ls ++ l ∷ []) (rs ++ r ∷ []) c
@@ -38,22 +41,24 @@ any-more [] r = or_false (is_refused r)
 any-more (x ∷ rs) r = ap (λ b. is_refused x || b) (any-more rs r) ∙ or_assoc (is_refused x) (list_any is_refused rs) (is_refused r)
 
 -- the lines that were served, and those that are left
-pub record SoFar (old : History') (script : List ℕ) (left : Option (List ℕ)) (number : ℕ) (before after : Option (List ℕ)) (refuses : Bool) (new : History') : Type 0 where
+pub record SoFar (old : History') (script : List ℕ) (left : Option (List ℕ)) (number : ℕ) (before after : Option (List ℕ)) (counted counts : Counts) (refuses : Bool) (new : History') : Type 0 where
   pub done : List (List ℕ)
   pub text : List ℕ
   pub served : Serves old done text refuses new
   pub lines : lines_of script ≡ done ++ lines_left left
   pub count : number ≡ length served.replies
   pub wrote : Appends before after text
+  pub took : HasTaken counted counts (length text)
 
-pub nothing_yet : (old : History') (script : List ℕ) (before : Option (List ℕ)) → Appends before before [] → SoFar old script (Some script) 0 before before false old
-nothing_yet old script before h = record {
+pub nothing_yet : (old : History') (script : List ℕ) (before : Option (List ℕ)) (counted : Counts) → Appends before before [] → SoFar old script (Some script) 0 before before counted counted false old
+nothing_yet old script before counted h = record {
   done = [];
   text = [];
   served = record { replies = []; ran = refl; text_is = refl; refuses_is = refl };
   lines = refl;
   count = refl;
   wrote = h;
+  took = taken-none counted;
 }
 
 -- the lines that were served, and one more
@@ -82,13 +87,13 @@ serves_more old mid new lines line before text number refuses refuses' h count s
       count = omega (arith, count, length-append rs (said.reply ∷ []));
     }
 
-module _ (old mid new : History') (script bytes line text : List ℕ) (left : Option (List ℕ)) (number : ℕ) (a b c : Option (List ℕ)) (refuses refuses' : Bool)
-    (h : SoFar old script (Some bytes) number a b refuses mid) (cut : lines_of bytes ≡ line ∷ lines_left left) (said : Replied mid line (number + 1) text refuses' new) where
+module _ (old mid new : History') (script bytes line text : List ℕ) (left : Option (List ℕ)) (number : ℕ) (a b c : Option (List ℕ)) (x y z : Counts) (refuses refuses' : Bool)
+    (h : SoFar old script (Some bytes) number a b x y refuses mid) (cut : lines_of bytes ≡ line ∷ lines_left left) (said : Replied mid line (number + 1) text refuses' new) where
   lines-cut : lines_of script ≡ (h.done ++ line ∷ []) ++ lines_left left
   lines-cut = h.lines ∙ ap (λ (ls : List (List ℕ)). h.done ++ ls) cut ∙ sym (append_assoc h.done (line ∷ []) (lines_left left))
 
-  pub one_more : Appends b c text → SoFar old script left (number + 1) a c (refuses || refuses') new
-  one_more wrote =
+  pub one_more : Appends b c text → HasTaken y z (length text) → SoFar old script left (number + 1) a c x z (refuses || refuses') new
+  one_more wrote took =
       let more = serves_more old mid new h.done line h.text text number refuses refuses' h.served h.count said in
       record {
         done = h.done ++ line ∷ [];
@@ -97,6 +102,7 @@ module _ (old mid new : History') (script bytes line text : List ℕ) (left : Op
         lines = lines-cut;
         count = more.count;
         wrote = Appends-trans a b c h.text text h.wrote wrote;
+        took = taken-both x y z h.text text h.took took;
       }
 
   -- the message of this line wasn't written whole

@@ -1,5 +1,5 @@
 -- The output of a run: messages, the files' texts and the status, from the bytes of the map or session and of the script. Own.
-use Rattle.std.specs.Prelude.{◌≡◌, ◌⊎◌, ℕ, Bool, List, [], ◌++◌, Option, IsUtf8}
+use Rattle.std.specs.Prelude.{◌≡◌, ◌⊎◌, ℕ, Bool, List, [], ◌++◌, length, Option, IsUtf8}
 use Rattle.std.proofs.Common.{inl, inr}
 use Rattle.std.specs.Io.KnownBytes.{Appends}
 use Rattle.rdl_run.specs.Answers.{History', Serves}
@@ -8,6 +8,7 @@ use Rattle.rdl_run.specs.Closing.{Closes}
 use Rattle.rdl_run.specs.Known.{Gives}
 use Rattle.rdl_run.specs.Opening.{OpensHistory, RefusesToOpen}
 use Rattle.rdl_run.specs.OwnSteps.{IsOwnSession, OpensOwn}
+use Rattle.rdl_run.specs.Turns.{HasTaken, Tallies}
 use Rattle.rdl_run.specs.declared.run.Options.{Options}
 use Rattle.rdl_run.specs.declared.status.Status.{Status}
 use Rattle.rdl_run.specs.declared.status.Status.TheVariants.{MapRefused}
@@ -70,13 +71,21 @@ pub record AreTexts (out : Output) : Type 0 where
   pub header : IsUtf8 out.header
   pub session : IsUtf8 out.session
 
+-- each output took as many bytes as its text has, as far as they are counted
+pub record HaveTaken (old new : Tallies) (out : Output) : Type 0 where
+  pub messages : HasTaken old.messages new.messages (length out.messages)
+  pub rdl : HasTaken old.rdl new.rdl (length out.rdl)
+  pub header : HasTaken old.header new.header (length out.header)
+  pub session : HasTaken old.session new.session (length out.session)
+
 -- a run of a script from a history that was opened
-pub record RanFrom (are_own : Type 0) (asked : Bool) (first : History') (script : List ℕ) (old new : Outputs) (status : Status) : Type 0 where
+pub record RanFrom (are_own : Type 0) (asked : Bool) (first : History') (script : List ℕ) (old new : Outputs) (counted counts : Tallies) (status : Status) : Type 0 where
   pub out : Output
   pub runs : Runs asked first script out
   pub texts : AreTexts out
   pub own : are_own → IsOwnSession runs.last out.session
   pub holds : Holds old new status out
+  pub took : HaveTaken counted counts out
 
 -- where the steps of the history that was opened are of edits, so are those of its session
 abbrev pub LeavesOwn : {options : Options} {map script : List ℕ} {out : Output} → IsOutput options map script out → Type 0
@@ -98,3 +107,8 @@ pub record Ran (options : Options) (map script : Option (List ℕ)) (old new : O
   pub out : Output
   pub wrote : Wrote options map_bytes script_bytes out
   pub holds : Holds old new status out
+
+-- the same, with what the outputs took
+pub record RanCounted (options : Options) (map script : Option (List ℕ)) (old new : Outputs) (counted counts : Tallies) (status : Status) : Type 0 where
+  pub ran : Ran options map script old new status
+  pub took : HaveTaken counted counts ran.out

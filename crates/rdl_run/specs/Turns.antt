@@ -36,13 +36,17 @@ CountedRead old new (Err e) = ((error_kind e ≡ kinds.Interrupted) × (new ≡ 
 
 -- ---- Outputs.
 
+-- how far takes and bytes are counted
+abbrev pub most_counted : ℕ
+most_counted = 2 ^ 64 - 1
+
 -- an output that was never asked
 abbrev pub unwritten : Counts
-unwritten = record { takes = 0; interrupts = 0; refused = false; ended = false }
+unwritten = record { takes = 0; taken = 0; interrupts = 0; refused = false; ended = false }
 
 -- one write: it takes a byte, or is interrupted, or ends the output
 abbrev pub Counted : (old new : Counts) → Outcome → Type 0
-Counted old new (Took n) = (0 < n) × (new ≡ record old { takes = min (old.takes + 1) (2 ^ 64 - 1) })
+Counted old new (Took n) = (0 < n) × (new ≡ record old { takes = min (old.takes + 1) most_counted; taken = min (old.taken + n) most_counted })
 Counted old new Interrupted = new ≡ record old { interrupts = old.interrupts + 1 }
 Counted old new Refused = new ≡ record old { refused = true; ended = true }
 Counted old new Exhausted = (old.interrupts ≡ most_interrupts) × (new ≡ record old { ended = true })
@@ -71,6 +75,21 @@ HasEnded messages rdl header session = (messages.ended ≡ true) ⊎ (rdl.ended 
 -- one of the four outputs has ended for a cause
 abbrev pub GivesUp : (messages rdl header session : Counts) → Type 0
 GivesUp messages rdl header session = IsGivenUp messages ⊎ IsGivenUp rdl ⊎ IsGivenUp header ⊎ IsGivenUp session
+
+-- it took so many bytes more, as far as they are counted
+pub record HasTaken (old new : Counts) (n : ℕ) : Type 0 where
+  pub no_more : new.taken ≤ old.taken + n
+  pub no_fewer : min (old.taken + n) most_counted ≤ new.taken
+
+-- the counts of the four outputs
+pub record Tallies : Type 0 where
+  pub messages : Counts
+  pub rdl : Counts
+  pub header : Counts
+  pub session : Counts
+
+abbrev pub tallies : (messages rdl header session : Counts) → Tallies
+tallies messages rdl header session = record { messages = messages; rdl = rdl; header = header; session = session }
 
 -- what it wrote of these bytes
 abbrev pub WritesOnce : (old new : Option (List ℕ)) → List ℕ → Outcome → Type 0

@@ -82,11 +82,13 @@ pub(crate) enum Outcome {
     Exhausted,
 }
 
-/// How often a writer was asked: writes that took a byte, counted up to the greatest number; writes that were
-/// interrupted and may be tried again; whether one took nothing or failed; and whether one has ended the output.
+/// How often a writer was asked: writes that took a byte, and how many bytes they took, both counted up to the greatest
+/// number; writes that were interrupted and may be tried again; whether one took nothing or failed; and whether one has
+/// ended the output.
 #[derive(Clone, Copy, Debug, Drop)]
 pub(crate) struct Counts {
     takes: u64,
+    taken: u64,
     interrupts: usize,
     refused: bool,
     ended: bool,
@@ -106,6 +108,7 @@ impl<'a, W: Write> CountedWriter<'a, W> {
     {
         let counts = Counts {
             takes: 0,
+            taken: 0,
             interrupts,
             refused: false,
             ended: false,
@@ -130,6 +133,7 @@ impl<'a, W: Write> CountedWriter<'a, W> {
         match self.writer.write(bytes) {
             Ok(n) if n > 0 => {
                 self.counts.takes = self.counts.takes.saturating_add(1);
+                self.counts.taken = self.counts.taken.saturating_add(n as u64);
                 Outcome::Took(n)
             }
             Err(e) if e.kind() == ErrorKind::Interrupted => {

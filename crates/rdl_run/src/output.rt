@@ -2,7 +2,7 @@
 ghost use Rattle.std.specs.Prelude.{◌≡◌, ◌≤◌, ◌+◌, length, OnOk, OnErr, IsOkUnless};
 ghost use Rattle.std.specs.Io.KnownBytes.{Appends};
 ghost use Rattle.rdl_run.specs.Known.{AppendsFront};
-ghost use Rattle.rdl_run.specs.Turns.{IsGivenUp, IsOpen};
+ghost use Rattle.rdl_run.specs.Turns.{HasTaken, IsGivenUp, IsOpen};
 ghost use Rattle.rdl_run.specs.declared.status.RunFault.{RunFault};
 
 use crate::counted::{CountedWriter, Outcome};
@@ -19,6 +19,7 @@ pub(crate) fn write_counted<W: Write>(
     ensures err { OnErr result (AppendsFront (W.contents output.old.writer.now) (W.contents output.new.writer.now) bytes.now) }
     ensures fault { IsOkUnless result RunFault.Write }
     ensures ended { OnErr result (IsGivenUp output.new.counts) }
+    ensures took { OnOk result (HasTaken output.old.counts output.new.counts (length bytes.now)) }
     ensures takes { output.new.counts.takes ≤ output.old.counts.takes + length bytes.now }
     ensures few { output.new.counts.interrupts ≤ 1000 }
     ensures asked { OnOk result (IsOpen output.new.counts) }

@@ -4,9 +4,9 @@ ghost use Rattle.rdl_run.specs.Opening.{EachElaborates};
 ghost use Rattle.rdl_run.specs.Faulted.{Faulted, FaultedFrom, Leaves};
 ghost use Rattle.rdl_run.specs.ClosingTexts.{texts_of};
 ghost use Rattle.rdl_run.specs.OwnSteps.{AllOwn};
-ghost use Rattle.rdl_run.specs.Output.{Holds, Ran, RanFrom};
+ghost use Rattle.rdl_run.specs.Output.{HaveTaken, Holds, Ran, RanCounted, RanFrom};
 ghost use Rattle.rdl_run.specs.Known.{IsOver, IsWithin};
-ghost use Rattle.rdl_run.specs.Turns.{AreOpen, GivesUp, HasEnded, IsInterrupted, IsOpen, unread, unwritten};
+ghost use Rattle.rdl_run.specs.Turns.{AreOpen, GivesUp, HasEnded, IsInterrupted, IsOpen, tallies, unread, unwritten};
 ghost use Rattle.rdl_run.specs.declared.status.RunFault.{RunFault};
 
 use crate::closing::Closing;
@@ -52,6 +52,8 @@ fn write_closing<R: Write, H: Write, Z: Write, E: Write>(
         (record { messages = E.contents messages.old.writer.now; rdl = R.contents rdl.old.writer.now; header = H.contents header.old.writer.now; session = Z.contents session.old.writer.now })
         (record { messages = E.contents messages.new.writer.now; rdl = R.contents rdl.new.writer.now; header = H.contents header.new.writer.now; session = Z.contents session.new.writer.now })
         closing.now.status (texts_of closing.now)) }
+    ensures took { OnOk result (HaveTaken (tallies messages.old.counts rdl.old.counts header.old.counts session.old.counts)
+        (tallies messages.new.counts rdl.new.counts header.new.counts session.new.counts) (texts_of closing.now)) }
     ensures stopped { IfErr result (λ fault. Leaves fault
         (record { messages = E.contents messages.old.writer.now; rdl = R.contents rdl.old.writer.now; header = H.contents header.old.writer.now; session = Z.contents session.old.writer.now })
         (record { messages = E.contents messages.new.writer.now; rdl = R.contents rdl.new.writer.now; header = H.contents header.new.writer.now; session = Z.contents session.new.writer.now })
@@ -95,7 +97,9 @@ fn run_script<R: Write, H: Write, Z: Write, E: Write>(
     requires session_asked { IsOpen session.old.counts }
     ensures ran { IfOk result (RanFrom (AllOwn journal.old) has_session journal.old.history script.now
         (record { messages = E.contents messages.old.writer.now; rdl = R.contents rdl.old.writer.now; header = H.contents header.old.writer.now; session = Z.contents session.old.writer.now })
-        (record { messages = E.contents messages.new.writer.now; rdl = R.contents rdl.new.writer.now; header = H.contents header.new.writer.now; session = Z.contents session.new.writer.now })) }
+        (record { messages = E.contents messages.new.writer.now; rdl = R.contents rdl.new.writer.now; header = H.contents header.new.writer.now; session = Z.contents session.new.writer.now })
+        (tallies messages.old.counts rdl.old.counts header.old.counts session.old.counts)
+        (tallies messages.new.counts rdl.new.counts header.new.counts session.new.counts)) }
     ensures faulted { EachElaborates journal.old.history → IfErr result (FaultedFrom has_session journal.old.history script.now
         (record { messages = E.contents messages.old.writer.now; rdl = R.contents rdl.old.writer.now; header = H.contents header.old.writer.now; session = Z.contents session.old.writer.now })
         (record { messages = E.contents messages.new.writer.now; rdl = R.contents rdl.new.writer.now; header = H.contents header.new.writer.now; session = Z.contents session.new.writer.now })) }
@@ -137,9 +141,11 @@ fn run_counted<M: Read, S: Read, R: Write, H: Write, Z: Write, E: Write>(
     requires rdl_fresh { rdl.old.counts ≡ unwritten }
     requires header_fresh { header.old.counts ≡ unwritten }
     requires session_fresh { session.old.counts ≡ unwritten }
-    ensures ran { IfOk result (Ran options.now (M.remaining map.old.reader.now) (S.remaining script.old.reader.now)
+    ensures ran { IfOk result (RanCounted options.now (M.remaining map.old.reader.now) (S.remaining script.old.reader.now)
         (record { messages = E.contents messages.old.writer.now; rdl = R.contents rdl.old.writer.now; header = H.contents header.old.writer.now; session = Z.contents session.old.writer.now })
-        (record { messages = E.contents messages.new.writer.now; rdl = R.contents rdl.new.writer.now; header = H.contents header.new.writer.now; session = Z.contents session.new.writer.now })) }
+        (record { messages = E.contents messages.new.writer.now; rdl = R.contents rdl.new.writer.now; header = H.contents header.new.writer.now; session = Z.contents session.new.writer.now })
+        (tallies messages.old.counts rdl.old.counts header.old.counts session.old.counts)
+        (tallies messages.new.counts rdl.new.counts header.new.counts session.new.counts)) }
     ensures faulted { IfErr result (Faulted options.now (M.remaining map.old.reader.now) (S.remaining script.old.reader.now)
         (record { messages = E.contents messages.old.writer.now; rdl = R.contents rdl.old.writer.now; header = H.contents header.old.writer.now; session = Z.contents session.old.writer.now })
         (record { messages = E.contents messages.new.writer.now; rdl = R.contents rdl.new.writer.now; header = H.contents header.new.writer.now; session = Z.contents session.new.writer.now })) }

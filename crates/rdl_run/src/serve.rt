@@ -14,7 +14,7 @@ ghost use Rattle.rdl_run.specs.ScriptLines.{is_in_line, left_len};
 ghost use Rattle.rdl_script.specs.Seen.{seen};
 ghost use Rattle.rdl_run.specs.Replies.{said};
 ghost use Rattle.rdl_run.specs.Faulted.{StopsServing};
-ghost use Rattle.rdl_run.specs.Turns.{IsGivenUp, IsOpen};
+ghost use Rattle.rdl_run.specs.Turns.{HasTaken, IsGivenUp, IsOpen};
 
 use crate::counted::CountedWriter;
 use crate::output::write_counted;
@@ -197,7 +197,7 @@ pub fn serve_all<E: Write>(
 ) -> Result<bool, RunFault>
     requires length { length script.now < 2 ^ 32 }
     requires asked { IsOpen messages.old.counts }
-    ensures served { IfOk result (λ refused. (text : List ℕ) × (Serves journal.old.history (lines_of script.now) text refused journal.new.history) × (Appends (E.contents messages.old.writer.now) (E.contents messages.new.writer.now) text)) }
+    ensures served { IfOk result (λ refused. (text : List ℕ) × (Serves journal.old.history (lines_of script.now) text refused journal.new.history) × (Appends (E.contents messages.old.writer.now) (E.contents messages.new.writer.now) text) × HasTaken messages.old.counts messages.new.counts (length text)) }
     ensures stay_own { AllOwn journal.old → AllOwn journal.new }
     ensures fault { IfErr result (λ fault. (fault ≡ RunFault.Memory) ⊎ (fault ≡ RunFault.Write)) }
     ensures stopped { IfErr result (StopsServing journal.old.history (lines_of script.now) (E.contents messages.old.writer.now) (E.contents messages.new.writer.now)) }

@@ -1,4 +1,4 @@
-use Rattle.std.proofs.Common.{IfOk, string_bytes, sym, subst}
+use Rattle.std.proofs.Common.{IfOk, ℕ, List, length, string_bytes, sym, subst}
 use Rattle.std.specs.Prelude.{IfErr}
 use Rattle.std.specs.Option.{option_copied}
 use Rattle.std.specs.Io.KnownBytes.{Appends}
@@ -8,6 +8,7 @@ use Rattle.rdl_run.specs.Opening.{OpensHistory, RefusesToOpen}
 use Rattle.rdl_run.specs.OpeningFaults.{IfRefusedToOpen}
 use Rattle.rdl_run.specs.Output.{RanFrom}
 use Rattle.rdl_run.specs.OwnSteps.{AllOwn, OpensKept}
+use Rattle.rdl_run.specs.Turns.{HasTaken, tallies}
 use Rattle.rdl_run.specs.declared.open.OpenFault.TheVariants.{Refused}
 use Rattle.rdl_run.specs.declared.status.RunFault.TheVariants.{Memory}
 use Rattle.rdl_run.proofs.RunLemmas.{outputs, refused_run, ran_if}
@@ -26,7 +27,11 @@ returns-in-Err-Refused-clause-ran g c =
     let wrote : Appends (contents c.args.messages.now.writer.now) (contents c.write_counted.new.output.writer.now) (string_bytes c.in-Err-Refused.message) =
     subst (λ m. Appends (contents c.args.messages.now.writer.now) (contents c.write_counted.new.output.writer.now) (string_bytes m)) c.in-Err-Refused.message-is
     (subst (Appends (contents c.args.messages.now.writer.now) (contents c.write_counted.new.output.writer.now)) c.as_bytes.ensures.value c.in_ok-write_counted-in-Err-Refused.ensures.ok) in
-    refused_run c.args.options.now _ _ _ _ _ _ _ _ _ _ c.in_ok-map_bytes.ensures.bytes c.in_ok-script_bytes.ensures.bytes refused wrote
+    let told : HasTaken c.args.messages.now.counts c.write_counted.new.output.counts (length (string_bytes c.in-Err-Refused.message)) =
+    subst (λ m. HasTaken c.args.messages.now.counts c.write_counted.new.output.counts (length (string_bytes m))) c.in-Err-Refused.message-is
+    (subst (λ (text : List ℕ). HasTaken c.args.messages.now.counts c.write_counted.new.output.counts (length text)) c.as_bytes.ensures.value c.in_ok-write_counted-in-Err-Refused.ensures.took) in
+    refused_run c.args.options.now _ _ _ _ _ _ _ _ _ _ (tallies c.args.messages.now.counts c.args.rdl.now.counts c.args.header.now.counts c.args.session.now.counts) c.write_counted.new.output.counts
+    c.in_ok-map_bytes.ensures.bytes c.in_ok-script_bytes.ensures.bytes refused wrote told
 
 pub returns-in-Ok-clause-ran : goal.returns-in-Ok-clause-ran
 returns-in-Ok-clause-ran g c =
@@ -35,12 +40,14 @@ returns-in-Ok-clause-ran g c =
     let new = outputs (g.E.Write.contents c.run_script.new.messages.writer.now) (g.R.Write.contents c.run_script.new.rdl.writer.now) (g.H.Write.contents c.run_script.new.header.writer.now) (g.Z.Write.contents c.run_script.new.session.writer.now) in
     let map_bytes = c.in_ok-map_bytes.map_bytes.items in
     let k = c.in-Ok.journal in
+    let counted = tallies c.args.messages.now.counts c.args.rdl.now.counts c.args.header.now.counts c.args.session.now.counts in
+    let counts = tallies c.run_script.new.messages.counts c.run_script.new.rdl.counts c.run_script.new.header.counts c.run_script.new.session.counts in
     let kept : OpensKept options.top options.history map_bytes k =
     subst (λ o. OpensKept o options.history map_bytes k) c.as_ref.ensures.value
     (subst (λ bytes. OpensKept (option_copied c.as_ref.result) options.history bytes k) c.as_slice.ensures.value c.in-Ok.ensures.kept) in
-    let ran : IfOk c.run_script.result (RanFrom (AllOwn k) options.session k.history c.in_ok-script_bytes.script_bytes.items old new) =
-    subst (λ bytes. IfOk c.run_script.result (RanFrom (AllOwn k) options.session k.history bytes old new)) c.as_slice-in-Ok.ensures.value c.run_script.ensures.ran in
-    ran_if options _ _ map_bytes _ k old new c.run_script.result c.in_ok-map_bytes.ensures.bytes c.in_ok-script_bytes.ensures.bytes kept ran
+    let ran : IfOk c.run_script.result (RanFrom (AllOwn k) options.session k.history c.in_ok-script_bytes.script_bytes.items old new counted counts) =
+    subst (λ bytes. IfOk c.run_script.result (RanFrom (AllOwn k) options.session k.history bytes old new counted counts)) c.as_slice-in-Ok.ensures.value c.run_script.ensures.ran in
+    ran_if options _ _ map_bytes _ k old new counted counts c.run_script.result c.in_ok-map_bytes.ensures.bytes c.in_ok-script_bytes.ensures.bytes kept ran
 
 pub returns-in-Ok-clause-faulted : goal.returns-in-Ok-clause-faulted
 returns-in-Ok-clause-faulted g c =

@@ -1,8 +1,9 @@
-use Rattle.std.proofs.Common.{inl, inr, refl, sym, subst}
+use Rattle.std.proofs.Common.{inl, inr, ℕ, List, length, refl, sym, subst}
 use Rattle.std.specs.Io.KnownBytes.{Appends}
 use Rattle.rdl_run.specs.ClosingTexts.{texts_of}
 use Rattle.rdl_run.specs.Faulted.{Leaves}
 use Rattle.rdl_run.specs.Known.{AppendsFront}
+use Rattle.rdl_run.specs.Turns.{HasTaken}
 use Rattle.rdl_run.specs.declared.status.RunFault.{RunFault}
 use Rattle.rdl_run.proofs.RunLemmas.{outputs}
 use Rattle.rdl_run.proofs.Stopped.{went}
@@ -24,6 +25,23 @@ returns-clause-wrote g c =
       header = subst (Appends h h') c.as_bytes-3.ensures.value c.in_ok-write_counted-3.ensures.ok;
       session = subst (Appends z z') c.as_bytes-4.ensures.value c.in_ok-write_counted-4.ensures.ok;
       answer = refl;
+    }
+
+pub returns-clause-took : goal.returns-clause-took
+returns-clause-took g c =
+    let m = c.args.messages.now.counts in
+    let r = c.args.rdl.now.counts in
+    let h = c.args.header.now.counts in
+    let z = c.args.session.now.counts in
+    let m' = c.write_counted.new.output.counts in
+    let r' = c.write_counted-2.new.output.counts in
+    let h' = c.write_counted-3.new.output.counts in
+    let z' = c.write_counted-4.new.output.counts in
+    record {
+      messages = subst (λ (text : List ℕ). HasTaken m m' (length text)) c.as_bytes.ensures.value c.in_ok-write_counted.ensures.took;
+      rdl = subst (λ (text : List ℕ). HasTaken r r' (length text)) c.as_bytes-2.ensures.value c.in_ok-write_counted-2.ensures.took;
+      header = subst (λ (text : List ℕ). HasTaken h h' (length text)) c.as_bytes-3.ensures.value c.in_ok-write_counted-3.ensures.took;
+      session = subst (λ (text : List ℕ). HasTaken z z' (length text)) c.as_bytes-4.ensures.value c.in_ok-write_counted-4.ensures.took;
     }
 
 pub returns-in_err-write_counted-clause-stopped : goal.returns-in_err-write_counted-clause-stopped

@@ -8,7 +8,7 @@ use Rattle.rdl_run.proofs.serve.serve_all.Given as goal
 
 abbrev pub invariant-lines : goal.invariant-lines
 invariant-lines g l = record {
-  so_far : SoFar l.fn.journal.history l.script (option_copied l.rest) l.number (g.E.Write.contents l.fn.messages.writer.now) (g.E.Write.contents l.messages.writer.now) l.refused l.journal.history;
+  so_far : SoFar l.fn.journal.history l.script (option_copied l.rest) l.number (g.E.Write.contents l.fn.messages.writer.now) (g.E.Write.contents l.messages.writer.now) l.fn.messages.counts l.messages.counts l.refused l.journal.history;
   room : l.number + left_len (option_copied l.rest) ≤ length l.script + 1;
   own : AllOwn l.fn.journal → AllOwn l.journal;
   asked : IsOpen l.messages.counts;
