@@ -3,8 +3,8 @@ ghost use Rattle.std.specs.Prelude.{◌≡◌, IfOk, option_map};
 ghost use Rattle.rdl_header.specs.HeaderText.{first_clash};
 
 use crate::defines::Macro;
+use rdl_scope::by_name::ByName;
 use std::alloc::{AllocError, Global};
-use std::collections::BTreeSet;
 
 /// The name of the first macro that has the name of one before it.
 pub(crate) fn first_clash<'a>(
@@ -13,11 +13,11 @@ pub(crate) fn first_clash<'a>(
 ) -> Result<Option<&'a str>, AllocError>
     ensures { IfOk result (λ clash. option_map (λ name. name.now) clash ≡ first_clash macros.now) }
 {
-    let mut names: BTreeSet<&'a str> = BTreeSet::new(alloc);
+    let mut names: ByName<'a, ()> = ByName::new(alloc);
     'macros: for next in macros {
         let name = next.name();
-        let is_new = names.insert(name)?;
-        if !is_new {
+        let before = names.put(name, ())?;
+        if before.is_some() {
             return Ok(Some(name));
         }
     }

@@ -1,18 +1,18 @@
-use Rattle.std.proofs.Common.{ap, ◌∙◌}
-use Rattle.std.specs.Prelude.{not, Some}
-use Rattle.rdl_header.proofs.FirstClash.{new_name, names_more, clash_here, clash_later}
+use Rattle.std.proofs.Common.{ap, ◌∙◌, sym}
+use Rattle.std.specs.Prelude.{Some}
+use Rattle.rdl_header.proofs.FirstClash.{stood_before, names_more, clash_here, clash_later}
 use Rattle.rdl_header.proofs.clashes.first_clash.Goals as goal
 
-pub returns-then-not-is_new : goal.returns-then-not-is_new
-returns-then-not-is_new c =
-    let defined = new_name c.macros.names _ c.name-name.result _ c.in_ok-is_new.is_new c.name-name.ensures c.macros.invariant.names c.in_ok-is_new.ensures.added in
+pub returns-then-is_some : goal.returns-then-is_some
+returns-then-is_some c =
+    let stood = stood_before c.macros.names _ c.name-name.result.now _ _ c.name-name.ensures c.macros.invariant.names c.in_ok-before.ensures.before in
     ap Some c.name-name.ensures
-    ∙ clash_here c.args.macros.now c.macros.next-index c.next-item.result c.macros-test.true c.next-item.is c.macros.invariant.rest (defined ∙ ap not c.if-not-is_new.true)
+    ∙ clash_here c.args.macros.now c.macros.next-index c.next-item.result c.macros-test.true c.next-item.is c.macros.invariant.rest (stood ∙ sym c.is_some.ensures ∙ c.if-is_some.true)
 
 pub macros-preserved : goal.macros-preserved
 macros-preserved c =
-    let defined = new_name c.macros.names _ c.name-name.result _ c.in_ok-is_new.is_new c.name-name.ensures c.macros.invariant.names c.in_ok-is_new.ensures.added in
+    let stood = stood_before c.macros.names _ c.name-name.result.now _ _ c.name-name.ensures c.macros.invariant.names c.in_ok-before.ensures.before in
     record {
-      names = names_more c.args.macros.now c.macros.next-index c.next-item.result c.macros-test.true c.next-item.is c.macros.names c.insert.new.self c.name-name.result c.name-name.ensures c.in_ok-is_new.ensures.updates c.macros.invariant.names;
-      rest = clash_later c.args.macros.now c.macros.next-index c.next-item.result c.macros-test.true c.next-item.is c.macros.invariant.rest (defined ∙ ap not c.if-not-is_new.false);
+      names = names_more c.args.macros.now c.macros.next-index c.next-item.result c.macros-test.true c.next-item.is c.macros.names c.put.new.self c.name-name.result.now c.name-name.ensures c.in_ok-before.ensures.after c.macros.invariant.names;
+      rest = clash_later c.args.macros.now c.macros.next-index c.next-item.result c.macros-test.true c.next-item.is c.macros.invariant.rest (stood ∙ sym c.is_some.ensures ∙ c.if-is_some.false);
     }
