@@ -1,11 +1,13 @@
 -- The names of the first macros in a map by name, and the search for the first clash among those behind them.
-use Rattle.std.proofs.Common.{◌≡◌, ◌<◌, ◌+◌, ℕ, Bool, true, false, List, [], ◌∷◌, ◌++◌, length, get_or, take, drop, Some, None, refl, ap, sym, ◌∙◌}
-use Rattle.std.proofs.lemmas.List.{take_more, drop_more}
+use Rattle.std.proofs.Common.{◌≡◌, ◌<◌, ◌+◌, ℕ, Bool, true, false, List, [], ◌∷◌, ◌++◌, length, get_or, take, drop, Some, None, refl, ap, sym, ◌∙◌, arith}
+use Rattle.std.proofs.lemmas.List.{take_more, drop_more, get_or-map, length-map}
 use Rattle.std.proofs.lemmas.List.Folds.{list_any-append}
-use Rattle.std.specs.Prelude.{◌||◌, Option, is_some, bytes_eq, if◌then◌else◌}
+use Rattle.std.specs.Prelude.{◌||◌, Option, is_some, bytes_eq, slice_range, if◌then◌else◌}
 use Rattle.rdl_scope.specs.ByName.{value_under}
 use Rattle.rdl_scope.specs.declared.by_name.ByName.{ByName}
+use Rattle.rdl_header.specs.declared.stretch.Stretch.{Stretch}
 use Rattle.rdl_header.specs.HeaderText.{Macro, is_defined, clash_behind, first_clash}
+use Rattle.rdl_header.specs.Lines.{named}
 
 -- what stands under a name that is defined, or isn't
 abbrev mark : Bool → Option (Unit {0})
@@ -28,6 +30,14 @@ defined-more q ms m = either-or (bytes_eq m.name q) (is_defined q ms) ∙ ap mar
 is_some-mark : (defined : Bool) → is_some (mark defined) ≡ defined
 is_some-mark true = refl
 is_some-mark false = refl
+
+-- the name of one of them, where it stands in a text
+module _ (text name : List ℕ) (names : List Stretch) (i : ℕ) (d : Stretch) (h : i < length names) where
+  pub named_inside : i < length (named text names)
+  named_inside = let same : length (named text names) ≡ length names = length-map {B = Macro} names (λ s. record { name = slice_range text s.start s.end; value = [] }) in omega arith
+
+  pub named_there : name ≡ slice_range text (get_or names i d).start (get_or names i d).end → record { name = name; value = [] } ≡ get_or (named text names) i (record { name = name; value = [] })
+  named_there is = ap (λ n. record { name = n; value = [] }) is ∙ sym (get_or-map (λ s. record { name = slice_range text s.start s.end; value = [] }) names i d (record { name = name; value = [] }) h)
 
 -- a name is defined where something stood under it
 pub stood_before : (names : ByName (Unit {0})) (ms : List Macro) (name bytes : List ℕ) (before : Option (Unit {0})) → name ≡ bytes → HasNames names ms → before ≡ value_under names name → is_defined bytes ms ≡ is_some before

@@ -1,115 +1,143 @@
-//! The macros of the header, as far as they are made.
-ghost use Rattle.std.specs.Prelude.{◌≡◌, ◌++◌, [], ◌∷◌, string_bytes, IfOk, OnOk};
+//! The lines of the header, as far as they are made.
+ghost use Rattle.std.specs.Prelude.{◌≡◌, ◌+◌, ◌++◌, [], ◌∷◌, length, codes, string_bytes, IfOk, OnOk};
 ghost use Rattle.rdl_header.specs.HeaderText.{hexadecimal_macro, decimal_macro};
+ghost use Rattle.rdl_header.specs.Lines.{name_at, no_lines, guarded, added, ended};
 
+use crate::stretch::Stretch;
 use rdl_text::token::Number;
 use rdl_write::{push_decimal, push_hexadecimal};
 use std::alloc::{AllocError, Global};
 use std::marker::Model;
 
-/// A name, and the text that stands for it. A contract sees their bytes.
-#[derive(Drop)]
-pub(crate) struct Macro {
-    name: String,
-    value: String,
-}
-
-impl Model for Macro {
-    ghost use Rattle.std.specs.Prelude.{string_bytes};
-    ghost use Rattle.rdl_header.specs.HeaderText.{Macro as Seen};
-
-    ghost Value = { Seen };
-
-    ghost view = { λ m. record { name = string_bytes m.name; value = string_bytes m.value } };
-}
-
-impl Macro {
-    pub(crate) fn name(&self) -> &str
-        ensures { result.now ≡ self.now.name }
-    {
-        self.name.as_str()
-    }
-
-    pub(crate) fn value(&self) -> &str
-        ensures { result.now ≡ self.now.value }
-    {
-        self.value.as_str()
-    }
-}
-
-/// The macros in their order. A contract sees a list.
+/// The lines of macros, and where the names stand in them.
 #[derive(Drop)]
 pub(crate) struct Defines {
-    macros: Vec<Macro>,
+    text: String,
+    names: Vec<Stretch>,
 }
 
 impl Model for Defines {
-    ghost use Rattle.std.specs.Prelude.{List};
-    ghost use Rattle.rdl_header.specs.HeaderText.{Macro as Seen};
+    ghost use Rattle.std.specs.Prelude.{string_bytes};
+    ghost use Rattle.rdl_header.specs.Lines.{Lines};
 
-    ghost Value = { List Seen };
+    ghost Value = { Lines };
 
-    ghost view = { λ d. d.macros.items };
+    ghost view = { λ d. record { text = string_bytes d.text; names = d.names.items } };
 }
 
 impl Defines {
+    /// No lines.
     pub(crate) fn new(alloc: Global) -> Defines
-        ensures { result ≡ [] }
+        ensures { result ≡ no_lines }
     {
         Defines {
-            macros: Vec::new(alloc),
+            text: String::new(alloc),
+            names: Vec::new(alloc),
         }
     }
 
-    /// Puts a macro behind the others.
-    pub(crate) fn push(&mut self, name: String, value: String) -> Result<(), AllocError>
-        ensures { OnOk result (self.new ≡ self.old ++ record { name = string_bytes name; value = string_bytes value } ∷ []) }
+    /// The lines of the guard, whose name is the path and `_H`.
+    pub(crate) fn guarded(alloc: Global, path: &str) -> Result<Defines, AllocError>
+        ensures { IfOk result (λ lines. lines ≡ guarded (record { name = path.now ++ codes "_H"; value = [] })) }
     {
-        self.macros.push(Macro { name, value })?;
+        let mut text = String::new(alloc);
+        let mut names = Vec::new(alloc);
+        text.push_str("#ifndef ")?;
+        push_name(&mut text, &mut names, path, "_H")?;
+        text.push_str("\n#define ")?;
+        text.push_str(path)?;
+        text.push_str("_H\n")?;
+        Ok(Defines { text, names })
+    }
+
+    /// Puts the line of a macro behind the others. Its name is the path and the ending, its value `0x` and upper-case digits.
+    pub(crate) fn push_hexadecimal(
+        &mut self,
+        path: &str,
+        ending: &str,
+        number: Number,
+    ) -> Result<(), AllocError>
+        ensures { OnOk result (self.new ≡ added self.old (hexadecimal_macro path.now ending.now number ∷ [])) }
+    {
+        begin(&mut self.text, &mut self.names, path, ending)?;
+        push_hexadecimal(&mut self.text, number)?;
+        self.text.push_str("\n")?;
         Ok(())
     }
 
-    /// The name is the path and the ending, the value `0x` and upper-case digits.
-    pub(crate) fn push_hexadecimal(
-        &mut self,
-        alloc: Global,
-        path: &str,
-        ending: &str,
-        number: Number,
-    ) -> Result<(), AllocError>
-        ensures { OnOk result (self.new ≡ self.old ++ hexadecimal_macro path.now ending.now number ∷ []) }
-    {
-        let mut value = String::new(alloc);
-        push_hexadecimal(&mut value, number)?;
-        self.push(joined(alloc, path, ending)?, value)
-    }
-
-    /// The name is the path and the ending, the value decimal.
+    /// Puts the line of a macro behind the others. Its name is the path and the ending, its value decimal.
     pub(crate) fn push_decimal(
         &mut self,
-        alloc: Global,
         path: &str,
         ending: &str,
         number: Number,
     ) -> Result<(), AllocError>
-        ensures { OnOk result (self.new ≡ self.old ++ decimal_macro path.now ending.now number ∷ []) }
+        ensures { OnOk result (self.new ≡ added self.old (decimal_macro path.now ending.now number ∷ [])) }
     {
-        let mut value = String::new(alloc);
-        push_decimal(&mut value, number)?;
-        self.push(joined(alloc, path, ending)?, value)
+        begin(&mut self.text, &mut self.names, path, ending)?;
+        push_decimal(&mut self.text, number)?;
+        self.text.push_str("\n")?;
+        Ok(())
     }
 
-    pub(crate) fn as_slice(&self) -> &[Macro]
-        ensures { result.now ≡ self.now }
+    /// Puts the end of what is guarded behind the lines.
+    pub(crate) fn end(&mut self) -> Result<(), AllocError>
+        ensures { OnOk result (self.new ≡ ended self.old) }
     {
-        self.macros.as_slice()
+        self.text.push_str("#endif\n")?;
+        Ok(())
+    }
+
+    pub(crate) fn text(&self) -> &str
+        ensures { result.now ≡ self.now.text }
+    {
+        self.text.as_str()
+    }
+
+    pub(crate) fn names(&self) -> &[Stretch]
+        ensures { result.now ≡ self.now.names }
+    {
+        self.names.as_slice()
+    }
+
+    pub(crate) fn into_text(self) -> String
+        ensures { string_bytes result ≡ self.text }
+    {
+        self.text
     }
 }
 
-fn joined(alloc: Global, path: &str, ending: &str) -> Result<String, AllocError>
-    ensures { IfOk result (λ text. string_bytes text ≡ path.now ++ ending.now) }
+/// Appends a name, which is the path and the ending, and notes where it stands.
+fn push_name(
+    text: &mut String,
+    names: &mut Vec<Stretch>,
+    path: &str,
+    ending: &str,
+) -> Result<(), AllocError>
+    ensures text { OnOk result (string_bytes text.new ≡ string_bytes text.old ++ path.now ++ ending.now) }
+    ensures name { OnOk result (names.new.items ≡ names.old.items
+        ++ record { start = length (string_bytes text.old); end = length (string_bytes text.old ++ path.now ++ ending.now) } ∷ []) }
 {
-    let mut text = String::from_str(alloc, path)?;
+    let start = text.len();
+    text.push_str(path)?;
     text.push_str(ending)?;
-    Ok(text)
+    let end = text.len();
+    names.push(Stretch { start, end })?;
+    Ok(())
+}
+
+/// Begins the line of a macro, whose name is the path and the ending.
+fn begin(
+    text: &mut String,
+    names: &mut Vec<Stretch>,
+    path: &str,
+    ending: &str,
+) -> Result<(), AllocError>
+    ensures text { OnOk result (string_bytes text.new ≡ string_bytes text.old ++ codes "#define " ++ (path.now ++ ending.now) ++ codes " ") }
+    ensures name { OnOk result (names.new.items ≡ names.old.items ++ name_at (length (string_bytes text.old)) (path.now ++ ending.now) ∷ []) }
+{
+    text.push_str("#define ")?;
+    push_name(text, names, path, ending)?;
+    text.push_str(" ")?;
+    Ok(())
 }

@@ -5,6 +5,7 @@ mod bits;
 mod clashes;
 mod defines;
 mod macros;
+mod stretch;
 mod text;
 
 pub use text::{HeaderFault, header};
