@@ -3,7 +3,7 @@
 
 mod bits;
 mod clashes;
-mod defines;
+mod lines;
 mod macros;
 mod stretch;
 mod text;

@@ -4,7 +4,7 @@ ghost use Rattle.rdl_header.specs.HeaderText.{header_of};
 ghost use Rattle.rdl_header.specs.HeaderFaults.{IsFault};
 
 use crate::clashes::first_clash;
-use crate::macros::defines;
+use crate::macros::header_lines;
 use rdl_elab::row::Row;
 use std::alloc::{AllocError, AllocFailed, Global};
 
@@ -44,9 +44,9 @@ pub fn header(alloc: Global, rows: &[Row]) -> Result<String, HeaderFault>
     ensures ok { IfOk result (λ text. header_of rows.now ≡ Ok (string_bytes text)) }
     ensures err { IfErr result (IsFault rows.now) }
 {
-    let defines = defines(alloc, rows)?;
-    if let Some(name) = first_clash(alloc, defines.text(), defines.names())? {
+    let lines = header_lines(alloc, rows)?;
+    if let Some(name) = first_clash(alloc, lines.text(), lines.names())? {
         return Err(HeaderFault::Clash(String::from_str(alloc, name)?));
     }
-    Ok(defines.into_text())
+    Ok(lines.into_text())
 }

@@ -7,5 +7,5 @@ use Rattle.rdl_header.proofs.macros.add_rows.Given as goal
 abbrev pub invariant-rows : goal.invariant-rows
 invariant-rows l = record {
   inside : l.register ≡ register_after 0 (take l.row-index l.rows);
-  added : l.defines ≡ added l.fn.defines (macros_below 0 (take l.row-index l.rows));
+  added : l.lines ≡ added l.fn.lines (macros_below 0 (take l.row-index l.rows));
 }

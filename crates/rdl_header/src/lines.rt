@@ -11,33 +11,33 @@ use std::marker::Model;
 
 /// The lines of macros, and where the names stand in them.
 #[derive(Drop)]
-pub(crate) struct Defines {
+pub(crate) struct Lines {
     text: String,
     names: Vec<Stretch>,
 }
 
-impl Model for Defines {
+impl Model for Lines {
     ghost use Rattle.std.specs.Prelude.{string_bytes};
-    ghost use Rattle.rdl_header.specs.Lines.{Lines};
+    ghost use Rattle.rdl_header.specs.Lines.{Lines as Seen};
 
-    ghost Value = { Lines };
+    ghost Value = { Seen };
 
-    ghost view = { λ d. record { text = string_bytes d.text; names = d.names.items } };
+    ghost view = { λ lines. record { text = string_bytes lines.text; names = lines.names.items } };
 }
 
-impl Defines {
+impl Lines {
     /// No lines.
-    pub(crate) fn new(alloc: Global) -> Defines
+    pub(crate) fn new(alloc: Global) -> Lines
         ensures { result ≡ no_lines }
     {
-        Defines {
+        Lines {
             text: String::new(alloc),
             names: Vec::new(alloc),
         }
     }
 
     /// The lines of the guard, whose name is the path and `_H`.
-    pub(crate) fn guarded(alloc: Global, path: &str) -> Result<Defines, AllocError>
+    pub(crate) fn guarded(alloc: Global, path: &str) -> Result<Lines, AllocError>
         ensures { IfOk result (λ lines. lines ≡ guarded (record { name = path.now ++ codes "_H"; value = [] })) }
     {
         let mut text = String::new(alloc);
@@ -47,7 +47,7 @@ impl Defines {
         text.push_str("\n#define ")?;
         text.push_str(path)?;
         text.push_str("_H\n")?;
-        Ok(Defines { text, names })
+        Ok(Lines { text, names })
     }
 
     /// Puts the line of a macro behind the others. Its name is the path and the ending, its value `0x` and upper-case digits.
