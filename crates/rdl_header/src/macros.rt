@@ -24,7 +24,8 @@ fn push_path(text: &mut String, path: &RowPath) -> Result<(), AllocError>
 {
     let (last, around) = path.split_last();
     'names: for name in around {
-        write!(text, "{name}__")?;
+        text.push_str(name.as_str())?;
+        text.push_str("__")?;
     }
     text.push_str(last.as_str())?;
     Ok(())
