@@ -1,4 +1,6 @@
+pub mod AddedLines
 pub mod FirstClash
 pub mod Masks
 pub mod Paths
+pub mod StandingNames
 pub mod WordMacros

@@ -5,7 +5,9 @@ use Rattle.std.proofs.lemmas.Nat.{pow-add}
 use Rattle.std.proofs.Math.Nat.{div-div-eq-div-mul}
 use Rattle.std.specs.Fmt.{decimal}
 use Rattle.rdl_elab.specs.declared.row.Row.{Row}
-use Rattle.rdl_header.specs.HeaderText.{Macro, hexadecimal_macro, word_macro, word_macros, macros_of, macros_below, register_behind}
+use Rattle.rdl_header.specs.HeaderText.{hexadecimal_macro, word_macro, word_macros, macros_of, macros_below, register_behind}
+use Rattle.rdl_header.specs.Lines.{Lines, added}
+use Rattle.rdl_header.proofs.AddedLines.{added_more}
 
 -- ---- Words.
 
@@ -21,15 +23,15 @@ next_word : (path ending name : List ℕ) (n i rest : ℕ) → name ≡ ending +
 next_word path ending name n i rest e f = ap (λ x. hexadecimal_macro path x (rest % 2 ^ 32) ∷ []) e ∙ ap (λ r. hexadecimal_macro path (ending ++ decimal i) (r % 2 ^ 32) ∷ []) f
 
 -- one word more
-pub word_added : (path ending name : List ℕ) (n i rest : ℕ) (before now new : List Macro) → name ≡ ending ++ decimal i → rest ≡ n / 2 ^ (32 * i)
-    → now ≡ before ++ word_macros path ending n i → new ≡ now ++ hexadecimal_macro path name (rest % 2 ^ 32) ∷ [] → new ≡ before ++ word_macros path ending n (i + 1)
-word_added path ending name n i rest before now new e f added more =
+pub word_added : (path ending name : List ℕ) (n i rest : ℕ) (before now new : Lines) → name ≡ ending ++ decimal i → rest ≡ n / 2 ^ (32 * i)
+    → now ≡ added before (word_macros path ending n i) → new ≡ added now (hexadecimal_macro path name (rest % 2 ^ 32) ∷ []) → new ≡ added before (word_macros path ending n (i + 1))
+word_added path ending name n i rest before now new e f so_far more =
     let one : suc i ≡ i + 1 = omega arith in
     more
-    ∙ ap (λ ms. ms ++ hexadecimal_macro path name (rest % 2 ^ 32) ∷ []) added
-    ∙ ap (λ ms. (before ++ word_macros path ending n i) ++ ms) (next_word path ending name n i rest e f)
-    ∙ append_assoc before (word_macros path ending n i) (word_macro path ending n i ∷ [])
-    ∙ ap (λ k. before ++ word_macros path ending n k) one
+    ∙ ap (λ lines. added lines (hexadecimal_macro path name (rest % 2 ^ 32) ∷ [])) so_far
+    ∙ ap (λ ms. added (added before (word_macros path ending n i)) ms) (next_word path ending name n i rest e f)
+    ∙ added_more before (word_macros path ending n i) (word_macro path ending n i ∷ [])
+    ∙ ap (λ k. added before (word_macros path ending n k)) one
 
 -- ---- Rows.
 
@@ -61,9 +63,9 @@ module _ (i : ℕ) (rows : List Row) (row : Row) (register : ℕ) (h : i < lengt
       ∙ ap (λ r. macros_below 0 (take i rows) ++ macros_below r (row ∷ [])) (sym inside)
       ∙ ap (λ ms. macros_below 0 (take i rows) ++ ms) (append-nil (macros_of register row))
 
-  pub row_added : (before now new : List Macro) → now ≡ before ++ macros_below 0 (take i rows) → new ≡ now ++ macros_of register row → new ≡ before ++ macros_below 0 (take (i + 1) rows)
-  row_added before now new added more =
+  pub row_added : (before now new : Lines) → now ≡ added before (macros_below 0 (take i rows)) → new ≡ added now (macros_of register row) → new ≡ added before (macros_below 0 (take (i + 1) rows))
+  row_added before now new so_far more =
       more
-      ∙ ap (λ ms. ms ++ macros_of register row) added
-      ∙ append_assoc before (macros_below 0 (take i rows)) (macros_of register row)
-      ∙ ap (λ ms. before ++ ms) (sym taken)
+      ∙ ap (λ lines. added lines (macros_of register row)) so_far
+      ∙ added_more before (macros_below 0 (take i rows)) (macros_of register row)
+      ∙ ap (added before) (sym taken)

@@ -1,6 +1,6 @@
 -- The C header of a map's rows: its macros, their lines, and when two of them clash. Own; the macros of a field end as those of
 -- PeakRDL-cheader.
-use Rattle.std.specs.Prelude.{ℕ, zero, suc, Bool, ◌+◌, ◌-◌, ◌*◌, ◌/◌, ◌%◌, ◌^◌, nat_lt, min, List, [], ◌∷◌, ◌++◌, Option, None, Some, Result, Ok, Err, codes, bytes_eq, if◌then◌else◌}
+use Rattle.std.specs.Prelude.{ℕ, zero, suc, Bool, ◌-◌, ◌*◌, ◌/◌, ◌%◌, ◌^◌, nat_lt, min, List, [], ◌∷◌, ◌++◌, Option, None, Some, Result, Ok, Err, codes, bytes_eq, if◌then◌else◌}
 use Rattle.std.specs.Fmt.{decimal}
 use Rattle.std.specs.Int.{div_ceil}
 use Rattle.std.specs.List.{flat_map, list_any}

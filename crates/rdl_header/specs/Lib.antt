@@ -1,2 +1,3 @@
 pub mod HeaderFaults
 pub mod HeaderText
+pub mod Lines

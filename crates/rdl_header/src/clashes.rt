@@ -1,23 +1,27 @@
 //! Macros of one name.
 ghost use Rattle.std.specs.Prelude.{◌≡◌, IfOk, option_map};
+ghost use Rattle.std.specs.List.{All};
 ghost use Rattle.rdl_header.specs.HeaderText.{first_clash};
+ghost use Rattle.rdl_header.specs.Lines.{IsCut, named};
 
-use crate::defines::Macro;
+use crate::stretch::{Stretch, part};
+use rdl_scope::by_name::ByName;
 use std::alloc::{AllocError, Global};
-use std::collections::BTreeSet;
 
-/// The name of the first macro that has the name of one before it.
+/// The first of the names in the text that is the same as one before it.
 pub(crate) fn first_clash<'a>(
     alloc: Global,
-    macros: &'a [Macro],
+    text: &'a str,
+    names: &[Stretch],
 ) -> Result<Option<&'a str>, AllocError>
-    ensures { IfOk result (λ clash. option_map (λ name. name.now) clash ≡ first_clash macros.now) }
+    requires { All (IsCut text.now) names.now }
+    ensures { IfOk result (λ clash. option_map (λ name. name.now) clash ≡ first_clash (named text.now names.now)) }
 {
-    let mut names: BTreeSet<&'a str> = BTreeSet::new(alloc);
-    'macros: for next in macros {
-        let name = next.name();
-        let is_new = names.insert(name)?;
-        if !is_new {
+    let mut known: ByName<'a, ()> = ByName::new(alloc);
+    'names: for stretch in names {
+        let name = part(text, *stretch);
+        let before = known.put(name, ())?;
+        if before.is_some() {
             return Ok(Some(name));
         }
     }

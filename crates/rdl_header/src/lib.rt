@@ -3,8 +3,9 @@
 
 mod bits;
 mod clashes;
-mod defines;
+mod lines;
 mod macros;
+mod stretch;
 mod text;
 
 pub use text::{HeaderFault, header};

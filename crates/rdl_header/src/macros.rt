@@ -2,10 +2,11 @@
 ghost use Rattle.std.specs.Prelude.{◌≡◌, ◌++◌, [], ◌∷◌, string_bytes, IfOk, OnOk};
 ghost use Rattle.std.specs.List.{flat_map};
 ghost use Rattle.rdl_header.specs.HeaderText.{path_text, array_macros, bytes_macros, word_macros, mask_macros, reset_macros, width_macros, bits_macros, macros_of, register_behind, macros_below, guard, macros};
+ghost use Rattle.rdl_header.specs.Lines.{guarded, added, header_lines};
 ghost use Rattle.std.specs.Fmt.{decimal};
 
 use crate::bits::{mask, width};
-use crate::defines::Defines;
+use crate::lines::Lines;
 use rdl_elab::layout::Span;
 use rdl_elab::row::{Extent, Place, Row, RowPath};
 use rdl_scope::shells::product;
@@ -23,18 +24,11 @@ fn push_path(text: &mut String, path: &RowPath) -> Result<(), AllocError>
 {
     let (last, around) = path.split_last();
     'names: for name in around {
-        write!(text, "{name}__")?;
+        text.push_str(name.as_str())?;
+        text.push_str("__")?;
     }
     text.push_str(last.as_str())?;
     Ok(())
-}
-
-fn path(alloc: Global, row: &Row) -> Result<String, AllocError>
-    ensures { IfOk result (λ text. string_bytes text ≡ path_text row.now.names) }
-{
-    let mut text = String::new(alloc);
-    push_path(&mut text, &row.names)?;
-    Ok(text)
 }
 
 /// The ending with the number of a word behind it.
@@ -46,57 +40,52 @@ fn numbered(alloc: Global, ending: &str, index: u64) -> Result<String, AllocErro
     Ok(text)
 }
 
+#[tactic(auto, using(crate::proofs::AddedLines::added_lines))]
 fn add_array(
-    alloc: Global,
-    defines: &mut Defines,
+    lines: &mut Lines,
     path: &str,
     dims: &[Number],
     stride: Number,
 ) -> Result<(), AllocError>
-    ensures { OnOk result (defines.new ≡ defines.old ++ array_macros path.now dims.now stride) }
+    ensures { OnOk result (lines.new ≡ added lines.old (array_macros path.now dims.now stride)) }
 {
     if dims.is_empty() {
         return Ok(());
     }
     let count = product(dims);
-    defines.push_decimal(alloc, path, "_count", count)?;
-    defines.push_hexadecimal(alloc, path, "_stride", stride)?;
+    lines.push_decimal(path, "_count", count)?;
+    lines.push_hexadecimal(path, "_stride", stride)?;
     Ok(())
 }
 
 /// The macros of an instance that has bytes.
-#[tactic(auto, unfolding(crate::specs::HeaderText::bytes_macros))]
-fn add_bytes(
-    alloc: Global,
-    defines: &mut Defines,
-    path: &str,
-    base: u64,
-    extent: &Extent,
-) -> Result<(), AllocError>
-    ensures { OnOk result (defines.new ≡ defines.old ++ bytes_macros path.now base extent.now) }
+#[tactic(auto, using(crate::proofs::AddedLines::added_lines), unfolding(crate::specs::HeaderText::bytes_macros))]
+fn add_bytes(lines: &mut Lines, path: &str, base: u64, extent: &Extent) -> Result<(), AllocError>
+    ensures { OnOk result (lines.new ≡ added lines.old (bytes_macros path.now base extent.now)) }
 {
-    defines.push_hexadecimal(alloc, path, "_base", Number::from(base))?;
-    defines.push_hexadecimal(alloc, path, "_offset", Number::from(extent.offset))?;
-    defines.push_hexadecimal(alloc, path, "_size", Number::from(extent.size))?;
+    lines.push_hexadecimal(path, "_base", Number::from(base))?;
+    lines.push_hexadecimal(path, "_offset", Number::from(extent.offset))?;
+    lines.push_hexadecimal(path, "_size", Number::from(extent.size))?;
     let dims = extent.dims.as_slice();
-    add_array(alloc, defines, path, dims, extent.stride)
+    add_array(lines, path, dims, extent.stride)
 }
 
 /// The macros of the first words of a number, of 32 bits each, the lowest first.
+#[tactic(auto, using(crate::proofs::AddedLines::added_lines))]
 fn add_words(
     alloc: Global,
-    defines: &mut Defines,
+    lines: &mut Lines,
     path: &str,
     ending: &str,
     number: Number,
     count: u64,
 ) -> Result<(), AllocError>
-    ensures { OnOk result (defines.new ≡ defines.old ++ word_macros path.now ending.now number count) }
+    ensures { OnOk result (lines.new ≡ added lines.old (word_macros path.now ending.now number count)) }
 {
     let mut rest = number;
     'words: for index in 0..count {
         let numbered = numbered(alloc, ending, index)?;
-        defines.push_hexadecimal(alloc, path, numbered.as_str(), rest % WORD)?;
+        lines.push_hexadecimal(path, numbered.as_str(), rest % WORD)?;
         rest /= WORD;
     }
     Ok(())
@@ -105,81 +94,91 @@ fn add_words(
 /// The macros of the bits that a field has, in a register of so many bytes.
 fn add_mask(
     alloc: Global,
-    defines: &mut Defines,
+    lines: &mut Lines,
     path: &str,
     register: u64,
     span: &Span,
 ) -> Result<(), AllocError>
-    ensures { OnOk result (defines.new ≡ defines.old ++ mask_macros path.now register span.now) }
+    ensures { OnOk result (lines.new ≡ added lines.old (mask_macros path.now register span.now)) }
 {
     if register > 8 {
-        add_words(alloc, defines, path, "_bm", mask(span), 4)
+        add_words(alloc, lines, path, "_bm", mask(span), 4)
     } else {
-        defines.push_hexadecimal(alloc, path, "_bm", mask(span))
+        lines.push_hexadecimal(path, "_bm", mask(span))
     }
 }
 
 /// The macros of the reset of a field of so many bits.
+#[tactic(auto, using(crate::proofs::AddedLines::added_lines))]
 fn add_reset(
     alloc: Global,
-    defines: &mut Defines,
+    lines: &mut Lines,
     path: &str,
     width: u64,
     reset: Option<Number>,
 ) -> Result<(), AllocError>
-    ensures { OnOk result (defines.new ≡ defines.old ++ reset_macros path.now width reset) }
+    ensures { OnOk result (lines.new ≡ added lines.old (reset_macros path.now width reset)) }
 {
     match reset {
         Some(number) if width > 64 => {
-            add_words(alloc, defines, path, "_reset", number, width.div_ceil(32))
+            add_words(alloc, lines, path, "_reset", number, width.div_ceil(32))
         }
-        Some(number) => defines.push_hexadecimal(alloc, path, "_reset", number),
+        Some(number) => lines.push_hexadecimal(path, "_reset", number),
         None => Ok(()),
     }
 }
 
 /// The macros of a field behind that of its bits.
-#[tactic(auto, unfolding(crate::specs::HeaderText::width_macros))]
+#[tactic(auto, using(crate::proofs::AddedLines::added_lines), unfolding(crate::specs::HeaderText::width_macros))]
 fn add_width(
     alloc: Global,
-    defines: &mut Defines,
+    lines: &mut Lines,
     path: &str,
     span: &Span,
     reset: Option<Number>,
 ) -> Result<(), AllocError>
-    ensures { OnOk result (defines.new ≡ defines.old ++ width_macros path.now span.now reset) }
+    ensures { OnOk result (lines.new ≡ added lines.old (width_macros path.now span.now reset)) }
 {
     let width = width(span);
-    defines.push_decimal(alloc, path, "_bp", Number::from(span.start))?;
-    defines.push_decimal(alloc, path, "_bw", Number::from(width))?;
-    add_reset(alloc, defines, path, width, reset)
+    lines.push_decimal(path, "_bp", Number::from(span.start))?;
+    lines.push_decimal(path, "_bw", Number::from(width))?;
+    add_reset(alloc, lines, path, width, reset)
 }
 
 /// The macros of a field.
+#[tactic(auto, using(crate::proofs::AddedLines::added_lines))]
 fn add_bits(
     alloc: Global,
-    defines: &mut Defines,
+    lines: &mut Lines,
     path: &str,
     register: u64,
     span: &Span,
     reset: Option<Number>,
 ) -> Result<(), AllocError>
-    ensures { OnOk result (defines.new ≡ defines.old ++ bits_macros path.now register span.now reset) }
+    ensures { OnOk result (lines.new ≡ added lines.old (bits_macros path.now register span.now reset)) }
 {
-    add_mask(alloc, defines, path, register, span)?;
-    add_width(alloc, defines, path, span, reset)
+    add_mask(alloc, lines, path, register, span)?;
+    add_width(alloc, lines, path, span, reset)
 }
 
-/// Puts the macros of a row behind the others. A field stands in a register of so many bytes.
-fn add_row(alloc: Global, defines: &mut Defines, register: u64, row: &Row) -> Result<(), AllocError>
-    ensures { OnOk result (defines.new ≡ defines.old ++ macros_of register row.now) }
+/// Puts the macros of a row behind the others. A field stands in a register of so many bytes. What the path held goes.
+fn add_row(
+    alloc: Global,
+    lines: &mut Lines,
+    path: &mut String,
+    register: u64,
+    row: &Row,
+) -> Result<(), AllocError>
+    ensures { OnOk result (lines.new ≡ added lines.old (macros_of register row.now)) }
 {
-    let path = path(alloc, row)?;
+    path.clear();
+    push_path(path, &row.names)?;
+    let path = path.as_str();
     match &row.place {
-        Place::Bytes(extent) => add_bytes(alloc, defines, path.as_str(), row.base, extent),
+        Place::Bytes(extent) => add_bytes(lines, path, row.base, extent),
         Place::Bits(span) => {
             let reset = row.values.number(Property::Reset);
-            add_bits(alloc, defines, path.as_str(), register, span, reset)
+            add_bits(alloc, lines, path, register, span, reset)
         }
     }
 }
@@ -194,35 +193,38 @@ fn register_behind(register: u64, place: &Place) -> u64
     }
 }
 
-/// Puts the guard behind the others: the macro that is defined wherever the header of this top has been read.
-fn add_guard(alloc: Global, defines: &mut Defines, top: &Row) -> Result<(), AllocError>
-    ensures { OnOk result (defines.new ≡ defines.old ++ guard top.now ∷ []) }
-{
-    let mut name = path(alloc, top)?;
-    name.push_str("_H")?;
-    defines.push(name, String::new(alloc))
-}
-
 /// Puts the macros of these rows behind the others.
-fn add_rows(alloc: Global, defines: &mut Defines, rows: &[Row]) -> Result<(), AllocError>
-    ensures { OnOk result (defines.new ≡ defines.old ++ macros_below 0 rows.now) }
+#[tactic(auto, using(crate::proofs::AddedLines::added_lines))]
+fn add_rows(alloc: Global, lines: &mut Lines, rows: &[Row]) -> Result<(), AllocError>
+    ensures { OnOk result (lines.new ≡ added lines.old (macros_below 0 rows.now)) }
 {
+    let mut path = String::new(alloc);
     let mut register = 0u64;
     'rows: for row in rows {
-        add_row(alloc, defines, register, row)?;
+        add_row(alloc, lines, &mut path, register, row)?;
         register = register_behind(register, &row.place);
     }
     Ok(())
 }
 
-/// The guard, then the macros of the rows below the top.
-pub(crate) fn macros(alloc: Global, rows: &[Row]) -> Result<Defines, AllocError>
-    ensures { IfOk result (λ defines. defines ≡ macros rows.now) }
+/// The lines of the guard: the macro that is defined wherever the header of this top has been read.
+fn guard(alloc: Global, top: &Row) -> Result<Lines, AllocError>
+    ensures { IfOk result (λ lines. lines ≡ guarded (guard top.now)) }
 {
-    let mut defines = Defines::new(alloc);
-    if let [top, below @ ..] = rows {
-        add_guard(alloc, &mut defines, top)?;
-        add_rows(alloc, &mut defines, below)?;
-    }
-    Ok(defines)
+    let mut path = String::new(alloc);
+    push_path(&mut path, &top.names)?;
+    Lines::guarded(alloc, path.as_str())
+}
+
+/// The lines of the guard, of the macros of the rows below the top, and of the guard's end.
+pub(crate) fn header_lines(alloc: Global, rows: &[Row]) -> Result<Lines, AllocError>
+    ensures { IfOk result (λ lines. lines ≡ header_lines (macros rows.now)) }
+{
+    let [top, below @ ..] = rows else {
+        return Ok(Lines::new(alloc));
+    };
+    let mut lines = guard(alloc, top)?;
+    add_rows(alloc, &mut lines, below)?;
+    lines.end()?;
+    Ok(lines)
 }

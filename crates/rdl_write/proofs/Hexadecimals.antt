@@ -1,5 +1,5 @@
 -- The digits of a number are those of its sixteenth, and then the last one.
-use Rattle.std.proofs.Common.{◌≡◌, ℕ, zero, suc, ◌+◌, ◌/◌, ◌%◌, ◌^◌, ◌<◌, ◌≤◌, ◌⊎◌, inl, inr, Bool, true, false, List, [], ◌∷◌, ◌++◌, cond, refl, ap, sym, ◌∙◌, append_assoc, arith}
+use Rattle.std.proofs.Common.{◌≡◌, ℕ, zero, suc, ◌/◌, ◌%◌, ◌^◌, ◌<◌, ◌≤◌, ◌⊎◌, inl, inr, true, List, [], ◌∷◌, ◌++◌, cond, refl, ap, sym, ◌∙◌, append_assoc, arith}
 use Rattle.std.specs.Fmt.{digit_glyph, digits_onto, digits}
 use Rattle.std.proofs.lemmas.Fmt.{hex_one_digit}
 use Rattle.std.proofs.lemmas.Bool.{cases_lt, ne_eqb, eq-eqb}
@@ -50,6 +50,10 @@ pub more_digits : (n d : ℕ) (old front new : List ℕ) → 16 ≤ n → n < 2 
 more_digits n d old front new h small is f g =
     g ∙ ap (λ x. x ++ digits 16 true d) f ∙ append_assoc old (digits 16 true (n / 16)) (digits 16 true d)
     ∙ ap (λ x. old ++ (digits 16 true (n / 16) ++ digits 16 true x)) is ∙ ap (λ x. old ++ x) (sym (digits_more n h small))
+
+-- a digit is one byte
+pub digit_pushed : (d glyph : ℕ) (old bytes new : List ℕ) → d < 16 → glyph ≡ digit_glyph true d → bytes ≡ glyph ∷ [] → new ≡ old ++ bytes → new ≡ old ++ digits 16 true d
+digit_pushed d glyph old bytes new small is one more = more ∙ ap (λ x. old ++ x) (one ∙ ap (λ g. g ∷ []) is ∙ sym (hex_one_digit true d small))
 
 pub one_digit : (n : ℕ) → n < 16 → n % 16 ≡ n
 one_digit n h = omega arith

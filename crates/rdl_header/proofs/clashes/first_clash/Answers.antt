@@ -1,18 +1,21 @@
-use Rattle.std.proofs.Common.{ap, ◌∙◌}
-use Rattle.std.specs.Prelude.{not, Some}
-use Rattle.rdl_header.proofs.FirstClash.{new_name, names_more, clash_here, clash_later}
+use Rattle.std.proofs.Common.{◌∙◌, sym, refl, []}
+use Rattle.rdl_header.specs.Lines.{named}
+use Rattle.rdl_header.proofs.FirstClash.{named_inside, named_there, stood_before, names_more, clash_here, clash_later}
 use Rattle.rdl_header.proofs.clashes.first_clash.Goals as goal
 
-pub returns-then-not-is_new : goal.returns-then-not-is_new
-returns-then-not-is_new c =
-    let defined = new_name c.macros.names _ c.name-name.result _ c.in_ok-is_new.is_new c.name-name.ensures c.macros.invariant.names c.in_ok-is_new.ensures.added in
-    ap Some c.name-name.ensures
-    ∙ clash_here c.args.macros.now c.macros.next-index c.next-item.result c.macros-test.true c.next-item.is c.macros.invariant.rest (defined ∙ ap not c.if-not-is_new.true)
+pub returns-then-is_some : goal.returns-then-is_some
+returns-then-is_some c =
+    let inside = named_inside c.args.text.now c.part-name.result.now c.args.names.now c.names.stretch-index (record { start = 0; end = 0 }) c.names-test.true in
+    let there = named_there c.args.text.now c.part-name.result.now c.args.names.now c.names.stretch-index (record { start = 0; end = 0 }) c.names-test.true c.part-name.ensures in
+    let stood = stood_before c.names.known _ c.part-name.result.now _ _ refl c.names.invariant.known c.in_ok-before.ensures.before in
+    clash_here (named c.args.text.now c.args.names.now) c.names.stretch-index (record { name = c.part-name.result.now; value = [] }) inside there c.names.invariant.rest (stood ∙ sym c.is_some.ensures ∙ c.if-is_some.true)
 
-pub macros-preserved : goal.macros-preserved
-macros-preserved c =
-    let defined = new_name c.macros.names _ c.name-name.result _ c.in_ok-is_new.is_new c.name-name.ensures c.macros.invariant.names c.in_ok-is_new.ensures.added in
+pub names-preserved : goal.names-preserved
+names-preserved c =
+    let inside = named_inside c.args.text.now c.part-name.result.now c.args.names.now c.names.stretch-index (record { start = 0; end = 0 }) c.names-test.true in
+    let there = named_there c.args.text.now c.part-name.result.now c.args.names.now c.names.stretch-index (record { start = 0; end = 0 }) c.names-test.true c.part-name.ensures in
+    let stood = stood_before c.names.known _ c.part-name.result.now _ _ refl c.names.invariant.known c.in_ok-before.ensures.before in
     record {
-      names = names_more c.args.macros.now c.macros.next-index c.next-item.result c.macros-test.true c.next-item.is c.macros.names c.insert.new.self c.name-name.result c.name-name.ensures c.in_ok-is_new.ensures.updates c.macros.invariant.names;
-      rest = clash_later c.args.macros.now c.macros.next-index c.next-item.result c.macros-test.true c.next-item.is c.macros.invariant.rest (defined ∙ ap not c.if-not-is_new.false);
+      known = names_more (named c.args.text.now c.args.names.now) c.names.stretch-index (record { name = c.part-name.result.now; value = [] }) inside there c.names.known c.put.new.self c.part-name.result.now refl c.in_ok-before.ensures.after c.names.invariant.known;
+      rest = clash_later (named c.args.text.now c.args.names.now) c.names.stretch-index (record { name = c.part-name.result.now; value = [] }) inside there c.names.invariant.rest (stood ∙ sym c.is_some.ensures ∙ c.if-is_some.false);
     }

@@ -1,0 +1,17 @@
+use Rattle.std.proofs.Common.{ap, sym, ◌∙◌}
+use Rattle.std.specs.Prelude.{Some, option_map}
+use Rattle.rdl_header.proofs.StandingNames.{whole_names, clash_answered, text_answered}
+use Rattle.rdl_header.proofs.text.header.Goals as goal
+
+pub first_clash-requires : goal.first_clash-requires
+first_clash-requires c = whole_names c.args.rows.now c.in_ok-lines.lines c.text.result.now c.names.result.now c.in_ok-lines.ensures c.text.ensures c.names.ensures c.text.utf8
+
+pub returns-in-Some-clause-err : goal.returns-in-Some-clause-err
+returns-in-Some-clause-err c =
+    clash_answered c.args.rows.now c.in_ok-lines.lines c.text.result.now c.names.result.now c.in_ok-lines.ensures c.text.ensures c.names.ensures c.text.utf8 _
+    (ap Some c.in_ok-from_str.ensures.ok ∙ sym (ap (option_map (λ name. name.now)) c.in-Some.is) ∙ c.in_ok-name.ensures)
+
+pub returns-clause-ok : goal.returns-clause-ok
+returns-clause-ok c =
+    text_answered c.args.rows.now c.in_ok-lines.lines c.text.result.now c.names.result.now c.in_ok-lines.ensures c.text.ensures c.names.ensures c.text.utf8 _
+    (sym (ap (option_map (λ name. name.now)) c.in_default.is) ∙ c.in_ok-name.ensures) c.into_text.ensures

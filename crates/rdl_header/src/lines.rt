@@ -1,0 +1,143 @@
+//! The lines of the header, as far as they are made.
+ghost use Rattle.std.specs.Prelude.{◌≡◌, ◌+◌, ◌++◌, [], ◌∷◌, length, codes, string_bytes, IfOk, OnOk};
+ghost use Rattle.rdl_header.specs.HeaderText.{hexadecimal_macro, decimal_macro};
+ghost use Rattle.rdl_header.specs.Lines.{name_at, no_lines, guarded, added, ended};
+
+use crate::stretch::Stretch;
+use rdl_text::token::Number;
+use rdl_write::{push_decimal, push_hexadecimal};
+use std::alloc::{AllocError, Global};
+use std::marker::Model;
+
+/// The lines of macros, and where the names stand in them.
+#[derive(Drop)]
+pub(crate) struct Lines {
+    text: String,
+    names: Vec<Stretch>,
+}
+
+impl Model for Lines {
+    ghost use Rattle.std.specs.Prelude.{string_bytes};
+    ghost use Rattle.rdl_header.specs.Lines.{Lines as Seen};
+
+    ghost Value = { Seen };
+
+    ghost view = { λ lines. record { text = string_bytes lines.text; names = lines.names.items } };
+}
+
+impl Lines {
+    /// No lines.
+    pub(crate) fn new(alloc: Global) -> Lines
+        ensures { result ≡ no_lines }
+    {
+        Lines {
+            text: String::new(alloc),
+            names: Vec::new(alloc),
+        }
+    }
+
+    /// The lines of the guard, whose name is the path and `_H`.
+    pub(crate) fn guarded(alloc: Global, path: &str) -> Result<Lines, AllocError>
+        ensures { IfOk result (λ lines. lines ≡ guarded (record { name = path.now ++ codes "_H"; value = [] })) }
+    {
+        let mut text = String::new(alloc);
+        let mut names = Vec::new(alloc);
+        text.push_str("#ifndef ")?;
+        push_name(&mut text, &mut names, path, "_H")?;
+        text.push_str("\n#define ")?;
+        text.push_str(path)?;
+        text.push_str("_H\n")?;
+        Ok(Lines { text, names })
+    }
+
+    /// Puts the line of a macro behind the others. Its name is the path and the ending, its value `0x` and upper-case digits.
+    pub(crate) fn push_hexadecimal(
+        &mut self,
+        path: &str,
+        ending: &str,
+        number: Number,
+    ) -> Result<(), AllocError>
+        ensures { OnOk result (self.new ≡ added self.old (hexadecimal_macro path.now ending.now number ∷ [])) }
+    {
+        begin(&mut self.text, &mut self.names, path, ending)?;
+        push_hexadecimal(&mut self.text, number)?;
+        self.text.push_str("\n")?;
+        Ok(())
+    }
+
+    /// Puts the line of a macro behind the others. Its name is the path and the ending, its value decimal.
+    pub(crate) fn push_decimal(
+        &mut self,
+        path: &str,
+        ending: &str,
+        number: Number,
+    ) -> Result<(), AllocError>
+        ensures { OnOk result (self.new ≡ added self.old (decimal_macro path.now ending.now number ∷ [])) }
+    {
+        begin(&mut self.text, &mut self.names, path, ending)?;
+        push_decimal(&mut self.text, number)?;
+        self.text.push_str("\n")?;
+        Ok(())
+    }
+
+    /// Puts the end of what is guarded behind the lines.
+    pub(crate) fn end(&mut self) -> Result<(), AllocError>
+        ensures { OnOk result (self.new ≡ ended self.old) }
+    {
+        self.text.push_str("#endif\n")?;
+        Ok(())
+    }
+
+    pub(crate) fn text(&self) -> &str
+        ensures { result.now ≡ self.now.text }
+    {
+        self.text.as_str()
+    }
+
+    pub(crate) fn names(&self) -> &[Stretch]
+        ensures { result.now ≡ self.now.names }
+    {
+        self.names.as_slice()
+    }
+
+    pub(crate) fn into_text(self) -> String
+        ensures { string_bytes result ≡ self.text }
+    {
+        self.text
+    }
+}
+
+/// Appends a name, which is the path and the ending, and notes where it stands.
+fn push_name(
+    text: &mut String,
+    names: &mut Vec<Stretch>,
+    path: &str,
+    ending: &str,
+) -> Result<(), AllocError>
+    ensures text { OnOk result (string_bytes text.new ≡ string_bytes text.old ++ path.now ++ ending.now) }
+    ensures name { OnOk result (names.new.items ≡ names.old.items
+        ++ record { start = length (string_bytes text.old); end = length (string_bytes text.old ++ path.now ++ ending.now) } ∷ []) }
+{
+    let start = text.len();
+    text.push_str(path)?;
+    text.push_str(ending)?;
+    let end = text.len();
+    names.push(Stretch { start, end })?;
+    Ok(())
+}
+
+/// Begins the line of a macro, whose name is the path and the ending.
+fn begin(
+    text: &mut String,
+    names: &mut Vec<Stretch>,
+    path: &str,
+    ending: &str,
+) -> Result<(), AllocError>
+    ensures text { OnOk result (string_bytes text.new ≡ string_bytes text.old ++ codes "#define " ++ (path.now ++ ending.now) ++ codes " ") }
+    ensures name { OnOk result (names.new.items ≡ names.old.items ++ name_at (length (string_bytes text.old)) (path.now ++ ending.now) ∷ []) }
+{
+    text.push_str("#define ")?;
+    push_name(text, names, path, ending)?;
+    text.push_str(" ")?;
+    Ok(())
+}
