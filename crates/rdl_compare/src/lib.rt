@@ -1,0 +1,7 @@
+//! A whole comparison of two maps: from their bytes to the lines that say what differs, and a status.
+#![tactic(auto)]
+
+pub mod compare;
+mod message;
+mod rows;
+pub mod status;

@@ -1,0 +1,5 @@
+pub mod Told
+pub mod Seen
+pub mod DiffText
+pub mod ByPath
+pub mod SameRows
