@@ -20,24 +20,24 @@ const MOST_BYTES: usize = 67_108_864;
 
 /// What is written of two maps, and how their comparison ends.
 #[derive(Drop)]
-struct Compared {
+struct Comparison {
     text: Vec<u8>,
     status: Status,
 }
 
-fn refused(text: Vec<u8>) -> Compared
+fn refused(text: Vec<u8>) -> Comparison
 {
-    Compared {
+    Comparison {
         text,
         status: Status::MapRefused,
     }
 }
 
-fn compared_rows(alloc: Global, old: &[Row], new: &[Row]) -> Result<Compared, AllocError>
+fn compared_rows(alloc: Global, old: &[Row], new: &[Row]) -> Result<Comparison, AllocError>
 {
     let text = diff_text(alloc, old, new)?.into_bytes();
     let status = status_of(text.as_slice());
-    Ok(Compared { text, status })
+    Ok(Comparison { text, status })
 }
 
 /// What is written of two maps or sessions.
@@ -46,7 +46,7 @@ fn compared(
     old: &[u8],
     new: &[u8],
     top: Option<&Name>,
-) -> Result<Compared, AllocError>
+) -> Result<Comparison, AllocError>
     ensures { IfOk result (λ c. IsOutput (option_copied top.entry) old.now new.now (record { text = c.text.items; status = c.status })) }
 {
     let old = match rows_of(alloc, old, top, "old") {

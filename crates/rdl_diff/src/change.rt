@@ -3,7 +3,7 @@ ghost use Rattle.std.specs.Prelude.{◌≡◌, ◌++◌, map, flat_map, string_b
 ghost use Rattle.rdl_diff.specs.DiffText.{change, changes, change_text};
 ghost use Rattle.rdl_diff.specs.Seen.{seen};
 
-use crate::told::{Told, is_same, push_told, told};
+use crate::told::{Told, is_same, push_told, told_by};
 use crate::what::What;
 use rdl_elab::row::Row;
 use rdl_tree::property::Property;
@@ -32,8 +32,8 @@ fn push_change(
 ) -> Result<(), AllocError>
     ensures { OnOk result (map string_bytes texts.new.items ≡ map string_bytes texts.old.items ++ map change_text (change old.now new.now what)) }
 {
-    let old = told(what, old);
-    let new = told(what, new);
+    let old = told_by(old, what);
+    let new = told_by(new, what);
     if is_same(&old, &new) {
         return Ok(());
     }

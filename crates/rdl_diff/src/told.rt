@@ -28,7 +28,7 @@ pub(crate) enum Told<'a> {
 }
 
 /// What the row tells of this.
-pub(crate) fn told(what: What, row: &Row) -> Told<'_>
+pub(crate) fn told_by(row: &Row, what: What) -> Told<'_>
     ensures { seen result ≡ told what row.now }
 {
     match what {
