@@ -1,1 +1,4 @@
--- none yet
+pub mod Lookups
+pub mod RowsAt
+pub mod Changed
+pub mod Listed

@@ -2,4 +2,5 @@ pub mod Told
 pub mod Seen
 pub mod DiffText
 pub mod ByPath
+pub mod Changed
 pub mod SameRows

@@ -66,7 +66,7 @@ told what.Bits r = bits (bits_at r.place)
 told (what.Value p) r = value (value_under p r.values)
 
 -- all that it tells, in order
-abbrev pub whats : List What
+unfoldable pub whats : List What
 whats = what.Kind ∷ what.Base ∷ what.Offset ∷ what.Size ∷ what.Dims ∷ what.Stride ∷ what.Bits ∷ map what.Value properties
 
 -- ---- Whether two rows tell the same.

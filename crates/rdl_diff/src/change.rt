@@ -50,7 +50,7 @@ fn push_values(
     old: &Row,
     new: &Row,
 ) -> Result<(), AllocError>
-    ensures { OnOk result (map string_bytes texts.new.items ≡ map string_bytes texts.old.items ++ map change_text (flat_map (λ p. change old.now new.now (What.Value p)) properties.now)) }
+    ensures { OnOk result (map string_bytes texts.new.items ≡ map string_bytes texts.old.items ++ flat_map (λ p. map change_text (change old.now new.now (What.Value p))) properties.now) }
 {
     'properties: for property in properties {
         push_change(alloc, texts, What::Value(*property), old, new)?;
@@ -59,6 +59,7 @@ fn push_values(
 }
 
 /// The texts of all that differs.
+#[tactic(auto, unfolding(crate::specs::Told::whats))]
 pub(crate) fn change_texts(alloc: Global, old: &Row, new: &Row) -> Result<Vec<String>, AllocError>
     ensures { IfOk result (λ texts. map string_bytes texts.items ≡ map change_text (changes old.now new.now)) }
 {

@@ -2,6 +2,7 @@
 ghost use Rattle.std.specs.Prelude.{◌≡◌, ◌++◌, flat_map, drop, map, codes, string_bytes, OnOk, option_copied};
 ghost use Rattle.rdl_list.specs.ListText.{path_text, line_of};
 ghost use Rattle.rdl_write.specs.Texts.{newline};
+ghost use Rattle.rdl_diff.specs.Changed.{changed_text, changed_text_if};
 ghost use Rattle.rdl_diff.specs.DiffText.{path, changes, change_text, changed_line, listed, gone_line, new_line, line_text};
 
 use crate::change::change_texts;
@@ -34,7 +35,7 @@ fn push_listed(text: &mut String, texts: &[String]) -> Result<(), AllocError>
 }
 
 fn push_changed(text: &mut String, names: &RowPath, texts: &[String]) -> Result<(), AllocError>
-    ensures { OnOk result (string_bytes text.new ≡ string_bytes text.old ++ (codes "~ " ++ path_text (drop 1 names.now) ++ codes ": " ++ listed (map string_bytes texts.now) ++ newline)) }
+    ensures { OnOk result (string_bytes text.new ≡ string_bytes text.old ++ changed_text (drop 1 names.now) (map string_bytes texts.now)) }
 {
     text.push_str("~ ")?;
     push_path(text, names, 1)?;
@@ -43,7 +44,21 @@ fn push_changed(text: &mut String, names: &RowPath, texts: &[String]) -> Result<
     text.push_str("\n")
 }
 
+fn push_changed_if(
+    text: &mut String,
+    names: &RowPath,
+    texts: &[String],
+) -> Result<(), AllocError>
+    ensures { OnOk result (string_bytes text.new ≡ string_bytes text.old ++ changed_text_if (drop 1 names.now) (map string_bytes texts.now)) }
+{
+    match texts {
+        [] => Ok(()),
+        [_, ..] => push_changed(text, names, texts),
+    }
+}
+
 /// Appends the line of a path that both maps have, if something differs there.
+#[tactic(auto, using(crate::proofs::Changed::changed_is))]
 fn push_changes(
     alloc: Global,
     text: &mut String,
@@ -53,13 +68,11 @@ fn push_changes(
     ensures { OnOk result (string_bytes text.new ≡ string_bytes text.old ++ flat_map line_text (changed_line (path new.now) (changes old.now new.now))) }
 {
     let texts = change_texts(alloc, old, new)?;
-    if texts.is_empty() {
-        return Ok(());
-    }
-    push_changed(text, &new.names, texts.as_slice())
+    push_changed_if(text, &new.names, texts.as_slice())
 }
 
 /// Appends the line of a row of the first map, where the second has this at its path.
+#[tactic(auto, unfolding(crate::specs::DiffText::line_text))]
 pub(crate) fn push_gone(
     text: &mut String,
     row: &Row,
@@ -74,6 +87,7 @@ pub(crate) fn push_gone(
 }
 
 /// Appends the line of a row of the second map, where the first has this at its path.
+#[tactic(auto, unfolding(crate::specs::DiffText::line_text))]
 pub(crate) fn push_new(
     alloc: Global,
     text: &mut String,
