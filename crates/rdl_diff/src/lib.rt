@@ -4,6 +4,7 @@
 mod by_path;
 mod change;
 mod diff;
+pub mod laws;
 mod line;
 mod place;
 mod told;
