@@ -2,6 +2,15 @@
 use Rattle.std.proofs.Common.{◌≡◌, ◌⊎◌, inl, inr, List, [], ◌∷◌, ◌++◌, map, flat_map, refl, sym, ap, ◌∙◌, subst}
 use Rattle.rdl_diff.specs.SameRows.{IsAmong}
 
+either : {P Q R : Type 0} → P ⊎ Q → (Q → R) → P ⊎ R
+either (inl p) f = inl p
+either (inr q) f = inr (f q)
+
+grouped : {P Q R : Type 0} → P ⊎ (Q ⊎ R) → (P ⊎ Q) ⊎ R
+grouped (inl p) = inl (inl p)
+grouped (inr (inl q)) = inl (inr q)
+grouped (inr (inr r)) = inr r
+
 module _ {A : Type 0} where
   pub among-front : (x : A) (xs ys : List A) → IsAmong x xs → IsAmong x (xs ++ ys)
   among-front x [] ys h = absurd h
@@ -11,15 +20,6 @@ module _ {A : Type 0} where
   pub among-behind : (x : A) (xs ys : List A) → IsAmong x ys → IsAmong x (xs ++ ys)
   among-behind x [] ys h = h
   among-behind x (z ∷ xs) ys h = inr (among-behind x xs ys h)
-
-  either : {P Q R : Type 0} → P ⊎ Q → (Q → R) → P ⊎ R
-  either (inl p) f = inl p
-  either (inr q) f = inr (f q)
-
-  grouped : {P Q R : Type 0} → P ⊎ (Q ⊎ R) → (P ⊎ Q) ⊎ R
-  grouped (inl p) = inl (inl p)
-  grouped (inr (inl q)) = inl (inr q)
-  grouped (inr (inr r)) = inr r
 
   pub among-split : (x : A) (xs ys : List A) → IsAmong x (xs ++ ys) → IsAmong x xs ⊎ IsAmong x ys
   among-split x [] ys h = inr h

@@ -89,8 +89,8 @@ module _ (d : Items) (b : List ℕ) (body : Items) where
         omega (arith, same)
 
     apart-made : (at : List ℕ) (s : Shell) (o : Option Made) (rest : Parts) → (IsNamed s.name rest → ⊥) → AreApart rest → AreApart (with_made at s o rest)
-    apart-made at s None rest no more = more
-    apart-made at s (Some c) rest no more = (no, more)
+    apart-made at s None rest free more = more
+    apart-made at s (Some c) rest free more = (free, more)
 
     apart : (t : Items) (n : ℕ) → Lies body n t → AreApart (instances d b n t)
     apart no_items n l = tt
@@ -105,7 +105,7 @@ module _ (d : Items) (b : List ℕ) (body : Items) where
     apart (holder (anonymous s k) inner rest) n l =
         let after = next body n (holder (anonymous s k) inner rest) rest (λ i. refl) l in
         apart-made (b ++ n ∷ []) s (option_and_then (component d) (component_of d (b ++ n ∷ []))) (instances d b (suc n) rest)
-        (λ k. alone n s (Anonymous (record { kind = k; body = inner })) (here body n (holder (anonymous s k) inner rest) l) (named-item rest (suc n) s.name after k)) (apart rest (suc n) after)
+        (λ found. alone n s (Anonymous (record { kind = k; body = inner })) (here body n (holder (anonymous s k) inner rest) l) (named-item rest (suc n) s.name after found)) (apart rest (suc n) after)
 
 -- ---- And of all inside it.
 

@@ -110,7 +110,7 @@ module _ (d : Items) (top : List ℕ) where
 
   -- a path through an instance is none through a later one
   no-other : (pre more : Path) (n : List ℕ) (rest : Parts) (p : Path) → p ≡ pre ++ n ∷ more → (IsNamed n rest → ⊥) → (y : Row) → Leads pre rest y → p ≢ path y
-  no-other pre more n rest p e no y l same = no (subst (λ m. IsNamed m rest) (sym (front-name pre n l.name more l.more (sym e ∙ same ∙ l.is))) l.among)
+  no-other pre more n rest p e free y l same = free (subst (λ m. IsNamed m rest) (sym (front-name pre n l.name more l.more (sym e ∙ same ∙ l.is))) l.among)
 
   -- nor one of its own
   no-deeper : (pre : Path) (n : List ℕ) (within : Parts) (p : Path) → p ≡ pre ++ n ∷ [] → (x : Row) → Leads (pre ++ n ∷ []) within x → p ≢ path x

@@ -36,13 +36,16 @@ in-whats what.Bits = inr (inr (inr (inr (inr (inr (inl refl))))))
 in-whats (what.Value p) = inr (inr (inr (inr (inr (inr (inr (among-map what.Value properties p (named-in p properties (all-named p)))))))))
 
 module _ (o n : Row) where
+  abbrev this : What → Change
+  this w = record { what = w; old = told w o; new = told w n }
+
   no-changes : ((w : What) → told w o ≡ told w n) → changes o n ≡ []
-  no-changes t = none-flat (change o n) whats (λ w _. ap (λ b. if b then [] else record { what = w; old = told w o; new = told w n } ∷ []) (ap (same (told w o)) (sym (t w)) ∙ itself (told w o)))
+  no-changes t = none-flat (change o n) whats (λ w _. ap (λ b. if b then [] else this w ∷ []) (ap (same (told w o)) (sym (t w)) ∙ itself (told w o)))
 
   unchanged : (w : What) → change o n w ≡ [] → told w o ≡ told w n
   unchanged w e = by (same (told w o) (told w n)) refl e
     where
-      by : (b : Bool) → same (told w o) (told w n) ≡ b → (if b then [] else record { what = w; old = told w o; new = told w n } ∷ []) ≡ [] → told w o ≡ told w n
+      by : (b : Bool) → same (told w o) (told w n) ≡ b → (if b then [] else this w ∷ []) ≡ [] → told w o ≡ told w n
       by true f e = sound (told w o) (told w n) f
       by false f e = cc
 
