@@ -1,6 +1,9 @@
 //! A whole comparison, from two inputs to one output.
-ghost use Rattle.std.specs.Prelude.{◌≡◌, ◌⊎◌, IfOk, IfErr, IsErrOf, OnOk, option_copied};
-ghost use Rattle.rdl_compare.specs.Comparing.{IsOutput, Ran, Stopped};
+ghost use Rattle.std.specs.Prelude.{◌≡◌, ◌⊎◌, ℕ, List, Option, IfOk, IfErr, IsErrOf, OnOk, option_copied};
+ghost use Rattle.rdl_compare.specs.Comparing.{IsOutput, Ran, Refuses, Stopped, status_of};
+ghost use Rattle.rdl_compare.specs.Refusals.{IfRefused};
+ghost use Rattle.rdl_compare.specs.Refused.{IsRefusal};
+ghost use Rattle.rdl_diff.specs.DiffText.{diff_text};
 ghost use Rattle.rdl_run.specs.Known.{IsOver, IsWithin};
 ghost use Rattle.rdl_run.specs.declared.status.RunFault.{RunFault};
 
@@ -25,15 +28,23 @@ struct Comparison {
     status: Status,
 }
 
-fn refused(text: Vec<u8>) -> Comparison
+/// What is written where there are no rows of one of the maps.
+fn refused(fault: RowsFault) -> Result<Comparison, AllocError>
+    ensures { (word : List ℕ) (top : Option (List ℕ)) (bytes : List ℕ) → IfRefused fault (Refuses word top bytes) → IfOk result (IsRefusal word top bytes) }
 {
-    Comparison {
-        text,
-        status: Status::MapRefused,
+    match fault {
+        RowsFault::Refused(text) => Ok(Comparison {
+            text,
+            status: Status::MapRefused,
+        }),
+        RowsFault::Memory => Err(AllocError),
     }
 }
 
+/// What is written of the rows of both maps.
 fn compared_rows(alloc: Global, old: &[Row], new: &[Row]) -> Result<Comparison, AllocError>
+    ensures text { IfOk result (λ c. c.text.items ≡ diff_text old.now new.now) }
+    ensures status { IfOk result (λ c. c.status ≡ status_of c.text.items) }
 {
     let text = diff_text(alloc, old, new)?.into_bytes();
     let status = status_of(text.as_slice());
@@ -49,17 +60,15 @@ fn compared(
 ) -> Result<Comparison, AllocError>
     ensures { IfOk result (λ c. IsOutput (option_copied top.entry) old.now new.now (record { text = c.text.items; status = c.status })) }
 {
-    let old = match rows_of(alloc, old, top, "old") {
+    let old_rows = match rows_of(alloc, old, top, "old") {
         Ok(rows) => rows,
-        Err(RowsFault::Refused(text)) => return Ok(refused(text)),
-        Err(RowsFault::Memory) => return Err(AllocError),
+        Err(fault) => return refused(fault),
     };
-    let new = match rows_of(alloc, new, top, "new") {
+    let new_rows = match rows_of(alloc, new, top, "new") {
         Ok(rows) => rows,
-        Err(RowsFault::Refused(text)) => return Ok(refused(text)),
-        Err(RowsFault::Memory) => return Err(AllocError),
+        Err(fault) => return refused(fault),
     };
-    compared_rows(alloc, old.as_slice(), new.as_slice())
+    compared_rows(alloc, old_rows.as_slice(), new_rows.as_slice())
 }
 
 /// Reads two maps or sessions whole, and writes the lines that say how the rows of the second map differ from those of the

@@ -1,7 +1,9 @@
 //! The rows of one of two maps.
-ghost use Rattle.std.specs.Prelude.{◌≡◌, IfOk, IfErr, option_copied};
+ghost use Rattle.std.specs.Prelude.{ℕ, List, Option, IfOk, IfErr, option_copied};
 ghost use Rattle.rdl_compare.specs.Comparing.{HasRows, Refuses};
 ghost use Rattle.rdl_compare.specs.Refusals.{IfRefused};
+ghost use Rattle.rdl_run.specs.Opening.{RefusesToOpen};
+ghost use Rattle.rdl_run.specs.OpeningFaults.{IfRefusedToOpen};
 
 use crate::message::with_front;
 use rdl_elab::row::Rows;
@@ -28,7 +30,10 @@ impl From<AllocError> for RowsFault {
     }
 }
 
-fn refused(alloc: Global, word: &str, fault: OpenFault) -> RowsFault {
+/// Why there are no rows of a map or session that isn't opened. Its message begins with this word.
+fn refused(alloc: Global, word: &str, fault: OpenFault) -> RowsFault
+    ensures { (top : Option (List ℕ)) (bytes : List ℕ) → IfRefusedToOpen fault (RefusesToOpen top bytes) → IfRefused result (Refuses word.now top bytes) }
+{
     match fault {
         OpenFault::Refused(message) => match with_front(alloc, word, message.as_str()) {
             Ok(text) => RowsFault::Refused(text),
