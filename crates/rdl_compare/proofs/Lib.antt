@@ -1,1 +1,1 @@
--- none yet
+pub mod Undone

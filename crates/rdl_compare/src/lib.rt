@@ -2,6 +2,7 @@
 #![tactic(auto)]
 
 pub mod compare;
+pub mod laws;
 mod message;
 mod rows;
 pub mod status;
