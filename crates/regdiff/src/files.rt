@@ -11,7 +11,7 @@ use std::{fmt, io};
 use whole_files::noted::{NotedReader, NotedWriter};
 
 /// Why something can't be done with a file.
-#[derive(Debug, Drop)]
+#[derive(Drop)]
 pub(crate) enum Reason {
     /// It can't be read, as the system says.
     Unread(io::Error),
@@ -22,7 +22,7 @@ pub(crate) enum Reason {
 }
 
 /// At which file a comparison stopped, and why.
-#[derive(Debug, Drop)]
+#[derive(Drop)]
 pub(crate) struct Obstacle<'a> {
     path: &'a str,
     reason: Reason,
@@ -43,7 +43,7 @@ impl fmt::Display for Obstacle<'_> {
 }
 
 /// Why a comparison stopped, and at which file, where it is one.
-#[derive(Debug, Drop)]
+#[derive(Drop)]
 pub(crate) struct Stop<'a> {
     pub(crate) fault: RunFault,
     pub(crate) obstacle: Option<Obstacle<'a>>,

@@ -5,7 +5,7 @@ use rdl_text::name::Name;
 use std::alloc::AllocError;
 
 /// What a command line asks for.
-#[derive(Debug, Drop)]
+#[derive(Drop)]
 pub(crate) struct Line {
     /// The file of the map or session that was.
     pub(crate) old: String,
@@ -16,7 +16,7 @@ pub(crate) struct Line {
 }
 
 /// Why words are no command line.
-#[derive(Debug, Drop)]
+#[derive(Drop)]
 pub(crate) enum LineFault {
     /// Help or the version is asked for. The text of the error is what is told.
     Told(Error),
