@@ -81,13 +81,7 @@ fn compare_into(
     mut new: &[u8],
     top: Option<&Name>,
 ) -> Result<End, RunFault> {
-    Ok(End::Compared(compare(
-        alloc,
-        &mut old,
-        &mut new,
-        top,
-        &mut found.messages,
-    )?))
+    Ok(End::Compared(compare(alloc, &mut old, &mut new, top, &mut found.messages)?))
 }
 
 /// Runs the script on the map, or compares that with the other map.

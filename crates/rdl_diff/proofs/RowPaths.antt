@@ -100,12 +100,11 @@ module _ (d : Items) (top : List ℕ) where
       let r : Judged = judged_row d o before span at s h (layout_of o.mode h within) in
       let xs = rows_in d (inside r) [] (layout_of o.mode h within).spans within in
       let ys = rows_in d o (before ++ (span, r.access) ∷ []) spans rest in
-      let ps = part at s h within rest in
-      (
+      let ps = part at s h within rest in (
         record { name = s.name; more = []; is = ap (λ ns. drop 1 (ns ++ s.name ∷ [])) e; among = inl refl },
         subst (Each (Leads pre ps)) (sym (of-append xs ys)) (each-append (Leads pre ps) (of xs) (of ys)
-          (each-weaker (Leads (pre ++ s.name ∷ []) within) (Leads pre ps) (leads-inside pre at s h within rest) (of xs) (rows-lead within (inside r) (pre ++ s.name ∷ []) [] (layout_of o.mode h within).spans (ap (λ ns. ns ++ s.name ∷ []) e)))
-          (each-weaker (Leads pre rest) (Leads pre ps) (leads-later pre at s h within rest) (of ys) (rows-lead rest o pre (before ++ (span, r.access) ∷ []) spans e))),
+            (each-weaker (Leads (pre ++ s.name ∷ []) within) (Leads pre ps) (leads-inside pre at s h within rest) (of xs) (rows-lead within (inside r) (pre ++ s.name ∷ []) [] (layout_of o.mode h within).spans (ap (λ ns. ns ++ s.name ∷ []) e)))
+            (each-weaker (Leads pre rest) (Leads pre ps) (leads-later pre at s h within rest) (of ys) (rows-lead rest o pre (before ++ (span, r.access) ∷ []) spans e))),
       )
 
   -- a path through an instance is none through a later one
@@ -129,15 +128,14 @@ module _ (d : Items) (top : List ℕ) where
       let deeper : (inside r).names ≡ top ∷ pre ++ s.name ∷ [] = ap (λ ns. ns ++ s.name ∷ []) e in
       let inner = rows-lead within (inside r) (pre ++ s.name ∷ []) [] (layout_of o.mode h within).spans deeper in
       let others = rows-lead rest o pre (before ++ (span, r.access) ∷ []) spans e in
-      let is : path row ≡ pre ++ s.name ∷ [] = ap (λ ns. drop 1 (ns ++ s.name ∷ [])) e in
-      (
+      let is : path row ≡ pre ++ s.name ∷ [] = ap (λ ns. drop 1 (ns ++ s.name ∷ [])) e in (
         not-at (path row) (of (xs ++ ys)) (subst (Each (λ x. path row ≢ path x)) (sym (of-append xs ys)) (each-append (λ x. path row ≢ path x) (of xs) (of ys)
-          (each-weaker (Leads (pre ++ s.name ∷ []) within) (λ x. path row ≢ path x) (no-deeper pre s.name within (path row) is) (of xs) inner)
-          (each-weaker (Leads pre rest) (λ y. path row ≢ path y) (no-other pre [] s.name rest (path row) is apart.0) (of ys) others))),
+            (each-weaker (Leads (pre ++ s.name ∷ []) within) (λ x. path row ≢ path x) (no-deeper pre s.name within (path row) is) (of xs) inner)
+            (each-weaker (Leads pre rest) (λ y. path row ≢ path y) (no-other pre [] s.name rest (path row) is apart.0) (of ys) others))),
         subst HaveOwnPaths (sym (of-append xs ys)) (own-append (of xs) (of ys)
-          (own-rows within (inside r) (pre ++ s.name ∷ []) [] (layout_of o.mode h within).spans deeper apart.1)
-          (own-rows rest o pre (before ++ (span, r.access) ∷ []) spans e apart.2)
-          (each-weaker (Leads (pre ++ s.name ∷ []) within) (λ x. Each (λ y. path x ≢ path y) (of ys)) (λ x l.
+            (own-rows within (inside r) (pre ++ s.name ∷ []) [] (layout_of o.mode h within).spans deeper apart.1)
+            (own-rows rest o pre (before ++ (span, r.access) ∷ []) spans e apart.2)
+            (each-weaker (Leads (pre ++ s.name ∷ []) within) (λ x. Each (λ y. path x ≢ path y) (of ys)) (λ x l.
             each-weaker (Leads pre rest) (λ y. path x ≢ path y) (no-other pre (l.name ∷ l.more) s.name rest (path x) (through pre s.name l.name l.more (path x) l.is) apart.0) (of ys) others) (of xs) inner)),
       )
 
@@ -145,8 +143,7 @@ module _ (d : Items) (top : List ℕ) where
 
 own-map : (d : Items) (name : List ℕ) (c : Made) → AllApart c.parts → HaveOwnPaths (rows_of d name c)
 own-map d name c apart =
-    let below = rows_in d (around_top name c) [] (top_layout c).spans c.parts in
-    (
+    let below = rows_in d (around_top name c) [] (top_layout c).spans c.parts in (
       not-at [] (of below) (each-weaker (Leads [] c.parts) (λ x. [] ≢ path x) (λ x l same. let none : [] ≡ l.name ∷ l.more = same ∙ l.is in cc) (of below) (rows-lead d name c.parts (around_top name c) [] [] (top_layout c).spans refl)),
       own-rows d name c.parts (around_top name c) [] [] (top_layout c).spans refl apart,
     )
@@ -157,9 +154,11 @@ own-paths d wanted rows e = by (fault_of d) refl (top_from wanted 0 d) refl e
     whole : (at name : List ℕ) (c : Made) (f : Option Fault) → AllApart c.parts → rows_or (rows_of d name c) f ≡ Ok rows → HaveOwnPaths rows
     whole at name c None apart e = let same : rows_of d name c ≡ rows = cc in subst HaveOwnPaths same (own-map d name c apart)
     whole at name c (Some fault) apart e = cc
+
     under : fault_of d ≡ None → (at name : List ℕ) (m : Option Made) → component d at ≡ m → under_top d at name m ≡ Ok rows → HaveOwnPaths rows
     under accepted at name None f e = cc
     under accepted at name (Some c) f e = whole at name c (fault_of_top d at name c) (all-apart d accepted at c f) e
+
     by : (f : Option Fault) → fault_of d ≡ f → (t : Option (ℕ × List ℕ)) → top_from wanted 0 d ≡ t → unless_fault d wanted f ≡ Ok rows → HaveOwnPaths rows
     by (Some fault) f t g e = cc
     by None f None g e = let none : with_top d None ≡ Ok rows = ap (with_top d) (sym g) ∙ e in cc

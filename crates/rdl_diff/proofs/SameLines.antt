@@ -67,11 +67,12 @@ same-none old new own t = ap (flat_map line_text) (λ i. gone-part i ++ new-part
   where
     gone-part : flat_map (λ r. gone_line (row_at (path r) new) r) old ≡ []
     gone-part = none-flat (λ r. gone_line (row_at (path r) new) r) old (λ r h.
-      let f = among-at old r h in
-      gone-none f.row r (row_at (path r) new) (subst (λ o. TellTheSame o (row_at (path r) new)) f.at (t (path r))))
+        let f = among-at old r h in
+        gone-none f.row r (row_at (path r) new) (subst (λ o. TellTheSame o (row_at (path r) new)) f.at (t (path r))))
+
     new-part : flat_map (λ r. new_line (row_at (path r) old) r) new ≡ []
     new-part = none-flat (λ r. new_line (row_at (path r) old) r) new (λ r h.
-      new-none r (row_at (path r) old) (subst (λ n. TellTheSame (row_at (path r) old) n) (found-own new r own h) (t (path r))))
+        new-none r (row_at (path r) old) (subst (λ n. TellTheSame (row_at (path r) old) n) (found-own new r own h) (t (path r))))
 
 pub itself-none : (rows : List Row) → HaveOwnPaths rows → diff_text rows rows ≡ []
 itself-none rows own = same-none rows rows own (λ p. alike (row_at p rows))
@@ -108,10 +109,13 @@ none-same old new e = at
   where
     parts : (flat_map (λ r. gone_line (row_at (path r) new) r) old ≡ []) × (flat_map (λ r. new_line (row_at (path r) old) r) new ≡ [])
     parts = empty-parts (flat_map (λ r. gone_line (row_at (path r) new) r) old) (flat_map (λ r. new_line (row_at (path r) old) r) new) (no-lines (lines old new) e)
+
     of-old : (r : Row) → IsAmong r old → gone_line (row_at (path r) new) r ≡ []
     of-old r h = empty-flat (λ r. gone_line (row_at (path r) new) r) old r parts.0 h
+
     of-new : (r : Row) → IsAmong r new → new_line (row_at (path r) old) r ≡ []
     of-new r h = empty-flat (λ r. new_line (row_at (path r) old) r) new r parts.1 h
+
     by : (p : List (List ℕ)) (o n : Option Row) → row_at p old ≡ o → row_at p new ≡ n → TellTheSame o n
     by p None None f g = tt
     by p (Some o) None f g =
@@ -124,5 +128,6 @@ none-same old new e = at
         let h = at-among p new n g in
         let there : row_at (path n) old ≡ Some o = ap (λ q. row_at q old) (sym h.1) ∙ f in
         told-same o n (no-line (path n) (changes o n) (ap (λ q. new_line q n) (sym there) ∙ of-new n h.0))
+
     at : (p : List (List ℕ)) → TellTheSame (row_at p old) (row_at p new)
     at p = by p (row_at p old) (row_at p new) refl refl

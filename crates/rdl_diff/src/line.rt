@@ -44,11 +44,7 @@ fn push_changed(text: &mut String, names: &RowPath, texts: &[String]) -> Result<
     text.push_str("\n")
 }
 
-fn push_changed_if(
-    text: &mut String,
-    names: &RowPath,
-    texts: &[String],
-) -> Result<(), AllocError>
+fn push_changed_if(text: &mut String, names: &RowPath, texts: &[String]) -> Result<(), AllocError>
     ensures { OnOk result (string_bytes text.new ≡ string_bytes text.old ++ changed_text_if (drop 1 names.now) (map string_bytes texts.now)) }
 {
     match texts {
@@ -59,12 +55,7 @@ fn push_changed_if(
 
 /// Appends the line of a path that both maps have, if something differs there.
 #[tactic(auto, using(crate::proofs::Changed::changed_is))]
-fn push_changes(
-    alloc: Global,
-    text: &mut String,
-    old: &Row,
-    new: &Row,
-) -> Result<(), AllocError>
+fn push_changes(alloc: Global, text: &mut String, old: &Row, new: &Row) -> Result<(), AllocError>
     ensures { OnOk result (string_bytes text.new ≡ string_bytes text.old ++ flat_map line_text (changed_line (path new.now) (changes old.now new.now))) }
 {
     let texts = change_texts(alloc, old, new)?;
@@ -73,11 +64,7 @@ fn push_changes(
 
 /// Appends the line of a row of the first map, where the second has this at its path.
 #[tactic(auto, unfolding(crate::specs::DiffText::line_text))]
-pub(crate) fn push_gone(
-    text: &mut String,
-    row: &Row,
-    found: Option<&Row>,
-) -> Result<(), AllocError>
+pub(crate) fn push_gone(text: &mut String, row: &Row, found: Option<&Row>) -> Result<(), AllocError>
     ensures { OnOk result (string_bytes text.new ≡ string_bytes text.old ++ flat_map line_text (gone_line (option_copied found.entry) row.now)) }
 {
     match found {

@@ -98,12 +98,7 @@ pub fn push_span(text: &mut String, span: &Span) -> Result<(), AllocError>
 }
 
 #[tactic(auto, unfolding(crate::specs::ListText::bits_line))]
-fn push_bits(
-    text: &mut String,
-    row: &Row,
-    span: &Span,
-    left_out: usize,
-) -> Result<(), AllocError>
+fn push_bits(text: &mut String, row: &Row, span: &Span, left_out: usize) -> Result<(), AllocError>
     ensures { OnOk result (string_bytes text.new ≡ string_bytes text.old ++ bits_line (path_text (drop left_out row.now.names)) row.now span.now) }
 {
     push_span(text, span)?;

@@ -28,7 +28,9 @@ fn top<'a>(alloc: Global) -> Arg<'a>
         .long("top")
         .value_name("NAME")
         .action(ArgAction::Set)
-        .help("The address map of the root that is the top of both; with none, the last one of each")
+        .help(
+            "The address map of the root that is the top of both; with none, the last one of each",
+        )
 }
 
 /// The command `regdiff`, with its help.

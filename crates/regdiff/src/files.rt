@@ -113,13 +113,7 @@ pub(crate) fn compare_files<'a, R: Files, W: Write>(
     let mut old = open_input(rt, line.old.as_str())?;
     let mut new = open_input(rt, line.new.as_str())?;
     let mut output = NotedWriter::new(output);
-    let fault = match compare(
-        alloc,
-        &mut old,
-        &mut new,
-        line.top.as_ref(),
-        &mut output,
-    ) {
+    let fault = match compare(alloc, &mut old, &mut new, line.top.as_ref(), &mut output) {
         Ok(status) => return Ok(status),
         Err(fault) => fault,
     };
