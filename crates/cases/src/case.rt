@@ -1,4 +1,4 @@
-//! A case: what a run is given, and what is wanted of it.
+//! A case: what a run or a comparison is given, and what is wanted of it.
 use crate::heading::Heading;
 
 /// Lines that are wanted: none, or a text to which a last line feed is to be added.
@@ -8,6 +8,8 @@ pub type Lines<'a> = Option<&'a str>;
 #[derive(Clone, Copy)]
 pub struct Given<'a> {
     pub map: Option<&'a str>,
+    /// The map with which that is compared; with none a script is run.
+    pub new: Option<&'a str>,
     pub script: &'a str,
     pub top: Option<&'a str>,
     pub history: u32,
@@ -44,6 +46,7 @@ impl<'a> Given<'a> {
     fn new(map: Option<&'a str>) -> Given<'a> {
         Given {
             map,
+            new: None,
             script: "",
             top: None,
             history: 10_000,
@@ -64,6 +67,7 @@ impl<'a> Given<'a> {
     fn read(&mut self, heading: &Heading<'a>) -> bool {
         match heading.name {
             "map" => self.map = Some(heading.text()),
+            "new" => self.new = Some(heading.text()),
             "script" => self.script = heading.text(),
             "top" => self.top = Some(heading.word),
             "history" => return self.read_history(heading.word),

@@ -1,9 +1,10 @@
 //! Whether a case passes, and what is said of it where it doesn't.
 ghost use Rattle.std.specs.Prelude.{◌≡◌, ◌↔◌, [], ◌∷◌, ◌++◌, IsTrue, MatchOption};
-ghost use Rattle.cases.specs.Exit.{status_code};
+ghost use Rattle.cases.specs.Exit.{status_code, comparison_code};
 
 use crate::case::{Case, Lines, Wanted};
 use crate::found::{End, Found, find};
+use rdl_compare::status::Status as Comparison;
 use rdl_run::status::Status;
 use std::{io, str};
 
@@ -16,6 +17,26 @@ fn status_code(status: Status) -> u8
         Status::LineRefused => 1,
         Status::MapRefused => 2,
         Status::Incomplete(_) => 3,
+    }
+}
+
+/// The exit status of a comparison.
+fn comparison_code(status: Comparison) -> u8
+    ensures { result ≡ comparison_code status }
+{
+    match status {
+        Comparison::Same => 0,
+        Comparison::Different => 1,
+        Comparison::MapRefused => 2,
+    }
+}
+
+/// The exit status, where there is one.
+fn end_code(end: End) -> Option<u8> {
+    match end {
+        End::Ended(status) => Some(status_code(status)),
+        End::Compared(status) => Some(comparison_code(status)),
+        End::Stopped(_) | End::BadTop => None,
     }
 }
 
@@ -55,9 +76,9 @@ fn is_wanted(text: &Vec<u8>, wanted: Option<Lines>) -> bool {
 }
 
 fn is_wanted_end(end: End, wanted: u8) -> bool {
-    match end {
-        End::Ended(status) => status_code(status) == wanted,
-        End::Stopped(_) | End::BadTop => false,
+    match end_code(end) {
+        Some(code) => code == wanted,
+        None => false,
     }
 }
 
@@ -87,6 +108,9 @@ fn print_part(
 fn print_end(rt: &HostRuntime, end: End, wanted: u8) -> io::Result<()> {
     match end {
         End::Ended(status) => println!(rt; "wanted %status {wanted}, came {}", status_code(status)),
+        End::Compared(status) => {
+            println!(rt; "wanted %status {wanted}, came {}", comparison_code(status))
+        }
         End::Stopped(fault) => println!(rt; "wanted %status {wanted}, came {fault}"),
         End::BadTop => println!(rt; "%top has no name"),
     }

@@ -1,20 +1,23 @@
-//! What a run says and writes.
+//! What a run or a comparison says and writes.
 use crate::case::Given;
+use rdl_compare::compare::compare;
+use rdl_compare::status::Status as Comparison;
 use rdl_run::run::{Options, run};
 use rdl_run::status::{RunFault, Status};
 use rdl_text::name::{Name, NameFault};
 use std::alloc::Global;
 
-/// How a run ended.
+/// How it ended.
 #[derive(Clone, Copy, Drop)]
 pub enum End {
     Ended(Status),
+    Compared(Comparison),
     Stopped(RunFault),
     /// The top that was asked is no name.
     BadTop,
 }
 
-/// What a run says and writes.
+/// What it says and writes. A comparison has messages alone.
 #[derive(Drop)]
 pub struct Found {
     pub end: End,
@@ -50,28 +53,53 @@ fn run_into(
     )
 }
 
-fn run_given(alloc: Global, found: &mut Found, map: &str, given: &Given) -> End {
-    let options = match top_of(alloc, given.top) {
-        Ok(top) => Options {
-            top,
-            history: given.history,
-            session: true,
-        },
-        Err(_) => return End::BadTop,
+fn run_given(
+    alloc: Global,
+    found: &mut Found,
+    map: &str,
+    given: &Given,
+    top: Option<Name>,
+) -> Result<End, RunFault> {
+    let options = Options {
+        top,
+        history: given.history,
+        session: true,
     };
-    match run_into(
+    Ok(End::Ended(run_into(
         alloc,
         found,
         map.as_bytes(),
         given.script.as_bytes(),
         &options,
-    ) {
-        Ok(status) => End::Ended(status),
+    )?))
+}
+
+fn compare_into(
+    alloc: Global,
+    found: &mut Found,
+    mut old: &[u8],
+    mut new: &[u8],
+    top: Option<&Name>,
+) -> Result<End, RunFault> {
+    Ok(End::Compared(compare(alloc, &mut old, &mut new, top, &mut found.messages)?))
+}
+
+/// Runs the script on the map, or compares that with the other map.
+fn find_into(alloc: Global, found: &mut Found, map: &str, given: &Given) -> End {
+    let Ok(top) = top_of(alloc, given.top) else {
+        return End::BadTop;
+    };
+    let end = match given.new {
+        Some(new) => compare_into(alloc, found, map.as_bytes(), new.as_bytes(), top.as_ref()),
+        None => run_given(alloc, found, map, given, top),
+    };
+    match end {
+        Ok(end) => end,
         Err(fault) => End::Stopped(fault),
     }
 }
 
-/// What a run on the map says and writes.
+/// What a run or a comparison of the map says and writes.
 pub fn find(alloc: Global, map: &str, given: &Given) -> Found {
     let mut found = Found {
         end: End::BadTop,
@@ -80,6 +108,6 @@ pub fn find(alloc: Global, map: &str, given: &Given) -> Found {
         header: Vec::new(alloc),
         session: Vec::new(alloc),
     };
-    found.end = run_given(alloc, &mut found, map, given);
+    found.end = find_into(alloc, &mut found, map, given);
     found
 }

@@ -20,10 +20,10 @@ ends [] last = append-nil last
 ends (x ∷ xs) last = dots x xs last
 
 -- the text with the names before the last, and then with the last
-pub path-pushed : (old between new : List ℕ) (path around : List (List ℕ)) (last : List ℕ) (i : ℕ) → path ≡ around ++ last ∷ [] → length around ≤ i → between ≡ old ++ flat_map (λ n. n ++ codes ".") (take i around) → new ≡ between ++ last
-    → new ≡ old ++ path_text path
-path-pushed old between new path around last i e all f g =
+pub path-pushed : (old between new : List ℕ) (around : List (List ℕ)) (last : List ℕ) (i : ℕ) → length around ≤ i → between ≡ old ++ flat_map (λ n. n ++ codes ".") (take i around) → new ≡ between ++ last
+    → new ≡ old ++ path_text (around ++ last ∷ [])
+path-pushed old between new around last i all f g =
     g
     ∙ ap (λ t. t ++ last) (f ∙ ap (λ ns. old ++ flat_map (λ n. n ++ codes ".") ns) (take_all i around all))
     ∙ append_assoc old (flat_map (λ n. n ++ codes ".") around) last
-    ∙ ap (λ t. old ++ t) (sym (ap path_text e ∙ ends around last))
+    ∙ ap (λ t. old ++ t) (sym (ends around last))

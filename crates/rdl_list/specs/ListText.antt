@@ -14,9 +14,10 @@ use Rattle.rdl_write.specs.Texts.{newline, hexadecimal, kind_text, dim_text, tar
 
 -- ---- Parts of a line.
 
--- the names from the top, with dots between them
+-- names with dots between them; where there is none, a dot
 abbrev pub path_text : List (List ℕ) → List ℕ
-path_text names = target_text names
+path_text [] = codes "."
+path_text (name ∷ names) = target_text (name ∷ names)
 
 -- a word and a number behind it, each behind a space
 abbrev pub part_text : (word : List ℕ) → ℕ → List ℕ
@@ -31,31 +32,39 @@ abbrev pub reset_text : Option ℕ → List ℕ
 reset_text None = []
 reset_text (Some n) = part_text (codes "reset") n
 
--- ---- Lines.
+-- ---- Lines, with this as their PATH.
 
 -- `BASE KIND PATH`
-unfoldable pub head_text : Row → List ℕ
-head_text row = hexadecimal row.base ++ codes " " ++ kind_text row.kind ++ codes " " ++ path_text row.names
+unfoldable pub head_text : (path : List ℕ) → Row → List ℕ
+head_text path row = hexadecimal row.base ++ codes " " ++ kind_text row.kind ++ codes " " ++ path
 
 -- `[n].. size SIZE stride STRIDE`
 unfoldable pub extent_text : Extent → List ℕ
 extent_text extent = flat_map dim_text extent.dims ++ part_text (codes "size") extent.size ++ stride_text extent.dims extent.stride
 
-abbrev pub bytes_line : Row → Extent → List ℕ
-bytes_line row extent = head_text row ++ extent_text extent ++ newline
+abbrev pub bytes_line : (path : List ℕ) → Row → Extent → List ℕ
+bytes_line path row extent = head_text path row ++ extent_text extent ++ newline
 
--- `[HIGH:LOW] field PATH reset RESET`; the end of a span is the number behind its high bit
-unfoldable pub bits_line : Row → Span → List ℕ
-bits_line row span =
-    codes "[" ++ decimal (span.end - 1) ++ codes ":" ++ decimal span.start ++ codes "] field " ++ path_text row.names
-    ++ reset_text (number_in (value_under Reset row.values)) ++ newline
+-- `[HIGH:LOW]`; the end of a span is the number behind its high bit
+abbrev pub span_text : Span → List ℕ
+span_text span = codes "[" ++ decimal (span.end - 1) ++ codes ":" ++ decimal span.start ++ codes "]"
 
-abbrev pub line_at : Row → Place → List ℕ
-line_at row (Bytes extent) = bytes_line row extent
-line_at row (Bits span) = bits_line row span
+-- `[HIGH:LOW] field PATH reset RESET`
+unfoldable pub bits_line : (path : List ℕ) → Row → Span → List ℕ
+bits_line path row span =
+    span_text span ++ codes " field " ++ path ++ reset_text (number_in (value_under Reset row.values)) ++ newline
+
+abbrev pub line_at : (path : List ℕ) → Row → Place → List ℕ
+line_at path row (Bytes extent) = bytes_line path row extent
+line_at path row (Bits span) = bits_line path row span
+
+abbrev pub line_of : (path : List ℕ) → Row → List ℕ
+line_of path row = line_at path row row.place
+
+-- ---- The lines of `list`, whose PATH is the names from the top.
 
 abbrev pub row_line : Row → List ℕ
-row_line row = line_at row row.place
+row_line row = line_of (path_text row.names) row
 
 abbrev pub list_lines : List Row → List ℕ
 list_lines rows = flat_map row_line rows

@@ -1,25 +1,36 @@
 //! The line of a row.
-ghost use Rattle.std.specs.Prelude.{◌≡◌, ◌++◌, string_bytes, OnOk};
-ghost use Rattle.rdl_list.specs.ListText.{path_text, part_text, stride_text, reset_text, head_text, extent_text, bytes_line, bits_line, row_line};
+ghost use Rattle.std.specs.Prelude.{◌≡◌, ◌++◌, ◌∷◌, [], drop, string_bytes, OnOk};
+ghost use Rattle.rdl_list.specs.ListText.{path_text, part_text, stride_text, reset_text, head_text, extent_text, bytes_line, span_text, bits_line, line_of};
 
 use rdl_elab::layout::Span;
 use rdl_elab::row::{Extent, Place, Row, RowPath};
+use rdl_text::name::Name;
 use rdl_text::token::Number;
 use rdl_tree::dims::Dims;
 use rdl_tree::property::Property;
 use rdl_write::{kind_text, push_dims, push_hexadecimal};
 use std::alloc::AllocError;
 
-/// Appends the names from the top with dots between them.
-fn push_path(text: &mut String, path: &RowPath) -> Result<(), AllocError>
-    ensures { OnOk result (string_bytes text.new ≡ string_bytes text.old ++ path_text path.now) }
+/// Appends names with dots between them, the last one apart.
+fn push_names(text: &mut String, around: &[Name], last: &Name) -> Result<(), AllocError>
+    ensures { OnOk result (string_bytes text.new ≡ string_bytes text.old ++ path_text (around.now ++ last.now ∷ [])) }
 {
-    let (last, around) = path.split_last();
     'names: for name in around {
         write!(text, "{name}.")?;
     }
     text.push_str(last.as_str())?;
     Ok(())
+}
+
+/// Appends the names of a path with dots between them, but for so many of the first. Where none is left it appends a dot.
+pub fn push_path(text: &mut String, path: &RowPath, left_out: usize) -> Result<(), AllocError>
+    ensures { OnOk result (string_bytes text.new ≡ string_bytes text.old ++ path_text (drop left_out path.now)) }
+{
+    let (last, around) = path.split_last();
+    if left_out > around.len() {
+        return text.push_str(".");
+    }
+    push_names(text, &around[left_out..], last)
 }
 
 fn push_part(text: &mut String, word: &str, number: Number) -> Result<(), AllocError>
@@ -48,12 +59,12 @@ fn push_reset(text: &mut String, reset: Option<Number>) -> Result<(), AllocError
 }
 
 #[tactic(auto, unfolding(crate::specs::ListText::head_text))]
-fn push_head(text: &mut String, row: &Row) -> Result<(), AllocError>
-    ensures { OnOk result (string_bytes text.new ≡ string_bytes text.old ++ head_text row.now) }
+fn push_head(text: &mut String, row: &Row, left_out: usize) -> Result<(), AllocError>
+    ensures { OnOk result (string_bytes text.new ≡ string_bytes text.old ++ head_text (path_text (drop left_out row.now.names)) row.now) }
 {
     push_hexadecimal(text, Number::from(row.base))?;
     write!(text, " {} ", kind_text(row.kind))?;
-    push_path(text, &row.names)
+    push_path(text, &row.names, left_out)
 }
 
 #[tactic(auto, unfolding(crate::specs::ListText::extent_text))]
@@ -65,31 +76,44 @@ fn push_extent(text: &mut String, extent: &Extent) -> Result<(), AllocError>
     push_stride(text, &extent.dims, extent.stride)
 }
 
-fn push_bytes(text: &mut String, row: &Row, extent: &Extent) -> Result<(), AllocError>
-    ensures { OnOk result (string_bytes text.new ≡ string_bytes text.old ++ bytes_line row.now extent.now) }
+fn push_bytes(
+    text: &mut String,
+    row: &Row,
+    extent: &Extent,
+    left_out: usize,
+) -> Result<(), AllocError>
+    ensures { OnOk result (string_bytes text.new ≡ string_bytes text.old ++ bytes_line (path_text (drop left_out row.now.names)) row.now extent.now) }
 {
-    push_head(text, row)?;
+    push_head(text, row, left_out)?;
     push_extent(text, extent)?;
     text.push_str("\n")
 }
 
-#[tactic(auto, unfolding(crate::specs::ListText::bits_line))]
-fn push_bits(text: &mut String, row: &Row, span: &Span) -> Result<(), AllocError>
-    ensures { OnOk result (string_bytes text.new ≡ string_bytes text.old ++ bits_line row.now span.now) }
+/// Appends the bits of a field, `[HIGH:LOW]`.
+pub fn push_span(text: &mut String, span: &Span) -> Result<(), AllocError>
+    ensures { OnOk result (string_bytes text.new ≡ string_bytes text.old ++ span_text span.now) }
 {
     let high = span.end.saturating_sub(1);
-    write!(text, "[{high}:{}] field ", span.start)?;
-    push_path(text, &row.names)?;
+    write!(text, "[{high}:{}]", span.start)
+}
+
+#[tactic(auto, unfolding(crate::specs::ListText::bits_line))]
+fn push_bits(text: &mut String, row: &Row, span: &Span, left_out: usize) -> Result<(), AllocError>
+    ensures { OnOk result (string_bytes text.new ≡ string_bytes text.old ++ bits_line (path_text (drop left_out row.now.names)) row.now span.now) }
+{
+    push_span(text, span)?;
+    text.push_str(" field ")?;
+    push_path(text, &row.names, left_out)?;
     push_reset(text, row.values.number(Property::Reset))?;
     text.push_str("\n")
 }
 
-/// Appends the line of a row.
-pub fn push_row(text: &mut String, row: &Row) -> Result<(), AllocError>
-    ensures { OnOk result (string_bytes text.new ≡ string_bytes text.old ++ row_line row.now) }
+/// Appends the line of a row, whose PATH is the names of the row but for so many of the first.
+pub fn push_row(text: &mut String, row: &Row, left_out: usize) -> Result<(), AllocError>
+    ensures { OnOk result (string_bytes text.new ≡ string_bytes text.old ++ line_of (path_text (drop left_out row.now.names)) row.now) }
 {
     match &row.place {
-        Place::Bytes(extent) => push_bytes(text, row, extent),
-        Place::Bits(span) => push_bits(text, row, span),
+        Place::Bytes(extent) => push_bytes(text, row, extent, left_out),
+        Place::Bits(span) => push_bits(text, row, span, left_out),
     }
 }

@@ -12,7 +12,7 @@ pub fn list_text(alloc: Global, rows: &[Row]) -> Result<String, AllocError>
 {
     let mut text = String::new(alloc);
     'rows: for row in rows {
-        push_row(&mut text, row)?;
+        push_row(&mut text, row, 0)?;
     }
     Ok(text)
 }

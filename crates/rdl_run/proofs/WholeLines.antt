@@ -7,7 +7,7 @@ use Rattle.rdl_elab.specs.declared.layout.Span.{Span}
 use Rattle.rdl_elab.specs.declared.row.Place.{Place}
 use Rattle.rdl_elab.specs.declared.row.Place.TheVariants.{Bytes, Bits}
 use Rattle.rdl_elab.specs.declared.row.Row.{Row}
-use Rattle.rdl_list.specs.ListText.{path_text, reset_text, head_text, extent_text, bits_line, line_at, list_lines}
+use Rattle.rdl_list.specs.ListText.{path_text, reset_text, head_text, extent_text, span_text, bits_line, line_at, list_lines}
 use Rattle.rdl_script.specs.Commands.{Command, nothing, undo, redo, list, edit, add, refused, command_of}
 use Rattle.rdl_tree.specs.declared.property.Property.TheVariants.{Reset}
 use Rattle.rdl_write.specs.Texts.{newline}
@@ -30,19 +30,17 @@ whole-append a b p (inr e) = inr (ends-behind a b e)
 
 -- ---- The lines of rows.
 
-bits-ends : (row : Row) (span : Span) → EndsLine (bits_line row span)
+bits-ends : (path : List ℕ) (row : Row) (span : Span) → EndsLine (bits_line path row span)
 unfolding bits_line
-bits-ends row span =
-    ended (codes "[" ++ decimal (span.end - 1) ++ codes ":" ++ decimal span.start ++ codes "] field " ++ path_text row.names
-    ++ reset_text (number_in (value_under Reset row.values)))
+bits-ends path row span = ended (span_text span ++ codes " field " ++ path ++ reset_text (number_in (value_under Reset row.values)))
 
-line-ends : (row : Row) (place : Place) → EndsLine (line_at row place)
-line-ends row (Bytes extent) = ended (head_text row ++ extent_text extent)
-line-ends row (Bits span) = bits-ends row span
+line-ends : (path : List ℕ) (row : Row) (place : Place) → EndsLine (line_at path row place)
+line-ends path row (Bytes extent) = ended (head_text path row ++ extent_text extent)
+line-ends path row (Bits span) = bits-ends path row span
 
 rows-whole : (rows : List Row) → IsWholeLines (list_lines rows)
 rows-whole [] = inl refl
-rows-whole (row ∷ rows) = whole-append (line_at row row.place) (list_lines rows) (inr (line-ends row row.place)) (rows-whole rows)
+rows-whole (row ∷ rows) = whole-append (line_at (path_text row.names) row row.place) (list_lines rows) (inr (line-ends (path_text row.names) row row.place)) (rows-whole rows)
 
 -- ---- Replies.
 

@@ -5,7 +5,7 @@ mod closing;
 mod counted;
 pub mod input;
 pub mod laws;
-mod open;
+pub mod open;
 pub mod output;
 mod part;
 mod reading;

@@ -13,8 +13,9 @@ fn boolean_text(answer: bool) -> &'static str
     if answer { "true" } else { "false" }
 }
 
+/// Appends a value as it stands in an assignment.
 #[tactic(auto, unfolding(crate::specs::Texts::value_text))]
-fn push_value(text: &mut String, value: &Value) -> Result<(), AllocError>
+pub fn push_value(text: &mut String, value: &Value) -> Result<(), AllocError>
     ensures { OnOk result (string_bytes text.new ≡ string_bytes text.old ++ value_text value.now) }
 {
     match value {

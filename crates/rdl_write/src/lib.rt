@@ -7,7 +7,7 @@ mod map;
 mod number;
 mod written_session;
 
-pub use assignment::push_names;
+pub use assignment::{push_names, push_value};
 pub use instance::{kind_text, push_dims};
 pub use map::rdl;
 pub use number::{push_decimal, push_hexadecimal};

@@ -1,0 +1,96 @@
+-- A comparison of two maps or sessions: from their bytes to the text that is written, and the status. Own.
+use Rattle.std.specs.Prelude.{◌≡◌, ◌⊎◌, ℕ, List, [], ◌∷◌, Option, Ok, codes}
+use Rattle.std.specs.Io.KnownBytes.{Appends}
+use Rattle.journal_core.specs.History.{IsAt}
+use Rattle.rdl_edit.specs.Step.{State}
+use Rattle.rdl_elab.specs.Faults.{elaborated}
+use Rattle.rdl_elab.specs.declared.row.Row.{Row}
+use Rattle.rdl_diff.specs.DiffText.{diff_text}
+use Rattle.rdl_run.specs.Answers.{History'}
+use Rattle.rdl_run.specs.Known.{Gives, AppendsFront}
+use Rattle.rdl_run.specs.Opening.{OpensHistory, RefusesToOpen}
+use Rattle.rdl_run.specs.declared.status.RunFault.{RunFault}
+use Rattle.rdl_run.specs.declared.status.RunFault.TheVariants.{Write}
+use Rattle.rdl_compare.specs.Fronts.{with_front}
+use Rattle.rdl_compare.specs.declared.status.Status.{Status}
+use Rattle.rdl_compare.specs.declared.status.Status.TheVariants.{Same, Different, MapRefused}
+
+-- what is written, and how the comparison ends
+pub record Output : Type 0 where
+  pub text : List ℕ
+  pub status : Status
+
+-- no edit is made of what is compared
+abbrev pub no_edits : ℕ
+no_edits = 0
+
+-- the bytes are a map or a session, and these are the rows of the map at its place
+pub record HasRows (top : Option (List ℕ)) (bytes : List ℕ) (rows : List Row) : Type 0 where
+  pub first : History'
+  pub opens : OpensHistory top no_edits bytes first
+  pub now : State
+  pub at : IsAt first now
+  pub are : elaborated now.description now.option ≡ Ok rows
+
+-- they are none that is accepted, and this is said of it
+pub record Refuses (word : List ℕ) (top : Option (List ℕ)) (bytes text : List ℕ) : Type 0 where
+  pub message : List ℕ
+  pub refused : RefusesToOpen top bytes message
+  pub is : text ≡ with_front word message
+
+-- nothing differs where nothing is written
+abbrev pub status_of : (text : List ℕ) → Status
+status_of [] = Same
+status_of (b ∷ bs) = Different
+
+-- both maps are accepted: what differs is written
+pub record Compares (top : Option (List ℕ)) (old new : List ℕ) (out : Output) : Type 0 where
+  pub old_rows : List Row
+  pub new_rows : List Row
+  pub of_old : HasRows top old old_rows
+  pub of_new : HasRows top new new_rows
+  pub text : out.text ≡ diff_text old_rows new_rows
+  pub status : out.status ≡ status_of out.text
+
+-- the first is refused
+pub record RefusesOld (top : Option (List ℕ)) (old new : List ℕ) (out : Output) : Type 0 where
+  pub refused : Refuses (codes "old") top old out.text
+  pub status : out.status ≡ MapRefused
+
+-- the second is, and the first is not
+pub record RefusesNew (top : Option (List ℕ)) (old new : List ℕ) (out : Output) : Type 0 where
+  pub rows : List Row
+  pub accepted : HasRows top old rows
+  pub refused : Refuses (codes "new") top new out.text
+  pub status : out.status ≡ MapRefused
+
+abbrev pub IsOutput : (top : Option (List ℕ)) → (old new : List ℕ) → Output → Type 0
+IsOutput top old new out = RefusesOld top old new out ⊎ (RefusesNew top old new out ⊎ Compares top old new out)
+
+-- ---- What a comparison leaves in its output.
+
+-- all was written, on bytes that are the readers' where those are known
+pub record Ran (top old new : Option (List ℕ)) (before after : Option (List ℕ)) (status : Status) : Type 0 where
+  pub old_bytes : List ℕ
+  pub new_bytes : List ℕ
+  pub old_given : Gives old old_bytes
+  pub new_given : Gives new new_bytes
+  pub out : Output
+  pub is_output : IsOutput top old_bytes new_bytes out
+  pub wrote : Appends before after out.text
+  pub answer : status ≡ out.status
+
+-- a front of it was
+pub record Fronts (top old new : Option (List ℕ)) (before after : Option (List ℕ)) : Type 0 where
+  pub old_bytes : List ℕ
+  pub new_bytes : List ℕ
+  pub old_given : Gives old old_bytes
+  pub new_given : Gives new new_bytes
+  pub out : Output
+  pub is_output : IsOutput top old_bytes new_bytes out
+  pub wrote : AppendsFront before after out.text
+
+-- nothing is written but by the one write behind both maps
+abbrev pub Stopped : (top old new : Option (List ℕ)) → (before after : Option (List ℕ)) → RunFault → Type 0
+Stopped top old new before after Write = Fronts top old new before after
+Stopped top old new before after fault = after ≡ before

@@ -1,0 +1,4 @@
+pub mod Fronts
+pub mod Comparing
+pub mod Refusals
+pub mod Refused

@@ -1,0 +1,95 @@
+//! A whole comparison, from two inputs to one output.
+ghost use Rattle.std.specs.Prelude.{◌≡◌, ◌⊎◌, ℕ, List, Option, IfOk, IfErr, IsErrOf, OnOk, option_copied};
+ghost use Rattle.rdl_compare.specs.Comparing.{IsOutput, Ran, Refuses, Stopped, status_of};
+ghost use Rattle.rdl_compare.specs.Refusals.{IfRefused};
+ghost use Rattle.rdl_compare.specs.Refused.{IsRefusal};
+ghost use Rattle.rdl_diff.specs.DiffText.{diff_text};
+ghost use Rattle.rdl_run.specs.Known.{IsOver, IsWithin};
+ghost use Rattle.rdl_run.specs.declared.status.RunFault.{RunFault};
+
+use crate::rows::{RowsFault, rows_of};
+use crate::status::{Status, status_of};
+use rdl_diff::diff_text;
+use rdl_elab::row::Row;
+use rdl_run::input::read_whole;
+use rdl_run::output::write_whole;
+use rdl_run::status::RunFault;
+use rdl_text::name::Name;
+use std::alloc::{AllocError, Global};
+use std::io::{Read, Write};
+
+/// The greatest map or session, in bytes.
+const MOST_BYTES: usize = 67_108_864;
+
+/// What is written of two maps, and how their comparison ends.
+#[derive(Drop)]
+struct Comparison {
+    text: Vec<u8>,
+    status: Status,
+}
+
+/// What is written where there are no rows of one of the maps.
+fn refused(fault: RowsFault) -> Result<Comparison, AllocError>
+    ensures { (word : List ℕ) (top : Option (List ℕ)) (bytes : List ℕ) → IfRefused fault (Refuses word top bytes) → IfOk result (IsRefusal word top bytes) }
+{
+    match fault {
+        RowsFault::Refused(text) => Ok(Comparison {
+            text,
+            status: Status::MapRefused,
+        }),
+        RowsFault::Memory => Err(AllocError),
+    }
+}
+
+/// What is written of the rows of both maps.
+fn compared_rows(alloc: Global, old: &[Row], new: &[Row]) -> Result<Comparison, AllocError>
+    ensures text { IfOk result (λ c. c.text.items ≡ diff_text old.now new.now) }
+    ensures status { IfOk result (λ c. c.status ≡ status_of c.text.items) }
+{
+    let text = diff_text(alloc, old, new)?.into_bytes();
+    let status = status_of(text.as_slice());
+    Ok(Comparison { text, status })
+}
+
+/// What is written of two maps or sessions.
+fn compared(
+    alloc: Global,
+    old: &[u8],
+    new: &[u8],
+    top: Option<&Name>,
+) -> Result<Comparison, AllocError>
+    ensures { IfOk result (λ c. IsOutput (option_copied top.entry) old.now new.now (record { text = c.text.items; status = c.status })) }
+{
+    let old_rows = match rows_of(alloc, old, top, "old") {
+        Ok(rows) => rows,
+        Err(fault) => return refused(fault),
+    };
+    let new_rows = match rows_of(alloc, new, top, "new") {
+        Ok(rows) => rows,
+        Err(fault) => return refused(fault),
+    };
+    compared_rows(alloc, old_rows.as_slice(), new_rows.as_slice())
+}
+
+/// Reads two maps or sessions whole, and writes the lines that say how the rows of the second map differ from those of the
+/// first, or the message of the first that is refused.
+pub fn compare<O: Read, N: Read, W: Write>(
+    alloc: Global,
+    old_map: &mut O,
+    new_map: &mut N,
+    top: Option<&Name>,
+    output: &mut W,
+) -> Result<Status, RunFault>
+    ensures ran { IfOk result (Ran (option_copied top.entry) (O.remaining old_map.old) (N.remaining new_map.old) (W.contents output.old) (W.contents output.new)) }
+    ensures stopped { IfErr result (Stopped (option_copied top.entry) (O.remaining old_map.old) (N.remaining new_map.old) (W.contents output.old) (W.contents output.new)) }
+
+    // Where a reader tells its bytes, it stops for too many only if there are more than 67,108,864.
+    ensures too_long { IsErrOf result RunFault.TooLong → IsOver (O.remaining old_map.old) ⊎ IsOver (N.remaining new_map.old) }
+    ensures bound { OnOk result (IsWithin (O.remaining old_map.old) × IsWithin (N.remaining new_map.old)) }
+{
+    let old = read_whole(alloc, old_map, MOST_BYTES)?;
+    let new = read_whole(alloc, new_map, MOST_BYTES)?;
+    let compared = compared(alloc, old.as_slice(), new.as_slice(), top)?;
+    write_whole(output, &mut 0, compared.text.as_slice())?;
+    Ok(compared.status)
+}

@@ -1,0 +1,8 @@
+//! A whole comparison of two maps: from their bytes to the lines that say what differs, and a status.
+#![tactic(auto)]
+
+pub mod compare;
+pub mod laws;
+mod message;
+mod rows;
+pub mod status;

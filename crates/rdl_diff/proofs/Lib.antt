@@ -1,0 +1,11 @@
+pub mod Lookups
+pub mod RowsAt
+pub mod Changed
+pub mod Listed
+pub mod Alike
+pub mod Members
+pub mod OwnPaths
+pub mod SameLines
+pub mod TurnedLines
+pub mod PartNames
+pub mod RowPaths

@@ -1,0 +1,6 @@
+pub mod Told
+pub mod Seen
+pub mod DiffText
+pub mod ByPath
+pub mod Changed
+pub mod SameRows

@@ -1,0 +1,59 @@
+//! The rows of a map under their paths.
+ghost use Rattle.std.specs.Prelude.{◌≡◌, drop, IfOk};
+ghost use Rattle.rdl_diff.specs.ByPath.{texts};
+
+use indexmap::IndexMap;
+use rdl_elab::row::{Row, RowPath};
+use std::alloc::{AllocError, Global};
+
+/// The names below the top.
+pub(crate) fn names_below(alloc: Global, path: &RowPath) -> Result<Vec<&str>, AllocError>
+    ensures { IfOk result (λ names. texts names.items ≡ drop 1 path.now) }
+{
+    let (last, around) = path.split_last();
+    match around {
+        [] => Ok(Vec::new(alloc)),
+        [_, between @ ..] => {
+            let mut names = Vec::with_capacity(alloc, between.len().saturating_add(1))?;
+            'names: for name in between {
+                names.push(name.as_str())?;
+            }
+            names.push(last.as_str())?;
+            Ok(names)
+        }
+    }
+}
+
+/// Rows, one under each path.
+#[derive(Drop)]
+pub(crate) struct ByPath<'a> {
+    rows: IndexMap<Vec<&'a str>, &'a Row>,
+}
+
+impl<'a> ByPath<'a> {
+    ghost use Rattle.std.specs.Prelude.{◌≡◌, ℕ, List, IfOk, option_copied, option_map};
+    ghost use Rattle.rdl_diff.specs.ByPath.{texts, row_under};
+    ghost use Rattle.rdl_diff.specs.DiffText.{row_at};
+
+    /// The last row of each path.
+    pub(crate) fn of(alloc: Global, rows: &'a [Row]) -> Result<ByPath<'a>, AllocError>
+        ensures { IfOk result (λ m. (p : List (List ℕ)) → row_under m p ≡ row_at p rows.now) }
+    {
+        let mut by_path = IndexMap::with_capacity(alloc, rows.len())?;
+        'rows: for row in rows {
+            let names = names_below(alloc, &row.names)?;
+            by_path.insert(names, row)?;
+        }
+        Ok(ByPath { rows: by_path })
+    }
+
+    /// The row under a path.
+    pub(crate) fn get(&self, names: &[&str]) -> Option<&'a Row>
+        ensures { option_copied result ≡ row_under self.now (texts names.entry.now) }
+    {
+        match self.rows.get(names) {
+            Some(row) => Some(*row),
+            None => None,
+        }
+    }
+}

@@ -1,0 +1,13 @@
+//! How the rows of one map differ from those of another.
+#![tactic(auto)]
+
+mod by_path;
+mod change;
+mod diff;
+pub mod laws;
+mod line;
+mod place;
+mod told;
+pub mod what;
+
+pub use diff::diff_text;

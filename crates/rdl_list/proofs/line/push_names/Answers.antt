@@ -1,0 +1,7 @@
+use Rattle.std.proofs.Common.{string_bytes, arith, rules}
+use Rattle.rdl_list.proofs.Paths.{path-pushed}
+use Rattle.rdl_list.proofs.line.push_names.Goals as goal
+
+pub returns : goal.returns
+returns c =
+    path-pushed (string_bytes c.args.text.now) (string_bytes c.names.text) (string_bytes c.push_str.new.self) c.args.around.now c.args.last.now c.names.name-index (omega (arith, c.names-test.false)) c.names.invariant (search rules)

@@ -1,0 +1,137 @@
+//! The program's edge: its words, its messages and its exit status.
+ghost use Rattle.std.specs.Prelude.{◌≡◌, ◌⊎◌};
+ghost use Rattle.regdiff.specs.CommandLine.{IsExit, status_code};
+
+use crate::files::{Stop, compare_files};
+use crate::line::{Line, LineFault};
+use crate::words::line;
+use rdl_compare::status::Status;
+use rdl_run::output::write_whole;
+use rdl_run::status::RunFault;
+use std::alloc::Global;
+use std::io;
+use std::io::{ErrorKind, Write};
+use std::rt::Files;
+
+fn status_code(status: Status) -> u8
+    ensures { result ≡ status_code status }
+{
+    match status {
+        Status::Same => 0,
+        Status::Different => 1,
+        Status::MapRefused => 2,
+    }
+}
+
+/// What is said of a fault.
+fn fault_text(fault: RunFault) -> &'static str {
+    match fault {
+        RunFault::Read => "read fault",
+        RunFault::Write => "write fault",
+        RunFault::Memory => "out of memory",
+        RunFault::TooLong => "input too long",
+        RunFault::Interrupted => "reader does not end",
+    }
+}
+
+/// Says why the comparison stopped, and below it at which file, where it is one. Where that can't be said, the exit status
+/// still shows it.
+fn report_stop<E: Write>(stop: &Stop<'_>, errors: &mut E) -> u8
+    ensures { result ≡ 4 }
+{
+    let _ = writeln!(errors, "regdiff: {}", fault_text(stop.fault));
+    if let Some(obstacle) = &stop.obstacle {
+        let _ = writeln!(errors, "{obstacle}");
+    }
+    4
+}
+
+fn report_fault<E: Write>(fault: RunFault, errors: &mut E) -> u8
+    ensures { result ≡ 4 }
+{
+    report_stop(
+        &Stop {
+            fault,
+            obstacle: None,
+        },
+        errors,
+    )
+}
+
+fn obey<R: Files, M: Write, E: Write>(
+    rt: &R,
+    alloc: Global,
+    line: &Line,
+    messages: &mut M,
+    errors: &mut E,
+) -> u8
+    ensures { IsExit result }
+{
+    match compare_files(rt, alloc, line, messages) {
+        Ok(status) => status_code(status),
+        Err(stop) => report_stop(&stop, errors),
+    }
+}
+
+/// Prints the help or the version.
+fn print_told<M: Write>(
+    alloc: Global,
+    told: &clap::Error,
+    messages: &mut M,
+) -> Result<(), RunFault> {
+    let text = format!(in alloc; "{told}")?;
+    write_whole(messages, &mut 0, text.as_bytes())
+}
+
+/// Says what words ask for that are no command line.
+fn refuse<M: Write, E: Write>(
+    alloc: Global,
+    fault: LineFault,
+    messages: &mut M,
+    errors: &mut E,
+) -> u8
+    ensures { IsExit result }
+{
+    match fault {
+        LineFault::Told(told) => match print_told(alloc, &told, messages) {
+            Ok(()) => 0,
+            Err(fault) => report_fault(fault, errors),
+        },
+        LineFault::Refused(mistake) => {
+            let _ = write!(errors, "{mistake}");
+            5
+        }
+        LineFault::BadTop => {
+            let _ = writeln!(errors, "regdiff: bad top name");
+            5
+        }
+        LineFault::Memory => report_fault(RunFault::Memory, errors),
+    }
+}
+
+/// Does what the words behind the program's name ask, and answers the exit status.
+pub(crate) fn command<R: Files, M: Write, E: Write>(
+    rt: &R,
+    alloc: Global,
+    words: &[&str],
+    messages: &mut M,
+    errors: &mut E,
+) -> u8
+    ensures { IsExit result }
+{
+    match line(alloc, words) {
+        Ok(line) => obey(rt, alloc, &line, messages, errors),
+        Err(fault) => refuse(alloc, fault, messages, errors),
+    }
+}
+
+/// The exit status where the words can't be had.
+pub(crate) fn refuse_words<E: Write>(error: &io::Error, errors: &mut E) -> u8
+    ensures { (result ≡ 4) ⊎ (result ≡ 5) }
+{
+    if error.kind() == ErrorKind::OutOfMemory {
+        return report_fault(RunFault::Memory, errors);
+    }
+    let _ = writeln!(errors, "regdiff: bad command line");
+    5
+}
