@@ -34,8 +34,16 @@ fn fault_text(fault: RunFault) -> &'static str {
     }
 }
 
-/// Says why the comparison stopped, and below it at which file, where it is one. Where that can't be said, the exit status
-/// still shows it.
+/// Says that the words are no command line, or that their top is no name. Where that can't be said, the exit status still
+/// shows it.
+fn report_words<E: Write>(what: &str, errors: &mut E) -> u8
+    ensures { result ≡ 5 }
+{
+    let _ = writeln!(errors, "regdiff: bad {what}");
+    5
+}
+
+/// Says why the comparison stopped, and below it at which file, where it is one.
 fn report_stop<E: Write>(stop: &Stop<'_>, errors: &mut E) -> u8
     ensures { result ≡ 4 }
 {
@@ -49,13 +57,8 @@ fn report_stop<E: Write>(stop: &Stop<'_>, errors: &mut E) -> u8
 fn report_fault<E: Write>(fault: RunFault, errors: &mut E) -> u8
     ensures { result ≡ 4 }
 {
-    report_stop(
-        &Stop {
-            fault,
-            obstacle: None,
-        },
-        errors,
-    )
+    let obstacle = None;
+    report_stop(&Stop { fault, obstacle }, errors)
 }
 
 fn obey<R: Files, M: Write, E: Write>(
@@ -101,10 +104,8 @@ fn refuse<M: Write, E: Write>(
             let _ = write!(errors, "{mistake}");
             5
         }
-        LineFault::BadTop => {
-            let _ = writeln!(errors, "regdiff: bad top name");
-            5
-        }
+        LineFault::NoOperand => report_words("command line", errors),
+        LineFault::BadTop => report_words("top name", errors),
         LineFault::Memory => report_fault(RunFault::Memory, errors),
     }
 }
@@ -132,6 +133,5 @@ pub(crate) fn refuse_words<E: Write>(error: &io::Error, errors: &mut E) -> u8
     if error.kind() == ErrorKind::OutOfMemory {
         return report_fault(RunFault::Memory, errors);
     }
-    let _ = writeln!(errors, "regdiff: bad command line");
-    5
+    report_words("command line", errors)
 }

@@ -22,6 +22,8 @@ pub(crate) enum LineFault {
     Told(Error),
     /// The words are refused. The text of the error says why.
     Refused(Error),
+    /// An operand is missing. `clap` refuses such words first.
+    NoOperand,
     /// The name of the top is no identifier of at most 255 bytes.
     BadTop,
     /// No memory.

@@ -17,13 +17,12 @@ fn matches<'a>(alloc: Global, words: &'a [&'a str]) -> Result<ArgMatches<'a>, Er
     command(alloc)?.try_get_matches_from(words)
 }
 
-/// The operand, which is there where `clap` takes the words.
 fn operand(alloc: Global, matches: &ArgMatches<'_>, id: &str) -> Result<String, LineFault>
     ensures { IfOk result (λ text. value id.now (rows_of (found_of matches.now)) ≡ Some (string_bytes text)) }
 {
     match matches.get_str(id) {
         Some(text) => Ok(String::from_str(alloc, text)?),
-        None => Err(LineFault::Memory),
+        None => Err(LineFault::NoOperand),
     }
 }
 
