@@ -1,18 +1,20 @@
 //! A whole comparison, from two inputs to one output.
-ghost use Rattle.std.specs.Prelude.{◌≡◌, ◌⊎◌, ℕ, List, Option, IfOk, IfErr, IsErrOf, OnOk, option_copied};
+ghost use Rattle.std.specs.Prelude.{◌≡◌, ◌⊎◌, true, ℕ, List, Option, IfOk, IfErr, IsErrOf, OnOk, option_copied};
 ghost use Rattle.rdl_compare.specs.Comparing.{IsOutput, Ran, Refuses, Stopped, status_of};
 ghost use Rattle.rdl_compare.specs.Refusals.{IfRefused};
 ghost use Rattle.rdl_compare.specs.Refused.{IsRefusal};
 ghost use Rattle.rdl_diff.specs.DiffText.{diff_text};
 ghost use Rattle.rdl_run.specs.Known.{IsOver, IsWithin};
+ghost use Rattle.rdl_run.specs.Turns.{IsGivenUp, IsInterrupted, IsOpen, unread, unwritten};
 ghost use Rattle.rdl_run.specs.declared.status.RunFault.{RunFault};
 
 use crate::rows::{RowsFault, rows_of};
 use crate::status::{Status, status_of};
 use rdl_diff::diff_text;
 use rdl_elab::row::Row;
-use rdl_run::input::read_whole;
-use rdl_run::output::write_whole;
+use rdl_run::counted::{CountedReader, CountedWriter};
+use rdl_run::input::read_counted;
+use rdl_run::output::write_counted;
 use rdl_run::status::RunFault;
 use rdl_text::name::Name;
 use std::alloc::{AllocError, Global};
@@ -71,6 +73,36 @@ fn compared(
     compared_rows(alloc, old_rows.as_slice(), new_rows.as_slice())
 }
 
+/// The whole comparison, on inputs and an output that weren't asked before.
+fn compare_counted<O: Read, N: Read, W: Write>(
+    alloc: Global,
+    old_map: &mut CountedReader<'_, O>,
+    new_map: &mut CountedReader<'_, N>,
+    top: Option<&Name>,
+    output: &mut CountedWriter<'_, W>,
+) -> Result<Status, RunFault>
+    requires old_fresh { old_map.old.counts ≡ unread }
+    requires new_fresh { new_map.old.counts ≡ unread }
+    requires fresh { output.old.counts ≡ unwritten }
+    ensures ran { IfOk result (Ran (option_copied top.entry) (O.remaining old_map.old.reader.now) (N.remaining new_map.old.reader.now) (W.contents output.old.writer.now) (W.contents output.new.writer.now)) }
+    ensures stopped { IfErr result (Stopped (option_copied top.entry) (O.remaining old_map.old.reader.now) (N.remaining new_map.old.reader.now) (W.contents output.old.writer.now) (W.contents output.new.writer.now)) }
+    ensures too_long { IsErrOf result RunFault.TooLong → IsOver (O.remaining old_map.old.reader.now) ⊎ IsOver (N.remaining new_map.old.reader.now) }
+    ensures bound { OnOk result (IsWithin (O.remaining old_map.old.reader.now) × IsWithin (N.remaining new_map.old.reader.now)) }
+    ensures read_failed { IsErrOf result RunFault.Read → (old_map.new.counts.failed ≡ true) ⊎ (new_map.new.counts.failed ≡ true) }
+    ensures interrupted { IsErrOf result RunFault.Interrupted → IsInterrupted old_map.new.counts ⊎ IsInterrupted new_map.new.counts }
+    ensures write_ended { IsErrOf result RunFault.Write → IsGivenUp output.new.counts }
+    ensures open { OnOk result (IsOpen output.new.counts) }
+    ensures same_old { old_map.new.reader.ghost_name ≡ old_map.old.reader.ghost_name }
+    ensures same_new { new_map.new.reader.ghost_name ≡ new_map.old.reader.ghost_name }
+    ensures same_output { output.new.writer.ghost_name ≡ output.old.writer.ghost_name }
+{
+    let old = read_counted(alloc, old_map, MOST_BYTES)?;
+    let new = read_counted(alloc, new_map, MOST_BYTES)?;
+    let compared = compared(alloc, old.as_slice(), new.as_slice(), top)?;
+    write_counted(output, compared.text.as_slice())?;
+    Ok(compared.status)
+}
+
 /// Reads two maps or sessions whole, and writes the lines that say how the rows of the second map differ from those of the
 /// first, or the message of the first that is refused.
 pub fn compare<O: Read, N: Read, W: Write>(
@@ -87,9 +119,11 @@ pub fn compare<O: Read, N: Read, W: Write>(
     ensures too_long { IsErrOf result RunFault.TooLong → IsOver (O.remaining old_map.old) ⊎ IsOver (N.remaining new_map.old) }
     ensures bound { OnOk result (IsWithin (O.remaining old_map.old) × IsWithin (N.remaining new_map.old)) }
 {
-    let old = read_whole(alloc, old_map, MOST_BYTES)?;
-    let new = read_whole(alloc, new_map, MOST_BYTES)?;
-    let compared = compared(alloc, old.as_slice(), new.as_slice(), top)?;
-    write_whole(output, &mut 0, compared.text.as_slice())?;
-    Ok(compared.status)
+    compare_counted(
+        alloc,
+        &mut CountedReader::new(old_map),
+        &mut CountedReader::new(new_map),
+        top,
+        &mut CountedWriter::new(output, 0),
+    )
 }

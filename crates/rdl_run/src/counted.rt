@@ -10,7 +10,7 @@ use std::io::{ErrorKind, Read, Write};
 
 /// How often a reader was asked, how many of these reads were interrupted, and whether one has failed.
 #[derive(Clone, Copy, Debug, Drop)]
-pub(crate) struct Reads {
+pub struct Reads {
     reads: usize,
     interrupts: usize,
     failed: bool,
@@ -18,13 +18,14 @@ pub(crate) struct Reads {
 
 /// A reader, and how often it was asked.
 #[derive(Drop)]
-pub(crate) struct CountedReader<'a, R> {
+pub struct CountedReader<'a, R> {
     reader: &'a mut R,
     counts: Reads,
 }
 
 impl<'a, R: Read> CountedReader<'a, R> {
-    pub(crate) fn new(reader: &'a mut R) -> CountedReader<'a, R>
+    /// A reader that wasn't asked yet.
+    pub fn new(reader: &'a mut R) -> CountedReader<'a, R>
         ensures { result ≡ record { reader = reader.entry; counts = unread } }
     {
         let counts = Reads {
@@ -86,7 +87,7 @@ pub(crate) enum Outcome {
 /// number; writes that were interrupted and may be tried again; whether one took nothing or failed; and whether one has
 /// ended the output.
 #[derive(Clone, Copy, Debug, Drop)]
-pub(crate) struct Counts {
+pub struct Counts {
     takes: u64,
     taken: u64,
     interrupts: usize,
@@ -96,14 +97,14 @@ pub(crate) struct Counts {
 
 /// A writer, and how often it was asked.
 #[derive(Drop)]
-pub(crate) struct CountedWriter<'a, W> {
+pub struct CountedWriter<'a, W> {
     writer: &'a mut W,
     counts: Counts,
 }
 
 impl<'a, W: Write> CountedWriter<'a, W> {
     /// A writer that was interrupted so often.
-    pub(crate) fn new(writer: &'a mut W, interrupts: usize) -> CountedWriter<'a, W>
+    pub fn new(writer: &'a mut W, interrupts: usize) -> CountedWriter<'a, W>
         ensures { result ≡ record { writer = writer.entry; counts = record unwritten { interrupts = interrupts } } }
     {
         let counts = Counts {

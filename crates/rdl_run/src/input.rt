@@ -10,8 +10,9 @@ use crate::status::{MOST_INTERRUPTS, RunFault};
 use std::alloc::Global;
 use std::io::Read;
 
-/// All the bytes of a reader that wasn't asked before.
-pub(crate) fn read_counted<R: Read>(
+/// All the bytes of a reader that wasn't asked before, up to a limit in bytes. It fails where the reader has more, where a
+/// read fails, and where the reader is interrupted for the 1,001st time.
+pub fn read_counted<R: Read>(
     alloc: Global,
     input: &mut CountedReader<'_, R>,
     limit: usize,
@@ -52,17 +53,4 @@ pub(crate) fn read_counted<R: Read>(
         }
     }
     unreachable!()
-}
-
-/// All the bytes of a reader.
-pub fn read_whole<R: Read>(alloc: Global, reader: &mut R, limit: usize) -> Result<Vec<u8>, RunFault>
-    requires { limit < 2 ^ 32 }
-    ensures bytes { IfOk result (λ bytes. Gives (R.remaining reader.old) bytes.items) }
-    ensures end { OnOk result (IsAtEnd (R.remaining reader.new)) }
-    ensures bound { IfOk result (λ bytes. length bytes.items ≤ limit) }
-    ensures too_long { IsErrOf result RunFault.TooLong → IfSome (R.remaining reader.old) (λ xs. limit < length xs) }
-    ensures no_write { result ≢ Err RunFault.Write }
-{
-    let mut input = CountedReader::new(reader);
-    read_counted(alloc, &mut input, limit)
 }

@@ -2,7 +2,7 @@
 #![tactic(auto)]
 
 mod closing;
-mod counted;
+pub mod counted;
 pub mod input;
 pub mod laws;
 pub mod open;

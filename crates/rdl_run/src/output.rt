@@ -9,8 +9,8 @@ use crate::counted::{CountedWriter, Outcome};
 use crate::status::RunFault;
 use std::io::Write;
 
-/// Writes all the bytes.
-pub(crate) fn write_counted<W: Write>(
+/// Writes all the bytes. It fails where a write takes nothing, fails, or is interrupted behind 1,000 others on the output.
+pub fn write_counted<W: Write>(
     output: &mut CountedWriter<'_, W>,
     bytes: &[u8],
 ) -> Result<(), RunFault>
@@ -34,22 +34,4 @@ pub(crate) fn write_counted<W: Write>(
         }
     }
     Ok(())
-}
-
-/// Writes all the bytes on an output that was interrupted so often.
-pub fn write_whole<W: Write>(
-    writer: &mut W,
-    interrupts: &mut usize,
-    bytes: &[u8],
-) -> Result<(), RunFault>
-    requires { interrupts.old ≤ 1000 }
-    ensures ok { OnOk result (Appends (W.contents writer.old) (W.contents writer.new) bytes.now) }
-    ensures err { OnErr result (AppendsFront (W.contents writer.old) (W.contents writer.new) bytes.now) }
-    ensures fault { IsOkUnless result RunFault.Write }
-    ensures interrupts { interrupts.new ≤ 1000 }
-{
-    let mut output = CountedWriter::new(writer, *interrupts);
-    let written = write_counted(&mut output, bytes);
-    *interrupts = output.interrupts();
-    written
 }

@@ -6,7 +6,8 @@ use crate::files::{Stop, compare_files};
 use crate::line::{Line, LineFault};
 use crate::words::line;
 use rdl_compare::status::Status;
-use rdl_run::output::write_whole;
+use rdl_run::counted::CountedWriter;
+use rdl_run::output::write_counted;
 use rdl_run::status::RunFault;
 use std::alloc::Global;
 use std::io;
@@ -83,7 +84,7 @@ fn print_told<M: Write>(
     messages: &mut M,
 ) -> Result<(), RunFault> {
     let text = format!(in alloc; "{told}")?;
-    write_whole(messages, &mut 0, text.as_bytes())
+    write_counted(&mut CountedWriter::new(messages, 0), text.as_bytes())
 }
 
 /// Says what words ask for that are no command line.

@@ -9,7 +9,8 @@ use crate::paths::{meeting_of_files, parts};
 use command_line::line::{Line, LineFault};
 use command_line::meeting::Meeting;
 use command_line::words::line;
-use rdl_run::output::write_whole;
+use rdl_run::counted::CountedWriter;
+use rdl_run::output::write_counted;
 use rdl_run::status::{RunFault, Status};
 use std::alloc::Global;
 use std::io;
@@ -95,7 +96,7 @@ fn print_told<M: Write>(
     messages: &mut M,
 ) -> Result<(), RunFault> {
     let text = format!(in alloc; "{told}")?;
-    write_whole(messages, &mut 0, text.as_bytes())
+    write_counted(&mut CountedWriter::new(messages, 0), text.as_bytes())
 }
 
 /// Says what words ask for that are no command line.

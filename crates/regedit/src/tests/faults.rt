@@ -1,6 +1,7 @@
 //! Readers and writers that fail.
 use super::{MAP, run_with};
-use rdl_run::input::read_whole;
+use rdl_run::counted::CountedReader;
+use rdl_run::input::read_counted;
 use rdl_run::status::{RunFault, Status};
 use std::io;
 use std::io::{ErrorKind, Read, Write};
@@ -113,7 +114,8 @@ fn reads_that_are_interrupted(rt: HostRuntime) {
 }
 
 fn read_blanks(rt: &HostRuntime, len: usize) -> Result<usize, RunFault> {
-    match read_whole(rt.alloc(), &mut Padded::new(b"", len), 10_000) {
+    let mut blanks = Padded::new(b"", len);
+    match read_counted(rt.alloc(), &mut CountedReader::new(&mut blanks), 10_000) {
         Ok(bytes) => Ok(bytes.len()),
         Err(fault) => Err(fault),
     }
