@@ -1,5 +1,5 @@
 -- Texts with commas between them, the first one apart.
-use Rattle.std.proofs.Common.{◌≡◌, ℕ, ◌≤◌, ◌-◌, List, [], ◌∷◌, ◌++◌, map, flat_map, take, drop, get_or, arith, length, codes, refl, sym, ap, ◌∙◌, append_assoc, String, Global, string_bytes}
+use Rattle.std.proofs.Common.{◌≡◌, ℕ, ◌≤◌, ◌-◌, List, [], ◌∷◌, ◌++◌, map, flat_map, take, drop, get_or, arith, length, codes, sym, ap, ◌∙◌, append_assoc, String, Global, string_bytes}
 use Rattle.std.proofs.lemmas.List.{take_all}
 use Rattle.std.proofs.lemmas.List.Folds.{flat_map-map}
 use Rattle.rdl_diff.specs.DiffText.{listed}

@@ -1,5 +1,5 @@
 -- What is among the items of a list.
-use Rattle.std.proofs.Common.{◌≡◌, ◌⊎◌, inl, inr, List, [], ◌∷◌, ◌++◌, map, flat_map, refl, sym, ap, ◌∙◌, subst}
+use Rattle.std.proofs.Common.{◌≡◌, ◌⊎◌, inl, inr, List, [], ◌∷◌, ◌++◌, map, flat_map, refl, ap, ◌∙◌, subst}
 use Rattle.rdl_diff.specs.SameRows.{IsAmong}
 
 either : {P Q R : Type 0} → P ⊎ Q → (Q → R) → P ⊎ R

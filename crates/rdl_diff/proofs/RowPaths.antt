@@ -1,5 +1,5 @@
 -- No two rows of a map without a fault have one path.
-use Rattle.std.proofs.Common.{◌≡◌, ◌≢◌, ◌⊎◌, inl, inr, ℕ, zero, suc, Bool, true, false, List, [], ◌∷◌, ◌++◌, map, drop, Option, Some, None, Ok, Err, Result, refl, sym, ap, ◌∙◌, subst, append_assoc, if◌then◌else◌}
+use Rattle.std.proofs.Common.{◌≡◌, ◌≢◌, inl, inr, ℕ, Bool, true, false, List, [], ◌∷◌, ◌++◌, map, drop, Option, Some, None, Ok, refl, sym, ap, ◌∙◌, subst, append_assoc, if◌then◌else◌}
 use Rattle.std.specs.Option.{option_or}
 use Rattle.rdl_tree.specs.Items.{Items}
 use Rattle.rdl_tree.specs.declared.fault.Fault.{Fault}
@@ -9,7 +9,7 @@ use Rattle.rdl_scope.specs.Closed.{Head, Parts, no_parts, part, Made, component}
 use Rattle.rdl_scope.specs.ItemFaults.{fault_of}
 use Rattle.rdl_elab.specs.Faults.{elaborated, unless_fault, with_top, under_top, rows_or, fault_of_top, top_from}
 use Rattle.rdl_elab.specs.Layouts.{layout_of}
-use Rattle.rdl_elab.specs.Rows.{Around, Judged, judged_row, inside, rows_in, rows_below, rows_of, around_top, top_layout}
+use Rattle.rdl_elab.specs.Rows.{Around, Judged, judged_row, inside, rows_in, rows_of, around_top, top_layout}
 use Rattle.rdl_elab.specs.declared.layout.Span.{Span}
 use Rattle.rdl_elab.specs.declared.row.Row.{Row}
 use Rattle.rdl_diff.specs.DiffText.{path, same_path, row_at}

@@ -12,7 +12,7 @@ use Rattle.rdl_diff.specs.declared.what.What.{What}
 use Rattle.rdl_diff.specs.declared.what.What.TheVariants as what
 use Rattle.rdl_diff.proofs.Alike.{sound, itself}
 use Rattle.rdl_diff.proofs.Members.{among-map, none-flat, empty-flat, empty-parts}
-use Rattle.rdl_diff.proofs.OwnPaths.{Found, found-own, at-among, among-at}
+use Rattle.rdl_diff.proofs.OwnPaths.{found-own, at-among, among-at}
 
 -- ---- All parts are compared.
 

@@ -1,12 +1,12 @@
 -- Where two maps change places, their lines turn round.
-use Rattle.std.proofs.Common.{◌≡◌, ◌⊎◌, inl, inr, ℕ, Bool, true, false, List, [], ◌∷◌, ◌++◌, map, flat_map, Option, Some, None, refl, sym, ap, ◌∙◌, subst, if◌then◌else◌}
+use Rattle.std.proofs.Common.{◌≡◌, ◌⊎◌, inl, inr, ℕ, Bool, true, false, List, [], ◌∷◌, map, flat_map, Option, Some, None, refl, sym, ap, ◌∙◌, subst, if◌then◌else◌}
 use Rattle.rdl_elab.specs.declared.row.Row.{Row}
-use Rattle.rdl_diff.specs.DiffText.{Change, change, changes, Line, gone, come, changed, gone_line, changed_line, new_line, lines, path, row_at}
+use Rattle.rdl_diff.specs.DiffText.{Change, change, changes, Line, gone_line, changed_line, new_line, lines, path, row_at}
 use Rattle.rdl_diff.specs.SameRows.{HaveOwnPaths, IsAmong, turned_change, turned}
 use Rattle.rdl_diff.specs.Told.{told, same, whats}
 use Rattle.rdl_diff.specs.declared.what.What.{What}
 use Rattle.rdl_diff.proofs.Alike.{turned-round}
-use Rattle.rdl_diff.proofs.Members.{among-front, among-behind, among-split, among-flat, From, from-flat, map-flat_map}
+use Rattle.rdl_diff.proofs.Members.{among-front, among-behind, among-split, among-flat, from-flat, map-flat_map}
 use Rattle.rdl_diff.proofs.OwnPaths.{found-own, at-among}
 
 turned-if : (b : Bool) (c : Change) → (if b then [] else turned_change c ∷ []) ≡ map turned_change (if b then [] else c ∷ [])

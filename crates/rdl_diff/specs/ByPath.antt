@@ -1,6 +1,6 @@
 -- Rows under their paths.
 -- own: how they are looked up.
-use Rattle.std.specs.Prelude.{◌≡◌, ℕ, Bool, List, map, Option, option_map, bytes_eq}
+use Rattle.std.specs.Prelude.{ℕ, Bool, List, map, Option, option_map, bytes_eq}
 use Rattle.std.specs.Cmp.Lexicographic.{pointwise}
 use Rattle.std.specs.declared.alloc.Global.{Global}
 use Rattle.std.specs.declared.vec.Vec.{Vec}

@@ -1,4 +1,4 @@
-use Rattle.std.proofs.Common.{◌≡◌, ◌++◌, ◌∙◌, ap, subst, rules, flat_map, string_bytes, OnOk, option_copied}
+use Rattle.std.proofs.Common.{◌≡◌, ◌++◌, ◌∙◌, ap, subst, flat_map, string_bytes, OnOk, option_copied}
 use Rattle.rdl_diff.specs.ByPath.{texts, row_under}
 use Rattle.rdl_diff.specs.DiffText.{path, new_line, line_text}
 use Rattle.rdl_diff.proofs.diff.push_new_at.Goals as goal
