@@ -37,7 +37,7 @@ impl<'a> PartNames<'a> {
         ensures { IfOk result (λ names. AreNamed names parts.now) }
     {
         let mut names = PartNames {
-            places: ByName::new(alloc),
+            places: ByName::with_room(alloc, parts.len())?,
         };
         for i in (0..parts.len()).rev() {
             names.put(parts[i].shell().name.as_str(), i)?;

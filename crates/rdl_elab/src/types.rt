@@ -27,16 +27,16 @@ pub(crate) struct Types<'a> {
 }
 
 impl<'a> TypeIndex<'a> {
-    ghost use Rattle.std.specs.Prelude.{◌≡◌, ℕ, List, ◌∷◌, [], OnOk, OnErr};
+    ghost use Rattle.std.specs.Prelude.{◌≡◌, ℕ, List, ◌∷◌, [], IfOk, OnOk, OnErr};
     ghost use Rattle.rdl_elab.specs.TypeStacks.{IsIndex, Uncovers, Lacks};
     ghost use Rattle.rdl_scope.specs.Closed.{lookup};
 
-    fn new(alloc: Global) -> TypeIndex<'a>
-        ensures { IsIndex result [] }
+    fn with_room(alloc: Global, types: usize) -> Result<TypeIndex<'a>, AllocError>
+        ensures { IfOk result (λ index. IsIndex index []) }
     {
-        TypeIndex {
-            components: ByName::new(alloc),
-        }
+        Ok(TypeIndex {
+            components: ByName::with_room(alloc, types)?,
+        })
     }
 
     fn get(&self, name: &'a str) -> Option<usize>
@@ -83,16 +83,17 @@ impl<'a> Model for Types<'a> {
 }
 
 impl<'a> Types<'a> {
-    ghost use Rattle.std.specs.Prelude.{◌≡◌, ◌-◌, ◌∷◌, ◌≤◌, [], length, drop, OnOk};
+    ghost use Rattle.std.specs.Prelude.{◌≡◌, ◌-◌, ◌∷◌, ◌≤◌, [], length, drop, IfOk, OnOk};
     ghost use Rattle.rdl_scope.specs.Closed.{lookup};
 
-    pub(crate) fn new(alloc: Global) -> Types<'a>
-        ensures { result ≡ [] }
+    /// No types, where so many are awaited.
+    pub(crate) fn with_room(alloc: Global, types: usize) -> Result<Types<'a>, AllocError>
+        ensures { IfOk result (λ types. types ≡ []) }
     {
-        Types {
+        Ok(Types {
             items: Vec::new(alloc),
-            nearest: TypeIndex::new(alloc),
-        }
+            nearest: TypeIndex::with_room(alloc, types)?,
+        })
     }
 
     pub(crate) fn len(&self) -> usize

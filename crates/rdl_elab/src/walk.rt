@@ -279,7 +279,7 @@ impl<'a> Walk<'a> {
         ensures components { IfOk result (λ walk. walk.components.items ≡ []) }
     {
         Ok(Walk {
-            types: Types::new(alloc),
+            types: Types::with_room(alloc, description.items.len())?,
             defaults: Defaults::new(alloc),
             components: Vec::with_capacity(alloc, room)?,
             built_ins: BuiltIns::new(alloc)?,

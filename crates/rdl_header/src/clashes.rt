@@ -17,7 +17,7 @@ pub(crate) fn first_clash<'a>(
     requires { All (IsCut text.now) names.now }
     ensures { IfOk result (λ clash. option_map (λ name. name.now) clash ≡ first_clash (named text.now names.now)) }
 {
-    let mut known: ByName<'a, ()> = ByName::new(alloc);
+    let mut known: ByName<'a, ()> = ByName::with_room(alloc, names.len())?;
     'names: for stretch in names {
         let name = part(text, *stretch);
         let before = known.put(name, ())?;

@@ -10,17 +10,18 @@ pub(crate) struct Firsts<'a> {
 }
 
 impl<'a> Firsts<'a> {
-    ghost use Rattle.std.specs.Prelude.{◌≡◌, ℕ, List, Some, None, OnOk, bytes_eq, if◌then◌else◌};
+    ghost use Rattle.std.specs.Prelude.{◌≡◌, ℕ, List, Some, None, IfOk, OnOk, bytes_eq, if◌then◌else◌};
     ghost use Rattle.std.specs.Option.{option_or};
     ghost use Rattle.rdl_scope.specs.Walk.{is_instance};
     ghost use Rattle.rdl_rewrite.specs.Firsts.{first_under};
 
-    pub(crate) fn new(alloc: Global) -> Firsts<'a>
-        ensures { (q : List ℕ) → first_under result q ≡ None }
+    /// No instances, where so many are awaited.
+    pub(crate) fn with_room(alloc: Global, instances: usize) -> Result<Firsts<'a>, AllocError>
+        ensures { IfOk result (λ firsts. (q : List ℕ) → first_under firsts q ≡ None) }
     {
-        Firsts {
-            instances: ByName::new(alloc),
-        }
+        Ok(Firsts {
+            instances: ByName::with_room(alloc, instances)?,
+        })
     }
 
     pub(crate) fn get(&self, name: &'a str) -> Option<(usize, bool)>

@@ -124,7 +124,7 @@ impl<'a> Reach<'a> {
         requires inside_led { IsLed self.now.whole.now.items (holder_of self.now.way.now) at.now inside_led }
         ensures { IfOk result (λ _. reverse patches.new.items ≡ fate_patches (fate self.now.whole.now.items self.now.way.now (option_copied self.now.name)) at.now 0 body.now ++ reverse patches.old.items) }
     {
-        let mut firsts = Firsts::new(alloc);
+        let mut firsts = Firsts::with_room(alloc, body.len())?;
         'items: for (number, found) in body.as_slice().iter().enumerate() {
             self.push_item(alloc, at, number, found, led, inside_led, &firsts, patches)?;
             let inside = is_inside(&self.place, self.holder, inside_led, at, number, found);

@@ -64,6 +64,10 @@ module _ {X : Type 0} (m n : BTreeMap Key X) where
       ∙ sym (cond-false (bytes_eq bs cs) w (tree.get_by (name_cmp cs) m) a))
       (cases_Bool (bytes_eq bs cs))
 
+  -- what stands at the key of a name stands under the name
+  pub name_gets : (bs : List ℕ) (k : Key) → k.0 ≡ front bs → k.1.now ≡ bs → tree.get_by (λ y. ordering_then (nat_cmp k.0 y.0) (slice_cmp nat_cmp k.1.now y.1.now)) m ≡ tree.get_by (name_cmp bs) m
+  name_gets bs k e f = ap (λ c. tree.get_by c m) (compared k bs e f)
+
   -- after a change at the key of a name, each name finds what it found before, or, where it is this name, what was put
   pub name_updates : (bs : List ℕ) (k : Key) (w : Option X) → k.0 ≡ front bs → k.1.now ≡ bs → tree.UpdatesBy (λ x y. ordering_then (nat_cmp x.0 y.0) (slice_cmp nat_cmp x.1.now y.1.now)) (λ y. ordering_then (nat_cmp k.0 y.0) (slice_cmp nat_cmp k.1.now y.1.now)) m n w → (cs : List ℕ)
       → tree.get_by (name_cmp cs) n ≡ cond (bytes_eq bs cs) w (tree.get_by (name_cmp cs) m)

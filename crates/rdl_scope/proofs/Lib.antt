@@ -17,6 +17,7 @@ pub mod Repeats
 pub mod Rivals
 pub mod Searches
 pub mod Sizes
+pub mod Spots
 pub mod StandingBefore
 pub mod TargetKinds
 pub mod ValueSearches

@@ -4,6 +4,7 @@ pub mod Front
 pub mod ItemFaults
 pub mod Keys
 pub mod Scopes
+pub mod Spot
 pub mod Target
 pub mod Types
 pub mod Value

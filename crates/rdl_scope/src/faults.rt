@@ -261,6 +261,20 @@ fn inside_fault<'a>(
     }
 }
 
+/// No definitions before the first item of a body. Many are awaited in the root alone.
+fn no_definitions<'a>(
+    alloc: Global,
+    around: Option<Kind>,
+    body: &Body,
+) -> Result<Names<'a>, AllocError>
+    ensures { IfOk result (λ names. (q : List ℕ) → number_under names q ≡ None) }
+{
+    match around {
+        Some(_) => Ok(Names::new(alloc)),
+        None => Names::with_room(alloc, body.len()),
+    }
+}
+
 /// The first fault of the items of the body at this address. Where there is none, the levels stay.
 #[cycle(walk)]
 #[tactic(auto, using(crate::proofs::Firsts::walks))]
@@ -280,8 +294,8 @@ fn first_fault<'a>(
     ensures fault { IfOk result (λ fault. fault ≡ first_fault description.now.items around at.now body.now 0 body.now) }
     ensures levels { IfOk result (λ fault. fault ≡ None → levels.new.items ≡ levels.old.items) }
 {
-    let mut definitions = Names::new(alloc);
-    let mut passed = Passed::new(alloc);
+    let mut definitions = no_definitions(alloc, around, body)?;
+    let mut passed = Passed::new(alloc, body.len())?;
     'items: for (i, item) in body.as_slice().iter().enumerate() {
         let scope = levels.as_slice();
         let kind = item_fault(

@@ -4,6 +4,7 @@
 
 mod assignments;
 pub mod by_name;
+mod entry;
 pub mod faults;
 mod front;
 mod keys;

@@ -23,6 +23,15 @@ impl<'a> Names<'a> {
         }
     }
 
+    /// No numbers, where so many are awaited.
+    pub(crate) fn with_room(alloc: Global, names: usize) -> Result<Names<'a>, AllocError>
+        ensures { IfOk result (λ names. (q : List ℕ) → number_under names q ≡ None) }
+    {
+        Ok(Names {
+            numbers: ByName::with_room(alloc, names)?,
+        })
+    }
+
     pub(crate) fn get(&self, name: &'a str) -> Option<usize>
         ensures { result ≡ number_under self.now name.now }
     {

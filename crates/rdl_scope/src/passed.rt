@@ -2,7 +2,7 @@
 use crate::keys::Keys;
 use crate::names::Names;
 use crate::places::Places;
-use std::alloc::Global;
+use std::alloc::{AllocError, Global};
 
 /// What the items that a walk has passed in a body say, its definitions apart.
 #[derive(Drop)]
@@ -19,17 +19,18 @@ pub(crate) struct Passed<'a> {
 
 impl<'a> Passed<'a> {
     ghost use Rattle.rdl_tree.specs.Items.{Items};
-    ghost use Rattle.std.specs.Prelude.{ℕ, List};
+    ghost use Rattle.std.specs.Prelude.{ℕ, List, IfOk};
     ghost use Rattle.rdl_scope.specs.Scopes.{Knows};
 
-    pub(crate) fn new(alloc: Global) -> Passed<'a>
-        ensures { (d : Items) (b : List ℕ) (body : Items) → Knows d b body 0 result }
+    /// Nothing was passed yet of a body with so many items.
+    pub(crate) fn new(alloc: Global, items: usize) -> Result<Passed<'a>, AllocError>
+        ensures { IfOk result (λ passed. (d : Items) (b : List ℕ) (body : Items) → Knows d b body 0 passed) }
     {
-        Passed {
-            places: Places::new(alloc),
+        Ok(Passed {
+            places: Places::with_room(alloc, items)?,
             owns: Names::new(alloc),
             defaults: Names::new(alloc),
             dynamics: Keys::new(alloc),
-        }
+        })
     }
 }

@@ -31,12 +31,13 @@ impl<'a> Places<'a> {
     ghost use Rattle.std.specs.Option.{is_some};
     ghost use Rattle.rdl_scope.specs.Scopes.{place_under, place_put};
 
-    pub(crate) fn new(alloc: Global) -> Places<'a>
-        ensures { (q : List ℕ) → place_under result q ≡ None }
+    /// No places, where so many are awaited.
+    pub(crate) fn with_room(alloc: Global, places: usize) -> Result<Places<'a>, AllocError>
+        ensures { IfOk result (λ places. (q : List ℕ) → place_under places q ≡ None) }
     {
-        Places {
-            places: ByName::new(alloc),
-        }
+        Ok(Places {
+            places: ByName::with_room(alloc, places)?,
+        })
     }
 
     pub(crate) fn get(&self, name: &'a str) -> Option<Place>

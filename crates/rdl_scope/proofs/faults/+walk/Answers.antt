@@ -38,8 +38,8 @@ first_fault-items-init t c =
     record {
       first = ap (first_fault d c.args.around c.args.at.now c.args.body.now 0) (sym (rest-all c.args.body.now));
       levels = refl;
-      definitions = c.new-definitions.ensures;
-      passed = c.new-passed.ensures d c.args.at.now c.args.body.now;
+      definitions = c.in_ok-definitions.ensures;
+      passed = c.in_ok-passed.ensures d c.args.at.now c.args.body.now;
     }
 
 pub first_fault-item_fault-requires-clause-item : goal.first_fault-item_fault-requires-clause-item
