@@ -153,7 +153,7 @@ fn is_clean_level<'a>(
         let reaching = passed.as_slice();
         let shell = part.shell();
         let kind = component.kind;
-        let values = values(alloc, kind, shell.reset, reaching, &component.shown)?;
+        let values = values(alloc, kind, shell.reset.get(), reaching, &component.shown)?;
         let sibling = seen(span, &values);
         let fault = fault_kind(
             level.mode, level.bits, shell, component, sibling, &siblings, &values,

@@ -32,10 +32,10 @@ impl Said {
         Said {
             elements: product(dims),
             size,
-            address: shell.address,
-            stride: shell.stride,
-            align: shell.align,
-            range: shell.range,
+            address: shell.address.get(),
+            stride: shell.stride.get(),
+            align: shell.align.get(),
+            range: shell.range.get(),
         }
     }
 }

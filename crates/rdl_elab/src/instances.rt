@@ -35,9 +35,9 @@ fn placement(shell: &Shell, layout: &Layout) -> Placement
         access: layout.access,
         elements: product(dims),
         is_array: !dims.is_empty(),
-        address: shell.address,
-        stride: shell.stride,
-        align: shell.align,
+        address: shell.address.get(),
+        stride: shell.stride.get(),
+        align: shell.align.get(),
     }
 }
 
@@ -50,7 +50,7 @@ fn field_bits(shell: &Shell, layout: &Layout) -> FieldBits
     };
     FieldBits {
         width,
-        range: shell.range,
+        range: shell.range.get(),
     }
 }
 

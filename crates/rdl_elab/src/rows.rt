@@ -67,7 +67,7 @@ fn extent(alloc: Global, shell: &Shell, span: Span, size: u64) -> Result<Extent,
         offset: span.start,
         size,
         dims: shell.dims.try_copy(alloc)?,
-        stride: shell.stride.unwrap_or(Number::from(size)),
+        stride: shell.stride.get().unwrap_or(Number::from(size)),
     })
 }
 
@@ -161,7 +161,7 @@ fn row(
         values: values(
             alloc,
             component.kind,
-            shell.reset,
+            shell.reset.get(),
             reaching,
             &component.shown,
         )?,
@@ -172,7 +172,7 @@ fn is_stride_too_small(shell: &Shell, size: u64) -> bool
     ensures { result ≡ nat_lt (unwrap_or shell.now.stride size) size }
 {
     let size = Number::from(size);
-    shell.stride.unwrap_or(size) < size
+    shell.stride.get().unwrap_or(size) < size
 }
 
 /// A row as its later siblings see it.

@@ -9,6 +9,7 @@ use crate::reader::Reader;
 use rdl_text::token::{Mark, Number};
 use rdl_tree::dims::Dims;
 use rdl_tree::shell::{Outside, Shell};
+use rdl_tree::stated::{Stated, StatedRange};
 use std::alloc::Global;
 
 type Range = Option<(Number, Number)>;
@@ -92,11 +93,11 @@ impl<'t, 'a> Reader<'t, 'a> {
             name,
             outside,
             dims,
-            range,
-            reset,
-            address,
-            stride,
-            align,
+            range: StatedRange::new(alloc, range)?,
+            reset: Stated::new(alloc, reset)?,
+            address: Stated::new(alloc, address)?,
+            stride: Stated::new(alloc, stride)?,
+            align: Stated::new(alloc, align)?,
         })
     }
 }

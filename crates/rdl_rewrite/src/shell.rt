@@ -13,6 +13,7 @@ use rdl_tree::dims::Dims;
 use rdl_tree::part::Part;
 use rdl_tree::patch::Patch;
 use rdl_tree::shell::Shell;
+use rdl_tree::stated::{Stated, StatedRange};
 use std::alloc::{AllocError, Global};
 
 /// The shell with the part that the edit gives it.
@@ -23,16 +24,16 @@ fn edited_shell(alloc: Global, edit: &Edit, shell: &Shell) -> Result<Shell, Allo
     match edit {
         Edit::Resize(_, dims) => {
             new.dims = dims.try_copy(alloc)?;
-            new.range = None;
+            new.range = StatedRange::none();
         }
         Edit::SetBits(_, range) => {
             new.dims = Dims::new(alloc);
-            new.range = *range;
+            new.range = StatedRange::new(alloc, *range)?;
         }
-        Edit::SetAddress(_, address) => new.address = *address,
-        Edit::SetStride(_, stride) => new.stride = *stride,
-        Edit::SetAlign(_, align) => new.align = *align,
-        Edit::SetReset(_, reset) => new.reset = *reset,
+        Edit::SetAddress(_, address) => new.address = Stated::new(alloc, *address)?,
+        Edit::SetStride(_, stride) => new.stride = Stated::new(alloc, *stride)?,
+        Edit::SetAlign(_, align) => new.align = Stated::new(alloc, *align)?,
+        Edit::SetReset(_, reset) => new.reset = Stated::new(alloc, *reset)?,
         Edit::Add(..) => {}
         Edit::Move(..) => {}
         Edit::SetOwn(..) => {}

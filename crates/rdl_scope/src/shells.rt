@@ -143,10 +143,10 @@ fn wrong_number(kind: Kind, shell: &Shell) -> bool
     ensures { result ≡ wrong_number kind shell.now }
 {
     !are_dims(kind, shell.dims.as_slice())
-        || lacks_range(shell.range)
-        || lacks_address(shell.address)
-        || lacks_stride(shell.stride)
-        || lacks_align(shell.align)
+        || lacks_range(shell.range.get())
+        || lacks_address(shell.address.get())
+        || lacks_stride(shell.stride.get())
+        || lacks_align(shell.align.get())
 }
 
 /// The fault of an instance, whose component is of this kind, if its type is known. `twice`: one of its name stands

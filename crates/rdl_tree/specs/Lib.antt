@@ -20,6 +20,7 @@ pub mod Room
 pub mod SessionFault
 pub mod SessionText
 pub mod Shell
+pub mod Stated
 pub mod Step
 pub mod Turned
 pub mod View

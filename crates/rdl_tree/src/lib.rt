@@ -23,6 +23,7 @@ pub mod reach;
 mod run;
 pub mod session;
 pub mod shell;
+pub mod stated;
 pub mod step;
 pub mod target;
 pub mod turned;

@@ -3,8 +3,8 @@ ghost use Rattle.std.specs.Prelude.{◌≡◌, IfOk};
 ghost use Rattle.rdl_tree.specs.Shell.{bare_shell};
 
 use crate::dims::Dims;
+use crate::stated::{Stated, StatedRange};
 use rdl_text::name::Name;
-use rdl_text::token::Number;
 use std::alloc::{AllocError, Global};
 
 /// The kind of a component.
@@ -32,15 +32,15 @@ pub struct Shell {
     pub outside: Outside,
     pub dims: Dims,
     /// The `[high:low]` of a field, the high bit first.
-    pub range: Option<(Number, Number)>,
+    pub range: StatedRange,
     /// The number behind `=`.
-    pub reset: Option<Number>,
+    pub reset: Stated,
     /// The number behind `@`.
-    pub address: Option<Number>,
+    pub address: Stated,
     /// The number behind `+=`.
-    pub stride: Option<Number>,
+    pub stride: Stated,
     /// The number behind `%=`.
-    pub align: Option<Number>,
+    pub align: Stated,
 }
 
 impl Shell {
@@ -52,11 +52,11 @@ impl Shell {
             name,
             outside: Outside::Unsaid,
             dims: Dims::new(alloc),
-            range: None,
-            reset: None,
-            address: None,
-            stride: None,
-            align: None,
+            range: StatedRange::none(),
+            reset: Stated::none(),
+            address: Stated::none(),
+            stride: Stated::none(),
+            align: Stated::none(),
         }
     }
 
@@ -69,11 +69,11 @@ impl Shell {
             name,
             outside: self.outside,
             dims,
-            range: self.range,
-            reset: self.reset,
-            address: self.address,
-            stride: self.stride,
-            align: self.align,
+            range: self.range.try_copy(alloc)?,
+            reset: self.reset.try_copy(alloc)?,
+            address: self.address.try_copy(alloc)?,
+            stride: self.stride.try_copy(alloc)?,
+            align: self.align.try_copy(alloc)?,
         })
     }
 }

@@ -79,10 +79,10 @@ pub fn push_shell(text: &mut String, shell: &Shell) -> Result<(), AllocError>
 {
     text.push_str(shell.name.as_str())?;
     push_dims(text, shell.dims.as_slice())?;
-    push_range(text, shell.range)?;
-    push_part(text, "=", shell.reset)?;
-    push_part(text, "@", shell.address)?;
-    push_part(text, "+=", shell.stride)?;
-    push_part(text, "%=", shell.align)?;
+    push_range(text, shell.range.get())?;
+    push_part(text, "=", shell.reset.get())?;
+    push_part(text, "@", shell.address.get())?;
+    push_part(text, "+=", shell.stride.get())?;
+    push_part(text, "%=", shell.align.get())?;
     Ok(())
 }
