@@ -1,6 +1,7 @@
 -- Steps along the own assignments in a body.
-use Rattle.std.proofs.Common.{◌≡◌, ℕ, ◌+◌, ◌<◌, List, [], ◌∷◌, ◌++◌, length, take, get_or, true, false, Some, None, Option, refl, ap, sym, ◌∙◌, add-one}
-use Rattle.std.specs.Prelude.{bytes_eq, if◌then◌else◌}
+use Rattle.std.proofs.Common.{◌≡◌, ℕ, zero, suc, ◌+◌, ◌<◌, List, [], ◌∷◌, ◌++◌, length, take, get_or, Bool, true, false, Some, None, Option, refl, ap, sym, ◌∙◌, add-one}
+use Rattle.std.specs.Prelude.{◌||◌, bytes_eq, if◌then◌else◌, slice_get}
+use Rattle.std.specs.List.{list_any}
 use Rattle.std.specs.Option.{option_or}
 use Rattle.std.proofs.Math.Seq.{take-suc}
 use Rattle.rdl_tree.specs.Properties.{row, property_of}
@@ -8,7 +9,11 @@ use Rattle.rdl_tree.specs.declared.shell.Kind.{Kind}
 use Rattle.rdl_tree.specs.declared.property.Property.{Property}
 use Rattle.rdl_tree.specs.declared.value.Value.{Value}
 use Rattle.rdl_elab.specs.declared.own_values.Assigned.{Assigned}
-use Rattle.rdl_elab.specs.OwnValues.{assigned_to}
+use Rattle.rdl_tree.specs.Items.{Items, no_items, plain, holder, named, own, default, dynamic, define, anonymous}
+use Rattle.rdl_tree.specs.View.{list_of}
+use Rattle.rdl_tree.specs.declared.description.Item.{Item}
+use Rattle.rdl_elab.specs.OwnValues.{assigned_to, is_dynamic, dynamic_there, any_dynamic}
+use Rattle.rdl_elab.specs.Reaches.{Reach, reaches_by}
 use Rattle.rdl_elab.specs.StatedValues.{shown_on, if_named}
 use Rattle.rdl_elab.proofs.Names.{names-apart}
 use Rattle.rdl_elab.proofs.StatedLists.{or-assoc, shown-or, same-named, name-of, not-its-name, adds-none}
@@ -48,3 +53,28 @@ one-stated k p i xs x first before after l is e f =
     ∙ or-assoc first (shown_on k p behind) (shown_on k p this)
     ∙ ap (option_or first) (shown-or k p behind this)
     ∙ ap (λ o. option_or first (shown_on k p o)) (sym all)
+
+or-none : (a : Bool) → a || false ≡ a
+or-none true = refl
+or-none false = refl
+
+or-assoc-bool : (a b c : Bool) → a || (b || c) ≡ (a || b) || c
+or-assoc-bool true b c = refl
+or-assoc-bool false b c = refl
+
+-- one item more may be the first dynamic assignment
+pub dynamic-next : (i : ℕ) (xs : List Item) (o : Option Item) → o ≡ slice_get xs i → list_any is_dynamic (take (suc i) xs) ≡ list_any is_dynamic (take i xs) || dynamic_there o
+dynamic-next zero [] o e = sym (ap dynamic_there e)
+dynamic-next (suc i) [] o e = sym (ap dynamic_there e)
+dynamic-next zero (x ∷ xs) o e = or-none (is_dynamic x) ∙ sym (ap dynamic_there e)
+dynamic-next (suc i) (x ∷ xs) o e = ap (λ b. is_dynamic x || b) (dynamic-next i xs o e) ∙ or-assoc-bool (is_dynamic x) (list_any is_dynamic (take i xs)) (dynamic_there o)
+
+-- without dynamic assignments nothing is reached
+pub no-dynamic : (f : ℕ → List (List ℕ) → Option (List (List ℕ))) (n : ℕ) (t : Items) → any_dynamic t ≡ false → reaches_by f n t ≡ []
+no-dynamic f n no_items h = refl
+no-dynamic f n (plain (named s u) rest) h = no-dynamic f (suc n) rest h
+no-dynamic f n (plain (own p v) rest) h = no-dynamic f (suc n) rest h
+no-dynamic f n (plain (default p v) rest) h = no-dynamic f (suc n) rest h
+no-dynamic f n (plain (dynamic u p v) rest) h = absurd cc
+no-dynamic f n (holder (define m k) body rest) h = no-dynamic f (suc n) rest h
+no-dynamic f n (holder (anonymous s k) body rest) h = no-dynamic f (suc n) rest h

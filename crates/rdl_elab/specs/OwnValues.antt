@@ -1,6 +1,10 @@
 -- The own assignments in a body, each with its property.
 -- own: how they are kept. What they are `own_value` says.
-use Rattle.std.specs.Prelude.{◌≡◌, List, [], ◌∷◌, Option, None, Some, bytes_eq, if◌then◌else◌}
+use Rattle.std.specs.Prelude.{◌≡◌, Bool, true, false, List, [], ◌∷◌, Option, None, Some, bytes_eq, if◌then◌else◌}
+use Rattle.std.specs.List.{list_any}
+use Rattle.rdl_tree.specs.View.{list_of}
+use Rattle.rdl_tree.specs.declared.description.Item.{Item}
+use Rattle.rdl_tree.specs.declared.description.Item.TheVariants.{Define, Instance, Own, Default, Dynamic}
 use Rattle.rdl_tree.specs.Items.{Items}
 use Rattle.rdl_tree.specs.Properties.{row}
 use Rattle.rdl_tree.specs.declared.property.Property.{Property}
@@ -16,3 +20,18 @@ assigned_to p (a ∷ others) = if bytes_eq (row a.property).name (row p).name th
 -- for each property this is the own assignment in the body
 abbrev pub AreOwn : List Assigned → Items → Type 0
 AreOwn items body = (p : Property) → assigned_to p items ≡ own_value (row p).name body
+
+abbrev pub is_dynamic : Item → Bool
+is_dynamic (Dynamic t p v) = true
+is_dynamic (Define m c) = false
+is_dynamic (Instance s o) = false
+is_dynamic (Own p v) = false
+is_dynamic (Default p v) = false
+
+abbrev pub dynamic_there : Option Item → Bool
+dynamic_there None = false
+dynamic_there (Some x) = is_dynamic x
+
+-- the body has a dynamic assignment
+abbrev pub any_dynamic : Items → Bool
+any_dynamic body = list_any is_dynamic (list_of body)

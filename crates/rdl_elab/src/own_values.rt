@@ -1,11 +1,11 @@
 //! The assignments in the body of a component.
-ghost use Rattle.std.specs.Prelude.{◌≡◌, true, Some, None, IfOk, OnOk, option_copied};
+ghost use Rattle.std.specs.Prelude.{◌≡◌, ◌||◌, true, Some, None, IfOk, OnOk, option_copied};
 ghost use Rattle.std.specs.Option.{option_or};
 ghost use Rattle.rdl_tree.specs.Properties.{row};
 ghost use Rattle.rdl_tree.specs.declared.property.Property.{Property};
 ghost use Rattle.rdl_scope.specs.Value.{own_value};
 ghost use Rattle.rdl_scope.specs.Walk.{owned_by};
-ghost use Rattle.rdl_elab.specs.OwnValues.{assigned_to};
+ghost use Rattle.rdl_elab.specs.OwnValues.{assigned_to, dynamic_there, any_dynamic};
 ghost use Rattle.rdl_elab.specs.Reaches.{value_under};
 ghost use Rattle.rdl_elab.specs.StatedValues.{shown_on, if_named};
 
@@ -26,17 +26,19 @@ pub(crate) struct Assigned<'a> {
     value: &'a Value,
 }
 
-/// The own assignments in a body, each with its property. A contract sees the body.
+/// The own assignments in a body, each with its property, and whether it has dynamic ones. A contract sees the body.
 #[derive(Drop)]
 pub(crate) struct OwnValues<'a> {
     body: &'a Body,
     items: Vec<Assigned<'a>>,
+    has_dynamic: bool,
 }
 
 impl<'a> Model for OwnValues<'a> {
     ghost use Rattle.rdl_tree.specs.Codes.{coded_items};
     ghost use Rattle.rdl_tree.specs.Items.{Items};
-    ghost use Rattle.rdl_elab.specs.OwnValues.{AreOwn};
+    ghost use Rattle.std.specs.Prelude.{◌≡◌};
+    ghost use Rattle.rdl_elab.specs.OwnValues.{AreOwn, any_dynamic};
 
     ghost Value = { Items };
 
@@ -44,7 +46,7 @@ impl<'a> Model for OwnValues<'a> {
 
     ghost view = { λ own. own.body.now };
 
-    ghost invariant = { λ own. AreOwn own.items.items own.body.now };
+    ghost invariant = { λ own. AreOwn own.items.items own.body.now × (own.has_dynamic ≡ any_dynamic own.body.now) };
 }
 
 /// The first value that is assigned to the property.
@@ -85,16 +87,37 @@ fn add_own<'a>(items: &mut Vec<Assigned<'a>>, item: Option<&'a Item>) -> Result<
     }
 }
 
+/// Whether this is a dynamic assignment, or one was met before.
+fn meets_dynamic(before: bool, item: Option<&Item>) -> bool
+    ensures { result ≡ (before || dynamic_there (option_copied item.entry)) }
+{
+    before || matches!(item, Some(Item::Dynamic(_, _, _)))
+}
+
 impl<'a> OwnValues<'a> {
     /// Those of a body.
     pub(crate) fn of(alloc: Global, body: &'a Body) -> Result<OwnValues<'a>, AllocError>
         ensures { IfOk result (λ own. own ≡ body.now) }
     {
         let mut items = Vec::new(alloc);
+        let mut has_dynamic = false;
         for i in 0..body.len() {
-            add_own(&mut items, body.item(i))?;
+            let item = body.item(i);
+            add_own(&mut items, item)?;
+            has_dynamic = meets_dynamic(has_dynamic, item);
         }
-        Ok(OwnValues { body, items })
+        Ok(OwnValues {
+            body,
+            items,
+            has_dynamic,
+        })
+    }
+
+    /// Whether the body has dynamic assignments.
+    pub(crate) fn has_dynamic(&self) -> bool
+        ensures { result ≡ any_dynamic self.now }
+    {
+        self.has_dynamic
     }
 
     /// Whether nothing is assigned to a property.

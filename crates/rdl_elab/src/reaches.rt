@@ -3,6 +3,7 @@ ghost use Rattle.std.specs.Prelude.{◌≡◌, ℕ, ◌++◌, List, [], true, If
 ghost use Rattle.rdl_tree.specs.Address.{number_of};
 ghost use Rattle.rdl_elab.specs.KeptTargets.{kept_target};
 ghost use Rattle.std.specs.List.{list_any};
+ghost use Rattle.rdl_elab.specs.OwnValues.{any_dynamic};
 ghost use Rattle.rdl_elab.specs.Reaches.{Reach, reaches_by, behind, reached, reach_by, has_ended};
 
 use crate::finished::{Finished, Part};
@@ -121,7 +122,7 @@ fn dynamic_assignment<'a>(
 
 /// The dynamic assignments of a body with these instances whose targets are there.
 #[tactic(auto, using(crate::proofs::Assignments::steps))]
-pub(crate) fn assignments<'a>(
+fn assignments<'a>(
     alloc: Global,
     components: &[Finished<'a>],
     parts: &PartList<'a>,
@@ -138,11 +139,22 @@ pub(crate) fn assignments<'a>(
     Ok(list)
 }
 
-/// Whether an item of the body is a dynamic assignment.
-pub(crate) fn has_dynamic(body: &Body) -> bool {
-    body.as_slice()
-        .iter()
-        .any(|item| matches!(item, Item::Dynamic(_, _, _)))
+/// The same, where it is known whether the body has any.
+pub(crate) fn assignments_if<'a>(
+    alloc: Global,
+    has_any: bool,
+    components: &[Finished<'a>],
+    parts: &PartList<'a>,
+    body: &'a Body,
+) -> Result<Vec<Assignment<'a>>, AllocError>
+    requires { has_any ≡ any_dynamic body.now }
+    ensures { IfOk result (λ list. list.items ≡ reaches_by (kept_target components.now parts.now.items) 0 body.now) }
+{
+    if has_any {
+        assignments(alloc, components, parts, body)
+    } else {
+        Ok(Vec::new(alloc))
+    }
 }
 
 /// The assignments that have come this far and those of the component that stands here.

@@ -30,5 +30,5 @@ returns c = λ p.
     c.loop-assigned.invariant p
     ∙ ap (λ o. option_or (value_under p c.args.items.now.items) (shown_on c.args.kind p o))
     (ap (λ (xs : List Assigned). assigned_to p xs) (all ∙ c.deref-assigned-items.ensures.value)
-    ∙ c.self.invariant p
+    ∙ c.self.invariant.0 p
     ∙ ap (λ (t : Items). own_value (row p).name t) c.self.view_is)
