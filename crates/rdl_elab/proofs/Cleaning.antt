@@ -9,6 +9,7 @@ use Rattle.rdl_tree.specs.declared.shell.Kind.{Kind}
 use Rattle.rdl_tree.specs.declared.shell.Kind.TheVariants.{Addrmap, Regfile, Reg, Field}
 use Rattle.rdl_tree.specs.declared.shell.Shell.{Shell}
 use Rattle.rdl_tree.specs.declared.fault.FaultKind.{FaultKind}
+use Rattle.rdl_tree.specs.declared.fault.FaultKind.TheVariants.{FieldPastRegister, FieldOverlap, ResetTooWide}
 use Rattle.rdl_tree.specs.declared.fault.Fault.{Fault}
 use Rattle.rdl_scope.specs.ItemFaults.{first_of, fault_at}
 use Rattle.rdl_elab.specs.declared.clean.Modes.{Modes}
@@ -27,10 +28,10 @@ use Rattle.rdl_elab.specs.Finished.{under}
 use Rattle.rdl_elab.specs.Reaches.{Reach, behind}
 use Rattle.rdl_elab.specs.KeptRows.{Surroundings, KeptRow, kept_row, kept_values, seen, kept_fault, field_fault, judged, surroundings_inside, level_rows, kept_rows, told_one, told, kept_top_row, kept_around_top, told_below, rows_unless, fault_or, kept_map_fault, kept_answer}
 use Rattle.rdl_elab.specs.KeptRows.{clashes_before}
-use Rattle.rdl_elab.specs.Faults.{is_reset_too_wide}
+use Rattle.rdl_elab.specs.Faults.{is_read_only, is_write_only, is_reset_too_wide}
 use Rattle.rdl_elab.specs.Layouts.{number_in}
 use Rattle.rdl_elab.specs.Reaches.{value_under}
-use Rattle.rdl_tree.specs.declared.property.Property.TheVariants.{Reset}
+use Rattle.rdl_tree.specs.declared.property.Property.TheVariants.{Reset, Sw}
 use Rattle.rdl_elab.specs.Clean.{are_faultless, IsAround, AreClean, bits_inside, IsCleanIn, has_mode, AreCleanIn}
 use Rattle.rdl_elab.proofs.Telling.{one-left, no-part, no-span, no-finished}
 use Rattle.rdl_elab.proofs.Onward.{behind-append}
@@ -209,3 +210,16 @@ pub clean-answers : (fs : List Finished) (at name : List ℕ) (f : Finished) →
     → IfOk r (λ answer. answer ≡ true → fault_in (kept_answer fs at name found) ≡ None)
 clean-answers fs at name f h found e (Ok answer) c = λ yes. ap (λ o. fault_in (kept_answer fs at name o)) e ∙ clean-answer fs at name f h (c yes)
 clean-answers fs at name f h found e (Err x) c = c
+
+-- a row is seen by its software access, and judged by its reset
+pub seen-same : (span : Span) (xs ys : List PropertyValue) → value_under Sw xs ≡ value_under Sw ys → seen span xs ≡ seen span ys
+seen-same span xs ys h = ap (λ v. record { span = span; is_read_only = is_read_only v; is_write_only = is_write_only v }) h
+
+pub fault-same : (k : Kind) (v : LayoutValues) (bits : ℕ) (s : Shell) (size : ℕ) (a b : Sibling) (before : List Sibling) (xs ys : List PropertyValue) → a ≡ b → value_under Reset xs ≡ value_under Reset ys
+    → kept_fault k v bits s size a before xs ≡ kept_fault k v bits s size b before ys
+fault-same Field v bits s size a b before xs ys e h =
+    ap (λ x. kept_fault Field v bits s size x before xs) e
+    ∙ ap (λ o. first_of ((nat_lt bits b.span.end, FieldPastRegister) ∷ (clashes_before b before, FieldOverlap) ∷ (is_reset_too_wide (number_in o) b.span, ResetTooWide) ∷ [])) h
+fault-same Reg v bits s size a b before xs ys e h = ap (λ x. kept_fault Reg v bits s size x before xs) e
+fault-same Regfile v bits s size a b before xs ys e h = ap (λ x. kept_fault Regfile v bits s size x before xs) e
+fault-same Addrmap v bits s size a b before xs ys e h = ap (λ x. kept_fault Addrmap v bits s size x before xs) e

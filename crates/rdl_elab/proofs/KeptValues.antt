@@ -20,6 +20,12 @@ pub kept-own : (k : Kind) (rs : List Reach) (values : List PropertyValue) → tr
 kept-own k [] values h = refl
 kept-own k (r ∷ rs) values h = absurd (search rules)
 
+-- where an assignment has come, the values are those along all
+pub kept-come : (k : Kind) (reset : Option ℕ) (rs : List Reach) (values : List PropertyValue) → list_any (λ (a : Reach). has_ended a.path) rs ≡ true → values_along k reset rs values ≡ kept_values k reset rs values
+kept-come k None [] values h = absurd cc
+kept-come k None (r ∷ rs) values h = refl
+kept-come k (Some n) rs values h = refl
+
 -- assignments that have more instances to pass change no value
 module _ (rs : List Reach) (h : list_any (λ (a : Reach). has_ended a.path) rs ≡ false) where
   none-reached : (p : List ℕ) (rs : List Reach) → list_any (λ (a : Reach). has_ended a.path) rs ≡ false → reached p rs ≡ None

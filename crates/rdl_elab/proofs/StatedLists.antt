@@ -18,8 +18,8 @@ use Rattle.rdl_elab.specs.declared.defaults.Default.{Default}
 use Rattle.rdl_elab.specs.Shown.{valued, bare, shown_value, shown_values, built_in_values}
 use Rattle.rdl_elab.specs.Reaches.{Reach, reached, reset_value, value_under, value_along, values_among, values_along}
 use Rattle.rdl_elab.specs.StatedValues.{shown_on, if_named, stated_for, under_either, over, value_over, values_over}
-use Rattle.rdl_elab.proofs.Names.{named-back, names-apart, all-named}
-use Rattle.rdl_elab.proofs.RowsAlong.{under-among}
+use Rattle.rdl_elab.proofs.Names.{named-back, names-apart, is_named, all-named}
+use Rattle.rdl_elab.proofs.RowsAlong.{under-among, under_along}
 use Rattle.rdl_elab.proofs.DefaultStacks.{nearest, nearest-next}
 
 or-none : (o : Option Value) → option_or o None ≡ o
@@ -209,3 +209,12 @@ one-nearer k p left xs x first before after some within is e f =
     ∙ or-assoc first (shown_on k p behind) (shown_on k p this)
     ∙ ap (option_or first) (shown-or k p behind this)
     ∙ ap (λ o. option_or first (shown_on k p o)) (sym all)
+
+-- the values of some properties of a row are those among all
+pub judged-over : (k : Kind) (reset : Option ℕ) (rs : List Reach) (own xs ys : List PropertyValue) (ps : List Property) → ((p : Property) → value_under p own ≡ under_either xs ys p) → (p : Property) → is_named (row p).name ps ≡ true
+    → value_under p (values_over k reset rs xs ys ps) ≡ value_under p (values_along k reset rs own)
+judged-over k reset rs own xs ys ps all p named =
+    under-among (value_over k reset rs xs ys) p ps
+    ∙ ap (λ b. if b then value_over k reset rs xs ys p else None) named
+    ∙ ap (λ v. if on p k then option_or (option_map (shown (row p).form) (option_or (reached (row p).name rs) (reset_value p reset))) v else None) (sym (all p))
+    ∙ sym (under_along k reset rs own p)

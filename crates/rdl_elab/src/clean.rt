@@ -12,7 +12,7 @@ use crate::finished::{Finished, Part};
 use crate::instances::mode_inside;
 use crate::layout::{Mode, Span};
 use crate::reaches::{Assignment, Onward, have_ended, with_own};
-use crate::rows::{behind_part, fault_kind, seen, span_at, values};
+use crate::rows::{behind_part, fault_kind, seen, span_at, values_judged};
 use crate::siblings::Siblings;
 use rdl_tree::address::Address;
 use rdl_tree::shell::Kind;
@@ -153,7 +153,7 @@ fn is_clean_level<'a>(
         let reaching = passed.as_slice();
         let shell = part.shell();
         let kind = component.kind;
-        let values = values(alloc, kind, shell.reset.get(), reaching, &component.shown)?;
+        let values = values_judged(alloc, kind, shell.reset.get(), reaching, &component.shown)?;
         let sibling = seen(span, &values);
         let fault = fault_kind(
             level.mode, level.bits, shell, component, sibling, &siblings, &values,

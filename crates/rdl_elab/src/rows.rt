@@ -5,6 +5,7 @@ ghost use Rattle.rdl_elab.specs.Layouts.{number_in};
 ghost use Rattle.rdl_elab.specs.Rows.{place_of};
 ghost use Rattle.rdl_elab.specs.Onward.{IsOnward};
 ghost use Rattle.rdl_elab.specs.Reaches.{Reach, behind, value_under, values_along};
+ghost use Rattle.rdl_tree.specs.declared.property.Property.TheVariants.{Sw, Reset};
 ghost use Rattle.rdl_tree.specs.declared.shell.Kind.{Kind};
 ghost use Rattle.rdl_elab.specs.declared.row.PropertyValue.{PropertyValue};
 ghost use Rattle.rdl_elab.specs.Finished.{under};
@@ -17,7 +18,7 @@ use crate::reaches::{Assignment, Onward, has_come, with_own};
 use crate::row::{Extent, Place, Row, RowPath};
 use crate::row_values::{ComponentValues, RowValues};
 use crate::siblings::{Sibling, Siblings, as_sibling, is_reset_too_wide};
-use crate::values::row_values;
+use crate::values::{judged_values, row_values};
 use rdl_text::name::Name;
 use rdl_text::token::Number;
 use rdl_tree::address::Address;
@@ -127,6 +128,23 @@ pub(crate) fn values(
         return Ok(RowValues::of(own));
     }
     Ok(RowValues::with_reset(own, kind, reset))
+}
+
+/// Those of the values of the row on which its faults depend.
+pub(crate) fn values_judged(
+    alloc: Global,
+    kind: Kind,
+    reset: Option<Number>,
+    reaching: &[Assignment],
+    own: &ComponentValues,
+) -> Result<RowValues, AllocError>
+    ensures sw { IfOk result (λ values. value_under Sw values ≡ value_under Sw (kept_values kind reset reaching.now own.now)) }
+    ensures reset { IfOk result (λ values. value_under Reset values ≡ value_under Reset (kept_values kind reset reaching.now own.now)) }
+{
+    if has_come(reaching) {
+        return judged_values(alloc, kind, reset, reaching, own);
+    }
+    values(alloc, kind, reset, reaching, own)
 }
 
 /// The assignments whose targets pass this instance.

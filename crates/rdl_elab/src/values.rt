@@ -5,6 +5,7 @@ ghost use Rattle.rdl_tree.specs.Properties.{row, properties, property_of};
 ghost use Rattle.rdl_tree.specs.declared.shell.Kind.{Kind};
 ghost use Rattle.rdl_scope.specs.Closed.{Head, stated, built_in, head_value};
 ghost use Rattle.rdl_tree.specs.declared.property.Property.{Property};
+ghost use Rattle.rdl_tree.specs.declared.property.Property.TheVariants.{Sw, Reset};
 ghost use Rattle.rdl_scope.specs.Value.{shown};
 ghost use Rattle.rdl_elab.specs.Layouts.{values_of, number_in, power_in, width_in, mode_in};
 ghost use Rattle.std.specs.List.{cons_option};
@@ -493,5 +494,28 @@ pub(crate) fn row_values(
         stated,
         built_ins,
         &Property::ALL,
+    )
+}
+
+/// Those of these values on which faults depend: of software access and of the reset.
+pub(crate) fn judged_values(
+    alloc: Global,
+    kind: Kind,
+    reset: Option<Number>,
+    reaching: &[Assignment],
+    own: &ComponentValues,
+) -> Result<RowValues, AllocError>
+    ensures sw { IfOk result (λ values. value_under Sw values ≡ value_under Sw (values_along kind reset reaching.now own.now)) }
+    ensures reset { IfOk result (λ values. value_under Reset values ≡ value_under Reset (values_along kind reset reaching.now own.now)) }
+{
+    let (stated, built_ins) = own.parts();
+    values_over(
+        alloc,
+        kind,
+        reset,
+        reaching,
+        stated,
+        built_ins,
+        &[Property::Sw, Property::Reset],
     )
 }
