@@ -4,7 +4,7 @@ ghost use Rattle.rdl_scope.specs.Front.{front};
 
 /// A number that each byte of the name has a part in. By names of one length that differ only near their ends it goes as
 /// they go, so that names which are numbered in order come to stand in order.
-fn front(name: &str) -> u64
+pub(crate) fn front(name: &str) -> u64
     ensures { result ≡ front name.now }
 {
     let mut front = 0u64;

@@ -1,7 +1,8 @@
 //! What a dynamic assignment may not repeat in its body.
 ghost use Rattle.std.specs.Prelude.{◌≡◌, ◌∷◌, IfOk};
-ghost use Rattle.rdl_scope.specs.Keys.{texts};
+ghost use Rattle.rdl_scope.specs.Keys.{key_front, texts};
 
+use crate::front::front;
 use rdl_text::name::Name;
 use rdl_tree::target::Target;
 use std::alloc::{AllocError, Global};
@@ -22,10 +23,21 @@ pub(crate) fn target_key<'a>(
     Ok(key)
 }
 
-/// The keys of dynamic assignments.
+/// A number by which two keys are mostly told apart.
+fn key_front(key: &[&str]) -> u64
+    ensures { result ≡ key_front key.now }
+{
+    let mut key_front = 0u64;
+    for name in key {
+        key_front = key_front.wrapping_mul(257).wrapping_add(front(name));
+    }
+    key_front
+}
+
+/// The keys of dynamic assignments, each behind its front.
 #[derive(Drop)]
 pub(crate) struct Keys<'a> {
-    keys: BTreeSet<Vec<&'a str>>,
+    keys: BTreeSet<(u64, Vec<&'a str>)>,
 }
 
 impl<'a> Keys<'a> {
@@ -47,7 +59,8 @@ impl<'a> Keys<'a> {
         ensures twice { IfOk result (λ twice. (f : List (List ℕ) → Bool) → Holds self.old f → twice ≡ f (texts key.entry)) }
         ensures noted { OnOk result ((f : List (List ℕ) → Bool) → Holds self.old f → Holds self.new (λ q. pointwise bytes_eq (texts key.entry) q || f q)) }
     {
-        let is_new = self.keys.insert(key)?;
+        let front = key_front(key.as_slice());
+        let is_new = self.keys.insert((front, key))?;
         Ok(!is_new)
     }
 }
