@@ -10,4 +10,5 @@ pub mod Numbers
 pub mod Sources
 pub mod Spanning
 pub mod Spellings
+pub mod Standing
 pub mod Steps

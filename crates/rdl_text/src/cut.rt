@@ -1,15 +1,17 @@
 //! A text cut into words.
-ghost use Rattle.std.specs.Prelude.{◌≡◌, ◌≤◌, ◌<◌, ◌+◌, ◌⊎◌, length, IfSome, IfOk, IfErr, Err, Ok, drop};
+ghost use Rattle.std.specs.Prelude.{◌≡◌, ◌≤◌, ◌<◌, ◌+◌, ◌⊎◌, length, IfSome, IfOk, IfErr, Err, Ok, drop, slice_index};
 ghost use Rattle.rdl_text.specs.Fault.{out_of_memory};
+ghost use Rattle.rdl_text.specs.Front.{span_of};
 ghost use Rattle.rdl_text.specs.Spans.{AreSpans};
+ghost use Rattle.rdl_text.specs.Standing.{Stands, word_at, kind_mark};
 ghost use Rattle.rdl_text.specs.Words as spec;
 
 use crate::bytes::{Class, byte_at, is_blank, run_len};
 use crate::fault::{FaultKind, TextFault};
 use crate::list::Tokens;
-use crate::piece::{Candidate, Piece};
-use crate::rows::longest;
-use crate::token::Token;
+use crate::piece::Span;
+use crate::rows::{kind_of, long_mark, longest, short_mark};
+use crate::token::{Mark, Token};
 use std::alloc::Global;
 
 /// How many bytes stand before the next `*/`.
@@ -25,44 +27,73 @@ fn comment_end(bytes: &[u8]) -> Option<usize>
     None
 }
 
-fn block_comment(bytes: &[u8]) -> Result<Piece, FaultKind>
+fn block_comment(bytes: &[u8]) -> Result<Span, FaultKind>
     requires { 2 ≤ length bytes.now }
-    ensures { result ≡ spec.block_comment bytes.now }
+    ensures { result ≡ span_of (spec.block_comment bytes.now) }
 {
     match comment_end(&bytes[2..]) {
-        Some(len) => Ok(Piece::Gap(len + 4)),
+        Some(len) => Ok(Span::Gap(len + 4)),
         None => Err(FaultKind::UnendedComment),
     }
 }
 
-fn word_piece(first: u8, word: Option<Candidate>) -> Result<Piece, FaultKind>
-    ensures { result ≡ spec.word_piece first word }
+#[inline]
+fn word_span(bytes: &[u8]) -> Result<Span, FaultKind>
+    ensures { result ≡ span_of (spec.word_piece (slice_index bytes.now 0) (spec.longest bytes.now)) }
 {
-    match word {
-        Some(word) => match word.kind {
-            Ok(kind) => Ok(Piece::Word(kind, word.len)),
+    match longest(bytes) {
+        Some(front) => match kind_of(bytes, front) {
+            Ok(_) => Ok(Span::Word(front.len)),
             Err(fault) => Err(fault),
         },
-        None if first == b'"' => Err(FaultKind::UnendedString),
+        None if byte_at(bytes, 0) == b'"' => Err(FaultKind::UnendedString),
         None => Err(FaultKind::BadCharacter),
     }
 }
 
 /// What a text that isn't empty begins with.
+#[inline]
 #[tactic(auto, using(crate::proofs::Steps::row_lemmas), unfolding(crate::specs::Words::piece))]
-fn piece_at(bytes: &[u8]) -> Result<Piece, FaultKind>
-    ensures { result ≡ spec.piece bytes.now }
+fn span_at(bytes: &[u8]) -> Result<Span, FaultKind>
+    ensures { result ≡ span_of (spec.piece bytes.now) }
 {
     let first = byte_at(bytes, 0);
     let second = byte_at(bytes, 1);
     if is_blank(first) {
-        Ok(Piece::Gap(run_len(bytes, 0, Class::Blank)))
+        Ok(Span::Gap(run_len(bytes, 0, Class::Blank)))
     } else if first == b'/' && second == b'/' {
-        Ok(Piece::Gap(2 + run_len(bytes, 2, Class::InLine)))
+        Ok(Span::Gap(2 + run_len(bytes, 2, Class::InLine)))
     } else if first == b'/' && second == b'*' {
         block_comment(bytes)
     } else {
-        word_piece(first, longest(bytes))
+        word_span(bytes)
+    }
+}
+
+/// The word that stands at a place.
+pub(crate) fn token_at<'a>(text: &'a str, start: usize) -> Token<'a>
+    requires { Stands text.now start }
+    ensures { result ≡ word_at text.now start }
+{
+    let bytes = &text.as_bytes()[start..];
+    match longest(bytes) {
+        Some(front) => match kind_of(bytes, front) {
+            Ok(kind) => Token::new(kind, &text[start..start + front.len], start),
+            Err(_) => unreachable!(),
+        },
+        None => unreachable!(),
+    }
+}
+
+/// The mark that the word is that stands at a place.
+pub(crate) fn mark_at(text: &str, start: usize) -> Option<Mark>
+    requires { Stands text.now start }
+    ensures { result ≡ kind_mark (word_at text.now start).kind }
+{
+    let first = byte_at(text.as_bytes(), start);
+    match long_mark(first, byte_at(text.as_bytes(), start + 1)) {
+        Some(mark) => Some(mark),
+        None => short_mark(first),
     }
 }
 
@@ -75,17 +106,20 @@ pub fn tokens<'a>(alloc: Global, text: &'a str) -> Result<Tokens<'a>, TextFault>
     // A fault is its first one, if it isn't for memory.
     ensures fault { IfErr result (λ f. (f ≡ out_of_memory) ⊎ (spec.words text.now ≡ Err f)) }
 {
-    let mut words = Vec::new(alloc);
+    let mut starts = Vec::new(alloc);
+    if text.len() > u32::MAX as usize {
+        return Err(TextFault::MEMORY);
+    }
     let mut at = 0;
     'pieces: while at < text.len() {
-        match piece_at(&text.as_bytes()[at..]) {
-            Ok(Piece::Gap(len)) => at += len,
-            Ok(Piece::Word(kind, len)) => {
-                words.push(Token::new(kind, &text[at..at + len], at))?;
+        match span_at(&text.as_bytes()[at..]) {
+            Ok(Span::Gap(len)) => at += len,
+            Ok(Span::Word(len)) => {
+                starts.push(at as u32)?;
                 at += len;
             }
             Err(kind) => return Err(TextFault { kind, offset: at }),
         }
     }
-    Ok(Tokens::new(words))
+    Ok(Tokens::new(text, starts))
 }
