@@ -157,7 +157,7 @@ impl<'a> Reader<'a> {
         }
     }
 
-    #[tactic(auto, unfolding(crate::specs::Reading::goes_on))]
+    #[tactic(auto, unfolding(crate::specs::Reading::goes_on), using(crate::proofs::Words::goes_on_first))]
     fn goes_on(&self) -> bool
         ensures { result ≡ spec.goes_on (symbols self.now.rest) }
     {

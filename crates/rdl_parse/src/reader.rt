@@ -31,6 +31,7 @@ pub(crate) fn wrong(words: &Words<'_>) -> Stop
 }
 
 impl<'a> Reader<'a> {
+    #[tactic(auto, using(crate::proofs::Words::begins_first))]
     pub(crate) fn begins(&self, mark: Mark) -> bool
         ensures { result ≡ spec.begins mark (symbols self.now.rest) }
     {
@@ -40,7 +41,7 @@ impl<'a> Reader<'a> {
         }
     }
 
-    #[tactic(auto, unfolding(crate::specs::Reading::mark_at))]
+    #[tactic(auto, using(crate::proofs::Words::mark_met, crate::proofs::Words::mark_missed))]
     pub(crate) fn mark(&mut self, mark: Mark) -> Result<(), Stop>
         ensures { Gives (λ _. symbols self.new.rest) result (spec.mark_at mark (symbols self.old.rest)) }
     {

@@ -1,5 +1,5 @@
 //! The words of a text, in order.
-ghost use Rattle.std.specs.Prelude.{◌≡◌, ◌∷◌, [], length, nat_eq, slice_get, drop, map, MatchOption, IfOk};
+ghost use Rattle.std.specs.Prelude.{◌≡◌, ◌∷◌, ◌<◌, ◌^◌, [], length, nat_eq, slice_get, drop, map, MatchOption, IfOk};
 ghost use Rattle.std.specs.List.{All};
 ghost use Rattle.rdl_text.specs.Standing.{Stands, word_at, first_mark};
 
@@ -42,7 +42,7 @@ impl<'a> Tokens<'a> {
     pub fn len(&self) -> usize
         ensures { result ≡ length self.now }
     {
-        self.starts.len()
+        self.as_words().len()
     }
 
     pub fn is_empty(&self) -> bool
@@ -73,7 +73,7 @@ impl<'a> Tokens<'a> {
     }
 
     /// All of them, to be read from the first on.
-    pub fn words(&self) -> Words<'_>
+    pub fn as_words(&self) -> Words<'_>
         ensures { result ≡ self.now }
     {
         Words {
@@ -106,7 +106,8 @@ impl<'a> Model for Words<'a> {
 
 impl<'a> Words<'a> {
     pub fn len(&self) -> usize
-        ensures { result ≡ length self.now }
+        ensures len { result ≡ length self.now }
+        ensures small { result < 2 ^ 61 }
     {
         self.starts.len()
     }
