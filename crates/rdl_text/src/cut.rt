@@ -97,6 +97,9 @@ pub(crate) fn mark_at(text: &str, start: usize) -> Option<Mark>
     }
 }
 
+/// So many bytes of a text have about one word, with what stands before it. Room for so many words is taken at first.
+const BYTES_OF_A_WORD: usize = 4;
+
 /// The words of a text. No byte of it is copied.
 pub fn tokens<'a>(alloc: Global, text: &'a str) -> Result<Tokens<'a>, TextFault>
     // They are all its words.
@@ -106,10 +109,10 @@ pub fn tokens<'a>(alloc: Global, text: &'a str) -> Result<Tokens<'a>, TextFault>
     // A fault is its first one, if it isn't for memory.
     ensures fault { IfErr result (λ f. (f ≡ out_of_memory) ⊎ (spec.words text.now ≡ Err f)) }
 {
-    let mut starts = Vec::new(alloc);
     if text.len() > u32::MAX as usize {
         return Err(TextFault::MEMORY);
     }
+    let mut starts = Vec::with_capacity(alloc, text.len() / BYTES_OF_A_WORD)?;
     let mut at = 0;
     'pieces: while at < text.len() {
         match span_at(&text.as_bytes()[at..]) {

@@ -34,7 +34,7 @@ next_word c = next c.args.text.now c.pieces.at (Found (found_word c).0 c.in-Ok-W
 pub pieces-init : goal.pieces-init
 pieces-init c =
     let text = c.args.text.now in
-    let none = sym c.new-starts.ensures.items in
+    let none = sym c.in_ok-starts.ensures.items in
     record {
       within = omega arith;
       boundary = IsCharBoundary-start text c.utf8.text;
