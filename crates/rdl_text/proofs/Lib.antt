@@ -3,6 +3,7 @@ pub mod Cutting
 pub mod Ends
 pub mod Examples
 pub mod Following
+pub mod Fronts
 pub mod Joining
 pub mod Lists
 pub mod Longest

@@ -92,6 +92,9 @@ digit_low c d = (digit_from_value c (ltb-true _ _ d)).0
 digit_high : (c : ℕ) → is_digit c 10 ≡ true → c ≤ 57
 digit_high c d = (digit_from_value c (ltb-true _ _ d)).1
 
+pub digit_no_quote : (c : ℕ) → is_digit c 10 ≡ true → c ≢ 34
+digit_no_quote c d e = absurd (omega (arith, digit_low c d))
+
 digit_no_letter : (c : ℕ) → is_digit c 10 ≡ true → is_letter c ≡ false
 digit_no_letter c d = not_true _ (λ h. absurd (omega (arith, letter_low c h, digit_high c d)))
 

@@ -3,8 +3,8 @@
 use Rattle.std.specs.Prelude.{ℕ, ◌+◌, ◌≤◌, nat_lt, if◌then◌else◌, List, length, slice_range, Result, Ok, Err}
 use Rattle.rdl_text.specs.Number.{value}
 use Rattle.rdl_text.specs.Piece.{Candidate, Piece, Gap, Word}
-use Rattle.rdl_text.specs.Rows.{width_len, verilog_base}
-use Rattle.rdl_text.specs.Words.{number, sized}
+use Rattle.rdl_text.specs.Rows.{byte, width_len, verilog_base}
+use Rattle.rdl_text.specs.Words.{number, sized, word_piece, longest}
 use Rattle.rdl_text.specs.declared.fault.FaultKind.{FaultKind}
 use Rattle.rdl_text.specs.declared.fault.FaultKind.TheVariants.{IdentifierTooLong}
 use Rattle.rdl_text.specs.declared.piece.Front.{Front}
@@ -45,3 +45,7 @@ abbrev pub span_of : Result Piece FaultKind → Result Span FaultKind
 span_of (Ok (Gap len)) = Ok (spans.Gap len)
 span_of (Ok (Word kind len)) = Ok (spans.Word len)
 span_of (Err fault) = Err fault
+
+-- the piece that the longest word in front of a text is, without its kind
+abbrev pub front_span : List ℕ → Result Span FaultKind
+front_span s = span_of (word_piece (byte s 0) (longest s))

@@ -1,16 +1,19 @@
 //! A text cut into words.
-ghost use Rattle.std.specs.Prelude.{◌≡◌, ◌≤◌, ◌<◌, ◌+◌, ◌⊎◌, length, IfSome, IfOk, IfErr, Err, Ok, drop, slice_index};
+ghost use Rattle.std.specs.Prelude.{◌≡◌, ◌≤◌, ◌<◌, ◌+◌, ◌⊎◌, length, IfSome, IfOk, IfErr, Err, Ok, drop, slice_index, ◌≢◌, true, false};
 ghost use Rattle.rdl_text.specs.Fault.{out_of_memory};
-ghost use Rattle.rdl_text.specs.Front.{span_of};
+ghost use Rattle.rdl_text.specs.Front.{span_of, front_span};
+ghost use Rattle.rdl_text.specs.Name.{is_letter};
+ghost use Rattle.std.specs.Char.{is_digit};
 ghost use Rattle.rdl_text.specs.Spans.{AreSpans};
 ghost use Rattle.rdl_text.specs.Standing.{Stands, word_at, kind_mark};
 ghost use Rattle.rdl_text.specs.Words as spec;
 
-use crate::bytes::{Class, byte_at, is_blank, run_len};
+use crate::bytes::{Class, byte_at, is_blank, is_digit, run_len};
 use crate::fault::{FaultKind, TextFault};
 use crate::list::Tokens;
+use crate::name::{Name, is_letter};
 use crate::piece::Span;
-use crate::rows::{kind_of, long_mark, longest, short_mark};
+use crate::rows::{closing, kind_of, long_mark, longest, longest_number, short_mark};
 use crate::token::{Mark, Token};
 use std::alloc::Global;
 
@@ -37,17 +40,83 @@ fn block_comment(bytes: &[u8]) -> Result<Span, FaultKind>
     }
 }
 
+/// The identifier that a text begins with, which begins with a letter.
 #[inline]
-fn word_span(bytes: &[u8]) -> Result<Span, FaultKind>
-    ensures { result ≡ span_of (spec.word_piece (slice_index bytes.now 0) (spec.longest bytes.now)) }
+#[tactic(auto, using(crate::proofs::Fronts::letter_span))]
+fn identifier_span(bytes: &[u8]) -> Result<Span, FaultKind>
+    requires { is_letter (slice_index bytes.now 0) ≡ true }
+    ensures { result ≡ front_span bytes.now }
 {
-    match longest(bytes) {
+    let len = 1 + run_len(bytes, 1, Class::IdentifierRest);
+    if len > Name::MAX_LEN {
+        Err(FaultKind::IdentifierTooLong)
+    } else {
+        Ok(Span::Word(len))
+    }
+}
+
+/// The number that a text begins with, which begins with a digit.
+#[inline]
+#[tactic(auto, using(crate::proofs::Fronts::digit_span, crate::proofs::Fronts::digit_span_none))]
+fn number_span(bytes: &[u8]) -> Result<Span, FaultKind>
+    requires { is_digit (slice_index bytes.now 0) 10 ≡ true }
+    ensures { result ≡ front_span bytes.now }
+{
+    match longest_number(bytes) {
         Some(front) => match kind_of(bytes, front) {
             Ok(_) => Ok(Span::Word(front.len)),
             Err(fault) => Err(fault),
         },
-        None if byte_at(bytes, 0) == b'"' => Err(FaultKind::UnendedString),
         None => Err(FaultKind::BadCharacter),
+    }
+}
+
+/// The string that a text begins with, which begins with a quote.
+#[inline]
+#[tactic(auto, using(crate::proofs::Fronts::quote_span, crate::proofs::Steps::row_lemmas))]
+fn string_span(bytes: &[u8]) -> Result<Span, FaultKind>
+    requires { slice_index bytes.now 0 ≡ 34 }
+    ensures { result ≡ front_span bytes.now }
+{
+    match closing(&bytes[1..]) {
+        Some(len) => Ok(Span::Word(len + 2)),
+        None => Err(FaultKind::UnendedString),
+    }
+}
+
+/// The mark that a text begins with, which begins with no letter, no digit and no quote.
+#[inline]
+#[tactic(auto, using(crate::proofs::Fronts::mark_span))]
+fn mark_span(bytes: &[u8]) -> Result<Span, FaultKind>
+    requires letter { is_letter (slice_index bytes.now 0) ≡ false }
+    requires digit { is_digit (slice_index bytes.now 0) 10 ≡ false }
+    requires quote { slice_index bytes.now 0 ≢ 34 }
+    ensures { result ≡ front_span bytes.now }
+{
+    let first = byte_at(bytes, 0);
+    match long_mark(first, byte_at(bytes, 1)) {
+        Some(_) => Ok(Span::Word(2)),
+        None => match short_mark(first) {
+            Some(_) => Ok(Span::Word(1)),
+            None => Err(FaultKind::BadCharacter),
+        },
+    }
+}
+
+/// What a text begins with that begins with no blank and no comment.
+#[inline]
+fn word_span(bytes: &[u8]) -> Result<Span, FaultKind>
+    ensures { result ≡ front_span bytes.now }
+{
+    let first = byte_at(bytes, 0);
+    if is_letter(first) {
+        identifier_span(bytes)
+    } else if is_digit(first, 10) {
+        number_span(bytes)
+    } else if first == b'"' {
+        string_span(bytes)
+    } else {
+        mark_span(bytes)
     }
 }
 

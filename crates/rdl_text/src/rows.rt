@@ -94,7 +94,7 @@ fn longer(one: Option<Front>, other: Option<Front>) -> Option<Front>
     }
 }
 
-fn longest_number(bytes: &[u8]) -> Option<Front>
+pub(crate) fn longest_number(bytes: &[u8]) -> Option<Front>
     ensures word { option_map (judged_front bytes.now) result ≡ spec.longer (spec.decimal bytes.now) (spec.longer (spec.hexadecimal bytes.now) (spec.verilog bytes.now)) }
     ensures inside { IfSome result (IsInside bytes.now) }
 {
@@ -102,7 +102,7 @@ fn longest_number(bytes: &[u8]) -> Option<Front>
 }
 
 /// How many bytes stand before the quote that closes a string.
-fn closing(bytes: &[u8]) -> Option<usize>
+pub(crate) fn closing(bytes: &[u8]) -> Option<usize>
     ensures place { result ≡ closing false bytes.now }
     ensures within { IfSome result (λ n. n < length bytes.now) }
 {
