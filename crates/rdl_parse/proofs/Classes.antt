@@ -1,54 +1,29 @@
--- The words that are found in a table of them.
-use Rattle.std.proofs.Common.{◌≡◌, ℕ, Bool, true, false, cond, List, [], ◌∷◌, Option, Some, None, refl, ap, sym, ◌∙◌}
-use Rattle.std.specs.Bool.{Decides}
-use Rattle.std.proofs.lemmas.Option.{none-some, same_Some}
+-- An identifier is by the reserved words of its length what it is by all.
+use Rattle.std.proofs.Common.{◌≡◌, ℕ, Bool, true, false, cond, ◌||◌, List, [], ◌∷◌, length, refl, ap, sym, ◌∙◌, arith}
+use Rattle.std.proofs.lemmas.Bool.Decides.{nat_tests}
+use Rattle.std.proofs.lemmas.Bool.{eqb-true}
 use Rattle.std.proofs.lemmas.Slice.Eq.{bytes_eq-Decides}
-use Rattle.std.specs.Prelude.{codes, bytes_eq, find, if◌then◌else◌}
-use Rattle.rdl_tree.specs.declared.value.Word.{Word as ValueWord}
-use Rattle.rdl_tree.specs.declared.value.Word.TheVariants as value
-use Rattle.rdl_tree.specs.Word.{word_text}
-use Rattle.rdl_parse.specs.declared.class.Property.{Property}
-use Rattle.rdl_parse.specs.declared.class.Property.TheVariants as properties
+use Rattle.std.specs.Bool.{Decides}
+use Rattle.std.specs.Prelude.{nat_eq, codes, bytes_eq, if◌then◌else◌}
 use Rattle.rdl_parse.specs.declared.class.Class.{Class}
-use Rattle.rdl_parse.specs.declared.class.Class.TheVariants as classes
-use Rattle.rdl_parse.specs.Symbol.{property_text}
+use Rattle.rdl_parse.specs.declared.class.Class.TheVariants.{Name, Reserved}
 use Rattle.rdl_parse.specs.Class.{class, is_unused}
+use Rattle.rdl_parse.specs.Reserved.{Table, unused, reserved, look, of_length, by_length}
 
-abbrev pub property_words : List Property
-property_words = properties.Sw ∷ properties.Hw ∷ properties.Rclr ∷ properties.Rset ∷ properties.Woset ∷ properties.Woclr ∷ []
+either : (a b : Bool) (x y : Class) → cond (a || b) x y ≡ cond a x (cond b x y)
+either true b x y = refl
+either false b x y = refl
 
-abbrev pub value_words : List ValueWord
-value_words =
-    value.Rw ∷ value.Wr ∷ value.Rw1 ∷ value.W1 ∷ value.Na ∷ value.Ruser ∷ value.Wot ∷ value.Wzs ∷ value.Wzc ∷ value.Wzt ∷ value.Wclr ∷ value.Wset
-    ∷ value.Wuser ∷ value.Compact ∷ value.Regalign ∷ value.Fullalign ∷ []
+unused_table : (n : List ℕ) → cond (is_unused n) Reserved Name ≡ look n unused
+unfolding is_unused
+unused_table n =
+    either _ (bytes_eq n (codes "encode")) Reserved Name ∙ (either _ (bytes_eq n (codes "abstract")) Reserved _ ∙ (either _ (bytes_eq n (codes "alias")) Reserved _
+    ∙ (either _ (bytes_eq n (codes "property")) Reserved _ ∙ (either _ (bytes_eq n (codes "constraint")) Reserved _ ∙ (either _ (bytes_eq n (codes "struct")) Reserved _
+    ∙ (either _ (bytes_eq n (codes "enum")) Reserved _ ∙ either (bytes_eq n (codes "mem")) (bytes_eq n (codes "signal")) Reserved _))))))
 
--- the class of the word of the list that passes the test, or this class
-abbrev pub classed : {A : Type 0} → (A → Class) → (A → Bool) → Class → List A → Class
-classed f p e [] = e
-classed f p e (x ∷ xs) = cond (p x) (f x) (classed f p e xs)
-
-some_first : {A : Type 0} (f : A → Class) (b : Bool) (y x : A) (o : Option A) (r : Class)
-    → (o ≡ Some x → r ≡ f x) → cond b (Some y) o ≡ Some x → cond b (f y) r ≡ f x
-some_first f true y x o r more h = ap f (same_Some y x h)
-some_first f false y x o r more h = more h
-
-none_first : {A : Type 0} (f : A → Class) (b : Bool) (y : A) (o : Option A) (r e : Class)
-    → (o ≡ None → r ≡ e) → cond b (Some y) o ≡ None → cond b (f y) r ≡ e
-none_first f true y o r e more h = absurd (none-some y (sym h))
-none_first f false y o r e more h = more h
-
-classed-some : {A : Type 0} (f : A → Class) (p : A → Bool) (e : Class) (xs : List A) (x : A) → find p xs ≡ Some x → classed f p e xs ≡ f x
-classed-some f p e [] x h = absurd (none-some x h)
-classed-some f p e (y ∷ xs) x h = some_first f (p y) y x (find p xs) (classed f p e xs) (classed-some f p e xs x) h
-
-classed-none : {A : Type 0} (f : A → Class) (p : A → Bool) (e : Class) (xs : List A) → find p xs ≡ None → classed f p e xs ≡ e
-classed-none f p e [] h = refl
-classed-none f p e (y ∷ xs) h = none_first f (p y) y (find p xs) (classed f p e xs) e (classed-none f p e xs) h
-
--- an identifier that is none of the first words
-abbrev pub others : List ℕ → Class
-others n =
-    classed classes.Property (λ p. bytes_eq n (property_text p)) (classed classes.Word (λ w. bytes_eq n (word_text w)) (if is_unused n then classes.Reserved else classes.Name) value_words) property_words
+class_table : (n : List ℕ) → class n ≡ look n reserved
+unfolding class
+class_table n = rw (unused_table n) refl
 
 decided : (b : Bool) (P : Type 0) → Decides b P → (P → ⊥) → b ≡ false
 decided true P d h = absurd (h (d.0 refl))
@@ -57,46 +32,34 @@ decided false P d h = refl
 other : (n m : List ℕ) → (n ≡ m → ⊥) → bytes_eq n m ≡ false
 other n m h = decided (bytes_eq n m) (n ≡ m) (bytes_eq-Decides n m) h
 
-class-others : (n : List ℕ)
-    → bytes_eq n (codes "addrmap") ≡ false → bytes_eq n (codes "regfile") ≡ false → bytes_eq n (codes "reg") ≡ false → bytes_eq n (codes "field") ≡ false
-    → bytes_eq n (codes "external") ≡ false → bytes_eq n (codes "internal") ≡ false → bytes_eq n (codes "default") ≡ false
-    → bytes_eq n (codes "true") ≡ false → bytes_eq n (codes "false") ≡ false → class n ≡ others n
-unfolding class
-class-others n a r g f x i d t o = rw a (rw r (rw g (rw f (rw x (rw i (rw d (rw t (rw o refl))))))))
+same_length : (k : ℕ) (n m : List ℕ) → length n ≡ k → nat_eq k (length m) ≡ false → n ≡ m → ⊥
+same_length k n m h q e = let f : length m ≡ k = ap length (sym e) ∙ h in let g = rw f at q in grind (arith, nat_tests)
 
--- none of the words that are neither properties nor values
-pub record IsOther (n : List ℕ) : Type 0 where
-  pub addrmap : n ≡ codes "addrmap" → ⊥
-  pub regfile : n ≡ codes "regfile" → ⊥
-  pub reg : n ≡ codes "reg" → ⊥
-  pub field : n ≡ codes "field" → ⊥
-  pub external : n ≡ codes "external" → ⊥
-  pub internal : n ≡ codes "internal" → ⊥
-  pub default : n ≡ codes "default" → ⊥
-  pub yes : n ≡ codes "true" → ⊥
-  pub no : n ≡ codes "false" → ⊥
+look_length : (k : ℕ) (n : List ℕ) (es : Table) → length n ≡ k → look n es ≡ look n (of_length k es)
+look_length k n [] h = refl
+look_length k n (e ∷ es) h = by-length (nat_eq k (length e.0)) refl (look_length k n es h)
+  where
+    by-length : (b : Bool) → nat_eq k (length e.0) ≡ b → look n es ≡ look n (of_length k es)
+        → cond (bytes_eq n e.0) e.1 (look n es) ≡ look n (cond b (e ∷ of_length k es) (of_length k es))
+    by-length true q more = ap (λ (c : Class). cond (bytes_eq n e.0) e.1 c) more
+    by-length false q more = rw (other n e.0 (same_length k n e.0 h q)) more
 
-class_other : (n : List ℕ) → IsOther n → class n ≡ others n
-class_other n o =
-    class-others n (other n _ o.addrmap) (other n _ o.regfile) (other n _ o.reg) (other n _ o.field) (other n _ o.external) (other n _ o.internal)
-    (other n _ o.default) (other n _ o.yes) (other n _ o.no)
+class_of_length : (k : ℕ) (n : List ℕ) → length n ≡ k → class n ≡ look n (of_length k reserved)
+class_of_length k n h = class_table n ∙ look_length k n reserved h
 
-abbrev spelled_property : List ℕ → Property → Bool
-spelled_property n p = bytes_eq n (property_text p)
+no_length : (n : List ℕ) → nat_eq (length n) 2 ≡ false → nat_eq (length n) 3 ≡ false → nat_eq (length n) 4 ≡ false → nat_eq (length n) 5 ≡ false
+    → nat_eq (length n) 6 ≡ false → nat_eq (length n) 7 ≡ false → nat_eq (length n) 8 ≡ false → nat_eq (length n) 9 ≡ false → nat_eq (length n) 10 ≡ false → class n ≡ Name
+no_length n a b c d e f g h i = class_of_length (length n) n refl ∙ rw (a, b, c, d, e, f, g, h, i) refl
 
-abbrev spelled_word : List ℕ → ValueWord → Bool
-spelled_word n w = bytes_eq n (word_text w)
+chosen : (k : ℕ) (n : List ℕ) (y : Class) → (nat_eq (length n) k ≡ false → class n ≡ y) → class n ≡ cond (nat_eq (length n) k) (look n (of_length k reserved)) y
+chosen k n y more = by-test (nat_eq (length n) k) refl
+  where
+    by-test : (b : Bool) → nat_eq (length n) k ≡ b → class n ≡ cond b (look n (of_length k reserved)) y
+    by-test true e = class_of_length k n (eqb-true (length n) k e)
+    by-test false e = more e
 
-abbrev rest_class : List ℕ → Class
-rest_class n = if is_unused n then classes.Reserved else classes.Name
-
-abbrev word_or : List ℕ → Class
-word_or n = classed classes.Word (spelled_word n) (rest_class n) value_words
-
-pub property_class : (n : List ℕ) (p : Property) → IsOther n → find (spelled_property n) property_words ≡ Some p → classes.Property p ≡ class n
-property_class n p o h = sym (class_other n o ∙ classed-some classes.Property (spelled_property n) (word_or n) property_words p h)
-
-pub word_class : (n : List ℕ) (w : ValueWord) → IsOther n → find (spelled_property n) property_words ≡ None → find (spelled_word n) value_words ≡ Some w → classes.Word w ≡ class n
-word_class n w o h k =
-    sym (class_other n o ∙ classed-none classes.Property (spelled_property n) (word_or n) property_words h
-    ∙ classed-some classes.Word (spelled_word n) (rest_class n) value_words w k)
+pub class_by_length : (n : List ℕ) → class n ≡ by_length n
+unfolding by_length
+class_by_length n =
+    chosen 2 n _ (λ a. chosen 3 n _ (λ b. chosen 4 n _ (λ c. chosen 5 n _ (λ d. chosen 6 n _ (λ e. chosen 7 n _ (λ f. chosen 8 n _ (λ g. chosen 9 n _ (λ h. chosen 10 n _ (λ i.
+    no_length n a b c d e f g h i)))))))))

@@ -1,10 +1,17 @@
 -- What words are not.
-use Rattle.std.proofs.Common.{◌≡◌, ℕ, suc, false, List, [], ◌∷◌, length, None, refl, ap, arith}
+use Rattle.std.proofs.Common.{◌≡◌, ℕ, suc, ◌<◌, Bool, not, true, false, cond, List, [], ◌∷◌, length, drop, Option, Some, None, Ok, Err, refl, ap, arith}
+use denote.Enum.Bare.{sameb}
+use Rattle.rdl_text.specs.contracts.token.Mark.{the_type}
 use Rattle.rdl_text.specs.declared.token.Mark.{Mark}
+use Rattle.rdl_text.specs.declared.token.Mark.TheVariants.{CloseBrace}
+use Rattle.rdl_text.specs.declared.token.TokenKind.{TokenKind}
+use Rattle.rdl_text.specs.declared.token.TokenKind.TheVariants as kinds
+use Rattle.rdl_text.specs.Standing.{kind_mark, first_mark}
 use Rattle.rdl_text.specs.Name.{IsName}
 use Rattle.rdl_text.specs.Word.{Word as Token}
-use Rattle.rdl_parse.specs.Symbol.{class_symbol, symbols, property_text}
-use Rattle.rdl_parse.specs.Reading.{is_mark, number_by}
+use Rattle.rdl_parse.specs.Symbol.{class_symbol, symbol_by, symbol, symbols, property_text}
+use Rattle.rdl_parse.specs.Class.{class}
+use Rattle.rdl_parse.specs.Reading.{is_mark, number_by, begins, mark_at, fault_at, goes_on}
 use Rattle.rdl_parse.specs.declared.class.Class.{Class}
 use Rattle.rdl_parse.specs.declared.class.Class.TheVariants.{Kind, Outside, Default, Truth, Property, Word, Reserved, Name}
 use Rattle.rdl_parse.specs.declared.class.Property.{Property as Prop}
@@ -29,6 +36,37 @@ identifier_no_number (Property p) n = refl
 identifier_no_number (Word w) n = refl
 identifier_no_number Reserved n = refl
 identifier_no_number Name n = refl
+
+abbrev pub by_mark : Mark → Option Mark → Bool
+by_mark m None = false
+by_mark m (Some n) = sameb the_type n m
+
+mark_of_kind : (m : Mark) (k : TokenKind) (n : List ℕ) → is_mark m (symbol_by k n) ≡ by_mark m (kind_mark k)
+mark_of_kind m kinds.Identifier n = identifier_no_mark (class n) m n
+mark_of_kind m (kinds.Number v) n = refl
+mark_of_kind m kinds.Text n = refl
+mark_of_kind m (kinds.Mark own) n = refl
+
+-- words begin with a mark if their first one is it
+pub begins_first : (m : Mark) (ws : List Token) → begins m (symbols ws) ≡ by_mark m (first_mark ws)
+unfolding begins
+begins_first m [] = refl
+begins_first m (w ∷ ws) = mark_of_kind m w.kind w.source
+
+pub mark_met : (m : Mark) (ws : List Token) → begins m (symbols ws) ≡ true → mark_at m (symbols ws) ≡ Ok (symbols (drop 1 ws))
+unfolding begins mark_at
+mark_met m [] e = cc
+mark_met m (w ∷ ws) e = rw e refl
+
+pub mark_missed : (m : Mark) (ws : List Token) → begins m (symbols ws) ≡ false → mark_at m (symbols ws) ≡ Err (fault_at (symbols ws))
+unfolding begins mark_at
+mark_missed m [] e = refl
+mark_missed m (w ∷ ws) e = rw e refl
+
+pub goes_on_first : (ws : List Token) → 0 < length ws → goes_on (symbols ws) ≡ not (begins CloseBrace (symbols ws))
+unfolding goes_on begins
+goes_on_first [] h = absurd (omega arith)
+goes_on_first (w ∷ ws) h = refl
 
 pub length_symbols : (ws : List Token) → length (symbols ws) ≡ length ws
 length_symbols [] = refl

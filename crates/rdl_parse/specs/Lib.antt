@@ -3,6 +3,7 @@ pub mod Symbol
 pub mod Finds
 pub mod Spelling
 pub mod Reading
+pub mod Reserved
 pub mod Gathering
 pub mod Stands
 pub mod Places

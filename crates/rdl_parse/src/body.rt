@@ -12,14 +12,14 @@ use crate::found::{Found, Spot};
 use crate::gathered::Gathered;
 use crate::reader::{Reader, wrong};
 use crate::room::Room;
-use crate::word::{is_mark, new_name, property_name};
+use crate::word::{new_name, property_name};
 use rdl_text::name::Name;
 use rdl_text::token::{Mark, TokenKind};
 use rdl_tree::description::{Body, Component, Item, Of};
 use rdl_tree::shell::{Kind, Outside};
 use std::alloc::Global;
 
-impl<'t, 'a> Reader<'t, 'a> {
+impl<'a> Reader<'a> {
     /// What stands behind a kind and a name.
     #[cycle(parse)]
     fn definition(
@@ -32,7 +32,7 @@ impl<'t, 'a> Reader<'t, 'a> {
         kind: Kind,
         name: Name,
     ) -> Result<Gathered, Stop>
-        ensures { Gives (λ g. (finished g, symbols self.new.rest.now)) result (definition_at (body_at levels) room front left kind name (symbols self.old.rest.now)) }
+        ensures { Gives (λ g. (finished g, symbols self.new.rest)) result (definition_at (body_at levels) room front left kind name (symbols self.old.rest)) }
     {
         let (body, spots) = self.body(alloc, levels, room)?;
         let of = Of::Named(name.try_copy(alloc)?);
@@ -51,7 +51,7 @@ impl<'t, 'a> Reader<'t, 'a> {
         front: Option<Outside>,
         kind: Kind,
     ) -> Result<Gathered, Stop>
-        ensures { Gives (λ g. (finished g, symbols self.new.rest.now)) result (anonymous_at (body_at levels) room front kind (symbols self.old.rest.now)) }
+        ensures { Gives (λ g. (finished g, symbols self.new.rest)) result (anonymous_at (body_at levels) room front kind (symbols self.old.rest)) }
     {
         let (body, spots) = self.body(alloc, levels, room)?;
         let of = Of::Anonymous(Component { kind, body });
@@ -70,7 +70,7 @@ impl<'t, 'a> Reader<'t, 'a> {
         left: usize,
         kind: Kind,
     ) -> Result<Gathered, Stop>
-        ensures { Gives (λ g. (finished g, symbols self.new.rest.now)) result (spec.component_at (body_at levels) room front left kind (symbols self.old.rest.now)) }
+        ensures { Gives (λ g. (finished g, symbols self.new.rest)) result (spec.component_at (body_at levels) room front left kind (symbols self.old.rest)) }
     {
         match self.optional_name(alloc)? {
             Some(name) => self.definition(alloc, levels, room, front, left, kind, name),
@@ -89,14 +89,14 @@ impl<'t, 'a> Reader<'t, 'a> {
         left: usize,
         outside: Outside,
     ) -> Result<Gathered, Stop>
-        ensures { Gives (λ g. (finished g, symbols self.new.rest.now)) result (spec.fronted_at (body_at levels) room left outside (symbols self.old.rest.now)) }
+        ensures { Gives (λ g. (finished g, symbols self.new.rest)) result (spec.fronted_at (body_at levels) room left outside (symbols self.old.rest)) }
     {
-        let [word, rest @ ..] = self.rest else {
-            return Err(wrong(self.rest));
+        let Some((word, rest)) = self.rest.split_first() else {
+            return Err(wrong(&self.rest));
         };
         word.is_spelled();
         if word.kind() != TokenKind::Identifier {
-            return Err(wrong(self.rest));
+            return Err(wrong(&self.rest));
         }
         match Class::of(word.source()) {
             Class::Kind(kind) => {
@@ -108,7 +108,7 @@ impl<'t, 'a> Reader<'t, 'a> {
                 let of = Of::Named(new_name(alloc, word.source())?);
                 self.insts(alloc, room, outside, &of, &[], Found::new(alloc))
             }
-            _ => Err(wrong(self.rest)),
+            _ => Err(wrong(&self.rest)),
         }
     }
 
@@ -120,15 +120,15 @@ impl<'t, 'a> Reader<'t, 'a> {
         levels: u32,
         room: Room,
     ) -> Result<Gathered, Stop>
-        ensures { Gives (λ g. (finished g, symbols self.new.rest.now)) result (spec.statement_at (body_at levels) room (symbols self.old.rest.now)) }
+        ensures { Gives (λ g. (finished g, symbols self.new.rest)) result (spec.statement_at (body_at levels) room (symbols self.old.rest)) }
     {
         let left = self.rest.len();
-        let [word, rest @ ..] = self.rest else {
-            return Err(wrong(self.rest));
+        let Some((word, rest)) = self.rest.split_first() else {
+            return Err(wrong(&self.rest));
         };
         word.is_spelled();
         if word.kind() != TokenKind::Identifier {
-            return Err(wrong(self.rest));
+            return Err(wrong(&self.rest));
         }
         match Class::of(word.source()) {
             Class::Kind(kind) => {
@@ -153,18 +153,15 @@ impl<'t, 'a> Reader<'t, 'a> {
                 let name = new_name(alloc, property_name(property))?;
                 self.own(alloc, room, left, name)
             }
-            Class::Truth(_) | Class::Word(_) | Class::Reserved => Err(wrong(self.rest)),
+            Class::Truth(_) | Class::Word(_) | Class::Reserved => Err(wrong(&self.rest)),
         }
     }
 
-    #[tactic(auto, unfolding(crate::specs::Reading::goes_on))]
+    #[tactic(auto, unfolding(crate::specs::Reading::goes_on), using(crate::proofs::Words::goes_on_first))]
     fn goes_on(&self) -> bool
-        ensures { result ≡ spec.goes_on (symbols self.now.rest.now) }
+        ensures { result ≡ spec.goes_on (symbols self.now.rest) }
     {
-        match self.rest {
-            [] => false,
-            [word, ..] => !is_mark(word, Mark::CloseBrace),
-        }
+        self.rest.len() > 0 && !self.begins(Mark::CloseBrace)
     }
 
     /// Statements, up to a brace or the end.
@@ -175,7 +172,7 @@ impl<'t, 'a> Reader<'t, 'a> {
         levels: u32,
         before: Room,
     ) -> Result<Found, Stop>
-        ensures { Gives (λ f. (seen f, symbols self.new.rest.now)) result (spec.statements_at (body_at levels) before (symbols self.old.rest.now)) }
+        ensures { Gives (λ f. (seen f, symbols self.new.rest)) result (spec.statements_at (body_at levels) before (symbols self.old.rest)) }
     {
         let mut room = before;
         let mut found = Found::new(alloc);
@@ -190,7 +187,7 @@ impl<'t, 'a> Reader<'t, 'a> {
     /// A body in braces, where so many more may be opened.
     #[cycle(parse)]
     fn body(&mut self, alloc: Global, levels: u32, room: Room) -> Result<(Body, Vec<Spot>), Stop>
-        ensures { Gives (λ b. (record { items = b.0; spots = b.1.items }, symbols self.new.rest.now)) result (body_at levels room (symbols self.old.rest.now)) }
+        ensures { Gives (λ b. (record { items = b.0; spots = b.1.items }, symbols self.new.rest)) result (body_at levels room (symbols self.old.rest)) }
     {
         self.mark(Mark::OpenBrace)?;
         if levels == 0 {

@@ -1,7 +1,7 @@
 //! What the grammar sees of an identifier.
-ghost use Rattle.std.specs.Prelude.{◌≡◌, find, bytes_eq};
-ghost use Rattle.rdl_tree.specs.Word.{word_text};
-ghost use Rattle.rdl_parse.specs.Class.{class, is_unused};
+ghost use Rattle.std.specs.Prelude.{◌≡◌};
+ghost use Rattle.rdl_parse.specs.Class.{class};
+ghost use Rattle.rdl_parse.specs.Reserved.{reserved, look, of_length, by_length};
 ghost use Rattle.rdl_parse.specs.Symbol.{property_text};
 
 use rdl_tree::shell::{Kind, Outside};
@@ -37,88 +37,149 @@ pub enum Class {
     Name,
 }
 
-const PROPERTIES: [Property; 6] = [
-    Property::Sw,
-    Property::Hw,
-    Property::Rclr,
-    Property::Rset,
-    Property::Woset,
-    Property::Woclr,
-];
-
-/// The words that are values and nothing else.
-const VALUE_WORDS: [Word; 16] = [
-    Word::Rw,
-    Word::Wr,
-    Word::Rw1,
-    Word::W1,
-    Word::Na,
-    Word::Ruser,
-    Word::Wot,
-    Word::Wzs,
-    Word::Wzc,
-    Word::Wzt,
-    Word::Wclr,
-    Word::Wset,
-    Word::Wuser,
-    Word::Compact,
-    Word::Regalign,
-    Word::Fullalign,
-];
-
-/// The property that is spelled so.
-fn property_named(identifier: &str, properties: &[Property]) -> Option<Property>
-    ensures { result ≡ find (λ p. bytes_eq identifier.now (property_text p)) properties.now }
-{
-    properties
-        .iter()
-        .copied()
-        .find(|property| identifier == property.text())
-}
-
-/// The word that is spelled so.
-fn word_named(identifier: &str, words: &[Word]) -> Option<Word>
-    ensures { result ≡ find (λ w. bytes_eq identifier.now (word_text w)) words.now }
-{
-    words.iter().copied().find(|word| identifier == word.text())
-}
-
-/// Whether the identifier is a reserved word with no use in this profile.
-#[tactic(auto, unfolding(crate::specs::Class::is_unused))]
-fn is_unused(identifier: &str) -> bool
-    ensures { result ≡ is_unused identifier.now }
+/// What an identifier of two letters is.
+fn of_two(identifier: &str) -> Class
+    ensures { result ≡ look identifier.now (of_length 2 reserved) }
 {
     match identifier {
-        "mem" | "signal" | "enum" | "struct" | "constraint" => true,
-        "property" | "alias" | "abstract" | "encode" => true,
-        _ => false,
+        "sw" => Class::Property(Property::Sw),
+        "hw" => Class::Property(Property::Hw),
+        "rw" => Class::Word(Word::Rw),
+        "wr" => Class::Word(Word::Wr),
+        "w1" => Class::Word(Word::W1),
+        "na" => Class::Word(Word::Na),
+        _ => Class::Name,
+    }
+}
+
+/// What an identifier of three letters is.
+fn of_three(identifier: &str) -> Class
+    ensures { result ≡ look identifier.now (of_length 3 reserved) }
+{
+    match identifier {
+        "reg" => Class::Kind(Kind::Reg),
+        "rw1" => Class::Word(Word::Rw1),
+        "wot" => Class::Word(Word::Wot),
+        "wzs" => Class::Word(Word::Wzs),
+        "wzc" => Class::Word(Word::Wzc),
+        "wzt" => Class::Word(Word::Wzt),
+        "mem" => Class::Reserved,
+        _ => Class::Name,
+    }
+}
+
+/// What an identifier of four letters is.
+fn of_four(identifier: &str) -> Class
+    ensures { result ≡ look identifier.now (of_length 4 reserved) }
+{
+    match identifier {
+        "true" => Class::Truth(true),
+        "rclr" => Class::Property(Property::Rclr),
+        "rset" => Class::Property(Property::Rset),
+        "wclr" => Class::Word(Word::Wclr),
+        "wset" => Class::Word(Word::Wset),
+        "enum" => Class::Reserved,
+        _ => Class::Name,
+    }
+}
+
+/// What an identifier of five letters is.
+fn of_five(identifier: &str) -> Class
+    ensures { result ≡ look identifier.now (of_length 5 reserved) }
+{
+    match identifier {
+        "field" => Class::Kind(Kind::Field),
+        "false" => Class::Truth(false),
+        "woset" => Class::Property(Property::Woset),
+        "woclr" => Class::Property(Property::Woclr),
+        "ruser" => Class::Word(Word::Ruser),
+        "wuser" => Class::Word(Word::Wuser),
+        "alias" => Class::Reserved,
+        _ => Class::Name,
+    }
+}
+
+/// What an identifier of six letters is.
+fn of_six(identifier: &str) -> Class
+    ensures { result ≡ look identifier.now (of_length 6 reserved) }
+{
+    match identifier {
+        "signal" | "struct" | "encode" => Class::Reserved,
+        _ => Class::Name,
+    }
+}
+
+/// What an identifier of seven letters is.
+fn of_seven(identifier: &str) -> Class
+    ensures { result ≡ look identifier.now (of_length 7 reserved) }
+{
+    match identifier {
+        "addrmap" => Class::Kind(Kind::Addrmap),
+        "regfile" => Class::Kind(Kind::Regfile),
+        "default" => Class::Default,
+        "compact" => Class::Word(Word::Compact),
+        _ => Class::Name,
+    }
+}
+
+/// What an identifier of eight letters is.
+fn of_eight(identifier: &str) -> Class
+    ensures { result ≡ look identifier.now (of_length 8 reserved) }
+{
+    match identifier {
+        "external" => Class::Outside(Outside::External),
+        "internal" => Class::Outside(Outside::Internal),
+        "regalign" => Class::Word(Word::Regalign),
+        "property" | "abstract" => Class::Reserved,
+        _ => Class::Name,
+    }
+}
+
+/// What an identifier of nine letters is.
+fn of_nine(identifier: &str) -> Class
+    ensures { result ≡ look identifier.now (of_length 9 reserved) }
+{
+    match identifier {
+        "fullalign" => Class::Word(Word::Fullalign),
+        _ => Class::Name,
+    }
+}
+
+/// What an identifier of ten letters is.
+fn of_ten(identifier: &str) -> Class
+    ensures { result ≡ look identifier.now (of_length 10 reserved) }
+{
+    match identifier {
+        "constraint" => Class::Reserved,
+        _ => Class::Name,
+    }
+}
+
+/// What an identifier is by its length: no reserved word has another one.
+#[tactic(auto, unfolding(crate::specs::Reserved::by_length))]
+fn by_length(identifier: &str) -> Class
+    ensures { result ≡ by_length identifier.now }
+{
+    match identifier.len() {
+        2 => of_two(identifier),
+        3 => of_three(identifier),
+        4 => of_four(identifier),
+        5 => of_five(identifier),
+        6 => of_six(identifier),
+        7 => of_seven(identifier),
+        8 => of_eight(identifier),
+        9 => of_nine(identifier),
+        10 => of_ten(identifier),
+        _ => Class::Name,
     }
 }
 
 impl Class {
-    #[tactic(auto, unfolding(crate::specs::Class::class))]
+    #[tactic(auto, using(crate::proofs::Classes::class_by_length))]
     pub fn of(identifier: &str) -> Class
         ensures { result ≡ class identifier.now }
     {
-        match identifier {
-            "addrmap" => Class::Kind(Kind::Addrmap),
-            "regfile" => Class::Kind(Kind::Regfile),
-            "reg" => Class::Kind(Kind::Reg),
-            "field" => Class::Kind(Kind::Field),
-            "external" => Class::Outside(Outside::External),
-            "internal" => Class::Outside(Outside::Internal),
-            "default" => Class::Default,
-            "true" => Class::Truth(true),
-            "false" => Class::Truth(false),
-            _ => match property_named(identifier, &PROPERTIES) {
-                Some(property) => Class::Property(property),
-                None => match word_named(identifier, &VALUE_WORDS) {
-                    Some(word) => Class::Word(word),
-                    None if is_unused(identifier) => Class::Reserved,
-                    None => Class::Name,
-                },
-            },
-        }
+        by_length(identifier)
     }
 }
 

@@ -14,11 +14,11 @@ use std::alloc::Global;
 
 type Range = Option<(Number, Number)>;
 
-impl<'t, 'a> Reader<'t, 'a> {
+impl<'a> Reader<'a> {
     /// One more `[number]`.
     #[tactic(auto, unfolding(crate::specs::Reading::size_at))]
     fn size(&mut self, sizes: &mut Vec<Number>) -> Result<(), Stop>
-        ensures { Gives (λ _. (sizes.new.items, symbols self.new.rest.now)) result (spec.size_at sizes.old.items (symbols self.old.rest.now)) }
+        ensures { Gives (λ _. (sizes.new.items, symbols self.new.rest)) result (spec.size_at sizes.old.items (symbols self.old.rest)) }
     {
         self.mark(Mark::OpenBracket)?;
         let size = self.number()?;
@@ -28,7 +28,7 @@ impl<'t, 'a> Reader<'t, 'a> {
     }
 
     fn sizes(&mut self, sizes: &mut Vec<Number>) -> Result<(), Stop>
-        ensures { Gives (λ _. (sizes.new.items, symbols self.new.rest.now)) result (spec.sizes_at sizes.old.items (symbols self.old.rest.now)) }
+        ensures { Gives (λ _. (sizes.new.items, symbols self.new.rest)) result (spec.sizes_at sizes.old.items (symbols self.old.rest)) }
     {
         'sizes: while self.begins(Mark::OpenBracket) {
             self.size(sizes)?;
@@ -39,7 +39,7 @@ impl<'t, 'a> Reader<'t, 'a> {
     /// What stands behind the first number in brackets.
     #[tactic(auto, unfolding(crate::specs::Reading::bracketed_at))]
     fn bracketed(&mut self, alloc: Global, first: Number) -> Result<(Dims, Range), Stop>
-        ensures { Gives (λ b. (b, symbols self.new.rest.now)) result (spec.bracketed_at first (symbols self.old.rest.now)) }
+        ensures { Gives (λ b. (b, symbols self.new.rest)) result (spec.bracketed_at first (symbols self.old.rest)) }
     {
         if self.begins(Mark::Colon) {
             self.mark(Mark::Colon)?;
@@ -56,7 +56,7 @@ impl<'t, 'a> Reader<'t, 'a> {
 
     #[tactic(auto, unfolding(crate::specs::Reading::brackets_at))]
     fn brackets(&mut self, alloc: Global) -> Result<(Dims, Range), Stop>
-        ensures { Gives (λ b. (b, symbols self.new.rest.now)) result (spec.brackets_at (symbols self.old.rest.now)) }
+        ensures { Gives (λ b. (b, symbols self.new.rest)) result (spec.brackets_at (symbols self.old.rest)) }
     {
         if !self.begins(Mark::OpenBracket) {
             return Ok((Dims::new(alloc), None));
@@ -69,7 +69,7 @@ impl<'t, 'a> Reader<'t, 'a> {
     /// The number behind a mark, if the mark stands here.
     #[tactic(auto, unfolding(crate::specs::Reading::part_at))]
     fn part(&mut self, mark: Mark) -> Result<Option<Number>, Stop>
-        ensures { Gives (λ n. (n, symbols self.new.rest.now)) result (spec.part_at mark (symbols self.old.rest.now)) }
+        ensures { Gives (λ n. (n, symbols self.new.rest)) result (spec.part_at mark (symbols self.old.rest)) }
     {
         if !self.begins(mark) {
             return Ok(None);
@@ -81,7 +81,7 @@ impl<'t, 'a> Reader<'t, 'a> {
 
     #[tactic(auto, unfolding(crate::specs::Reading::inst_at))]
     pub(crate) fn inst(&mut self, alloc: Global, outside: Outside) -> Result<Shell, Stop>
-        ensures { Gives (λ s. (s, symbols self.new.rest.now)) result (spec.inst_at outside (symbols self.old.rest.now)) }
+        ensures { Gives (λ s. (s, symbols self.new.rest)) result (spec.inst_at outside (symbols self.old.rest)) }
     {
         let name = self.name(alloc)?;
         let (dims, range) = self.brackets(alloc)?;

@@ -82,7 +82,7 @@ pub fn parse<'a>(alloc: Global, text: &'a str) -> Result<(Description, Places<'a
         Ok(words) => words,
         Err(fault) => return Err(fault),
     };
-    match text::text(alloc, words.as_slice()) {
+    match text::text(alloc, words.as_words()) {
         Ok((description, spots)) => match Places::new(alloc, text, &words, spots.as_slice()) {
             Ok(places) => Ok((description, places)),
             Err(_) => Err(ParseFault::MEMORY),
@@ -104,7 +104,7 @@ pub fn parse_item(alloc: Global, text: &str) -> Result<Vec<Item>, ParseFault>
         Ok(words) => words,
         Err(fault) => return Err(fault),
     };
-    match text::items(alloc, words.as_slice()) {
+    match text::items(alloc, words.as_words()) {
         Ok(items) => Ok(items),
         Err(stop) => Err(stop_fault(text, &words, stop)),
     }

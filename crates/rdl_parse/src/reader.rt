@@ -6,122 +6,122 @@ ghost use Rattle.rdl_parse.specs.declared.fault.Stop.{Stop};
 ghost use Rattle.std.specs.Prelude.{◌≡◌};
 
 use crate::fault::{Fault, Stop};
-use crate::word::{is_mark, name_of, new_name, number_of, prop_of, value_of};
+use crate::word::{name_of, new_name, number_of, prop_of, value_of};
+use rdl_text::list::Words;
 use rdl_text::name::Name;
-use rdl_text::token::{Mark, Number, Token};
+use rdl_text::token::{Mark, Number};
 use rdl_tree::value::Value;
 use std::alloc::Global;
 
 /// The words that are left.
 #[derive(Drop)]
-pub(crate) struct Reader<'t, 'a> {
-    pub(crate) rest: &'t [Token<'a>],
+pub(crate) struct Reader<'a> {
+    pub(crate) rest: Words<'a>,
 }
 
 /// Words that don't go on as they must.
 #[tactic(auto, using(crate::proofs::Words::length_symbols))]
-pub(crate) fn wrong(words: &[Token<'_>]) -> Stop
+pub(crate) fn wrong(words: &Words<'_>) -> Stop
     ensures { result ≡ Stop.Fault (spec.fault_at (symbols words.now)) }
 {
-    match words {
-        [] => Stop::Fault(Fault::End),
-        [_, ..] => Stop::Fault(Fault::Unexpected(words.len())),
+    match words.len() {
+        0 => Stop::Fault(Fault::End),
+        left => Stop::Fault(Fault::Unexpected(left)),
     }
 }
 
-impl<'t, 'a> Reader<'t, 'a> {
-    #[tactic(auto, unfolding(crate::specs::Reading::begins))]
+impl<'a> Reader<'a> {
+    #[tactic(auto, using(crate::proofs::Words::begins_first))]
     pub(crate) fn begins(&self, mark: Mark) -> bool
-        ensures { result ≡ spec.begins mark (symbols self.now.rest.now) }
+        ensures { result ≡ spec.begins mark (symbols self.now.rest) }
     {
-        match self.rest {
-            [] => false,
-            [word, ..] => is_mark(word, mark),
+        match self.rest.mark() {
+            Some(own) => own == mark,
+            None => false,
         }
     }
 
-    #[tactic(auto, unfolding(crate::specs::Reading::mark_at))]
+    #[tactic(auto, using(crate::proofs::Words::mark_met, crate::proofs::Words::mark_missed))]
     pub(crate) fn mark(&mut self, mark: Mark) -> Result<(), Stop>
-        ensures { Gives (λ _. symbols self.new.rest.now) result (spec.mark_at mark (symbols self.old.rest.now)) }
+        ensures { Gives (λ _. symbols self.new.rest) result (spec.mark_at mark (symbols self.old.rest)) }
     {
-        match self.rest {
-            [word, rest @ ..] if is_mark(word, mark) => {
-                self.rest = rest;
-                Ok(())
-            }
-            words => Err(wrong(words)),
+        if self.begins(mark) {
+            self.rest = self.rest.others();
+            Ok(())
+        } else {
+            Err(wrong(&self.rest))
         }
     }
 
     #[tactic(auto, unfolding(crate::specs::Reading::by))]
     pub(crate) fn number(&mut self) -> Result<Number, Stop>
-        ensures { Gives (λ n. (n, symbols self.new.rest.now)) result (spec.number_at (symbols self.old.rest.now)) }
+        ensures { Gives (λ n. (n, symbols self.new.rest)) result (spec.number_at (symbols self.old.rest)) }
     {
-        let [word, rest @ ..] = self.rest else {
-            return Err(wrong(self.rest));
+        let Some((word, rest)) = self.rest.split_first() else {
+            return Err(wrong(&self.rest));
         };
-        match number_of(word) {
+        match number_of(&word) {
             Some(number) => {
                 self.rest = rest;
                 Ok(number)
             }
-            None => Err(wrong(self.rest)),
+            None => Err(wrong(&self.rest)),
         }
     }
 
     #[tactic(auto, unfolding(crate::specs::Reading::by))]
     pub(crate) fn name(&mut self, alloc: Global) -> Result<Name, Stop>
-        ensures { Gives (λ n. (n, symbols self.new.rest.now)) result (spec.name_at (symbols self.old.rest.now)) }
+        ensures { Gives (λ n. (n, symbols self.new.rest)) result (spec.name_at (symbols self.old.rest)) }
     {
-        let [word, rest @ ..] = self.rest else {
-            return Err(wrong(self.rest));
+        let Some((word, rest)) = self.rest.split_first() else {
+            return Err(wrong(&self.rest));
         };
-        match name_of(word) {
+        match name_of(&word) {
             Some(name) => {
                 self.rest = rest;
                 new_name(alloc, name)
             }
-            None => Err(wrong(self.rest)),
+            None => Err(wrong(&self.rest)),
         }
     }
 
     /// The name of a property.
     #[tactic(auto, unfolding(crate::specs::Reading::by))]
     pub(crate) fn prop(&mut self, alloc: Global) -> Result<Name, Stop>
-        ensures { Gives (λ n. (n, symbols self.new.rest.now)) result (spec.prop_at (symbols self.old.rest.now)) }
+        ensures { Gives (λ n. (n, symbols self.new.rest)) result (spec.prop_at (symbols self.old.rest)) }
     {
-        let [word, rest @ ..] = self.rest else {
-            return Err(wrong(self.rest));
+        let Some((word, rest)) = self.rest.split_first() else {
+            return Err(wrong(&self.rest));
         };
-        match prop_of(word) {
+        match prop_of(&word) {
             Some(name) => {
                 self.rest = rest;
                 new_name(alloc, name)
             }
-            None => Err(wrong(self.rest)),
+            None => Err(wrong(&self.rest)),
         }
     }
 
     #[tactic(auto, unfolding(crate::specs::Reading::by))]
     fn given(&mut self, alloc: Global) -> Result<Value, Stop>
-        ensures { Gives (λ v. (v, symbols self.new.rest.now)) result (spec.by spec.value_by (symbols self.old.rest.now)) }
+        ensures { Gives (λ v. (v, symbols self.new.rest)) result (spec.by spec.value_by (symbols self.old.rest)) }
     {
-        let [word, rest @ ..] = self.rest else {
-            return Err(wrong(self.rest));
+        let Some((word, rest)) = self.rest.split_first() else {
+            return Err(wrong(&self.rest));
         };
-        match value_of(alloc, word)? {
+        match value_of(alloc, &word)? {
             Some(value) => {
                 self.rest = rest;
                 Ok(value)
             }
-            None => Err(wrong(self.rest)),
+            None => Err(wrong(&self.rest)),
         }
     }
 
     /// What an assignment gives: the value behind `=`, or `true` where none stands.
     #[tactic(auto, unfolding(crate::specs::Reading::value_at))]
     pub(crate) fn value(&mut self, alloc: Global) -> Result<Value, Stop>
-        ensures { Gives (λ v. (v, symbols self.new.rest.now)) result (spec.value_at (symbols self.old.rest.now)) }
+        ensures { Gives (λ v. (v, symbols self.new.rest)) result (spec.value_at (symbols self.old.rest)) }
     {
         if !self.begins(Mark::Equals) {
             return Ok(Value::Bool(true));

@@ -19,11 +19,11 @@ use rdl_tree::shell::Outside;
 use rdl_tree::target::Target;
 use std::alloc::Global;
 
-impl<'t, 'a> Reader<'t, 'a> {
+impl<'a> Reader<'a> {
     /// The `;` behind these items.
     #[tactic(auto, unfolding(crate::specs::Gathering::ended_at), using(crate::proofs::Words::length_symbols))]
     fn end_statement(&mut self, kept: Option<Gathered>) -> Result<Gathered, Stop>
-        ensures { Gives (λ g. (finished g, symbols self.new.rest.now)) result (ended_at (option_map finished kept) (symbols self.old.rest.now)) }
+        ensures { Gives (λ g. (finished g, symbols self.new.rest)) result (ended_at (option_map finished kept) (symbols self.old.rest)) }
     {
         self.mark(Mark::Semicolon)?;
         match kept {
@@ -34,7 +34,7 @@ impl<'t, 'a> Reader<'t, 'a> {
 
     #[tactic(auto, using(crate::proofs::Gathering::finish_ended))]
     pub(crate) fn finish(&mut self, room: Room, found: Found) -> Result<Gathered, Stop>
-        ensures { Gives (λ g. (finished g, symbols self.new.rest.now)) result (spec.finish_at room (seen found) (symbols self.old.rest.now)) }
+        ensures { Gives (λ g. (finished g, symbols self.new.rest)) result (spec.finish_at room (seen found) (symbols self.old.rest)) }
     {
         self.end_statement(Gathered::new(room, found))
     }
@@ -47,7 +47,7 @@ impl<'t, 'a> Reader<'t, 'a> {
         item: Item,
         left: usize,
     ) -> Result<Gathered, Stop>
-        ensures { Gives (λ g. (finished g, symbols self.new.rest.now)) result (spec.finish_at room (single item left []) (symbols self.old.rest.now)) }
+        ensures { Gives (λ g. (finished g, symbols self.new.rest)) result (spec.finish_at room (single item left []) (symbols self.old.rest)) }
     {
         let mut found = Found::new(alloc);
         found.push(item, left, &[])?;
@@ -63,7 +63,7 @@ impl<'t, 'a> Reader<'t, 'a> {
         inner: &[Spot],
         kept: Option<Gathered>,
     ) -> Result<Option<Gathered>, Stop>
-        ensures { Gives (λ k. (option_map finished k, symbols self.new.rest.now)) result (gathered_at outside of.now inner.now (option_map finished kept) (symbols self.old.rest.now)) }
+        ensures { Gives (λ k. (option_map finished k, symbols self.new.rest)) result (gathered_at outside of.now inner.now (option_map finished kept) (symbols self.old.rest)) }
     {
         let left = self.rest.len();
         let shell = self.inst(alloc, outside)?;
@@ -83,7 +83,7 @@ impl<'t, 'a> Reader<'t, 'a> {
         inner: &[Spot],
         found: Found,
     ) -> Result<Gathered, Stop>
-        ensures { Gives (λ g. (finished g, symbols self.new.rest.now)) result (spec.insts_at room outside of.now inner.now (seen found) (symbols self.old.rest.now)) }
+        ensures { Gives (λ g. (finished g, symbols self.new.rest)) result (spec.insts_at room outside of.now inner.now (seen found) (symbols self.old.rest)) }
     {
         let mut kept = self.more(alloc, outside, of, inner, Gathered::new(room, found))?;
         'commas: while self.begins(Mark::Comma) {
@@ -102,7 +102,7 @@ impl<'t, 'a> Reader<'t, 'a> {
         left: usize,
         property: Name,
     ) -> Result<Gathered, Stop>
-        ensures { Gives (λ g. (finished g, symbols self.new.rest.now)) result (spec.own_at room left property (symbols self.old.rest.now)) }
+        ensures { Gives (λ g. (finished g, symbols self.new.rest)) result (spec.own_at room left property (symbols self.old.rest)) }
     {
         let value = self.value(alloc)?;
         self.finish_item(alloc, room, Item::Own(property, value), left)
@@ -116,7 +116,7 @@ impl<'t, 'a> Reader<'t, 'a> {
         room: Room,
         left: usize,
     ) -> Result<Gathered, Stop>
-        ensures { Gives (λ g. (finished g, symbols self.new.rest.now)) result (spec.default_at room left (symbols self.old.rest.now)) }
+        ensures { Gives (λ g. (finished g, symbols self.new.rest)) result (spec.default_at room left (symbols self.old.rest)) }
     {
         let property = self.prop(alloc)?;
         let value = self.value(alloc)?;
@@ -126,7 +126,7 @@ impl<'t, 'a> Reader<'t, 'a> {
     /// One more `.NAME`.
     #[tactic(auto, unfolding(crate::specs::Reading::dot_at))]
     fn dot(&mut self, alloc: Global, names: &mut Vec<Name>) -> Result<(), Stop>
-        ensures { Gives (λ _. (names.new.items, symbols self.new.rest.now)) result (spec.dot_at names.old.items (symbols self.old.rest.now)) }
+        ensures { Gives (λ _. (names.new.items, symbols self.new.rest)) result (spec.dot_at names.old.items (symbols self.old.rest)) }
     {
         self.mark(Mark::Dot)?;
         let name = self.name(alloc)?;
@@ -135,7 +135,7 @@ impl<'t, 'a> Reader<'t, 'a> {
     }
 
     fn dots(&mut self, alloc: Global, names: &mut Vec<Name>) -> Result<(), Stop>
-        ensures { Gives (λ _. (names.new.items, symbols self.new.rest.now)) result (spec.dots_at names.old.items (symbols self.old.rest.now)) }
+        ensures { Gives (λ _. (names.new.items, symbols self.new.rest)) result (spec.dots_at names.old.items (symbols self.old.rest)) }
     {
         'dots: while self.begins(Mark::Dot) {
             self.dot(alloc, names)?;
@@ -152,7 +152,7 @@ impl<'t, 'a> Reader<'t, 'a> {
         left: usize,
         first: Name,
     ) -> Result<Gathered, Stop>
-        ensures { Gives (λ g. (finished g, symbols self.new.rest.now)) result (spec.dynamic_at room left first (symbols self.old.rest.now)) }
+        ensures { Gives (λ g. (finished g, symbols self.new.rest)) result (spec.dynamic_at room left first (symbols self.old.rest)) }
     {
         let mut names = Vec::new(alloc);
         names.push(first)?;
@@ -173,7 +173,7 @@ impl<'t, 'a> Reader<'t, 'a> {
         left: usize,
         name: Name,
     ) -> Result<Gathered, Stop>
-        ensures { Gives (λ g. (finished g, symbols self.new.rest.now)) result (spec.named_at room left name (symbols self.old.rest.now)) }
+        ensures { Gives (λ g. (finished g, symbols self.new.rest)) result (spec.named_at room left name (symbols self.old.rest)) }
     {
         if self.begins(Mark::Dot) || self.begins(Mark::Arrow) {
             return self.dynamic(alloc, room, left, name);
@@ -188,15 +188,15 @@ impl<'t, 'a> Reader<'t, 'a> {
     /// `external` or `internal` before the first instance, if none stands at the front.
     #[tactic(auto, unfolding(crate::specs::Reading::late_at))]
     fn late(&mut self, front: Option<Outside>) -> Outside
-        ensures { spec.late_at front (symbols self.old.rest.now) ≡ Ok (result, symbols self.new.rest.now) }
+        ensures { spec.late_at front (symbols self.old.rest) ≡ Ok (result, symbols self.new.rest) }
     {
         if let Some(outside) = front {
             return outside;
         }
-        let [word, rest @ ..] = self.rest else {
+        let Some((word, rest)) = self.rest.split_first() else {
             return Outside::Unsaid;
         };
-        match outside_of(word) {
+        match outside_of(&word) {
             Some(outside) => {
                 self.rest = rest;
                 outside
@@ -215,7 +215,7 @@ impl<'t, 'a> Reader<'t, 'a> {
         inner: &[Spot],
         found: Found,
     ) -> Result<Gathered, Stop>
-        ensures { Gives (λ g. (finished g, symbols self.new.rest.now)) result (spec.late_insts_at room front of.now inner.now (seen found) (symbols self.old.rest.now)) }
+        ensures { Gives (λ g. (finished g, symbols self.new.rest)) result (spec.late_insts_at room front of.now inner.now (seen found) (symbols self.old.rest)) }
     {
         let outside = self.late(front);
         self.insts(alloc, room, outside, of, inner, found)
@@ -231,7 +231,7 @@ impl<'t, 'a> Reader<'t, 'a> {
         of: &Of,
         found: Found,
     ) -> Result<Gathered, Stop>
-        ensures { Gives (λ g. (finished g, symbols self.new.rest.now)) result (spec.defined_at room front of.now (seen found) (symbols self.old.rest.now)) }
+        ensures { Gives (λ g. (finished g, symbols self.new.rest)) result (spec.defined_at room front of.now (seen found) (symbols self.old.rest)) }
     {
         if front.is_none() && self.begins(Mark::Semicolon) {
             return self.finish(room, found);
@@ -242,12 +242,12 @@ impl<'t, 'a> Reader<'t, 'a> {
     /// A name, if one stands here.
     #[tactic(auto, unfolding(crate::specs::Gathering::optional_name_at))]
     pub(crate) fn optional_name(&mut self, alloc: Global) -> Result<Option<Name>, Stop>
-        ensures { Gives (λ n. (n, symbols self.new.rest.now)) result (optional_name_at (symbols self.old.rest.now)) }
+        ensures { Gives (λ n. (n, symbols self.new.rest)) result (optional_name_at (symbols self.old.rest)) }
     {
-        let [word, rest @ ..] = self.rest else {
+        let Some((word, rest)) = self.rest.split_first() else {
             return Ok(None);
         };
-        match name_of(word) {
+        match name_of(&word) {
             Some(name) => {
                 self.rest = rest;
                 Ok(Some(new_name(alloc, name)?))

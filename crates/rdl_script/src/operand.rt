@@ -5,7 +5,6 @@ ghost use Rattle.rdl_script.specs.Operands as spec;
 
 use rdl_parse::word::{is_mark, name_of, number_of, value_of};
 use rdl_text::fault::FaultKind;
-use rdl_text::list::Tokens;
 use rdl_text::token::{Mark, Number, Token};
 use rdl_text::tokens;
 use rdl_tree::dims::Dims;
@@ -16,11 +15,11 @@ pub(crate) type Range = (Number, Number);
 
 /// The words of a text.
 #[tactic(auto, unfolding(crate::specs::Operands::symbols_in))]
-fn words_in<'a>(alloc: Global, text: &'a str) -> Result<Option<Tokens<'a>>, AllocError>
-    ensures { IfOk result (λ words. option_map symbols words ≡ spec.symbols_in text.now) }
+fn words_in<'a>(alloc: Global, text: &'a str) -> Result<Option<Vec<Token<'a>>>, AllocError>
+    ensures { IfOk result (λ words. option_map (λ ws. symbols ws.items) words ≡ spec.symbols_in text.now) }
 {
     match tokens(alloc, text) {
-        Ok(words) => Ok(Some(words)),
+        Ok(words) => Ok(Some(words.to_vec(alloc)?)),
         Err(fault) => match fault.kind {
             FaultKind::Memory => Err(AllocError),
             _ => Ok(None),

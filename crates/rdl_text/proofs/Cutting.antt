@@ -3,21 +3,20 @@ use Rattle.std.proofs.Common.{◌≡◌, ℕ, ◌+◌, ◌-◌, ◌<◌, ◌≤�
 use Rattle.std.proofs.lemmas.List.{length-drop, drop-drop}
 use Rattle.std.proofs.lemmas.Str.{IsCharBoundary-from_rest, IsUtf8-drop}
 use Rattle.std.specs.Str.{IsCharBoundary}
+use Rattle.rdl_text.specs.Front.{span_of}
 use Rattle.rdl_text.specs.Word.{Word, word}
 use Rattle.rdl_text.specs.Words.{words, words_from, piece}
 use Rattle.rdl_text.specs.declared.fault.FaultKind.{FaultKind}
 use Rattle.rdl_text.specs.declared.token.TokenKind.{TokenKind}
-use Rattle.rdl_text.specs.declared.piece.Piece.{Piece}
-use Rattle.rdl_text.specs.declared.piece.Piece.TheVariants.{Gap, Word as Found}
+use Rattle.rdl_text.specs.Piece.{Piece}
+use Rattle.rdl_text.specs.Piece.{Gap, Word as Found}
+use Rattle.rdl_text.specs.declared.piece.Span.{Span}
+use Rattle.rdl_text.specs.declared.piece.Span.TheVariants as spans
 use Rattle.rdl_text.proofs.Ends.{piece_len, piece_ends}
 use Rattle.rdl_text.proofs.Following.{follow, words-gap, words-word, words-fault, words-end, follow_before}
 
-tail : (b text : List ℕ) (at : ℕ) → b ≡ text → take (length b - at) (drop at b) ≡ drop at text
+pub tail : (b text : List ℕ) (at : ℕ) → b ≡ text → take (length b - at) (drop at b) ≡ drop at text
 tail b text at e = take_all (length b - at) (drop at b) (omega (arith, length-drop at b)) ∙ ap (drop at) e
-
--- what the piece at a place is
-pub piece_of : (b text : List ℕ) (at : ℕ) (r q : Result Piece FaultKind) → b ≡ text → r ≡ piece (take (length b - at) (drop at b)) → r ≡ q → piece (drop at text) ≡ q
-piece_of b text at r q e f g = ap piece (sym (tail b text at e)) ∙ (sym f ∙ g)
 
 -- the place behind a piece
 pub record Next (text : List ℕ) (at len : ℕ) : Type 0 where
@@ -56,3 +55,23 @@ step-fault ws text at kind h e told =
 pub step-end : (ws : List Word) (text : List ℕ) (at : ℕ) → length text ≤ at → follow ws (words_from 0 at (drop at text)) ≡ words text → words text ≡ Ok ws
 step-end ws text at h told =
     sym told ∙ (ap (follow ws) (words-end at (drop at text) (omega (arith, length-drop at text))) ∙ ap Ok (append-nil ws))
+
+-- ---- What a piece without the kind of its word says of the piece.
+
+pub span_piece : (b text : List ℕ) (at : ℕ) (r : Result Span FaultKind) → b ≡ text → r ≡ span_of (piece (take (length b - at) (drop at b))) → span_of (piece (drop at text)) ≡ r
+span_piece b text at r e f = ap (λ (s : List ℕ). span_of (piece s)) (sym (tail b text at e)) ∙ sym f
+
+pub span_gap : (r : Result Piece FaultKind) (len : ℕ) → span_of r ≡ Ok (spans.Gap len) → r ≡ Ok (Gap len)
+span_gap (Ok (Gap n)) len e = let long : n ≡ len = cc in ap (λ (k : ℕ). Ok (Gap k)) long
+span_gap (Ok (Found kind n)) len e = cc
+span_gap (Err fault) len e = cc
+
+pub span_word : (r : Result Piece FaultKind) (len : ℕ) → span_of r ≡ Ok (spans.Word len) → (kind : TokenKind) × (r ≡ Ok (Found kind len))
+span_word (Ok (Gap n)) len e = cc
+span_word (Ok (Found kind n)) len e = let long : n ≡ len = cc in (kind, ap (λ (k : ℕ). Ok (Found kind k)) long)
+span_word (Err fault) len e = cc
+
+pub span_fault : (r : Result Piece FaultKind) (fault : FaultKind) → span_of r ≡ Err fault → r ≡ Err fault
+span_fault (Ok (Gap n)) fault e = cc
+span_fault (Ok (Found kind n)) fault e = cc
+span_fault (Err f) fault e = cc

@@ -17,9 +17,9 @@ use Rattle.rdl_text.specs.declared.fault.FaultKind.{FaultKind}
 use Rattle.rdl_text.specs.declared.fault.FaultKind.TheVariants.{UnendedString, BadCharacter}
 use Rattle.rdl_text.specs.declared.token.Mark.{Mark}
 use Rattle.rdl_text.specs.declared.token.TokenKind.{TokenKind}
-use Rattle.rdl_text.specs.declared.piece.Candidate.{Candidate}
-use Rattle.rdl_text.specs.declared.piece.Piece.{Piece}
-use Rattle.rdl_text.specs.declared.piece.Piece.TheVariants.{Gap, Word}
+use Rattle.rdl_text.specs.Piece.{Candidate}
+use Rattle.rdl_text.specs.Piece.{Piece}
+use Rattle.rdl_text.specs.Piece.{Gap, Word}
 use Rattle.rdl_text.proofs.Steps.{candidate_some, within_from_byte}
 
 pub record Ends (s : List ℕ) (n : ℕ) : Type 0 where

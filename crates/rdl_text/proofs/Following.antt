@@ -5,7 +5,7 @@ use Rattle.rdl_text.specs.Words.{words_from, piece, before}
 use Rattle.rdl_text.specs.declared.fault.FaultKind.{FaultKind}
 use Rattle.rdl_text.specs.declared.fault.TextFault.{TextFault}
 use Rattle.rdl_text.specs.declared.token.TokenKind.{TokenKind}
-use Rattle.rdl_text.specs.declared.piece.Piece.TheVariants.{Gap, Word as Found}
+use Rattle.rdl_text.specs.Piece.{Gap, Word as Found}
 
 -- words that were found, and what is found behind them
 abbrev pub follow : List Word → Result (List Word) TextFault → Result (List Word) TextFault

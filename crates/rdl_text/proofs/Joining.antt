@@ -12,8 +12,8 @@ use Rattle.rdl_text.specs.Raw.{is_inside}
 use Rattle.rdl_text.specs.Rows.{byte, identifier_len, decimal_len, hexadecimal_len, verilog_len, closing, string_len}
 use Rattle.rdl_text.specs.Word.{word}
 use Rattle.rdl_text.specs.Words.{words_from, before, identifier, decimal, hexadecimal, verilog, string, mark, longest, piece, is_blank}
-use Rattle.rdl_text.specs.declared.piece.Candidate.{Candidate}
-use Rattle.rdl_text.specs.declared.piece.Piece.TheVariants.{Word}
+use Rattle.rdl_text.specs.Piece.{Candidate}
+use Rattle.rdl_text.specs.Piece.{Word}
 use Rattle.rdl_text.specs.declared.token.TokenKind.{TokenKind}
 use Rattle.rdl_text.specs.declared.token.Mark.{Mark}
 use Rattle.rdl_text.specs.declared.token.Mark.TheVariants.{OpenBrace, CloseBrace, OpenBracket, CloseBracket, Colon, Semicolon, Comma, Dot, Equals, At, PlusEquals, PercentEquals, Arrow}

@@ -3,6 +3,7 @@ pub mod Cutting
 pub mod Ends
 pub mod Examples
 pub mod Following
+pub mod Fronts
 pub mod Joining
 pub mod Lists
 pub mod Longest
@@ -10,4 +11,5 @@ pub mod Numbers
 pub mod Sources
 pub mod Spanning
 pub mod Spellings
+pub mod Standing
 pub mod Steps

@@ -7,7 +7,7 @@ use Rattle.std.specs.Char.{is_digit}
 use Rattle.rdl_text.specs.Name.{is_letter}
 use Rattle.rdl_text.specs.Rows.{byte, identifier_len, decimal_len, hexadecimal_len, width_len, verilog_len, string_len, short_mark, long_mark}
 use Rattle.rdl_text.specs.Words.{identifier, decimal, hexadecimal, verilog, string, mark, longer, longest}
-use Rattle.rdl_text.specs.declared.piece.Candidate.{Candidate}
+use Rattle.rdl_text.specs.Piece.{Candidate}
 
 pub longer_none : (x : Option Candidate) → longer x None ≡ x
 longer_none None = refl
@@ -70,7 +70,7 @@ letter_93 c h e = let f = rw e at h in cc
 letter_no_digit : (c : ℕ) → is_letter c ≡ true → is_digit c 10 ≡ false
 letter_no_digit c h = not_true _ (λ d. let r = digit_from_value c (ltb-true _ _ d) in absurd (omega (arith, letter_low c h, r.1)))
 
-letter_no_mark : (s : List ℕ) → is_letter (byte s 0) ≡ true → mark s ≡ None
+pub letter_no_mark : (s : List ℕ) → is_letter (byte s 0) ≡ true → mark s ≡ None
 letter_no_mark s h =
     let c = byte s 0 in
     let low = letter_low c h in
@@ -92,10 +92,13 @@ digit_low c d = (digit_from_value c (ltb-true _ _ d)).0
 digit_high : (c : ℕ) → is_digit c 10 ≡ true → c ≤ 57
 digit_high c d = (digit_from_value c (ltb-true _ _ d)).1
 
+pub digit_no_quote : (c : ℕ) → is_digit c 10 ≡ true → c ≢ 34
+digit_no_quote c d e = absurd (omega (arith, digit_low c d))
+
 digit_no_letter : (c : ℕ) → is_digit c 10 ≡ true → is_letter c ≡ false
 digit_no_letter c d = not_true _ (λ h. absurd (omega (arith, letter_low c h, digit_high c d)))
 
-digit_no_mark : (s : List ℕ) → is_digit (byte s 0) 10 ≡ true → mark s ≡ None
+pub digit_no_mark : (s : List ℕ) → is_digit (byte s 0) 10 ≡ true → mark s ≡ None
 digit_no_mark s d =
     let c = byte s 0 in
     let low = digit_low c d in
@@ -110,7 +113,7 @@ longest_digit s d =
     let quote : byte s 0 ≢ 34 = omega (arith, digit_low (byte s 0) d) in
     sym (rw (no_identifier s (digit_no_letter (byte s 0) d), no_string s quote, digit_no_mark s d, longer_none (verilog s)) refl)
 
-quote_no_mark : (s : List ℕ) → byte s 0 ≡ 34 → mark s ≡ None
+pub quote_no_mark : (s : List ℕ) → byte s 0 ≡ 34 → mark s ≡ None
 quote_no_mark s e = no_mark s (rw e refl) (rw e refl)
 
 pub longest_quote : (s : List ℕ) → byte s 0 ≡ 34 → string s ≡ longest s

@@ -6,8 +6,8 @@ use Rattle.rdl_text.specs.Word.{Word, word}
 use Rattle.rdl_text.specs.Words.{words, words_from, piece, before}
 use Rattle.rdl_text.specs.declared.fault.FaultKind.{FaultKind}
 use Rattle.rdl_text.specs.declared.fault.TextFault.{TextFault}
-use Rattle.rdl_text.specs.declared.piece.Piece.{Piece}
-use Rattle.rdl_text.specs.declared.piece.Piece.TheVariants.{Gap, Word as Found}
+use Rattle.rdl_text.specs.Piece.{Piece}
+use Rattle.rdl_text.specs.Piece.{Gap, Word as Found}
 use Rattle.rdl_text.proofs.Ends.{Ends, piece_len, piece_ends}
 use Rattle.rdl_text.proofs.Following.{words-gap, words-word, words-fault, words-end}
 

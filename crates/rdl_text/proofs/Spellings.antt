@@ -16,9 +16,9 @@ use Rattle.rdl_text.specs.declared.fault.FaultKind.TheVariants.{UnendedString, B
 use Rattle.rdl_text.specs.declared.token.Mark.{Mark}
 use Rattle.rdl_text.specs.declared.token.TokenKind.{TokenKind}
 use Rattle.rdl_text.specs.declared.token.TokenKind.TheVariants as kinds
-use Rattle.rdl_text.specs.declared.piece.Candidate.{Candidate}
-use Rattle.rdl_text.specs.declared.piece.Piece.{Piece}
-use Rattle.rdl_text.specs.declared.piece.Piece.TheVariants as pieces
+use Rattle.rdl_text.specs.Piece.{Candidate}
+use Rattle.rdl_text.specs.Piece.{Piece}
+use Rattle.rdl_text.specs.Piece as pieces
 use Rattle.rdl_text.proofs.Ends.{candidate_found, mapped, quoted_some, longer_from, chosen}
 use Rattle.rdl_text.proofs.Steps.{candidate_some}
 

@@ -1,13 +1,16 @@
 pub mod Classes
 pub mod Fault
+pub mod Front
 pub mod Joined
 pub mod Name
 pub mod Number
+pub mod Piece
 pub mod Place
 pub mod Raw
 pub mod Rows
 pub mod Spans
 pub mod Spelling
+pub mod Standing
 pub mod WellSpelled
 pub mod Word
 pub mod Words

@@ -11,9 +11,9 @@ use Rattle.rdl_text.specs.declared.fault.TextFault.{TextFault}
 use Rattle.rdl_text.specs.declared.token.Mark.{Mark}
 use Rattle.rdl_text.specs.declared.token.TokenKind.{TokenKind}
 use Rattle.rdl_text.specs.declared.token.TokenKind.TheVariants as kinds
-use Rattle.rdl_text.specs.declared.piece.Candidate.{Candidate}
-use Rattle.rdl_text.specs.declared.piece.Piece.{Piece}
-use Rattle.rdl_text.specs.declared.piece.Piece.TheVariants as pieces
+use Rattle.rdl_text.specs.Piece.{Candidate}
+use Rattle.rdl_text.specs.Piece.{Piece}
+use Rattle.rdl_text.specs.Piece as pieces
 
 -- the word of a row that begins a text, and what it is or why it is refused
 abbrev pub candidate : (len : ℕ) → Result TokenKind FaultKind → Option Candidate

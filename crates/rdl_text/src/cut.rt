@@ -1,15 +1,20 @@
 //! A text cut into words.
-ghost use Rattle.std.specs.Prelude.{◌≡◌, ◌≤◌, ◌<◌, ◌+◌, ◌⊎◌, length, IfSome, IfOk, IfErr, Err, Ok, drop};
+ghost use Rattle.std.specs.Prelude.{◌≡◌, ◌≤◌, ◌<◌, ◌+◌, ◌⊎◌, length, IfSome, IfOk, IfErr, Err, Ok, drop, slice_index, ◌≢◌, true, false};
 ghost use Rattle.rdl_text.specs.Fault.{out_of_memory};
+ghost use Rattle.rdl_text.specs.Front.{span_of, front_span};
+ghost use Rattle.rdl_text.specs.Name.{is_letter};
+ghost use Rattle.std.specs.Char.{is_digit};
 ghost use Rattle.rdl_text.specs.Spans.{AreSpans};
+ghost use Rattle.rdl_text.specs.Standing.{Stands, word_at, kind_mark};
 ghost use Rattle.rdl_text.specs.Words as spec;
 
-use crate::bytes::{Class, byte_at, is_blank, run_len};
+use crate::bytes::{Class, byte_at, is_blank, is_digit, run_len};
 use crate::fault::{FaultKind, TextFault};
 use crate::list::Tokens;
-use crate::piece::{Candidate, Piece};
-use crate::rows::longest;
-use crate::token::Token;
+use crate::name::{Name, is_letter};
+use crate::piece::Span;
+use crate::rows::{closing, kind_of, long_mark, longest, longest_number, short_mark};
+use crate::token::{Mark, Token};
 use std::alloc::Global;
 
 /// How many bytes stand before the next `*/`.
@@ -25,46 +30,144 @@ fn comment_end(bytes: &[u8]) -> Option<usize>
     None
 }
 
-fn block_comment(bytes: &[u8]) -> Result<Piece, FaultKind>
+fn block_comment(bytes: &[u8]) -> Result<Span, FaultKind>
     requires { 2 ≤ length bytes.now }
-    ensures { result ≡ spec.block_comment bytes.now }
+    ensures { result ≡ span_of (spec.block_comment bytes.now) }
 {
     match comment_end(&bytes[2..]) {
-        Some(len) => Ok(Piece::Gap(len + 4)),
+        Some(len) => Ok(Span::Gap(len + 4)),
         None => Err(FaultKind::UnendedComment),
     }
 }
 
-fn word_piece(first: u8, word: Option<Candidate>) -> Result<Piece, FaultKind>
-    ensures { result ≡ spec.word_piece first word }
+/// The identifier that a text begins with, which begins with a letter.
+#[inline]
+#[tactic(auto, using(crate::proofs::Fronts::letter_span))]
+fn identifier_span(bytes: &[u8]) -> Result<Span, FaultKind>
+    requires { is_letter (slice_index bytes.now 0) ≡ true }
+    ensures { result ≡ front_span bytes.now }
 {
-    match word {
-        Some(word) => match word.kind {
-            Ok(kind) => Ok(Piece::Word(kind, word.len)),
+    let len = 1 + run_len(bytes, 1, Class::IdentifierRest);
+    if len > Name::MAX_LEN {
+        Err(FaultKind::IdentifierTooLong)
+    } else {
+        Ok(Span::Word(len))
+    }
+}
+
+/// The number that a text begins with, which begins with a digit.
+#[inline]
+#[tactic(auto, using(crate::proofs::Fronts::digit_span, crate::proofs::Fronts::digit_span_none))]
+fn number_span(bytes: &[u8]) -> Result<Span, FaultKind>
+    requires { is_digit (slice_index bytes.now 0) 10 ≡ true }
+    ensures { result ≡ front_span bytes.now }
+{
+    match longest_number(bytes) {
+        Some(front) => match kind_of(bytes, front) {
+            Ok(_) => Ok(Span::Word(front.len)),
             Err(fault) => Err(fault),
         },
-        None if first == b'"' => Err(FaultKind::UnendedString),
         None => Err(FaultKind::BadCharacter),
     }
 }
 
+/// The string that a text begins with, which begins with a quote.
+#[inline]
+#[tactic(auto, using(crate::proofs::Fronts::quote_span, crate::proofs::Steps::row_lemmas))]
+fn string_span(bytes: &[u8]) -> Result<Span, FaultKind>
+    requires { slice_index bytes.now 0 ≡ 34 }
+    ensures { result ≡ front_span bytes.now }
+{
+    match closing(&bytes[1..]) {
+        Some(len) => Ok(Span::Word(len + 2)),
+        None => Err(FaultKind::UnendedString),
+    }
+}
+
+/// The mark that a text begins with, which begins with no letter, no digit and no quote.
+#[inline]
+#[tactic(auto, using(crate::proofs::Fronts::mark_span))]
+fn mark_span(bytes: &[u8]) -> Result<Span, FaultKind>
+    requires letter { is_letter (slice_index bytes.now 0) ≡ false }
+    requires digit { is_digit (slice_index bytes.now 0) 10 ≡ false }
+    requires quote { slice_index bytes.now 0 ≢ 34 }
+    ensures { result ≡ front_span bytes.now }
+{
+    let first = byte_at(bytes, 0);
+    match long_mark(first, byte_at(bytes, 1)) {
+        Some(_) => Ok(Span::Word(2)),
+        None => match short_mark(first) {
+            Some(_) => Ok(Span::Word(1)),
+            None => Err(FaultKind::BadCharacter),
+        },
+    }
+}
+
+/// What a text begins with that begins with no blank and no comment.
+#[inline]
+fn word_span(bytes: &[u8]) -> Result<Span, FaultKind>
+    ensures { result ≡ front_span bytes.now }
+{
+    let first = byte_at(bytes, 0);
+    if is_letter(first) {
+        identifier_span(bytes)
+    } else if is_digit(first, 10) {
+        number_span(bytes)
+    } else if first == b'"' {
+        string_span(bytes)
+    } else {
+        mark_span(bytes)
+    }
+}
+
 /// What a text that isn't empty begins with.
+#[inline]
 #[tactic(auto, using(crate::proofs::Steps::row_lemmas), unfolding(crate::specs::Words::piece))]
-fn piece_at(bytes: &[u8]) -> Result<Piece, FaultKind>
-    ensures { result ≡ spec.piece bytes.now }
+fn span_at(bytes: &[u8]) -> Result<Span, FaultKind>
+    ensures { result ≡ span_of (spec.piece bytes.now) }
 {
     let first = byte_at(bytes, 0);
     let second = byte_at(bytes, 1);
     if is_blank(first) {
-        Ok(Piece::Gap(run_len(bytes, 0, Class::Blank)))
+        Ok(Span::Gap(run_len(bytes, 0, Class::Blank)))
     } else if first == b'/' && second == b'/' {
-        Ok(Piece::Gap(2 + run_len(bytes, 2, Class::InLine)))
+        Ok(Span::Gap(2 + run_len(bytes, 2, Class::InLine)))
     } else if first == b'/' && second == b'*' {
         block_comment(bytes)
     } else {
-        word_piece(first, longest(bytes))
+        word_span(bytes)
     }
 }
+
+/// The word that stands at a place.
+pub(crate) fn token_at<'a>(text: &'a str, start: usize) -> Token<'a>
+    requires { Stands text.now start }
+    ensures { result ≡ word_at text.now start }
+{
+    let bytes = &text.as_bytes()[start..];
+    match longest(bytes) {
+        Some(front) => match kind_of(bytes, front) {
+            Ok(kind) => Token::new(kind, &text[start..start + front.len], start),
+            Err(_) => unreachable!(),
+        },
+        None => unreachable!(),
+    }
+}
+
+/// The mark that the word is that stands at a place.
+pub(crate) fn mark_at(text: &str, start: usize) -> Option<Mark>
+    requires { Stands text.now start }
+    ensures { result ≡ kind_mark (word_at text.now start).kind }
+{
+    let first = byte_at(text.as_bytes(), start);
+    match long_mark(first, byte_at(text.as_bytes(), start + 1)) {
+        Some(mark) => Some(mark),
+        None => short_mark(first),
+    }
+}
+
+/// So many bytes of a text have about one word, with what stands before it. Room for so many words is taken at first.
+const BYTES_OF_A_WORD: usize = 4;
 
 /// The words of a text. No byte of it is copied.
 pub fn tokens<'a>(alloc: Global, text: &'a str) -> Result<Tokens<'a>, TextFault>
@@ -75,17 +178,20 @@ pub fn tokens<'a>(alloc: Global, text: &'a str) -> Result<Tokens<'a>, TextFault>
     // A fault is its first one, if it isn't for memory.
     ensures fault { IfErr result (λ f. (f ≡ out_of_memory) ⊎ (spec.words text.now ≡ Err f)) }
 {
-    let mut words = Vec::new(alloc);
+    if text.len() > u32::MAX as usize {
+        return Err(TextFault::MEMORY);
+    }
+    let mut starts = Vec::with_capacity(alloc, text.len() / BYTES_OF_A_WORD)?;
     let mut at = 0;
     'pieces: while at < text.len() {
-        match piece_at(&text.as_bytes()[at..]) {
-            Ok(Piece::Gap(len)) => at += len,
-            Ok(Piece::Word(kind, len)) => {
-                words.push(Token::new(kind, &text[at..at + len], at))?;
+        match span_at(&text.as_bytes()[at..]) {
+            Ok(Span::Gap(len)) => at += len,
+            Ok(Span::Word(len)) => {
+                starts.push(at as u32)?;
                 at += len;
             }
             Err(kind) => return Err(TextFault { kind, offset: at }),
         }
     }
-    Ok(Tokens::new(words))
+    Ok(Tokens::new(text, starts))
 }

@@ -51,6 +51,12 @@ pub struct TextFault {
 }
 
 impl TextFault {
+    /// S8.
+    pub(crate) const MEMORY: TextFault = TextFault {
+        kind: FaultKind::Memory,
+        offset: 0,
+    };
+
     /// The number that messages name it by.
     pub fn number(&self) -> u8
         ensures { result ≡ fault_number self.now.kind }

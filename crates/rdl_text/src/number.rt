@@ -1,5 +1,5 @@
 //! The values of numbers.
-ghost use Rattle.std.specs.Prelude.{◌≡◌, ℕ, ◌+◌, ◌*◌, ◌^◌, ◌≤◌, ◌<◌, nat_lt, Option, Some, None};
+ghost use Rattle.std.specs.Prelude.{◌≡◌, ℕ, ◌+◌, ◌*◌, ◌^◌, ◌≤◌, ◌<◌, nat_lt, Option, Some, None, IfSome};
 ghost use Rattle.rdl_text.specs.Number.{value, in_bits, number_bits};
 ghost use Rattle.rdl_text.specs.Words.{number, within, sized};
 
@@ -18,7 +18,7 @@ fn append_digit(value: Number, base: u8, digit: u8) -> Option<Number>
 }
 
 /// What digits in a base and `_` are worth, if the bits of a number suffice.
-pub(crate) fn value(base: u8, digits: &[u8]) -> Option<Number>
+fn long_value(base: u8, digits: &[u8]) -> Option<Number>
     requires { 1 ≤ base }
     ensures { result ≡ in_bits (value base digits.now) }
 {
@@ -29,6 +29,32 @@ pub(crate) fn value(base: u8, digits: &[u8]) -> Option<Number>
         }
     }
     Some(value)
+}
+
+/// What digits in a base and `_` are worth, if 64 bits suffice.
+fn short_value(base: u8, digits: &[u8]) -> Option<u64>
+    ensures { IfSome result (λ v. v ≡ value base digits.now) }
+{
+    let mut value: u64 = 0;
+    'digits: for byte in digits {
+        if *byte != b'_' {
+            value = value
+                .checked_mul(u64::from(base))?
+                .checked_add(u64::from(digit_value(*byte)))?;
+        }
+    }
+    Some(value)
+}
+
+/// What digits in a base and `_` are worth, if the bits of a number suffice.
+pub(crate) fn value(base: u8, digits: &[u8]) -> Option<Number>
+    requires { 1 ≤ base }
+    ensures { result ≡ in_bits (value base digits.now) }
+{
+    match short_value(base, digits) {
+        Some(value) => Some(Number::from(value)),
+        None => long_value(base, digits),
+    }
 }
 
 /// What a number of this value is.

@@ -1,20 +1,29 @@
 //! What a text begins with.
 
-use crate::fault::FaultKind;
-use crate::token::TokenKind;
+use crate::token::Mark;
 
-/// A word that a text begins with, of so many bytes, and what it is or why it is refused.
+/// A row of the table of words; of the marks, with the mark.
 #[derive(Clone, Copy)]
-pub(crate) struct Candidate {
-    pub(crate) len: usize,
-    pub(crate) kind: Result<TokenKind, FaultKind>,
+pub(crate) enum Row {
+    Identifier,
+    Decimal,
+    Hexadecimal,
+    Verilog,
+    Text,
+    Mark(Mark),
 }
 
-/// What a text begins with.
+/// A word that a text begins with: its row, and how many bytes it has.
 #[derive(Clone, Copy)]
-pub(crate) enum Piece {
-    /// Blanks or a comment, of so many bytes.
+pub(crate) struct Front {
+    pub(crate) row: Row,
+    pub(crate) len: usize,
+}
+
+/// What a text begins with, of so many bytes.
+#[derive(Clone, Copy)]
+pub(crate) enum Span {
+    /// Blanks or a comment.
     Gap(usize),
-    /// A word of so many bytes.
-    Word(TokenKind, usize),
+    Word(usize),
 }

@@ -1,6 +1,7 @@
 //! The rows of the table of words: the word of each row that a text begins with.
-ghost use Rattle.std.specs.Prelude.{◌≡◌, ◌≤◌, ◌<◌, ◌+◌, length, false, IfSome};
+ghost use Rattle.std.specs.Prelude.{◌≡◌, ℕ, ◌≤◌, ◌<◌, ◌+◌, List, length, false, IfSome};
 ghost use Rattle.std.specs.Option.{option_map};
+ghost use Rattle.rdl_text.specs.Front.{IsInside, judged_front, kind_in};
 ghost use Rattle.rdl_text.specs.Rows.{closing, short_mark, long_mark};
 ghost use Rattle.rdl_text.specs.Words as spec;
 
@@ -8,40 +9,44 @@ use crate::bytes::{Class, base_of, byte_at, is_digit, run_len};
 use crate::fault::FaultKind;
 use crate::name::{Name, is_letter};
 use crate::number::{number, sized, value};
-use crate::piece::Candidate;
+use crate::piece::{Front, Row};
 use crate::token::{Mark, TokenKind};
 
+#[inline]
 #[tactic(auto, using(crate::proofs::Steps::row_lemmas), unfolding(crate::specs::Words::identifier, crate::specs::Rows::identifier_len))]
-pub(crate) fn identifier(bytes: &[u8]) -> Option<Candidate>
-    ensures { result ≡ spec.identifier bytes.now }
+fn identifier(bytes: &[u8]) -> Option<Front>
+    ensures word { option_map (judged_front bytes.now) result ≡ spec.identifier bytes.now }
+    ensures inside { IfSome result (IsInside bytes.now) }
 {
     if !is_letter(byte_at(bytes, 0)) {
         return None;
     }
-    let len = 1 + run_len(bytes, 1, Class::IdentifierRest);
-    let kind = if len > Name::MAX_LEN {
-        Err(FaultKind::IdentifierTooLong)
-    } else {
-        Ok(TokenKind::Identifier)
-    };
-    Some(Candidate { len, kind })
+    Some(Front {
+        row: Row::Identifier,
+        len: 1 + run_len(bytes, 1, Class::IdentifierRest),
+    })
 }
 
+#[inline]
 #[tactic(auto, using(crate::proofs::Steps::row_lemmas), unfolding(crate::specs::Words::decimal, crate::specs::Rows::decimal_len))]
-fn decimal(bytes: &[u8]) -> Option<Candidate>
-    ensures { result ≡ spec.decimal bytes.now }
+fn decimal(bytes: &[u8]) -> Option<Front>
+    ensures word { option_map (judged_front bytes.now) result ≡ spec.decimal bytes.now }
+    ensures inside { IfSome result (IsInside bytes.now) }
 {
     if !is_digit(byte_at(bytes, 0), 10) {
         return None;
     }
-    let len = 1 + run_len(bytes, 1, Class::DigitRest(10));
-    let kind = number(value(10, &bytes[..len]));
-    Some(Candidate { len, kind })
+    Some(Front {
+        row: Row::Decimal,
+        len: 1 + run_len(bytes, 1, Class::DigitRest(10)),
+    })
 }
 
+#[inline]
 #[tactic(auto, using(crate::proofs::Steps::row_lemmas), unfolding(crate::specs::Words::hexadecimal, crate::specs::Rows::hexadecimal_len))]
-fn hexadecimal(bytes: &[u8]) -> Option<Candidate>
-    ensures { result ≡ spec.hexadecimal bytes.now }
+fn hexadecimal(bytes: &[u8]) -> Option<Front>
+    ensures word { option_map (judged_front bytes.now) result ≡ spec.hexadecimal bytes.now }
+    ensures inside { IfSome result (IsInside bytes.now) }
 {
     let letter = byte_at(bytes, 1);
     if !(byte_at(bytes, 0) == b'0'
@@ -50,31 +55,37 @@ fn hexadecimal(bytes: &[u8]) -> Option<Candidate>
     {
         return None;
     }
-    let len = 3 + run_len(bytes, 3, Class::DigitRest(16));
-    let kind = number(value(16, &bytes[2..len]));
-    Some(Candidate { len, kind })
+    Some(Front {
+        row: Row::Hexadecimal,
+        len: 3 + run_len(bytes, 3, Class::DigitRest(16)),
+    })
 }
 
+#[inline]
 #[tactic(auto, using(crate::proofs::Steps::row_lemmas), unfolding(crate::specs::Words::verilog, crate::specs::Rows::verilog_len))]
-fn verilog(bytes: &[u8]) -> Option<Candidate>
-    ensures { result ≡ spec.verilog bytes.now }
+fn verilog(bytes: &[u8]) -> Option<Front>
+    ensures word { option_map (judged_front bytes.now) result ≡ spec.verilog bytes.now }
+    ensures inside { IfSome result (IsInside bytes.now) }
 {
     let width = run_len(bytes, 0, Class::Digit);
-    let base = base_of(byte_at(bytes, width + 1));
-    if !(width > 0 && byte_at(bytes, width) == b'\'' && is_digit(byte_at(bytes, width + 2), base)) {
+    if !(width > 0 && byte_at(bytes, width) == b'\'') {
         return None;
     }
-    let len = width + 3 + run_len(bytes, width + 3, Class::DigitRest(base));
-    let kind = sized(
-        value(10, &bytes[..width]),
-        value(base, &bytes[width + 2..len]),
-    );
-    Some(Candidate { len, kind })
+    let base = base_of(byte_at(bytes, width + 1));
+    if !is_digit(byte_at(bytes, width + 2), base) {
+        return None;
+    }
+    Some(Front {
+        row: Row::Verilog,
+        len: width + 3 + run_len(bytes, width + 3, Class::DigitRest(base)),
+    })
 }
 
 /// The longer of two words that a text begins with.
-fn longer(one: Option<Candidate>, other: Option<Candidate>) -> Option<Candidate>
-    ensures { result ≡ spec.longer one other }
+#[inline]
+fn longer(one: Option<Front>, other: Option<Front>) -> Option<Front>
+    ensures word { (s : List ℕ) → option_map (judged_front s) result ≡ spec.longer (option_map (judged_front s) one) (option_map (judged_front s) other) }
+    ensures inside { (s : List ℕ) → IfSome one (IsInside s) → IfSome other (IsInside s) → IfSome result (IsInside s) }
 {
     match (one, other) {
         (None, _) => other,
@@ -83,14 +94,15 @@ fn longer(one: Option<Candidate>, other: Option<Candidate>) -> Option<Candidate>
     }
 }
 
-fn longest_number(bytes: &[u8]) -> Option<Candidate>
-    ensures { result ≡ spec.longer (spec.decimal bytes.now) (spec.longer (spec.hexadecimal bytes.now) (spec.verilog bytes.now)) }
+pub(crate) fn longest_number(bytes: &[u8]) -> Option<Front>
+    ensures word { option_map (judged_front bytes.now) result ≡ spec.longer (spec.decimal bytes.now) (spec.longer (spec.hexadecimal bytes.now) (spec.verilog bytes.now)) }
+    ensures inside { IfSome result (IsInside bytes.now) }
 {
     longer(decimal(bytes), longer(hexadecimal(bytes), verilog(bytes)))
 }
 
 /// How many bytes stand before the quote that closes a string.
-fn closing(bytes: &[u8]) -> Option<usize>
+pub(crate) fn closing(bytes: &[u8]) -> Option<usize>
     ensures place { result ≡ closing false bytes.now }
     ensures within { IfSome result (λ n. n < length bytes.now) }
 {
@@ -107,21 +119,24 @@ fn closing(bytes: &[u8]) -> Option<usize>
     None
 }
 
+#[inline]
 #[tactic(auto, using(crate::proofs::Steps::row_lemmas), unfolding(crate::specs::Words::string, crate::specs::Rows::string_len))]
-fn string(bytes: &[u8]) -> Option<Candidate>
-    ensures { result ≡ spec.string bytes.now }
+fn string(bytes: &[u8]) -> Option<Front>
+    ensures word { option_map (judged_front bytes.now) result ≡ spec.string bytes.now }
+    ensures inside { IfSome result (IsInside bytes.now) }
 {
     if byte_at(bytes, 0) != b'"' {
         return None;
     }
     let len = closing(&bytes[1..])? + 2;
-    Some(Candidate {
+    Some(Front {
+        row: Row::Text,
         len,
-        kind: Ok(TokenKind::Text),
     })
 }
 
-fn short_mark(byte: u8) -> Option<Mark>
+#[inline]
+pub(crate) fn short_mark(byte: u8) -> Option<Mark>
     ensures { result ≡ short_mark byte }
 {
     match byte {
@@ -139,7 +154,8 @@ fn short_mark(byte: u8) -> Option<Mark>
     }
 }
 
-fn long_mark(first: u8, second: u8) -> Option<Mark>
+#[inline]
+pub(crate) fn long_mark(first: u8, second: u8) -> Option<Mark>
     ensures { result ≡ long_mark first second }
 {
     match (first, second) {
@@ -150,30 +166,33 @@ fn long_mark(first: u8, second: u8) -> Option<Mark>
     }
 }
 
-fn marked(len: usize, mark: Option<Mark>) -> Option<Candidate>
-    ensures { result ≡ option_map (spec.marked len) mark }
-{
-    let mark = mark?;
-    Some(Candidate {
-        len,
-        kind: Ok(TokenKind::Mark(mark)),
-    })
-}
-
-#[tactic(auto, unfolding(crate::specs::Words::mark))]
-fn mark(bytes: &[u8]) -> Option<Candidate>
-    ensures { result ≡ spec.mark bytes.now }
+#[inline]
+#[tactic(auto, using(crate::proofs::Steps::row_lemmas), unfolding(crate::specs::Words::mark))]
+fn mark(bytes: &[u8]) -> Option<Front>
+    ensures word { option_map (judged_front bytes.now) result ≡ spec.mark bytes.now }
+    ensures inside { IfSome result (IsInside bytes.now) }
 {
     let first = byte_at(bytes, 0);
-    longer(
-        marked(2, long_mark(first, byte_at(bytes, 1))),
-        marked(1, short_mark(first)),
-    )
+    match long_mark(first, byte_at(bytes, 1)) {
+        Some(mark) => Some(Front {
+            row: Row::Mark(mark),
+            len: 2,
+        }),
+        None => match short_mark(first) {
+            Some(mark) => Some(Front {
+                row: Row::Mark(mark),
+                len: 1,
+            }),
+            None => None,
+        },
+    }
 }
 
 /// The longest word that a text begins with.
-pub(crate) fn longest(bytes: &[u8]) -> Option<Candidate>
-    ensures { result ≡ spec.longest bytes.now }
+#[inline]
+pub(crate) fn longest(bytes: &[u8]) -> Option<Front>
+    ensures word { option_map (judged_front bytes.now) result ≡ spec.longest bytes.now }
+    ensures inside { IfSome result (IsInside bytes.now) }
 {
     let first = byte_at(bytes, 0);
     if is_letter(first) {
@@ -184,5 +203,35 @@ pub(crate) fn longest(bytes: &[u8]) -> Option<Candidate>
         string(bytes)
     } else {
         mark(bytes)
+    }
+}
+
+/// What a Verilog number of so many bytes is.
+fn verilog_kind(bytes: &[u8], len: usize) -> Result<TokenKind, FaultKind>
+    requires { IsInside bytes.now (record { row = Row.Verilog; len = len }) }
+    ensures { result ≡ kind_in Row.Verilog bytes.now len }
+{
+    let width = run_len(bytes, 0, Class::Digit);
+    let base = base_of(byte_at(bytes, width + 1));
+    sized(
+        value(10, &bytes[..width]),
+        value(base, &bytes[width + 2..len]),
+    )
+}
+
+/// What a word is that a text begins with, or why it is refused.
+#[inline]
+pub(crate) fn kind_of(bytes: &[u8], front: Front) -> Result<TokenKind, FaultKind>
+    requires { IsInside bytes.now front }
+    ensures { result ≡ kind_in front.row bytes.now front.len }
+{
+    match front.row {
+        Row::Identifier if front.len > Name::MAX_LEN => Err(FaultKind::IdentifierTooLong),
+        Row::Identifier => Ok(TokenKind::Identifier),
+        Row::Decimal => number(value(10, &bytes[..front.len])),
+        Row::Hexadecimal => number(value(16, &bytes[2..front.len])),
+        Row::Verilog => verilog_kind(bytes, front.len),
+        Row::Text => Ok(TokenKind::Text),
+        Row::Mark(mark) => Ok(TokenKind::Mark(mark)),
     }
 }

@@ -26,7 +26,7 @@ abbrev pub decreases-statements : goal.decreases-statements
 decreases-statements l = 6 * l.levels + 5
 
 abbrev pub invariant-statements-turns : goal.invariant-statements-turns
-invariant-statements-turns l = following_at (body_at l.levels) (seen l.found, l.room) (symbols l.self.rest.now) ≡ following_at (body_at l.levels) (nothing, l.fn.before) (symbols l.fn.self.rest.now)
+invariant-statements-turns l = following_at (body_at l.levels) (seen l.found, l.room) (symbols l.self.rest) ≡ following_at (body_at l.levels) (nothing, l.fn.before) (symbols l.fn.self.rest)
 
 abbrev pub decreases-statements-turns : goal.decreases-statements-turns
-decreases-statements-turns l = length l.self.rest.now
+decreases-statements-turns l = length l.self.rest

@@ -7,7 +7,7 @@ use Rattle.rdl_parse.proofs.Gathering.{Gathers}
 use Rattle.rdl_parse.proofs.reader.Reader.insts.Given as goal
 
 abbrev pub invariant-commas : goal.invariant-commas
-invariant-commas l = Gathers l.fn.room l.outside l.of l.inner (option_map finished l.kept) (symbols l.self.rest.now) (insts_at l.fn.room l.fn.outside l.fn.of l.fn.inner (seen l.fn.found) (symbols l.fn.self.rest.now))
+invariant-commas l = Gathers l.fn.room l.outside l.of l.inner (option_map finished l.kept) (symbols l.self.rest) (insts_at l.fn.room l.fn.outside l.fn.of l.fn.inner (seen l.fn.found) (symbols l.fn.self.rest))
 
 abbrev pub decreases-commas : goal.decreases-commas
-decreases-commas l = length l.self.rest.now
+decreases-commas l = length l.self.rest

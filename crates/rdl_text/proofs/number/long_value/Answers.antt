@@ -5,7 +5,7 @@ use Rattle.std.proofs.Math.ListN.{drop_of_length-le}
 use Rattle.rdl_text.specs.Number.{number_bits, value, in_bits}
 use Rattle.rdl_text.proofs.Numbers.{value_after, value_is, le-value_after, value_after-digit, too_large, in_bits_none, in_bits_some, counts}
 use Rattle.std.specs.List.{filter}
-use Rattle.rdl_text.proofs.number.value.Goals as goal
+use Rattle.rdl_text.proofs.number.long_value.Goals as goal
 
 pub returns : goal.returns
 returns c =

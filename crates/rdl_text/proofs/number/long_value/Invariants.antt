@@ -3,7 +3,7 @@ use Rattle.std.proofs.Common.{◌≡◌, ◌<◌, ◌^◌, drop, not}
 use Rattle.std.specs.List.{filter}
 use Rattle.std.specs.Str.Parse.{digits_value_after}
 use Rattle.rdl_text.specs.Number.{number_bits, is_underscore}
-use Rattle.rdl_text.proofs.number.value.Given as goal
+use Rattle.rdl_text.proofs.number.long_value.Given as goal
 
 abbrev pub invariant-digits : goal.invariant-digits
 invariant-digits l =
