@@ -1,4 +1,5 @@
 pub mod AddedLines
+pub mod Apart
 pub mod FirstClash
 pub mod Masks
 pub mod Paths

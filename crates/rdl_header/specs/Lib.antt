@@ -1,3 +1,4 @@
 pub mod HeaderFaults
 pub mod HeaderText
 pub mod Lines
+pub mod Marks

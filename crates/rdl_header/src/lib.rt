@@ -5,6 +5,7 @@ mod bits;
 mod clashes;
 mod lines;
 mod macros;
+mod mark;
 mod stretch;
 mod text;
 

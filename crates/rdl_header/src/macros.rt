@@ -7,6 +7,7 @@ ghost use Rattle.std.specs.Fmt.{decimal};
 
 use crate::bits::{mask, width};
 use crate::lines::Lines;
+use crate::mark::Front;
 use rdl_elab::layout::Span;
 use rdl_elab::row::{Extent, Place, Row, RowPath};
 use rdl_scope::shells::product;
@@ -43,7 +44,7 @@ fn numbered(alloc: Global, ending: &str, index: u64) -> Result<String, AllocErro
 #[tactic(auto, using(crate::proofs::AddedLines::added_lines))]
 fn add_array(
     lines: &mut Lines,
-    path: &str,
+    path: &Front,
     dims: &[Number],
     stride: Number,
 ) -> Result<(), AllocError>
@@ -60,7 +61,7 @@ fn add_array(
 
 /// The macros of an instance that has bytes.
 #[tactic(auto, using(crate::proofs::AddedLines::added_lines), unfolding(crate::specs::HeaderText::bytes_macros))]
-fn add_bytes(lines: &mut Lines, path: &str, base: u64, extent: &Extent) -> Result<(), AllocError>
+fn add_bytes(lines: &mut Lines, path: &Front, base: u64, extent: &Extent) -> Result<(), AllocError>
     ensures { OnOk result (lines.new ≡ added lines.old (bytes_macros path.now base extent.now)) }
 {
     lines.push_hexadecimal(path, "_base", Number::from(base))?;
@@ -75,7 +76,7 @@ fn add_bytes(lines: &mut Lines, path: &str, base: u64, extent: &Extent) -> Resul
 fn add_words(
     alloc: Global,
     lines: &mut Lines,
-    path: &str,
+    path: &Front,
     ending: &str,
     number: Number,
     count: u64,
@@ -95,7 +96,7 @@ fn add_words(
 fn add_mask(
     alloc: Global,
     lines: &mut Lines,
-    path: &str,
+    path: &Front,
     register: u64,
     span: &Span,
 ) -> Result<(), AllocError>
@@ -113,7 +114,7 @@ fn add_mask(
 fn add_reset(
     alloc: Global,
     lines: &mut Lines,
-    path: &str,
+    path: &Front,
     width: u64,
     reset: Option<Number>,
 ) -> Result<(), AllocError>
@@ -133,7 +134,7 @@ fn add_reset(
 fn add_width(
     alloc: Global,
     lines: &mut Lines,
-    path: &str,
+    path: &Front,
     span: &Span,
     reset: Option<Number>,
 ) -> Result<(), AllocError>
@@ -150,7 +151,7 @@ fn add_width(
 fn add_bits(
     alloc: Global,
     lines: &mut Lines,
-    path: &str,
+    path: &Front,
     register: u64,
     span: &Span,
     reset: Option<Number>,
@@ -173,7 +174,7 @@ fn add_row(
 {
     path.clear();
     push_path(path, &row.names)?;
-    let path = path.as_str();
+    let path = &Front::of(path.as_str());
     match &row.place {
         Place::Bytes(extent) => add_bytes(lines, path, row.base, extent),
         Place::Bits(span) => {
@@ -213,7 +214,7 @@ fn guard(alloc: Global, top: &Row) -> Result<Lines, AllocError>
 {
     let mut path = String::new(alloc);
     push_path(&mut path, &top.names)?;
-    Lines::guarded(alloc, path.as_str())
+    Lines::guarded(alloc, &Front::of(path.as_str()))
 }
 
 /// The lines of the guard, of the macros of the rows below the top, and of the guard's end.

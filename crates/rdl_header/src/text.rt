@@ -4,7 +4,9 @@ ghost use Rattle.rdl_header.specs.HeaderText.{header_of};
 ghost use Rattle.rdl_header.specs.HeaderFaults.{IsFault};
 
 use crate::clashes::first_clash;
+use crate::lines::Parts;
 use crate::macros::header_lines;
+use crate::mark::are_apart;
 use rdl_elab::row::Row;
 use std::alloc::{AllocError, AllocFailed, Global};
 
@@ -44,9 +46,16 @@ pub fn header(alloc: Global, rows: &[Row]) -> Result<String, HeaderFault>
     ensures ok { IfOk result (λ text. header_of rows.now ≡ Ok (string_bytes text)) }
     ensures err { IfErr result (IsFault rows.now) }
 {
-    let lines = header_lines(alloc, rows)?;
-    if let Some(name) = first_clash(alloc, lines.text(), lines.names())? {
+    let Parts {
+        text,
+        names,
+        mut marks,
+    } = header_lines(alloc, rows)?.into_parts();
+    if are_apart(marks.as_mut_slice()) {
+        return Ok(text);
+    }
+    if let Some(name) = first_clash(alloc, text.as_str(), names.as_slice())? {
         return Err(HeaderFault::Clash(String::from_str(alloc, name)?));
     }
-    Ok(lines.into_text())
+    Ok(text)
 }

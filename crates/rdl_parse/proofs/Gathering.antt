@@ -10,7 +10,7 @@ use Rattle.rdl_tree.specs.declared.description.Of.{Of}
 use Rattle.rdl_tree.specs.declared.shell.Outside.{Outside}
 use Rattle.rdl_tree.specs.declared.shell.Shell.{Shell}
 use Rattle.rdl_parse.specs.Finds.{Finds, single, joined, fits, less, weight_of}
-use Rattle.rdl_parse.specs.Gathering.{held, gather, gathered_at, ended, ended_at}
+use Rattle.rdl_parse.specs.Gathering.{held, gather, gathered_at, next_of, ended, ended_at}
 use Rattle.rdl_parse.specs.Reading.{◌>>=◌, Fails, Finished, begins, mark_at, inst_at, finish_at, more_at, next_at, others_at, insts_at}
 use Rattle.rdl_parse.specs.Symbol.{Symbol, symbols}
 use Rattle.rdl_parse.specs.declared.fault.Fault.{Fault}
@@ -198,3 +198,21 @@ pub gathers-ends : (room : Room) (o : Outside) (of : Of) (inner : List Spot) (k 
     → begins Comma ws ≡ false → Gathers room o of inner k ws total → total ≡ ended_at k ws
 gathers-ends room o of inner k ws total h p =
     p.reads ∙ ap (λ r. r >>= λ all. finish_at room all.0 all.1) (repeated-done (next-shortens o of inner) p.found ws h) ∙ finish_ended room p.found ws ∙ ap (λ k. ended_at k ws) (sym p.kept)
+
+-- what the next instance is of is handed on where a comma stands
+next-by : (again : Bool) (of o : Of) → next_of again of ≡ Some o → (again ≡ true) × (of ≡ o)
+next-by true of o e = (refl, let inside : of ≡ o = cc in inside)
+next-by false of o e = absurd cc
+
+pub next-again : (of o : Of) (next : Option Of) (again : Bool) → next ≡ next_of again of → next ≡ Some o → again ≡ true
+next-again of o next again h e = (next-by again of o (sym h ∙ e)).0
+
+pub next-same : (of o : Of) (next : Option Of) (again : Bool) → next ≡ next_of again of → next ≡ Some o → of ≡ o
+next-same of o next again h e = (next-by again of o (sym h ∙ e)).1
+
+last-by : (again : Bool) (of : Of) → next_of again of ≡ None → again ≡ false
+last-by true of e = absurd cc
+last-by false of e = refl
+
+pub next-over : (of : Of) (next : Option Of) (again : Bool) → next ≡ next_of again of → next ≡ None → again ≡ false
+next-over of next again h e = last-by again of (sym h ∙ e)

@@ -1,6 +1,6 @@
 -- Steps of reading as the code takes them. Of a statement's items it keeps nothing once they pass the room.
 -- Own.
-use Rattle.std.specs.Prelude.{ℕ, ◌+◌, if◌then◌else◌, List, ◌∷◌, length, Option, Some, None, Result, Ok, Err}
+use Rattle.std.specs.Prelude.{ℕ, ◌+◌, if◌then◌else◌, Bool, true, false, List, ◌∷◌, length, Option, Some, None, Result, Ok, Err}
 use Rattle.rdl_text.specs.declared.token.Mark.TheVariants.{Semicolon}
 use Rattle.rdl_tree.specs.declared.description.Item.TheVariants.{Define, Instance}
 use Rattle.rdl_tree.specs.declared.description.Of.{Of}
@@ -36,6 +36,11 @@ unfoldable pub gathered_at : Outside → Of → List Spot → Option Finished �
 gathered_at o of inner k ws = do
   i ← inst_at o ws
   Ok (gather k (single (Instance i.0 of) (length ws) inner), i.1)
+
+-- what the next instance is of, if there is one
+abbrev pub next_of : (again : Bool) → Of → Option Of
+next_of true of = Some of
+next_of false of = None
 
 -- the `;` of a statement of which this is kept
 abbrev pub ended : Option Finished → List Symbol → Result (Finished × List Symbol) Fault

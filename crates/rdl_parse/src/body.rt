@@ -38,7 +38,7 @@ impl<'a> Reader<'a> {
         let of = Of::Named(name.try_copy(alloc)?);
         let mut found = Found::new(alloc);
         found.push(Item::Define(name, Component { kind, body }), left, &spots)?;
-        self.defined(alloc, room, front, &of, found)
+        self.defined(alloc, room, front, of, found)
     }
 
     /// What stands behind a kind without a name.
@@ -55,7 +55,7 @@ impl<'a> Reader<'a> {
     {
         let (body, spots) = self.body(alloc, levels, room)?;
         let of = Of::Anonymous(Component { kind, body });
-        self.late_insts(alloc, room, front, &of, &spots, Found::new(alloc))
+        self.late_insts(alloc, room, front, of, &spots, Found::new(alloc))
     }
 
     /// What stands behind a kind, where so many words begin with the first of the statement.
@@ -106,7 +106,7 @@ impl<'a> Reader<'a> {
             Class::Name => {
                 self.rest = rest;
                 let of = Of::Named(new_name(alloc, word.source())?);
-                self.insts(alloc, room, outside, &of, &[], Found::new(alloc))
+                self.insts(alloc, room, outside, of, &[], Found::new(alloc))
             }
             _ => Err(wrong(&self.rest)),
         }

@@ -29,9 +29,13 @@ impl Found {
         }
     }
 
+    /// Most statements have one item, and an item is large: so the first takes no room for more.
     pub fn push(&mut self, item: Item, left: usize, inner: &[Spot]) -> Result<(), AllocError>
         ensures { OnOk result (seen self.new ≡ joined (seen self.old) (single item left inner.now)) }
     {
+        if self.items.is_empty() {
+            self.items.reserve_exact(1)?;
+        }
         self.items.push(item)?;
         self.spots.push(Spot {
             left,

@@ -1,6 +1,6 @@
 //! The items of a statement while its words are read.
 ghost use Rattle.rdl_parse.specs.Finds.{seen, single, weight_of};
-ghost use Rattle.rdl_parse.specs.Gathering.{finished, held, gather};
+ghost use Rattle.rdl_parse.specs.Gathering.{finished, held, gather, next_of};
 ghost use Rattle.rdl_tree.specs.ItemWeight.{item_weight};
 ghost use Rattle.rdl_tree.specs.Weight.{capped};
 ghost use Rattle.rdl_tree.specs.declared.description.Item.{Item};
@@ -40,6 +40,23 @@ fn instance_weight(shell: &Shell, of: &Of) -> u64
     }
 }
 
+/// What the next instance is of, if there is one.
+pub(crate) fn next(again: bool, of: Of) -> Option<Of>
+    ensures { result ≡ next_of again of }
+{
+    if again { Some(of) } else { None }
+}
+
+fn copy_for_next(alloc: Global, again: bool, of: &Of) -> Result<Option<Of>, AllocError>
+    ensures { IfOk result (λ next. next ≡ next_of again of.now) }
+{
+    if again {
+        Ok(Some(of.try_copy(alloc)?))
+    } else {
+        Ok(None)
+    }
+}
+
 impl Gathered {
     /// The items, if there is room for them.
     pub(crate) fn new(room: Room, found: Found) -> Option<Gathered>
@@ -56,27 +73,31 @@ impl Gathered {
         Some(Gathered { found, room })
     }
 
-    /// These items and one instance more, if there is room for it. It is copied only then.
+    /// These items and one instance more, if there is room for it. Where there is to be one of the same behind it, what it is
+    /// of is handed back for that: it is copied only where there is room.
     pub(crate) fn with_instance(
         self,
         alloc: Global,
         shell: Shell,
-        of: &Of,
+        of: Of,
         left: usize,
         inner: &[Spot],
-    ) -> Result<Option<Gathered>, AllocError>
-        ensures { IfOk result (λ k. option_map finished k ≡ gather (Some (finished self)) (single (Item.Instance shell of.now) left inner.now)) }
+        again: bool,
+    ) -> Result<(Option<Gathered>, Option<Of>), AllocError>
+        ensures kept { IfOk result (λ r. option_map finished r.0 ≡ gather (Some (finished self)) (single (Item.Instance shell of) left inner.now)) }
+        ensures next { IfOk result (λ r. r.1 ≡ next_of again of) }
     {
         let Gathered { mut found, room } = self;
-        let weight = instance_weight(&shell, of);
+        let weight = instance_weight(&shell, &of);
         if inner.len() >= room.items || weight > u64::from(room.weight) {
-            return Ok(None);
+            return Ok((None, next(again, of)));
         }
-        found.push(Item::Instance(shell, of.try_copy(alloc)?), left, inner)?;
+        let next = copy_for_next(alloc, again, &of)?;
+        found.push(Item::Instance(shell, of), left, inner)?;
         let room = Room {
             items: room.items - (inner.len() + 1),
             weight: room.weight - weight as u32,
         };
-        Ok(Some(Gathered { found, room }))
+        Ok((Some(Gathered { found, room }), next))
     }
 }

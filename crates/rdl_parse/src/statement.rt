@@ -1,14 +1,15 @@
 //! Statements without a body of their own, and the ends of all.
 ghost use Rattle.rdl_parse.specs.Finds.{seen, single, nothing};
-ghost use Rattle.rdl_parse.specs.Gathering.{finished, gathered_at, ended_at, optional_name_at};
+ghost use Rattle.rdl_parse.specs.Gathering.{finished, gathered_at, next_of, ended_at, optional_name_at};
 ghost use Rattle.rdl_parse.specs.Reading as spec;
-ghost use Rattle.rdl_parse.specs.Reading.{Gives};
+ghost use Rattle.rdl_parse.specs.Reading.{Gives, begins};
 ghost use Rattle.rdl_parse.specs.Symbol.{symbols};
-ghost use Rattle.std.specs.Prelude.{◌≡◌, [], Ok, option_map};
+ghost use Rattle.rdl_text.specs.declared.token.Mark.TheVariants.{Comma};
+ghost use Rattle.std.specs.Prelude.{◌≡◌, [], Ok, IfOk, option_map};
 
 use crate::fault::{Fault, Stop};
 use crate::found::{Found, Spot};
-use crate::gathered::Gathered;
+use crate::gathered::{Gathered, next};
 use crate::reader::Reader;
 use crate::room::Room;
 use crate::word::{name_of, new_name, outside_of};
@@ -54,22 +55,25 @@ impl<'a> Reader<'a> {
         self.finish(room, found)
     }
 
+    /// One more instance behind these items, and what the next one is of, if a comma stands behind it.
     #[tactic(auto, unfolding(crate::specs::Gathering::gathered_at), using(crate::proofs::Words::length_symbols))]
     fn more(
         &mut self,
         alloc: Global,
         outside: Outside,
-        of: &Of,
+        of: Of,
         inner: &[Spot],
         kept: Option<Gathered>,
-    ) -> Result<Option<Gathered>, Stop>
-        ensures { Gives (λ k. (option_map finished k, symbols self.new.rest)) result (gathered_at outside of.now inner.now (option_map finished kept) (symbols self.old.rest)) }
+    ) -> Result<(Option<Gathered>, Option<Of>), Stop>
+        ensures kept { Gives (λ r. (option_map finished r.0, symbols self.new.rest)) result (gathered_at outside of inner.now (option_map finished kept) (symbols self.old.rest)) }
+        ensures next { IfOk result (λ r. r.1 ≡ next_of (begins Comma (symbols self.new.rest)) of) }
     {
         let left = self.rest.len();
         let shell = self.inst(alloc, outside)?;
+        let again = self.begins(Mark::Comma);
         match kept {
-            Some(gathered) => Ok(gathered.with_instance(alloc, shell, of, left, inner)?),
-            None => Ok(None),
+            Some(gathered) => Ok(gathered.with_instance(alloc, shell, of, left, inner, again)?),
+            None => Ok((None, next(again, of))),
         }
     }
 
@@ -79,16 +83,24 @@ impl<'a> Reader<'a> {
         alloc: Global,
         room: Room,
         outside: Outside,
-        of: &Of,
+        of: Of,
         inner: &[Spot],
         found: Found,
     ) -> Result<Gathered, Stop>
-        ensures { Gives (λ g. (finished g, symbols self.new.rest)) result (spec.insts_at room outside of.now inner.now (seen found) (symbols self.old.rest)) }
+        ensures { Gives (λ g. (finished g, symbols self.new.rest)) result (spec.insts_at room outside of inner.now (seen found) (symbols self.old.rest)) }
     {
-        let mut kept = self.more(alloc, outside, of, inner, Gathered::new(room, found))?;
-        'commas: while self.begins(Mark::Comma) {
+        let (mut kept, mut next) = self.more(
+            alloc,
+            outside,
+            of,
+            inner,
+            Gathered::new(room, found),
+        )?;
+        'commas: while let Some(of) = next {
             self.mark(Mark::Comma)?;
-            kept = self.more(alloc, outside, of, inner, kept)?;
+            let (more, behind) = self.more(alloc, outside, of, inner, kept)?;
+            kept = more;
+            next = behind;
         }
         self.end_statement(kept)
     }
@@ -182,7 +194,7 @@ impl<'a> Reader<'a> {
             return self.own(alloc, room, left, name);
         }
         let of = Of::Named(name);
-        self.insts(alloc, room, Outside::Unsaid, &of, &[], Found::new(alloc))
+        self.insts(alloc, room, Outside::Unsaid, of, &[], Found::new(alloc))
     }
 
     /// `external` or `internal` before the first instance, if none stands at the front.
@@ -211,11 +223,11 @@ impl<'a> Reader<'a> {
         alloc: Global,
         room: Room,
         front: Option<Outside>,
-        of: &Of,
+        of: Of,
         inner: &[Spot],
         found: Found,
     ) -> Result<Gathered, Stop>
-        ensures { Gives (λ g. (finished g, symbols self.new.rest)) result (spec.late_insts_at room front of.now inner.now (seen found) (symbols self.old.rest)) }
+        ensures { Gives (λ g. (finished g, symbols self.new.rest)) result (spec.late_insts_at room front of inner.now (seen found) (symbols self.old.rest)) }
     {
         let outside = self.late(front);
         self.insts(alloc, room, outside, of, inner, found)
@@ -228,10 +240,10 @@ impl<'a> Reader<'a> {
         alloc: Global,
         room: Room,
         front: Option<Outside>,
-        of: &Of,
+        of: Of,
         found: Found,
     ) -> Result<Gathered, Stop>
-        ensures { Gives (λ g. (finished g, symbols self.new.rest)) result (spec.defined_at room front of.now (seen found) (symbols self.old.rest)) }
+        ensures { Gives (λ g. (finished g, symbols self.new.rest)) result (spec.defined_at room front of (seen found) (symbols self.old.rest)) }
     {
         if front.is_none() && self.begins(Mark::Semicolon) {
             return self.finish(room, found);

@@ -8,6 +8,7 @@ pub mod OpenedOnce
 pub mod Openings
 pub mod Pieces
 pub mod Rebuilding
+pub mod RowsAtPlace
 pub mod RunLemmas
 pub mod ScriptLines
 pub mod SessionPlaces

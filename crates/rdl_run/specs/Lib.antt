@@ -14,5 +14,6 @@ pub mod Replies
 pub mod Resumed
 pub mod ScriptLines
 pub mod Sessions
+pub mod Shown
 pub mod Turns
 pub mod OwnSteps

@@ -2,13 +2,16 @@
 ghost use Rattle.std.specs.Prelude.{◌≡◌, ◌++◌, string_bytes, IfOk, OnOk, IsOkUnless};
 ghost use Rattle.rdl_run.specs.Closing.{Heads, status_of};
 ghost use Rattle.rdl_run.specs.Messages.{clash_line};
+ghost use Rattle.rdl_run.specs.Shown.{AreOf};
 ghost use Rattle.rdl_run.specs.declared.status.RunFault.{RunFault};
 
 use crate::part::Part;
 use crate::saving::session_part;
+use crate::shown::rows_of;
 use crate::status::{Missing, RunFault, Status};
 use journal_core::journal::Journal;
 use rdl_edit::map::Map;
+use rdl_elab::row::Rows;
 use rdl_header::{HeaderFault, header};
 use rdl_write::rdl;
 use std::alloc::{AllocError, Global};
@@ -33,12 +36,13 @@ fn clash_line(alloc: Global, name: &str) -> Result<String, AllocError>
     Ok(text)
 }
 
-/// The header of a map, or what is said in its place.
-fn header_part(alloc: Global, map: &Map) -> Result<Part, RunFault>
+/// The header of a map, whose rows may be kept, or what is said in its place.
+fn header_part(alloc: Global, map: &Map, kept: Option<Rows>) -> Result<Part, RunFault>
+    requires { AreOf map.now.state kept }
     ensures heads { IfOk result (λ part. Heads map.now.state (string_bytes part.message) (string_bytes part.text) part.is_left_out) }
     ensures fault { IsOkUnless result RunFault.Memory }
 {
-    let rows = map.rows(alloc)?;
+    let rows = rows_of(alloc, map, kept)?;
     match header(alloc, rows.as_slice()) {
         Ok(text) => Ok(Part::made(alloc, text)),
         Err(HeaderFault::Clash(name)) => {
@@ -73,22 +77,25 @@ impl Closing {
     ghost use Rattle.std.specs.Prelude.{string_bytes, IfOk, IsOkUnless};
     ghost use Rattle.rdl_run.specs.Closing.{Closes};
     ghost use Rattle.rdl_run.specs.OwnSteps.{AllOwn, IsOwnSession};
+    ghost use Rattle.rdl_run.specs.Shown.{AreAt};
     ghost use Rattle.rdl_run.specs.declared.status.RunFault.{RunFault};
 
     /// Makes the texts of the map to which a script led, and of the history if the session is asked for, or the messages in
-    /// their places.
+    /// their places. The rows are those of the map, if they are there.
     pub fn of(
         alloc: Global,
         journal: &Journal<Map>,
+        kept: Option<Rows>,
         is_refused: bool,
         has_session: bool,
     ) -> Result<Closing, RunFault>
+        requires { AreAt journal.now.history kept }
         ensures closes { IfOk result (λ c. Closes has_session journal.now.history is_refused (string_bytes c.message) (string_bytes c.rdl) (string_bytes c.header) (string_bytes c.session) c.status) }
         ensures own { AllOwn journal.now → IfOk result (λ c. IsOwnSession journal.now.history (string_bytes c.session)) }
         ensures fault { IsOkUnless result RunFault.Memory }
     {
         let rdl = rdl(alloc, journal.map().description())?;
-        let header = header_part(alloc, journal.map())?;
+        let header = header_part(alloc, journal.map(), kept)?;
         let session = session_part(alloc, journal, has_session)?;
         let status = status_of(is_refused, header.is_left_out, session.is_left_out);
         Ok(Closing {

@@ -14,4 +14,5 @@ pub mod run;
 mod saving;
 mod serve;
 mod session_message;
+mod shown;
 pub mod status;

@@ -118,8 +118,9 @@ fn run_script<R: Write, H: Write, Z: Write, E: Write>(
     ensures same_header { header.new.writer.ghost_name ≡ header.old.writer.ghost_name }
     ensures same_session { session.new.writer.ghost_name ≡ session.old.writer.ghost_name }
 {
-    let is_refused = serve_all(alloc, journal, script, messages)?;
-    let closing = Closing::of(alloc, journal, is_refused, has_session)?;
+    let mut kept = None;
+    let is_refused = serve_all(alloc, journal, &mut kept, script, messages)?;
+    let closing = Closing::of(alloc, journal, kept, is_refused, has_session)?;
     write_closing(&closing, rdl, header, session, messages)?;
     Ok(closing.status)
 }

@@ -13,6 +13,7 @@ ghost use Rattle.rdl_script.specs.Commands.{undo, redo, lines_of, lines_left};
 ghost use Rattle.rdl_run.specs.ScriptLines.{is_in_line, left_len};
 ghost use Rattle.rdl_script.specs.Seen.{seen};
 ghost use Rattle.rdl_run.specs.Replies.{said};
+ghost use Rattle.rdl_run.specs.Shown.{AreAt, AreOf};
 ghost use Rattle.rdl_run.specs.Faulted.{StopsServing};
 ghost use Rattle.rdl_run.specs.Turns.{HasTaken, IsGivenUp, IsOpen};
 
@@ -20,11 +21,13 @@ use crate::counted::CountedWriter;
 use crate::output::write_counted;
 use crate::reading::{ReadingFault, items_of};
 use crate::reply::{LineRefusal, Reply, reply_text};
+use crate::shown::rows_of;
 use crate::status::RunFault;
 use journal_core::fault::{EditFault, StepFault};
 use journal_core::journal::Journal;
 use rdl_edit::edit::Refusal;
 use rdl_edit::map::Map;
+use rdl_elab::row::Rows;
 use rdl_list::list_text;
 use rdl_rewrite::edit::Edit;
 use rdl_rewrite::place::Place;
@@ -106,38 +109,57 @@ fn redo(alloc: Global, journal: &mut Journal<Map>) -> Result<Reply, RunFault>
     }
 }
 
-/// The lines of the rows of a map.
-fn list(alloc: Global, map: &Map) -> Result<Reply, RunFault>
+/// The lines of the rows of a map, which are kept.
+fn list(alloc: Global, map: &Map, kept: &mut Option<Rows>) -> Result<Reply, RunFault>
+    requires { AreOf map.now.state kept.old }
     ensures lists { IfOk result (λ reply. IsListOf map.now.state (said reply)) }
+    ensures keeps { AreOf map.now.state kept.new }
     ensures fault { IsOkUnless result RunFault.Memory }
 {
-    let Ok(rows) = map.rows(alloc) else {
+    let Ok(rows) = rows_of(alloc, map, kept.take()) else {
         return Err(RunFault::Memory);
     };
-    match list_text(alloc, rows.as_slice()) {
+    let text = list_text(alloc, rows.as_slice());
+    *kept = Some(rows);
+    match text {
         Ok(text) => Ok(Reply::Listed(text)),
         Err(_) => Err(RunFault::Memory),
     }
 }
 
-/// Does what a line asks for.
+/// Does what a line asks for. Rows of the map are kept until the next line that may change it.
 pub fn serve(
     alloc: Global,
     journal: &mut Journal<Map>,
+    kept: &mut Option<Rows>,
     request: Request<'_>,
 ) -> Result<Reply, RunFault>
+    requires { AreAt journal.old.history kept.old }
     ensures answers { IfOk result (λ reply. Answers journal.old.history (seen request.entry) (said reply) journal.new.history) }
+    ensures keeps { AreAt journal.new.history kept.new }
     ensures stay_own { AllOwn journal.old → AllOwn journal.new }
     ensures fault { IsOkUnless result RunFault.Memory }
 {
     match request {
         Request::Nothing => Ok(Reply::Done),
-        Request::Undo => undo(alloc, journal),
-        Request::Redo => redo(alloc, journal),
-        Request::List => list(alloc, journal.map()),
-        Request::Edit(change) => edit(alloc, journal, change),
-        Request::Add(path, place, text) => add(alloc, journal, path, place, text),
+        Request::List => list(alloc, journal.map(), kept),
         Request::Refused(fault) => Ok(Reply::Refused(LineRefusal::Command(fault))),
+        Request::Undo => {
+            *kept = None;
+            undo(alloc, journal)
+        }
+        Request::Redo => {
+            *kept = None;
+            redo(alloc, journal)
+        }
+        Request::Edit(change) => {
+            *kept = None;
+            edit(alloc, journal, change)
+        }
+        Request::Add(path, place, text) => {
+            *kept = None;
+            add(alloc, journal, path, place, text)
+        }
     }
 }
 
@@ -165,10 +187,13 @@ fn split_line(bytes: &[u8]) -> (&[u8], Option<&[u8]>)
 fn serve_line(
     alloc: Global,
     journal: &mut Journal<Map>,
+    kept: &mut Option<Rows>,
     number: usize,
     line: &[u8],
 ) -> Result<(String, bool), RunFault>
+    requires { AreAt journal.old.history kept.old }
     ensures replied { IfOk result (λ r. Replied journal.old.history line.now number (string_bytes r.0) r.1 journal.new.history) }
+    ensures keeps { AreAt journal.new.history kept.new }
     ensures stay_own { AllOwn journal.old → AllOwn journal.new }
     ensures fault { IsOkUnless result RunFault.Memory }
 {
@@ -176,7 +201,7 @@ fn serve_line(
         Ok(request) => request,
         Err(_) => return Err(RunFault::Memory),
     };
-    let reply = match serve(alloc, journal, request) {
+    let reply = match serve(alloc, journal, kept, request) {
         Ok(reply) => reply,
         Err(_) => return Err(RunFault::Memory),
     };
@@ -188,16 +213,19 @@ fn serve_line(
 }
 
 /// Serves the lines of a script, and writes the messages of each before the next is served. Answers whether one was
-/// refused.
+/// refused. The rows are those of the map at the place, if they are there.
 pub fn serve_all<E: Write>(
     alloc: Global,
     journal: &mut Journal<Map>,
+    kept: &mut Option<Rows>,
     script: &[u8],
     messages: &mut CountedWriter<'_, E>,
 ) -> Result<bool, RunFault>
     requires length { length script.now < 2 ^ 32 }
     requires asked { IsOpen messages.old.counts }
+    requires kept { AreAt journal.old.history kept.old }
     ensures served { IfOk result (λ refused. (text : List ℕ) × (Serves journal.old.history (lines_of script.now) text refused journal.new.history) × (Appends (E.contents messages.old.writer.now) (E.contents messages.new.writer.now) text) × HasTaken messages.old.counts messages.new.counts (length text)) }
+    ensures keeps { OnOk result (AreAt journal.new.history kept.new) }
     ensures stay_own { AllOwn journal.old → AllOwn journal.new }
     ensures fault { IfErr result (λ fault. (fault ≡ RunFault.Memory) ⊎ (fault ≡ RunFault.Write)) }
     ensures stopped { IfErr result (StopsServing journal.old.history (lines_of script.now) (E.contents messages.old.writer.now) (E.contents messages.new.writer.now)) }
@@ -213,7 +241,7 @@ pub fn serve_all<E: Write>(
     'lines: while let Some(bytes) = rest {
         let (line, behind) = split_line(bytes);
         number += 1;
-        let (text, refuses) = match serve_line(alloc, journal, number, line) {
+        let (text, refuses) = match serve_line(alloc, journal, kept, number, line) {
             Ok(said) => said,
             Err(_) => return Err(RunFault::Memory),
         };

@@ -1,17 +1,21 @@
 use Rattle.std.proofs.Common.{ap, sym, ◌∙◌}
 use Rattle.std.specs.Prelude.{Some, option_map}
-use Rattle.rdl_header.proofs.StandingNames.{whole_names, clash_answered, text_answered}
+use Rattle.rdl_header.proofs.StandingNames.{whole_names, clash_answered, text_answered, text_apart}
 use Rattle.rdl_header.proofs.text.header.Goals as goal
 
+pub returns-then-are_apart-clause-ok : goal.returns-then-are_apart-clause-ok
+returns-then-are_apart-clause-ok c =
+    text_apart c.args.rows.now c.in_ok-header_lines.field-0 c.as_mut_slice.result.now _ c.in_ok-header_lines.ensures (c.as_mut_slice.ensures.value ∙ c.into_parts-text.ensures.marks) (c.are_apart.ensures c.if-are_apart.true) c.into_parts-text.ensures.text
+
 pub first_clash-requires : goal.first_clash-requires
-first_clash-requires c = whole_names c.args.rows.now c.in_ok-lines.lines c.text.result.now c.names.result.now c.in_ok-lines.ensures c.text.ensures c.names.ensures c.text.utf8
+first_clash-requires c = whole_names c.args.rows.now c.in_ok-header_lines.field-0 c.as_str.result.now c.as_slice.result.now c.in_ok-header_lines.ensures (c.as_str.ensures.value ∙ c.into_parts-text.ensures.text) (c.as_slice.ensures.value ∙ c.into_parts-text.ensures.names) c.as_str.utf8
 
 pub returns-in-Some-clause-err : goal.returns-in-Some-clause-err
 returns-in-Some-clause-err c =
-    clash_answered c.args.rows.now c.in_ok-lines.lines c.text.result.now c.names.result.now c.in_ok-lines.ensures c.text.ensures c.names.ensures c.text.utf8 _
+    clash_answered c.args.rows.now c.in_ok-header_lines.field-0 c.as_str.result.now c.as_slice.result.now c.in_ok-header_lines.ensures (c.as_str.ensures.value ∙ c.into_parts-text.ensures.text) (c.as_slice.ensures.value ∙ c.into_parts-text.ensures.names) c.as_str.utf8 _
     (ap Some c.in_ok-from_str.ensures.ok ∙ sym (ap (option_map (λ name. name.now)) c.in-Some.is) ∙ c.in_ok-name.ensures)
 
 pub returns-clause-ok : goal.returns-clause-ok
 returns-clause-ok c =
-    text_answered c.args.rows.now c.in_ok-lines.lines c.text.result.now c.names.result.now c.in_ok-lines.ensures c.text.ensures c.names.ensures c.text.utf8 _
-    (sym (ap (option_map (λ name. name.now)) c.in_default.is) ∙ c.in_ok-name.ensures) c.into_text.ensures
+    text_answered c.args.rows.now c.in_ok-header_lines.field-0 c.as_str.result.now c.as_slice.result.now c.in_ok-header_lines.ensures (c.as_str.ensures.value ∙ c.into_parts-text.ensures.text) (c.as_slice.ensures.value ∙ c.into_parts-text.ensures.names) c.as_str.utf8 _
+    (sym (ap (option_map (λ name. name.now)) c.in_default.is) ∙ c.in_ok-name.ensures) c.into_parts-text.ensures.text

@@ -2,9 +2,9 @@ use Rattle.std.proofs.Common.{ap, ◌∙◌}
 use Rattle.rdl_list.specs.ListText.{list_lines}
 use Rattle.rdl_run.proofs.serve.list.Goals as goal
 
-pub returns-in-Ok-list_text-clause-lists : goal.returns-in-Ok-list_text-clause-lists
-returns-in-Ok-list_text-clause-lists c =
+pub returns-in-Ok-text-clause-lists : goal.returns-in-Ok-text-clause-lists
+returns-in-Ok-text-clause-lists c =
     record {
       laid_out = record { rows = c.in-Ok.rows; are = c.in-Ok.ensures };
-      lines = c.in-Ok-list_text.ensures ∙ ap list_lines c.as_slice.ensures;
+      lines = c.in-Ok-text.ensures ∙ ap list_lines c.as_slice.ensures;
     }

@@ -15,6 +15,7 @@ lines-init g c = record {
   so_far = nothing_yet c.args.journal.now.history c.args.script.now (g.E.Write.contents c.args.messages.now.writer.now) c.args.messages.now.counts (Appends-nil (g.E.Write.contents c.args.messages.now.writer.now));
   room = omega arith;
   own = λ own. own;
+  keeps = c.requires.kept;
   asked = c.requires.asked;
   same = refl;
 }
@@ -46,6 +47,7 @@ lines-preserved g c =
           so_far c.split_line.ensures.lines c.in-Ok.ensures.replied wrote took);
       room = omega (arith, room, c.split_line.ensures.less);
       own = λ own. c.serve_line.ensures.stay_own (c.lines.invariant.own own);
+      keeps = c.serve_line.ensures.keeps;
       asked = search rules;
       same = search rules;
     }
