@@ -8,7 +8,7 @@ use Rattle.std.proofs.lemmas.Bool.{false≢true}
 use Rattle.std.proofs.lemmas.List.{length-map}
 use Rattle.std.proofs.lemmas.List.Elements.{All-get_or}
 use Rattle.std.proofs.lemmas.Slice.Eq.{bytes_eq-Decides}
-use Rattle.clap.specs.Words.{IsParsedFrom, Rule, Text, app_of, args_of, first_value, found_of, matched_of, one_of, one_text, parser_of, read_as, reading_of, rows_of, rule_of, without_minus}
+use Rattle.clap.specs.Words.{App, IsParsedFrom, Rule, Text, app_of, args_of, first_value, found_of, matched_of, one_of, one_text, parser_of, read_as, reading_of, rows_of, rule_of, without_minus}
 use Rattle.clap.specs.Built.{IsAuto, SameRules}
 use Rattle.clap.specs.Facts.{Entry, AllowsNone, EntryPasses, EntryValuesPass, HasId, HasIn, HasReading, IsCountArg, IsFilledEntry, IsGroupEntry, IsKnownGroup, MayBeEmpty, PassesArg, ReadsByParser, ValuesPass, WantsDefault, least_values, parser_of_value, unwrap_or_range}
 use Rattle.clap.specs.Texts.{items_of}
@@ -24,9 +24,11 @@ use Rattle.clap.specs.declared.parser.matches.Found.{Found}
 use Rattle.clap.specs.declared.parser.matches.MatchedArg.{MatchedArg}
 use Rattle.clap.proofs.CallerLemmas.{default_present, entry_by_id, required_has_value, same_rules_by_id}
 use Rattle.clap.proofs.WalkLemmas.{first_value-rows, one_text-rows}
-use Rattle.command_line.specs.Arguments.{regedit_command}
-use Rattle.command_line.specs.Words.{HasHistory, IsWhole, value}
-use Rattle.command_line.proofs.Simple.{alone, clear_of, local, plain, rule_at, seven, simple, strict, the_rule}
+use Rattle.command_line.specs.Arguments.{regdiff_command, regedit_command}
+use Rattle.command_line.specs.ComparisonWords.{HasOperands}
+use Rattle.command_line.specs.Faults.{value}
+use Rattle.command_line.specs.Words.{HasHistory, IsWhole}
+use Rattle.command_line.proofs.Simple.{IsProgram, alone, as_many, clear_of, comparison_program, comparison_rules, edit_program, edit_rules, local, plain, rule_at, rule_of_place, simple, strict}
 
 -- an id that is an entry's has that entry
 found_in : (xs : List Entry) (id : Text) → HasIn xs id → is_some (option_map (λ e. e.1) (find (λ e. bytes_eq e.0.now id) xs)) ≡ true
@@ -97,19 +99,23 @@ module _ (built : Command) (id : Text) (q : ValueParser) (no_group : IsKnownGrou
           let got = entry_by_id (EntryPasses built) f.entries.items id x values e in
           entry_read f got.0 (e ∙ ap (λ (y : MatchedArg). Some y) (sym got.1)) ((bytes_eq-Decides got.0.0.now id).0 got.2) got.3
 
--- ---- one argument of the program, known by its place
+-- ---- one argument of a program, known by its place
 
-module _ (c : Command) (m : ArgMatches) (is : app_of c ≡ regedit_command) (p : IsParsedFrom c m) (d : Arg) (k : ℕ) (lt : k < 7) (id : Text)
-    (my_id : (the_rule k).id ≡ id) (set : (the_rule k).action ≡ Some Set) (range : (the_rule k).range ≡ None) (clear : clear_of k (the_rule k).id 7 ≡ true)
+module _ (app : App) (rules : List Rule) (it : IsProgram app rules) (c : Command) (m : ArgMatches) (is : app_of c ≡ app) (p : IsParsedFrom c m) (d : Arg)
+    (k : ℕ) (lt : k < length rules) (id : Text) (my_id : (rule_of_place rules k).id ≡ id) (set : (rule_of_place rules k).action ≡ Some Set)
+    (range : (rule_of_place rules k).range ≡ None) (clear : clear_of rules k (rule_of_place rules k).id (length rules) ≡ true)
     (named : bytes_eq id [] ≡ false) (help : bytes_eq id (codes "help") ≡ false) (version : bytes_eq id (codes "version") ≡ false) where
+  abbrev the_rule : Rule
+  the_rule = rule_of_place rules k
+
   abbrev mine : Arg
   mine = slice_index_or (args_of c) k d
 
   inside : k < length (args_of c)
-  inside = rw (seven c is) lt
+  inside = rw (as_many app rules it c is) lt
 
-  rule : rule_of mine ≡ the_rule k
-  rule = rule_at c is k d lt
+  rule : rule_of mine ≡ the_rule
+  rule = rule_at app rules it c is k d lt
 
   its_id : mine.id.now ≡ id
   its_id = ap (λ (r : Rule). r.id) rule ∙ my_id
@@ -126,27 +132,27 @@ module _ (c : Command) (m : ArgMatches) (is : app_of c ≡ regedit_command) (p :
   not_added : IsAuto mine → ⊥
   not_added auto = elim auto [ inl h ↦ differ id (codes "help") help (sym its_id ∙ h) | inr h ↦ differ id (codes "version") version (sym its_id ∙ h) ]
 
-  pub has_value : (the_rule k).required ≡ true → is_some (value id (rows_of (found_of m))) ≡ true
+  pub has_value : the_rule.required ≡ true → is_some (value id (rows_of (found_of m))) ≡ true
   has_value required =
-      let has = required_has_value c m p (plain c is) (local c is) (strict c is) k d inside (ap (λ (r : Rule). r.required) rule ∙ required) its_action
-      ((simple c is).args k d inside).delimiter some_values (alone c is k d lt clear) not_empty not_added in
+      let has = required_has_value c m p (plain app rules it c is) (local app rules it c is) (strict app rules it c is) k d inside (ap (λ (r : Rule). r.required) rule ∙ required) its_action
+      ((simple app rules it c is).args k d inside).delimiter some_values (alone app rules it c is k d lt clear) not_empty not_added in
       ap (λ (o : Option Text). is_some o) (sym (first_value-rows (found_of m) id)) ∙ subst (λ t. is_some (first_value (found_of m) t) ≡ true) its_id has
 
   -- what building made of it
   built_rules : (j : ℕ) (a : Arg) → j < length (args_of p.built) → slice_index_or (args_of p.built) j a ≡ a → bytes_eq a.id.now id ≡ true → SameRules mine a
-  built_rules j a low at same = same_rules_by_id c m p k d inside (alone c is k d lt clear) not_added j a low at (rw its_id same)
+  built_rules j a low at same = same_rules_by_id c m p k d inside (alone app rules it c is k d lt clear) not_added j a low at (rw its_id same)
 
   counts_nothing : IsCountArg p.built id → ⊥
   counts_nothing any =
-      let rules = built_rules any.0 any.1 any.2 any.3 any.4.0 in
-      let bad : Set ≡ Count = rw (rules.action Set its_action) at any.4.1 in
+      let made = built_rules any.0 any.1 any.2 any.3 any.4.0 in
+      let bad : Set ≡ Count = rw (made.action Set its_action) at any.4.1 in
       cc
 
   may_not_be_empty : (a : Arg) → SameRules mine a → MayBeEmpty a → ⊥
-  may_not_be_empty a rules (inl none) =
-      let one = rules.least its_action some_values in
+  may_not_be_empty a made (inl none) =
+      let one = made.least its_action some_values in
       absurd (omega arith)
-  may_not_be_empty a rules (inr some) = absurd (false≢true (ap is_some (sym (rules.val_delim ∙ ((simple c is).args k d inside).delimiter)) ∙ some))
+  may_not_be_empty a made (inr some) = absurd (false≢true (ap is_some (sym (made.val_delim ∙ ((simple app rules it c is).args k d inside).delimiter)) ∙ some))
 
   needs_values : AllowsNone p.built id → ⊥
   needs_values any = may_not_be_empty any.1 (built_rules any.0 any.1 any.2 any.3 any.4.0) any.4.1
@@ -154,53 +160,58 @@ module _ (c : Command) (m : ArgMatches) (is : app_of c ≡ regedit_command) (p :
   no_group : IsKnownGroup p.built id → ⊥
   no_group (inl empty) = differ id [] named empty
   no_group (inr some) =
-      let bad : 0 < 0 = rw (p.from.plain (plain c is)).1 at some in
+      let bad : 0 < 0 = rw (p.from.plain (plain app rules it c is)).1 at some in
       absurd (omega arith)
 
-  module _ (q : ValueParser) (parser : (the_rule k).parser ≡ Some q) where
+  module _ (q : ValueParser) (parser : the_rule.parser ≡ Some q) where
     same_parser : (a : Arg) → SameRules mine a → parser_of a ≡ q
-    same_parser a rules = ap parser_of_value (rules.parser q (ap (λ (r : Rule). r.parser) rule ∙ parser))
+    same_parser a made = ap parser_of_value (made.parser q (ap (λ (r : Rule). r.parser) rule ∙ parser))
 
     passes : (text : Text) → PassesArg p.built id text → (b : Bool) × Accepts b q text
     passes text any =
-        let rules = built_rules any.0 any.1 any.2 any.3 any.4.0 in
-        (any.1.ignore_case, subst (λ v. Accepts any.1.ignore_case v text) (same_parser any.1 rules) any.4.1)
+        let made = built_rules any.0 any.1 any.2 any.3 any.4.0 in
+        (any.1.ignore_case, subst (λ v. Accepts any.1.ignore_case v text) (same_parser any.1 made) any.4.1)
 
     reads : (how : Reading) → HasReading p.built id how → how ≡ reading_of q
     reads how any =
-        let rules = built_rules any.0 any.1 any.2 any.3 any.4.0 in
-        sym any.4.1 ∙ ap reading_of (same_parser any.1 rules)
+        let made = built_rules any.0 any.1 any.2 any.3 any.4.0 in
+        sym any.4.1 ∙ ap reading_of (same_parser any.1 made)
 
     -- a default is found where the words give nothing
-    pub has_default : 0 < length (the_rule k).defaults → (text : Text) × (value id (rows_of (found_of m)) ≡ Some text)
+    pub has_default : 0 < length the_rule.defaults → (text : Text) × (value id (rows_of (found_of m)) ≡ Some text)
         × (one_of id (rows_of (found_of m)) ≡ Some (read_as (reading_of q) text)) × ((b : Bool) × Accepts b q text)
     has_default some =
-        let defaults : length (items_of mine.default_vals) ≡ length (the_rule k).defaults =
+        let defaults : length (items_of mine.default_vals) ≡ length the_rule.defaults =
         sym (length-map (items_of mine.default_vals) (λ (s : Bor Text). s.now)) ∙ ap (λ (r : Rule). length r.defaults) rule in
-        let wants : WantsDefault mine = (((simple c is).args k d inside).default_ifs, rw defaults some) in
-        let has : HasId (found_of m) id = subst (HasId (found_of m)) its_id (default_present c m p (local c is) k d inside wants) in
-        let parsed = p.parsed (p.from.globals ∙ local c is) in
+        let wants : WantsDefault mine = (((simple app rules it c is).args k d inside).default_ifs, rw defaults some) in
+        let has : HasId (found_of m) id = subst (HasId (found_of m)) its_id (default_present c m p (local app rules it c is) k d inside wants) in
+        let parsed = p.parsed (p.from.globals ∙ local app rules it c is) in
         let read = found_read p.built id q no_group counts_nothing needs_values reads passes (found_of m) parsed.values (found_in (found_of m).entries.items id has) in
         (read.0, sym (first_value-rows (found_of m) id) ∙ read.1, sym (one_text-rows (found_of m) id) ∙ read.2, read.3)
 
 -- ---- all of them
 
+first_arg : (xs : List Arg) → 0 < length xs → Arg
+first_arg [] some = absurd (omega arith)
+first_arg (x ∷ xs) some = x
+
 pub whole : (c : Command) (m : ArgMatches) → app_of c ≡ regedit_command → IsParsedFrom c m → IsWhole (rows_of (found_of m))
 whole c m is p = record {
-  map = has_value c m is p d 0 (lit< tt) (codes "map") refl refl refl refl refl refl refl refl;
-  script = has_value c m is p d 1 (lit< tt) (codes "script") refl refl refl refl refl refl refl refl;
-  rdl = has_value c m is p d 2 (lit< tt) (codes "rdl") refl refl refl refl refl refl refl refl;
-  header = has_value c m is p d 3 (lit< tt) (codes "header") refl refl refl refl refl refl refl refl;
-  history = numbered (has_default c m is p d 5 (lit< tt) (codes "history") refl refl refl refl refl refl refl
+  map = has 0 (lit< tt) (codes "map") refl refl refl refl refl refl refl refl;
+  script = has 1 (lit< tt) (codes "script") refl refl refl refl refl refl refl refl;
+  rdl = has 2 (lit< tt) (codes "rdl") refl refl refl refl refl refl refl refl;
+  header = has 3 (lit< tt) (codes "header") refl refl refl refl refl refl refl refl;
+  history = numbered (has_default regedit_command edit_rules edit_program c m is p d 5 (lit< tt) (codes "history") refl refl refl refl refl refl refl
       (vp.Signed (pos 1) (pos 1000000)) refl (lit< tt));
 }
   where
-    first : (xs : List Arg) → 0 < length xs → Arg
-    first [] some = absurd (omega arith)
-    first (x ∷ xs) some = x
-
     d : Arg
-    d = first (args_of c) (rw (seven c is) (lit< tt))
+    d = first_arg (args_of c) (rw (as_many regedit_command edit_rules edit_program c is) (lit< tt))
+
+    has : (k : ℕ) (lt : k < 7) (id : Text) → (rule_of_place edit_rules k).id ≡ id → (rule_of_place edit_rules k).action ≡ Some Set → (rule_of_place edit_rules k).range ≡ None
+        → clear_of edit_rules k (rule_of_place edit_rules k).id 7 ≡ true → bytes_eq id [] ≡ false → bytes_eq id (codes "help") ≡ false → bytes_eq id (codes "version") ≡ false
+        → (rule_of_place edit_rules k).required ≡ true → is_some (value id (rows_of (found_of m))) ≡ true
+    has = has_value regedit_command edit_rules edit_program c m is p d
 
     numbered : (text : Text) × (value (codes "history") (rows_of (found_of m)) ≡ Some text)
         × (one_of (codes "history") (rows_of (found_of m)) ≡ Some (without_minus text)) × ((b : Bool) × IsSignedIn (pos 1) (pos 1000000) text)
@@ -211,3 +222,12 @@ whole c m is p = record {
       fits = h.3.1;
       read = h.2;
     }
+
+pub has_operands : (c : Command) (m : ArgMatches) → app_of c ≡ regdiff_command → IsParsedFrom c m → HasOperands (rows_of (found_of m))
+has_operands c m is p = record {
+  old = has_value regdiff_command comparison_rules comparison_program c m is p d 0 (lit< tt) (codes "old") refl refl refl refl refl refl refl refl;
+  new = has_value regdiff_command comparison_rules comparison_program c m is p d 1 (lit< tt) (codes "new") refl refl refl refl refl refl refl refl;
+}
+  where
+    d : Arg
+    d = first_arg (args_of c) (rw (as_many regdiff_command comparison_rules comparison_program c is) (lit< tt))

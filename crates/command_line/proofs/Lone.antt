@@ -10,8 +10,9 @@ use Rattle.clap.specs.Lexer.{long_of, short_of}
 use Rattle.clap.specs.Facts.{parser_of_value, unwrap_or_range}
 use Rattle.clap.specs.Matches.{count_text}
 use Rattle.clap.specs.Simple.{App, Shape, argument_words, built}
-use Rattle.command_line.specs.Arguments.{regedit_command}
-use Rattle.command_line.specs.Words.{Tells, mistakes}
+use Rattle.clap.specs.Words.{fault_of}
+use Rattle.command_line.specs.Arguments.{regdiff_command, regedit_command}
+use Rattle.command_line.specs.Faults.{IsTold}
 use Rattle.clap.specs.declared.builder.action.ArgAction.{ArgAction}
 use Rattle.clap.specs.declared.builder.action.ArgAction.TheVariants as action
 use Rattle.clap.specs.declared.builder.value_parser.ValueParser.{ValueParser}
@@ -195,20 +196,19 @@ lone_built a leaf none words =
     entered None = nothing
     entered (Some p) = nothing
 
--- ---- the program's command
+-- ---- the commands of the programs
 
-built_is_leaf : (built regedit_command).top.is_leaf ≡ true
+told : {T : Type 0} (kinds : Kinds) (r : Result T Error) → IsLone kinds → FailsBy kinds r → MatchResult r (λ _. kinds ≡ []) (IsTold kinds)
+told kinds (Ok x) lone none = none
+told kinds (Err e) lone (inl memory) = inl memory
+told kinds (Err e) lone (inr among) = inr (lone_among (kind_of e) kinds lone among)
+
+pub told_of_edit : {T : Type 0} (words : List Text) (r : Result T Error) → FailsBy (fault_of regedit_command words) r
+    → MatchResult r (λ _. fault_of regedit_command words ≡ []) (IsTold (fault_of regedit_command words))
 unfolding regedit_command
-built_is_leaf = refl
+told_of_edit words r = told _ r (lone_built (built regedit_command) refl refl (argument_words regedit_command words))
 
-built_has_no_subcommands : (built regedit_command).subs ≡ []
-unfolding regedit_command
-built_has_no_subcommands = refl
-
-lone_mistake : (words : List Text) → IsLone (mistakes words)
-lone_mistake words = lone_built (built regedit_command) built_is_leaf built_has_no_subcommands (argument_words regedit_command words)
-
-pub told : {T : Type 0} (words : List Text) (r : Result T Error) → FailsBy (mistakes words) r → MatchResult r (λ _. mistakes words ≡ []) (Tells words)
-told words (Ok x) none = none
-told words (Err e) (inl memory) = inl memory
-told words (Err e) (inr among) = inr (lone_among (kind_of e) (mistakes words) (lone_mistake words) among)
+pub told_of_comparison : {T : Type 0} (words : List Text) (r : Result T Error) → FailsBy (fault_of regdiff_command words) r
+    → MatchResult r (λ _. fault_of regdiff_command words ≡ []) (IsTold (fault_of regdiff_command words))
+unfolding regdiff_command
+told_of_comparison words r = told _ r (lone_built (built regdiff_command) refl refl (argument_words regdiff_command words))

@@ -1,10 +1,10 @@
--- The arguments of the program as `clap` sees them: two operands and five options. Own.
+-- The arguments of the programs as `clap` sees them: two operands, and five options or one. Own.
 use Rattle.std.specs.Prelude.{[], ◌∷◌, Some, true, codes, pos}
 use Rattle.clap.specs.Words.{App, Rule, Text, new_app, new_rule, with_rule}
 use Rattle.clap.specs.declared.builder.action.ArgAction.TheVariants.{Set}
 use Rattle.clap.specs.declared.builder.value_parser.ValueParser.TheVariants as parser
 
--- MAP and SCRIPT, known by their places
+-- MAP and SCRIPT, or OLD and NEW, known by their places
 abbrev pub operand_rule : Text → Rule
 operand_rule id = record (new_rule id) { action = Some Set; required = true; value_names = 1 }
 
@@ -38,7 +38,13 @@ without_name a = record a { top = record a.top { no_binary_name = true } }
 abbrev pub with_version : App → App
 with_version a = record a { top = record a.top { has_version = true } }
 
+-- a program of this name with two arguments
+abbrev pub program_with : Text → (first second : Rule) → App
+program_with name first second = with_rule (with_rule (with_version (without_name (new_app name))) first) second
+
 unfoldable pub regedit_command : App
-regedit_command = with_rule (with_rule (with_rule (with_rule (with_rule (with_rule (with_rule (with_version (without_name (new_app (codes "regedit"))))
-    (operand_rule (codes "map"))) (operand_rule (codes "script")))
+regedit_command = with_rule (with_rule (with_rule (with_rule (with_rule (program_with (codes "regedit") (operand_rule (codes "map")) (operand_rule (codes "script")))
     (output_rule (codes "rdl"))) (output_rule (codes "header"))) top_rule) history_rule) session_rule
+
+unfoldable pub regdiff_command : App
+regdiff_command = with_rule (program_with (codes "regdiff") (operand_rule (codes "old")) (operand_rule (codes "new"))) top_rule

@@ -1,5 +1,7 @@
 pub mod Arguments
 pub mod Kinds
+pub mod Faults
 pub mod Meetings
 pub mod Plain
 pub mod Words
+pub mod ComparisonWords

@@ -2,7 +2,8 @@
 -- `--session OUT` behind them. Own.
 use Rattle.std.specs.Prelude.{◌≡◌, List, [], ◌∷◌, Option, Some, None, codes, ◌==◌, Bool, true, not}
 use Rattle.clap.specs.Words.{Text}
-use Rattle.command_line.specs.Words.{AreTaken, found, mistakes, value}
+use Rattle.command_line.specs.Faults.{value}
+use Rattle.command_line.specs.Words.{AreTaken, found, mistakes}
 
 -- the text doesn't begin with a hyphen (45), by which options are known
 abbrev pub is_plain : Text → Bool

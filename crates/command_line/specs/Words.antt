@@ -1,26 +1,23 @@
--- What the words behind the program's name mean. Own; how `clap` finds arguments among words is of its own definitions.
-use Rattle.std.specs.Prelude.{◌≡◌, ◌≢◌, ◌⊎◌, ◌≤◌, ⊤, ℕ, List, [], ◌∷◌, Option, Some, None, is_some, option_map, true, codes, pos, string_bytes, IsSomeAnd, IfSome}
+-- What the words behind the name of `regedit` mean. Own; how `clap` finds arguments among words is of its own definitions.
+use Rattle.std.specs.Prelude.{◌≡◌, ◌≢◌, ◌≤◌, ⊤, ℕ, List, [], ◌∷◌, Some, is_some, option_map, true, codes, pos, string_bytes, IsSomeAnd, IfSome}
 use Rattle.std.specs.Str.Parse.{signed_digits_value}
-use Rattle.clap.specs.Words.{Kinds, Row, Text, fault_of, first_of, kind_of, matches_of, one_of, takes, without_minus}
+use Rattle.clap.specs.Words.{Kinds, Row, Text, fault_of, matches_of, one_of, takes, without_minus}
 use Rattle.clap.specs.Values.{IsSignedIn}
-use Rattle.clap.specs.declared.error.Error.{Error}
 use Rattle.clap.specs.declared.error.kind.ErrorKind.{ErrorKind}
-use Rattle.clap.specs.declared.error.kind.ErrorKind.TheVariants.{DisplayHelp, DisplayVersion, OutOfMemory}
+use Rattle.clap.specs.declared.error.kind.ErrorKind.TheVariants.{DisplayHelp, DisplayVersion}
 use Rattle.rdl_text.specs.Name.{IsName}
 use Rattle.command_line.specs.Arguments.{regedit_command}
 use Rattle.command_line.specs.declared.line.Line.{Line}
 use Rattle.command_line.specs.declared.line.LineFault.{LineFault}
-use Rattle.command_line.specs.declared.line.LineFault.TheVariants.{Help, Version, Refused, BadTop, Meets, Memory}
+use Rattle.command_line.specs.declared.line.LineFault.TheVariants as faults
 use Rattle.command_line.specs.declared.meeting.Meeting.{Meeting}
+use Rattle.command_line.specs.Faults.{HasBadTop, HasFault, value}
+use Rattle.command_line.specs.Faults as of_words
 use Rattle.command_line.specs.Meetings.{meeting_in}
 
 -- the arguments that are found among the words, each with its values
 abbrev pub found : List Text → List Row
 found words = matches_of regedit_command words
-
--- the value of an argument: what the words give it, else its default
-abbrev pub value : Text → List Row → Option Text
-value = first_of
 
 -- the number that digits spell, with or without a sign
 abbrev pub Spells : Text → ℕ → Type 0
@@ -48,10 +45,6 @@ pub record Means (rows : List Row) (line : Line) : Type 0 where
 abbrev pub mistakes : List Text → Kinds
 mistakes words = fault_of regedit_command words
 
--- the error is what is told of the words, or want of memory
-abbrev pub Tells : List Text → Error → Type 0
-Tells words error = (kind_of error ≡ OutOfMemory) ⊎ (mistakes words ≡ kind_of error ∷ [])
-
 -- help is asked for, before anything is wrong
 abbrev pub AskForHelp : List Text → Type 0
 AskForHelp words = mistakes words ≡ DisplayHelp ∷ []
@@ -68,10 +61,6 @@ AreMistaken words = (kind : ErrorKind) × (kind ≢ DisplayHelp) × (kind ≢ Di
 abbrev pub AreTaken : List Text → Type 0
 AreTaken words = takes regedit_command words ≡ true
 
--- a top is given that is no identifier
-abbrev pub HasBadTop : List Row → Type 0
-HasBadTop rows = IsSomeAnd (value (codes "top") rows) (λ name. ¬ (IsName name))
-
 -- nothing else is wrong
 abbrev pub AreBadAtTop : List Text → Type 0
 AreBadAtTop words = (mistakes words ≡ []) × HasBadTop (found words)
@@ -82,39 +71,13 @@ Meet words meeting = (mistakes words ≡ []) × (meeting_in (found words) ≡ So
 
 -- the words give what the fault says
 abbrev pub Refuses : List Text → LineFault → Type 0
-Refuses words (Help error) = (kind_of error ≡ DisplayHelp) × AskForHelp words
-Refuses words (Version error) = (kind_of error ≡ DisplayVersion) × AskForVersion words
-Refuses words (Refused error) = (kind_of error ≢ DisplayHelp) × (kind_of error ≢ DisplayVersion) × (mistakes words ≡ kind_of error ∷ [])
-Refuses words BadTop = AreBadAtTop words
-Refuses words (Meets meeting) = Meet words meeting
-Refuses words Memory = ⊤
-
--- what a fault says of the top
-abbrev pub RefusesTop : List Row → LineFault → Type 0
-RefusesTop rows BadTop = HasBadTop rows
-RefusesTop rows (Meets meeting) = ⊥
-RefusesTop rows Memory = ⊤
-RefusesTop rows (Help error) = ⊥
-RefusesTop rows (Version error) = ⊥
-RefusesTop rows (Refused error) = ⊥
-
--- what a fault behind `clap` says of what is found
-abbrev pub RefusesFound : List Row → LineFault → Type 0
-RefusesFound rows BadTop = HasBadTop rows
-RefusesFound rows (Meets meeting) = meeting_in rows ≡ Some meeting
-RefusesFound rows Memory = ⊤
-RefusesFound rows (Help error) = ⊥
-RefusesFound rows (Version error) = ⊥
-RefusesFound rows (Refused error) = ⊥
+Refuses words (faults.Words fault) = HasFault (mistakes words) (found words) fault
+Refuses words (faults.Meets meeting) = Meet words meeting
 
 -- a fault of words that `clap` takes
 abbrev pub IsBehindClap : LineFault → Type 0
-IsBehindClap BadTop = ⊤
-IsBehindClap (Meets meeting) = ⊤
-IsBehindClap Memory = ⊤
-IsBehindClap (Help error) = ⊥
-IsBehindClap (Version error) = ⊥
-IsBehindClap (Refused error) = ⊥
+IsBehindClap (faults.Words fault) = of_words.IsBehindClap fault
+IsBehindClap (faults.Meets meeting) = ⊤
 
 -- ---- What is known of all that is found where `clap` takes the words.
 

@@ -1,12 +1,12 @@
-//! The arguments of the program, as `clap` reads them and as its help shows them.
+//! The arguments of the programs, as `clap` reads them and as their help shows them.
 ghost use Rattle.std.specs.Prelude.{◌≡◌, IfOk, false};
 ghost use Rattle.clap.specs.Words.{app_of, rule_of};
-ghost use Rattle.command_line.specs.Arguments.{history_rule, operand_rule, output_rule, regedit_command, session_rule, top_rule};
+ghost use Rattle.command_line.specs.Arguments.{history_rule, operand_rule, output_rule, program_with, regdiff_command, regedit_command, session_rule, top_rule};
 
 use clap::{Arg, ArgAction, Command, value_parser};
 use std::alloc::{AllocError, Global};
 
-/// The version of the program, which `--version` prints.
+/// The version of the programs, which `--version` prints.
 const VERSION: &str = "1.0.0";
 
 fn operand<'a>(alloc: Global, id: &'a str, name: &'a str, help: &'a str) -> Arg<'a>
@@ -32,7 +32,7 @@ fn output<'a>(alloc: Global, id: &'a str, help: &'a str) -> Arg<'a>
         .help(help)
 }
 
-fn top<'a>(alloc: Global) -> Arg<'a>
+fn top<'a>(alloc: Global, help: &'a str) -> Arg<'a>
     ensures rule { rule_of result ≡ top_rule }
     ensures own { result.global ≡ false }
 {
@@ -40,7 +40,7 @@ fn top<'a>(alloc: Global) -> Arg<'a>
         .long("top")
         .value_name("NAME")
         .action(ArgAction::Set)
-        .help("The address map of the root that is the top; with none, the last one")
+        .help(help)
 }
 
 fn history<'a>(alloc: Global) -> Arg<'a>
@@ -67,19 +67,60 @@ fn session<'a>(alloc: Global) -> Arg<'a>
         .help("Where the session is written: the map with its undos and redos")
 }
 
-/// The command `regedit`, with its help.
-pub fn command<'a>(alloc: Global) -> Result<Command<'a>, AllocError>
-    ensures { IfOk result (λ command. app_of command ≡ regedit_command) }
+/// A program of this name with two operands.
+fn program<'a>(
+    alloc: Global,
+    name: &'a str,
+    about: &'a str,
+    first: Arg<'a>,
+    second: Arg<'a>,
+) -> Result<Command<'a>, AllocError>
+    requires first_own { first.global ≡ false }
+    requires second_own { second.global ≡ false }
+    ensures { IfOk result (λ command. app_of command ≡ program_with name.entry.now (rule_of first.entry) (rule_of second.entry)) }
 {
-    Command::new(alloc, "regedit")
+    Command::new(alloc, name)
         .no_binary_name(true)
         .version(VERSION)
-        .about("Edits a register map by a script, and writes the map and its C header")
-        .arg(operand(alloc, "map", "MAP", "The register map to edit"))?
-        .arg(operand(alloc, "script", "SCRIPT", "The edits, one on each line"))?
-        .arg(output(alloc, "rdl", "Where the edited map is written"))?
-        .arg(output(alloc, "header", "Where the C header is written"))?
-        .arg(top(alloc))?
-        .arg(history(alloc))?
-        .arg(session(alloc))
+        .about(about)
+        .arg(first)?
+        .arg(second)
+}
+
+/// The command `regedit`, with its help.
+pub(crate) fn regedit_command<'a>(alloc: Global) -> Result<Command<'a>, AllocError>
+    ensures { IfOk result (λ command. app_of command ≡ regedit_command) }
+{
+    program(
+        alloc,
+        "regedit",
+        "Edits a register map by a script, and writes the map and its C header",
+        operand(alloc, "map", "MAP", "The register map to edit"),
+        operand(alloc, "script", "SCRIPT", "The edits, one on each line"),
+    )?
+    .arg(output(alloc, "rdl", "Where the edited map is written"))?
+    .arg(output(alloc, "header", "Where the C header is written"))?
+    .arg(top(
+        alloc,
+        "The address map of the root that is the top; with none, the last one",
+    ))?
+    .arg(history(alloc))?
+    .arg(session(alloc))
+}
+
+/// The command `regdiff`, with its help.
+pub(crate) fn regdiff_command<'a>(alloc: Global) -> Result<Command<'a>, AllocError>
+    ensures { IfOk result (λ command. app_of command ≡ regdiff_command) }
+{
+    program(
+        alloc,
+        "regdiff",
+        "Says how the registers of one map differ from those of another",
+        operand(alloc, "old", "OLD", "The register map or session that was"),
+        operand(alloc, "new", "NEW", "The register map or session that is"),
+    )?
+    .arg(top(
+        alloc,
+        "The address map of the root that is the top of both; with none, the last one of each",
+    ))
 }

@@ -1,8 +1,11 @@
-//! The words behind the program's name, read by `clap`.
+//! The words behind the names of the programs, read by `clap`.
 #![tactic(auto)]
 
 mod arguments;
+pub mod comparison;
+pub mod fault;
 pub mod laws;
 pub mod line;
 pub mod meeting;
+mod values;
 pub mod words;

@@ -1,9 +1,7 @@
-//! What a command line asks for, and why it asks for nothing.
+//! What a command line of `regedit` asks for, and why it asks for nothing.
+use crate::fault::WordsFault;
 use crate::meeting::Meeting;
-use clap::Error;
-use clap::error::ErrorKind;
 use rdl_text::name::Name;
-use std::alloc::AllocError;
 
 /// What a command line asks for.
 #[derive(Debug, Drop)]
@@ -27,42 +25,19 @@ pub struct Line {
 /// Why words are no command line.
 #[derive(Debug, Drop)]
 pub enum LineFault {
-    /// L1: help is asked for. The text of the error is the help.
-    Help(Error),
-    /// L6: the version is asked for. The text of the error is the program's name and its version.
-    Version(Error),
-    /// L2: the words are refused. The text of the error says why.
-    Refused(Error),
-    /// L3: the name of the top is no identifier of at most 255 bytes.
-    BadTop,
+    /// L1 to L4, L6: they are none of any program.
+    Words(WordsFault),
     /// L5: two of the paths lead to one file, as far as the words tell.
     Meets(Meeting),
-    /// L4: no memory.
-    Memory,
 }
 
-impl From<AllocError> for LineFault {
+impl From<WordsFault> for LineFault {
     ghost use Rattle.command_line.specs.declared.line.LineFault.{LineFault};
     ghost use Rattle.std.specs.Prelude.{◌≡◌};
 
-    ghost from_gives = { λ _ f. f ≡ LineFault.Memory };
+    ghost from_gives = { λ fault f. f ≡ LineFault.Words fault };
 
-    fn from(_error: AllocError) -> LineFault {
-        LineFault::Memory
-    }
-}
-
-impl From<Error> for LineFault {
-    ghost use Rattle.command_line.specs.Kinds.{SaysKind};
-
-    ghost from_gives = { λ error f. SaysKind error f };
-
-    fn from(error: Error) -> LineFault {
-        match error.kind() {
-            ErrorKind::DisplayHelp => LineFault::Help(error),
-            ErrorKind::DisplayVersion => LineFault::Version(error),
-            ErrorKind::OutOfMemory => LineFault::Memory,
-            _ => LineFault::Refused(error),
-        }
+    fn from(fault: WordsFault) -> LineFault {
+        LineFault::Words(fault)
     }
 }

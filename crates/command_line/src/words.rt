@@ -1,16 +1,18 @@
-//! From words to a line.
-ghost use Rattle.std.specs.Prelude.{◌≡◌, List, [], Some, None, map, codes, is_some, true, string_bytes, IfOk, IfErr, IfSome, MatchResult, OnOk, option_and_then, option_map};
+//! From words to a line of `regedit`.
+ghost use Rattle.std.specs.Prelude.{◌≡◌, List, [], None, map, codes, string_bytes, IfOk, IfErr, MatchResult, OnOk, option_and_then, option_map};
 ghost use Rattle.clap.specs.Words.{found_of, kind_of, rows_of};
-ghost use Rattle.rdl_text.specs.Name.{IsName};
+ghost use Rattle.command_line.specs.Faults.{HasFault, IsTold, RefusesFound, value};
+ghost use Rattle.command_line.specs.Faults.{IsBehindClap as AreBehindClap};
 ghost use Rattle.command_line.specs.Meetings.{file_named, meeting_of};
-ghost use Rattle.command_line.specs.Words.{AreTaken, HasHistory, IsBehindClap, IsWhole, Means, NumbersHistory, Refuses, RefusesFound, RefusesTop, Tells, found, mistakes, value};
+ghost use Rattle.command_line.specs.Words.{AreTaken, HasHistory, IsBehindClap, IsWhole, Means, NumbersHistory, Refuses, found, mistakes};
 
-use crate::arguments::command;
+use crate::arguments::regedit_command;
+use crate::fault::WordsFault;
 use crate::line::{Line, LineFault};
 use crate::meeting::{Meeting, file_named, meeting_at};
+use crate::values::{text_of, top_of};
 use clap::error::ErrorKind;
 use clap::{ArgMatches, Error};
-use rdl_text::name::{Name, NameFault};
 use std::alloc::{AllocError, Global};
 
 /// What `clap` makes of the words.
@@ -18,31 +20,9 @@ fn matches<'a>(alloc: Global, words: &'a [&'a str]) -> Result<ArgMatches<'a>, Er
     ensures ok { IfOk result (λ m. rows_of (found_of m) ≡ found (map (λ w. w.now) words.entry.now)) }
     ensures whole { IfOk result (λ m. IsWhole (rows_of (found_of m))) }
     ensures takes { AreTaken (map (λ w. w.now) words.entry.now) → IfErr result (λ e. kind_of e ≡ ErrorKind.OutOfMemory) }
-    ensures told { MatchResult result (λ _. mistakes (map (λ w. w.now) words.entry.now) ≡ []) (Tells (map (λ w. w.now) words.entry.now)) }
+    ensures told { MatchResult result (λ _. mistakes (map (λ w. w.now) words.entry.now) ≡ []) (IsTold (mistakes (map (λ w. w.now) words.entry.now))) }
 {
-    command(alloc)?.try_get_matches_from(words)
-}
-
-fn text_of(alloc: Global, matches: &ArgMatches<'_>, id: &str) -> Result<String, AllocError>
-    requires { is_some (value id.now (rows_of (found_of matches.now))) ≡ true }
-    ensures { IfOk result (λ text. value id.now (rows_of (found_of matches.now)) ≡ Some (string_bytes text)) }
-{
-    String::from_str(alloc, matches.get_str(id).unwrap())
-}
-
-fn top_of(alloc: Global, matches: &ArgMatches<'_>) -> Result<Option<Name>, LineFault>
-    ensures ok { IfOk result (λ top. value (codes "top") (rows_of (found_of matches.now)) ≡ top) }
-    ensures is_name { IfOk result (λ top. IfSome top IsName) }
-    ensures fault { IfErr result (RefusesTop (rows_of (found_of matches.now))) }
-{
-    let Some(text) = matches.get_str("top") else {
-        return Ok(None);
-    };
-    match Name::new(alloc, text) {
-        Ok(name) => Ok(Some(name)),
-        Err(NameFault::NotSuch) => Err(LineFault::BadTop),
-        Err(NameFault::Memory) => Err(LineFault::Memory),
-    }
+    regedit_command(alloc)?.try_get_matches_from(words)
 }
 
 fn history_of(matches: &ArgMatches<'_>) -> u32
@@ -83,10 +63,10 @@ fn meeting_of(line: &Line) -> Option<Meeting>
     )
 }
 
-fn read_line(alloc: Global, matches: &ArgMatches<'_>) -> Result<Line, LineFault>
+fn line_of(alloc: Global, matches: &ArgMatches<'_>) -> Result<Line, WordsFault>
     requires { IsWhole (rows_of (found_of matches.now)) }
     ensures ok { IfOk result (Means (rows_of (found_of matches.now))) }
-    ensures fault { IfErr result (RefusesTop (rows_of (found_of matches.now))) }
+    ensures fault { IfErr result (RefusesFound (rows_of (found_of matches.now))) }
 {
     let top = top_of(alloc, matches)?;
     Ok(Line {
@@ -100,17 +80,15 @@ fn read_line(alloc: Global, matches: &ArgMatches<'_>) -> Result<Line, LineFault>
     })
 }
 
-fn line_of(alloc: Global, matches: &ArgMatches<'_>) -> Result<Line, LineFault>
-    requires { IsWhole (rows_of (found_of matches.now)) }
-    ensures ok { IfOk result (Means (rows_of (found_of matches.now))) }
-    ensures apart { IfOk result (λ line. meeting_of line ≡ None) }
-    ensures fault { IfErr result (RefusesFound (rows_of (found_of matches.now))) }
+/// The line that the words are, wherever its paths lead.
+fn read_line<'a>(alloc: Global, words: &'a [&'a str]) -> Result<Line, WordsFault>
+    ensures ok { IfOk result (Means (found (map (λ w. w.now) words.entry.now))) }
+    ensures well { OnOk result (mistakes (map (λ w. w.now) words.entry.now) ≡ []) }
+    ensures fault { IfErr result (HasFault (mistakes (map (λ w. w.now) words.entry.now)) (found (map (λ w. w.now) words.entry.now))) }
+    ensures taken { AreTaken (map (λ w. w.now) words.entry.now) → IfErr result AreBehindClap }
 {
-    let line = read_line(alloc, matches)?;
-    match meeting_of(&line) {
-        Some(meeting) => Err(LineFault::Meets(meeting)),
-        None => Ok(line),
-    }
+    let matches = matches(alloc, words)?;
+    line_of(alloc, &matches)
 }
 
 /// Reads the words behind the program's name.
@@ -123,6 +101,9 @@ pub fn line<'a>(alloc: Global, words: &'a [&'a str]) -> Result<Line, LineFault>
     ensures fault { IfErr result (Refuses (map (λ w. w.now) words.entry.now)) }
     ensures taken { AreTaken (map (λ w. w.now) words.entry.now) → IfErr result IsBehindClap }
 {
-    let matches = matches(alloc, words)?;
-    line_of(alloc, &matches)
+    let line = read_line(alloc, words)?;
+    match meeting_of(&line) {
+        Some(meeting) => Err(LineFault::Meets(meeting)),
+        None => Ok(line),
+    }
 }

@@ -1,14 +1,11 @@
 -- A comparison of two maps or sessions: from their bytes to the text that is written, and the status. Own.
-use Rattle.std.specs.Prelude.{◌≡◌, ◌⊎◌, ℕ, List, [], ◌∷◌, Option, Ok, codes}
+use Rattle.std.specs.Prelude.{◌≡◌, ◌⊎◌, ℕ, List, [], ◌∷◌, Option, codes}
 use Rattle.std.specs.Io.KnownBytes.{Appends}
-use Rattle.journal_core.specs.History.{IsAt}
-use Rattle.rdl_edit.specs.Step.{State}
-use Rattle.rdl_elab.specs.Faults.{elaborated}
 use Rattle.rdl_elab.specs.declared.row.Row.{Row}
 use Rattle.rdl_diff.specs.DiffText.{diff_text}
-use Rattle.rdl_run.specs.Answers.{History'}
 use Rattle.rdl_run.specs.Known.{Gives, AppendsFront}
-use Rattle.rdl_run.specs.Opening.{OpensHistory, RefusesToOpen}
+use Rattle.rdl_run.specs.OpenedRows.{OpensRows}
+use Rattle.rdl_run.specs.Opening.{RefusesToOpen}
 use Rattle.rdl_run.specs.declared.status.RunFault.{RunFault}
 use Rattle.rdl_run.specs.declared.status.RunFault.TheVariants.{Write}
 use Rattle.rdl_compare.specs.Fronts.{with_front}
@@ -20,19 +17,7 @@ pub record Output : Type 0 where
   pub text : List ℕ
   pub status : Status
 
--- no edit is made of what is compared
-abbrev pub no_edits : ℕ
-no_edits = 0
-
--- the bytes are a map or a session, and these are the rows of the map at its place
-pub record HasRows (top : Option (List ℕ)) (bytes : List ℕ) (rows : List Row) : Type 0 where
-  pub first : History'
-  pub opens : OpensHistory top no_edits bytes first
-  pub now : State
-  pub at : IsAt first now
-  pub are : elaborated now.description now.option ≡ Ok rows
-
--- they are none that is accepted, and this is said of it
+-- the bytes are no map or session that is accepted, and this is said of it
 pub record Refuses (word : List ℕ) (top : Option (List ℕ)) (bytes text : List ℕ) : Type 0 where
   pub message : List ℕ
   pub refused : RefusesToOpen top bytes message
@@ -47,8 +32,8 @@ status_of (b ∷ bs) = Different
 pub record Compares (top : Option (List ℕ)) (old new : List ℕ) (out : Output) : Type 0 where
   pub old_rows : List Row
   pub new_rows : List Row
-  pub of_old : HasRows top old old_rows
-  pub of_new : HasRows top new new_rows
+  pub of_old : OpensRows top old old_rows
+  pub of_new : OpensRows top new new_rows
   pub text : out.text ≡ diff_text old_rows new_rows
   pub status : out.status ≡ status_of out.text
 
@@ -60,7 +45,7 @@ pub record RefusesOld (top : Option (List ℕ)) (old new : List ℕ) (out : Outp
 -- the second is, and the first is not
 pub record RefusesNew (top : Option (List ℕ)) (old new : List ℕ) (out : Output) : Type 0 where
   pub rows : List Row
-  pub accepted : HasRows top old rows
+  pub accepted : OpensRows top old rows
   pub refused : Refuses (codes "new") top new out.text
   pub status : out.status ≡ MapRefused
 

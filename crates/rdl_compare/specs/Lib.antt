@@ -1,4 +1,3 @@
 pub mod Fronts
 pub mod Comparing
-pub mod Refusals
 pub mod Refused

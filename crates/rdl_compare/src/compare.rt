@@ -1,27 +1,28 @@
 //! A whole comparison, from two inputs to one output.
 ghost use Rattle.std.specs.Prelude.{◌≡◌, ◌⊎◌, true, ℕ, List, Option, IfOk, IfErr, IsErrOf, OnOk, option_copied};
-ghost use Rattle.rdl_compare.specs.Comparing.{IsOutput, Ran, Refuses, Stopped, status_of};
-ghost use Rattle.rdl_compare.specs.Refusals.{IfRefused};
+ghost use Rattle.rdl_compare.specs.Comparing.{IsOutput, Ran, Stopped, status_of};
 ghost use Rattle.rdl_compare.specs.Refused.{IsRefusal};
 ghost use Rattle.rdl_diff.specs.DiffText.{diff_text};
 ghost use Rattle.rdl_run.specs.Known.{IsOver, IsWithin};
+ghost use Rattle.rdl_run.specs.Opening.{RefusesToOpen};
+ghost use Rattle.rdl_run.specs.OpeningFaults.{IfRefusedToOpen};
 ghost use Rattle.rdl_run.specs.Turns.{IsGivenUp, IsInterrupted, IsOpen, unread, unwritten};
 ghost use Rattle.rdl_run.specs.declared.status.RunFault.{RunFault};
 
-use crate::rows::{RowsFault, rows_of};
+use crate::message::with_front;
 use crate::status::{Status, status_of};
 use rdl_diff::diff_text;
 use rdl_elab::row::Row;
 use rdl_run::counted::{CountedReader, CountedWriter};
 use rdl_run::input::read_counted;
+use rdl_run::open::OpenFault;
 use rdl_run::output::write_counted;
+use rdl_run::rows::opened_rows;
+use rdl_run::run::MOST_BYTES;
 use rdl_run::status::RunFault;
 use rdl_text::name::Name;
 use std::alloc::{AllocError, Global};
 use std::io::{Read, Write};
-
-/// The greatest map or session, in bytes.
-const MOST_BYTES: usize = 67_108_864;
 
 /// What is written of two maps, and how their comparison ends.
 #[derive(Drop)]
@@ -30,16 +31,16 @@ struct Comparison {
     status: Status,
 }
 
-/// What is written where there are no rows of one of the maps.
-fn refused(fault: RowsFault) -> Result<Comparison, AllocError>
-    ensures { (word : List ℕ) (top : Option (List ℕ)) (bytes : List ℕ) → IfRefused fault (Refuses word top bytes) → IfOk result (IsRefusal word top bytes) }
+/// What is written of a map or session that isn't opened. Its message begins with this word.
+fn refused(alloc: Global, word: &str, fault: OpenFault) -> Result<Comparison, AllocError>
+    ensures { (top : Option (List ℕ)) (bytes : List ℕ) → IfRefusedToOpen fault (RefusesToOpen top bytes) → IfOk result (IsRefusal word.now top bytes) }
 {
     match fault {
-        RowsFault::Refused(text) => Ok(Comparison {
-            text,
+        OpenFault::Refused(message) => Ok(Comparison {
+            text: with_front(alloc, word, message.as_str())?,
             status: Status::MapRefused,
         }),
-        RowsFault::Memory => Err(AllocError),
+        OpenFault::Memory => Err(AllocError),
     }
 }
 
@@ -62,13 +63,13 @@ fn compared(
 ) -> Result<Comparison, AllocError>
     ensures { IfOk result (λ c. IsOutput (option_copied top.entry) old.now new.now (record { text = c.text.items; status = c.status })) }
 {
-    let old_rows = match rows_of(alloc, old, top, "old") {
+    let old_rows = match opened_rows(alloc, old, top) {
         Ok(rows) => rows,
-        Err(fault) => return refused(fault),
+        Err(fault) => return refused(alloc, "old", fault),
     };
-    let new_rows = match rows_of(alloc, new, top, "new") {
+    let new_rows = match opened_rows(alloc, new, top) {
         Ok(rows) => rows,
-        Err(fault) => return refused(fault),
+        Err(fault) => return refused(alloc, "new", fault),
     };
     compared_rows(alloc, old_rows.as_slice(), new_rows.as_slice())
 }

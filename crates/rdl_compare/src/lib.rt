@@ -4,5 +4,4 @@
 pub mod compare;
 pub mod laws;
 mod message;
-mod rows;
 pub mod status;

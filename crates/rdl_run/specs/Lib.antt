@@ -6,6 +6,7 @@ pub mod Known
 pub mod Messages
 pub mod Missing
 pub mod Opening
+pub mod OpenedRows
 pub mod OpeningFaults
 pub mod Output
 pub mod ReadingFaults

@@ -10,6 +10,7 @@ pub mod output;
 mod part;
 mod reading;
 mod reply;
+pub mod rows;
 pub mod run;
 mod saving;
 mod serve;

@@ -34,7 +34,7 @@ pub struct Options {
 }
 
 /// The greatest map or session and the greatest script, in bytes.
-const MOST_BYTES: usize = 67_108_864;
+pub const MOST_BYTES: usize = 67_108_864;
 
 /// Writes what closes a run, the messages first.
 fn write_closing<R: Write, H: Write, Z: Write, E: Write>(

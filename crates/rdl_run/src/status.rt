@@ -57,18 +57,18 @@ impl Status {
     }
 }
 
-/// Why a run stopped.
+/// Why a run stopped. Its text has no name of a program before it.
 #[derive(Clone, Copy, Debug, PartialEq, Eq, Drop, Error)]
 pub enum RunFault {
-    #[error("regedit: read fault")]
+    #[error("read fault")]
     Read,
-    #[error("regedit: write fault")]
+    #[error("write fault")]
     Write,
-    #[error("regedit: out of memory")]
+    #[error("out of memory")]
     Memory,
-    #[error("regedit: input too long")]
+    #[error("input too long")]
     TooLong,
-    #[error("regedit: reader does not end")]
+    #[error("reader does not end")]
     Interrupted,
 }
 

@@ -3,8 +3,8 @@ ghost use Rattle.std.specs.Prelude.{◌≡◌, ◌⊎◌};
 ghost use Rattle.regdiff.specs.CommandLine.{IsExit, status_code};
 
 use crate::files::{Stop, compare_files};
-use crate::line::{Line, LineFault};
-use crate::words::line;
+use command_line::comparison::{Comparison, line};
+use command_line::fault::WordsFault;
 use rdl_compare::status::Status;
 use rdl_run::counted::CountedWriter;
 use rdl_run::output::write_counted;
@@ -24,17 +24,6 @@ fn status_code(status: Status) -> u8
     }
 }
 
-/// What is said of a fault.
-fn fault_text(fault: RunFault) -> &'static str {
-    match fault {
-        RunFault::Read => "read fault",
-        RunFault::Write => "write fault",
-        RunFault::Memory => "out of memory",
-        RunFault::TooLong => "input too long",
-        RunFault::Interrupted => "reader does not end",
-    }
-}
-
 /// Says that the words are no command line, or that their top is no name. Where that can't be said, the exit status still
 /// shows it.
 fn report_words<E: Write>(what: &str, errors: &mut E) -> u8
@@ -48,9 +37,9 @@ fn report_words<E: Write>(what: &str, errors: &mut E) -> u8
 fn report_stop<E: Write>(stop: &Stop<'_>, errors: &mut E) -> u8
     ensures { result ≡ 4 }
 {
-    let _ = writeln!(errors, "regdiff: {}", fault_text(stop.fault));
+    let _ = writeln!(errors, "regdiff: {}", stop.fault);
     if let Some(obstacle) = &stop.obstacle {
-        let _ = writeln!(errors, "{obstacle}");
+        let _ = writeln!(errors, "regdiff: {obstacle}");
     }
     4
 }
@@ -65,7 +54,7 @@ fn report_fault<E: Write>(fault: RunFault, errors: &mut E) -> u8
 fn obey<R: Files, M: Write, E: Write>(
     rt: &R,
     alloc: Global,
-    line: &Line,
+    line: &Comparison,
     messages: &mut M,
     errors: &mut E,
 ) -> u8
@@ -90,24 +79,23 @@ fn print_told<M: Write>(
 /// Says what words ask for that are no command line.
 fn refuse<M: Write, E: Write>(
     alloc: Global,
-    fault: LineFault,
+    fault: WordsFault,
     messages: &mut M,
     errors: &mut E,
 ) -> u8
     ensures { IsExit result }
 {
     match fault {
-        LineFault::Told(told) => match print_told(alloc, &told, messages) {
+        WordsFault::Help(told) | WordsFault::Version(told) => match print_told(alloc, &told, messages) {
             Ok(()) => 0,
             Err(fault) => report_fault(fault, errors),
         },
-        LineFault::Refused(mistake) => {
+        WordsFault::Refused(mistake) => {
             let _ = write!(errors, "{mistake}");
             5
         }
-        LineFault::NoOperand => report_words("command line", errors),
-        LineFault::BadTop => report_words("top name", errors),
-        LineFault::Memory => report_fault(RunFault::Memory, errors),
+        WordsFault::BadTop => report_words("top name", errors),
+        WordsFault::Memory => report_fault(RunFault::Memory, errors),
     }
 }
 

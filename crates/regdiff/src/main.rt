@@ -1,11 +1,8 @@
 //! A program that says how the rows of one register map differ from those of another.
 #![tactic(auto)]
 
-mod arguments;
 mod command;
 mod files;
-mod line;
-mod words;
 
 use crate::command::{command, refuse_words};
 use std::alloc::Global;

@@ -2,8 +2,8 @@
 use Rattle.std.specs.Prelude.{◌≡◌, ◌⊎◌, ℕ, ◌≤◌, List, []}
 use Rattle.command_line.specs.Words.{AreBadAtTop, AreMistaken, Meet, mistakes}
 use Rattle.command_line.specs.declared.meeting.Meeting.{Meeting}
-use Rattle.command_line.specs.declared.line.LineFault.{LineFault}
-use Rattle.command_line.specs.declared.line.LineFault.TheVariants as line_faults
+use Rattle.command_line.specs.declared.fault.WordsFault.{WordsFault}
+use Rattle.command_line.specs.declared.fault.WordsFault.TheVariants as faults
 use Rattle.regedit.specs.declared.command.Failure.{Failure}
 use Rattle.regedit.specs.declared.command.Failure.TheVariants as failures
 use Rattle.rdl_run.specs.declared.status.Status.{Status}
@@ -22,13 +22,12 @@ failure_code failures.BadTop = 5
 failure_code (failures.Meets meeting) = 5
 
 -- how the program ends where the words are no command line; help and the version may find no memory, or be cut off
-abbrev pub Ends : LineFault → ℕ → Type 0
-Ends (line_faults.Help help) n = (n ≡ 0) ⊎ (n ≡ 4)
-Ends (line_faults.Version version) n = (n ≡ 0) ⊎ (n ≡ 4)
-Ends (line_faults.Refused mistake) n = n ≡ 5
-Ends line_faults.BadTop n = n ≡ 5
-Ends (line_faults.Meets meeting) n = n ≡ 5
-Ends line_faults.Memory n = n ≡ 4
+abbrev pub EndsWords : WordsFault → ℕ → Type 0
+EndsWords (faults.Help help) n = (n ≡ 0) ⊎ (n ≡ 4)
+EndsWords (faults.Version version) n = (n ≡ 0) ⊎ (n ≡ 4)
+EndsWords (faults.Refused mistake) n = n ≡ 5
+EndsWords faults.BadTop n = n ≡ 5
+EndsWords faults.Memory n = n ≡ 4
 
 -- two of the paths that the words give lead to one file, as far as they tell, and nothing else is wrong
 abbrev pub DoMeet : List (List ℕ) → Type 0

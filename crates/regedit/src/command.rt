@@ -1,11 +1,12 @@
 //! The program's edge: its words, its messages and its exit status.
 ghost use Rattle.std.specs.Prelude.{◌≡◌, ◌⊎◌, ◌≤◌, map};
-ghost use Rattle.regedit.specs.CommandLine.{AreRefused, AreWell, Ends, IsExit, failure_code, status_code};
+ghost use Rattle.regedit.specs.CommandLine.{AreRefused, AreWell, EndsWords, IsExit, failure_code, status_code};
 ghost use Rattle.command_line.specs.Words.{AskForHelp, AskForVersion};
 ghost use Rattle.regedit.specs.declared.command.Failure.{Failure};
 
 use crate::files::{Stop, edit_files};
 use crate::paths::{meeting_of_files, parts};
+use command_line::fault::WordsFault;
 use command_line::line::{Line, LineFault};
 use command_line::meeting::Meeting;
 use command_line::words::line;
@@ -27,7 +28,7 @@ enum Failure {
     BadTop,
     #[error("regedit: {0}")]
     Meets(Meeting),
-    #[error("{0}")]
+    #[error("regedit: {0}")]
     Fault(RunFault),
 }
 
@@ -65,7 +66,7 @@ fn report_stop<E: Write>(stop: &Stop<'_>, errors: &mut E) -> u8
 {
     let code = report(Failure::Fault(stop.fault), errors);
     if let Some(obstacle) = &stop.obstacle {
-        let _ = writeln!(errors, "{obstacle}");
+        let _ = writeln!(errors, "regedit: {obstacle}");
     }
     code
 }
@@ -99,29 +100,28 @@ fn print_told<M: Write>(
     write_counted(&mut CountedWriter::new(messages, 0), text.as_bytes())
 }
 
-/// Says what words ask for that are no command line.
+/// Says what words ask for that are no command line by the words alone.
 fn refuse<M: Write, E: Write>(
     alloc: Global,
-    fault: LineFault,
+    fault: WordsFault,
     messages: &mut M,
     errors: &mut E,
 ) -> u8
-    ensures { Ends fault result }
+    ensures { EndsWords fault result }
 {
     match fault {
-        LineFault::Help(told) | LineFault::Version(told) => match print_told(
+        WordsFault::Help(told) | WordsFault::Version(told) => match print_told(
             alloc, &told, messages,
         ) {
             Ok(()) => 0,
             Err(fault) => report(Failure::Fault(fault), errors),
         },
-        LineFault::Refused(mistake) => {
+        WordsFault::Refused(mistake) => {
             let _ = write!(errors, "{mistake}");
             5
         }
-        LineFault::BadTop => report(Failure::BadTop, errors),
-        LineFault::Meets(meeting) => report(Failure::Meets(meeting), errors),
-        LineFault::Memory => report(Failure::Fault(RunFault::Memory), errors),
+        WordsFault::BadTop => report(Failure::BadTop, errors),
+        WordsFault::Memory => report(Failure::Fault(RunFault::Memory), errors),
     }
 }
 
@@ -144,7 +144,8 @@ pub fn command<R: Files, M: Write, E: Write>(
 {
     match line(alloc, words) {
         Ok(line) => obey(rt, alloc, line, messages, errors),
-        Err(fault) => refuse(alloc, fault, messages, errors),
+        Err(LineFault::Words(fault)) => refuse(alloc, fault, messages, errors),
+        Err(LineFault::Meets(meeting)) => report(Failure::Meets(meeting), errors),
     }
 }
 

@@ -4,58 +4,14 @@ ghost use Rattle.regedit.specs.Files.{files_of, seen};
 ghost use Rattle.regedit.specs.RunTexts.{AreOfOutput, AreRun};
 
 use crate::paths::Paths;
-use rdl_run::run::{Options, run};
+use rdl_run::run::{MOST_BYTES, Options, run};
 use rdl_run::status::{RunFault, Status};
 use std::alloc::{AllocError, Global};
-use std::fs::File;
-use std::io::{ErrorKind, Read, Write};
+use std::io::{Read, Write};
 use std::rt::Files;
-use std::{fmt, io};
 use whole_files::noted::{NotedReader, NotedWriter};
-use whole_files::output::{Output, write_whole};
-
-/// What can't be done with a file.
-#[derive(Clone, Copy, Debug, PartialEq, Eq, Drop)]
-pub(crate) enum Action {
-    Read,
-    Write,
-}
-
-impl fmt::Display for Action {
-    fn fmt<W: fmt::Write>(&self, f: &mut fmt::Formatter<W>) -> fmt::Result {
-        f.write_str(match self {
-            Action::Read => "read",
-            Action::Write => "write",
-        })
-    }
-}
-
-/// Why something can't be done with a file.
-#[derive(Debug, Drop)]
-pub(crate) enum Reason {
-    /// What the system says.
-    System(io::Error),
-    /// It has more bytes than an input may have.
-    TooLong,
-}
-
-/// At which file a run stopped, and why.
-#[derive(Debug, Drop)]
-pub(crate) struct Obstacle<'a> {
-    action: Action,
-    path: &'a str,
-    reason: Reason,
-}
-
-impl fmt::Display for Obstacle<'_> {
-    fn fmt<W: fmt::Write>(&self, f: &mut fmt::Formatter<W>) -> fmt::Result {
-        write!(f, "regedit: cannot {} {}: ", self.action, self.path)?;
-        match &self.reason {
-            Reason::System(error) => write!(f, "{error}"),
-            Reason::TooLong => f.write_str("more than 67108864 bytes"),
-        }
-    }
-}
+use whole_files::obstacle::{Obstacle, Reason, obstacle_of_inputs, obstacle_of_output, open_input};
+use whole_files::output::{Output, OutputFault, write_whole};
 
 /// Why a run stopped, and at which file, where it is one.
 #[derive(Debug, Drop)]
@@ -65,13 +21,7 @@ pub(crate) struct Stop<'a> {
 }
 
 impl<'a> Stop<'a> {
-    fn at(fault: RunFault, action: Action, path: &'a str, error: io::Error) -> Stop<'a> {
-        let reason = Reason::System(error);
-        let obstacle = Obstacle {
-            action,
-            path,
-            reason,
-        };
+    fn at(fault: RunFault, obstacle: Obstacle<'a>) -> Stop<'a> {
         Stop {
             fault,
             obstacle: Some(obstacle),
@@ -79,56 +29,11 @@ impl<'a> Stop<'a> {
     }
 }
 
-/// The greatest map or session and the greatest script, in bytes.
-const MOST_BYTES: u64 = 67_108_864;
-
-fn open_input<'a, R: Files>(rt: &R, path: &'a str) -> Result<NotedReader<R::File>, Stop<'a>> {
-    match File::open(rt, path) {
-        Ok(file) => Ok(NotedReader::new(file)),
-        Err(error) => Err(Stop::at(RunFault::Read, Action::Read, path, error)),
+fn opened<'a, R: Files>(rt: &R, path: &'a str) -> Result<NotedReader<R::File>, Stop<'a>> {
+    match open_input(rt, path) {
+        Ok(input) => Ok(input),
+        Err(obstacle) => Err(Stop::at(RunFault::Read, obstacle)),
     }
-}
-
-/// Why an input can't be read, if it is this one.
-fn input_reason<F>(fault: RunFault, input: &mut NotedReader<F>) -> Option<Reason> {
-    if fault == RunFault::TooLong {
-        return (input.bytes() > MOST_BYTES).then_some(Reason::TooLong);
-    }
-    match input.take_error() {
-        Some(error) => Some(Reason::System(error)),
-        None => None,
-    }
-}
-
-/// At which input the run stopped. The script is read behind the map, so what the map has said counts only where the script
-/// has said nothing.
-fn input_obstacle<'a, F>(
-    fault: RunFault,
-    paths: &'a Paths,
-    map: &mut NotedReader<F>,
-    script: &mut NotedReader<F>,
-) -> Option<Obstacle<'a>> {
-    let action = Action::Read;
-    match input_reason(fault, script) {
-        Some(reason) => Some(Obstacle {
-            action,
-            path: paths.script.as_str(),
-            reason,
-        }),
-        None => Some(Obstacle {
-            action,
-            path: paths.map.as_str(),
-            reason: input_reason(fault, map)?,
-        }),
-    }
-}
-
-fn messages_obstacle(error: Option<io::Error>) -> Option<Obstacle<'static>> {
-    Some(Obstacle {
-        action: Action::Write,
-        path: "standard output",
-        reason: Reason::System(error?),
-    })
 }
 
 /// Why a run stopped that has asked these.
@@ -141,8 +46,14 @@ fn stopped<'a, F, W>(
 ) -> Stop<'a> {
     let obstacle = match fault {
         RunFault::Memory => None,
-        RunFault::Write => messages_obstacle(messages.take_error()),
-        _ => input_obstacle(fault, paths, map, script),
+        RunFault::Write => obstacle_of_output(messages),
+        _ => obstacle_of_inputs(
+            MOST_BYTES as u64,
+            paths.map.as_str(),
+            map,
+            paths.script.as_str(),
+            script,
+        ),
     };
     Stop { fault, obstacle }
 }
@@ -200,8 +111,8 @@ fn run_in_memory<'a, R: Files, M: Write>(
 ) -> Result<Texts, Stop<'a>>
     ensures output { IfOk result (AreOfOutput options.now) }
 {
-    let mut map = open_input(rt, paths.map.as_str())?;
-    let mut script = open_input(rt, paths.script.as_str())?;
+    let mut map = opened(rt, paths.map.as_str())?;
+    let mut script = opened(rt, paths.script.as_str())?;
     let mut messages = NotedWriter::new(messages);
     run_inputs(alloc, paths, options, &mut map, &mut script, &mut messages)
 }
@@ -252,7 +163,10 @@ fn write_texts<'a, R: Files>(
     };
     match write_whole(rt, alloc, outputs.as_slice()) {
         Ok(()) => Ok(()),
-        Err(fault) => Err(Stop::at(RunFault::Write, Action::Write, fault.path, fault.error)),
+        Err(OutputFault { path, error }) => {
+            let reason = Reason::Unwritten(error);
+            Err(Stop::at(RunFault::Write, Obstacle { path, reason }))
+        }
     }
 }
 

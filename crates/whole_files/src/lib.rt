@@ -4,5 +4,6 @@
 
 mod beside;
 pub mod noted;
+pub mod obstacle;
 pub mod output;
 pub mod plain;

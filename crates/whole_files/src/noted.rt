@@ -1,9 +1,10 @@
 //! Readers and writers of which it is known why they failed.
-ghost use Rattle.std.specs.Prelude.{◌≡◌, ◌+◌, ◌-◌, ◌^◌, min, None, IsSome, IfOk, OnErr, OnOk};
+ghost use Rattle.std.specs.Prelude.{◌≡◌, ◌+◌, ◌-◌, ◌<◌, ◌≤◌, ◌^◌, min, option_map, None, IsSome, IfOk, OnErr, OnOk};
 ghost use Rattle.std.specs.Io.{ReadsAtMost, WritesAtMost};
 ghost use Rattle.std.specs.IoError.{error_kind};
 ghost use Rattle.std.specs.Io.KnownBytes.{ReadConsumes, WriteAppends};
 
+use crate::obstacle::Reason;
 use std::io;
 use std::io::{Read, Write};
 
@@ -37,19 +38,18 @@ impl<R> NotedReader<R> {
         }
     }
 
-    /// How many bytes it has given, or the greatest number if there were more.
-    pub fn bytes(&self) -> u64
-        ensures { result ≡ self.now.bytes }
+    /// Why no more of it is read: it has given more than so many bytes, or it has failed.
+    pub(crate) fn reason(&mut self, most: u64) -> Option<Reason>
+        ensures too_long { most < self.old.bytes → result ≡ Some (Reason.TooLong most) }
+        ensures failed { self.old.bytes ≤ most → result ≡ option_map (λ error. Reason.Unread error) self.old.error }
     {
-        self.bytes
-    }
-
-    /// Why it failed last, which is then forgotten.
-    pub fn take_error(&mut self) -> Option<io::Error>
-        ensures taken { result ≡ self.old.error }
-        ensures forgotten { self.new ≡ record self.old { error = None } }
-    {
-        self.error.take()
+        if self.bytes > most {
+            return Some(Reason::TooLong(most));
+        }
+        match self.error.take() {
+            Some(error) => Some(Reason::Unread(error)),
+            None => None,
+        }
     }
 }
 
@@ -91,12 +91,14 @@ impl<'a, W> NotedWriter<'a, W> {
         }
     }
 
-    /// Why it failed last, which is then forgotten.
-    pub fn take_error(&mut self) -> Option<io::Error>
-        ensures taken { result ≡ self.old.error }
-        ensures forgotten { self.new ≡ record self.old { error = None } }
+    /// Why no more is written to it, if it has failed.
+    pub(crate) fn reason(&mut self) -> Option<Reason>
+        ensures { result ≡ option_map (λ error. Reason.Unwritten error) self.old.error }
     {
-        self.error.take()
+        match self.error.take() {
+            Some(error) => Some(Reason::Unwritten(error)),
+            None => None,
+        }
     }
 }
 

@@ -1,0 +1,11 @@
+use Rattle.std.proofs.Common.{ap₂, codes, ◌∙◌}
+use Rattle.std.proofs.lemmas.Result.{IfOk-weaker}
+use Rattle.clap.specs.Words.{with_rule}
+use Rattle.command_line.specs.Arguments.{program_with, regdiff_command}
+use Rattle.command_line.proofs.arguments.regdiff_command.Goals as goal
+
+pub returns : goal.returns
+unfolding regdiff_command
+returns c =
+    let bare = c.in_ok-program.ensures ∙ ap₂ (program_with (codes "regdiff")) c.operand.ensures.rule c.operand-2.ensures.rule in
+    IfOk-weaker c.arg.result _ _ (λ command adds. adds.shape c.top.ensures.own ∙ ap₂ with_rule bare c.top.ensures.rule) c.arg.ensures
