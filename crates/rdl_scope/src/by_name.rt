@@ -73,12 +73,7 @@ impl<'a, V: Copy> ByName<'a, V> {
         ensures { result ≡ value_under self.now name.now }
     {
         let key = key_of(name);
-        match spot_of(
-            self.slots.as_slice(),
-            self.entries.as_slice(),
-            key.0,
-            name,
-        ) {
+        match spot_of(self.slots.as_slice(), self.entries.as_slice(), key.0, name) {
             Spot::Free(_) => None,
             Spot::Own(number) => self.entries.as_slice().get(number)?.value,
             Spot::Other => Some(*self.others.get(&key)?),
@@ -107,12 +102,7 @@ impl<'a, V: Copy> ByName<'a, V> {
         ensures err { OnErr result ((q : List ℕ) → value_under self.new q ≡ value_under self.old q) }
     {
         let key = key_of(name);
-        match spot_of(
-            self.slots.as_slice(),
-            self.entries.as_slice(),
-            key.0,
-            name,
-        ) {
+        match spot_of(self.slots.as_slice(), self.entries.as_slice(), key.0, name) {
             Spot::Free(slot) => {
                 let entry = Entry {
                     front: key.0,
@@ -132,12 +122,7 @@ impl<'a, V: Copy> ByName<'a, V> {
         ensures { (q : List ℕ) → value_under self.new q ≡ (if bytes_eq name.now q then None else value_under self.old q) }
     {
         let key = key_of(name);
-        match spot_of(
-            self.slots.as_slice(),
-            self.entries.as_slice(),
-            key.0,
-            name,
-        ) {
+        match spot_of(self.slots.as_slice(), self.entries.as_slice(), key.0, name) {
             Spot::Free(_) => {}
             Spot::Own(number) => self.entries[number].value = None,
             Spot::Other => {

@@ -17,13 +17,13 @@ loop-i-preserved c =
     let body = c.args.body.now in
     let i = c.loop-i.i in (
       (λ p.
-      let name = (row p).name in
-      c.in_ok-add_own.ensures p
-      ∙ (λ j. option_or (c.loop-i.invariant.0 p j) (owned_by name (c.item-item.ensures j)))
-      ∙ sym (own-suc name i body)
-      ∙ ap (λ n. own_before name n body) (sym (add-one i))),
+          let name = (row p).name in
+          c.in_ok-add_own.ensures p
+          ∙ (λ j. option_or (c.loop-i.invariant.0 p j) (owned_by name (c.item-item.ensures j)))
+          ∙ sym (own-suc name i body)
+          ∙ ap (λ n. own_before name n body) (sym (add-one i))),
       c.meets_dynamic-has_dynamic.ensures ∙ ap (λ b. b || dynamic_there (option_copied c.item-item.result)) c.loop-i.invariant.1
-      ∙ sym (dynamic-next i (list_of body) (option_copied c.item-item.result) c.item-item.ensures) ∙ ap (λ n. list_any is_dynamic (take n (list_of body))) (sym (add-one i)),
+          ∙ sym (dynamic-next i (list_of body) (option_copied c.item-item.result) c.item-item.ensures) ∙ ap (λ n. list_any is_dynamic (take n (list_of body))) (sym (add-one i)),
     )
 
 pub invariant_of-result : goal.invariant_of-result

@@ -13,9 +13,11 @@ use Rattle.rdl_scope.proofs.by_name.ByName.put.Goals as goal
 pub invariant_of-self-in-Other : goal.invariant_of-self-in-Other
 invariant_of-self-in-Other g c =
     let at : spot {V = g.row.V.Denot} c.args.self.now.slots.items c.args.self.now.entries.items c.args.name.now ≡ Other = search rules in
-    record { free = spots.either c.insert.result c.insert.ensures.updates c.insert.ensures.err
-      (λ u. spots.other_stay c.args.self.now.slots.items c.args.self.now.entries.items c.args.name.now (Some c.args.value) _ _ at (name_updates c.args.self.now.others c.insert.new.self c.args.name.now c.key_of-key.result _ c.key_of-key.ensures.front c.key_of-key.ensures.name u) c.args.self.now.free)
-      (λ u. λ q e. let same : get_by (name_cmp q) c.insert.new.self ≡ get_by (name_cmp q) c.args.self.now.others = search rules in ap is_none same ∙ c.args.self.now.free q e) }
+    record {
+      free = spots.either c.insert.result c.insert.ensures.updates c.insert.ensures.err
+          (λ u. spots.other_stay c.args.self.now.slots.items c.args.self.now.entries.items c.args.name.now (Some c.args.value) _ _ at (name_updates c.args.self.now.others c.insert.new.self c.args.name.now c.key_of-key.result _ c.key_of-key.ensures.front c.key_of-key.ensures.name u) c.args.self.now.free)
+          (λ u. λ q e. let same : get_by (name_cmp q) c.insert.new.self ≡ get_by (name_cmp q) c.args.self.now.others = search rules in ap is_none same ∙ c.args.self.now.free q e);
+    }
 
 pub returns-in-Own-clause-before : goal.returns-in-Own-clause-before
 returns-in-Own-clause-before g c =
