@@ -106,12 +106,15 @@ pub(crate) fn closing(bytes: &[u8]) -> Option<usize>
     ensures place { result ≡ closing false bytes.now }
     ensures within { IfSome result (λ n. n < length bytes.now) }
 {
-    let mut at = 0;
-    'scan: while at < bytes.len() {
-        if bytes[at] == b'"' {
-            return Some(at);
+    let mut taken = false;
+    'scan: for (index, byte) in bytes.iter().enumerate() {
+        if taken {
+            taken = false;
+        } else if *byte == b'"' {
+            return Some(index);
+        } else {
+            taken = *byte == b'\\';
         }
-        at += if bytes[at] == b'\\' { 2 } else { 1 };
     }
     None
 }
