@@ -6,7 +6,6 @@ ghost use Rattle.rdl_parse.specs.Class.{class};
 ghost use Rattle.rdl_parse.specs.Gathering.{outside_by};
 ghost use Rattle.rdl_parse.specs.Reading as spec;
 ghost use Rattle.rdl_parse.specs.Symbol.{symbol, class_symbol, inside, property_text};
-ghost use Rattle.rdl_text.specs.Raw.{IsRaw};
 ghost use Rattle.rdl_text.specs.declared.token.TokenKind.{TokenKind};
 ghost use Rattle.rdl_tree.specs.declared.value.Value.{Value};
 ghost use Rattle.rdl_parse.specs.declared.fault.Stop.{Stop};
@@ -14,7 +13,6 @@ ghost use Rattle.rdl_parse.specs.declared.fault.Stop.{Stop};
 use crate::class::{Class, Property};
 use crate::fault::Stop;
 use rdl_text::name::{Name, NameFault};
-use rdl_text::raw::Raw;
 use rdl_text::token::{Mark, Number, Token, TokenKind};
 use rdl_tree::shell::Outside;
 use rdl_tree::value::{Value, Word};
@@ -107,19 +105,6 @@ pub(crate) fn new_name(alloc: Global, text: &str) -> Result<Name, Stop>
     }
 }
 
-/// The inside of the string that is spelled so.
-pub(crate) fn new_raw(alloc: Global, text: &str) -> Result<Raw, Stop>
-    requires { IsRaw text.now }
-    ensures ok { IfOk result (λ raw. raw ≡ text.now) }
-    ensures memory { IfErr result (λ stop. stop ≡ Stop.Memory) }
-{
-    match Raw::new(alloc, text) {
-        Ok(raw) => Ok(raw),
-        Err(NameFault::Memory) => Err(Stop::Memory),
-        Err(NameFault::NotSuch) => unreachable!(),
-    }
-}
-
 fn name_value(name: &str) -> Option<Word>
     ensures { option_map Value.Word result ≡ spec.name_value name.now }
 {
@@ -157,8 +142,8 @@ fn text_value(alloc: Global, word: &Token<'_>) -> Result<Value, Stop>
     ensures ok { IfOk result (λ value. value ≡ Value.Text (inside word.now.source)) }
     ensures memory { IfErr result (λ stop. stop ≡ Stop.Memory) }
 {
-    match word.raw() {
-        Some(text) => Ok(Value::Text(new_raw(alloc, text)?)),
+    match word.to_raw(alloc)? {
+        Some(text) => Ok(Value::Text(text)),
         None => unreachable!(),
     }
 }

@@ -1,4 +1,5 @@
 pub mod Bounds
+pub mod Closing
 pub mod Cutting
 pub mod Ends
 pub mod Examples

@@ -55,6 +55,15 @@ impl Raw {
         Ok(Raw { text })
     }
 
+    /// What is known to be such a text.
+    pub(crate) fn of_inside(alloc: Global, text: &str) -> Result<Raw, AllocError>
+        requires { IsRaw text.now }
+        ensures { IfOk result (λ r. r ≡ text.now) }
+    {
+        let text = String::from_str(alloc, text)?;
+        Ok(Raw { text })
+    }
+
     /// What each such text is. It does nothing when it runs.
     pub fn is_raw(&self)
         ensures { IsRaw self.now }

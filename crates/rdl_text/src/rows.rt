@@ -11,6 +11,7 @@ use crate::name::{Name, is_letter};
 use crate::number::{number, sized, value};
 use crate::piece::{Front, Row};
 use crate::token::{Mark, TokenKind};
+use memchr::memchr2;
 
 #[inline]
 #[tactic(auto, using(crate::proofs::Steps::row_lemmas), unfolding(crate::specs::Words::identifier, crate::specs::Rows::identifier_len))]
@@ -106,15 +107,16 @@ pub(crate) fn closing(bytes: &[u8]) -> Option<usize>
     ensures place { result ≡ closing false bytes.now }
     ensures within { IfSome result (λ n. n < length bytes.now) }
 {
-    let mut taken = false;
-    'scan: for (index, byte) in bytes.iter().enumerate() {
-        if taken {
-            taken = false;
-        } else if *byte == b'"' {
-            return Some(index);
-        } else {
-            taken = *byte == b'\\';
+    let mut at = 0;
+    'scan: while at < bytes.len() {
+        let Some(plain) = memchr2(b'"', b'\\', &bytes[at..]) else {
+            return None;
+        };
+        at += plain;
+        if bytes[at] == b'"' {
+            return Some(at);
         }
+        at += 2;
     }
     None
 }

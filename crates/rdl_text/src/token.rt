@@ -1,9 +1,11 @@
 //! One word of a text.
-ghost use Rattle.std.specs.Prelude.{◌≡◌, ◌≢◌, ℕ, List, IfSome, IfNone};
+ghost use Rattle.std.specs.Prelude.{◌≡◌, ◌≢◌, ℕ, List, IfSome, IfNone, IfOk, MatchOption};
 ghost use Rattle.rdl_text.specs.Spelling.{IsSpelled, IsQuoted};
 ghost use Rattle.rdl_text.specs.declared.token.TokenKind.{TokenKind};
 ghost use Rattle.rdl_text.specs.Word.{word};
 
+use crate::raw::Raw;
+use std::alloc::{AllocError, Global};
 use std::marker::Model;
 
 /// The width of every number of the language, in one place.
@@ -101,6 +103,16 @@ impl<'a> Token<'a> {
         match self.kind {
             TokenKind::Text => Some(unquoted(self.source)),
             _ => None,
+        }
+    }
+
+    /// A copy of what stands between the quotes of a string.
+    pub fn to_raw(&self, alloc: Global) -> Result<Option<Raw>, AllocError>
+        ensures { IfOk result (λ copy. MatchOption copy (self.now.kind ≢ TokenKind.Text) (IsQuoted self.now.source)) }
+    {
+        match self.raw() {
+            Some(text) => Ok(Some(Raw::of_inside(alloc, text)?)),
+            None => Ok(None),
         }
     }
 }

@@ -1,38 +1,31 @@
--- One byte of a string, in each of the two states.
-use Rattle.std.proofs.Common.{◌≡◌, ℕ, ◌+◌, ◌<◌, true, false, List, length, drop, get_or, nat_eq, Option, Some, None, refl, arith, ◌∙◌, sym, ap}
+-- Each turn goes past bytes without a meaning of their own, and past a backslash with the byte that it takes.
+use Rattle.std.proofs.Common.{◌≡◌, ℕ, ◌+◌, ◌<◌, true, List, length, get_or, refl, arith, ◌∙◌, ap, subst}
 use Rattle.std.proofs.lemmas.Bool.{ne_eqb}
-use Rattle.std.specs.Option.{option_map}
-use Rattle.rdl_text.specs.Rows.{closing}
-use Rattle.std.proofs.lemmas.List.{at_drop_more}
+use Rattle.std.proofs.lemmas.List.{get_or-drop, length-drop}
+use Rattle.rdl_text.proofs.Closing.{is_special, backslash, reach, unclosed, closed, past_backslash}
+use Rattle.rdl_text.proofs.Cutting.{tail}
 use Rattle.rdl_text.proofs.rows.closing.Goals as goal
-use Rattle.rdl_text.proofs.rows.closing.Goals.{then-taken, else-taken+else-byte-eq34}
 
--- so many bytes further
-abbrev further : ℕ → Option ℕ → Option ℕ
-further i o = option_map (λ n. n + i) o
+pub returns-in_default-clause-place : goal.returns-in_default-clause-place
+returns-in_default-clause-place c =
+    let s = c.args.bytes.now in
+    unclosed s _ c.scan.at (tail s s c.scan.at refl) c.in_default.ensures c.scan.invariant
 
-further-one : (i : ℕ) (o : Option ℕ) → further (i + 1) o ≡ further i (further 1 o)
-further-one i None = refl
-further-one i (Some n) = ap Some (omega arith)
-
--- the byte at a place is taken by a backslash
-taken : (i : ℕ) (s : List ℕ) → i < length s → further (i + 1) (closing false (drop (i + 1) s)) ≡ further i (closing true (drop i s))
-taken i s h = further-one i _ ∙ ap (further i) (sym (at_drop_more (closing true) s i 0 h))
-
--- it isn't, and is no quote
-plain : (i : ℕ) (s : List ℕ) → i < length s → nat_eq (get_or s i 0) 34 ≡ false
-    → further (i + 1) (closing (nat_eq (get_or s i 0) 92) (drop (i + 1) s)) ≡ further i (closing false (drop i s))
-plain i s h e = further-one i _ ∙ ap (further i) (sym (at_drop_more (closing false) s i 0 h ∙ rw e refl))
+pub returns-then-bytes-at-eq34-clause-place : goal.returns-then-bytes-at-eq34-clause-place
+returns-then-bytes-at-eq34-clause-place c =
+    let s = c.args.bytes.now in
+    let here = tail s s c.scan.at refl in
+    let found = c.in-Some.ensures.0 in
+    let inside : c.scan.at + c.in-Some.plain < length s = omega (arith, found.high, ap (λ (u : List ℕ). length u) here, length-drop c.scan.at s) in
+    closed s (c.scan.at + c.in-Some.plain) inside c.if-bytes-at-eq34.true (reach s _ c.scan.at c.in-Some.plain here found c.scan.invariant)
 
 pub scan-preserved : goal.scan-preserved
 scan-preserved c =
-    let i = c.scan.index in
     let s = c.args.bytes.now in
-    elim c.if-taken.branch [
-      | then-taken w ↦
-          ap (λ b. further (i + 1) (closing b (drop (i + 1) s))) w.taken-is ∙ taken i s c.scan-test.true
-          ∙ ap (λ b. further i (closing b (drop i s))) (sym w.if-taken.true) ∙ c.scan.invariant
-      | else-taken+else-byte-eq34 w ↦
-          ap (λ b. further (i + 1) (closing b (drop (i + 1) s))) w.taken-is ∙ plain i s c.scan-test.true (ne_eqb _ _ w.if-byte-eq34.false)
-          ∙ ap (λ b. further i (closing b (drop i s))) (sym w.if-taken.false) ∙ c.scan.invariant
-    ]
+    let here = tail s s c.scan.at refl in
+    let found = c.in-Some.ensures.0 in
+    let inside : c.scan.at + c.in-Some.plain < length s = omega (arith, found.high, ap (λ (u : List ℕ). length u) here, length-drop c.scan.at s) in
+    let quote = ne_eqb _ _ c.if-bytes-at-eq34.false in
+    let same = ap (λ (u : List ℕ). get_or u c.in-Some.plain 0) here ∙ (get_or-drop c.scan.at s c.in-Some.plain 0 ∙ ap (λ (k : ℕ). get_or s k 0) (omega arith)) in
+    let special : is_special (get_or s (c.scan.at + c.in-Some.plain) 0) ≡ true = subst (λ (b : ℕ). is_special b ≡ true) same c.in-Some.ensures.1 in
+    past_backslash s (c.scan.at + c.in-Some.plain) inside quote (backslash _ special quote) (reach s _ c.scan.at c.in-Some.plain here found c.scan.invariant)

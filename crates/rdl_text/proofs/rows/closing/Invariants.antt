@@ -1,8 +1,11 @@
 -- The quote of what is left, so many bytes further, is that of all.
-use Rattle.std.proofs.Common.{◌≡◌, ◌+◌, false, drop}
-use Rattle.std.specs.Option.{option_map}
+use Rattle.std.proofs.Common.{◌≡◌, ◌-◌, false, drop, length}
 use Rattle.rdl_text.specs.Rows.{closing}
+use Rattle.rdl_text.proofs.Closing.{further}
 use Rattle.rdl_text.proofs.rows.closing.Given as goal
 
 abbrev pub invariant-scan : goal.invariant-scan
-invariant-scan l = option_map (λ n. n + l.index) (closing l.taken (drop l.index l.bytes)) ≡ closing false l.bytes
+invariant-scan l = further l.at (closing false (drop l.at l.bytes)) ≡ closing false l.bytes
+
+abbrev pub decreases-scan : goal.decreases-scan
+decreases-scan l = length l.bytes - l.at
