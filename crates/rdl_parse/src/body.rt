@@ -193,8 +193,9 @@ impl<'a> Reader<'a> {
         if levels == 0 {
             return Err(Stop::Fault(Fault::TooDeep(self.rest.len() + 1)));
         }
-        let Found { items, spots } = self.statements(alloc, levels - 1, room)?;
+        let Found { mut items, spots } = self.statements(alloc, levels - 1, room)?;
         self.mark(Mark::CloseBrace)?;
+        items.shrink_to_fit();
         Ok((Body::from_vec(items), spots))
     }
 }

@@ -4,6 +4,7 @@ ghost use Rattle.rdl_parse.specs.Finds.{seen, nothing, single, joined};
 
 use rdl_tree::description::Item;
 use std::alloc::{AllocError, Global};
+use std::mem;
 
 /// How many words there are from the item's word on, and how many items are inside it.
 #[derive(Clone, Copy, Debug, PartialEq, Eq)]
@@ -45,10 +46,15 @@ impl Found {
         Ok(())
     }
 
+    /// Where nothing was found before, the room of the others is taken over.
     pub fn append(&mut self, other: &mut Found) -> Result<(), AllocError>
         ensures { OnOk result (seen self.new ≡ joined (seen self.old) (seen other.old)) }
     {
-        self.items.append(&mut other.items)?;
+        if self.items.is_empty() {
+            mem::swap(&mut self.items, &mut other.items);
+        } else {
+            self.items.append(&mut other.items)?;
+        }
         self.spots.append(&mut other.spots)?;
         Ok(())
     }
