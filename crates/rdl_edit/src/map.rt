@@ -112,6 +112,26 @@ impl Map {
         }
     }
 
+    /// Does the same as `open`, and makes the rows of the map.
+    pub fn open_with_rows(
+        alloc: Global,
+        description: Description,
+        name: Option<Name>,
+    ) -> Result<(Map, Rows), Fault>
+        ensures ok { IfOk result (λ shown. shown.0.state ≡ record { description = description.items; option = name }) }
+        ensures placed { IfOk result (λ shown. shown.0.placed ≤ 3 * all_instances description.items) }
+        ensures rows { IfOk result (λ shown. elaborated description.items name ≡ Ok shown.1) }
+        ensures refused { IfErr result (λ fault. (elaborated description.items name ≡ Err fault) ⊎ (fault ≡ out_of_memory)) }
+    {
+        let (kept, rows) = Kept::with_rows(alloc, &description, text_of(name.as_ref()))?;
+        let map = Map {
+            description,
+            name,
+            kept,
+        };
+        Ok((map, rows))
+    }
+
     /// Takes the description, with the steps that lead back from it and on, each list with the next one to be taken first,
     /// and marks them as read. Refused where a patch doesn't fit or a map on the way has a fault; what was handed in is dropped then.
     pub fn resume(

@@ -61,6 +61,7 @@ pub mod StandingIn
 pub mod AsBefore
 pub mod Reaching
 pub mod InReach
+pub mod ShownRows
 pub mod Skeletons
 pub mod InOrder
 pub mod TrackedBodies

@@ -147,6 +147,33 @@ fn lay_out<'a>(
     Ok(Ok(()))
 }
 
+/// Does the same, and makes the rows of the map.
+fn lay_out_rows<'a>(
+    alloc: Global,
+    stored: &mut Stored,
+    description: &'a Description,
+    top: &Top<'a>,
+) -> Result<Result<Rows, Fault>, AllocError>
+    requires nesting { depth description.now.items ≤ 16 }
+    requires faultless { fault_of description.now.items ≡ None }
+    requires top { root_type description.now.items top.now.1 ≡ component description.now.items (top.now.0 ∷ []) }
+    ensures layouts { IfOk result (λ answer. OnOk answer (all_under stored.new.slots stored.new.keys ≡ all_layouts description.now.items)) }
+    ensures found { IfOk result (λ answer. OnOk answer (AreFoundAgain description.now.items stored.new.words)) }
+    ensures placed { IfOk result (λ answer. OnOk answer (stored.new.placed ≤ 3 * all_instances description.now.items)) }
+    ensures rows { IfOk result (λ answer. answer ≡ with_top description.now.items (Some top.now)) }
+{
+    let walked = lay_out_all(alloc, description, top.name, stored)?;
+    let components = walked.components.as_slice();
+    match rows_under(alloc, components, walked.number, top)? {
+        Ok(rows) => {
+            let placed = all_placed(walked.components.as_slice());
+            stored.replace(alloc, walked.components, placed)?;
+            Ok(Ok(rows))
+        }
+        Err(fault) => Ok(Err(fault)),
+    }
+}
+
 /// The layouts of all components of a description, used or not, and how many instances were placed for them. A contract
 /// sees the record of specs/.
 #[derive(Debug, Drop)]
@@ -229,6 +256,55 @@ impl Kept {
         match kept.relay(alloc, description, top, &[]) {
             Ok(()) => Ok(kept),
             Err(fault) => Err(fault),
+        }
+    }
+
+    /// Lays out this description, whose items have no fault, with this top.
+    fn show<'a>(
+        alloc: Global,
+        description: &'a Description,
+        top: &Top<'a>,
+        wanted: Option<&str>,
+    ) -> Result<Result<(Kept, Rows), Fault>, AllocError>
+        requires nesting { depth description.now.items ≤ 16 }
+        requires faultless { fault_of description.now.items ≡ None }
+        requires top { top_from (option_copied wanted) 0 description.now.items ≡ Some top.now }
+        ensures layouts { IfOk result (λ answer. IfOk answer (λ shown. AreOf description.now.items shown.0)) }
+        ensures top { IfOk result (λ answer. IfOk answer (λ shown. shown.0.top ≡ option_copied wanted.entry)) }
+        ensures placed { IfOk result (λ answer. IfOk answer (λ shown. shown.0.placed ≤ 3 * all_instances description.now.items)) }
+        ensures rows { IfOk result (λ answer. IfOk answer (λ shown. elaborated description.now.items (option_copied wanted.entry) ≡ Ok shown.1)) }
+        ensures refused { IfOk result (λ answer. IfErr answer (λ fault. elaborated description.now.items (option_copied wanted.entry) ≡ Err fault)) }
+    {
+        let wanted = text_of(alloc, wanted)?;
+        let mut stored = Stored::empty(alloc);
+        match lay_out_rows(alloc, &mut stored, description, top)? {
+            Ok(rows) => Ok(Ok((
+                Kept {
+                    stored,
+                    top: wanted,
+                },
+                rows,
+            ))),
+            Err(fault) => Ok(Err(fault)),
+        }
+    }
+
+    /// Does the same as `of`, and makes the rows of the map, for which nothing is laid out again.
+    pub fn with_rows(
+        alloc: Global,
+        description: &Description,
+        top: Option<&str>,
+    ) -> Result<(Kept, Rows), Fault>
+        ensures layouts { IfOk result (λ shown. AreOf description.now.items shown.0) }
+        ensures top { IfOk result (λ shown. shown.0.top ≡ option_copied top.entry) }
+        ensures placed { IfOk result (λ shown. shown.0.placed ≤ 3 * all_instances description.now.items) }
+        ensures rows { IfOk result (λ shown. elaborated description.now.items (option_copied top.entry) ≡ Ok shown.1) }
+        ensures refused { IfErr result (λ fault. (elaborated description.now.items (option_copied top.entry) ≡ Err fault) ⊎ (fault ≡ out_of_memory)) }
+    {
+        let found = checked_top(alloc, description, top)?;
+        match Kept::show(alloc, description, &found, top) {
+            Ok(answer) => answer,
+            Err(_) => Err(no_memory()),
         }
     }
 

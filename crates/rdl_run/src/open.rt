@@ -1,5 +1,9 @@
 //! Opening a map or a session.
-ghost use Rattle.std.specs.Prelude.{◌≡◌, ◌≢◌, ◌⊎◌, true, Some, None, string_bytes, IfOk, IfErr};
+ghost use Rattle.std.specs.Prelude.{◌≡◌, ◌≢◌, ◌⊎◌, true, Some, None, Err, string_bytes, IfOk, IfErr};
+ghost use Rattle.rdl_edit.specs.Step.{HasRows};
+ghost use Rattle.rdl_elab.specs.Faults.{elaborated};
+ghost use Rattle.rdl_scope.specs.ItemFaults.{out_of_memory};
+ghost use Rattle.rdl_run.specs.Shown.{AreAt, AreOf};
 ghost use Rattle.std.specs.Option.{option_copied};
 ghost use Rattle.rdl_tree.specs.declared.session.SessionFault.TheVariants.{Memory};
 ghost use Rattle.rdl_run.specs.Messages.{session_line};
@@ -15,11 +19,13 @@ use crate::session_message::session_line;
 use journal_core::journal::Journal;
 use rdl_edit::edit::is_memory;
 use rdl_edit::map::{Map, Resumed};
+use rdl_elab::row::Rows;
 use rdl_parse::fault::ParseFault;
 use rdl_parse::places::Places;
 use rdl_parse::session::parse_session;
 use rdl_text::byte_place;
 use rdl_text::name::Name;
+use rdl_tree::description::Description;
 use rdl_tree::fault::Fault;
 use rdl_tree::session::SessionFault;
 use std::alloc::{AllocError, Global};
@@ -70,9 +76,39 @@ fn copied(alloc: Global, name: Option<&Name>) -> Result<Option<Name>, AllocError
     }
 }
 
+/// The map of the description, with its rows where they are wanted.
+fn map_shown(
+    alloc: Global,
+    description: Description,
+    name: Option<Name>,
+    is_listed: bool,
+) -> Result<(Map, Option<Rows>), Fault>
+    ensures ok { IfOk result (λ shown. shown.0.state ≡ record { description = description.items; option = name }) }
+    ensures accepted { IfOk result (λ shown. HasRows (record { description = description.items; option = name })) }
+    ensures rows { IfOk result (λ shown. AreOf (record { description = description.items; option = name }) shown.1) }
+    ensures refused { IfErr result (λ fault. (elaborated description.items name ≡ Err fault) ⊎ (fault ≡ out_of_memory)) }
+{
+    if !is_listed {
+        return match Map::open(alloc, description, name) {
+            Ok(map) => Ok((map, None)),
+            Err(fault) => Err(fault),
+        };
+    }
+    match Map::open_with_rows(alloc, description, name) {
+        Ok((map, rows)) => Ok((map, Some(rows))),
+        Err(fault) => Err(fault),
+    }
+}
+
 /// The map that the bytes spell, if it has no fault.
-fn open_map(alloc: Global, bytes: &[u8], name: Option<&Name>) -> Result<Map, OpenFault>
-    ensures opens { IfOk result (λ map. Opens (option_copied name.entry) bytes.now map.state) }
+fn open_map(
+    alloc: Global,
+    bytes: &[u8],
+    name: Option<&Name>,
+    is_listed: bool,
+) -> Result<(Map, Option<Rows>), OpenFault>
+    ensures opens { IfOk result (λ shown. Opens (option_copied name.entry) bytes.now shown.0.state) }
+    ensures rows { IfOk result (λ shown. AreOf shown.0.state shown.1) }
     ensures refused { IfErr result (λ fault. IfRefusedToOpen fault (λ text. RefusedText bytes.now text ⊎ RefusedMap (option_copied name.entry) bytes.now text)) }
 {
     let (description, places) = match map_of(alloc, bytes) {
@@ -82,8 +118,8 @@ fn open_map(alloc: Global, bytes: &[u8], name: Option<&Name>) -> Result<Map, Ope
         }
         Err(ReadingFault::Memory) => return Err(OpenFault::Memory),
     };
-    match Map::open(alloc, description, copied(alloc, name)?) {
-        Ok(map) => Ok(map),
+    match map_shown(alloc, description, copied(alloc, name)?, is_listed) {
+        Ok(shown) => Ok(shown),
         Err(fault) if is_memory(fault.kind) => Err(OpenFault::Memory),
         Err(fault) => Err(OpenFault::Refused(fault_line(alloc, &places, &fault)?)),
     }
@@ -158,11 +194,34 @@ pub fn open(
     ensures elaborates { IfOk result (λ journal. EachElaborates journal.history) }
     ensures refused { IfErr result (λ fault. IfRefusedToOpen fault (RefusesToOpen (option_copied name.entry) bytes.now)) }
 {
-    if is_session(bytes) {
-        return open_session(alloc, bytes, name, limit);
+    match open_shown(alloc, bytes, name, limit, false) {
+        Ok((journal, _rows)) => Ok(journal),
+        Err(fault) => Err(fault),
     }
-    match open_map(alloc, bytes, name) {
-        Ok(map) => Ok(Journal::new(alloc, map, limit)),
+}
+
+/// Does the same as `open`. Where the map is to be listed before it is edited, its rows are made with it.
+pub(crate) fn open_shown(
+    alloc: Global,
+    bytes: &[u8],
+    name: Option<&Name>,
+    limit: u32,
+    is_listed: bool,
+) -> Result<(Journal<Map>, Option<Rows>), OpenFault>
+    ensures opens { IfOk result (λ shown. OpensHistory (option_copied name.entry) limit bytes.now shown.0.history) }
+    ensures kept { IfOk result (λ shown. OpensKept (option_copied name.entry) limit bytes.now shown.0) }
+    ensures elaborates { IfOk result (λ shown. EachElaborates shown.0.history) }
+    ensures rows { IfOk result (λ shown. AreAt shown.0.history shown.1) }
+    ensures refused { IfErr result (λ fault. IfRefusedToOpen fault (RefusesToOpen (option_copied name.entry) bytes.now)) }
+{
+    if is_session(bytes) {
+        return match open_session(alloc, bytes, name, limit) {
+            Ok(journal) => Ok((journal, None)),
+            Err(fault) => Err(fault),
+        };
+    }
+    match open_map(alloc, bytes, name, is_listed) {
+        Ok((map, rows)) => Ok((Journal::new(alloc, map, limit), rows)),
         Err(fault) => Err(fault),
     }
 }

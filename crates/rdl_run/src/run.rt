@@ -6,18 +6,20 @@ ghost use Rattle.rdl_run.specs.ClosingTexts.{texts_of};
 ghost use Rattle.rdl_run.specs.OwnSteps.{AllOwn};
 ghost use Rattle.rdl_run.specs.Output.{HaveTaken, Holds, Ran, RanCounted, RanFrom};
 ghost use Rattle.rdl_run.specs.Known.{IsOver, IsWithin};
+ghost use Rattle.rdl_run.specs.Shown.{AreAt};
 ghost use Rattle.rdl_run.specs.Turns.{AreOpen, GivesUp, HasEnded, IsInterrupted, IsOpen, tallies, unread, unwritten};
 ghost use Rattle.rdl_run.specs.declared.status.RunFault.{RunFault};
 
 use crate::closing::Closing;
 use crate::counted::{CountedReader, CountedWriter};
 use crate::input::read_counted;
-use crate::open::{OpenFault, open};
+use crate::open::{OpenFault, open_shown};
 use crate::output::write_counted;
 use crate::serve::serve_all;
 use crate::status::{RunFault, Status};
 use journal_core::journal::Journal;
 use rdl_edit::map::Map;
+use rdl_elab::row::Rows;
 use rdl_text::name::Name;
 use std::alloc::Global;
 use std::io::{Read, Write};
@@ -77,12 +79,13 @@ fn write_closing<R: Write, H: Write, Z: Write, E: Write>(
     Ok(())
 }
 
-/// Runs a script from where a history stands, and writes the map that it leads to, that map's header, and the session if it
-/// is asked for. Where two of the header's macros have one name, that is said, and no header is written; where the session is
-/// too long, that is said, and none is written.
+/// Runs a script from where a history stands, with the rows of its map if they are there, and writes the map that it leads to,
+/// that map's header, and the session if it is asked for. Where two of the header's macros have one name, that is said, and no
+/// header is written; where the session is too long, that is said, and none is written.
 fn run_script<R: Write, H: Write, Z: Write, E: Write>(
     alloc: Global,
     journal: &mut Journal<Map>,
+    mut kept: Option<Rows>,
     has_session: bool,
     script: &[u8],
     rdl: &mut CountedWriter<'_, R>,
@@ -91,6 +94,7 @@ fn run_script<R: Write, H: Write, Z: Write, E: Write>(
     messages: &mut CountedWriter<'_, E>,
 ) -> Result<Status, RunFault>
     requires length { length script.now < 2 ^ 32 }
+    requires kept { AreAt journal.old.history kept }
     requires asked { IsOpen messages.old.counts }
     requires rdl_asked { IsOpen rdl.old.counts }
     requires header_asked { IsOpen header.old.counts }
@@ -118,11 +122,15 @@ fn run_script<R: Write, H: Write, Z: Write, E: Write>(
     ensures same_header { header.new.writer.ghost_name ≡ header.old.writer.ghost_name }
     ensures same_session { session.new.writer.ghost_name ≡ session.old.writer.ghost_name }
 {
-    let mut kept = None;
     let is_refused = serve_all(alloc, journal, &mut kept, script, messages)?;
     let closing = Closing::of(alloc, journal, kept, is_refused, has_session)?;
     write_closing(&closing, rdl, header, session, messages)?;
     Ok(closing.status)
+}
+
+/// Whether rows are shown of the map that is opened, as far as the front of a script tells.
+fn is_listed(script: &[u8]) -> bool {
+    script.is_empty() || script.starts_with(b"list\n")
 }
 
 /// The whole run, on inputs and outputs that weren't asked before.
@@ -170,23 +178,28 @@ fn run_counted<M: Read, S: Read, R: Write, H: Write, Z: Write, E: Write>(
 {
     let map_bytes = read_counted(alloc, map, MOST_BYTES)?;
     let script_bytes = read_counted(alloc, script, MOST_BYTES)?;
-    let opened = open(
+    let opened = open_shown(
         alloc,
         map_bytes.as_slice(),
         options.top.as_ref(),
         options.history,
+        is_listed(script_bytes.as_slice()),
     );
     match opened {
-        Ok(mut journal) => run_script(
-            alloc,
-            &mut journal,
-            options.session,
-            script_bytes.as_slice(),
-            rdl,
-            header,
-            session,
-            messages,
-        ),
+        Ok(shown) => {
+            let (mut journal, kept) = shown;
+            run_script(
+                alloc,
+                &mut journal,
+                kept,
+                options.session,
+                script_bytes.as_slice(),
+                rdl,
+                header,
+                session,
+                messages,
+            )
+        }
         Err(OpenFault::Refused(message)) => {
             write_counted(messages, message.as_bytes())?;
             Ok(Status::MapRefused)

@@ -39,7 +39,7 @@ returns-in-Ok-clause-ran g c =
     let old = outputs (g.E.Write.contents c.args.messages.now.writer.now) (g.R.Write.contents c.args.rdl.now.writer.now) (g.H.Write.contents c.args.header.now.writer.now) (g.Z.Write.contents c.args.session.now.writer.now) in
     let new = outputs (g.E.Write.contents c.run_script.new.messages.writer.now) (g.R.Write.contents c.run_script.new.rdl.writer.now) (g.H.Write.contents c.run_script.new.header.writer.now) (g.Z.Write.contents c.run_script.new.session.writer.now) in
     let map_bytes = c.in_ok-map_bytes.map_bytes.items in
-    let k = c.in-Ok.journal in
+    let k = c.in-Ok.shown.0 in
     let counted = tallies c.args.messages.now.counts c.args.rdl.now.counts c.args.header.now.counts c.args.session.now.counts in
     let counts = tallies c.run_script.new.messages.counts c.run_script.new.rdl.counts c.run_script.new.header.counts c.run_script.new.session.counts in
     let kept : OpensKept options.top options.history map_bytes k =
@@ -55,7 +55,7 @@ returns-in-Ok-clause-faulted g c =
     let old = outputs (g.E.Write.contents c.args.messages.now.writer.now) (g.R.Write.contents c.args.rdl.now.writer.now) (g.H.Write.contents c.args.header.now.writer.now) (g.Z.Write.contents c.args.session.now.writer.now) in
     let new = outputs (g.E.Write.contents c.run_script.new.messages.writer.now) (g.R.Write.contents c.run_script.new.rdl.writer.now) (g.H.Write.contents c.run_script.new.header.writer.now) (g.Z.Write.contents c.run_script.new.session.writer.now) in
     let map_bytes = c.in_ok-map_bytes.map_bytes.items in
-    let first = c.in-Ok.journal.history in
+    let first = c.in-Ok.shown.0.history in
     let opens : OpensHistory options.top options.history map_bytes first =
     subst (λ o. OpensHistory o options.history map_bytes first) c.as_ref.ensures.value
     (subst (λ bytes. OpensHistory (option_copied c.as_ref.result) options.history bytes first) c.as_slice.ensures.value c.in-Ok.ensures.opens) in
