@@ -1,7 +1,7 @@
 -- The exit status of a run and of a comparison that wrote its whole output. Own.
 use Rattle.std.specs.Prelude.{ℕ}
-use Rattle.rdl_compare.specs.declared.status.Status.{Status as Comparison}
-use Rattle.rdl_compare.specs.declared.status.Status.TheVariants as comparisons
+use Rattle.rdl_diff.specs.declared.status.Status.{Status as Comparison}
+use Rattle.rdl_diff.specs.declared.status.Status.TheVariants as comparisons
 use Rattle.rdl_run.specs.declared.status.Status.{Status}
 use Rattle.rdl_run.specs.declared.status.Status.TheVariants as statuses
 

@@ -4,7 +4,7 @@ ghost use Rattle.cases.specs.Exit.{status_code, comparison_code};
 
 use crate::case::{Case, Lines, Wanted};
 use crate::found::{End, Found, find};
-use rdl_compare::status::Status as Comparison;
+use rdl_diff::status::Status as Comparison;
 use rdl_run::status::Status;
 use std::{io, str};
 

@@ -1,7 +1,7 @@
 //! What a run or a comparison says and writes.
 use crate::case::Given;
-use rdl_compare::compare::compare;
-use rdl_compare::status::Status as Comparison;
+use rdl_diff::status::Status as Comparison;
+use rdl_run::comparison::compare;
 use rdl_run::run::{Options, run};
 use rdl_run::status::{RunFault, Status};
 use rdl_text::name::{Name, NameFault};

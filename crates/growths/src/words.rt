@@ -1,5 +1,6 @@
 //! Command lines.
 use crate::{Answer, assert_answered};
+use command_line::fault::WordsFault;
 use command_line::line::{Line, LineFault};
 use command_line::words::line;
 use std::alloc::{AllocError, Global};
@@ -34,16 +35,23 @@ fn line_text(alloc: Global, line: &Line) -> Answer {
     Ok(text)
 }
 
-/// The line's parts, or why it is none; L4 is want of memory.
+/// Why words are no line; L4 is want of memory.
+fn fault_text(alloc: Global, fault: &WordsFault) -> Answer {
+    match fault {
+        WordsFault::Help(help) => format!(in alloc; "L1 {help}"),
+        WordsFault::Refused(mistake) => format!(in alloc; "L2 {mistake}"),
+        WordsFault::BadTop => String::from_str(alloc, "L3"),
+        WordsFault::Version(version) => format!(in alloc; "L6 {version}"),
+        WordsFault::Memory => Err(AllocError),
+    }
+}
+
+/// The line's parts, or why it is none.
 fn answer(alloc: Global, words: &[&str]) -> Answer {
     match line(alloc, words) {
         Ok(line) => line_text(alloc, &line),
-        Err(LineFault::Help(help)) => format!(in alloc; "L1 {help}"),
-        Err(LineFault::Refused(mistake)) => format!(in alloc; "L2 {mistake}"),
-        Err(LineFault::BadTop) => String::from_str(alloc, "L3"),
+        Err(LineFault::Words(fault)) => fault_text(alloc, &fault),
         Err(LineFault::Meets(meeting)) => format!(in alloc; "L5 {meeting}"),
-        Err(LineFault::Version(version)) => format!(in alloc; "L6 {version}"),
-        Err(LineFault::Memory) => Err(AllocError),
     }
 }
 

@@ -4,3 +4,4 @@ pub mod DiffText
 pub mod ByPath
 pub mod Changed
 pub mod SameRows
+pub mod Endings

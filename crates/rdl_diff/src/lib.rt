@@ -7,6 +7,7 @@ mod diff;
 pub mod laws;
 mod line;
 mod place;
+pub mod status;
 mod told;
 pub mod what;
 

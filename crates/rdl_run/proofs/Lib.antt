@@ -17,6 +17,7 @@ pub mod Steps
 pub mod Stopped
 pub mod Tallied
 pub mod Texts
+pub mod Undone
 pub mod WholeInput
 pub mod WholeLines
 pub mod Written

@@ -1,7 +1,9 @@
 pub mod Answers
 pub mod Closing
 pub mod ClosingTexts
+pub mod Comparing
 pub mod Faulted
+pub mod Fronts
 pub mod Known
 pub mod Messages
 pub mod Missing
@@ -11,6 +13,7 @@ pub mod OpeningFaults
 pub mod Output
 pub mod ReadingFaults
 pub mod Readings
+pub mod Refused
 pub mod Replies
 pub mod Resumed
 pub mod ScriptLines

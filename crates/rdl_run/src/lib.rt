@@ -1,8 +1,11 @@
-//! A whole run of the editor: from the bytes of a map and a script to messages, a map, a header and a status.
+//! A whole run of the editor: from the bytes of a map and a script to messages, a map, a header and a status. And a whole
+//! comparison of two maps: from their bytes to the lines that say what differs, and a status.
 #![tactic(auto)]
 
 mod closing;
+pub mod comparison;
 pub mod counted;
+mod front;
 pub mod input;
 pub mod laws;
 pub mod open;
@@ -10,7 +13,7 @@ pub mod output;
 mod part;
 mod reading;
 mod reply;
-pub mod rows;
+mod rows;
 pub mod run;
 mod saving;
 mod serve;

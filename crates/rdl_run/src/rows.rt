@@ -13,7 +13,11 @@ use std::alloc::Global;
 const NO_EDITS: u32 = 0;
 
 /// The rows of the map that the bytes spell, or of the one at the place of their session.
-pub fn opened_rows(alloc: Global, bytes: &[u8], top: Option<&Name>) -> Result<Rows, OpenFault>
+pub(crate) fn opened_rows(
+    alloc: Global,
+    bytes: &[u8],
+    top: Option<&Name>,
+) -> Result<Rows, OpenFault>
     ensures rows { IfOk result (λ rows. OpensRows (option_copied top.entry) bytes.now rows) }
     ensures refused { IfErr result (λ fault. IfRefusedToOpen fault (RefusesToOpen (option_copied top.entry) bytes.now)) }
 {

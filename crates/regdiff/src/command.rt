@@ -1,11 +1,11 @@
 //! The program's edge: its words, its messages and its exit status.
 ghost use Rattle.std.specs.Prelude.{◌≡◌, ◌⊎◌};
-ghost use Rattle.regdiff.specs.CommandLine.{IsExit, status_code};
+ghost use Rattle.regdiff.specs.CommandLine.{IsExit};
 
 use crate::files::{Stop, compare_files};
 use command_line::comparison::{Comparison, line};
 use command_line::fault::WordsFault;
-use rdl_compare::status::Status;
+use rdl_diff::status::status_code;
 use rdl_run::counted::CountedWriter;
 use rdl_run::output::write_counted;
 use rdl_run::status::RunFault;
@@ -13,16 +13,6 @@ use std::alloc::Global;
 use std::io;
 use std::io::{ErrorKind, Write};
 use std::rt::Files;
-
-fn status_code(status: Status) -> u8
-    ensures { result ≡ status_code status }
-{
-    match status {
-        Status::Same => 0,
-        Status::Different => 1,
-        Status::MapRefused => 2,
-    }
-}
 
 /// Says that the words are no command line, or that their top is no name. Where that can't be said, the exit status still
 /// shows it.
@@ -86,7 +76,9 @@ fn refuse<M: Write, E: Write>(
     ensures { IsExit result }
 {
     match fault {
-        WordsFault::Help(told) | WordsFault::Version(told) => match print_told(alloc, &told, messages) {
+        WordsFault::Help(told) | WordsFault::Version(told) => match print_told(
+            alloc, &told, messages,
+        ) {
             Ok(()) => 0,
             Err(fault) => report_fault(fault, errors),
         },

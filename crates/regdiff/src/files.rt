@@ -1,7 +1,7 @@
 //! A comparison over files.
 use command_line::comparison::Comparison;
-use rdl_compare::compare::compare;
-use rdl_compare::status::Status;
+use rdl_diff::status::Status;
+use rdl_run::comparison::compare;
 use rdl_run::run::MOST_BYTES;
 use rdl_run::status::RunFault;
 use std::alloc::Global;

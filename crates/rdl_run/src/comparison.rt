@@ -1,25 +1,26 @@
 //! A whole comparison, from two inputs to one output.
 ghost use Rattle.std.specs.Prelude.{◌≡◌, ◌⊎◌, true, ℕ, List, Option, IfOk, IfErr, IsErrOf, OnOk, option_copied};
-ghost use Rattle.rdl_compare.specs.Comparing.{IsOutput, Ran, Stopped, status_of};
-ghost use Rattle.rdl_compare.specs.Refused.{IsRefusal};
 ghost use Rattle.rdl_diff.specs.DiffText.{diff_text};
+ghost use Rattle.rdl_diff.specs.Endings.{status_of};
+ghost use Rattle.rdl_run.specs.Comparing.{IsOutput, Ran, Stopped};
 ghost use Rattle.rdl_run.specs.Known.{IsOver, IsWithin};
 ghost use Rattle.rdl_run.specs.Opening.{RefusesToOpen};
 ghost use Rattle.rdl_run.specs.OpeningFaults.{IfRefusedToOpen};
+ghost use Rattle.rdl_run.specs.Refused.{IsRefusal};
 ghost use Rattle.rdl_run.specs.Turns.{IsGivenUp, IsInterrupted, IsOpen, unread, unwritten};
 ghost use Rattle.rdl_run.specs.declared.status.RunFault.{RunFault};
 
-use crate::message::with_front;
-use crate::status::{Status, status_of};
+use crate::counted::{CountedReader, CountedWriter};
+use crate::front::with_front;
+use crate::input::read_counted;
+use crate::open::OpenFault;
+use crate::output::write_counted;
+use crate::rows::opened_rows;
+use crate::run::MOST_BYTES;
+use crate::status::RunFault;
 use rdl_diff::diff_text;
+use rdl_diff::status::{Status, status_of};
 use rdl_elab::row::Row;
-use rdl_run::counted::{CountedReader, CountedWriter};
-use rdl_run::input::read_counted;
-use rdl_run::open::OpenFault;
-use rdl_run::output::write_counted;
-use rdl_run::rows::opened_rows;
-use rdl_run::run::MOST_BYTES;
-use rdl_run::status::RunFault;
 use rdl_text::name::Name;
 use std::alloc::{AllocError, Global};
 use std::io::{Read, Write};

@@ -1,5 +1,5 @@
 -- A comparison of two maps or sessions: from their bytes to the text that is written, and the status. Own.
-use Rattle.std.specs.Prelude.{◌≡◌, ◌⊎◌, ℕ, List, [], ◌∷◌, Option, codes}
+use Rattle.std.specs.Prelude.{◌≡◌, ◌⊎◌, ℕ, List, Option, codes}
 use Rattle.std.specs.Io.KnownBytes.{Appends}
 use Rattle.rdl_elab.specs.declared.row.Row.{Row}
 use Rattle.rdl_diff.specs.DiffText.{diff_text}
@@ -8,9 +8,10 @@ use Rattle.rdl_run.specs.OpenedRows.{OpensRows}
 use Rattle.rdl_run.specs.Opening.{RefusesToOpen}
 use Rattle.rdl_run.specs.declared.status.RunFault.{RunFault}
 use Rattle.rdl_run.specs.declared.status.RunFault.TheVariants.{Write}
-use Rattle.rdl_compare.specs.Fronts.{with_front}
-use Rattle.rdl_compare.specs.declared.status.Status.{Status}
-use Rattle.rdl_compare.specs.declared.status.Status.TheVariants.{Same, Different, MapRefused}
+use Rattle.rdl_run.specs.Fronts.{with_front}
+use Rattle.rdl_diff.specs.Endings.{status_of}
+use Rattle.rdl_diff.specs.declared.status.Status.{Status}
+use Rattle.rdl_diff.specs.declared.status.Status.TheVariants.{MapRefused}
 
 -- what is written, and how the comparison ends
 pub record Output : Type 0 where
@@ -22,11 +23,6 @@ pub record Refuses (word : List ℕ) (top : Option (List ℕ)) (bytes text : Lis
   pub message : List ℕ
   pub refused : RefusesToOpen top bytes message
   pub is : text ≡ with_front word message
-
--- nothing differs where nothing is written
-abbrev pub status_of : (text : List ℕ) → Status
-status_of [] = Same
-status_of (b ∷ bs) = Different
 
 -- both maps are accepted: what differs is written
 pub record Compares (top : Option (List ℕ)) (old new : List ℕ) (out : Output) : Type 0 where

@@ -1,6 +1,6 @@
 //! The message of a map that is refused.
 ghost use Rattle.std.specs.Prelude.{◌≡◌, IfOk};
-ghost use Rattle.rdl_compare.specs.Fronts.{from_colon, with_front};
+ghost use Rattle.rdl_run.specs.Fronts.{from_colon, with_front};
 
 use std::alloc::{AllocError, Global};
 
