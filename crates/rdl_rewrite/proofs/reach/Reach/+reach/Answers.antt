@@ -40,7 +40,7 @@ push_body-items-init t c = record {
       (reverse c.args.patches.now.items) c.as_slice-found-items.ensures;
   led = led_first c.args.self.now.whole.now.items c.args.self.now.way.now c.args.at.now c.args.body.now c.args.led c.requires.here c.requires.led;
   inside_led = led_first c.args.self.now.whole.now.items (holder_of c.args.self.now.way.now) c.args.at.now c.args.body.now c.args.inside_led c.requires.here c.requires.inside_led;
-  firsts = firsts_none c.args.self.now.whole.now.items (holder_of c.args.self.now.way.now) c.args.at.now c.args.body.now c.new-firsts.result c.requires.here c.new-firsts.ensures;
+  firsts = firsts_none c.args.self.now.whole.now.items (holder_of c.args.self.now.way.now) c.args.at.now c.args.body.now c.in_ok-firsts.firsts c.requires.here c.in_ok-firsts.ensures;
 }
 
 pub push_body-items-preserved : goal.push_body-items-preserved
