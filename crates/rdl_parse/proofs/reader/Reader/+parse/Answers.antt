@@ -1,5 +1,6 @@
 use Rattle.std.proofs.lemmas.Result.{err_from_is_err_and}
 use Rattle.std.proofs.Common.{◌≡◌, ◌+◌, arith, ap, sym, ◌∙◌, true, false, Ok, Err}
+use Rattle.rdl_tree.specs.View.{items_of}
 use Rattle.rdl_parse.specs.Finds.{seen}
 use Rattle.rdl_parse.specs.Reading.{goes_on}
 use Rattle.rdl_parse.specs.Symbol.{symbols}
@@ -29,7 +30,7 @@ body-returns-in_err-mark-2 t c =
 pub body-returns : goal.body-returns
 body-returns t c =
     body-closed c.args.levels c.args.room (symbols c.args.self.now.rest) _ (seen c.in_ok-items.field-0) (symbols c.statements.new.self.rest) (symbols c.mark-2.new.self.rest) c.in_ok-mark.ensures (omega arith) c.in_ok-items.ensures c.in_ok-mark-2.ensures
-    ∙ ap (λ b. Ok (record { items = b; spots = c.in_ok-items.field-0.spots.items }, symbols c.mark-2.new.self.rest)) (sym c.from_vec.ensures)
+    ∙ ap (λ b. Ok (record { items = b; spots = c.in_ok-items.field-0.spots.items }, symbols c.mark-2.new.self.rest)) (sym (c.from_vec.ensures ∙ ap items_of c.shrink_to_fit.ensures.items))
 
 pub statements-returns-in_err-gathered : goal.statements-returns-in_err-gathered
 statements-returns-in_err-gathered t c =
