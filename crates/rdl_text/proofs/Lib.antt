@@ -6,6 +6,7 @@ pub mod Examples
 pub mod Following
 pub mod Fronts
 pub mod Joining
+pub mod Lines
 pub mod Lists
 pub mod Longest
 pub mod Numbers

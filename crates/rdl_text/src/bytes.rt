@@ -12,8 +12,6 @@ use crate::name::is_rest;
 #[derive(Clone, Copy)]
 pub(crate) enum Class {
     Blank,
-    /// All but a line feed.
-    InLine,
     /// The bytes of an identifier behind its first.
     IdentifierRest,
     /// The decimal digits.
@@ -90,7 +88,6 @@ fn is_in(class: Class, byte: u8) -> bool
 {
     match class {
         Class::Blank => is_blank(byte),
-        Class::InLine => byte != b'\n',
         Class::IdentifierRest => is_rest(byte),
         Class::Digit => is_digit(byte, 10),
         Class::DigitRest(base) => is_digit(byte, base) || byte == b'_',

@@ -6,6 +6,8 @@ ghost use Rattle.rdl_text.specs.Name.{is_letter};
 ghost use Rattle.std.specs.Char.{is_digit};
 ghost use Rattle.rdl_text.specs.Spans.{AreSpans};
 ghost use Rattle.rdl_text.specs.Standing.{Stands, word_at, kind_mark};
+ghost use Rattle.rdl_text.specs.Rows.{run};
+ghost use Rattle.rdl_text.specs.Words.{is_in_line};
 ghost use Rattle.rdl_text.specs.Words as spec;
 
 use crate::bytes::{Class, byte_at, is_blank, is_digit, run_len};
@@ -15,6 +17,7 @@ use crate::name::{Name, is_letter};
 use crate::piece::Span;
 use crate::rows::{closing, kind_of, long_mark, longest, longest_number, short_mark};
 use crate::token::{Mark, Token};
+use memchr::memchr;
 use std::alloc::Global;
 
 /// How many bytes stand before the next `*/`.
@@ -37,6 +40,19 @@ fn block_comment(bytes: &[u8]) -> Result<Span, FaultKind>
     match comment_end(&bytes[2..]) {
         Some(len) => Ok(Span::Gap(len + 4)),
         None => Err(FaultKind::UnendedComment),
+    }
+}
+
+/// How many bytes stand behind a `//` up to the end of its line.
+fn line_len(bytes: &[u8]) -> usize
+    requires { 2 ≤ length bytes.now }
+    ensures len { result ≡ run is_in_line 2 bytes.now }
+    ensures within { result + 2 ≤ length bytes.now }
+{
+    let line = &bytes[2..];
+    match memchr(b'\n', line) {
+        Some(len) => len,
+        None => line.len(),
     }
 }
 
@@ -131,7 +147,7 @@ fn span_at(bytes: &[u8]) -> Result<Span, FaultKind>
     if is_blank(first) {
         Ok(Span::Gap(run_len(bytes, 0, Class::Blank)))
     } else if first == b'/' && second == b'/' {
-        Ok(Span::Gap(2 + run_len(bytes, 2, Class::InLine)))
+        Ok(Span::Gap(2 + line_len(bytes)))
     } else if first == b'/' && second == b'*' {
         block_comment(bytes)
     } else {
