@@ -12,6 +12,7 @@ pub mod Placings
 pub mod Staying
 pub mod SteppedBodies
 pub mod StillEdits
+pub mod Touching
 pub mod TrackedExamples
 pub mod TrackedPatches
 pub mod Walking

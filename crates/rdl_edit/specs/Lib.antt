@@ -6,6 +6,7 @@ pub mod Placing
 pub mod Resuming
 pub mod Step
 pub mod Still
+pub mod Touching
 pub mod Tracking
 pub mod Ways
 pub mod Weights

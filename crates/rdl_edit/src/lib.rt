@@ -6,4 +6,5 @@ pub mod edit;
 pub mod laws;
 pub mod map;
 mod resuming;
+mod touched;
 mod turning;

@@ -1,6 +1,12 @@
 //! Patches applied to a description, and its layouts laid out after them, where the map that they make has rows.
-ghost use Rattle.std.specs.Prelude.{◌≡◌, ◌≤◌, IfOk, IfErr, OnOk, OnErr, option_copied};
-ghost use Rattle.rdl_elab.specs.AllKept.{AreOf};
+ghost use Rattle.std.specs.Prelude.{◌≡◌, ◌⊎◌, ◌≤◌, ◌*◌, ℕ, Bool, List, Err, IfOk, IfErr, OnOk, OnErr, option_copied};
+ghost use Rattle.rdl_tree.specs.Items.{Items};
+ghost use Rattle.rdl_scope.specs.ItemFaults.{out_of_memory};
+ghost use Rattle.rdl_elab.specs.AllKept.{AreOf, instances_at};
+ghost use Rattle.rdl_elab.specs.Faults.{elaborated};
+ghost use Rattle.rdl_elab.specs.Known.{HasRows as HasRowsWith};
+ghost use Rattle.rdl_elab.specs.Reach.{in_reach, AreUnchangedBut};
+ghost use Rattle.rdl_elab.specs.Skeleton.{skeleton};
 ghost use Rattle.rdl_tree.specs.Depth.{depth};
 ghost use Rattle.rdl_tree.specs.Patch.{AllFit, image, inverses};
 ghost use Rattle.rdl_edit.specs.Backs.{IsWayBack, IsCheap};
@@ -8,8 +14,10 @@ ghost use Rattle.rdl_edit.specs.Faults.{refused};
 ghost use Rattle.rdl_edit.specs.Step.{HasRows, IsJudged};
 ghost use Rattle.rdl_edit.specs.Keeping.{Keeps};
 ghost use Rattle.rdl_edit.specs.Placing.{IsFew, KeepsLayouts};
+ghost use Rattle.rdl_edit.specs.Touching.{IsKnown, IfStill};
 
 use crate::edit::{Refusal, is_memory};
+use crate::touched::{Touched, keeps_skeleton, touched};
 use rdl_elab::kept::Kept;
 use rdl_tree::description::Description;
 use rdl_tree::fault::Fault;
@@ -27,6 +35,55 @@ fn refused(fault: Fault) -> Refusal
     }
 }
 
+/// Lays out a description behind a step of which this is known, and judges no more than that leaves open. Nothing changes
+/// if the map has a fault.
+fn lay_out(
+    alloc: Global,
+    description: &Description,
+    kept: &mut Kept,
+    name: Option<&str>,
+    touched: &Touched,
+) -> Result<(), Fault>
+    requires known { IsKnown touched.now description.now.items kept.old }
+    requires top { kept.old.top ≡ option_copied name }
+    ensures layouts { OnOk result (AreOf description.now.items kept.new) }
+    ensures top { OnOk result (kept.new.top ≡ option_copied name.entry) }
+    ensures reached { OnOk result ((old : Items) (bodies : List (List ℕ)) (edited : List ℕ → Bool) → AreOf old kept.old → AreUnchangedBut edited old bodies description.now.items → kept.new.placed ≤ 3 * instances_at (in_reach edited description.now.items) description.now.items) }
+    ensures still { OnOk result ((old : Items) → AreOf old kept.old → skeleton old ≡ skeleton description.now.items → kept.new.placed ≡ 0) }
+    ensures refused { IfErr result (λ fault. (elaborated description.now.items (option_copied name.entry) ≡ Err fault) ⊎ (fault ≡ out_of_memory)) }
+    ensures err { OnErr result (kept.new ≡ kept.old) }
+{
+    match touched {
+        Touched::Any => kept.relay(alloc, description, name, &[]),
+        Touched::One(item) => kept.relay_item(alloc, description, name, item),
+        Touched::Still(item) => kept.stay_judged(alloc, description, item),
+    }
+}
+
+/// Lays out a description behind a step, where its map is known to have rows.
+fn lay_out_known(
+    alloc: Global,
+    description: &Description,
+    kept: &mut Kept,
+    name: Option<&str>,
+    still: bool,
+) -> Result<(), AllocError>
+    requires known { HasRowsWith description.now.items (option_copied name) }
+    requires still { IfStill still description.now.items kept.old }
+    requires top { kept.old.top ≡ option_copied name }
+    ensures layouts { OnOk result (AreOf description.now.items kept.new) }
+    ensures top { OnOk result (kept.new.top ≡ option_copied name.entry) }
+    ensures reached { OnOk result ((old : Items) (bodies : List (List ℕ)) (edited : List ℕ → Bool) → AreOf old kept.old → AreUnchangedBut edited old bodies description.now.items → kept.new.placed ≤ 3 * instances_at (in_reach edited description.now.items) description.now.items) }
+    ensures still { OnOk result ((old : Items) → AreOf old kept.old → skeleton old ≡ skeleton description.now.items → kept.new.placed ≡ 0) }
+    ensures err { OnErr result (kept.new ≡ kept.old) }
+{
+    if still {
+        kept.stay(description);
+        return Ok(());
+    }
+    kept.relay_known(alloc, description, name, &[])
+}
+
 /// Applies the patches, and answers what takes them back. Where the map that they make has a fault, the description and
 /// its layouts are as before.
 pub(crate) fn turn(
@@ -38,6 +95,7 @@ pub(crate) fn turn(
 ) -> Result<Vec<Patch>, Refusal>
     requires nesting { depth description.old.items ≤ 16 }
     requires fit { AllFit patches.items description.old.items }
+    requires kept { Keeps (record { description = description.old.items; option = option_copied name }) kept.old }
     ensures made { OnOk result (description.new.items ≡ image patches.items description.old.items) }
     ensures keeps { OnOk result (Keeps (record { description = description.new.items; option = option_copied name.entry }) kept.new) }
     ensures few { OnOk result (AreOf description.old.items kept.old → IsFew description.old.items patches.items (image patches.items description.old.items) kept.new.placed) }
@@ -50,10 +108,11 @@ pub(crate) fn turn(
     ensures err { OnErr result (description.new.items ≡ description.old.items) }
     ensures unmoved { OnErr result (kept.new ≡ kept.old) }
 {
+    let touched = touched(description, patches.as_slice());
     let Ok(mut turned) = description.turn(alloc, patches) else {
         return Err(Refusal::Memory);
     };
-    match kept.relay(alloc, turned.description(), name, &[]) {
+    match lay_out(alloc, turned.description(), kept, name, &touched) {
         Ok(()) => Ok(turned.keep()),
         Err(fault) => {
             let _patches = turned.back();
@@ -73,6 +132,7 @@ pub(crate) fn again(
 ) -> Result<Vec<Patch>, Vec<Patch>>
     requires nesting { depth description.old.items ≤ 16 }
     requires fit { AllFit patches.items description.old.items }
+    requires kept { Keeps (record { description = description.old.items; option = option_copied name }) kept.old }
     requires known { HasRows (record { description = image patches.items description.old.items; option = option_copied name }) }
     ensures made { OnOk result (description.new.items ≡ image patches.items description.old.items) }
     ensures keeps { OnOk result (Keeps (record { description = description.new.items; option = option_copied name.entry }) kept.new) }
@@ -86,11 +146,12 @@ pub(crate) fn again(
     ensures err { OnErr result (description.new.items ≡ description.old.items) }
     ensures unmoved { OnErr result (kept.new ≡ kept.old) }
 {
+    let still = keeps_skeleton(description, patches.as_slice());
     let mut turned = match description.turn(alloc, patches) {
         Ok(turned) => turned,
         Err(same) => return Err(same),
     };
-    match kept.relay_known(alloc, turned.description(), name, &[]) {
+    match lay_out_known(alloc, turned.description(), kept, name, still) {
         Ok(()) => Ok(turned.keep()),
         Err(_) => Err(turned.back()),
     }

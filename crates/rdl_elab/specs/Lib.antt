@@ -43,3 +43,4 @@ pub mod Found
 pub mod Tracked
 pub mod EditedBodies
 pub mod StatedValues
+pub mod SameSkeleton

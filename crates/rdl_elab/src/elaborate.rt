@@ -4,6 +4,7 @@ ghost use Rattle.std.specs.Option.{option_or};
 ghost use Rattle.rdl_tree.specs.Depth.{depth};
 ghost use Rattle.rdl_scope.specs.Closed.{component};
 ghost use Rattle.rdl_scope.specs.ItemFaults.{fault_at, fault_of, out_of_memory};
+ghost use Rattle.rdl_scope.specs.OneItem.{NoOtherFault};
 ghost use Rattle.rdl_elab.specs.Faults.{has_name, top_from, elaborated, under_top};
 ghost use Rattle.rdl_elab.specs.Known.{HasRows};
 ghost use Rattle.rdl_elab.specs.Tops.{top_at};
@@ -18,7 +19,7 @@ use crate::row::{Extent, Place, Row, RowPath, Rows};
 use crate::row_values::RowValues;
 use crate::rows::{Around, add_rows};
 use crate::walk::lay_out_item;
-use rdl_scope::faults::check;
+use rdl_scope::faults::{check, check_item};
 use rdl_text::name::Name;
 use rdl_text::token::Number;
 use rdl_tree::address::Address;
@@ -291,6 +292,18 @@ pub(crate) fn known_top<'a>(description: &'a Description, wanted: Option<&str>) 
     }
 }
 
+/// The top of a description whose items have no fault. Otherwise E13.
+fn top_of<'a>(description: &'a Description, wanted: Option<&str>) -> Result<Top<'a>, Fault>
+    requires { fault_of description.now.items ≡ None }
+    ensures top { IfOk result (λ top. top_from (option_copied wanted.entry) 0 description.now.items ≡ Some top) }
+    ensures err { IfErr result (λ fault. elaborated description.now.items (option_copied wanted.entry) ≡ Err fault) }
+{
+    match find_top(description, wanted) {
+        Some(top) => Ok(top),
+        None => Err(no_top()),
+    }
+}
+
 /// The top, if no item has a fault. Otherwise the first fault: those of `rdl_scope::faults::check`, and E13.
 pub(crate) fn checked_top<'a>(
     alloc: Global,
@@ -303,10 +316,24 @@ pub(crate) fn checked_top<'a>(
     ensures err { IfErr result (λ fault. (elaborated description.now.items (option_copied wanted.entry) ≡ Err fault) ⊎ (fault ≡ out_of_memory)) }
 {
     check(alloc, description)?;
-    match find_top(description, wanted) {
-        Some(top) => Ok(top),
-        None => Err(no_top()),
-    }
+    top_of(description, wanted)
+}
+
+/// The same of a description in which no item but the one at this address may have a fault.
+pub(crate) fn checked_top_but<'a>(
+    alloc: Global,
+    description: &'a Description,
+    wanted: Option<&str>,
+    item: &Address,
+) -> Result<Top<'a>, Fault>
+    requires { NoOtherFault description.now.items item.now }
+    ensures faultless { OnOk result (fault_of description.now.items ≡ None) }
+    ensures nesting { OnOk result (depth description.now.items ≤ 16) }
+    ensures top { IfOk result (λ top. top_from (option_copied wanted.entry) 0 description.now.items ≡ Some top) }
+    ensures err { IfErr result (λ fault. (elaborated description.now.items (option_copied wanted.entry) ≡ Err fault) ⊎ (fault ≡ out_of_memory)) }
+{
+    check_item(alloc, description, item)?;
+    top_of(description, wanted)
 }
 
 /// The rows of a map that is known to have them. Its items aren't checked again.

@@ -13,7 +13,7 @@ ghost use Rattle.rdl_elab.specs.KeptRows.{kept_answer};
 ghost use Rattle.rdl_elab.specs.AllKept.{fault_in, new_spans, has_layout, all_instances, instances_at, AreFoundBut};
 
 use crate::clean::is_clean_map;
-use crate::elaborate::{Top, checked_top, known_rows, known_top, rows_under};
+use crate::elaborate::{Top, checked_top, checked_top_but, known_rows, known_top, rows_under};
 use crate::finished::Finished;
 use crate::layout::{Layout, Mode};
 use crate::numbers::number;
@@ -147,6 +147,22 @@ fn lay_out<'a>(
     Ok(Ok(()))
 }
 
+/// The fault of the map with this top, if it has one. What is kept of other layouts spares work, and stays.
+fn fault_with_top<'a>(
+    alloc: Global,
+    stored: &Stored,
+    description: &'a Description,
+    top: &Top<'a>,
+) -> Result<Option<Fault>, AllocError>
+    requires nesting { depth description.now.items ≤ 16 }
+    requires faultless { fault_of description.now.items ≡ None }
+    requires top { root_type description.now.items top.now.1 ≡ component description.now.items (top.now.0 ∷ []) }
+    ensures { IfOk result (λ fault. fault ≡ fault_in (with_top description.now.items (Some top.now))) }
+{
+    let found = lay_out_all(alloc, description, top.name, stored)?;
+    judged(alloc, found.components.as_slice(), found.number, top)
+}
+
 /// Does the same, and makes the rows of the map.
 fn lay_out_rows<'a>(
     alloc: Global,
@@ -199,7 +215,9 @@ impl Kept {
     ghost use Rattle.rdl_tree.specs.Depth.{depth};
     ghost use Rattle.rdl_scope.specs.ItemFaults.{fault_of, out_of_memory};
     ghost use Rattle.rdl_elab.specs.Faults.{elaborated, top_from};
+    ghost use Rattle.rdl_scope.specs.OneItem.{NoOtherFault};
     ghost use Rattle.rdl_elab.specs.Known.{HasRows};
+    ghost use Rattle.rdl_elab.specs.SameSkeleton.{HasSameSkeleton};
     ghost use Rattle.rdl_elab.specs.AllKept.{AreOf, IsAsBeforeBut, layout_at, all_instances, instances_at};
     ghost use Rattle.rdl_elab.specs.Reach.{in_reach, AreUnchangedBut};
     ghost use Rattle.rdl_elab.specs.Skeleton.{skeleton};
@@ -333,6 +351,31 @@ impl Kept {
         }
     }
 
+    /// Does the same for a description in which no item but the one at this address may have a fault.
+    pub fn relay_item(
+        &mut self,
+        alloc: Global,
+        description: &Description,
+        top: Option<&str>,
+        item: &Address,
+    ) -> Result<(), Fault>
+        requires { NoOtherFault description.now.items item.now }
+        ensures layouts { OnOk result (AreOf description.now.items self.new) }
+        ensures top { OnOk result (self.new.top ≡ option_copied top.entry) }
+        ensures placed { OnOk result (self.new.placed ≤ 3 * all_instances description.now.items) }
+        ensures few { OnOk result ((old : Items) (bodies : List (List ℕ)) (marked : List ℕ → Bool) → AreOf old self.old → IsAsBeforeBut marked old bodies description.now.items → self.new.placed ≤ 3 * instances_at marked description.now.items) }
+        ensures reached { OnOk result ((old : Items) (bodies : List (List ℕ)) (edited : List ℕ → Bool) → AreOf old self.old → AreUnchangedBut edited old bodies description.now.items → self.new.placed ≤ 3 * instances_at (in_reach edited description.now.items) description.now.items) }
+        ensures still { OnOk result ((old : Items) → AreOf old self.old → skeleton old ≡ skeleton description.now.items → self.new.placed ≡ 0) }
+        ensures refused { IfErr result (λ fault. (elaborated description.now.items (option_copied top.entry) ≡ Err fault) ⊎ (fault ≡ out_of_memory)) }
+        ensures err { OnErr result (self.new ≡ self.old) }
+    {
+        let found = checked_top_but(alloc, description, top, item)?;
+        match self.follow(alloc, description, &found, top, Judgement::Needed) {
+            Ok(answer) => answer,
+            Err(_) => Err(no_memory()),
+        }
+    }
+
     /// Does the same for a description that is known to have rows with this top, as one that was laid out before. It is
     /// not judged again, so this fails for memory alone.
     pub fn relay_known(
@@ -355,6 +398,46 @@ impl Kept {
         match self.follow(alloc, description, &found, top, Judgement::Known)? {
             Ok(()) => Ok(()),
             Err(_) => unreachable!(),
+        }
+    }
+
+    /// Keeps the layouts as they are for this description, which has the same skeleton and is known to have rows. No
+    /// instance is placed.
+    pub fn stay(&mut self, _description: &Description)
+        requires skeleton { HasSameSkeleton _description.now.items self.old }
+        requires rows { HasRows _description.now.items self.old.top }
+        ensures layouts { AreOf _description.now.items self.new }
+        ensures top { self.new.top ≡ self.old.top }
+        ensures placed { self.new.placed ≡ 0 }
+    {
+        self.stored.stay();
+    }
+
+    /// Does the same, where it isn't known whether the description has rows, and no item of it but the one at this address
+    /// may have a fault. Nothing changes if the map has one.
+    pub fn stay_judged(
+        &mut self,
+        alloc: Global,
+        description: &Description,
+        item: &Address,
+    ) -> Result<(), Fault>
+        requires skeleton { HasSameSkeleton description.now.items self.old }
+        requires others { NoOtherFault description.now.items item.now }
+        ensures layouts { OnOk result (AreOf description.now.items self.new) }
+        ensures top { OnOk result (self.new.top ≡ self.old.top) }
+        ensures placed { OnOk result (self.new.placed ≡ 0) }
+        ensures refused { IfErr result (λ fault. (elaborated description.now.items self.old.top ≡ Err fault) ⊎ (fault ≡ out_of_memory)) }
+        ensures err { OnErr result (self.new ≡ self.old) }
+    {
+        let top = self.top.as_ref().map(|top| top.as_str());
+        let found = checked_top_but(alloc, description, top, item)?;
+        match fault_with_top(alloc, &self.stored, description, &found) {
+            Ok(None) => {
+                self.stored.stay();
+                Ok(())
+            }
+            Ok(Some(fault)) => Err(fault),
+            Err(_) => Err(no_memory()),
         }
     }
 

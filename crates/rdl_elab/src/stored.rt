@@ -246,6 +246,13 @@ impl Stored {
         self.placed
     }
 
+    /// Keeps all as it is, where no instance was placed.
+    pub(crate) fn stay(&mut self)
+        ensures { self.new ≡ record self.old { placed = 0 } }
+    {
+        self.placed = 0;
+    }
+
     /// The layout of the component of this number.
     pub(crate) fn layout(&self, number: usize, mode: Mode) -> Option<&Layout>
         ensures { option_copied result ≡ option_map (under mode) (slice_get (all_under self.now.slots self.now.keys) number) }

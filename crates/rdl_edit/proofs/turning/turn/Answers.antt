@@ -5,35 +5,35 @@ use Rattle.rdl_edit.proofs.WaysBack.{way-back, cheap}
 use Rattle.rdl_edit.specs.Step.{IsJudged}
 use Rattle.rdl_edit.proofs.turning.turn.Goals as goal
 
-pub returns-in-Ok-relay-clause-back : goal.returns-in-Ok-relay-clause-back
-returns-in-Ok-relay-clause-back c =
+pub returns-in-Ok-lay_out-clause-back : goal.returns-in-Ok-lay_out-clause-back
+returns-in-Ok-lay_out-clause-back c =
     way-back c.args.patches.items c.keep.result.items c.args.description.now.items _ c.requires.fit c.requires.nesting
     (search rules) (c.keep.ensures.patches ∙ c.in-Ok.ensures.kept)
 
-pub returns-in-Ok-relay-clause-cost : goal.returns-in-Ok-relay-clause-cost
-returns-in-Ok-relay-clause-cost c =
+pub returns-in-Ok-lay_out-clause-cost : goal.returns-in-Ok-lay_out-clause-cost
+returns-in-Ok-lay_out-clause-cost c =
     cheap c.args.patches.items c.keep.result.items c.args.description.now.items c.requires.fit c.requires.nesting
     (c.keep.ensures.patches ∙ c.in-Ok.ensures.kept)
 
-pub returns-in-Ok-relay-clause-back_keeps : goal.returns-in-Ok-relay-clause-back_keeps
-returns-in-Ok-relay-clause-back_keeps c =
+pub returns-in-Ok-lay_out-clause-back_keeps : goal.returns-in-Ok-lay_out-clause-back_keeps
+returns-in-Ok-lay_out-clause-back_keeps c =
     back-keeps c.args.patches.items c.keep.result.items c.args.description.now.items _ c.requires.fit
     (search rules) (c.keep.ensures.patches ∙ c.in-Ok.ensures.kept)
 
-pub returns-in-Ok-relay-clause-few : goal.returns-in-Ok-relay-clause-few
-returns-in-Ok-relay-clause-few c =
+pub returns-in-Ok-lay_out-clause-few : goal.returns-in-Ok-lay_out-clause-few
+returns-in-Ok-lay_out-clause-few c =
     let made : c.description.result.now.items ≡ image c.args.patches.items c.args.description.now.items = search rules in
-    few-placed c.args.kept.now c.args.description.now.items c.description.result.now.items c.args.patches.items c.relay.new.self.placed made c.in-Ok-relay.ensures.reached
+    few-placed c.args.kept.now c.args.description.now.items c.description.result.now.items c.args.patches.items c.lay_out.new.kept.placed made c.in-Ok-lay_out.ensures.reached
 
-pub returns-in-Ok-relay-clause-none : goal.returns-in-Ok-relay-clause-none
-returns-in-Ok-relay-clause-none c =
+pub returns-in-Ok-lay_out-clause-none : goal.returns-in-Ok-lay_out-clause-none
+returns-in-Ok-lay_out-clause-none c =
     let made : c.description.result.now.items ≡ image c.args.patches.items c.args.description.now.items = search rules in
-    none-placed c.args.kept.now c.args.description.now.items c.description.result.now.items c.args.patches.items c.relay.new.self.placed made c.in-Ok-relay.ensures.still
+    none-placed c.args.kept.now c.args.description.now.items c.description.result.now.items c.args.patches.items c.lay_out.new.kept.placed made c.in-Ok-lay_out.ensures.still
 
-pub returns-in-Ok-relay-clause-keeps : goal.returns-in-Ok-relay-clause-keeps
-returns-in-Ok-relay-clause-keeps c =
+pub returns-in-Ok-lay_out-clause-keeps : goal.returns-in-Ok-lay_out-clause-keeps
+returns-in-Ok-lay_out-clause-keeps c =
     let made : c.description.result.now.items ≡ image c.args.patches.items c.args.description.now.items = search rules in
-    keeps-made c.description.result.now.items _ (image c.args.patches.items c.args.description.now.items) (option_copied c.args.name) c.relay.new.self c.in-Ok-relay.ensures.layouts c.in-Ok-relay.ensures.top
+    keeps-made c.description.result.now.items _ (image c.args.patches.items c.args.description.now.items) (option_copied c.args.name) c.lay_out.new.kept c.in-Ok-lay_out.ensures.layouts c.in-Ok-lay_out.ensures.top
     made (search rules)
 
 pub returns-in-Err-clause-refused : goal.returns-in-Err-clause-refused

@@ -1,0 +1,42 @@
+-- What is known of a step of one patch.
+use Rattle.std.proofs.Common.{◌≡◌, true, List, [], ◌∷◌, None, Some, sym}
+use Rattle.std.specs.Prelude.{IsSomeAnd}
+use Rattle.rdl_tree.specs.Items.{Items}
+use Rattle.rdl_tree.specs.ItemAt.{item_at}
+use Rattle.rdl_tree.specs.Patch.{patched, image}
+use Rattle.rdl_tree.specs.declared.patch.Patch.{Patch}
+use Rattle.rdl_tree.specs.declared.patch.Patch.TheVariants.{Exchange}
+use Rattle.rdl_tree.specs.declared.part.Part.{Part}
+use Rattle.rdl_tree.specs.declared.part.Part.TheVariants.{OfShell, OfValue, OfTarget, OfType, OfDefine}
+use Rattle.rdl_tree.specs.declared.description.Item.{Item}
+use Rattle.rdl_tree.specs.declared.description.Item.TheVariants.{Define, Instance, Own, Default, Dynamic}
+use Rattle.rdl_tree.specs.declared.shell.Shell.{Shell}
+use Rattle.rdl_tree.specs.declared.description.Of.{Of}
+use Rattle.rdl_scope.specs.ItemFaults.{fault_of}
+use Rattle.rdl_scope.specs.OneItem.{NoOtherFault}
+use Rattle.rdl_elab.specs.Skeleton.{skeleton}
+use Rattle.rdl_edit.specs.Still.{is_still, IsStillPart, IsStill}
+use Rattle.rdl_edit.specs.Touching.{IsStillShell, IsAlone}
+use Rattle.rdl_edit.proofs.Staying.{skeleton-stays}
+
+-- an instance that says the same of its place
+pub still-shell : (part : Part) (s : Shell) (o : Of) → IsStillShell part s → IsStillPart part (Instance s o)
+still-shell (OfShell new) s o h = h
+still-shell (OfValue new) s o h = absurd h
+still-shell (OfTarget new) s o h = absurd h
+still-shell (OfType new) s o h = absurd h
+still-shell (OfDefine new) s o h = absurd h
+
+-- any part of such an assignment
+pub still-part : (part : Part) (x : Item) → is_still x ≡ true → IsStillPart part x
+still-part part x h = ?
+
+-- a step of one such patch
+pub one-still : (p : Patch) (d : Items) → IsStill p d → skeleton (image (p ∷ []) d) ≡ skeleton d
+one-still p d h = skeleton-stays (p ∷ []) d (h, tt)
+
+-- a part by which no other item has a fault
+pub one-alone : (at : List Rattle.std.specs.Prelude.ℕ) (part : Part) (x : Item) (d : Items) → fault_of d ≡ None → item_at at d ≡ Some x → IsAlone part x → NoOtherFault (patched (Exchange at part) d) at
+one-alone at part x d none is h = ?
+
+ruleset still_parts = still-shell, still-part

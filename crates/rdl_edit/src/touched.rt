@@ -1,0 +1,167 @@
+//! What is known of a step before it is taken.
+ghost use Rattle.std.specs.Prelude.{◌≡◌, true, None, IfSome};
+ghost use Rattle.rdl_tree.specs.Patch.{patched, image};
+ghost use Rattle.rdl_scope.specs.ItemFaults.{fault_of};
+ghost use Rattle.rdl_scope.specs.OneItem.{NoOtherFault};
+ghost use Rattle.rdl_elab.specs.Reach.{SaysTheSame};
+ghost use Rattle.rdl_elab.specs.Skeleton.{skeleton, lays_out};
+ghost use Rattle.rdl_edit.specs.Still.{is_still, IsStill, IsStillPart};
+ghost use Rattle.rdl_edit.specs.Touching.{IsTouched, IsStillShell, IsNamesake, IsValue, IsAlone};
+
+use rdl_text::name::Name;
+use rdl_tree::address::Address;
+use rdl_tree::description::{Description, Item};
+use rdl_tree::part::Part;
+use rdl_tree::patch::Patch;
+use rdl_tree::properties::property;
+use rdl_tree::shell::Shell;
+
+/// What is known of a step.
+#[derive(Debug, Drop)]
+pub(crate) enum Touched {
+    /// Nothing.
+    Any,
+    /// Behind it no other item than the one at this address may have a fault.
+    One(Address),
+    /// Nor does it change anything on which a layout depends.
+    Still(Address),
+}
+
+/// Whether an instance says the same of its place with the other shell.
+fn says_the_same(shell: &Shell, other: &Shell) -> bool
+    ensures { result ≡ true → SaysTheSame shell.now other.now }
+{
+    shell.dims.as_slice() == other.dims.as_slice()
+        && shell.range.get() == other.range.get()
+        && shell.address.get() == other.address.get()
+        && shell.stride.get() == other.stride.get()
+        && shell.align.get() == other.align.get()
+}
+
+/// Whether layouts depend on the property of this name.
+fn lays_out(name: &Name) -> bool
+    ensures { result ≡ lays_out name.now }
+{
+    match property(name.as_str()) {
+        Some(property) => property.layout(),
+        None => false,
+    }
+}
+
+/// Whether the item is an assignment on which no layout of the body depends.
+fn is_still(item: &Item) -> bool
+    ensures { result ≡ is_still item.now }
+{
+    match item {
+        Item::Own(name, _) | Item::Default(name, _) => !lays_out(name),
+        Item::Dynamic(_, _, _) => true,
+        Item::Define(_, _) | Item::Instance(_, _) => false,
+    }
+}
+
+/// Whether the part is a shell with which the instance says the same of its place.
+fn is_still_shell(part: &Part, shell: &Shell) -> bool
+    ensures { result ≡ true → IsStillShell part.now shell.now }
+{
+    match part {
+        Part::OfShell(new) => says_the_same(shell, new),
+        _ => false,
+    }
+}
+
+/// Whether no layout depends on which of the two parts the item has, this one or its own.
+#[tactic(auto, using(crate::proofs::Touching::still_parts))]
+fn is_still_part(part: &Part, item: &Item) -> bool
+    ensures { result ≡ true → IsStillPart part.now item.now }
+{
+    match item {
+        Item::Instance(shell, _) => is_still_shell(part, shell),
+        _ => is_still(item),
+    }
+}
+
+/// Whether no layout depends on whether the patch is applied.
+fn is_still_patch(description: &Description, patch: &Patch) -> bool
+    ensures { result ≡ true → IsStill patch.now description.now.items }
+{
+    match patch {
+        Patch::Insert(_, item) => is_still(item),
+        Patch::Delete(at) | Patch::Shift(at, _) => match description.item(at) {
+            Some(item) => is_still(item),
+            None => false,
+        },
+        Patch::Exchange(at, part) => match description.item(at) {
+            Some(item) => is_still_part(part, item),
+            None => false,
+        },
+    }
+}
+
+/// Whether the step is known to keep the skeleton: it is one patch on which no layout depends.
+pub(crate) fn keeps_skeleton(description: &Description, patches: &[Patch]) -> bool
+    ensures { result ≡ true → skeleton (image patches.now description.now.items) ≡ skeleton description.now.items }
+{
+    match patches {
+        [patch] => is_still_patch(description, patch),
+        _ => false,
+    }
+}
+
+/// Whether the part is another shell of the same name.
+fn is_namesake(part: &Part, shell: &Shell) -> bool
+    ensures { result ≡ true → IsNamesake part.now shell.now }
+{
+    match part {
+        Part::OfShell(new) => new.name == shell.name,
+        _ => false,
+    }
+}
+
+fn is_value(part: &Part) -> bool
+    ensures { result ≡ true → IsValue part.now }
+{
+    match part {
+        Part::OfValue(_) => true,
+        _ => false,
+    }
+}
+
+/// Whether no other item can have a fault for it if the item gets this part.
+fn is_alone(part: &Part, item: &Item) -> bool
+    ensures { result ≡ true → IsAlone part.now item.now }
+{
+    match item {
+        Item::Instance(shell, _) => is_namesake(part, shell),
+        Item::Dynamic(_, _, _) => is_value(part),
+        _ => false,
+    }
+}
+
+/// The item that alone may have a fault behind this patch, if it is known.
+fn touched_item(description: &Description, patch: &Patch) -> Option<Address>
+    requires { fault_of description.now.items ≡ None }
+    ensures { IfSome result (NoOtherFault (patched patch.now description.now.items)) }
+{
+    match patch {
+        Patch::Exchange(at, part) => match description.item(at) {
+            Some(item) if is_alone(part, item) => Some(at.copy()),
+            _ => None,
+        },
+        _ => None,
+    }
+}
+
+/// What is known of the step from a description in which no item has a fault.
+pub(crate) fn touched(description: &Description, patches: &[Patch]) -> Touched
+    requires { fault_of description.now.items ≡ None }
+    ensures { IsTouched result patches.now description.now.items }
+{
+    let [patch] = patches else {
+        return Touched::Any;
+    };
+    match touched_item(description, patch) {
+        Some(at) if keeps_skeleton(description, patches) => Touched::Still(at),
+        Some(at) => Touched::One(at),
+        None => Touched::Any,
+    }
+}
