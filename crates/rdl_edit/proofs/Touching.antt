@@ -1,6 +1,5 @@
 -- What is known of a step of one patch.
-use Rattle.std.proofs.Common.{◌≡◌, true, List, [], ◌∷◌, None, Some, sym}
-use Rattle.std.specs.Prelude.{IsSomeAnd}
+use Rattle.std.proofs.Common.{◌≡◌, ℕ, suc, true, false, List, [], ◌∷◌, length, get_or, None, Some, ap, arith}
 use Rattle.rdl_tree.specs.Items.{Items}
 use Rattle.rdl_tree.specs.ItemAt.{item_at}
 use Rattle.rdl_tree.specs.Patch.{patched, image}
@@ -29,14 +28,28 @@ still-shell (OfDefine new) s o h = absurd h
 
 -- any part of such an assignment
 pub still-part : (part : Part) (x : Item) → is_still x ≡ true → IsStillPart part x
-still-part part x h = ?
+still-part (OfShell new) (Instance s o) h = absurd (let no : false ≡ true = h in cc)
+still-part (OfShell new) (Define n c) h = h
+still-part (OfShell new) (Own p v) h = h
+still-part (OfShell new) (Default p v) h = h
+still-part (OfShell new) (Dynamic t p v) h = h
+still-part (OfValue new) x h = h
+still-part (OfTarget new) x h = h
+still-part (OfType new) x h = h
+still-part (OfDefine new) x h = h
+
+-- a list of one
+pub only : (ps : List Patch) (p : Patch) → length ps ≡ 1 → get_or ps 0 p ≡ p → ps ≡ p ∷ []
+only [] p one is = absurd (let no : 0 ≡ 1 = one in omega arith)
+only (q ∷ []) p one is = ap (λ x. x ∷ []) is
+only (q ∷ r ∷ ps) p one is = absurd (let no : suc (suc (length ps)) ≡ 1 = one in omega arith)
 
 -- a step of one such patch
 pub one-still : (p : Patch) (d : Items) → IsStill p d → skeleton (image (p ∷ []) d) ≡ skeleton d
 one-still p d h = skeleton-stays (p ∷ []) d (h, tt)
 
 -- a part by which no other item has a fault
-pub one-alone : (at : List Rattle.std.specs.Prelude.ℕ) (part : Part) (x : Item) (d : Items) → fault_of d ≡ None → item_at at d ≡ Some x → IsAlone part x → NoOtherFault (patched (Exchange at part) d) at
+pub one-alone : (at : List ℕ) (part : Part) (x : Item) (d : Items) → fault_of d ≡ None → item_at at d ≡ Some x → IsAlone part x → NoOtherFault (patched (Exchange at part) d) at
 one-alone at part x d none is h = ?
 
-ruleset still_parts = still-shell, still-part
+pub ruleset still_parts = (still-shell, still-part)

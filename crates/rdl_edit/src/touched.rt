@@ -152,7 +152,7 @@ fn touched_item(description: &Description, patch: &Patch) -> Option<Address>
 }
 
 /// What is known of the step from a description in which no item has a fault.
-pub(crate) fn touched(description: &Description, patches: &[Patch]) -> Touched
+pub(crate) fn touched_by(description: &Description, patches: &[Patch]) -> Touched
     requires { fault_of description.now.items ≡ None }
     ensures { IsTouched result patches.now description.now.items }
 {

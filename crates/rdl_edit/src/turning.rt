@@ -17,7 +17,7 @@ ghost use Rattle.rdl_edit.specs.Placing.{IsFew, KeepsLayouts};
 ghost use Rattle.rdl_edit.specs.Touching.{IsKnown, IfStill};
 
 use crate::edit::{Refusal, is_memory};
-use crate::touched::{Touched, keeps_skeleton, touched};
+use crate::touched::{Touched, keeps_skeleton, touched_by};
 use rdl_elab::kept::Kept;
 use rdl_tree::description::Description;
 use rdl_tree::fault::Fault;
@@ -108,7 +108,7 @@ pub(crate) fn turn(
     ensures err { OnErr result (description.new.items ≡ description.old.items) }
     ensures unmoved { OnErr result (kept.new ≡ kept.old) }
 {
-    let touched = touched(description, patches.as_slice());
+    let touched = touched_by(description, patches.as_slice());
     let Ok(mut turned) = description.turn(alloc, patches) else {
         return Err(Refusal::Memory);
     };
