@@ -3,6 +3,7 @@ pub mod Closed
 pub mod Front
 pub mod ItemFaults
 pub mod Keys
+pub mod OneItem
 pub mod Scopes
 pub mod Spot
 pub mod Target
