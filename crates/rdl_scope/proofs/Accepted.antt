@@ -19,11 +19,11 @@ use Rattle.rdl_scope.specs.Types.{item, component_at}
 use Rattle.rdl_scope.specs.Target.{instance_before}
 use Rattle.rdl_scope.specs.ItemFaults.{may_instantiate, wrong_part, wrong_number, first_of, instance_kind, instance_fault, item_fault, fault_at, first_fault, inside_fault, is_too_large, fault_of}
 
-neither : {X : Type 0} (a b : Option X) → option_or a b ≡ None → (a ≡ None) × (b ≡ None)
+pub neither : {X : Type 0} (a b : Option X) → option_or a b ≡ None → (a ≡ None) × (b ≡ None)
 neither None b e = (refl, e)
 neither (Some x) b e = cc
 
-no_kind : (a : List ℕ) (k : Option FaultKind) → fault_at a k ≡ None → k ≡ None
+pub no_kind : (a : List ℕ) (k : Option FaultKind) → fault_at a k ≡ None → k ≡ None
 no_kind a None e = refl
 no_kind a (Some k) e = cc
 
@@ -74,7 +74,7 @@ is_clear d around b body n (suc i) (holder k inside rest) x h e =
     subst (λ j. IsClear d around b body j x) number (is_clear d around b body (suc n) i rest x deeper.1 e)
 
 -- the component of item i, of which the body is this
-inner-own : (i : ℕ) (t s : Items) → inner i t ≡ Some s → (x : Item) × (k : Kind) × (slice_get (list_of t) i ≡ Some x) × (own_component x ≡ Some (record { kind = k; body = s }))
+pub inner-own : (i : ℕ) (t s : Items) → inner i t ≡ Some s → (x : Item) × (k : Kind) × (slice_get (list_of t) i ≡ Some x) × (own_component x ≡ Some (record { kind = k; body = s }))
 inner-own i no_items s e = cc
 inner-own zero (plain p rest) s e = cc
 inner-own (suc i) (plain p rest) s e = inner-own i rest s e
@@ -108,7 +108,7 @@ clear-below d (k ∷ j ∷ a) around b body c h e = into (λ kind t. clear-below
         let deeper = clear-component d around b body k held.0 (record { kind = held.1; body = t }) h held.2 held.3 in
         ap (λ z. inside_fault d z (Some c)) (sym (append_assoc b (k ∷ []) (j ∷ a))) ∙ ih held.1 t deeper e
 
-no_first : (d : Items) → fault_of d ≡ None → first_fault d None [] d 0 d ≡ None
+pub no_first : (d : Items) → fault_of d ≡ None → first_fault d None [] d 0 d ≡ None
 no_first d h = by (is_too_large d) h
   where
     by : (z : Bool) → ◌≡◌ {A = Option Fault} (elim z [ true ↦ Some (record { kind = DescriptionTooLarge; address = [] }) | false ↦ first_fault d None [] d 0 d ]) None → first_fault d None [] d 0 d ≡ None

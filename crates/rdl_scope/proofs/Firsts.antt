@@ -25,7 +25,7 @@ last_of-end (b ∷ c ∷ path) a h =
 
 pub ruleset lasts = (last_of-end)
 
-first-add : (d : Items) (around : Option Kind) (b : List ℕ) (body : Items) (n : ℕ) (x : Item) (rest : Items)
+pub first-add : (d : Items) (around : Option Kind) (b : List ℕ) (body : Items) (n : ℕ) (x : Item) (rest : Items)
     → first_fault d around b body n (add x rest) ≡ option_or (fault_at (b ++ n ∷ []) (item_fault d around b body n x)) (option_or (inside_fault d (b ++ n ∷ []) (own_component x)) (first_fault d around b body (suc n) rest))
 first-add d around b body n (Define m c) rest = refl
 first-add d around b body n (Instance s (Named t)) rest = refl

@@ -4,13 +4,16 @@ pub mod Bodies
 pub mod Depths
 pub mod Examples
 pub mod Firsts
+pub mod Flats
 pub mod Fronts
 pub mod Holds
 pub mod InstanceKinds
 pub mod Instances
 pub mod Known
 pub mod Levelled
+pub mod OneChange
 pub mod OuterAssignments
+pub mod Outlines
 pub mod Passing
 pub mod Products
 pub mod Repeats
@@ -20,4 +23,5 @@ pub mod Sizes
 pub mod Spots
 pub mod StandingBefore
 pub mod TargetKinds
+pub mod Unchanged
 pub mod ValueSearches

@@ -86,6 +86,8 @@ dynamic-key target name (suc n) (plain (dynamic u p v) rest) = ap (λ b. (bytes_
 dynamic-key target name (suc n) (holder (define m k) body rest) = dynamic-key target name n rest
 dynamic-key target name (suc n) (holder (anonymous s k) body rest) = dynamic-key target name n rest
 
+pub ruleset dynamic_keys = (dynamic-key)
+
 or-swap : (a b c : Bool) → a || (b || c) ≡ b || (a || c)
 or-swap true true c = refl
 or-swap true false c = refl

@@ -37,7 +37,7 @@ use rdl_tree::value::Value;
 use std::alloc::{AllocError, Global};
 use std::mem;
 
-fn kind_at(description: &Description, address: &Address) -> Option<Kind>
+pub(crate) fn kind_at(description: &Description, address: &Address) -> Option<Kind>
     ensures { result ≡ kind_at description.now.items address.now }
 {
     match component_at(description, address) {
@@ -46,7 +46,7 @@ fn kind_at(description: &Description, address: &Address) -> Option<Kind>
     }
 }
 
-fn instance_kind(description: &Description, address: &Address) -> Option<Kind>
+pub(crate) fn instance_kind(description: &Description, address: &Address) -> Option<Kind>
     ensures { result ≡ instance_kind description.now.items address.now }
 {
     kind_at(description, &component_of(description, address)?)
@@ -55,7 +55,7 @@ fn instance_kind(description: &Description, address: &Address) -> Option<Kind>
 /// The kind of the component to which names lead, the first of them among the first `n` items of the body at this
 /// address.
 #[tactic(auto, using(crate::proofs::Firsts::lasts))]
-fn names_kind(
+pub(crate) fn names_kind(
     alloc: Global,
     description: &Description,
     body: &Address,
@@ -117,7 +117,7 @@ fn target_kind<'a>(
     }
 }
 
-fn is_set(value: Option<&Value>) -> bool
+pub(crate) fn is_set(value: Option<&Value>) -> bool
     ensures { result ≡ is_set (option_copied value.entry) }
 {
     match value {
@@ -333,7 +333,7 @@ fn first_fault<'a>(
 }
 
 /// Whether nesting, items or weight are over the limits.
-fn is_too_large(description: &Description) -> bool
+pub(crate) fn is_too_large(description: &Description) -> bool
     ensures { result ≡ is_too_large description.now.items }
 {
     let size = body_size(&description.items);

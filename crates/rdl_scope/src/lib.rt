@@ -12,6 +12,7 @@ mod kinds;
 pub mod laws;
 mod levels;
 mod names;
+pub mod one_item;
 mod passed;
 mod places;
 pub mod shells;

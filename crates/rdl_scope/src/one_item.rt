@@ -1,0 +1,171 @@
+//! The fault of one item, where no other item can have one.
+ghost use Rattle.std.specs.Prelude.{◌≡◌, ◌∷◌, ℕ, true, ◌≤◌, ◌<◌, length, Option, Some, None, IfOk, IfErr, OnOk, ◌⊎◌, slice_get};
+ghost use Rattle.std.specs.Option.{is_some};
+ghost use Rattle.std.specs.Cmp.Lexicographic.{pointwise};
+ghost use Rattle.std.specs.Prelude.{bytes_eq};
+ghost use Rattle.rdl_tree.specs.Depth.{depth};
+ghost use Rattle.rdl_tree.specs.View.{list_of};
+ghost use Rattle.rdl_scope.specs.Types.{last_definition};
+ghost use Rattle.rdl_scope.specs.Target.{instance_before};
+ghost use Rattle.rdl_scope.specs.Value.{own_before, last_default};
+ghost use Rattle.rdl_scope.specs.Keys.{has_key, key_before};
+ghost use Rattle.rdl_scope.specs.ItemFaults.{reached_before, is_excluded, excluded_by, item_fault, fault_of, out_of_memory};
+ghost use Rattle.rdl_scope.specs.OneItem.{fault_of_item, NoOtherFault};
+
+use crate::assignments::{default_fault, dynamic_fault, own_fault, rivals};
+use crate::faults::{check, instance_kind, is_set, is_too_large, kind_at, names_kind};
+use crate::kinds::define_fault;
+use crate::shells::instance_fault;
+use crate::targets::instance_before;
+use crate::types::{item_at, last_definition};
+use crate::values::{last_default, own_before};
+use rdl_text::name::Name;
+use rdl_tree::address::Address;
+use rdl_tree::description::{Body, Description, Item};
+use rdl_tree::fault::{Fault, FaultKind};
+use rdl_tree::properties::property;
+use rdl_tree::property::Property;
+use rdl_tree::shell::Kind;
+use std::alloc::{AllocError, Global};
+
+/// Whether the names are the same, in the same order.
+fn are_same(names: &[Name], others: &[Name]) -> bool
+    ensures { result ≡ pointwise bytes_eq names.now others.now }
+{
+    names == others
+}
+
+/// Whether the item is a dynamic assignment of this property to this target.
+fn repeats(item: &Item, target: &[Name], name: &Name) -> bool
+    ensures { result ≡ has_key (name.now ∷ target.now) item.now }
+{
+    match item {
+        Item::Dynamic(names, property, _) => { property == name && are_same(names.names(), target) }
+        _ => false,
+    }
+}
+
+fn is_repeated(items: &[Item], n: usize, target: &[Name], name: &Name) -> bool
+    ensures { result ≡ key_before (name.now ∷ target.now) n items.now }
+{
+    items.iter().take(n).any(|item| repeats(item, target, name))
+}
+
+/// Whether a dynamic assignment of this property to this target stands among the first `n` items.
+#[tactic(auto, using(crate::proofs::Repeats::dynamic_keys))]
+fn reached_before(body: &Body, n: usize, target: &[Name], name: &Name) -> bool
+    ensures { result ≡ reached_before target.now name.now n body.now }
+{
+    is_repeated(body.as_slice(), n, target, name)
+}
+
+/// Whether a rival of the property is set among the first `n` items.
+fn is_excluded(n: usize, body: &Body, property: Property) -> bool
+    ensures { result ≡ is_excluded n body.now property }
+{
+    rivals(property)
+        .iter()
+        .any(|rival| is_set(own_before(body, n, rival.name())))
+}
+
+fn excluded_by(n: usize, body: &Body, property: Option<Property>) -> bool
+    ensures { result ≡ excluded_by n body.now property }
+{
+    match property {
+        Some(property) => is_excluded(n, body, property),
+        None => false,
+    }
+}
+
+/// The fault of item `n` of the body at this address, which is that of a component of this kind, or the root.
+#[tactic(auto, unfolding(crate::specs::ItemFaults::item_fault))]
+fn item_fault(
+    alloc: Global,
+    description: &Description,
+    around: Option<Kind>,
+    at: &Address,
+    body: &Body,
+    n: usize,
+    item: &Item,
+) -> Result<Option<FaultKind>, AllocError>
+    requires nesting { depth description.now.items ≤ 16 }
+    requires room { length at.now < 17 }
+    ensures { IfOk result (λ fault. fault ≡ item_fault description.now.items around at.now body.now n item.now) }
+{
+    match item {
+        Item::Define(name, component) => {
+            let twice = last_definition(body, n, name).is_some();
+            Ok(define_fault(around, twice, component.kind))
+        }
+        Item::Instance(shell, _) => {
+            let twice = instance_before(body, n, &shell.name).is_some();
+            let kind = instance_kind(description, &at.inside(n));
+            Ok(instance_fault(around, twice, shell, kind))
+        }
+        Item::Own(name, value) => {
+            let property = property(name.as_str());
+            let excluded = excluded_by(n, body, property);
+            let twice = own_before(body, n, name.as_str()).is_some();
+            Ok(own_fault(around, twice, excluded, property, value))
+        }
+        Item::Default(name, value) => {
+            let twice = last_default(body, n, name.as_str()).is_some();
+            Ok(default_fault(twice, property(name.as_str()), value))
+        }
+        Item::Dynamic(target, name, value) => {
+            let twice = reached_before(body, n, target.names(), name);
+            let kind = names_kind(alloc, description, at, n, target.names())?;
+            Ok(dynamic_fault(twice, property(name.as_str()), value, kind))
+        }
+    }
+}
+
+/// The fault of the item at this address.
+fn fault_of_item(
+    alloc: Global,
+    description: &Description,
+    at: &Address,
+) -> Result<Option<FaultKind>, AllocError>
+    requires { depth description.now.items ≤ 16 }
+    ensures { IfOk result (λ fault. fault ≡ fault_of_item description.now.items at.now) }
+{
+    let Some(item) = item_at(&description.items, at.as_slice()) else {
+        return Ok(None);
+    };
+    let holder = at.holder();
+    let Some(body) = description.body(&holder) else {
+        return Ok(None);
+    };
+    let around = kind_at(description, &holder);
+    item_fault(alloc, description, around, &holder, body, at.number(), item)
+}
+
+/// Whether the description is within the limits, and the item at this address has no fault.
+fn is_clear(alloc: Global, description: &Description, at: &Address) -> Result<bool, AllocError>
+    requires { NoOtherFault description.now.items at.now }
+    ensures clear { IfOk result (λ clear. clear ≡ true → fault_of description.now.items ≡ None) }
+    ensures levels { IfOk result (λ clear. clear ≡ true → depth description.now.items ≤ 16) }
+{
+    if is_too_large(description) {
+        return Ok(false);
+    }
+    Ok(fault_of_item(alloc, description, at)?.is_none())
+}
+
+/// Does the same as `check`, where no item but the one at this address can have a fault: that one is judged alone, and
+/// the others only if it has a fault.
+pub fn check_item(alloc: Global, description: &Description, at: &Address) -> Result<(), Fault>
+    requires { NoOtherFault description.now.items at.now }
+    ensures ok { OnOk result (fault_of description.now.items ≡ None) }
+    ensures levels { OnOk result (depth description.now.items ≤ 16) }
+    ensures err { IfErr result (λ fault. (fault_of description.now.items ≡ Some fault) ⊎ (fault ≡ out_of_memory)) }
+{
+    match is_clear(alloc, description, at) {
+        Ok(true) => Ok(()),
+        Ok(false) => check(alloc, description),
+        Err(_) => Err(Fault {
+            kind: FaultKind::Memory,
+            address: Address::new(),
+        }),
+    }
+}
