@@ -13,7 +13,6 @@ ghost use Rattle.rdl_scope.specs.Scopes.{number_under, scope_found, level_found,
 ghost use Rattle.rdl_scope.specs.Walk.{found};
 ghost use Rattle.rdl_scope.specs.ItemFaults.{kind_at, instance_kind, target_kind, is_set, is_excluded, excluded_by, item_fault, fault_at, first_fault, inside_fault, is_too_large, fault_of, out_of_memory};
 ghost use Rattle.rdl_tree.specs.View.{list_of};
-ghost use Rattle.rdl_scope.specs.OneItem.{NoOtherFault};
 
 use crate::assignments::{default_fault, dynamic_fault, own_fault, rivals};
 use crate::keys::target_key;
@@ -377,14 +376,4 @@ pub fn check(alloc: Global, description: &Description) -> Result<(), Fault>
             address: Address::new(),
         }),
     }
-}
-
-/// Does the same as `check`, of a description in which no item but the one at this address may have a fault.
-pub fn check_item(alloc: Global, description: &Description, _at: &Address) -> Result<(), Fault>
-    requires { NoOtherFault description.now.items _at.now }
-    ensures ok { OnOk result (fault_of description.now.items ≡ None) }
-    ensures levels { OnOk result (depth description.now.items ≤ 16) }
-    ensures err { IfErr result (λ fault. (fault_of description.now.items ≡ Some fault) ⊎ (fault ≡ out_of_memory)) }
-{
-    check(alloc, description)
 }
