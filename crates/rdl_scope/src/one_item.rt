@@ -1,15 +1,14 @@
 //! The fault of one item, where no other item can have one.
-ghost use Rattle.std.specs.Prelude.{◌≡◌, ◌∷◌, ℕ, true, ◌≤◌, ◌<◌, length, Option, Some, None, IfOk, IfErr, OnOk, ◌⊎◌, slice_get};
+ghost use Rattle.std.specs.Prelude.{◌≡◌, ◌∷◌, ℕ, true, ◌≤◌, ◌<◌, length, Option, Some, None, IfOk, IfErr, OnOk, ◌⊎◌, bytes_eq};
 ghost use Rattle.std.specs.Option.{is_some};
 ghost use Rattle.std.specs.Cmp.Lexicographic.{pointwise};
-ghost use Rattle.std.specs.Prelude.{bytes_eq};
 ghost use Rattle.rdl_tree.specs.Depth.{depth};
-ghost use Rattle.rdl_tree.specs.View.{list_of};
+ghost use Rattle.rdl_tree.specs.Properties.{property_of};
 ghost use Rattle.rdl_scope.specs.Types.{last_definition};
 ghost use Rattle.rdl_scope.specs.Target.{instance_before};
 ghost use Rattle.rdl_scope.specs.Value.{own_before, last_default};
 ghost use Rattle.rdl_scope.specs.Keys.{has_key, key_before};
-ghost use Rattle.rdl_scope.specs.ItemFaults.{reached_before, is_excluded, excluded_by, item_fault, fault_of, out_of_memory};
+ghost use Rattle.rdl_scope.specs.ItemFaults.{reached_before, is_excluded, excluded_by, own_fault, item_fault, fault_of, out_of_memory};
 ghost use Rattle.rdl_scope.specs.OneItem.{fault_of_item, NoOtherFault};
 
 use crate::assignments::{default_fault, dynamic_fault, own_fault, rivals};
@@ -26,6 +25,7 @@ use rdl_tree::fault::{Fault, FaultKind};
 use rdl_tree::properties::property;
 use rdl_tree::property::Property;
 use rdl_tree::shell::Kind;
+use rdl_tree::value::Value;
 use std::alloc::{AllocError, Global};
 
 /// Whether the names are the same, in the same order.
@@ -77,6 +77,22 @@ fn excluded_by(n: usize, body: &Body, property: Option<Property>) -> bool
     }
 }
 
+/// The fault of an own assignment that is item `n` of a body of this kind.
+fn own_item_fault(
+    around: Option<Kind>,
+    body: &Body,
+    n: usize,
+    name: &Name,
+    value: &Value,
+) -> Option<FaultKind>
+    ensures { result ≡ own_fault around (is_some (own_before name.now n body.now)) (excluded_by n body.now (property_of name.now)) (property_of name.now) value.now }
+{
+    let property = property(name.as_str());
+    let excluded = excluded_by(n, body, property);
+    let twice = own_before(body, n, name.as_str()).is_some();
+    own_fault(around, twice, excluded, property, value)
+}
+
 /// The fault of item `n` of the body at this address, which is that of a component of this kind, or the root.
 #[tactic(auto, unfolding(crate::specs::ItemFaults::item_fault))]
 fn item_fault(
@@ -102,12 +118,7 @@ fn item_fault(
             let kind = instance_kind(description, &at.inside(n));
             Ok(instance_fault(around, twice, shell, kind))
         }
-        Item::Own(name, value) => {
-            let property = property(name.as_str());
-            let excluded = excluded_by(n, body, property);
-            let twice = own_before(body, n, name.as_str()).is_some();
-            Ok(own_fault(around, twice, excluded, property, value))
-        }
+        Item::Own(name, value) => Ok(own_item_fault(around, body, n, name, value)),
         Item::Default(name, value) => {
             let twice = last_default(body, n, name.as_str()).is_some();
             Ok(default_fault(twice, property(name.as_str()), value))
