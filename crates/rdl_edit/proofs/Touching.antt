@@ -1,10 +1,10 @@
 -- What is known of a step of one patch.
-use Rattle.std.proofs.Common.{◌≡◌, ℕ, suc, true, false, List, [], ◌∷◌, length, get_or, None, Some, ap, arith}
+use Rattle.std.proofs.Common.{◌≡◌, ℕ, suc, true, false, List, [], ◌∷◌, length, get_or, None, Some, ap, ◌∙◌, arith}
 use Rattle.rdl_tree.specs.Items.{Items}
 use Rattle.rdl_tree.specs.ItemAt.{item_at}
 use Rattle.rdl_tree.specs.Patch.{patched, image}
 use Rattle.rdl_tree.specs.declared.patch.Patch.{Patch}
-use Rattle.rdl_tree.specs.declared.patch.Patch.TheVariants.{Exchange}
+use Rattle.rdl_tree.specs.declared.patch.Patch.TheVariants.{Insert, Exchange}
 use Rattle.rdl_tree.specs.declared.part.Part.{Part}
 use Rattle.rdl_tree.specs.declared.part.Part.TheVariants.{OfShell, OfValue, OfTarget, OfType, OfDefine}
 use Rattle.rdl_tree.specs.declared.description.Item.{Item}
@@ -13,9 +13,10 @@ use Rattle.rdl_tree.specs.declared.shell.Shell.{Shell}
 use Rattle.rdl_tree.specs.declared.description.Of.{Of}
 use Rattle.rdl_scope.specs.ItemFaults.{fault_of}
 use Rattle.rdl_scope.specs.OneItem.{NoOtherFault}
+use Rattle.rdl_scope.proofs.OneChange.{item-item_at, new_shell, new_value, last_dynamic}
 use Rattle.rdl_elab.specs.Skeleton.{skeleton}
 use Rattle.rdl_edit.specs.Still.{is_still, IsStillPart, IsStill}
-use Rattle.rdl_edit.specs.Touching.{IsStillShell, IsAlone}
+use Rattle.rdl_edit.specs.Touching.{IsStillShell, IsAlone, IsLast, is_dynamic}
 use Rattle.rdl_edit.proofs.Staying.{skeleton-stays}
 
 -- an instance that says the same of its place
@@ -50,6 +51,26 @@ one-still p d h = skeleton-stays (p ∷ []) d (h, tt)
 
 -- a part by which no other item has a fault
 pub one-alone : (at : List ℕ) (part : Part) (x : Item) (d : Items) → fault_of d ≡ None → item_at at d ≡ Some x → IsAlone part x → NoOtherFault (patched (Exchange at part) d) at
-one-alone at part x d none is h = ?
+one-alone at (OfShell new) (Instance s o) d none is h = new_shell d at s new o none (item-item_at at d ∙ is) h
+one-alone at (OfValue new) (Instance s o) d none is h = absurd h
+one-alone at (OfTarget new) (Instance s o) d none is h = absurd h
+one-alone at (OfType new) (Instance s o) d none is h = absurd h
+one-alone at (OfDefine new) (Instance s o) d none is h = absurd h
+one-alone at (OfShell new) (Dynamic t p v) d none is h = absurd h
+one-alone at (OfValue new) (Dynamic t p v) d none is h = new_value d at t p v new none (item-item_at at d ∙ is)
+one-alone at (OfTarget new) (Dynamic t p v) d none is h = absurd h
+one-alone at (OfType new) (Dynamic t p v) d none is h = absurd h
+one-alone at (OfDefine new) (Dynamic t p v) d none is h = absurd h
+one-alone at part (Define n c) d none is h = absurd h
+one-alone at part (Own p v) d none is h = absurd h
+one-alone at part (Default p v) d none is h = absurd h
+
+-- an item by which no other item has a fault where it is put in
+pub put-alone : (at : List ℕ) (x : Item) (d : Items) → fault_of d ≡ None → IsLast at d → is_dynamic x ≡ true → NoOtherFault (patched (Insert at x) d) at
+put-alone at (Dynamic t p v) d none end h = last_dynamic d end.body at t p v none end.inside end.held end.last
+put-alone at (Define n c) d none end h = cc
+put-alone at (Instance s o) d none end h = cc
+put-alone at (Own p v) d none end h = cc
+put-alone at (Default p v) d none end h = cc
 
 pub ruleset still_parts = (still-shell, still-part)

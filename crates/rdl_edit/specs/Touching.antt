@@ -1,8 +1,10 @@
 -- What is known of a step before it is taken, so that less is judged and laid out behind it.
 -- own: SystemRDL 2.0 has no edits.
-use Rattle.std.specs.Prelude.{◌≡◌, Bool, true, List}
+use Rattle.std.specs.Prelude.{◌≡◌, ◌<◌, ℕ, Bool, true, false, List, length, Some}
 use Rattle.rdl_tree.specs.Items.{Items}
+use Rattle.rdl_tree.specs.Address.{holder_of, number_of, body_at}
 use Rattle.rdl_tree.specs.Patch.{image}
+use Rattle.rdl_tree.specs.View.{list_of}
 use Rattle.rdl_tree.specs.declared.patch.Patch.{Patch}
 use Rattle.rdl_tree.specs.declared.part.Part.{Part}
 use Rattle.rdl_tree.specs.declared.part.Part.TheVariants.{OfShell, OfValue}
@@ -36,6 +38,17 @@ abbrev pub IsAlone : Part → Item → Type 0
 IsAlone part (Instance s o) = IsNamesake part s
 IsAlone part (Dynamic t p v) = IsValue part
 IsAlone part x = ⊥
+
+abbrev pub is_dynamic : Item → Bool
+is_dynamic (Dynamic t p v) = true
+is_dynamic x = false
+
+-- behind the last item of a body
+pub record IsLast (at : List ℕ) (d : Items) : Type 0 where
+  pub inside : 0 < length at
+  pub body : Items
+  pub held : body_at (holder_of at) d ≡ Some body
+  pub last : number_of at ≡ length (list_of body)
 
 -- behind the step no other item than this one may have a fault, and the skeleton is as before
 abbrev pub IsTouched : Touched → List Patch → Items → Type 0

@@ -6,7 +6,7 @@ ghost use Rattle.rdl_scope.specs.OneItem.{NoOtherFault};
 ghost use Rattle.rdl_elab.specs.Reach.{SaysTheSame};
 ghost use Rattle.rdl_elab.specs.Skeleton.{skeleton, lays_out};
 ghost use Rattle.rdl_edit.specs.Still.{is_still, IsStill, IsStillPart};
-ghost use Rattle.rdl_edit.specs.Touching.{IsTouched, IsStillShell, IsNamesake, IsValue, IsAlone};
+ghost use Rattle.rdl_edit.specs.Touching.{IsTouched, IsStillShell, IsNamesake, IsValue, IsAlone, is_dynamic, IsLast};
 
 use rdl_text::name::Name;
 use rdl_tree::address::Address;
@@ -137,6 +137,25 @@ fn is_alone(part: &Part, item: &Item) -> bool
     }
 }
 
+fn is_dynamic(item: &Item) -> bool
+    ensures { result ≡ is_dynamic item.now }
+{
+    matches!(item, Item::Dynamic(_, _, _))
+}
+
+/// Whether an item that gets this address stands behind the last one of its body.
+fn is_last(description: &Description, at: &Address) -> bool
+    ensures { result ≡ true → IsLast at.now description.now.items }
+{
+    if at.is_empty() {
+        return false;
+    }
+    match description.body(&at.holder()) {
+        Some(body) => at.number() == body.len(),
+        None => false,
+    }
+}
+
 /// The item that alone may have a fault behind this patch, if it is known.
 fn touched_item(description: &Description, patch: &Patch) -> Option<Address>
     requires { fault_of description.now.items ≡ None }
@@ -147,6 +166,9 @@ fn touched_item(description: &Description, patch: &Patch) -> Option<Address>
             Some(item) if is_alone(part, item) => Some(at.copy()),
             _ => None,
         },
+        Patch::Insert(at, item) if is_dynamic(item) && is_last(description, at) => {
+            Some(at.copy())
+        }
         _ => None,
     }
 }

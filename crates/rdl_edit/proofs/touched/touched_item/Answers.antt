@@ -1,18 +1,29 @@
-use Rattle.std.proofs.Common.{◌≡◌, ℕ, List, Some, option_copied, ap, sym, subst, ◌∙◌}
+use Rattle.std.proofs.Common.{◌≡◌, ℕ, List, true, Some, ap, sym, subst, ◌∙◌, rules}
 use Rattle.rdl_tree.specs.ItemAt.{item_at}
 use Rattle.rdl_tree.specs.Patch.{patched}
 use Rattle.rdl_tree.specs.declared.patch.Patch.{Patch}
-use Rattle.rdl_tree.specs.declared.patch.Patch.TheVariants.{Exchange}
+use Rattle.rdl_tree.specs.declared.patch.Patch.TheVariants.{Insert, Exchange}
 use Rattle.rdl_scope.specs.OneItem.{NoOtherFault}
-use Rattle.rdl_edit.proofs.Touching.{one-alone}
+use Rattle.rdl_edit.specs.Touching.{IsLast, is_dynamic}
+use Rattle.rdl_edit.proofs.Touching.{one-alone, put-alone}
 use Rattle.rdl_edit.proofs.touched.touched_item.Goals as goal
 
 pub returns-in-Some : goal.returns-in-Some
 returns-in-Some c =
     let d = c.args.description.now.items in
-    let at = c.in-Exchange.at.now in
-    let part = c.in-Exchange.part.now in
+    let at = c.in-Exchange.at in
+    let part = c.in-Exchange.part in
     let item = c.in-Some.item.now in
-    let there : item_at at d ≡ Some item = ? in
+    let there : item_at at d ≡ Some item = search rules in
     subst (λ (p : Patch). NoOtherFault (patched p d) c.copy.result) (sym c.in-Exchange.is)
     (subst (λ (a : List ℕ). NoOtherFault (patched (Exchange at part) d) a) (sym c.copy.ensures) (one-alone at part item d c.requires there (c.is_alone.ensures c.if-is_alone.true)))
+
+pub returns-in-Insert : goal.returns-in-Insert
+returns-in-Insert c =
+    let d = c.args.description.now.items in
+    let at = c.in-Insert.at in
+    let item = c.in-Insert.item in
+    let last : IsLast at d = search rules in
+    let is : is_dynamic item ≡ true = search rules in
+    subst (λ (p : Patch). NoOtherFault (patched p d) c.copy-in-Insert.result) (sym c.in-Insert.is)
+    (subst (λ (a : List ℕ). NoOtherFault (patched (Insert at item) d) a) (sym c.copy-in-Insert.ensures) (put-alone at item d c.requires last is))
