@@ -14,9 +14,11 @@ use Rattle.rdl_tree.specs.declared.description.Of.{Of}
 use Rattle.rdl_scope.specs.ItemFaults.{fault_of}
 use Rattle.rdl_scope.specs.OneItem.{NoOtherFault}
 use Rattle.rdl_scope.proofs.OneChange.{item-item_at, new_shell, new_value, last_dynamic}
+use Rattle.rdl_elab.specs.HarmlessPlaces.{IsLast}
 use Rattle.rdl_elab.specs.Skeleton.{skeleton}
+use Rattle.rdl_elab.specs.Harmless.{IsHarmless}
 use Rattle.rdl_edit.specs.Still.{is_still, IsStillPart, IsStill}
-use Rattle.rdl_edit.specs.Touching.{IsStillShell, IsAlone, IsLast, is_dynamic}
+use Rattle.rdl_edit.specs.Touching.{IsStillShell, IsAlone, KeepsRows, is_dynamic}
 use Rattle.rdl_edit.proofs.Staying.{skeleton-stays}
 
 -- an instance that says the same of its place
@@ -72,5 +74,11 @@ put-alone at (Define n c) d none end h = cc
 put-alone at (Instance s o) d none end h = cc
 put-alone at (Own p v) d none end h = cc
 put-alone at (Default p v) d none end h = cc
+
+-- a step of one harmless patch
+pub one-harmless : (p : Patch) (d : Items) → IsHarmless p d → KeepsRows (p ∷ []) d
+one-harmless p d h wanted rows none = ?
+
+pub ruleset steps = (one-still, one-harmless)
 
 pub ruleset still_parts = (still-shell, still-part)

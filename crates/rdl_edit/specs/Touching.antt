@@ -1,23 +1,23 @@
 -- What is known of a step before it is taken, so that less is judged and laid out behind it.
 -- own: SystemRDL 2.0 has no edits.
-use Rattle.std.specs.Prelude.{◌≡◌, ◌<◌, ℕ, Bool, true, false, List, length, Some}
+use Rattle.std.specs.Prelude.{◌≡◌, ℕ, Bool, true, false, List, Option, None}
 use Rattle.rdl_tree.specs.Items.{Items}
-use Rattle.rdl_tree.specs.Address.{holder_of, number_of, body_at}
 use Rattle.rdl_tree.specs.Patch.{image}
-use Rattle.rdl_tree.specs.View.{list_of}
 use Rattle.rdl_tree.specs.declared.patch.Patch.{Patch}
 use Rattle.rdl_tree.specs.declared.part.Part.{Part}
 use Rattle.rdl_tree.specs.declared.part.Part.TheVariants.{OfShell, OfValue}
 use Rattle.rdl_tree.specs.declared.description.Item.{Item}
 use Rattle.rdl_tree.specs.declared.description.Item.TheVariants.{Instance, Dynamic}
 use Rattle.rdl_tree.specs.declared.shell.Shell.{Shell}
+use Rattle.rdl_scope.specs.ItemFaults.{fault_of}
 use Rattle.rdl_scope.specs.OneItem.{NoOtherFault}
 use Rattle.rdl_elab.specs.AllKept.{KeptLayouts}
+use Rattle.rdl_elab.specs.Known.{HasRows}
 use Rattle.rdl_elab.specs.SameSkeleton.{HasSameSkeleton}
 use Rattle.rdl_elab.specs.Reach.{SaysTheSame}
 use Rattle.rdl_elab.specs.Skeleton.{skeleton}
 use Rattle.rdl_edit.specs.declared.touched.Touched.{Touched}
-use Rattle.rdl_edit.specs.declared.touched.Touched.TheVariants.{Any, One, Still}
+use Rattle.rdl_edit.specs.declared.touched.Touched.TheVariants.{Any, One, Still, Harmless}
 
 -- an instance says the same of its place with the shell that this part is
 abbrev pub IsStillShell : Part → Shell → Type 0
@@ -43,24 +43,23 @@ abbrev pub is_dynamic : Item → Bool
 is_dynamic (Dynamic t p v) = true
 is_dynamic x = false
 
--- behind the last item of a body
-pub record IsLast (at : List ℕ) (d : Items) : Type 0 where
-  pub inside : 0 < length at
-  pub body : Items
-  pub held : body_at (holder_of at) d ≡ Some body
-  pub last : number_of at ≡ length (list_of body)
+-- a map that has rows still has them behind the step, if no item has a fault
+abbrev pub KeepsRows : List Patch → Items → Type 0
+KeepsRows ps d = (wanted : Option (List ℕ)) → HasRows d wanted → fault_of (image ps d) ≡ None → HasRows (image ps d) wanted
 
--- behind the step no other item than this one may have a fault, and the skeleton is as before
+-- behind the step no other item than this one may have a fault; the skeleton is as before; and then there are rows
 abbrev pub IsTouched : Touched → List Patch → Items → Type 0
 IsTouched Any ps d = Unit {0}
 IsTouched (One at) ps d = NoOtherFault (image ps d) at
 IsTouched (Still at) ps d = NoOtherFault (image ps d) at × (skeleton (image ps d) ≡ skeleton d)
+IsTouched (Harmless at) ps d = NoOtherFault (image ps d) at × (skeleton (image ps d) ≡ skeleton d) × KeepsRows ps d
 
 -- the same of the description behind the step, where what is kept is of the one before it
 abbrev pub IsKnown : Touched → Items → KeptLayouts → Type 0
 IsKnown Any new k = Unit {0}
 IsKnown (One at) new k = NoOtherFault new at
 IsKnown (Still at) new k = NoOtherFault new at × HasSameSkeleton new k
+IsKnown (Harmless at) new k = NoOtherFault new at × HasSameSkeleton new k × (fault_of new ≡ None → HasRows new k.top)
 
 -- where a step is known to keep the skeleton, what is kept is of a description with this one's
 abbrev pub IfStill : Bool → Items → KeptLayouts → Type 0

@@ -1,13 +1,14 @@
 //! What is known of a step before it is taken.
-ghost use Rattle.std.specs.Prelude.{◌≡◌, true, None, IfSome};
+ghost use Rattle.std.specs.Prelude.{◌≡◌, ◌≤◌, ◌∷◌, [], true, None, IfSome};
+ghost use Rattle.rdl_tree.specs.Depth.{depth};
 ghost use Rattle.rdl_tree.specs.Patch.{patched, image};
 ghost use Rattle.rdl_scope.specs.ItemFaults.{fault_of};
 ghost use Rattle.rdl_scope.specs.OneItem.{NoOtherFault};
-ghost use Rattle.rdl_elab.specs.Reach.{SaysTheSame};
 ghost use Rattle.rdl_elab.specs.Skeleton.{skeleton, lays_out};
 ghost use Rattle.rdl_edit.specs.Still.{is_still, IsStill, IsStillPart};
-ghost use Rattle.rdl_edit.specs.Touching.{IsTouched, IsStillShell, IsNamesake, IsValue, IsAlone, is_dynamic, IsLast};
+ghost use Rattle.rdl_edit.specs.Touching.{IsTouched, IsStillShell, IsNamesake, IsValue, IsAlone, is_dynamic};
 
+use rdl_elab::harmless::{is_harmless, is_last, says_the_same};
 use rdl_text::name::Name;
 use rdl_tree::address::Address;
 use rdl_tree::description::{Description, Item};
@@ -15,6 +16,7 @@ use rdl_tree::part::Part;
 use rdl_tree::patch::Patch;
 use rdl_tree::properties::property;
 use rdl_tree::shell::Shell;
+use std::alloc::Global;
 
 /// What is known of a step.
 #[derive(Debug, Drop)]
@@ -25,17 +27,8 @@ pub(crate) enum Touched {
     One(Address),
     /// Nor does it change anything on which a layout depends.
     Still(Address),
-}
-
-/// Whether an instance says the same of its place with the other shell.
-fn says_the_same(shell: &Shell, other: &Shell) -> bool
-    ensures { result ≡ true → SaysTheSame shell.now other.now }
-{
-    shell.dims.as_slice() == other.dims.as_slice()
-        && shell.range.get() == other.range.get()
-        && shell.address.get() == other.address.get()
-        && shell.stride.get() == other.stride.get()
-        && shell.align.get() == other.align.get()
+    /// Nor anything on which a fault of a row depends, but for what fits.
+    Harmless(Address),
 }
 
 /// Whether layouts depend on the property of this name.
@@ -143,19 +136,6 @@ fn is_dynamic(item: &Item) -> bool
     matches!(item, Item::Dynamic(_, _, _))
 }
 
-/// Whether an item that gets this address stands behind the last one of its body.
-fn is_last(description: &Description, at: &Address) -> bool
-    ensures { result ≡ true → IsLast at.now description.now.items }
-{
-    if at.is_empty() {
-        return false;
-    }
-    match description.body(&at.holder()) {
-        Some(body) => at.number() == body.len(),
-        None => false,
-    }
-}
-
 /// The item that alone may have a fault behind this patch, if it is known.
 fn touched_item(description: &Description, patch: &Patch) -> Option<Address>
     requires { fault_of description.now.items ≡ None }
@@ -173,17 +153,32 @@ fn touched_item(description: &Description, patch: &Patch) -> Option<Address>
     }
 }
 
-/// What is known of the step from a description in which no item has a fault.
-pub(crate) fn touched_by(description: &Description, patches: &[Patch]) -> Touched
-    requires { fault_of description.now.items ≡ None }
+/// What is known of a step of this patch alone, where no other item than the one at this address may have a fault.
+fn touched_at(alloc: Global, description: &Description, patch: &Patch, at: Address) -> Touched
+    requires nesting { depth description.now.items ≤ 16 }
+    requires others { NoOtherFault (patched patch.now description.now.items) at }
+    ensures { IsTouched result (patch.now ∷ []) description.now.items }
+{
+    if !is_still_patch(description, patch) {
+        return Touched::One(at);
+    }
+    match is_harmless(alloc, description, patch) {
+        Ok(true) => Touched::Harmless(at),
+        Ok(false) | Err(_) => Touched::Still(at),
+    }
+}
+
+/// What is known of the step from a description in which no item has a fault. Where memory is wanted, that is less.
+pub(crate) fn touched_by(alloc: Global, description: &Description, patches: &[Patch]) -> Touched
+    requires nesting { depth description.now.items ≤ 16 }
+    requires faultless { fault_of description.now.items ≡ None }
     ensures { IsTouched result patches.now description.now.items }
 {
     let [patch] = patches else {
         return Touched::Any;
     };
     match touched_item(description, patch) {
-        Some(at) if keeps_skeleton(description, patches) => Touched::Still(at),
-        Some(at) => Touched::One(at),
+        Some(at) => touched_at(alloc, description, patch, at),
         None => Touched::Any,
     }
 }

@@ -57,6 +57,7 @@ fn lay_out(
         Touched::Any => kept.relay(alloc, description, name, &[]),
         Touched::One(item) => kept.relay_item(alloc, description, name, item),
         Touched::Still(item) => kept.stay_judged(alloc, description, item),
+        Touched::Harmless(item) => kept.stay_checked(alloc, description, item),
     }
 }
 
@@ -108,7 +109,7 @@ pub(crate) fn turn(
     ensures err { OnErr result (description.new.items ≡ description.old.items) }
     ensures unmoved { OnErr result (kept.new ≡ kept.old) }
 {
-    let touched = touched_by(description, patches.as_slice());
+    let touched = touched_by(alloc, description, patches.as_slice());
     let Ok(mut turned) = description.turn(alloc, patches) else {
         return Err(Refusal::Memory);
     };

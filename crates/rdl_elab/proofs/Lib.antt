@@ -27,6 +27,7 @@ pub mod Roots
 pub mod DefaultStacks
 pub mod ValueLists
 pub mod OnlyKept
+pub mod Wider
 pub mod Stays
 pub mod Onward
 pub mod ListedValues

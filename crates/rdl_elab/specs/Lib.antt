@@ -44,3 +44,5 @@ pub mod Tracked
 pub mod EditedBodies
 pub mod StatedValues
 pub mod SameSkeleton
+pub mod Harmless
+pub mod HarmlessPlaces

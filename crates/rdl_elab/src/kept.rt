@@ -20,6 +20,7 @@ use crate::numbers::number;
 use crate::row::Rows;
 use crate::stored::Stored;
 use crate::walk::lay_out_all;
+use rdl_scope::one_item::check_item;
 use rdl_scope::types::own_component;
 use rdl_tree::address::Address;
 use rdl_tree::description::Description;
@@ -401,6 +402,13 @@ impl Kept {
         }
     }
 
+    /// The name that was asked of the top.
+    fn asked(&self) -> Option<&str>
+        ensures { option_copied result ≡ self.now.top }
+    {
+        self.top.as_ref().map(|top| top.as_str())
+    }
+
     /// Keeps the layouts as they are for this description, which has the same skeleton and is known to have rows. No
     /// instance is placed.
     pub fn stay(&mut self, _description: &Description)
@@ -429,7 +437,7 @@ impl Kept {
         ensures refused { IfErr result (λ fault. (elaborated description.now.items self.old.top ≡ Err fault) ⊎ (fault ≡ out_of_memory)) }
         ensures err { OnErr result (self.new ≡ self.old) }
     {
-        let top = self.top.as_ref().map(|top| top.as_str());
+        let top = self.asked();
         let found = checked_top_but(alloc, description, top, item)?;
         match fault_with_top(alloc, &self.stored, description, &found) {
             Ok(None) => {
@@ -441,12 +449,33 @@ impl Kept {
         }
     }
 
+    /// Does the same, where the description is known to have rows if no item has a fault.
+    pub fn stay_checked(
+        &mut self,
+        alloc: Global,
+        description: &Description,
+        item: &Address,
+    ) -> Result<(), Fault>
+        requires skeleton { HasSameSkeleton description.now.items self.old }
+        requires others { NoOtherFault description.now.items item.now }
+        requires rows { fault_of description.now.items ≡ None → HasRows description.now.items self.old.top }
+        ensures layouts { OnOk result (AreOf description.now.items self.new) }
+        ensures top { OnOk result (self.new.top ≡ self.old.top) }
+        ensures placed { OnOk result (self.new.placed ≡ 0) }
+        ensures refused { IfErr result (λ fault. (elaborated description.now.items self.old.top ≡ Err fault) ⊎ (fault ≡ out_of_memory)) }
+        ensures err { OnErr result (self.new ≡ self.old) }
+    {
+        check_item(alloc, description, item)?;
+        self.stay(description);
+        Ok(())
+    }
+
     /// The rows of the description that was laid out last.
     pub fn rows(&self, alloc: Global, description: &Description) -> Result<Rows, AllocError>
         requires { AreOf description.now.items self.now }
         ensures { IfOk result (λ rows. elaborated description.now.items self.now.top ≡ Ok rows) }
     {
-        let top = self.top.as_ref().map(|top| top.as_str());
+        let top = self.asked();
         known_rows(alloc, description, top)
     }
 

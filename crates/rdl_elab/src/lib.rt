@@ -9,6 +9,7 @@ mod defaults;
 mod each_member;
 pub mod elaborate;
 mod finished;
+pub mod harmless;
 mod instances;
 pub mod kept;
 mod laid_out;

@@ -209,7 +209,7 @@ pub fn may_share(first: Option<&Value>, second: Option<&Value>) -> bool
 
 /// Whether the number has more bits than this.
 #[tactic(auto, using(crate::proofs::WideNumbers::within_word))]
-fn is_wider(number: Number, width: u64) -> bool
+pub(crate) fn is_wider(number: Number, width: u64) -> bool
     ensures { result ≡ nat_le (2 ^ width) number }
 {
     if width >= 128 {

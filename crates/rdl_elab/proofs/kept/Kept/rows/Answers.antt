@@ -4,5 +4,5 @@ use Rattle.rdl_elab.proofs.kept.Kept.rows.Goals as goal
 
 pub known_rows-requires : goal.known_rows-requires
 known_rows-requires c =
-    let same : option_copied c.map-top.result ≡ c.args.self.now.top = search rules in
+    let same : option_copied c.asked-top.result ≡ c.args.self.now.top = search rules in
     record { rows = c.requires.rows; are = ap (elaborated c.args.description.now.items) same ∙ c.requires.faultless }
