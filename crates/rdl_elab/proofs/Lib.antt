@@ -50,6 +50,8 @@ pub mod SameLevels
 pub mod FieldsInside
 pub mod KeptAnswers
 pub mod KnownRows
+pub mod Frames
+pub mod FramedRows
 pub mod Storing
 pub mod Coding
 pub mod Spelled

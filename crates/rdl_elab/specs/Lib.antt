@@ -44,3 +44,4 @@ pub mod Tracked
 pub mod EditedBodies
 pub mod StatedValues
 pub mod SameSkeleton
+pub mod Harmless
