@@ -156,7 +156,7 @@ module _ (keep : List ℕ → Bool) where
   inner-frame (suc i) (plain (dynamic t p v) rest) = either-way (inner (suc i)) (option_map (frame keep) (inner i rest)) t p v (frame keep rest) (inner-frame i rest) (inner-gap-suc i (frame keep rest) ∙ inner-frame i rest) (keep p)
   inner-frame (suc i) (holder h body rest) = inner-frame i rest
 
-  body-frame : (p : List ℕ) (t : Items) → body_at p (frame keep t) ≡ option_map (frame keep) (body_at p t)
+  pub body-frame : (p : List ℕ) (t : Items) → body_at p (frame keep t) ≡ option_map (frame keep) (body_at p t)
   body-frame [] t = refl
   body-frame (i ∷ p) t = ap (option_and_then (body_at p)) (inner-frame i t) ∙ into (λ b. body-frame p b) (inner i t)
     where

@@ -52,6 +52,8 @@ pub mod KeptAnswers
 pub mod KnownRows
 pub mod Frames
 pub mod FramedRows
+pub mod FramedChanges
+pub mod FramedAssignments
 pub mod Storing
 pub mod Coding
 pub mod Spelled
