@@ -1,15 +1,13 @@
 -- Descriptions of one frame have the same layouts, and their rows the same faults but for resets.
-use Rattle.std.proofs.Common.{◌≡◌, ℕ, suc, ◌+◌, ◌-◌, ◌^◌, ◌<◌, ◌≤◌, Bool, true, false, List, [], ◌∷◌, ◌++◌, map, Some, None, Option, option_map, Result, Ok, Err, refl, ap, sym, subst, ◌∙◌, arith, ◌⊎◌, inl, inr}
-use Rattle.std.specs.Prelude.{nat_lt, nat_le, max, unwrap_or, option_and_then, if◌then◌else◌}
+use Rattle.std.proofs.Common.{◌≡◌, ℕ, ◌+◌, ◌-◌, ◌^◌, ◌≤◌, Bool, true, false, List, [], ◌∷◌, ◌++◌, map, Some, None, Option, refl, ap, sym, ◌∙◌, arith}
+use Rattle.std.specs.Prelude.{nat_lt, max, unwrap_or, option_and_then, if◌then◌else◌}
 use Rattle.std.specs.Option.{option_or}
-use Rattle.std.proofs.lemmas.Bool.{le-ltb, ltb-false}
 use Rattle.rdl_tree.specs.Items.{Items}
-use Rattle.rdl_tree.specs.Properties.{row, on}
+use Rattle.rdl_tree.specs.Properties.{row}
 use Rattle.rdl_tree.specs.declared.shell.Kind.{Kind}
 use Rattle.rdl_tree.specs.declared.shell.Kind.TheVariants.{Addrmap, Regfile, Reg, Field}
 use Rattle.rdl_tree.specs.declared.shell.Shell.{Shell}
 use Rattle.rdl_tree.specs.declared.value.Value.{Value}
-use Rattle.rdl_tree.specs.declared.value.Value.TheVariants.{Number}
 use Rattle.rdl_tree.specs.declared.property.Property.{Property}
 use Rattle.rdl_tree.specs.declared.property.Property.TheVariants.{Addressing, Alignment, Regwidth, Accesswidth, Fieldwidth, Reset, Sw}
 use Rattle.rdl_tree.specs.declared.fault.Fault.{Fault}
@@ -17,7 +15,6 @@ use Rattle.rdl_tree.specs.declared.description.Item.TheVariants.{Instance}
 use Rattle.rdl_tree.specs.declared.description.Of.{Of}
 use Rattle.rdl_tree.specs.declared.fault.FaultKind.{FaultKind}
 use Rattle.rdl_tree.specs.declared.fault.FaultKind.TheVariants.{TooManyLevels, TooManyRows, EmptyComponent, MapTooLarge, AccessTooWide, StrideTooSmall, AddressOverlap, FieldPastRegister, FieldOverlap, ResetTooWide}
-use Rattle.rdl_scope.specs.Value.{shown}
 use Rattle.rdl_scope.specs.Types.{item}
 use Rattle.rdl_scope.specs.Closed.{Head, Parts, no_parts, part, Made, lookup, stated, head_value, component}
 use Rattle.rdl_scope.specs.ItemFaults.{first_of, fault_at, may_instantiate, fault_of}
@@ -31,7 +28,7 @@ use Rattle.rdl_elab.specs.Bits.{bits_by, bits_of, bits_from}
 use Rattle.rdl_elab.specs.Layouts.{values_of, number_in as number_of_value, power_in, width_in, mode_in, width_of, mode_inside, field_bits, member, laid_out, layouts, layout_of}
 use Rattle.rdl_elab.specs.Rows.{row_value, Around, Judged, judged_row, inside as around_inside, rows_in, top_layout, around_top, rows_below}
 use Rattle.rdl_elab.specs.Faults.{levels, count, is_empty, first_empty, overlaps_one, clashes, is_reset_too_wide, reset_of, kind_fault, row_fault, first_row_fault, fault_of_top}
-use Rattle.rdl_elab.specs.Found.{IsPartFound, ArePartsFound}
+use Rattle.rdl_elab.specs.Found.{ArePartsFound}
 use Rattle.rdl_elab.specs.Harmless.{bits_in, bits_said}
 use Rattle.rdl_elab.proofs.PartsFound.{parts-found}
 use Rattle.rdl_elab.proofs.FieldsInside.{kind-allowed}

@@ -1,27 +1,17 @@
 -- The frame of a description: all of it but the resets of instances, whether they are external, and some dynamic assignments.
 -- What the rows of a map depend on beside these is that of the frame.
-use Rattle.std.proofs.Common.{◌≡◌, ℕ, zero, suc, Bool, true, false, List, [], ◌∷◌, ◌++◌, map, length, Some, None, Option, option_map, refl, ap, sym, ◌∙◌, arith, ◌⊎◌, inl, inr}
-use Rattle.std.specs.Prelude.{option_and_then, slice_get, slice_set, insert, bytes_eq, if◌then◌else◌, ◌&&◌}
+use Rattle.std.proofs.Common.{◌≡◌, ℕ, zero, suc, Bool, true, false, List, [], ◌∷◌, ◌++◌, Some, None, Option, option_map, refl, ap, sym, ◌∙◌}
+use Rattle.std.specs.Prelude.{option_and_then, bytes_eq, if◌then◌else◌}
 use Rattle.std.specs.Option.{option_or}
-use Rattle.std.proofs.lemmas.Bool.{cases_Bool}
-use Rattle.std.proofs.lemmas.Slice.Eq.{bytes_eq-Decides}
 use Rattle.rdl_tree.specs.Items.{Items, no_items, plain, holder, Plain, named, own, default, dynamic, Holder, define, anonymous}
-use Rattle.rdl_tree.specs.View.{add, items_of}
-use Rattle.rdl_tree.specs.Address.{inner, map_inner, body_at, map_body}
-use Rattle.rdl_tree.specs.Component.{holder_kind}
+use Rattle.rdl_tree.specs.Address.{inner, body_at}
 use Rattle.rdl_tree.specs.Properties.{row}
-use Rattle.rdl_tree.specs.declared.shell.Kind.{Kind}
-use Rattle.rdl_tree.specs.declared.shell.Kind.TheVariants.{Addrmap, Regfile, Reg, Field}
 use Rattle.rdl_tree.specs.declared.shell.Shell.{Shell}
 use Rattle.rdl_tree.specs.declared.shell.Outside.TheVariants.{Unsaid}
 use Rattle.rdl_tree.specs.declared.value.Value.{Value}
 use Rattle.rdl_tree.specs.declared.property.Property.TheVariants.{Reset, Sw}
-use Rattle.rdl_tree.specs.declared.description.Item.{Item}
-use Rattle.rdl_tree.specs.declared.description.Item.TheVariants.{Define, Instance, Own, Default, Dynamic}
-use Rattle.rdl_tree.specs.declared.description.Of.TheVariants.{Named, Anonymous}
-use Rattle.rdl_tree.proofs.Places.{inner_some}
-use Rattle.rdl_scope.specs.Target.{passes, body_of}
-use Rattle.rdl_scope.specs.Value.{own_value, last_default, defaulted, nearest_default, stated_value, component_value, assigns, assigned_in, assigned, leads_to}
+use Rattle.rdl_scope.specs.Target.{passes}
+use Rattle.rdl_scope.specs.Value.{own_value, last_default, defaulted, nearest_default, stated_value, component_value}
 use Rattle.rdl_scope.specs.Closed.{Head, Parts, no_parts, part, Made, Standing, nothing, lookup, with_type, with_default, with_made, head_at, parts, component_in, component}
 use Rattle.rdl_scope.proofs.Outlines.{gap, outline, outline_plain, passes-same}
 use Rattle.rdl_scope.proofs.Flats.{flat_holder}

@@ -1,7 +1,7 @@
 -- Changes after which a map still has rows, as far as the place of the change tells: resets that fit their fields, and assignments on which
 -- no fault depends.
 -- own: SystemRDL 2.0 has no edits.
-use Rattle.std.specs.Prelude.{◌≡◌, ℕ, ◌+◌, ◌-◌, ◌^◌, ◌<◌, Bool, true, false, ◌||◌, List, [], ◌∷◌, length, Option, Some, None, option_and_then, bytes_eq, ◌⊎◌}
+use Rattle.std.specs.Prelude.{◌≡◌, ℕ, ◌+◌, ◌-◌, ◌^◌, ◌<◌, Bool, false, ◌||◌, List, [], ◌∷◌, length, Option, Some, None, option_and_then, bytes_eq, ◌⊎◌}
 use Rattle.rdl_tree.specs.Items.{Items}
 use Rattle.rdl_tree.specs.View.{list_of}
 use Rattle.rdl_tree.specs.Address.{holder_of, number_of, body_at}
