@@ -32,6 +32,7 @@ use Rattle.rdl_elab.specs.Found.{ArePartsFound}
 use Rattle.rdl_elab.specs.Harmless.{bits_in, bits_said}
 use Rattle.rdl_elab.proofs.PartsFound.{parts-found}
 use Rattle.rdl_elab.proofs.FieldsInside.{kind-allowed}
+use Rattle.rdl_elab.proofs.FieldWidths.{width-positive}
 use Rattle.rdl_elab.proofs.Frames.{frame_shell, frame_head, frame_parts, frame_made, own-frame}
 
 -- ---- The tests of faults.
@@ -62,13 +63,13 @@ first-both d (x ∷ xs) ys = ap (option_or (row_fault d x)) (first-both d xs ys)
 
 -- ---- The bits of a field.
 
-said-range : (next width : ℕ) (dims : List ℕ) (range : Option (ℕ × ℕ)) → bits_in dims range ≤ (bits_by next (width_of dims width) range).end - (bits_by next (width_of dims width) range).start
-said-range next width dims (Some range) = omega arith
-said-range next width [] None = omega arith
-said-range next width (n ∷ ns) None = omega arith
+said-range : (next width : ℕ) (dims : List ℕ) (range : Option (ℕ × ℕ)) → 1 ≤ width → bits_in dims range ≤ (bits_by next (width_of dims width) range).end - (bits_by next (width_of dims width) range).start
+said-range next width dims (Some range) h = omega arith
+said-range next width [] None h = omega arith
+said-range next width (n ∷ ns) None h = omega arith
 
-pub said-bits : (next : ℕ) (s : Shell) (l : Layout) → bits_said s ≤ (bits_of next (field_bits (s, l))).end - (bits_of next (field_bits (s, l))).start
-said-bits next s l = said-range next l.size s.dims s.range
+said-bits : (next : ℕ) (s : Shell) (l : Layout) → 1 ≤ l.size → bits_said s ≤ (bits_of next (field_bits (s, l))).end - (bits_of next (field_bits (s, l))).start
+said-bits next s l h = said-range next l.size s.dims s.range h
 
 -- each field among these instances has the bits that it says in the span of its place
 abbrev pub HaveBits : List Span → Parts → Type 0
@@ -90,18 +91,26 @@ without-fields spans no_parts h = tt
 without-fields [] (part at s k inside rest) h = tt
 without-fields (span ∷ spans) (part at s k inside rest) h = (λ e. absurd (h.0 e), without-fields spans rest h.1)
 
-of-register : (m : Mode) (next : ℕ) (ps : Parts) → HaveBits (bits_from next (map (λ (i : Member). i.bits) (map member (layouts m ps)))) ps
-of-register m next no_parts = tt
-of-register m next (part at s h inside rest) =
+-- each would be at least one bit wide
+abbrev AreWide : Parts → Type 0
+AreWide no_parts = Unit {0}
+AreWide (part at s h inside rest) = (1 ≤ (values_of h).fieldwidth) × AreWide rest
+
+field-size : (m : Mode) (h : Head) (inside : Parts) → h.kind ≡ Field → (layout_of m h inside).size ≡ (values_of h).fieldwidth
+field-size m h inside e = ap (λ k. (laid_out k (values_of h) (mode_inside h.kind (values_of h) m) (map member (layouts (mode_inside h.kind (values_of h) m) inside))).size) e
+
+of-register : (m : Mode) (next : ℕ) (ps : Parts) → AreWide ps → HaveBits (bits_from next (map (λ (i : Member). i.bits) (map member (layouts m ps)))) ps
+of-register m next no_parts w = tt
+of-register m next (part at s h inside rest) w =
     let bits = field_bits (s, layout_of m h inside) in
-    (λ e. said-bits next s (layout_of m h inside), of-register m (bits_of next bits).end rest)
+    (λ e. said-bits next s (layout_of m h inside) (let size = field-size m h inside e in omega (arith, size, w.0)), of-register m (bits_of next bits).end rest w.1)
 
 -- those of a component, where fields stand in a register alone
-pub bits-inside : (k : Kind) (v : LayoutValues) (m : Mode) (ps : Parts) → ((k ≡ Reg → ⊥) → NoFields ps) → HaveBits (laid_out k v m (map member (layouts m ps))).spans ps
-bits-inside Addrmap v m ps h = without-fields (laid_out Addrmap v m (map member (layouts m ps))).spans ps (h (λ e. cc))
-bits-inside Regfile v m ps h = without-fields (laid_out Regfile v m (map member (layouts m ps))).spans ps (h (λ e. cc))
-bits-inside Reg v m ps h = of-register m 0 ps
-bits-inside Field v m ps h = no-spans ps
+bits-inside : (k : Kind) (v : LayoutValues) (m : Mode) (ps : Parts) → AreWide ps → ((k ≡ Reg → ⊥) → NoFields ps) → HaveBits (laid_out k v m (map member (layouts m ps))).spans ps
+bits-inside Addrmap v m ps w h = without-fields (laid_out Addrmap v m (map member (layouts m ps))).spans ps (h (λ e. cc))
+bits-inside Regfile v m ps w h = without-fields (laid_out Regfile v m (map member (layouts m ps))).spans ps (h (λ e. cc))
+bits-inside Reg v m ps w h = of-register m 0 ps w
+bits-inside Field v m ps w h = no-spans ps
 
 -- ---- Layouts of a frame.
 
@@ -237,6 +246,10 @@ module _ (keep : List ℕ → Bool) (d e : Items) (stays : StaysSo keep d e) (no
       around-field Reg e = refl
       around-field Field e = cc
 
+  are-wide : (b : List ℕ) (ps : Parts) → ArePartsFound e b ps → AreWide ps
+  are-wide b no_parts found = tt
+  are-wide b (part at s h inside rest) found = (width-positive e h.at (record { head = h; parts = inside }) none found.0.component, are-wide b rest found.2)
+
   -- around instances of both: the same but for names and bases
   record SameAround (a f : Around) : Type 0 where
     mode : f.mode ≡ a.mode
@@ -246,7 +259,7 @@ module _ (keep : List ℕ → Bool) (d e : Items) (stays : StaysSo keep d e) (no
   own-bits : (b : List ℕ) (m : Mode) (h : Head) (inside : Parts) → component e b ≡ Some (record { head = h; parts = inside }) → ArePartsFound e b inside
       → HaveBits (layout_of m h inside).spans inside
   own-bits b m h inside holds found =
-      bits-inside h.kind (values_of h) (mode_inside h.kind (values_of h) m) inside (λ other. no-fields b (record { head = h; parts = inside }) inside holds other found)
+      bits-inside h.kind (values_of h) (mode_inside h.kind (values_of h) m) inside (are-wide b inside found) (λ other. no-fields b (record { head = h; parts = inside }) inside holds other found)
 
   rows-clear : (qs ps : Parts) (b : List ℕ) (a f : Around) (before : List (Span × Option Value)) (spans : List Span) → ArePartsFound e b qs → HaveBits spans qs
       → frame_parts keep qs ≡ frame_parts keep ps → SameAround a f → first_row_fault d (rows_in d a before spans ps) ≡ None → first_row_fault e (rows_in e f before spans qs) ≡ None

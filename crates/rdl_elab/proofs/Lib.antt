@@ -50,6 +50,7 @@ pub mod SameLevels
 pub mod FieldsInside
 pub mod KeptAnswers
 pub mod KnownRows
+pub mod FieldWidths
 pub mod Frames
 pub mod FramedRows
 pub mod FramedChanges

@@ -25,7 +25,7 @@ use Rattle.rdl_elab.specs.Reach.{SaysTheSame}
 abbrev pub bits_in : (dims : List ℕ) → Option (ℕ × ℕ) → ℕ
 bits_in dims (Some range) = range.0 + 1 - range.1
 bits_in (n ∷ ns) None = n
-bits_in [] None = 0
+bits_in [] None = 1
 
 abbrev pub bits_said : Shell → ℕ
 bits_said s = bits_in s.dims s.range
