@@ -34,7 +34,7 @@ item-place (k ∷ j ∷ a) d x e = ap (λ c. k ∷ c) (parted (j ∷ a) k j a re
     parted c k j (i ∷ a) e = ap (λ c. j ∷ c) (parted (i ∷ a) j i a refl)
 
 -- an instance of a component is of a kind that the component may hold
-kind-allowed : (d : Items) (b : List ℕ) (m : Made) (at : List ℕ) (s : Shell) (h : Head) (inside : Parts) → fault_of d ≡ None → component d b ≡ Some m → IsPartFound d b at s h inside
+pub kind-allowed : (d : Items) (b : List ℕ) (m : Made) (at : List ℕ) (s : Shell) (h : Head) (inside : Parts) → fault_of d ≡ None → component d b ≡ Some m → IsPartFound d b at s h inside
     → may_instantiate (Some m.head.kind) h.kind ≡ true
 kind-allowed d b m at s h inside none holds f =
     let around = as_found d b m holds in

@@ -51,6 +51,12 @@ pub mod SameLevels
 pub mod FieldsInside
 pub mod KeptAnswers
 pub mod KnownRows
+pub mod FieldWidths
+pub mod Frames
+pub mod FramedRows
+pub mod FramedChanges
+pub mod FramedAssignments
+pub mod Harmless
 pub mod Storing
 pub mod Coding
 pub mod Spelled

@@ -1,7 +1,7 @@
 -- Changes after which a map still has rows, as far as the place of the change tells: resets that fit their fields, and assignments on which
 -- no fault depends.
 -- own: SystemRDL 2.0 has no edits.
-use Rattle.std.specs.Prelude.{◌≡◌, ℕ, ◌+◌, ◌-◌, ◌^◌, ◌<◌, Bool, true, false, ◌||◌, List, [], ◌∷◌, length, Option, Some, None, option_and_then, bytes_eq, ◌⊎◌}
+use Rattle.std.specs.Prelude.{◌≡◌, ℕ, ◌+◌, ◌-◌, ◌^◌, ◌<◌, Bool, false, ◌||◌, List, [], ◌∷◌, length, Option, Some, None, option_and_then, bytes_eq, ◌⊎◌}
 use Rattle.rdl_tree.specs.Items.{Items}
 use Rattle.rdl_tree.specs.View.{list_of}
 use Rattle.rdl_tree.specs.Address.{holder_of, number_of, body_at}
@@ -25,7 +25,7 @@ use Rattle.rdl_elab.specs.Reach.{SaysTheSame}
 abbrev pub bits_in : (dims : List ℕ) → Option (ℕ × ℕ) → ℕ
 bits_in dims (Some range) = range.0 + 1 - range.1
 bits_in (n ∷ ns) None = n
-bits_in [] None = 0
+bits_in [] None = 1
 
 abbrev pub bits_said : Shell → ℕ
 bits_said s = bits_in s.dims s.range

@@ -7,6 +7,8 @@ ghost use Rattle.rdl_tree.specs.declared.property.Property.{Property};
 ghost use Rattle.rdl_tree.specs.declared.value.Value.{Value};
 ghost use Rattle.rdl_tree.specs.declared.description.Of.{Of};
 ghost use Rattle.rdl_tree.specs.declared.description.Item.TheVariants.{Instance};
+ghost use Rattle.rdl_tree.specs.declared.patch.Patch.{Patch};
+ghost use Rattle.rdl_tree.specs.Patch.{patched};
 ghost use Rattle.rdl_scope.specs.Closed.{Head, Parts, Made, component, instances};
 ghost use Rattle.rdl_scope.specs.Types.{item};
 ghost use Rattle.rdl_scope.specs.Target.{body_of};
@@ -31,6 +33,8 @@ ghost use Rattle.rdl_elab.specs.Written.{all_layouts};
 ghost use Rattle.rdl_elab.specs.Skeleton.{skeleton};
 ghost use Rattle.rdl_elab.specs.Tracked.{Tracked, old_of, new_of};
 ghost use Rattle.rdl_elab.specs.EditedBodies.{edits, is_changed_at, NamesStay, GoByName};
+ghost use Rattle.rdl_elab.specs.Known.{HasRows};
+ghost use Rattle.rdl_elab.specs.Harmless.{IsHarmless};
 ghost use Rattle.rdl_scope.specs.ItemFaults.{fault_of};
 
 /// An instance without `@` begins at the least number that is at least the end of the instance before it and a multiple
@@ -124,4 +128,10 @@ pub fn reach_is_as_found()
 pub fn steps_leave_the_rest_unchanged()
     ensures edited { (t : Tracked) (bodies : List (List ℕ)) → fault_of (old_of t) ≡ None → NamesStay t → GoByName bodies t → AreUnchangedBut (edits t (old_of t) (new_of t)) (old_of t) bodies (new_of t) }
     ensures changed { (t : Tracked) (bodies : List (List ℕ)) → fault_of (old_of t) ≡ None → AreUnchangedBut (λ a. is_changed_at a t) (old_of t) bodies (new_of t) }
+{}
+
+/// A map that has rows still has them after a harmless change that gives no item a fault. So nothing has to be elaborated
+/// again to know it.
+pub fn harmless_patches_keep_rows()
+    ensures { (p : Patch) (d : Items) (wanted : Option (List ℕ)) → HasRows d wanted → fault_of (patched p d) ≡ None → IsHarmless p d → HasRows (patched p d) wanted }
 {}

@@ -85,13 +85,13 @@ inner-own zero (holder (anonymous z k) body rest) s e =
 inner-own (suc i) (holder h body rest) s e = inner-own i rest s e
 
 -- item k of a body that is clear holds a component that is clear
-clear-component : (d : Items) (around : Option Kind) (b : List ℕ) (body : Items) (k : ℕ) (x : Item) (c : Component) → first_fault d around b body 0 body ≡ None → slice_get (list_of body) k ≡ Some x → own_component x ≡ Some c
+pub clear-component : (d : Items) (around : Option Kind) (b : List ℕ) (body : Items) (k : ℕ) (x : Item) (c : Component) → first_fault d around b body 0 body ≡ None → slice_get (list_of body) k ≡ Some x → own_component x ≡ Some c
     → inside_fault d (b ++ k ∷ []) (Some c) ≡ None
 clear-component d around b body k x c h e o =
     let number : 0 + k ≡ k = omega arith in
     ap (λ j. inside_fault d (b ++ j ∷ []) (Some c)) (sym number) ∙ ap (inside_fault d (b ++ (0 + k) ∷ [])) (sym o) ∙ (is_clear d around b body 0 k body x h e).inside
 
-clear-below : (d : Items) (a : List ℕ) (around : Option Kind) (b : List ℕ) (body : Items) (c : Component) → first_fault d around b body 0 body ≡ None → component_at body a ≡ Some c → inside_fault d (b ++ a) (Some c) ≡ None
+pub clear-below : (d : Items) (a : List ℕ) (around : Option Kind) (b : List ℕ) (body : Items) (c : Component) → first_fault d around b body 0 body ≡ None → component_at body a ≡ Some c → inside_fault d (b ++ a) (Some c) ≡ None
 clear-below d [] around b body c h e = cc
 clear-below d (k ∷ []) around b body c h e = by (slice_get (list_of body) k) refl e
   where
@@ -126,11 +126,11 @@ clear-inside d a c n x h e g =
     ap (λ k. item_fault d (Some c.kind) a c.body k x) (sym number) ∙ (is_clear d (Some c.kind) a c.body 0 n c.body x (clear-below d a None [] d c (no_first d h) e) g).here
 
 -- the tests of a list without a fault
-first_none : (t : Bool) (k : FaultKind) (fs : List (Bool × FaultKind)) → first_of ((t, k) ∷ fs) ≡ None → (t ≡ false) × (first_of fs ≡ None)
+pub first_none : (t : Bool) (k : FaultKind) (fs : List (Bool × FaultKind)) → first_of ((t, k) ∷ fs) ≡ None → (t ≡ false) × (first_of fs ≡ None)
 first_none true k fs e = cc
 first_none false k fs e = (refl, e)
 
-not_false : (t : Bool) → not t ≡ false → t ≡ true
+pub not_false : (t : Bool) → not t ≡ false → t ≡ true
 not_false true e = refl
 not_false false e = cc
 

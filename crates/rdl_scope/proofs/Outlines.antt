@@ -253,6 +253,10 @@ target_kind-outline d b n [] = refl
 target_kind-outline d b n (name ∷ names) =
     λ i. option_and_then (λ a. instance_kind-outline d a i) (option_and_then last_of (passes-outline d b n n name names (in-outline d b n name) i))
 
+pub passes-same : (d : Items) (b : List ℕ) (n : ℕ) (t : List (List ℕ)) → passes (outline d) b n t ≡ passes d b n t
+passes-same d b n [] = refl
+passes-same d b n (name ∷ names) = passes-outline d b n n name names (in-outline d b n name)
+
 -- ---- What leaves the outline the same.
 
 outline-map_inner : (i : ℕ) (f : Items → Items) (t s : Items) → inner i t ≡ Some s → outline (f s) ≡ outline s → outline (map_inner i f t) ≡ outline t
