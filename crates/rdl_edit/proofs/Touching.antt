@@ -17,6 +17,7 @@ use Rattle.rdl_scope.proofs.OneChange.{item-item_at, new_shell, new_value, last_
 use Rattle.rdl_elab.specs.HarmlessPlaces.{IsLast}
 use Rattle.rdl_elab.specs.Skeleton.{skeleton}
 use Rattle.rdl_elab.specs.Harmless.{IsHarmless}
+use Rattle.rdl_elab.proofs.HarmlessPatches.{keeps_rows}
 use Rattle.rdl_edit.specs.Still.{is_still, IsStillPart, IsStill}
 use Rattle.rdl_edit.specs.Touching.{IsStillShell, IsAlone, KeepsRows, is_dynamic}
 use Rattle.rdl_edit.proofs.Staying.{skeleton-stays}
@@ -77,7 +78,7 @@ put-alone at (Default p v) d none end h = cc
 
 -- a step of one harmless patch
 pub one-harmless : (p : Patch) (d : Items) → IsHarmless p d → KeepsRows (p ∷ []) d
-one-harmless p d h wanted rows none = ?
+one-harmless p d h wanted rows none = keeps_rows p d wanted rows none h
 
 pub ruleset steps = (one-still, one-harmless)
 

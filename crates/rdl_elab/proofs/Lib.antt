@@ -56,7 +56,7 @@ pub mod Frames
 pub mod FramedRows
 pub mod FramedChanges
 pub mod FramedAssignments
-pub mod Harmless
+pub mod HarmlessPatches
 pub mod Storing
 pub mod Coding
 pub mod Spelled

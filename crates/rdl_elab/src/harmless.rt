@@ -27,7 +27,7 @@ fn bits_said(shell: &Shell) -> u64
         Some((high, low)) => high.saturating_add(1).saturating_sub(low),
         None => match shell.dims.as_slice() {
             [size, ..] => *size,
-            [] => 0,
+            [] => 1,
         },
     };
     u64::try_from(bits).unwrap_or(0)

@@ -1,4 +1,4 @@
-use Rattle.rdl_elab.proofs.Harmless.{keeps_rows}
+use Rattle.rdl_elab.proofs.HarmlessPatches.{keeps_rows}
 use Rattle.rdl_elab.proofs.laws.harmless_patches_keep_rows.Goals as goal
 
 pub returns : goal.returns
