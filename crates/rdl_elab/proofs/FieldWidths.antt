@@ -1,26 +1,24 @@
 -- Where a description has no fault, each field has at least one bit.
 use Rattle.std.proofs.Common.{◌≡◌, ℕ, zero, suc, ◌≤◌, Bool, true, false, List, [], ◌∷◌, ◌++◌, Some, None, Option, refl, ap, sym, ◌∙◌, arith}
-use Rattle.std.specs.Prelude.{option_and_then, slice_get, bytes_eq, not, nat_le, ◌&&◌, unwrap_or, if◌then◌else◌}
+use Rattle.std.specs.Prelude.{option_and_then, bytes_eq, not, nat_le, ◌&&◌, unwrap_or, if◌then◌else◌}
 use Rattle.std.specs.Option.{option_or, is_some}
 use Rattle.std.proofs.lemmas.Bool.{leb-true}
 use Rattle.std.proofs.lemmas.Slice.Eq.{bytes_eq-Decides}
 use Rattle.rdl_tree.specs.Items.{Items, no_items, plain, holder, Plain, named, own, default, dynamic}
 use Rattle.rdl_tree.specs.View.{plain_item, holder_item}
 use Rattle.rdl_tree.specs.Address.{inner}
-use Rattle.rdl_tree.specs.Component.{own_component, holder_kind}
+use Rattle.rdl_tree.specs.Component.{holder_kind}
 use Rattle.rdl_tree.specs.Properties.{row, property_of, takes}
 use Rattle.rdl_tree.specs.declared.shell.Kind.{Kind}
 use Rattle.rdl_tree.specs.declared.value.Value.{Value}
 use Rattle.rdl_tree.specs.declared.value.Value.TheVariants.{Number, Text, Bool as Boolean, Word}
 use Rattle.rdl_tree.specs.declared.property.Property.{Property}
 use Rattle.rdl_tree.specs.declared.property.Property.TheVariants.{Fieldwidth}
-use Rattle.rdl_tree.specs.declared.fault.FaultKind.{FaultKind}
 use Rattle.rdl_tree.specs.declared.fault.FaultKind.TheVariants.{NotOfKind, WrongValue, AssignedTwice, Exclusive}
-use Rattle.rdl_tree.specs.declared.description.Item.{Item}
 use Rattle.rdl_tree.specs.declared.description.Item.TheVariants.{Instance, Own, Default, Dynamic}
 use Rattle.rdl_tree.specs.declared.description.Of.TheVariants.{Named}
 use Rattle.rdl_scope.specs.Value.{own_value, owned, own_before, last_default, defaulted, nearest_default, is_false}
-use Rattle.rdl_scope.specs.ItemFaults.{is_of, first_of, own_fault, default_fault, item_fault, fault_at, first_fault, fault_of, excluded_by}
+use Rattle.rdl_scope.specs.ItemFaults.{is_of, own_fault, default_fault, item_fault, fault_at, first_fault, fault_of, excluded_by}
 use Rattle.rdl_scope.specs.Closed.{Made, lookup, stated, component}
 use Rattle.rdl_scope.proofs.Accepted.{neither, no_kind, first_none, not_false, inner-own, clear-component, clear-below, no_first}
 use Rattle.rdl_scope.proofs.AsFound.{as_found}

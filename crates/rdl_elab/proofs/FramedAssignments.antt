@@ -53,7 +53,7 @@ inner-changed (suc i) f (plain p rest) s e = inner-changed i f rest s e
 inner-changed (suc i) f (holder h body rest) s e = inner-changed i f rest s e
 
 -- what holds of the changed body, of each that stays, and of each in which another is changed, holds of all
-along : (R : List ℕ → Option Items → Option Items → Type 0) → ((q : List ℕ) (o : Option Items) → R q o o) → ((q : List ℕ) (i : ℕ) (f : Items → Items) (t : Items) → R q (Some (map_inner i f t)) (Some t))
+pub along : (R : List ℕ → Option Items → Option Items → Type 0) → ((q : List ℕ) (o : Option Items) → R q o o) → ((q : List ℕ) (i : ℕ) (f : Items → Items) (t : Items) → R q (Some (map_inner i f t)) (Some t))
     → (p : List ℕ) (f : Items → Items) (t c : Items) → body_at p t ≡ Some c → R p (Some (f c)) (Some c) → ((k : ℕ) → inner k (f c) ≡ inner k c)
     → (q : List ℕ) → R q (body_at q (map_body p f t)) (body_at q t)
 along R same deep [] f t c e h g [] = let equal : t ≡ c = cc in subst (λ x. R [] (Some (f x)) (Some x)) (sym equal) h

@@ -7,7 +7,7 @@ use Rattle.std.proofs.lemmas.Bool.{cases_Bool}
 use Rattle.std.proofs.lemmas.Bool.Decides.{Decides-eqb}
 use Rattle.std.proofs.lemmas.Slice.Eq.{bytes_eq-Decides, slice_eq-Decides}
 use Rattle.rdl_tree.specs.Items.{Items, no_items, plain, holder, named, own, default, dynamic, Holder, define, anonymous}
-use Rattle.rdl_tree.specs.View.{add, items_of, own_body, holder_item}
+use Rattle.rdl_tree.specs.View.{add, items_of, list_of, own_body, holder_item}
 use Rattle.rdl_tree.specs.Address.{inner, map_inner, body_at, map_body}
 use Rattle.rdl_tree.specs.declared.value.Value.{Value}
 use Rattle.rdl_tree.specs.declared.value.Value.TheVariants.{Number}
@@ -233,6 +233,30 @@ module _ (X : Type 0) (read : Item → Option X) (New : Option Item → Type 0) 
       let rest : Items = items_of (insert ys n (Dynamic t p v)) in
       along-both (item (suc k ∷ a) (add y rest)) (item (k ∷ a) rest) (item (suc k ∷ a) (add y (items_of ys))) (item (k ∷ a) (items_of ys))
       (item-later k a y rest) (item-later k a y (items_of ys)) (read-insert ys n t p v (omega arith) h (k ∷ a))
+
+-- what is read outside of what is changed inside an item
+pub read-inside : (X : Type 0) (read : Item → Option X) → ReadsOutside X read → (i : ℕ) (f : Items → Items) (t : Items) (n : ℕ)
+    → option_and_then read (slice_get (list_of (map_inner i f t)) n) ≡ option_and_then read (slice_get (list_of t) n)
+read-inside X read r i f no_items n = refl
+read-inside X read r zero f (plain p rest) n = refl
+read-inside X read r zero f (holder h body rest) zero = r.held h (f body) body
+read-inside X read r zero f (holder h body rest) (suc n) = refl
+read-inside X read r (suc i) f (plain p rest) zero = refl
+read-inside X read r (suc i) f (holder h body rest) zero = refl
+read-inside X read r (suc i) f (plain p rest) (suc n) = read-inside X read r i f rest n
+read-inside X read r (suc i) f (holder h body rest) (suc n) = read-inside X read r i f rest n
+
+-- each item but the one that is set stays
+pub get-other : (xs : List Item) (k n : ℕ) (y : Item) → (slice_get (slice_set xs k y) n ≡ slice_get xs n) ⊎ (n ≡ k)
+get-other [] k n y = inl refl
+get-other (z ∷ zs) zero zero y = inr refl
+get-other (z ∷ zs) zero (suc n) y = inl refl
+get-other (z ∷ zs) (suc k) zero y = inl refl
+get-other (z ∷ zs) (suc k) (suc n) y = by (get-other zs k n y)
+  where
+    by : ((slice_get (slice_set zs k y) n ≡ slice_get zs n) ⊎ (n ≡ k)) → (slice_get (slice_set zs k y) n ≡ slice_get zs n) ⊎ (suc n ≡ suc k)
+    by (inl h) = inl h
+    by (inr h) = inr (ap suc h)
 
 -- ---- Paths.
 

@@ -15,7 +15,7 @@ use Rattle.rdl_tree.specs.declared.description.Item.TheVariants.{Instance}
 use Rattle.rdl_tree.specs.declared.description.Of.{Of}
 use Rattle.rdl_tree.specs.declared.fault.FaultKind.{FaultKind}
 use Rattle.rdl_tree.specs.declared.fault.FaultKind.TheVariants.{TooManyLevels, TooManyRows, EmptyComponent, MapTooLarge, AccessTooWide, StrideTooSmall, AddressOverlap, FieldPastRegister, FieldOverlap, ResetTooWide}
-use Rattle.rdl_scope.specs.Types.{item}
+use Rattle.rdl_scope.specs.Types.{item, component_of}
 use Rattle.rdl_scope.specs.Closed.{Head, Parts, no_parts, part, Made, lookup, stated, head_value, component}
 use Rattle.rdl_scope.specs.ItemFaults.{first_of, fault_at, may_instantiate, fault_of}
 use Rattle.rdl_elab.specs.declared.layout.Mode.{Mode}
@@ -230,7 +230,7 @@ no-kind-fault Regfile d e r q a fits h =
 -- what is asked of the rows of the field instances of another description of this frame: the same access, and a reset that is the same or fits
 pub record StaysSo (keep : List ℕ → Bool) (d e : Items) : Type 0 where
   pub access : (path : List (List ℕ)) (h k : Head) → frame_head keep k ≡ frame_head keep h → row_value e path k Sw ≡ row_value d path h Sw
-  pub reset : (path : List (List ℕ)) (at : List ℕ) (s : Shell) (o : Of) (h k : Head) (span : Span) → item at e ≡ Some (Instance s o) → frame_head keep k ≡ frame_head keep h → k.kind ≡ Field
+  pub reset : (path : List (List ℕ)) (at : List ℕ) (s : Shell) (o : Of) (h k : Head) (span : Span) → item at e ≡ Some (Instance s o) → component_of e at ≡ Some k.at → frame_head keep k ≡ frame_head keep h → k.kind ≡ Field
       → bits_said s ≤ span.end - span.start
       → is_reset_too_wide (number_of_value (row_value d (path ++ at ∷ []) h Reset)) span ≡ false → is_reset_too_wide (number_of_value (row_value e (path ++ at ∷ []) k Reset)) span ≡ false
 
@@ -298,7 +298,7 @@ module _ (keep : List ℕ → Bool) (d e : Items) (stays : StaysSo keep d e) (no
       let fits : k.kind ≡ Field → WideReset d r ≡ false → WideReset e q ≡ false =
       λ is narrow.
       ap (λ p. is_reset_too_wide (number_of_value (row_value e p k Reset)) span) (λ i. around.path i ++ at ∷ [])
-      ∙ stays.reset a.path at s there.of h k span there.instance heads is (bits.0 is)
+      ∙ stays.reset a.path at s there.of h k span there.instance there.is heads is (bits.0 is)
       (ap (λ x. is_reset_too_wide (number_of_value (row_value d (a.path ++ x ∷ []) h Reset)) span) place ∙ narrow) in
       let here : row_fault e q ≡ None = ap (fault_at at) (no-kind-fault k.kind d e r q alike fits (ap (λ x. kind_fault x d r) kinds ∙ none-at was (kind_fault h.kind d r) one)) in
       let inner : first_row_fault e (rows_in e (around_inside q) [] z.spans within) ≡ None =

@@ -258,7 +258,7 @@ module _ (keep : List ℕ → Bool) where
 
   -- ---- Assignments.
 
-  outline-frame : (d : Items) → outline (frame keep d) ≡ outline d
+  pub outline-frame : (d : Items) → outline (frame keep d) ≡ outline d
   outline-frame no_items = refl
   outline-frame (plain (named s t) rest) = ap (outline_plain (named s t)) (outline-frame rest)
   outline-frame (plain (own p v) rest) = ap gap (outline-frame rest)

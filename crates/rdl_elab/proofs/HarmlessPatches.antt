@@ -1,12 +1,12 @@
 -- After a harmless change a map that has rows still has them.
-use Rattle.std.proofs.Common.{◌≡◌, ℕ, ◌-◌, ◌^◌, ◌<◌, ◌≤◌, Bool, true, false, List, [], ◌∷◌, ◌++◌, Some, None, Option, option_map, Result, Ok, Err, refl, ap, sym, subst, ◌∙◌, arith, ◌⊎◌, inl, inr, zero-add}
-use Rattle.std.specs.Prelude.{option_and_then, slice_set, bytes_eq, if◌then◌else◌}
+use Rattle.std.proofs.Common.{length, ◌≡◌, ℕ, ◌-◌, ◌^◌, ◌<◌, ◌≤◌, Bool, true, false, List, [], ◌∷◌, ◌++◌, Some, None, Option, option_map, Result, Ok, Err, refl, ap, sym, subst, ◌∙◌, arith, ◌⊎◌, inl, inr, zero-add}
+use Rattle.std.specs.Prelude.{slice_get, option_and_then, slice_set, bytes_eq, if◌then◌else◌}
 use Rattle.std.specs.Option.{option_or}
 use Rattle.std.proofs.Math.Pow.{pow_mono}
 use Rattle.std.proofs.lemmas.Bool.{lt-leb}
 use Rattle.rdl_tree.specs.Items.{Items, plain, holder, named, Holder, define, anonymous}
 use Rattle.rdl_tree.specs.View.{items_of, list_of, own_body, holder_item}
-use Rattle.rdl_tree.specs.Address.{holder_of, number_of, inner}
+use Rattle.rdl_tree.specs.Address.{holder_of, number_of, inner, body_at}
 use Rattle.rdl_tree.specs.Edit.{insert_item}
 use Rattle.rdl_tree.specs.ItemAt.{item_at}
 use Rattle.rdl_tree.specs.Part.{with_part, with_part_at}
@@ -26,13 +26,14 @@ use Rattle.rdl_tree.specs.declared.part.Part.{Part}
 use Rattle.rdl_tree.specs.declared.part.Part.TheVariants.{OfShell, OfValue, OfTarget, OfType, OfDefine}
 use Rattle.rdl_tree.specs.declared.patch.Patch.{Patch}
 use Rattle.rdl_tree.specs.declared.patch.Patch.TheVariants.{Insert, Delete, Shift, Exchange}
-use Rattle.rdl_tree.proofs.Rounds.{items_of-list_of}
-use Rattle.rdl_tree.proofs.Places.{Stands, stands}
-use Rattle.rdl_tree.proofs.Undone.{exchange_is}
-use Rattle.rdl_scope.specs.Types.{item}
+use Rattle.rdl_tree.proofs.Rounds.{items_of-list_of, list_of-items_of}
+use Rattle.rdl_tree.proofs.Places.{Stands, stands, found_at, body_at-map, place-whole, item_at-place}
+use Rattle.rdl_tree.proofs.Undone.{exchange_is, exchange-found}
+use Rattle.rdl_scope.specs.Types.{item, component_of}
 use Rattle.rdl_scope.specs.ItemFaults.{fault_of}
 use Rattle.rdl_scope.specs.Value.{shown, assigned_in, assigned, item_reset, instance_reset, component_value, path_value}
 use Rattle.rdl_scope.specs.Closed.{Head, Made, component}
+use Rattle.rdl_scope.proofs.Outlines.{outline, component-outline}
 use Rattle.rdl_scope.proofs.OneChange.{item-item_at}
 use Rattle.rdl_elab.specs.declared.layout.Span.{Span}
 use Rattle.rdl_elab.specs.declared.row.Row.{Row}
@@ -40,24 +41,24 @@ use Rattle.rdl_elab.specs.Layouts.{number_in as number_of_value}
 use Rattle.rdl_elab.specs.Rows.{row_value, rows_of}
 use Rattle.rdl_elab.specs.Faults.{top_from, is_reset_too_wide, fault_of_top, rows_or, under_top}
 use Rattle.rdl_elab.specs.Known.{HasRows}
-use Rattle.rdl_elab.specs.Harmless.{bits_in, bits_said, IsBelow, FitsReset, IsHarmlessShell, is_judged, end_of_target, IsFittingReset, IsHarmlessAssignment, IsHarmlessValue, IsHarmlessLast, IsHarmless}
+use Rattle.rdl_elab.specs.Harmless.{bits_in, bits_said, IsBelow, IsBelowIfAny, FitsReset, FitsWithout, IsHarmlessShell, is_judged, end_of_target, IsFittingReset, IsHarmlessAssignment, IsHarmlessValue, IsHarmlessLast, IsHarmless}
 use Rattle.rdl_elab.proofs.KeptAnswers.{judged-top}
 use Rattle.rdl_elab.proofs.KnownRows.{no-item-fault, top-there}
-use Rattle.rdl_elab.proofs.Frames.{frame, frame_shell, frame_dynamic, frame_head, frame_made, access-frame, reset-frame, top-frame, component-frame}
+use Rattle.rdl_elab.proofs.Frames.{frame, frame_shell, frame_dynamic, frame_head, frame_made, outline-frame, access-frame, reset-frame, top-frame, component-frame}
 use Rattle.rdl_elab.proofs.FramedRows.{StaysSo, top-clear}
-use Rattle.rdl_elab.proofs.FramedChanges.{SameFrame, frame-map_body, frame-set, frame-insert, inner-set, inner-insert, ReadsOutside, ReadsAlike, read-body, read-set, read-insert, reset-last, no-access, last-place}
-use Rattle.rdl_elab.proofs.FramedAssignments.{AssignsAlike, assigned-both, assigned-set, assigned-insert, assigned-alike}
+use Rattle.rdl_elab.proofs.FramedChanges.{SameFrame, frame-map_body, frame-set, frame-insert, inner-set, inner-insert, ReadsOutside, ReadsAlike, read-body, read-set, read-insert, read-inside, get-other, reset-last, no-access, last-place}
+use Rattle.rdl_elab.proofs.FramedAssignments.{along, AssignsAlike, assigned-both, assigned-set, assigned-insert, assigned-alike}
 
 -- ---- Rows of one frame.
 
--- the path has a reset that fits an instance
+-- the path has a reset that fits an instance, or none
 record HasFittingReset (e : Items) (path : List (List ℕ)) (c : List ℕ) (s : Shell) : Type 0 where
-  reset : ℕ
-  is : path_value e path c Reset ≡ Some (Number reset)
-  fits : reset < 2 ^ bits_said s
+  value : Option Value
+  is : path_value e path c Reset ≡ value
+  fits : IsBelowIfAny (bits_said s) (number_of_value value)
 
 abbrev ResetsStay : Items → Items → Type 0
-ResetsStay d e = (path : List (List ℕ)) (at c : List ℕ) (s : Shell) (o : Of) → item at e ≡ Some (Instance s o) → (path_value e (path ++ at ∷ []) c Reset ≡ path_value d (path ++ at ∷ []) c Reset) ⊎ HasFittingReset e (path ++ at ∷ []) c s
+ResetsStay d e = (path : List (List ℕ)) (at c : List ℕ) (s : Shell) (o : Of) → item at e ≡ Some (Instance s o) → component_of e at ≡ Some c → (path_value e (path ++ at ∷ []) c Reset ≡ path_value d (path ++ at ∷ []) c Reset) ⊎ HasFittingReset e (path ++ at ∷ []) c s
 
 no-rows : (rows : List Row) (f : Fault) → ◌≡◌ {A = Result (List Row) Fault} (Err f) (Ok rows) → ⊥
 no-rows rows f e = cc
@@ -66,7 +67,20 @@ faultless : (rows other : List Row) (o : Option Fault) → rows_or rows o ≡ Ok
 faultless rows other None e = refl
 faultless rows other (Some f) e = absurd (no-rows other f e)
 
+number-shown : (v : Option Value) → number_of_value (option_map (shown (row Reset).form) v) ≡ number_of_value v
+number-shown None = refl
+number-shown (Some v) = refl
+
+small : (bits : ℕ) (span : Span) (o : Option ℕ) → bits ≤ span.end - span.start → IsBelowIfAny bits o → is_reset_too_wide o span ≡ false
+small bits span None h g = refl
+small bits span (Some n) h g = let more : 2 ^ bits ≤ 2 ^ (span.end - span.start) = pow_mono h in lt-leb (2 ^ (span.end - span.start)) n (omega (arith, more, g))
+
 module _ (keep : List ℕ → Bool) (d e : Items) (same : frame keep e ≡ frame keep d) where
+  leads-both : (a : List ℕ) → component_of e a ≡ component_of d a
+  leads-both a =
+      let outlines : outline e ≡ outline d = sym (outline-frame keep e) ∙ ap outline same ∙ outline-frame keep d in
+      sym (component-outline e a) ∙ ap (λ o. component_of o a) outlines ∙ component-outline d a
+
   access-both : (c : List ℕ) → component_value e c Sw ≡ component_value d c Sw
   access-both c = sym (access-frame keep e c) ∙ ap (λ x. component_value x c Sw) same ∙ access-frame keep d c
 
@@ -83,7 +97,7 @@ module _ (keep : List ℕ → Bool) (d e : Items) (same : frame keep e ≡ frame
         let places : k.at ≡ h.at = ap (λ (x : Head). x.at) heads in
         let values : path_value e path k.at Sw ≡ path_value d path h.at Sw = ap (λ c. path_value e path c Sw) places ∙ access-path kept path h.at in
         λ i. if on Sw (kinds i) then option_map (shown (row Sw).form) (values i) else None;
-    reset = λ path at s o h k span there heads is bits narrow. by path at s h k span heads is bits narrow (stay path at k.at s o there);
+    reset = λ path at s o h k span there leads heads is bits narrow. by path at s h k span heads is bits narrow (stay path at k.at s o there leads);
   }
     where
       by : (path : List (List ℕ)) (at : List ℕ) (s : Shell) (h k : Head) (span : Span) → frame_head keep k ≡ frame_head keep h → k.kind ≡ Field → bits_said s ≤ span.end - span.start
@@ -96,8 +110,8 @@ module _ (keep : List ℕ → Bool) (d e : Items) (same : frame keep e ≡ frame
           let values : path_value e (path ++ at ∷ []) k.at Reset ≡ path_value d (path ++ at ∷ []) h.at Reset = equal ∙ ap (λ c. path_value d (path ++ at ∷ []) c Reset) places in
           (λ i. is_reset_too_wide (number_of_value (if on Reset (kinds i) then option_map (shown (row Reset).form) (values i) else None)) span) ∙ narrow
       by path at s h k span heads is bits narrow (inr r) =
-          let small : r.reset < 2 ^ (span.end - span.start) = let more : 2 ^ bits_said s ≤ 2 ^ (span.end - span.start) = pow_mono bits in omega (arith, more, r.fits) in
-          (λ i. is_reset_too_wide (number_of_value (if on Reset (is i) then option_map (shown (row Reset).form) (r.is i) else None)) span) ∙ lt-leb (2 ^ (span.end - span.start)) r.reset small
+          (λ i. is_reset_too_wide (number_of_value (if on Reset (is i) then option_map (shown (row Reset).form) (r.is i) else None)) span)
+          ∙ ap (λ o. is_reset_too_wide o span) (number-shown r.value) ∙ small (bits_said s) span (number_of_value r.value) bits r.fits
 
   top-both : (wanted : Option (List ℕ)) → top_from wanted 0 e ≡ top_from wanted 0 d
   top-both wanted = sym (top-frame keep wanted 0 e) ∙ ap (top_from wanted 0) same ∙ top-frame keep wanted 0 d
@@ -165,6 +179,51 @@ module _ (at : List ℕ) (d : Items) (part : Part) (x : Item) (there : item_at a
   exchange-inner : own_body changed ≡ own_body x → (k : ℕ) → inner k (with_part_at (number_of at) part stand.body) ≡ inner k stand.body
   exchange-inner own k = ap (inner k) made ∙ inner-set (list_of stand.body) (number_of at) x changed stand.found own k ∙ ap (inner k) whole
 
+  exchange-there : item_at at (patched (Exchange at part) d) ≡ Some changed
+  exchange-there =
+      found_at at (patched (Exchange at part) d) (with_part_at (number_of at) part stand.body) changed stand.within
+      (body_at-map (holder_of at) (with_part_at (number_of at) part) d stand.body stand.held) (exchange-found (number_of at) part stand.body x stand.found)
+
+  -- at any other address the same is read
+  read-apart : (X : Type 0) (read : Item → Option X) → ReadsOutside X read → own_body changed ≡ own_body x → (a : List ℕ) (y : Item) → item a (patched (Exchange at part) d) ≡ Some y
+      → (option_and_then read (item a (patched (Exchange at part) d)) ≡ option_and_then read (item a d)) ⊎ (a ≡ at)
+  read-apart X read outside own a y h = by (each (holder_of a) (number_of a))
+    where
+      now : Items
+      now = patched (Exchange at part) d
+
+      in_body : ℕ → Option Items → Option X
+      in_body n o = option_and_then read (option_and_then (λ b. slice_get (list_of b) n) o)
+
+      Apart : List ℕ → Option Items → Option Items → Type 0
+      Apart q new old = (n : ℕ) → (in_body n new ≡ in_body n old) ⊎ ((q ≡ holder_of at) × (n ≡ number_of at))
+
+      here : Apart (holder_of at) (Some (with_part_at (number_of at) part stand.body)) (Some stand.body)
+      here n = one (get-other (list_of stand.body) (number_of at) n changed)
+        where
+          one : ((slice_get (slice_set (list_of stand.body) (number_of at) changed) n ≡ slice_get (list_of stand.body) n) ⊎ (n ≡ number_of at))
+              → (in_body n (Some (with_part_at (number_of at) part stand.body)) ≡ in_body n (Some stand.body)) ⊎ ((holder_of at ≡ holder_of at) × (n ≡ number_of at))
+          one (inl e) =
+              inl (ap (λ t. option_and_then read (slice_get (list_of t) n)) made
+              ∙ ap (λ (l : List Item). option_and_then read (slice_get l n)) (list_of-items_of (slice_set (list_of stand.body) (number_of at) changed))
+              ∙ ap (option_and_then read) e)
+          one (inr e) = inr (refl, e)
+
+      each : (q : List ℕ) → Apart q (body_at q now) (body_at q d)
+      each q =
+          along Apart (λ b o n. inl refl) (λ b i f t n. inl (read-inside X read outside i f t n)) (holder_of at) (with_part_at (number_of at) part) d stand.body stand.held here (exchange-inner own) q
+
+      within : 0 < length a
+      within = (stands a now y (sym (item-item_at a now) ∙ h)).within
+
+      placed : (t : Items) → option_and_then read (item a t) ≡ in_body (number_of a) (body_at (holder_of a) t)
+      placed t = ap (option_and_then read) (item-item_at a t ∙ item_at-place a t within)
+
+      by : (in_body (number_of a) (body_at (holder_of a) now) ≡ in_body (number_of a) (body_at (holder_of a) d)) ⊎ ((holder_of a ≡ holder_of at) × (number_of a ≡ number_of at))
+          → (option_and_then read (item a now) ≡ option_and_then read (item a d)) ⊎ (a ≡ at)
+      by (inl e) = inl (placed now ∙ e ∙ sym (placed d))
+      by (inr e) = inr (sym (place-whole a within) ∙ (λ i. e.0 i ++ e.1 i ∷ []) ∙ place-whole at stand.within)
+
 -- ---- Resets of paths.
 
 module _ (d e : Items) (resets : (c : List ℕ) → component_value e c Reset ≡ component_value d c Reset) where
@@ -172,17 +231,20 @@ module _ (d e : Items) (resets : (c : List ℕ) → component_value e c Reset �
       → option_and_then item_reset (item at e) ≡ option_and_then item_reset (item at d) → path_value e (path ++ at ∷ []) c Reset ≡ path_value d (path ++ at ∷ []) c Reset
   path-same path at c h g = λ i. option_or (h i) (option_or ((reset-last e path at ∙ g ∙ sym (reset-last d path at)) i) (resets c i))
 
-  -- the instance at the end has this reset
-  path-instance : (path : List (List ℕ)) (at c : List ℕ) (n : ℕ) (s : Shell) → assigned e (row Reset).name (path ++ at ∷ []) ≡ assigned d (row Reset).name (path ++ at ∷ [])
-      → option_and_then item_reset (item at e) ≡ Some (Number n) → n < 2 ^ bits_said s
+  -- the instance at the end has this reset, or its component this one
+  path-instance : (path : List (List ℕ)) (at c : List ℕ) (v : Option Value) (s : Shell) → assigned e (row Reset).name (path ++ at ∷ []) ≡ assigned d (row Reset).name (path ++ at ∷ [])
+      → option_or (option_and_then item_reset (item at e)) (component_value e c Reset) ≡ v → IsBelowIfAny (bits_said s) (number_of_value v)
       → (path_value e (path ++ at ∷ []) c Reset ≡ path_value d (path ++ at ∷ []) c Reset) ⊎ HasFittingReset e (path ++ at ∷ []) c s
-  path-instance path at c n s h g fits = by (assigned d (row Reset).name (path ++ at ∷ [])) refl
+  path-instance path at c v s h g fits = by (assigned d (row Reset).name (path ++ at ∷ [])) refl
     where
+      last : option_or (instance_reset e Reset (path ++ at ∷ [])) (component_value e c Reset) ≡ v
+      last = ap (λ o. option_or o (component_value e c Reset)) (reset-last e path at) ∙ g
+
       by : (o : Option Value) → assigned d (row Reset).name (path ++ at ∷ []) ≡ o → (path_value e (path ++ at ∷ []) c Reset ≡ path_value d (path ++ at ∷ []) c Reset) ⊎ HasFittingReset e (path ++ at ∷ []) c s
-      by None q = inr (record { reset = n; is = λ i. option_or ((h ∙ q) i) (option_or ((reset-last e path at ∙ g) i) (component_value e c Reset)); fits = fits })
-      by (Some v) q =
-          let new : path_value e (path ++ at ∷ []) c Reset ≡ Some v = λ i. option_or ((h ∙ q) i) (option_or (instance_reset e Reset (path ++ at ∷ [])) (component_value e c Reset)) in
-          let old : path_value d (path ++ at ∷ []) c Reset ≡ Some v = λ i. option_or (q i) (option_or (instance_reset d Reset (path ++ at ∷ [])) (component_value d c Reset)) in
+      by None q = inr (record { value = v; is = λ i. option_or ((h ∙ q) i) (last i); fits = fits })
+      by (Some w) q =
+          let new : path_value e (path ++ at ∷ []) c Reset ≡ Some w = λ i. option_or ((h ∙ q) i) (option_or (instance_reset e Reset (path ++ at ∷ [])) (component_value e c Reset)) in
+          let old : path_value d (path ++ at ∷ []) c Reset ≡ Some w = λ i. option_or (q i) (option_or (instance_reset d Reset (path ++ at ∷ [])) (component_value d c Reset)) in
           inl (new ∙ sym old)
 
 -- ---- Another shell.
@@ -239,26 +301,49 @@ module _ (at : List ℕ) (u : Shell) (d : Items) (is : IsHarmlessShell at u d) w
   bits-same : bits_said u ≡ bits_said shell
   bits-same = λ i. bits_in (sym is.same.dims i) (sym is.same.range i)
 
-  shell-stays : FitsReset shell u.reset → ResetsStay d new
-  shell-stays (inl equal) path place c s o there = by (resets-read (λ o. ⊥) (inl (ap (option_map Number) equal)) place)
+  same-assigned : (path : List (List ℕ)) → assigned new (row Reset).name path ≡ assigned d (row Reset).name path
+  same-assigned path = assigned-both all_names d new shell-framed (row Reset).name refl path
+
+  abbrev Stays : List (List ℕ) → List ℕ → List ℕ → Shell → Type 0
+  Stays path place c s = (path_value new (path ++ place ∷ []) c Reset ≡ path_value d (path ++ place ∷ []) c Reset) ⊎ HasFittingReset new (path ++ place ∷ []) c s
+
+  elsewhere : (path : List (List ℕ)) (place c : List ℕ) (s : Shell) → option_and_then item_reset (item place new) ≡ option_and_then item_reset (item place d) → Stays path place c s
+  elsewhere path place c s h = inl (path-same d new (reset-both all_names d new shell-framed) path place c (same-assigned (path ++ place ∷ [])) h)
+
+  shell-stays : FitsReset shell u.reset ⊎ FitsWithout d at shell u.reset → ResetsStay d new
+  shell-stays (inl (inl equal)) path place c s o there leads = by (resets-read (λ o. ⊥) (inl (ap (option_map Number) equal)) place)
     where
-      by : ReadsAlike item_reset (λ o. ⊥) (item place new) (item place d) → (path_value new (path ++ place ∷ []) c Reset ≡ path_value d (path ++ place ∷ []) c Reset) ⊎ HasFittingReset new (path ++ place ∷ []) c s
-      by (inl h) = inl (path-same d new (reset-both all_names d new shell-framed) path place c (assigned-both all_names d new shell-framed (row Reset).name refl (path ++ place ∷ [])) h)
+      by : ReadsAlike item_reset (λ o. ⊥) (item place new) (item place d) → Stays path place c s
+      by (inl h) = elsewhere path place c s h
       by (inr h) = absurd h
-  shell-stays (inr below) path place c s o there = by (resets-read (IsInstance u) (inr (record { of = is.of; is = refl })) place)
+  shell-stays (inl (inr below)) path place c s o there leads = by (resets-read (IsInstance u) (inr (record { of = is.of; is = refl })) place)
     where
-      fitting : (r : Option ℕ) → u.reset ≡ r → IsBelow (bits_said shell) r → IsInstance u (item place new)
-          → (path_value new (path ++ place ∷ []) c Reset ≡ path_value d (path ++ place ∷ []) c Reset) ⊎ HasFittingReset new (path ++ place ∷ []) c s
+      fitting : (r : Option ℕ) → u.reset ≡ r → IsBelow (bits_said shell) r → IsInstance u (item place new) → Stays path place c s
       fitting None q h g = absurd h
       fitting (Some n) q h g =
           let equal : s ≡ u = same-shell s u o g.of (item place new) there g.is in
           let bits : bits_said shell ≡ bits_said s = sym bits-same ∙ ap bits_said (sym equal) in
-          path-instance d new (reset-both all_names d new shell-framed) path place c n s (assigned-both all_names d new shell-framed (row Reset).name refl (path ++ place ∷ []))
-          (ap (option_and_then item_reset) g.is ∙ ap (option_map Number) q) (subst (λ b. n < 2 ^ b) bits h)
+          path-instance d new (reset-both all_names d new shell-framed) path place c (Some (Number n)) s (same-assigned (path ++ place ∷ []))
+          (ap (λ x. option_or x (component_value new c Reset)) (ap (option_and_then item_reset) g.is ∙ ap (option_map Number) q)) (subst (λ b. n < 2 ^ b) bits h)
 
-      by : ReadsAlike item_reset (IsInstance u) (item place new) (item place d) → (path_value new (path ++ place ∷ []) c Reset ≡ path_value d (path ++ place ∷ []) c Reset) ⊎ HasFittingReset new (path ++ place ∷ []) c s
-      by (inl h) = inl (path-same d new (reset-both all_names d new shell-framed) path place c (assigned-both all_names d new shell-framed (row Reset).name refl (path ++ place ∷ [])) h)
+      by : ReadsAlike item_reset (IsInstance u) (item place new) (item place d) → Stays path place c s
+      by (inl h) = elsewhere path place c s h
       by (inr h) = fitting u.reset refl below h
+  shell-stays (inr without) path place c s o there leads =
+      by (read-apart at d (OfShell u) (Instance shell is.of) is.there Value item_reset reset-outside (own-shell is.of) place (Instance s o) there)
+    where
+      by : (option_and_then item_reset (item place new) ≡ option_and_then item_reset (item place d)) ⊎ (place ≡ at) → Stays path place c s
+      by (inl h) = elsewhere path place c s h
+      by (inr equal) =
+          let now : item place new ≡ Some (Instance u is.of) = ap (λ a. item a new) equal ∙ item-item_at at new ∙ exchange-there at d (OfShell u) (Instance shell is.of) is.there in
+          let shells : s ≡ u = same-shell s u o is.of (item place new) there now in
+          let bits : bits_said shell ≡ bits_said s = sym bits-same ∙ ap bits_said (sym shells) in
+          let both : Some c ≡ Some without.component = sym leads ∙ leads-both all_names d new shell-framed place ∙ ap (component_of d) equal ∙ without.is in
+          let places : c ≡ without.component = cc in
+          path-instance d new (reset-both all_names d new shell-framed) path place c (component_value d without.component Reset) s (same-assigned (path ++ place ∷ []))
+          ((λ i. option_or ((ap (option_and_then item_reset) now ∙ ap (option_map Number) without.none) i) (component_value new c Reset))
+          ∙ reset-both all_names d new shell-framed c ∙ ap (λ a. component_value d a Reset) places)
+          (subst (λ b. IsBelowIfAny b (number_of_value (component_value d without.component Reset))) bits without.fits)
 
   shell-rows : (wanted : Option (List ℕ)) → HasRows d wanted → fault_of new ≡ None → HasRows new wanted
   shell-rows wanted known none = framed-rows all_names d new shell-framed wanted known none refl (shell-stays is.fits)
@@ -295,7 +380,7 @@ is_access p = bytes_eq p (row Sw).name
 
 module _ (d e : Items) (b : List ℕ) (n : ℕ) (t : List (List ℕ)) (p : List ℕ) (v : Value) (stays : StaysBut d e b n t p v) where
   silent-stays : (silent : is_judged p ≡ false) → ResetsStay d e
-  silent-stays silent path place c s o there =
+  silent-stays silent path place c s o there leads =
       let same : frame is_judged e ≡ frame is_judged d = stays.frames is_judged silent in
       inl (path-same d e (reset-both is_judged d e same) path place c (assigned-both is_judged d e same (row Reset).name refl (path ++ place ∷ [])) (stays.resets place))
 
@@ -303,7 +388,7 @@ module _ (d e : Items) (b : List ℕ) (n : ℕ) (t : List (List ℕ)) (p : List 
   no-access-named h = ap is_access h
 
   fitting-stays : IsFittingReset d b n t p v → ResetsStay d e
-  fitting-stays f path place c s o there = by (subst (λ q. AssignsAlike v (end_of_target d b n t) (path ++ place ∷ []) (assigned e q (path ++ place ∷ [])) (assigned d q (path ++ place ∷ []))) f.property (stays.assigned is_access same (path ++ place ∷ [])))
+  fitting-stays f path place c s o there leads = by (subst (λ q. AssignsAlike v (end_of_target d b n t) (path ++ place ∷ []) (assigned e q (path ++ place ∷ [])) (assigned d q (path ++ place ∷ []))) f.property (stays.assigned is_access same (path ++ place ∷ [])))
     where
       same : frame is_access e ≡ frame is_access d
       same = stays.frames is_access (no-access-named f.property)
@@ -320,7 +405,7 @@ module _ (d e : Items) (b : List ℕ) (n : ℕ) (t : List (List ℕ)) (p : List 
           let shell : s ≡ f.shell = cc in
           let assigned_now : assigned e (row Reset).name (path ++ place ∷ []) ≡ Some (Number f.reset) = h.0 ∙ ap Some f.value in
           inr (record {
-            reset = f.reset;
+            value = Some (Number f.reset);
             is = λ i. option_or (assigned_now i) (option_or (instance_reset e Reset (path ++ place ∷ [])) (component_value e c Reset));
             fits = subst (λ z. f.reset < 2 ^ bits_said z) (sym shell) f.fits;
           })

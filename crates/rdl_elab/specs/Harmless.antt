@@ -17,8 +17,11 @@ use Rattle.rdl_tree.specs.declared.description.Of.{Of}
 use Rattle.rdl_tree.specs.declared.part.Part.TheVariants.{OfShell, OfValue}
 use Rattle.rdl_tree.specs.declared.patch.Patch.{Patch}
 use Rattle.rdl_tree.specs.declared.patch.Patch.TheVariants.{Insert, Exchange}
+use Rattle.rdl_scope.specs.Types.{component_of}
 use Rattle.rdl_scope.specs.Target.{passes}
+use Rattle.rdl_scope.specs.Value.{component_value}
 use Rattle.rdl_scope.specs.ItemFaults.{last_of}
+use Rattle.rdl_elab.specs.Layouts.{number_in}
 use Rattle.rdl_elab.specs.Reach.{SaysTheSame}
 
 -- how many bits a field has at least, by what its instance says: those of its range, or else its size; without either it has one
@@ -35,9 +38,21 @@ abbrev pub IsBelow : (bits : ℕ) → Option ℕ → Type 0
 IsBelow bits None = ⊥
 IsBelow bits (Some n) = n < 2 ^ bits
 
--- another reset of this instance fits; that it has none any more does not do, since then the reset of its component counts
+-- if there is one, it is below that
+abbrev pub IsBelowIfAny : (bits : ℕ) → Option ℕ → Type 0
+IsBelowIfAny bits None = Unit {0}
+IsBelowIfAny bits (Some n) = n < 2 ^ bits
+
+-- another reset of an instance is the one that there was, or fits
 abbrev pub FitsReset : Shell → Option ℕ → Type 0
 FitsReset s reset = (reset ≡ s.reset) ⊎ IsBelow (bits_said s) reset
+
+-- an instance without a reset, whose component, the one that an item holds, has a reset that fits the instance, or none
+pub record FitsWithout (d : Items) (at : List ℕ) (s : Shell) (reset : Option ℕ) : Type 0 where
+  pub none : reset ≡ None
+  pub component : List ℕ
+  pub is : component_of d at ≡ Some component
+  pub fits : IsBelowIfAny (bits_said s) (number_in (component_value d component Reset))
 
 -- another shell for the item at an address
 pub record IsHarmlessShell (at : List ℕ) (u : Shell) (d : Items) : Type 0 where
@@ -46,7 +61,7 @@ pub record IsHarmlessShell (at : List ℕ) (u : Shell) (d : Items) : Type 0 wher
   pub there : item_at at d ≡ Some (Instance shell of)
   pub name : u.name ≡ shell.name
   pub same : SaysTheSame shell u
-  pub fits : FitsReset shell u.reset
+  pub fits : FitsReset shell u.reset ⊎ FitsWithout d at shell u.reset
 
 -- a property on which faults of rows depend
 abbrev pub is_judged : List ℕ → Bool
@@ -82,7 +97,6 @@ pub record IsHarmlessValue (at : List ℕ) (v : Value) (d : Items) : Type 0 wher
 
 -- one more assignment, at the end of a body
 pub record IsHarmlessLast (at : List ℕ) (t : List (List ℕ)) (p : List ℕ) (v : Value) (d : Items) : Type 0 where
-  pub placed : 0 < length at
   pub body : Items
   pub held : body_at (holder_of at) d ≡ Some body
   pub last : number_of at ≡ length (list_of body)
@@ -92,7 +106,7 @@ abbrev pub IsHarmlessInsert : List ℕ → Item → Items → Type 0
 IsHarmlessInsert at (Dynamic t p v) d = IsHarmlessLast at t p v d
 IsHarmlessInsert at x d = ⊥
 
--- a change of a description in which each item that faults of rows depend on stays, or fits
+-- a change that leaves each row without a fault as it is: only a reset changes, which fits, or an assignment on which no fault depends
 abbrev pub IsHarmless : Patch → Items → Type 0
 IsHarmless (Exchange at (OfShell u)) d = IsHarmlessShell at u d
 IsHarmless (Exchange at (OfValue v)) d = IsHarmlessValue at v d

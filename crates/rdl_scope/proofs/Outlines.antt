@@ -191,7 +191,7 @@ holder-leads : (d : Items) (a : List ℕ) (h : Holder) (body : Items) → held_b
 holder-leads d a (define n k) body = refl
 holder-leads d a (anonymous s k) body = refl
 
-component-outline : (d : Items) (a : List ℕ) → component_of (outline d) a ≡ component_of d a
+pub component-outline : (d : Items) (a : List ℕ) → component_of (outline d) a ≡ component_of d a
 component-outline d a =
     let each : option_and_then (held_by (outline d) a) (item a (outline d)) ≡ option_and_then (held_by d a) (item a (outline d)) = λ i. option_and_then (λ x. held-outline d a x i) (item a (outline d)) in
     each
