@@ -5,7 +5,7 @@ use rdl_run::comparison::compare;
 use rdl_run::run::MOST_BYTES;
 use rdl_run::status::RunFault;
 use std::alloc::Global;
-use std::io::{Read, Write};
+use std::io::Write;
 use std::rt::Files;
 use whole_files::noted::{NotedReader, NotedWriter};
 use whole_files::obstacle::{Obstacle, obstacle_of_inputs, obstacle_of_output, open_input};
@@ -27,44 +27,6 @@ fn opened<'a, R: Files>(rt: &R, path: &'a str) -> Result<NotedReader<R::File>, S
     }
 }
 
-/// At which file a comparison stopped with this fault, where it is one.
-fn obstacle_of<'a, F, W>(
-    fault: RunFault,
-    line: &'a Comparison,
-    old: &mut NotedReader<F>,
-    new: &mut NotedReader<F>,
-    output: &mut NotedWriter<'_, W>,
-) -> Option<Obstacle<'a>> {
-    match fault {
-        RunFault::Memory => None,
-        RunFault::Write => obstacle_of_output(output),
-        _ => obstacle_of_inputs(
-            MOST_BYTES as u64,
-            line.old.as_str(),
-            old,
-            line.new.as_str(),
-            new,
-        ),
-    }
-}
-
-fn compare_opened<'a, F: Read, W: Write>(
-    alloc: Global,
-    line: &'a Comparison,
-    old: &mut NotedReader<F>,
-    new: &mut NotedReader<F>,
-    output: &mut W,
-) -> Result<Status, Stop<'a>> {
-    let mut output = NotedWriter::new(output);
-    match compare(alloc, old, new, line.top.as_ref(), &mut output) {
-        Ok(status) => Ok(status),
-        Err(fault) => {
-            let obstacle = obstacle_of(fault, line, old, new, &mut output);
-            Err(Stop { fault, obstacle })
-        }
-    }
-}
-
 /// Compares the maps or sessions of the two files. The lines, or the message of the first that is refused, go to the output.
 pub(crate) fn compare_files<'a, R: Files, W: Write>(
     rt: &R,
@@ -74,5 +36,21 @@ pub(crate) fn compare_files<'a, R: Files, W: Write>(
 ) -> Result<Status, Stop<'a>> {
     let mut old = opened(rt, line.old.as_str())?;
     let mut new = opened(rt, line.new.as_str())?;
-    compare_opened(alloc, line, &mut old, &mut new, output)
+    let mut output = NotedWriter::new(output);
+    let fault = match compare(alloc, &mut old, &mut new, line.top.as_ref(), &mut output) {
+        Ok(status) => return Ok(status),
+        Err(fault) => fault,
+    };
+    let obstacle = match fault {
+        RunFault::Memory => None,
+        RunFault::Write => obstacle_of_output(&mut output),
+        _ => obstacle_of_inputs(
+            MOST_BYTES as u64,
+            line.old.as_str(),
+            &mut old,
+            line.new.as_str(),
+            &mut new,
+        ),
+    };
+    Err(Stop { fault, obstacle })
 }
