@@ -9,3 +9,4 @@ pub mod SameLines
 pub mod TurnedLines
 pub mod PartNames
 pub mod RowPaths
+pub mod Telling

@@ -1,27 +1,40 @@
 //! The rows of a map under their paths.
-ghost use Rattle.std.specs.Prelude.{◌≡◌, drop, IfOk};
+ghost use Rattle.std.specs.Prelude.{◌≡◌, drop, IfOk, OnOk};
 ghost use Rattle.rdl_diff.specs.ByPath.{texts};
 
 use indexmap::IndexMap;
 use rdl_elab::row::{Row, RowPath};
 use std::alloc::{AllocError, Global};
 
-/// The names below the top.
-pub(crate) fn names_below(alloc: Global, path: &RowPath) -> Result<Vec<&str>, AllocError>
-    ensures { IfOk result (λ names. texts names.items ≡ drop 1 path.now) }
+/// Makes the list that of the names below the top.
+pub(crate) fn put_names_below<'a>(
+    names: &mut Vec<&'a str>,
+    path: &'a RowPath,
+) -> Result<(), AllocError>
+    ensures { OnOk result (texts names.new.items ≡ drop 1 path.now) }
 {
+    names.clear();
     let (last, around) = path.split_last();
     match around {
-        [] => Ok(Vec::new(alloc)),
+        [] => Ok(()),
         [_, between @ ..] => {
-            let mut names = Vec::with_capacity(alloc, between.len().saturating_add(1))?;
             'names: for name in between {
                 names.push(name.as_str())?;
             }
             names.push(last.as_str())?;
-            Ok(names)
+            Ok(())
         }
     }
+}
+
+/// The names below the top.
+fn names_below(alloc: Global, path: &RowPath) -> Result<Vec<&str>, AllocError>
+    ensures { IfOk result (λ names. texts names.items ≡ drop 1 path.now) }
+{
+    let (_, around) = path.split_last();
+    let mut names = Vec::with_capacity(alloc, around.len())?;
+    put_names_below(&mut names, path)?;
+    Ok(names)
 }
 
 /// Rows, one under each path.

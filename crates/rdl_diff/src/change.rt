@@ -3,7 +3,7 @@ ghost use Rattle.std.specs.Prelude.{◌≡◌, ◌++◌, map, flat_map, string_b
 ghost use Rattle.rdl_diff.specs.DiffText.{change, changes, change_text};
 ghost use Rattle.rdl_diff.specs.Seen.{seen};
 
-use crate::told::{Told, is_same, push_told, told_by};
+use crate::told::{Told, are_same_values, is_same, push_told, told_by};
 use crate::what::What;
 use rdl_elab::row::Row;
 use rdl_tree::property::Property;
@@ -42,6 +42,22 @@ fn push_change(
     Ok(())
 }
 
+/// Adds the text of the values of a property, if they differ.
+fn push_value(
+    alloc: Global,
+    texts: &mut Vec<String>,
+    property: Property,
+    old: &Row,
+    new: &Row,
+) -> Result<(), AllocError>
+    ensures { OnOk result (map string_bytes texts.new.items ≡ map string_bytes texts.old.items ++ map change_text (change old.now new.now (What.Value property))) }
+{
+    if are_same_values(old.values.get(property), new.values.get(property)) {
+        return Ok(());
+    }
+    push_change(alloc, texts, What::Value(property), old, new)
+}
+
 /// Adds the texts of the values that differ of these properties.
 fn push_values(
     alloc: Global,
@@ -53,7 +69,7 @@ fn push_values(
     ensures { OnOk result (map string_bytes texts.new.items ≡ map string_bytes texts.old.items ++ flat_map (λ p. map change_text (change old.now new.now (What.Value p))) properties.now) }
 {
     'properties: for property in properties {
-        push_change(alloc, texts, What::Value(*property), old, new)?;
+        push_value(alloc, texts, *property, old, new)?;
     }
     Ok(())
 }

@@ -3,32 +3,35 @@ ghost use Rattle.std.specs.Prelude.{◌≡◌, ◌++◌, flat_map, string_bytes,
 ghost use Rattle.rdl_diff.specs.ByPath.{row_under};
 ghost use Rattle.rdl_diff.specs.DiffText.{diff_text, path, row_at, gone_line, new_line, line_text};
 
-use crate::by_path::{ByPath, names_below};
+use crate::by_path::{ByPath, put_names_below};
 use crate::line::{push_gone, push_new};
 use rdl_elab::row::Row;
 use std::alloc::{AllocError, Global};
 
-fn push_gone_at(
-    alloc: Global,
+/// Appends the line of a row of the first map, if it has one. What the list of names has doesn't matter.
+fn push_gone_at<'a>(
     text: &mut String,
-    row: &Row,
+    names: &mut Vec<&'a str>,
+    row: &'a Row,
     new: &ByPath<'_>,
 ) -> Result<(), AllocError>
     ensures { OnOk result (string_bytes text.new ≡ string_bytes text.old ++ flat_map line_text (gone_line (row_under new.now (path row.now)) row.now)) }
 {
-    let names = names_below(alloc, &row.names)?;
+    put_names_below(names, &row.names)?;
     push_gone(text, row, new.get(names.as_slice()))
 }
 
-fn push_new_at(
+/// Appends the line of a row of the second map, if it has one. What the list of names has doesn't matter.
+fn push_new_at<'a>(
     alloc: Global,
     text: &mut String,
-    row: &Row,
+    names: &mut Vec<&'a str>,
+    row: &'a Row,
     old: &ByPath<'_>,
 ) -> Result<(), AllocError>
     ensures { OnOk result (string_bytes text.new ≡ string_bytes text.old ++ flat_map line_text (new_line (row_under old.now (path row.now)) row.now)) }
 {
-    let names = names_below(alloc, &row.names)?;
+    put_names_below(names, &row.names)?;
     push_new(alloc, text, row, old.get(names.as_slice()))
 }
 
@@ -42,8 +45,9 @@ fn push_all_gone(
     ensures { OnOk result (string_bytes text.new ≡ string_bytes text.old ++ flat_map line_text (flat_map (λ r. gone_line (row_at (path r) new.now) r) old.now)) }
 {
     let by_path = ByPath::of(alloc, new)?;
+    let mut names = Vec::new(alloc);
     'rows: for row in old {
-        push_gone_at(alloc, text, row, &by_path)?;
+        push_gone_at(text, &mut names, row, &by_path)?;
     }
     Ok(())
 }
@@ -58,8 +62,9 @@ fn push_all_new(
     ensures { OnOk result (string_bytes text.new ≡ string_bytes text.old ++ flat_map line_text (flat_map (λ r. new_line (row_at (path r) old.now) r) new.now)) }
 {
     let by_path = ByPath::of(alloc, old)?;
+    let mut names = Vec::new(alloc);
     'rows: for row in new {
-        push_new_at(alloc, text, row, &by_path)?;
+        push_new_at(alloc, text, &mut names, row, &by_path)?;
     }
     Ok(())
 }

@@ -77,7 +77,8 @@ fn is_same_value(a: &Value, b: &Value) -> bool
     }
 }
 
-fn are_same_values(a: Option<&Value>, b: Option<&Value>) -> bool
+/// Whether both rows have no value, or the same.
+pub(crate) fn are_same_values(a: Option<&Value>, b: Option<&Value>) -> bool
     ensures { result ≡ option_eq same_value (option_copied a.entry) (option_copied b.entry) }
 {
     match (a, b) {

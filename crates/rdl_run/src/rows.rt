@@ -4,7 +4,8 @@ ghost use Rattle.rdl_run.specs.OpenedRows.{OpensRows};
 ghost use Rattle.rdl_run.specs.Opening.{RefusesToOpen};
 ghost use Rattle.rdl_run.specs.OpeningFaults.{IfRefusedToOpen};
 
-use crate::open::{OpenFault, open};
+use crate::open::{OpenFault, open_shown};
+use crate::shown::rows_of;
 use rdl_elab::row::Rows;
 use rdl_text::name::Name;
 use std::alloc::Global;
@@ -21,8 +22,8 @@ pub(crate) fn opened_rows(
     ensures rows { IfOk result (λ rows. OpensRows (option_copied top.entry) bytes.now rows) }
     ensures refused { IfErr result (λ fault. IfRefusedToOpen fault (RefusesToOpen (option_copied top.entry) bytes.now)) }
 {
-    match open(alloc, bytes, top, NO_EDITS) {
-        Ok(journal) => Ok(journal.map().rows(alloc)?),
+    match open_shown(alloc, bytes, top, NO_EDITS, true) {
+        Ok((journal, rows)) => Ok(rows_of(alloc, journal.map(), rows)?),
         Err(fault) => Err(fault),
     }
 }

@@ -7,6 +7,6 @@ pub returns : goal.returns
 returns c =
     let old = c.args.old.now in
     let row = c.args.row.now in
-    let names : texts c.as_slice.result.now ≡ path row = ap texts c.as_slice.ensures.value ∙ c.in_ok-names.ensures in
+    let names : texts c.as_slice.result.now ≡ path row = ap texts c.as_slice.ensures.value ∙ c.in_ok-put_names_below.ensures in
     let found : option_copied c.get.result ≡ row_under old (path row) = c.get.ensures ∙ ap (row_under old) names in
     subst (λ o. OnOk c.push_new.result (string_bytes c.push_new.new.text ≡ string_bytes c.args.text.now ++ flat_map line_text (new_line o row))) found c.push_new.ensures
