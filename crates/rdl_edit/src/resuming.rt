@@ -11,10 +11,13 @@ ghost use Rattle.rdl_edit.specs.Resuming.{all_fit, place_fault, step_fault, step
 ghost use Rattle.rdl_tree.specs.declared.session.Where.TheVariants as where_;
 ghost use Rattle.rdl_edit.specs.Keeping.{IsLaidOut};
 ghost use Rattle.rdl_edit.specs.Step.{HasRows};
+ghost use Rattle.rdl_edit.specs.Touching.{IsKnown};
 ghost use Rattle.rdl_edit.specs.Ways.{IsMisfit, stop_at, refused, place_of, way_back, ways_along, AllLead, is_empty};
 
 use crate::back::Back;
 use crate::edit::is_memory;
+use crate::touched::{Touched, touched_by};
+use crate::turning::lay_out;
 use rdl_elab::kept::Kept;
 use rdl_tree::description::Description;
 use rdl_tree::fault::Fault;
@@ -119,20 +122,23 @@ fn faulty(place: Where, fault: Fault) -> SessionFault
     }
 }
 
-/// Lays out the map at a place.
+/// Lays out the map at a place, behind a step of which this is known.
 fn judge(
     alloc: Global,
     description: &Description,
     kept: &mut Kept,
     name: Option<&str>,
+    touched: &Touched,
     place: Where,
 ) -> Result<(), SessionFault>
+    requires known { IsKnown touched.now description.now.items kept.old }
+    requires top { kept.old.top ≡ option_copied name }
     ensures laid_out { OnOk result (IsLaidOut (record { description = description.now.items; option = option_copied name.entry }) kept.new) }
     ensures rows { OnOk result (HasRows (record { description = description.now.items; option = option_copied name.entry })) }
     ensures faultless { OnOk result (place_fault place (option_copied name.entry) description.now.items ≡ None) }
     ensures refused { IfErr result (λ f. (place_fault place (option_copied name.entry) description.now.items ≡ Some f) ⊎ (f ≡ Memory)) }
 {
-    match kept.relay(alloc, description, name, &[]) {
+    match lay_out(alloc, description, kept, name, touched) {
         Ok(()) => Ok(()),
         Err(fault) => Err(faulty(place, fault)),
     }
@@ -170,12 +176,13 @@ fn take_step(
         return Ok(step);
     }
     let read = step.read();
+    let touched = touched_by(alloc, description, step.patches());
     let patches = step.into_vec();
     let back = match turn_all(alloc, description, patches) {
         Ok(back) => back,
         Err(stop) => return Err(stopped(place, stop)),
     };
-    match judge(alloc, description, kept, name, place) {
+    match judge(alloc, description, kept, name, &touched, place) {
         Ok(()) => Ok(Back::new(back, read)),
         Err(fault) => Err(fault),
     }

@@ -2,7 +2,7 @@
 ghost use Rattle.std.specs.Prelude.{◌≡◌, ◌⊎◌, ◌≤◌, ◌*◌, ℕ, Bool, List, Err, IfOk, IfErr, OnOk, OnErr, option_copied};
 ghost use Rattle.rdl_tree.specs.Items.{Items};
 ghost use Rattle.rdl_scope.specs.ItemFaults.{out_of_memory};
-ghost use Rattle.rdl_elab.specs.AllKept.{AreOf, instances_at};
+ghost use Rattle.rdl_elab.specs.AllKept.{AreOf, all_instances, instances_at};
 ghost use Rattle.rdl_elab.specs.Faults.{elaborated};
 ghost use Rattle.rdl_elab.specs.Known.{HasRows as HasRowsWith};
 ghost use Rattle.rdl_elab.specs.Reach.{in_reach, AreUnchangedBut};
@@ -37,7 +37,7 @@ fn refused(fault: Fault) -> Refusal
 
 /// Lays out a description behind a step of which this is known, and judges no more than that leaves open. Nothing changes
 /// if the map has a fault.
-fn lay_out(
+pub(crate) fn lay_out(
     alloc: Global,
     description: &Description,
     kept: &mut Kept,
@@ -48,6 +48,7 @@ fn lay_out(
     requires top { kept.old.top ≡ option_copied name }
     ensures layouts { OnOk result (AreOf description.now.items kept.new) }
     ensures top { OnOk result (kept.new.top ≡ option_copied name.entry) }
+    ensures placed { OnOk result (kept.new.placed ≤ 3 * all_instances description.now.items) }
     ensures reached { OnOk result ((old : Items) (bodies : List (List ℕ)) (edited : List ℕ → Bool) → AreOf old kept.old → AreUnchangedBut edited old bodies description.now.items → kept.new.placed ≤ 3 * instances_at (in_reach edited description.now.items) description.now.items) }
     ensures still { OnOk result ((old : Items) → AreOf old kept.old → skeleton old ≡ skeleton description.now.items → kept.new.placed ≡ 0) }
     ensures refused { IfErr result (λ fault. (elaborated description.now.items (option_copied name.entry) ≡ Err fault) ⊎ (fault ≡ out_of_memory)) }
