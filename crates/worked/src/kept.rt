@@ -31,7 +31,7 @@ const AT_FIRST: u64 = 3_007;
 
 /// Lines of a script, and how many instances each places anew, once for each mode in which they stand: those of the
 /// second register file in three, and those of the map, and fields, in one.
-const STEPS: [(&str, u64); 20] = [
+const STEPS: [(&str, u64); 21] = [
     ("resize /$B/x [2]", 5),
     ("undo", 5),
     ("redo", 5),
@@ -41,6 +41,8 @@ const STEPS: [(&str, u64); 20] = [
     ("assign /$top b.y.f reset 1", 0),
     ("undo", 0),
     ("redo", 0),
+    // no layout depends on what software may do
+    ("assign /$top b.y.f sw r", 0),
     ("set /$B name \"second\"", 0),
     ("reset /$B/y/f 1", 0),
     // the field of the new register stands as that of the other one
