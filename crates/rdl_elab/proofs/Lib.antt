@@ -61,6 +61,7 @@ pub mod Storing
 pub mod Coding
 pub mod Spelled
 pub mod FoundAgain
+pub mod LedWords
 pub mod Indexing
 pub mod Numbering
 pub mod FoundLayouts

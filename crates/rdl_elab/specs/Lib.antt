@@ -25,6 +25,7 @@ pub mod Written
 pub mod MadeOf
 pub mod Coded
 pub mod Words
+pub mod WordIndex
 pub mod Stored
 pub mod Taken
 pub mod StandIns

@@ -31,4 +31,5 @@ mod targets;
 mod types;
 mod values;
 mod walk;
+mod word_index;
 mod words;

@@ -8,15 +8,16 @@ ghost use Rattle.rdl_elab.specs.declared.stored.Keyed.{Keyed};
 ghost use Rattle.rdl_elab.specs.AllKept.{AreKept};
 ghost use Rattle.rdl_elab.specs.Kept.{Layouts};
 ghost use Rattle.rdl_elab.specs.Words.{is_among};
-ghost use Rattle.rdl_elab.specs.Stored.{words_in, Leads};
+ghost use Rattle.rdl_elab.specs.WordIndex.{words_in};
+ghost use Rattle.rdl_elab.specs.Stored.{Leads};
 ghost use Rattle.rdl_elab.specs.Taken.{keyed, IsTaken, AreTaken, Stays, AreMarkedOf, AreAmong};
 
 use crate::finished::Finished;
 use crate::laid_out::{LaidOut, SharedLayouts};
 use crate::layout::{Layout, Mode};
+use crate::word_index::WordIndex;
 use slab::Slab;
 use std::alloc::{AllocError, Global};
-use std::collections::BTreeMap;
 use std::marker::Model;
 
 /// Kept layouts, and their key.
@@ -37,7 +38,7 @@ struct Keyed {
 #[derive(Debug, Drop)]
 struct Indexed {
     all: Vec<Keyed>,
-    index: BTreeMap<Vec<u8>, usize>,
+    index: WordIndex,
 }
 
 /// Marks the key, if there is one that is within.
@@ -69,14 +70,14 @@ fn used_keys(alloc: Global, len: usize, components: &[Finished]) -> Result<Vec<b
 
 /// Leads from the words to the number, and answers the layouts.
 fn lead(
-    index: &mut BTreeMap<Vec<u8>, usize>,
+    index: &mut WordIndex,
     number: usize,
     laid_out: LaidOut,
 ) -> Result<SharedLayouts, AllocError>
     ensures layouts { IfOk result (λ layouts. layouts ≡ laid_out.layouts) }
-    ensures there { OnOk result (is_among laid_out.words (words_in index.new.entries) ≡ true) }
-    ensures others { OnOk result ((words : List ℕ) → is_among words (words_in index.old.entries) ≡ true → is_among words (words_in index.new.entries) ≡ true) }
-    ensures leads { OnOk result ((all : List Layouts) → slice_get all number ≡ Some laid_out.layouts → Leads all index.old.entries → Leads all index.new.entries) }
+    ensures there { OnOk result (is_among laid_out.words (words_in index.new) ≡ true) }
+    ensures others { OnOk result ((words : List ℕ) → is_among words (words_in index.old) ≡ true → is_among words (words_in index.new) ≡ true) }
+    ensures leads { OnOk result ((all : List Layouts) → slice_get all number ≡ Some laid_out.layouts → Leads all index.old → Leads all index.new) }
 {
     let (words, layouts) = laid_out.into_parts();
     index.insert(words, number)?;
@@ -85,14 +86,14 @@ fn lead(
 
 /// Leads from the words of a finished component to its number, and answers what is to be kept of it.
 fn keep(
-    index: &mut BTreeMap<Vec<u8>, usize>,
+    index: &mut WordIndex,
     number: usize,
     finished: Finished,
 ) -> Result<Keyed, AllocError>
     ensures keyed { IfOk result (λ k. k ≡ keyed finished.entry) }
-    ensures there { OnOk result (is_among finished.entry.laid_out.words (words_in index.new.entries) ≡ true) }
-    ensures others { OnOk result ((words : List ℕ) → is_among words (words_in index.old.entries) ≡ true → is_among words (words_in index.new.entries) ≡ true) }
-    ensures leads { OnOk result ((all : List Layouts) → slice_get all number ≡ Some finished.entry.laid_out.layouts → Leads all index.old.entries → Leads all index.new.entries) }
+    ensures there { OnOk result (is_among finished.entry.laid_out.words (words_in index.new) ≡ true) }
+    ensures others { OnOk result ((words : List ℕ) → is_among words (words_in index.old) ≡ true → is_among words (words_in index.new) ≡ true) }
+    ensures leads { OnOk result ((all : List Layouts) → slice_get all number ≡ Some finished.entry.laid_out.layouts → Leads all index.old → Leads all index.new) }
 {
     let key = finished.key;
     let layouts = lead(index, number, finished.laid_out)?;
@@ -102,11 +103,11 @@ fn keep(
 /// The layouts of these components, and an index of them.
 fn index_of(alloc: Global, components: Vec<Finished>) -> Result<Indexed, AllocError>
     ensures all { IfOk result (λ i. i.all.items ≡ map keyed components.entry.items) }
-    ensures kept { IfOk result (λ i. AreKept (words_in i.index.entries) components.entry.items) }
-    ensures leads { IfOk result (λ i. Leads (map (λ (k : Keyed). k.layouts) i.all.items) i.index.entries) }
+    ensures kept { IfOk result (λ i. AreKept (words_in i.index) components.entry.items) }
+    ensures leads { IfOk result (λ i. Leads (map (λ (k : Keyed). k.layouts) i.all.items) i.index) }
 {
     let mut all = Vec::with_capacity(alloc, components.len())?;
-    let mut index = BTreeMap::new(alloc);
+    let mut index = WordIndex::new(alloc);
     for finished in components {
         let number = all.len();
         all.push(keep(&mut index, number, finished)?)?;
@@ -197,7 +198,7 @@ pub(crate) struct Stored {
     /// The keys of all components in their order.
     keys: Vec<usize>,
     /// The number of a component whose layouts are made of what the words say.
-    index: BTreeMap<Vec<u8>, usize>,
+    index: WordIndex,
     placed: u64,
 }
 
@@ -206,11 +207,12 @@ impl Model for Stored {
 
     ghost Value = { Stored };
 
-    ghost use Rattle.rdl_elab.specs.Stored.{all_under, AreUnder, HoldsOnly, words_in, Leads};
+    ghost use Rattle.rdl_elab.specs.WordIndex.{words_in};
+    ghost use Rattle.rdl_elab.specs.Stored.{all_under, AreUnder, HoldsOnly, Leads};
 
-    ghost view = { λ s. record { slots = s.layouts.slots; keys = s.keys.items; words = words_in s.index.entries; placed = s.placed } };
+    ghost view = { λ s. record { slots = s.layouts.slots; keys = s.keys.items; words = words_in s.index; placed = s.placed } };
 
-    ghost invariant = { λ s. AreUnder s.layouts.slots s.keys.items (all_under s.layouts.slots s.keys.items) × Leads (all_under s.layouts.slots s.keys.items) s.index.entries × HoldsOnly s.layouts.slots s.keys.items };
+    ghost invariant = { λ s. AreUnder s.layouts.slots s.keys.items (all_under s.layouts.slots s.keys.items) × Leads (all_under s.layouts.slots s.keys.items) s.index × HoldsOnly s.layouts.slots s.keys.items };
 }
 
 impl Stored {
@@ -227,7 +229,7 @@ impl Stored {
         Stored {
             layouts: Slab::new(alloc),
             keys: Vec::new(alloc),
-            index: BTreeMap::new(alloc),
+            index: WordIndex::new(alloc),
             placed: 0,
         }
     }
@@ -270,7 +272,7 @@ impl Stored {
         ensures made { IfSome result (λ c. AreMadeOf words.now c.layouts.now) }
     {
         match self.index.get(words) {
-            Some(number) => numbered(&self.layouts, self.keys.as_slice(), *number),
+            Some(number) => numbered(&self.layouts, self.keys.as_slice(), number),
             None => None,
         }
     }

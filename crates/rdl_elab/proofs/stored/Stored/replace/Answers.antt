@@ -40,7 +40,7 @@ invariant_of-self-2 c =
     let stand : AreUnder slots keys ls = c.put_all.ensures.under ∙ some-laid all in
     let is = under-all slots keys ls stand in (
       subst (λ (xs : List Layouts). AreUnder slots keys xs) (sym is) stand,
-      subst (λ (xs : List Layouts). Leads xs c.in_ok-all.field-0.index.entries) (sym is) c.in_ok-all.ensures.leads,
+      subst (λ (xs : List Layouts). Leads xs c.in_ok-all.field-0.index) (sym is) c.in_ok-all.ensures.leads,
       λ k is. elim (c.put_all.ensures.only k is) [
         | inl was ↦ stayed k was
         | inr among ↦ among
