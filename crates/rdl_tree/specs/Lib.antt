@@ -1,5 +1,6 @@
 pub mod Address
 pub mod AddressText
+mod BuiltIn
 pub mod Codes
 pub mod Component
 pub mod Depth

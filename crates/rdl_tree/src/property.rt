@@ -1,9 +1,17 @@
 //! The properties that a component may have.
 ghost use Rattle.std.specs.Prelude.{◌≡◌};
+ghost use Rattle.rdl_tree.specs.BuiltIn.{built_in_of};
 ghost use Rattle.rdl_tree.specs.Properties.{row, is_owner, has_form, is_mode, is_access, is_read_effect, is_write_effect, on, takes};
 
 use crate::shell::Kind;
+use crate::value::Word::{Regalign, Rw};
 use crate::value::{Value, Word};
+use BuiltIn::{Count, Named, Nothing, Off, Yes};
+use Form::{
+    Accesses, Alignments, BitCounts, Booleans, Modes, Numbers, OnlyTrue, ReadEffects, Texts,
+    Widths, WriteEffects,
+};
+use Owners::{Addrmaps, All, Containers, Fields, Regs};
 use rdl_text::token::Number;
 
 /// A property. Those of the table are in the order in which the rows of a map list their values.
@@ -79,6 +87,67 @@ pub enum Form {
     WriteEffects,
 }
 
+/// A row of the table. It is small and owns nothing, and is made inline: a call that asks for one column makes no other.
+#[derive(Clone, Copy)]
+struct Row {
+    name: &'static str,
+    owners: Owners,
+    form: Form,
+    built_in: BuiltIn,
+    dynamic: bool,
+    layout: bool,
+}
+
+/// A built-in value, as the table tells it.
+#[derive(Clone, Copy)]
+enum BuiltIn {
+    Nothing,
+    Off,
+    Yes,
+    Count(u8),
+    Named(Word),
+}
+
+#[inline(always)]
+fn row_of(
+    name: &'static str,
+    owners: Owners,
+    form: Form,
+    built_in: BuiltIn,
+    dynamic: bool,
+    layout: bool,
+) -> Row
+    ensures name { result.name.now ≡ name.now }
+    ensures owners { result.owners ≡ owners }
+    ensures form { result.form ≡ form }
+    ensures built_in { result.built_in ≡ built_in }
+    ensures dynamic { result.dynamic ≡ dynamic }
+    ensures layout { result.layout ≡ layout }
+{
+    Row {
+        name,
+        owners,
+        form,
+        built_in,
+        dynamic,
+        layout,
+    }
+}
+
+impl BuiltIn {
+    fn value(self) -> Option<Value>
+        ensures { result ≡ built_in_of self }
+    {
+        match self {
+            BuiltIn::Nothing => None,
+            BuiltIn::Off => Some(Value::Bool(false)),
+            BuiltIn::Yes => Some(Value::Bool(true)),
+            BuiltIn::Count(number) => Some(Value::Number(number as Number)),
+            BuiltIn::Named(word) => Some(Value::Word(word)),
+        }
+    }
+}
+
 impl Property {
     /// All properties, in order.
     pub const ALL: [Property; 36] = [
@@ -120,60 +189,67 @@ impl Property {
         Property::Donttest,
     ];
 
+    /// Its row of the table: name, owners, form, built-in value, whether it is dynamic, and whether it is of the layout.
+    #[inline(always)]
+    fn row(self) -> Row
+        ensures name { result.name.now ≡ (row self).name }
+        ensures owners { result.owners ≡ (row self).owners }
+        ensures form { result.form ≡ (row self).form }
+        ensures built_in { built_in_of result.built_in ≡ (row self).built_in }
+        ensures dynamic { result.dynamic ≡ (row self).dynamic }
+        ensures layout { result.layout ≡ (row self).layout }
+    {
+        match self {
+            Self::Name => row_of("name", All, Texts, Nothing, true, false),
+            Self::Desc => row_of("desc", All, Texts, Nothing, true, false),
+            Self::Addressing => row_of("addressing", Addrmaps, Modes, Named(Regalign), false, true),
+            Self::Alignment => row_of("alignment", Containers, Alignments, Nothing, false, true),
+            Self::Lsb0 => row_of("lsb0", Addrmaps, OnlyTrue, Yes, false, false),
+            Self::Regwidth => row_of("regwidth", Regs, Widths, Count(32), false, true),
+            Self::Accesswidth => row_of("accesswidth", Regs, Widths, Nothing, false, true),
+            Self::Shared => row_of("shared", Regs, Booleans, Off, false, false),
+            Self::Fieldwidth => row_of("fieldwidth", Fields, BitCounts, Count(1), false, true),
+            Self::Reset => row_of("reset", Fields, Numbers, Nothing, true, false),
+            Self::Sw => row_of("sw", Fields, Accesses, Named(Rw), true, false),
+            Self::Hw => row_of("hw", Fields, Accesses, Named(Rw), false, false),
+            Self::Rclr => row_of("rclr", Fields, Booleans, Off, true, false),
+            Self::Rset => row_of("rset", Fields, Booleans, Off, true, false),
+            Self::Onread => row_of("onread", Fields, ReadEffects, Nothing, true, false),
+            Self::Woset => row_of("woset", Fields, Booleans, Off, true, false),
+            Self::Woclr => row_of("woclr", Fields, Booleans, Off, true, false),
+            Self::Onwrite => row_of("onwrite", Fields, WriteEffects, Nothing, true, false),
+            Self::Singlepulse => row_of("singlepulse", Fields, Booleans, Off, true, false),
+            Self::Swmod => row_of("swmod", Fields, Booleans, Off, true, false),
+            Self::Swacc => row_of("swacc", Fields, Booleans, Off, true, false),
+            Self::We => row_of("we", Fields, Booleans, Off, true, false),
+            Self::Wel => row_of("wel", Fields, Booleans, Off, true, false),
+            Self::Swwe => row_of("swwe", Fields, Booleans, Off, true, false),
+            Self::Swwel => row_of("swwel", Fields, Booleans, Off, true, false),
+            Self::Counter => row_of("counter", Fields, Booleans, Off, true, false),
+            Self::Intr => row_of("intr", Fields, Booleans, Off, true, false),
+            Self::Anded => row_of("anded", Fields, Booleans, Off, true, false),
+            Self::Ored => row_of("ored", Fields, Booleans, Off, true, false),
+            Self::Xored => row_of("xored", Fields, Booleans, Off, true, false),
+            Self::Hwclr => row_of("hwclr", Fields, Booleans, Off, true, false),
+            Self::Hwset => row_of("hwset", Fields, Booleans, Off, true, false),
+            Self::Sticky => row_of("sticky", Fields, Booleans, Off, true, false),
+            Self::Stickybit => row_of("stickybit", Fields, Booleans, Off, true, false),
+            Self::Dontcompare => row_of("dontcompare", Fields, Booleans, Off, true, false),
+            Self::Donttest => row_of("donttest", Fields, Booleans, Off, true, false),
+        }
+    }
+
     pub fn name(self) -> &'static str
         ensures { result.now ≡ (row self).name }
     {
-        match self {
-            Property::Name => "name",
-            Property::Desc => "desc",
-            Property::Addressing => "addressing",
-            Property::Alignment => "alignment",
-            Property::Lsb0 => "lsb0",
-            Property::Regwidth => "regwidth",
-            Property::Accesswidth => "accesswidth",
-            Property::Shared => "shared",
-            Property::Fieldwidth => "fieldwidth",
-            Property::Reset => "reset",
-            Property::Sw => "sw",
-            Property::Hw => "hw",
-            Property::Rclr => "rclr",
-            Property::Rset => "rset",
-            Property::Onread => "onread",
-            Property::Woset => "woset",
-            Property::Woclr => "woclr",
-            Property::Onwrite => "onwrite",
-            Property::Singlepulse => "singlepulse",
-            Property::Swmod => "swmod",
-            Property::Swacc => "swacc",
-            Property::We => "we",
-            Property::Wel => "wel",
-            Property::Swwe => "swwe",
-            Property::Swwel => "swwel",
-            Property::Counter => "counter",
-            Property::Intr => "intr",
-            Property::Anded => "anded",
-            Property::Ored => "ored",
-            Property::Xored => "xored",
-            Property::Hwclr => "hwclr",
-            Property::Hwset => "hwset",
-            Property::Sticky => "sticky",
-            Property::Stickybit => "stickybit",
-            Property::Dontcompare => "dontcompare",
-            Property::Donttest => "donttest",
-        }
+        self.row().name
     }
 
     /// Which components have it.
     pub fn owners(self) -> Owners
         ensures { result ≡ (row self).owners }
     {
-        match self {
-            Property::Name | Property::Desc => Owners::All,
-            Property::Addressing | Property::Lsb0 => Owners::Addrmaps,
-            Property::Alignment => Owners::Containers,
-            Property::Regwidth | Property::Accesswidth | Property::Shared => Owners::Regs,
-            _ => Owners::Fields,
-        }
+        self.row().owners
     }
 
     /// Whether a component of the kind has it.
@@ -187,19 +263,7 @@ impl Property {
     pub fn form(self) -> Form
         ensures { result ≡ (row self).form }
     {
-        match self {
-            Property::Name | Property::Desc => Form::Texts,
-            Property::Addressing => Form::Modes,
-            Property::Alignment => Form::Alignments,
-            Property::Lsb0 => Form::OnlyTrue,
-            Property::Regwidth | Property::Accesswidth => Form::Widths,
-            Property::Fieldwidth => Form::BitCounts,
-            Property::Reset => Form::Numbers,
-            Property::Sw | Property::Hw => Form::Accesses,
-            Property::Onread => Form::ReadEffects,
-            Property::Onwrite => Form::WriteEffects,
-            _ => Form::Booleans,
-        }
+        self.row().form
     }
 
     /// Whether it may have the value.
@@ -213,31 +277,14 @@ impl Property {
     pub fn dynamic(self) -> bool
         ensures { result ≡ (row self).dynamic }
     {
-        match self {
-            Property::Addressing
-            | Property::Alignment
-            | Property::Lsb0
-            | Property::Regwidth
-            | Property::Accesswidth
-            | Property::Shared
-            | Property::Fieldwidth
-            | Property::Hw => false,
-            _ => true,
-        }
+        self.row().dynamic
     }
 
     /// Whether sizes, addresses or bits depend on it.
     pub fn layout(self) -> bool
         ensures { result ≡ (row self).layout }
     {
-        match self {
-            Property::Addressing
-            | Property::Alignment
-            | Property::Regwidth
-            | Property::Accesswidth
-            | Property::Fieldwidth => true,
-            _ => false,
-        }
+        self.row().layout
     }
 
     /// The value of a component that nothing else gives one. That of `accesswidth` is the `regwidth`, and isn't told
@@ -245,21 +292,7 @@ impl Property {
     pub fn built_in(self) -> Option<Value>
         ensures { result ≡ (row self).built_in }
     {
-        match self {
-            Property::Addressing => Some(Value::Word(Word::Regalign)),
-            Property::Lsb0 => Some(Value::Bool(true)),
-            Property::Regwidth => Some(Value::Number(32)),
-            Property::Fieldwidth => Some(Value::Number(1)),
-            Property::Sw | Property::Hw => Some(Value::Word(Word::Rw)),
-            Property::Name
-            | Property::Desc
-            | Property::Alignment
-            | Property::Accesswidth
-            | Property::Reset
-            | Property::Onread
-            | Property::Onwrite => None,
-            _ => Some(Value::Bool(false)),
-        }
+        self.row().built_in.value()
     }
 }
 
