@@ -46,3 +46,4 @@ pub mod StatedValues
 pub mod SameSkeleton
 pub mod Harmless
 pub mod HarmlessPlaces
+pub mod Renaming
