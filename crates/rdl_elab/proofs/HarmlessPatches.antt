@@ -159,7 +159,7 @@ module _ (at : List ℕ) (d : Items) (part : Part) (x : Item) (there : item_at a
   abbrev pub changed : Item
   changed = with_part part x
 
-  made : with_part_at (number_of at) part stand.body ≡ items_of (slice_set (list_of stand.body) (number_of at) changed)
+  pub made : with_part_at (number_of at) part stand.body ≡ items_of (slice_set (list_of stand.body) (number_of at) changed)
   made = exchange_is (number_of at) part stand.body x stand.found
 
   whole : items_of (list_of stand.body) ≡ stand.body
@@ -184,7 +184,7 @@ module _ (at : List ℕ) (d : Items) (part : Part) (x : Item) (there : item_at a
       (subst (λ t. ReadsAlike read New (item a (items_of (slice_set (list_of stand.body) (number_of at) changed))) (item a t)) whole
       (read-set X read New (list_of stand.body) (number_of at) x changed stand.found own h a)))
 
-  exchange-inner : own_body changed ≡ own_body x → (k : ℕ) → inner k (with_part_at (number_of at) part stand.body) ≡ inner k stand.body
+  pub exchange-inner : own_body changed ≡ own_body x → (k : ℕ) → inner k (with_part_at (number_of at) part stand.body) ≡ inner k stand.body
   exchange-inner own k = ap (inner k) made ∙ inner-set (list_of stand.body) (number_of at) x changed stand.found own k ∙ ap (inner k) whole
 
   exchange-there : item_at at (patched (Exchange at part) d) ≡ Some changed
