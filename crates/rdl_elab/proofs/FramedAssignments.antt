@@ -13,9 +13,9 @@ use Rattle.rdl_tree.proofs.Places.{inner_some}
 use Rattle.rdl_scope.specs.Target.{passes, body_of}
 use Rattle.rdl_scope.specs.ItemFaults.{last_of}
 use Rattle.rdl_scope.specs.Value.{assigns, assigned_in, assigned, leads_to}
+use Rattle.rdl_scope.proofs.Outlines.{outline, passes-same}
 use Rattle.rdl_elab.specs.Harmless.{end_of_target}
-use Rattle.rdl_elab.proofs.Frames.{frame, passes-frame}
-use Rattle.rdl_elab.proofs.FramedChanges.{assigned-frame, leads-same}
+use Rattle.rdl_elab.proofs.FramedChanges.{leads-same}
 
 -- ---- Bodies along an address at which one is changed.
 
@@ -106,13 +106,10 @@ assigned-inside d b p path zero f (holder h body rest) n = refl
 assigned-inside d b p path (suc i) f (plain x rest) n = ap (option_or (assigns d b n p path x)) (assigned-inside d b p path i f rest (suc n))
 assigned-inside d b p path (suc i) f (holder h body rest) n = assigned-inside d b p path i f rest (suc n)
 
--- two descriptions of one frame
-module _ (keep : List ℕ → Bool) (d e : Items) (same : frame keep e ≡ frame keep d) where
+-- two descriptions of one outline
+module _ (d e : Items) (same : outline e ≡ outline d) where
   passes-both : (b : List ℕ) (n : ℕ) (t : List (List ℕ)) → passes e b n t ≡ passes d b n t
-  passes-both b n t = sym (passes-frame keep e b n t) ∙ ap (λ x. passes x b n t) same ∙ passes-frame keep d b n t
-
-  pub assigned-both : (p : List ℕ) → keep p ≡ true → (path : List (List ℕ)) → assigned e p path ≡ assigned d p path
-  assigned-both p kept path = sym (assigned-frame keep e p kept path) ∙ ap (λ x. assigned x p path) same ∙ assigned-frame keep d p kept path
+  passes-both b n t = sym (passes-same e b n t) ∙ ap (λ x. passes x b n t) same ∙ passes-same d b n t
 
   same-item : (b : List ℕ) (n : ℕ) (p : List ℕ) (path : List (List ℕ)) (x : Item) → item_assigns e b n p path x ≡ item_assigns d b n p path x
   same-item b n p path (Dynamic t q v) = ap (λ o. if bytes_eq q p && leads_to path o then Some v else None) (passes-both b n t)

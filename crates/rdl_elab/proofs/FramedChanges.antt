@@ -21,8 +21,8 @@ use Rattle.rdl_scope.specs.Types.{item}
 use Rattle.rdl_scope.specs.Target.{passes, body_of}
 use Rattle.rdl_scope.specs.ItemFaults.{last_of}
 use Rattle.rdl_scope.specs.Value.{assigns, assigned_in, assigned, leads_to, same_path, item_reset, instance_reset}
-use Rattle.rdl_scope.proofs.Outlines.{gap}
-use Rattle.rdl_elab.proofs.Frames.{frame, frame_shell, frame_holder, frame_plain, frame_dynamic, body-frame, passes-frame}
+use Rattle.rdl_scope.proofs.Outlines.{gap, outline, passes-same}
+use Rattle.rdl_elab.proofs.Frames.{frame, frame_shell, frame_holder, frame_plain, frame_dynamic, body-frame}
 
 -- ---- What leaves the frame the same.
 
@@ -75,7 +75,29 @@ assigned-gap d b n p path no_items = refl
 assigned-gap d b n p path (plain x rest) = ap (λ c. option_or (if c then Some (Number 0) else None) (assigned_in d b (suc n) p path (plain x rest))) (and-false (bytes_eq [] p))
 assigned-gap d b n p path (holder h body rest) = ap (λ c. option_or (if c then Some (Number 0) else None) (assigned_in d b (suc n) p path (holder h body rest))) (and-false (bytes_eq [] p))
 
-module _ (keep : List ℕ → Bool) (d : Items) (p : List ℕ) (kept : keep p ≡ true) where
+-- in the items from number n on of the body at b, each dynamic assignment's target passes the same instances in both descriptions
+abbrev pub PassAlike : Items → Items → List ℕ → ℕ → Items → Type 0
+PassAlike d e b n no_items = Unit {0}
+PassAlike d e b n (plain (named s t) rest) = PassAlike d e b (suc n) rest
+PassAlike d e b n (plain (own q v) rest) = PassAlike d e b (suc n) rest
+PassAlike d e b n (plain (default q v) rest) = PassAlike d e b (suc n) rest
+PassAlike d e b n (plain (dynamic t q v) rest) = (passes e b n t ≡ passes d b n t) × PassAlike d e b (suc n) rest
+PassAlike d e b n (holder h body rest) = PassAlike d e b (suc n) rest
+
+-- in all bodies
+abbrev pub AllPassAlike : Items → Items → Type 0
+AllPassAlike d e = (b : List ℕ) (t : Items) → body_at b d ≡ Some t → PassAlike d e b 0 t
+
+among-alike : (d e : Items) (p b : List ℕ) (path : List (List ℕ)) (t : Items) (n : ℕ) → PassAlike d e b n t → assigned_in e b n p path t ≡ assigned_in d b n p path t
+among-alike d e p b path no_items n h = refl
+among-alike d e p b path (plain (named s t) rest) n h = among-alike d e p b path rest (suc n) h
+among-alike d e p b path (plain (own q v) rest) n h = among-alike d e p b path rest (suc n) h
+among-alike d e p b path (plain (default q v) rest) n h = among-alike d e p b path rest (suc n) h
+among-alike d e p b path (plain (dynamic t q v) rest) n h =
+    λ i. option_or (if bytes_eq q p && leads_to path (h.0 i) then Some v else None) (among-alike d e p b path rest (suc n) h.1 i)
+among-alike d e p b path (holder k body rest) n h = among-alike d e p b path rest (suc n) h
+
+module _ (keep : List ℕ → Bool) (p : List ℕ) (kept : keep p ≡ true) where
   other-name : (q : List ℕ) → keep q ≡ false → bytes_eq q p ≡ false
   other-name q e = by (cases_Bool (bytes_eq q p))
     where
@@ -86,37 +108,51 @@ module _ (keep : List ℕ → Bool) (d : Items) (p : List ℕ) (kept : keep p �
           cc
       by (inr h) = h
 
-  one-assigned : (b : List ℕ) (n : ℕ) (path : List (List ℕ)) (t : List (List ℕ)) (q : List ℕ) (v : Value) → assigns (frame keep d) b n p path (dynamic t q v) ≡ assigns d b n p path (dynamic t q v)
-  one-assigned b n path t q v = ap (λ o. if bytes_eq q p && leads_to path o then Some v else None) (passes-frame keep d b n t)
-
-  among-frame : (b : List ℕ) (path : List (List ℕ)) (t : Items) (n : ℕ) → assigned_in (frame keep d) b n p path (frame keep t) ≡ assigned_in d b n p path t
-  among-frame b path no_items n = refl
-  among-frame b path (plain (named s t) rest) n = among-frame b path rest (suc n)
-  among-frame b path (plain (own q v) rest) n = among-frame b path rest (suc n)
-  among-frame b path (plain (default q v) rest) n = among-frame b path rest (suc n)
-  among-frame b path (plain (dynamic t q v) rest) n = by (cases_Bool (keep q)) (among-frame b path rest (suc n))
+  among-frame : (e : Items) (b : List ℕ) (path : List (List ℕ)) (t : Items) (n : ℕ) → assigned_in e b n p path (frame keep t) ≡ assigned_in e b n p path t
+  among-frame e b path no_items n = refl
+  among-frame e b path (plain (named s t) rest) n = among-frame e b path rest (suc n)
+  among-frame e b path (plain (own q v) rest) n = among-frame e b path rest (suc n)
+  among-frame e b path (plain (default q v) rest) n = among-frame e b path rest (suc n)
+  among-frame e b path (plain (dynamic t q v) rest) n = by (cases_Bool (keep q)) (among-frame e b path rest (suc n))
     where
-      by : ((keep q ≡ true) ⊎ (keep q ≡ false)) → assigned_in (frame keep d) b (suc n) p path (frame keep rest) ≡ assigned_in d b (suc n) p path rest
-          → assigned_in (frame keep d) b n p path (frame_dynamic (keep q) t q v (frame keep rest)) ≡ assigned_in d b n p path (plain (dynamic t q v) rest)
-      by (inl e) ih =
-          ap (λ c. assigned_in (frame keep d) b n p path (frame_dynamic c t q v (frame keep rest))) e
-          ∙ (λ i. option_or (one-assigned b n path t q v i) (ih i))
-      by (inr e) ih =
-          ap (λ c. assigned_in (frame keep d) b n p path (frame_dynamic c t q v (frame keep rest))) e
-          ∙ assigned-gap (frame keep d) b n p path (frame keep rest) ∙ ih
-          ∙ sym (ap (λ c. option_or (if c && leads_to path (passes d b n t) then Some v else None) (assigned_in d b (suc n) p path rest)) (other-name q e))
-  among-frame b path (holder h body rest) n = among-frame b path rest (suc n)
+      by : ((keep q ≡ true) ⊎ (keep q ≡ false)) → assigned_in e b (suc n) p path (frame keep rest) ≡ assigned_in e b (suc n) p path rest
+          → assigned_in e b n p path (frame_dynamic (keep q) t q v (frame keep rest)) ≡ assigned_in e b n p path (plain (dynamic t q v) rest)
+      by (inl h) ih =
+          ap (λ c. assigned_in e b n p path (frame_dynamic c t q v (frame keep rest))) h ∙ ap (option_or (assigns e b n p path (dynamic t q v))) ih
+      by (inr h) ih =
+          ap (λ c. assigned_in e b n p path (frame_dynamic c t q v (frame keep rest))) h
+          ∙ assigned-gap e b n p path (frame keep rest) ∙ ih
+          ∙ sym (ap (λ c. option_or (if c && leads_to path (passes e b n t) then Some v else None) (assigned_in e b (suc n) p path rest)) (other-name q h))
+  among-frame e b path (holder h body rest) n = among-frame e b path rest (suc n)
 
-  pub assigned-frame : (path : List (List ℕ)) → assigned (frame keep d) p path ≡ assigned d p path
-  assigned-frame [] = refl
-  assigned-frame (a ∷ path) =
-      let here : option_and_then (λ t. assigned_in (frame keep d) (body_of a) 0 p (a ∷ path) t) (body_at (body_of a) (frame keep d)) ≡ option_and_then (λ t. assigned_in d (body_of a) 0 p (a ∷ path) t) (body_at (body_of a) d) =
-      ap (option_and_then (λ t. assigned_in (frame keep d) (body_of a) 0 p (a ∷ path) t)) (body-frame keep (body_of a) d) ∙ into (body_at (body_of a) d) in
-      λ i. option_or (here i) (assigned-frame path i)
+  pub assigned-both : (d e : Items) → frame keep e ≡ frame keep d → AllPassAlike d e → (path : List (List ℕ)) → assigned e p path ≡ assigned d p path
+  assigned-both d e same alike [] = refl
+  assigned-both d e same alike (a ∷ path) =
+      let b : List ℕ = body_of a in
+      let bodies : option_map (frame keep) (body_at b e) ≡ option_map (frame keep) (body_at b d) = sym (body-frame keep b e) ∙ ap (body_at b) same ∙ body-frame keep b d in
+      let here = into b (body_at b e) (body_at b d) bodies (alike b) in
+      λ i. option_or (here i) (assigned-both d e same alike path i)
     where
-      into : (o : Option Items) → option_and_then (λ t. assigned_in (frame keep d) (body_of a) 0 p (a ∷ path) t) (option_map (frame keep) o) ≡ option_and_then (λ t. assigned_in d (body_of a) 0 p (a ∷ path) t) o
-      into None = refl
-      into (Some t) = among-frame (body_of a) (a ∷ path) t 0
+      into : (b : List ℕ) (x y : Option Items) → option_map (frame keep) x ≡ option_map (frame keep) y → ((t : Items) → y ≡ Some t → PassAlike d e b 0 t)
+          → option_and_then (λ t. assigned_in e b 0 p (a ∷ path) t) x ≡ option_and_then (λ t. assigned_in d b 0 p (a ∷ path) t) y
+      into b None None f h = refl
+      into b None (Some t) f h = cc
+      into b (Some s) None f h = cc
+      into b (Some s) (Some t) f h =
+          let frames : frame keep s ≡ frame keep t = cc in
+          sym (among-frame e b (a ∷ path) s 0) ∙ ap (assigned_in e b 0 p (a ∷ path)) frames ∙ among-frame e b (a ∷ path) t 0 ∙ among-alike d e p b (a ∷ path) t 0 (h t refl)
+
+-- descriptions of one outline pass the same
+pub all-pass : (d e : Items) → outline e ≡ outline d → AllPassAlike d e
+all-pass d e same b t held = each t 0
+  where
+    each : (t : Items) (n : ℕ) → PassAlike d e b n t
+    each no_items n = tt
+    each (plain (named s u) rest) n = each rest (suc n)
+    each (plain (own q v) rest) n = each rest (suc n)
+    each (plain (default q v) rest) n = each rest (suc n)
+    each (plain (dynamic u q v) rest) n = (sym (passes-same e b n u) ∙ ap (λ x. passes x b n u) same ∙ passes-same d b n u, each rest (suc n))
+    each (holder h body rest) n = each rest (suc n)
 
 -- ---- Items of a body.
 

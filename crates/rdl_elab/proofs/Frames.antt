@@ -1,4 +1,4 @@
--- The frame of a description: all of it but the resets of instances, whether they are external, and some dynamic assignments.
+-- The frame of a description: all of it but the names and the resets of instances, whether they are external, and some dynamic assignments.
 -- What the rows of a map depend on beside these is that of the frame.
 use Rattle.std.proofs.Common.{◌≡◌, ℕ, zero, suc, Bool, true, false, List, [], ◌∷◌, ◌++◌, Some, None, Option, option_map, refl, ap, sym, ◌∙◌}
 use Rattle.std.specs.Prelude.{option_and_then, bytes_eq, if◌then◌else◌}
@@ -10,17 +10,16 @@ use Rattle.rdl_tree.specs.declared.shell.Shell.{Shell}
 use Rattle.rdl_tree.specs.declared.shell.Outside.TheVariants.{Unsaid}
 use Rattle.rdl_tree.specs.declared.value.Value.{Value}
 use Rattle.rdl_tree.specs.declared.property.Property.TheVariants.{Reset, Sw}
-use Rattle.rdl_scope.specs.Target.{passes}
+use Rattle.rdl_scope.specs.Types.{defines, last_definition, type_at}
 use Rattle.rdl_scope.specs.Value.{own_value, last_default, defaulted, nearest_default, stated_value, component_value}
 use Rattle.rdl_scope.specs.Closed.{Head, Parts, no_parts, part, Made, Standing, nothing, lookup, with_type, with_default, with_made, head_at, parts, component_in, component}
-use Rattle.rdl_scope.proofs.Outlines.{gap, outline, outline_plain, passes-same}
-use Rattle.rdl_scope.proofs.Flats.{flat_holder}
-use Rattle.rdl_elab.specs.Faults.{may_be_top, name_of, top_from}
+use Rattle.rdl_scope.proofs.Outlines.{gap}
+use Rattle.rdl_elab.specs.Faults.{may_be_top, top_from}
 
 -- ---- Frames.
 
 abbrev pub frame_shell : Shell → Shell
-frame_shell s = record s { outside = Unsaid; reset = None }
+frame_shell s = record s { name = []; outside = Unsaid; reset = None }
 
 abbrev pub frame_holder : Holder → Holder
 frame_holder (define n k) = define n k
@@ -91,27 +90,16 @@ component-gap-suc i e b n no_items = refl
 component-gap-suc i e b n (plain p rest) = refl
 component-gap-suc i e b n (holder h body rest) = refl
 
-outline-gap : (t : Items) → outline (gap t) ≡ gap (outline t)
-outline-gap no_items = refl
-outline-gap (plain p rest) = refl
-outline-gap (holder h body rest) = refl
+last-gap : (name : List ℕ) (n : ℕ) (t : Items) → last_definition name (suc n) (gap t) ≡ option_map suc (last_definition name n t)
+last-gap name zero no_items = refl
+last-gap name (suc n) no_items = refl
+last-gap name n (plain p rest) = refl
+last-gap name n (holder h body rest) = refl
 
 -- what is read through a body that is framed
 through : {X : Type 0} (keep : List ℕ → Bool) (f g : Items → Option X) → ((t : Items) → f (frame keep t) ≡ g t) → (o : Option Items) → option_and_then f (option_map (frame keep) o) ≡ option_and_then g o
 through keep f g h None = refl
 through keep f g h (Some t) = h t
-
-may-frame : (w : Option (List ℕ)) (h : Holder) → may_be_top w (frame_holder h) ≡ may_be_top w h
-may-frame w (define n k) = refl
-may-frame w (anonymous s k) = refl
-
-name-frame : (h : Holder) → name_of (frame_holder h) ≡ name_of h
-name-frame (define n k) = refl
-name-frame (anonymous s k) = refl
-
-holder-outline : (h : Holder) → flat_holder (frame_holder h) ≡ flat_holder h
-holder-outline (define n k) = refl
-holder-outline (anonymous s k) = refl
 
 module _ (keep : List ℕ → Bool) where
   pub own-frame : (p : List ℕ) (t : Items) → own_value p (frame keep t) ≡ own_value p t
@@ -179,7 +167,29 @@ module _ (keep : List ℕ → Bool) where
   top-frame w n (plain (own p v) rest) = top-frame w (suc n) rest
   top-frame w n (plain (default p v) rest) = top-frame w (suc n) rest
   top-frame w n (plain (dynamic t p v) rest) = either-way (top_from w n) (top_from w (suc n) rest) t p v (frame keep rest) (top-frame w (suc n) rest) (top-gap w n (frame keep rest) ∙ top-frame w (suc n) rest) (keep p)
-  top-frame w n (holder h body rest) = λ i. option_or (top-frame w (suc n) rest i) (if may-frame w h i then Some (n, name-frame h i) else None)
+  top-frame w n (holder (define m k) body rest) = ap (λ o. option_or o (if may_be_top w (define m k) then Some (n, m) else None)) (top-frame w (suc n) rest)
+  top-frame w n (holder (anonymous s k) body rest) = ap (λ o. option_or o None) (top-frame w (suc n) rest)
+
+  -- ---- Types.
+
+  last-frame : (name : List ℕ) (n : ℕ) (t : Items) → last_definition name n (frame keep t) ≡ last_definition name n t
+  last-frame name zero t = refl
+  last-frame name (suc n) no_items = refl
+  last-frame name (suc n) (plain (named s t) rest) = ap (option_map suc) (last-frame name n rest)
+  last-frame name (suc n) (plain (own p v) rest) = ap (option_map suc) (last-frame name n rest)
+  last-frame name (suc n) (plain (default p v) rest) = ap (option_map suc) (last-frame name n rest)
+  last-frame name (suc n) (plain (dynamic t p v) rest) =
+      let h : option_map suc (last_definition name n (frame keep rest)) ≡ option_map suc (last_definition name n rest) = ap (option_map suc) (last-frame name n rest) in
+      either-way (last_definition name (suc n)) (option_map suc (last_definition name n rest)) t p v (frame keep rest) h (last-gap name n (frame keep rest) ∙ h) (keep p)
+  last-frame name (suc n) (holder (define m k) body rest) = ap (λ o. option_or (option_map suc o) (if defines name (define m k) then Some 0 else None)) (last-frame name n rest)
+  last-frame name (suc n) (holder (anonymous s k) body rest) = ap (λ o. option_or (option_map suc o) None) (last-frame name n rest)
+
+  pub type-frame : (path : List ℕ) (t : Items) (name : List ℕ) → type_at path (frame keep t) name ≡ type_at path t name
+  type-frame [] t name = refl
+  type-frame (i ∷ path) t name =
+      let deep : option_and_then (λ b. type_at path b name) (inner i (frame keep t)) ≡ option_and_then (λ b. type_at path b name) (inner i t) =
+      ap (option_and_then (λ b. type_at path b name)) (inner-frame i t) ∙ through keep (λ b. type_at path b name) (λ b. type_at path b name) (λ b. type-frame path b name) (inner i t) in
+      λ j. option_or (option_map (λ a. i ∷ a) (deep j)) (option_map (λ k. k ∷ []) (last-frame name i t j))
 
   -- ---- Components.
 
@@ -255,16 +265,3 @@ module _ (keep : List ℕ → Bool) where
   -- the component of an item of the root
   pub component-frame : (n : ℕ) (d : Items) → component (frame keep d) (n ∷ []) ≡ option_map frame_made (component d (n ∷ []))
   component-frame n d = made-frame n d nothing [] 0
-
-  -- ---- Assignments.
-
-  pub outline-frame : (d : Items) → outline (frame keep d) ≡ outline d
-  outline-frame no_items = refl
-  outline-frame (plain (named s t) rest) = ap (outline_plain (named s t)) (outline-frame rest)
-  outline-frame (plain (own p v) rest) = ap gap (outline-frame rest)
-  outline-frame (plain (default p v) rest) = ap gap (outline-frame rest)
-  outline-frame (plain (dynamic t p v) rest) = either-way outline (gap (outline rest)) t p v (frame keep rest) (ap gap (outline-frame rest)) (outline-gap (frame keep rest) ∙ ap gap (outline-frame rest)) (keep p)
-  outline-frame (holder h body rest) = λ i. holder (holder-outline h i) (outline-frame body i) (outline-frame rest i)
-
-  pub passes-frame : (d : Items) (b : List ℕ) (n : ℕ) (t : List (List ℕ)) → passes (frame keep d) b n t ≡ passes d b n t
-  passes-frame d b n t = sym (passes-same (frame keep d) b n t) ∙ ap (λ o. passes o b n t) (outline-frame d) ∙ passes-same d b n t

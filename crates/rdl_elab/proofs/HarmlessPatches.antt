@@ -5,6 +5,7 @@ use Rattle.std.specs.Option.{option_or}
 use Rattle.std.proofs.Math.Pow.{pow_mono}
 use Rattle.std.proofs.lemmas.Bool.{lt-leb}
 use Rattle.rdl_tree.specs.Items.{Items, plain, holder, named, Holder, define, anonymous}
+use Rattle.rdl_tree.specs.Shell.{bare_shell}
 use Rattle.rdl_tree.specs.View.{items_of, list_of, own_body, holder_item}
 use Rattle.rdl_tree.specs.Address.{holder_of, number_of, inner, body_at}
 use Rattle.rdl_tree.specs.Edit.{insert_item}
@@ -33,7 +34,7 @@ use Rattle.rdl_scope.specs.Types.{item, component_of}
 use Rattle.rdl_scope.specs.ItemFaults.{fault_of}
 use Rattle.rdl_scope.specs.Value.{shown, assigned_in, assigned, item_reset, instance_reset, component_value, path_value}
 use Rattle.rdl_scope.specs.Closed.{Head, Made, component}
-use Rattle.rdl_scope.proofs.Outlines.{outline, component-outline}
+use Rattle.rdl_scope.proofs.Outlines.{outline, component-outline, SameOutline, outline-map_body, outline-set, outline-insert}
 use Rattle.rdl_scope.proofs.OneChange.{item-item_at}
 use Rattle.rdl_elab.specs.declared.layout.Span.{Span}
 use Rattle.rdl_elab.specs.declared.row.Row.{Row}
@@ -44,20 +45,23 @@ use Rattle.rdl_elab.specs.Known.{HasRows}
 use Rattle.rdl_elab.specs.Harmless.{bits_in, bits_said, IsBelow, IsBelowIfAny, FitsReset, FitsWithout, IsHarmlessShell, is_judged, end_of_target, IsFittingReset, IsHarmlessAssignment, IsHarmlessValue, IsHarmlessLast, IsHarmless}
 use Rattle.rdl_elab.proofs.KeptAnswers.{judged-top}
 use Rattle.rdl_elab.proofs.KnownRows.{no-item-fault, top-there}
-use Rattle.rdl_elab.proofs.Frames.{frame, frame_shell, frame_dynamic, frame_head, frame_made, outline-frame, access-frame, reset-frame, top-frame, component-frame}
+use Rattle.rdl_elab.proofs.Frames.{frame, frame_shell, frame_dynamic, frame_head, frame_made, access-frame, reset-frame, top-frame, component-frame}
 use Rattle.rdl_elab.proofs.FramedRows.{StaysSo, top-clear}
-use Rattle.rdl_elab.proofs.FramedChanges.{SameFrame, frame-map_body, frame-set, frame-insert, inner-set, inner-insert, ReadsOutside, ReadsAlike, read-body, read-set, read-insert, read-inside, get-other, reset-last, no-access, last-place}
-use Rattle.rdl_elab.proofs.FramedAssignments.{along, AssignsAlike, assigned-both, assigned-set, assigned-insert, assigned-alike}
+use Rattle.rdl_elab.proofs.FramedChanges.{AllPassAlike, all-pass, assigned-both, SameFrame, frame-map_body, frame-set, frame-insert, inner-set, inner-insert, ReadsOutside, ReadsAlike, read-body, read-set, read-insert, read-inside, get-other, reset-last, no-access, last-place}
+use Rattle.rdl_elab.proofs.FramedAssignments.{along, AssignsAlike, assigned-set, assigned-insert, assigned-alike}
 
 -- ---- Rows of one frame.
 
+pub leads-both : (d e : Items) → outline e ≡ outline d → (a : List ℕ) → component_of e a ≡ component_of d a
+leads-both d e same a = sym (component-outline e a) ∙ ap (λ o. component_of o a) same ∙ component-outline d a
+
 -- the path has a reset that fits an instance, or none
-record HasFittingReset (e : Items) (path : List (List ℕ)) (c : List ℕ) (s : Shell) : Type 0 where
+pub record HasFittingReset (e : Items) (path : List (List ℕ)) (c : List ℕ) (s : Shell) : Type 0 where
   value : Option Value
   is : path_value e path c Reset ≡ value
   fits : IsBelowIfAny (bits_said s) (number_of_value value)
 
-abbrev ResetsStay : Items → Items → Type 0
+abbrev pub ResetsStay : Items → Items → Type 0
 ResetsStay d e = (path : List (List ℕ)) (at c : List ℕ) (s : Shell) (o : Of) → item at e ≡ Some (Instance s o) → component_of e at ≡ Some c → (path_value e (path ++ at ∷ []) c Reset ≡ path_value d (path ++ at ∷ []) c Reset) ⊎ HasFittingReset e (path ++ at ∷ []) c s
 
 no-rows : (rows : List Row) (f : Fault) → ◌≡◌ {A = Result (List Row) Fault} (Err f) (Ok rows) → ⊥
@@ -76,26 +80,21 @@ small bits span None h g = refl
 small bits span (Some n) h g = let more : 2 ^ bits ≤ 2 ^ (span.end - span.start) = pow_mono h in lt-leb (2 ^ (span.end - span.start)) n (omega (arith, more, g))
 
 module _ (keep : List ℕ → Bool) (d e : Items) (same : frame keep e ≡ frame keep d) where
-  leads-both : (a : List ℕ) → component_of e a ≡ component_of d a
-  leads-both a =
-      let outlines : outline e ≡ outline d = sym (outline-frame keep e) ∙ ap outline same ∙ outline-frame keep d in
-      sym (component-outline e a) ∙ ap (λ o. component_of o a) outlines ∙ component-outline d a
-
   access-both : (c : List ℕ) → component_value e c Sw ≡ component_value d c Sw
   access-both c = sym (access-frame keep e c) ∙ ap (λ x. component_value x c Sw) same ∙ access-frame keep d c
 
-  reset-both : (c : List ℕ) → component_value e c Reset ≡ component_value d c Reset
+  pub reset-both : (c : List ℕ) → component_value e c Reset ≡ component_value d c Reset
   reset-both c = sym (reset-frame keep e c) ∙ ap (λ x. component_value x c Reset) same ∙ reset-frame keep d c
 
-  access-path : keep (row Sw).name ≡ true → (path : List (List ℕ)) (c : List ℕ) → path_value e path c Sw ≡ path_value d path c Sw
-  access-path kept path c = λ i. option_or (assigned-both keep d e same (row Sw).name kept path i) (option_or ((no-access e path ∙ sym (no-access d path)) i) (access-both c i))
+  access-path : AllPassAlike d e → keep (row Sw).name ≡ true → (path : List (List ℕ)) (c : List ℕ) → path_value e path c Sw ≡ path_value d path c Sw
+  access-path alike kept path c = λ i. option_or (assigned-both keep (row Sw).name kept d e same alike path i) (option_or ((no-access e path ∙ sym (no-access d path)) i) (access-both c i))
 
-  stays_so : keep (row Sw).name ≡ true → ResetsStay d e → StaysSo keep d e
-  stays_so kept stay = record {
+  stays_so : AllPassAlike d e → keep (row Sw).name ≡ true → ResetsStay d e → StaysSo keep d e
+  stays_so alike kept stay = record {
     access = λ path h k heads.
         let kinds : k.kind ≡ h.kind = ap (λ (x : Head). x.kind) heads in
         let places : k.at ≡ h.at = ap (λ (x : Head). x.at) heads in
-        let values : path_value e path k.at Sw ≡ path_value d path h.at Sw = ap (λ c. path_value e path c Sw) places ∙ access-path kept path h.at in
+        let values : path_value e path k.at Sw ≡ path_value d path h.at Sw = ap (λ c. path_value e path c Sw) places ∙ access-path alike kept path h.at in
         λ i. if on Sw (kinds i) then option_map (shown (row Sw).form) (values i) else None;
     reset = λ path at s o h k span there leads heads is bits narrow. by path at s h k span heads is bits narrow (stay path at k.at s o there leads);
   }
@@ -119,7 +118,7 @@ module _ (keep : List ℕ → Bool) (d e : Items) (same : frame keep e ≡ frame
   component-both : (n : ℕ) → option_map (frame_made keep) (component e (n ∷ [])) ≡ option_map (frame_made keep) (component d (n ∷ []))
   component-both n = sym (component-frame keep n e) ∙ ap (λ x. component x (n ∷ [])) same ∙ component-frame keep n d
 
-  module _ (wanted : Option (List ℕ)) (known : HasRows d wanted) (none : fault_of e ≡ None) (kept : keep (row Sw).name ≡ true) (stay : ResetsStay d e) where
+  module _ (wanted : Option (List ℕ)) (known : HasRows d wanted) (none : fault_of e ≡ None) (kept : keep (row Sw).name ≡ true) (alike : AllPassAlike d e) (stay : ResetsStay d e) where
     under-top : (n : ℕ) (name : List ℕ) → top_from wanted 0 d ≡ Some (n, name) → HasRows e wanted
     under-top n name top = by (component d (n ∷ [])) (component e (n ∷ [])) refl (component-both n) was
       where
@@ -137,10 +136,10 @@ module _ (keep : List ℕ → Bool) (d e : Items) (same : frame keep e ≡ frame
               are =
                   judged-top e wanted (Some (n, name)) none (top-both wanted ∙ top)
                   ∙ ap (under_top e (n ∷ []) name) there
-                  ∙ ap (rows_or (rows_of e name m)) (top-clear keep d e (stays_so kept stay) none (n ∷ []) name c m there frames clear);
+                  ∙ ap (rows_or (rows_of e name m)) (top-clear keep d e (stays_so alike kept stay) none (n ∷ []) name c m there frames clear);
             }
 
-    framed-rows : HasRows e wanted
+    pub framed-rows : HasRows e wanted
     framed-rows = by (top_from wanted 0 d) refl
       where
         by : (o : Option (ℕ × List ℕ)) → top_from wanted 0 d ≡ o → HasRows e wanted
@@ -149,25 +148,34 @@ module _ (keep : List ℕ → Bool) (d e : Items) (same : frame keep e ≡ frame
 
 -- ---- One item is another, or there is one more at the end.
 
+-- what is read of item n of a body
+abbrev pub in_body : {X : Type 0} → (Item → Option X) → ℕ → Option Items → Option X
+in_body read n o = option_and_then read (option_and_then (λ b. slice_get (list_of b) n) o)
+
 module _ (at : List ℕ) (d : Items) (part : Part) (x : Item) (there : item_at at d ≡ Some x) where
-  abbrev stand : Stands at d x
+  abbrev pub stand : Stands at d x
   stand = stands at d x there
 
-  abbrev changed : Item
+  abbrev pub changed : Item
   changed = with_part part x
 
-  made : with_part_at (number_of at) part stand.body ≡ items_of (slice_set (list_of stand.body) (number_of at) changed)
+  pub made : with_part_at (number_of at) part stand.body ≡ items_of (slice_set (list_of stand.body) (number_of at) changed)
   made = exchange_is (number_of at) part stand.body x stand.found
 
   whole : items_of (list_of stand.body) ≡ stand.body
   whole = items_of-list_of stand.body
 
-  exchange-frame : (keep : List ℕ → Bool) → SameFrame keep x changed → frame keep (patched (Exchange at part) d) ≡ frame keep d
+  pub exchange-frame : (keep : List ℕ → Bool) → SameFrame keep x changed → frame keep (patched (Exchange at part) d) ≡ frame keep d
   exchange-frame keep h =
       frame-map_body keep (holder_of at) (with_part_at (number_of at) part) d stand.body stand.held
       (ap (frame keep) made ∙ frame-set keep (list_of stand.body) (number_of at) x changed stand.found h ∙ ap (frame keep) whole)
 
-  exchange-read : (X : Type 0) (read : Item → Option X) (New : Option Item → Type 0) → ReadsOutside X read → own_body changed ≡ own_body x → ReadsAlike read New (Some changed) (Some x)
+  exchange-outline : SameOutline x changed → outline (patched (Exchange at part) d) ≡ outline d
+  exchange-outline h =
+      outline-map_body (holder_of at) (with_part_at (number_of at) part) d stand.body stand.held
+      (ap outline made ∙ outline-set (list_of stand.body) (number_of at) x changed stand.found h ∙ ap outline whole)
+
+  pub exchange-read : (X : Type 0) (read : Item → Option X) (New : Option Item → Type 0) → ReadsOutside X read → own_body changed ≡ own_body x → ReadsAlike read New (Some changed) (Some x)
       → (a : List ℕ) → ReadsAlike read New (item a (patched (Exchange at part) d)) (item a d)
   exchange-read X read New outside own h =
       read-body X read New outside (holder_of at) (with_part_at (number_of at) part) d stand.body stand.held
@@ -176,7 +184,7 @@ module _ (at : List ℕ) (d : Items) (part : Part) (x : Item) (there : item_at a
       (subst (λ t. ReadsAlike read New (item a (items_of (slice_set (list_of stand.body) (number_of at) changed))) (item a t)) whole
       (read-set X read New (list_of stand.body) (number_of at) x changed stand.found own h a)))
 
-  exchange-inner : own_body changed ≡ own_body x → (k : ℕ) → inner k (with_part_at (number_of at) part stand.body) ≡ inner k stand.body
+  pub exchange-inner : own_body changed ≡ own_body x → (k : ℕ) → inner k (with_part_at (number_of at) part stand.body) ≡ inner k stand.body
   exchange-inner own k = ap (inner k) made ∙ inner-set (list_of stand.body) (number_of at) x changed stand.found own k ∙ ap (inner k) whole
 
   exchange-there : item_at at (patched (Exchange at part) d) ≡ Some changed
@@ -184,42 +192,41 @@ module _ (at : List ℕ) (d : Items) (part : Part) (x : Item) (there : item_at a
       found_at at (patched (Exchange at part) d) (with_part_at (number_of at) part stand.body) changed stand.within
       (body_at-map (holder_of at) (with_part_at (number_of at) part) d stand.body stand.held) (exchange-found (number_of at) part stand.body x stand.found)
 
-  -- at any other address the same is read
-  read-apart : (X : Type 0) (read : Item → Option X) → ReadsOutside X read → own_body changed ≡ own_body x → (a : List ℕ) (y : Item) → item a (patched (Exchange at part) d) ≡ Some y
-      → (option_and_then read (item a (patched (Exchange at part) d)) ≡ option_and_then read (item a d)) ⊎ (a ≡ at)
-  read-apart X read outside own a y h = by (each (holder_of a) (number_of a))
+  -- at any other place the same is read
+  pub body-apart : (X : Type 0) (read : Item → Option X) → ReadsOutside X read → own_body changed ≡ own_body x → (q : List ℕ) (n : ℕ)
+      → (in_body read n (body_at q (patched (Exchange at part) d)) ≡ in_body read n (body_at q d)) ⊎ ((q ≡ holder_of at) × (n ≡ number_of at))
+  body-apart X read outside own =
+      along Apart (λ b o n. inl refl) (λ b i f t n. inl (read-inside X read outside i f t n)) (holder_of at) (with_part_at (number_of at) part) d stand.body stand.held here (exchange-inner own)
     where
-      now : Items
-      now = patched (Exchange at part) d
-
-      in_body : ℕ → Option Items → Option X
-      in_body n o = option_and_then read (option_and_then (λ b. slice_get (list_of b) n) o)
-
       Apart : List ℕ → Option Items → Option Items → Type 0
-      Apart q new old = (n : ℕ) → (in_body n new ≡ in_body n old) ⊎ ((q ≡ holder_of at) × (n ≡ number_of at))
+      Apart q new old = (n : ℕ) → (in_body read n new ≡ in_body read n old) ⊎ ((q ≡ holder_of at) × (n ≡ number_of at))
 
       here : Apart (holder_of at) (Some (with_part_at (number_of at) part stand.body)) (Some stand.body)
       here n = one (get-other (list_of stand.body) (number_of at) n changed)
         where
           one : ((slice_get (slice_set (list_of stand.body) (number_of at) changed) n ≡ slice_get (list_of stand.body) n) ⊎ (n ≡ number_of at))
-              → (in_body n (Some (with_part_at (number_of at) part stand.body)) ≡ in_body n (Some stand.body)) ⊎ ((holder_of at ≡ holder_of at) × (n ≡ number_of at))
+              → (in_body read n (Some (with_part_at (number_of at) part stand.body)) ≡ in_body read n (Some stand.body)) ⊎ ((holder_of at ≡ holder_of at) × (n ≡ number_of at))
           one (inl e) =
               inl (ap (λ t. option_and_then read (slice_get (list_of t) n)) made
               ∙ ap (λ (l : List Item). option_and_then read (slice_get l n)) (list_of-items_of (slice_set (list_of stand.body) (number_of at) changed))
               ∙ ap (option_and_then read) e)
           one (inr e) = inr (refl, e)
 
-      each : (q : List ℕ) → Apart q (body_at q now) (body_at q d)
-      each q =
-          along Apart (λ b o n. inl refl) (λ b i f t n. inl (read-inside X read outside i f t n)) (holder_of at) (with_part_at (number_of at) part) d stand.body stand.held here (exchange-inner own) q
+  -- at any other address the same is read
+  read-apart : (X : Type 0) (read : Item → Option X) → ReadsOutside X read → own_body changed ≡ own_body x → (a : List ℕ) (y : Item) → item a (patched (Exchange at part) d) ≡ Some y
+      → (option_and_then read (item a (patched (Exchange at part) d)) ≡ option_and_then read (item a d)) ⊎ (a ≡ at)
+  read-apart X read outside own a y h = by (body-apart X read outside own (holder_of a) (number_of a))
+    where
+      now : Items
+      now = patched (Exchange at part) d
 
       within : 0 < length a
       within = (stands a now y (sym (item-item_at a now) ∙ h)).within
 
-      placed : (t : Items) → option_and_then read (item a t) ≡ in_body (number_of a) (body_at (holder_of a) t)
+      placed : (t : Items) → option_and_then read (item a t) ≡ in_body read (number_of a) (body_at (holder_of a) t)
       placed t = ap (option_and_then read) (item-item_at a t ∙ item_at-place a t within)
 
-      by : (in_body (number_of a) (body_at (holder_of a) now) ≡ in_body (number_of a) (body_at (holder_of a) d)) ⊎ ((holder_of a ≡ holder_of at) × (number_of a ≡ number_of at))
+      by : (in_body read (number_of a) (body_at (holder_of a) now) ≡ in_body read (number_of a) (body_at (holder_of a) d)) ⊎ ((holder_of a ≡ holder_of at) × (number_of a ≡ number_of at))
           → (option_and_then read (item a now) ≡ option_and_then read (item a d)) ⊎ (a ≡ at)
       by (inl e) = inl (placed now ∙ e ∙ sym (placed d))
       by (inr e) = inr (sym (place-whole a within) ∙ (λ i. e.0 i ++ e.1 i ∷ []) ∙ place-whole at stand.within)
@@ -227,7 +234,7 @@ module _ (at : List ℕ) (d : Items) (part : Part) (x : Item) (there : item_at a
 -- ---- Resets of paths.
 
 module _ (d e : Items) (resets : (c : List ℕ) → component_value e c Reset ≡ component_value d c Reset) where
-  path-same : (path : List (List ℕ)) (at c : List ℕ) → assigned e (row Reset).name (path ++ at ∷ []) ≡ assigned d (row Reset).name (path ++ at ∷ [])
+  pub path-same : (path : List (List ℕ)) (at c : List ℕ) → assigned e (row Reset).name (path ++ at ∷ []) ≡ assigned d (row Reset).name (path ++ at ∷ [])
       → option_and_then item_reset (item at e) ≡ option_and_then item_reset (item at d) → path_value e (path ++ at ∷ []) c Reset ≡ path_value d (path ++ at ∷ []) c Reset
   path-same path at c h g = λ i. option_or (h i) (option_or ((reset-last e path at ∙ g ∙ sym (reset-last d path at)) i) (resets c i))
 
@@ -249,14 +256,14 @@ module _ (d e : Items) (resets : (c : List ℕ) → component_value e c Reset �
 
 -- ---- Another shell.
 
-abbrev all_names : List ℕ → Bool
+abbrev pub all_names : List ℕ → Bool
 all_names p = true
 
 record IsInstance (u : Shell) (o : Option Item) : Type 0 where
   of : Of
   is : o ≡ Some (Instance u of)
 
-reset-outside : ReadsOutside Value item_reset
+pub reset-outside : ReadsOutside Value item_reset
 reset-outside = record { held = by }
   where
     by : (h : Holder) (s t : Items) → item_reset (holder_item h s) ≡ item_reset (holder_item h t)
@@ -276,7 +283,6 @@ module _ (at : List ℕ) (u : Shell) (d : Items) (is : IsHarmlessShell at u d) w
   shells-same : frame_shell u ≡ frame_shell shell
   shells-same = λ i.
       record (frame_shell u) {
-        name = is.name i;
         dims = sym is.same.dims i;
         range = sym is.same.range i;
         address = sym is.same.address i;
@@ -288,12 +294,19 @@ module _ (at : List ℕ) (u : Shell) (d : Items) (is : IsHarmlessShell at u d) w
   shell-frame (Named t) rest = ap (λ z. plain (named z t) (frame all_names rest)) shells-same
   shell-frame (Anonymous c) rest = ap (λ z. holder (anonymous z c.kind) (frame all_names c.body) (frame all_names rest)) shells-same
 
+  shell-outline : (o : Of) → SameOutline (Instance shell o) (Instance u o)
+  shell-outline (Named t) rest = ap (λ n. plain (named (bare_shell n) t) (outline rest)) is.name
+  shell-outline (Anonymous c) rest = ap (λ n. holder (anonymous (bare_shell n) c.kind) (outline c.body) (outline rest)) is.name
+
   own-shell : (o : Of) → own_body (Instance u o) ≡ own_body (Instance shell o)
   own-shell (Named t) = refl
   own-shell (Anonymous c) = refl
 
   shell-framed : frame all_names new ≡ frame all_names d
   shell-framed = exchange-frame at d (OfShell u) (Instance shell is.of) is.there all_names (shell-frame is.of)
+
+  outlined : outline new ≡ outline d
+  outlined = exchange-outline at d (OfShell u) (Instance shell is.of) is.there (shell-outline is.of)
 
   resets-read : (New : Option Item → Type 0) → ReadsAlike item_reset New (Some (Instance u is.of)) (Some (Instance shell is.of)) → (a : List ℕ) → ReadsAlike item_reset New (item a new) (item a d)
   resets-read New h = exchange-read at d (OfShell u) (Instance shell is.of) is.there Value item_reset New reset-outside (own-shell is.of) h
@@ -302,7 +315,7 @@ module _ (at : List ℕ) (u : Shell) (d : Items) (is : IsHarmlessShell at u d) w
   bits-same = λ i. bits_in (sym is.same.dims i) (sym is.same.range i)
 
   same-assigned : (path : List (List ℕ)) → assigned new (row Reset).name path ≡ assigned d (row Reset).name path
-  same-assigned path = assigned-both all_names d new shell-framed (row Reset).name refl path
+  same-assigned path = assigned-both all_names (row Reset).name refl d new shell-framed (all-pass d new outlined) path
 
   abbrev Stays : List (List ℕ) → List ℕ → List ℕ → Shell → Type 0
   Stays path place c s = (path_value new (path ++ place ∷ []) c Reset ≡ path_value d (path ++ place ∷ []) c Reset) ⊎ HasFittingReset new (path ++ place ∷ []) c s
@@ -338,7 +351,7 @@ module _ (at : List ℕ) (u : Shell) (d : Items) (is : IsHarmlessShell at u d) w
           let now : item place new ≡ Some (Instance u is.of) = ap (λ a. item a new) equal ∙ item-item_at at new ∙ exchange-there at d (OfShell u) (Instance shell is.of) is.there in
           let shells : s ≡ u = same-shell s u o is.of (item place new) there now in
           let bits : bits_said shell ≡ bits_said s = sym bits-same ∙ ap bits_said (sym shells) in
-          let both : Some c ≡ Some without.component = sym leads ∙ leads-both all_names d new shell-framed place ∙ ap (component_of d) equal ∙ without.is in
+          let both : Some c ≡ Some without.component = sym leads ∙ leads-both d new outlined place ∙ ap (component_of d) equal ∙ without.is in
           let places : c ≡ without.component = cc in
           path-instance d new (reset-both all_names d new shell-framed) path place c (component_value d without.component Reset) s (same-assigned (path ++ place ∷ []))
           ((λ i. option_or ((ap (option_and_then item_reset) now ∙ ap (option_map Number) without.none) i) (component_value new c Reset))
@@ -346,7 +359,7 @@ module _ (at : List ℕ) (u : Shell) (d : Items) (is : IsHarmlessShell at u d) w
           (subst (λ b. IsBelowIfAny b (number_of_value (component_value d without.component Reset))) bits without.fits)
 
   shell-rows : (wanted : Option (List ℕ)) → HasRows d wanted → fault_of new ≡ None → HasRows new wanted
-  shell-rows wanted known none = framed-rows all_names d new shell-framed wanted known none refl (shell-stays is.fits)
+  shell-rows wanted known none = framed-rows all_names d new shell-framed wanted known none refl (all-pass d new outlined) (shell-stays is.fits)
 
 -- ---- Another assignment.
 
@@ -364,16 +377,17 @@ shell-outside = record { held = by }
     by (define n k) s t = refl
     by (anonymous z k) s t = refl
 
-read-same : {X : Type 0} (read : Item → Option X) (x y : Option Item) → ReadsAlike read (λ o. ⊥) x y → option_and_then read x ≡ option_and_then read y
+pub read-same : {X : Type 0} (read : Item → Option X) (x y : Option Item) → ReadsAlike read (λ o. ⊥) x y → option_and_then read x ≡ option_and_then read y
 read-same read x y (inl h) = h
 read-same read x y (inr h) = absurd h
 
 -- all but this assignment stays
 record StaysBut (d e : Items) (b : List ℕ) (n : ℕ) (t : List (List ℕ)) (p : List ℕ) (v : Value) : Type 0 where
   frames : (keep : List ℕ → Bool) → keep p ≡ false → frame keep e ≡ frame keep d
+  outlines : outline e ≡ outline d
   resets : (a : List ℕ) → option_and_then item_reset (item a e) ≡ option_and_then item_reset (item a d)
   shells : (a : List ℕ) → option_and_then shell_of (item a e) ≡ option_and_then shell_of (item a d)
-  assigned : (keep : List ℕ → Bool) → frame keep e ≡ frame keep d → (path : List (List ℕ)) → AssignsAlike v (end_of_target d b n t) path (assigned e p path) (assigned d p path)
+  assigned : (path : List (List ℕ)) → AssignsAlike v (end_of_target d b n t) path (assigned e p path) (assigned d p path)
 
 abbrev is_access : List ℕ → Bool
 is_access p = bytes_eq p (row Sw).name
@@ -382,13 +396,13 @@ module _ (d e : Items) (b : List ℕ) (n : ℕ) (t : List (List ℕ)) (p : List 
   silent-stays : (silent : is_judged p ≡ false) → ResetsStay d e
   silent-stays silent path place c s o there leads =
       let same : frame is_judged e ≡ frame is_judged d = stays.frames is_judged silent in
-      inl (path-same d e (reset-both is_judged d e same) path place c (assigned-both is_judged d e same (row Reset).name refl (path ++ place ∷ [])) (stays.resets place))
+      inl (path-same d e (reset-both is_judged d e same) path place c (assigned-both is_judged (row Reset).name refl d e same (all-pass d e stays.outlines) (path ++ place ∷ [])) (stays.resets place))
 
   no-access-named : p ≡ (row Reset).name → is_access p ≡ false
   no-access-named h = ap is_access h
 
   fitting-stays : IsFittingReset d b n t p v → ResetsStay d e
-  fitting-stays f path place c s o there leads = by (subst (λ q. AssignsAlike v (end_of_target d b n t) (path ++ place ∷ []) (assigned e q (path ++ place ∷ [])) (assigned d q (path ++ place ∷ []))) f.property (stays.assigned is_access same (path ++ place ∷ [])))
+  fitting-stays f path place c s o there leads = by (subst (λ q. AssignsAlike v (end_of_target d b n t) (path ++ place ∷ []) (assigned e q (path ++ place ∷ [])) (assigned d q (path ++ place ∷ []))) f.property (stays.assigned (path ++ place ∷ [])))
     where
       same : frame is_access e ≡ frame is_access d
       same = stays.frames is_access (no-access-named f.property)
@@ -411,8 +425,8 @@ module _ (d e : Items) (b : List ℕ) (n : ℕ) (t : List (List ℕ)) (p : List 
           })
 
   assignment-rows : (wanted : Option (List ℕ)) → IsHarmlessAssignment d b n t p v → HasRows d wanted → fault_of e ≡ None → HasRows e wanted
-  assignment-rows wanted (inl silent) known none = framed-rows is_judged d e (stays.frames is_judged silent) wanted known none refl (silent-stays silent)
-  assignment-rows wanted (inr f) known none = framed-rows is_access d e (stays.frames is_access (no-access-named f.property)) wanted known none refl (fitting-stays f)
+  assignment-rows wanted (inl silent) known none = framed-rows is_judged d e (stays.frames is_judged silent) wanted known none refl (all-pass d e stays.outlines) (silent-stays silent)
+  assignment-rows wanted (inr f) known none = framed-rows is_access d e (stays.frames is_access (no-access-named f.property)) wanted known none refl (all-pass d e stays.outlines) (fitting-stays f)
 
 -- one that is left out of the frame, whatever its value
 value-frame : (keep : List ℕ → Bool) (t : List (List ℕ)) (p : List ℕ) (v w : Value) → keep p ≡ false → SameFrame keep (Dynamic t p v) (Dynamic t p w)
@@ -425,21 +439,25 @@ module _ (at : List ℕ) (w : Value) (d : Items) (is : IsHarmlessValue at w d) w
   abbrev valued : Items
   valued = patched (Exchange at (OfValue w)) d
 
+  value-outlined : outline valued ≡ outline d
+  value-outlined = exchange-outline at d (OfValue w) old_item is.there (λ rest. refl)
+
   value-stays : StaysBut d valued (holder_of at) (number_of at) is.target is.property w
   value-stays = record {
     frames = λ keep h. exchange-frame at d (OfValue w) old_item is.there keep (value-frame keep is.target is.property is.value w h);
+    outlines = value-outlined;
     resets = λ a. read-same item_reset (item a valued) (item a d) (exchange-read at d (OfValue w) old_item is.there Value item_reset (λ o. ⊥) reset-outside refl (inl refl) a);
     shells = λ a. read-same shell_of (item a valued) (item a d) (exchange-read at d (OfValue w) old_item is.there Shell shell_of (λ o. ⊥) shell-outside refl (inl refl) a);
-    assigned = λ keep same.
+    assigned =
         let n = number_of at in
         let there : Stands at d old_item = stands at d old_item is.there in
         let now : with_part_at n (OfValue w) there.body ≡ items_of (slice_set (list_of there.body) n (Dynamic is.target is.property w)) = exchange_is n (OfValue w) there.body old_item there.found in
         let before : items_of (list_of there.body) ≡ there.body = items_of-list_of there.body in
-        assigned-alike keep d valued same is.property (holder_of at) n is.target w (with_part_at n (OfValue w)) there.body refl there.held
+        assigned-alike d valued value-outlined is.property (holder_of at) n is.target w (with_part_at n (OfValue w)) there.body refl there.held
         (λ path.
         subst (λ t. AssignsAlike w (end_of_target d (holder_of at) n is.target) path (assigned_in valued (holder_of at) 0 is.property path t) (assigned_in d (holder_of at) 0 is.property path there.body)) (sym now)
         (subst (λ t. AssignsAlike w (end_of_target d (holder_of at) n is.target) path (assigned_in valued (holder_of at) 0 is.property path (items_of (slice_set (list_of there.body) n (Dynamic is.target is.property w)))) (assigned_in d (holder_of at) 0 is.property path t)) before
-        (assigned-set keep d valued same is.property (holder_of at) n is.target w is.property path (list_of there.body) n 0 is.value there.found (zero-add n))))
+        (assigned-set d valued value-outlined is.property (holder_of at) n is.target w is.property path (list_of there.body) n 0 is.value there.found (zero-add n))))
         (exchange-inner at d (OfValue w) old_item is.there refl);
   }
 
@@ -459,17 +477,22 @@ module _ (at : List ℕ) (t : List (List ℕ)) (p : List ℕ) (w : Value) (d : I
       (read-body X read (λ o. ⊥) outside (holder_of at) change d is.body is.held
       (λ c. subst (λ u. ReadsAlike read (λ o. ⊥) (item c (change is.body)) (item c u)) before-last (read-insert X read (λ o. ⊥) (list_of is.body) (number_of at) t p w is.last h c)) a)
 
+  last-outlined : outline longer ≡ outline d
+  last-outlined =
+      outline-map_body (holder_of at) change d is.body is.held (outline-insert (list_of is.body) (number_of at) t p w is.last ∙ ap outline before-last)
+
   last-stays : StaysBut d longer (holder_of at) (number_of at) t p w
   last-stays = record {
     frames = λ keep h. frame-map_body keep (holder_of at) change d is.body is.held (frame-insert keep (list_of is.body) (number_of at) t p w is.last h ∙ ap (frame keep) before-last);
+    outlines = last-outlined;
     resets = last-read Value item_reset reset-outside refl;
     shells = last-read Shell shell_of shell-outside refl;
-    assigned = λ keep same.
+    assigned =
         let n = number_of at in
-        assigned-alike keep d longer same p (holder_of at) n t w change is.body refl is.held
+        assigned-alike d longer last-outlined p (holder_of at) n t w change is.body refl is.held
         (λ path.
         subst (λ u. AssignsAlike w (end_of_target d (holder_of at) n t) path (assigned_in longer (holder_of at) 0 p path (change is.body)) (assigned_in d (holder_of at) 0 p path u)) before-last
-        (assigned-insert keep d longer same p (holder_of at) n t w p path (list_of is.body) n 0 is.last (zero-add n)))
+        (assigned-insert d longer last-outlined p (holder_of at) n t w p path (list_of is.body) n 0 is.last (zero-add n)))
         (λ k. inner-insert (list_of is.body) n t p w is.last k ∙ ap (inner k) before-last);
   }
 

@@ -57,6 +57,7 @@ pub mod FramedRows
 pub mod FramedChanges
 pub mod FramedAssignments
 pub mod HarmlessPatches
+pub mod Renamings
 pub mod Storing
 pub mod Coding
 pub mod Spelled

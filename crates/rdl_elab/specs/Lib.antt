@@ -47,3 +47,4 @@ pub mod StatedValues
 pub mod SameSkeleton
 pub mod Harmless
 pub mod HarmlessPlaces
+pub mod Renaming

@@ -3,6 +3,7 @@ ghost use Rattle.std.specs.Prelude.{◌≡◌, ◌≤◌, ◌<◌, ◌^◌, true
 ghost use Rattle.rdl_tree.specs.Depth.{depth};
 ghost use Rattle.rdl_elab.specs.Reach.{SaysTheSame};
 ghost use Rattle.rdl_elab.specs.HarmlessPlaces.{IsLast, FitsInstance, FitsEnd};
+ghost use Rattle.rdl_elab.specs.Renaming.{IsRenaming, IsRenamingPatch};
 ghost use Rattle.rdl_elab.specs.Harmless.{bits_said, FitsReset, IsHarmlessShell, IsHarmlessAssignment, IsHarmlessValue, IsHarmlessInsert, IsHarmless, end_of_target, is_judged};
 
 use crate::siblings::is_wider;
@@ -249,5 +250,28 @@ pub fn is_harmless(
             is_harmless_value(alloc, description, at, value)
         }
         _ => Ok(false),
+    }
+}
+
+/// Whether the instance at this address gets another name with this shell, and all else but whether it is external stays.
+fn gets_another_name(description: &Description, at: &Address, new: &Shell) -> bool
+    ensures { result ≡ true → IsRenaming at.now new.now description.now.items }
+{
+    match description.item(at) {
+        Some(Item::Instance(shell, _)) => {
+            says_the_same(shell, new) && new.reset.get() == shell.reset.get()
+        }
+        _ => false,
+    }
+}
+
+/// Whether this patch gives an instance another name, or says whether it is external, and does nothing else. A map that has
+/// rows still has them then if no item has a fault.
+pub fn is_renaming(description: &Description, patch: &Patch) -> bool
+    ensures { result ≡ true → IsRenamingPatch patch.now description.now.items }
+{
+    match patch {
+        Patch::Exchange(at, Part::OfShell(shell)) => gets_another_name(description, at, shell),
+        _ => false,
     }
 }

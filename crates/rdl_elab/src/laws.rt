@@ -8,6 +8,8 @@ ghost use Rattle.rdl_tree.specs.declared.value.Value.{Value};
 ghost use Rattle.rdl_tree.specs.declared.description.Of.{Of};
 ghost use Rattle.rdl_tree.specs.declared.description.Item.TheVariants.{Instance};
 ghost use Rattle.rdl_tree.specs.declared.patch.Patch.{Patch};
+ghost use Rattle.rdl_tree.specs.declared.patch.Patch.TheVariants.{Exchange};
+ghost use Rattle.rdl_tree.specs.declared.part.Part.TheVariants.{OfShell};
 ghost use Rattle.rdl_tree.specs.Patch.{patched};
 ghost use Rattle.rdl_scope.specs.Closed.{Head, Parts, Made, component, instances};
 ghost use Rattle.rdl_scope.specs.Types.{item};
@@ -35,6 +37,7 @@ ghost use Rattle.rdl_elab.specs.Tracked.{Tracked, old_of, new_of};
 ghost use Rattle.rdl_elab.specs.EditedBodies.{edits, is_changed_at, NamesStay, GoByName};
 ghost use Rattle.rdl_elab.specs.Known.{HasRows};
 ghost use Rattle.rdl_elab.specs.Harmless.{IsHarmless};
+ghost use Rattle.rdl_elab.specs.Renaming.{IsRenaming};
 ghost use Rattle.rdl_scope.specs.ItemFaults.{fault_of};
 
 /// An instance without `@` begins at the least number that is at least the end of the instance before it and a multiple
@@ -134,4 +137,9 @@ pub fn steps_leave_the_rest_unchanged()
 /// again to know it.
 pub fn harmless_patches_keep_rows()
     ensures { (p : Patch) (d : Items) (wanted : Option (List ℕ)) → HasRows d wanted → fault_of (patched p d) ≡ None → IsHarmless p d → HasRows (patched p d) wanted }
+{}
+
+/// A map that has rows still has them where an instance gets another name, if no item has a fault then.
+pub fn renamed_instances_keep_rows()
+    ensures { (at : List ℕ) (u : Shell) (d : Items) (wanted : Option (List ℕ)) → HasRows d wanted → fault_of (patched (Exchange at (OfShell u)) d) ≡ None → IsRenaming at u d → HasRows (patched (Exchange at (OfShell u)) d) wanted }
 {}
