@@ -4,7 +4,7 @@ use Rattle.rdl_tree.specs.Items.{Items}
 use Rattle.rdl_tree.specs.ItemAt.{item_at}
 use Rattle.rdl_tree.specs.Patch.{patched, image}
 use Rattle.rdl_tree.specs.declared.patch.Patch.{Patch}
-use Rattle.rdl_tree.specs.declared.patch.Patch.TheVariants.{Insert, Exchange}
+use Rattle.rdl_tree.specs.declared.patch.Patch.TheVariants.{Insert, Delete, Shift, Exchange}
 use Rattle.rdl_tree.specs.declared.part.Part.{Part}
 use Rattle.rdl_tree.specs.declared.part.Part.TheVariants.{OfShell, OfValue, OfTarget, OfType, OfDefine}
 use Rattle.rdl_tree.specs.declared.description.Item.{Item}
@@ -18,6 +18,8 @@ use Rattle.rdl_elab.specs.HarmlessPlaces.{IsLast}
 use Rattle.rdl_elab.specs.Skeleton.{skeleton}
 use Rattle.rdl_elab.specs.Harmless.{IsHarmless}
 use Rattle.rdl_elab.proofs.HarmlessPatches.{keeps_rows}
+use Rattle.rdl_elab.proofs.Renamings as renamings
+use Rattle.rdl_elab.specs.Renaming.{IsRenamingPatch}
 use Rattle.rdl_edit.specs.Still.{is_still, IsStillPart, IsStill}
 use Rattle.rdl_edit.specs.Touching.{IsStillShell, IsAlone, KeepsRows, is_dynamic}
 use Rattle.rdl_edit.proofs.Staying.{skeleton-stays}
@@ -80,6 +82,15 @@ put-alone at (Default p v) d none end h = cc
 pub one-harmless : (p : Patch) (d : Items) → IsHarmless p d → KeepsRows (p ∷ []) d
 one-harmless p d h wanted rows none = keeps_rows p d wanted rows none h
 
-pub ruleset steps = (one-still, one-harmless)
+-- a step that gives an instance another name
+pub one-renamed : (p : Patch) (d : Items) → IsRenamingPatch p d → KeepsRows (p ∷ []) d
+one-renamed (Exchange at (OfShell u)) d h wanted rows none = renamings.keeps_rows at u d wanted rows none h
+one-renamed (Exchange at (OfValue v)) d h wanted rows none = absurd h
+one-renamed (Exchange at (OfTarget t)) d h wanted rows none = absurd h
+one-renamed (Exchange at (OfType t)) d h wanted rows none = absurd h
+one-renamed (Exchange at (OfDefine n)) d h wanted rows none = absurd h
+one-renamed (Insert at x) d h wanted rows none = absurd h
+one-renamed (Delete at) d h wanted rows none = absurd h
+one-renamed (Shift at to) d h wanted rows none = absurd h
 
 pub ruleset still_parts = (still-shell, still-part)

@@ -17,7 +17,7 @@ use Rattle.rdl_elab.specs.SameSkeleton.{HasSameSkeleton}
 use Rattle.rdl_elab.specs.Reach.{SaysTheSame}
 use Rattle.rdl_elab.specs.Skeleton.{skeleton}
 use Rattle.rdl_edit.specs.declared.touched.Touched.{Touched}
-use Rattle.rdl_edit.specs.declared.touched.Touched.TheVariants.{Any, One, Still, Harmless}
+use Rattle.rdl_edit.specs.declared.touched.Touched.TheVariants.{Any, One, Still, Harmless, Renamed}
 
 -- an instance says the same of its place with the shell that this part is
 abbrev pub IsStillShell : Part → Shell → Type 0
@@ -53,6 +53,7 @@ IsTouched Any ps d = Unit {0}
 IsTouched (One at) ps d = NoOtherFault (image ps d) at
 IsTouched (Still at) ps d = NoOtherFault (image ps d) at × (skeleton (image ps d) ≡ skeleton d)
 IsTouched (Harmless at) ps d = NoOtherFault (image ps d) at × (skeleton (image ps d) ≡ skeleton d) × KeepsRows ps d
+IsTouched Renamed ps d = (skeleton (image ps d) ≡ skeleton d) × KeepsRows ps d
 
 -- the same of the description behind the step, where what is kept is of the one before it
 abbrev pub IsKnown : Touched → Items → KeptLayouts → Type 0
@@ -60,6 +61,7 @@ IsKnown Any new k = Unit {0}
 IsKnown (One at) new k = NoOtherFault new at
 IsKnown (Still at) new k = NoOtherFault new at × HasSameSkeleton new k
 IsKnown (Harmless at) new k = NoOtherFault new at × HasSameSkeleton new k × (fault_of new ≡ None → HasRows new k.top)
+IsKnown Renamed new k = HasSameSkeleton new k × (fault_of new ≡ None → HasRows new k.top)
 
 -- where a step is known to keep the skeleton, what is kept is of a description with this one's
 abbrev pub IfStill : Bool → Items → KeptLayouts → Type 0

@@ -8,7 +8,7 @@ ghost use Rattle.rdl_elab.specs.Skeleton.{skeleton, lays_out};
 ghost use Rattle.rdl_edit.specs.Still.{is_still, IsStill, IsStillPart};
 ghost use Rattle.rdl_edit.specs.Touching.{IsTouched, IsStillShell, IsNamesake, IsValue, IsAlone, is_dynamic};
 
-use rdl_elab::harmless::{is_harmless, is_last, says_the_same};
+use rdl_elab::harmless::{is_harmless, is_last, is_renaming, says_the_same};
 use rdl_text::name::Name;
 use rdl_tree::address::Address;
 use rdl_tree::description::{Description, Item};
@@ -29,6 +29,8 @@ pub(crate) enum Touched {
     Still(Address),
     /// Nor anything on which a fault of a row depends, but for what fits.
     Harmless(Address),
+    /// Any item may have a fault, but nothing else is changed than the name of an instance.
+    Renamed,
 }
 
 /// Whether layouts depend on the property of this name.
@@ -179,6 +181,9 @@ pub(crate) fn touched_by(alloc: Global, description: &Description, patches: &[Pa
     };
     match touched_item(description, patch) {
         Some(at) => touched_at(alloc, description, patch, at),
+        None if is_still_patch(description, patch) && is_renaming(description, patch) => {
+            Touched::Renamed
+        }
         None => Touched::Any,
     }
 }

@@ -59,6 +59,7 @@ pub(crate) fn lay_out(
         Touched::One(item) => kept.relay_item(alloc, description, name, item),
         Touched::Still(item) => kept.stay_judged(alloc, description, item),
         Touched::Harmless(item) => kept.stay_checked(alloc, description, item),
+        Touched::Renamed => kept.stay_if_faultless(alloc, description),
     }
 }
 

@@ -20,6 +20,7 @@ use crate::numbers::number;
 use crate::row::Rows;
 use crate::stored::Stored;
 use crate::walk::lay_out_all;
+use rdl_scope::faults::check;
 use rdl_scope::one_item::check_item;
 use rdl_scope::types::own_component;
 use rdl_tree::address::Address;
@@ -466,6 +467,25 @@ impl Kept {
         ensures err { OnErr result (self.new ≡ self.old) }
     {
         check_item(alloc, description, item)?;
+        self.stay(description);
+        Ok(())
+    }
+
+    /// Does the same, where any item may have a fault.
+    pub fn stay_if_faultless(
+        &mut self,
+        alloc: Global,
+        description: &Description,
+    ) -> Result<(), Fault>
+        requires skeleton { HasSameSkeleton description.now.items self.old }
+        requires rows { fault_of description.now.items ≡ None → HasRows description.now.items self.old.top }
+        ensures layouts { OnOk result (AreOf description.now.items self.new) }
+        ensures top { OnOk result (self.new.top ≡ self.old.top) }
+        ensures placed { OnOk result (self.new.placed ≡ 0) }
+        ensures refused { IfErr result (λ fault. (elaborated description.now.items self.old.top ≡ Err fault) ⊎ (fault ≡ out_of_memory)) }
+        ensures err { OnErr result (self.new ≡ self.old) }
+    {
+        check(alloc, description)?;
         self.stay(description);
         Ok(())
     }
