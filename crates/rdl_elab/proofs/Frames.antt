@@ -1,6 +1,6 @@
 -- The frame of a description: all of it but the names and the resets of instances, whether they are external, and some dynamic assignments.
 -- What the rows of a map depend on beside these is that of the frame.
-use Rattle.std.proofs.Common.{◌≡◌, ℕ, zero, suc, Bool, true, false, List, [], ◌∷◌, ◌++◌, Some, None, Option, option_map, refl, ap, sym, ◌∙◌}
+use Rattle.std.proofs.Common.{◌≡◌, ℕ, zero, suc, Bool, true, false, List, [], ◌∷◌, ◌++◌, Some, None, Option, option_map, refl, ap, ◌∙◌}
 use Rattle.std.specs.Prelude.{option_and_then, bytes_eq, if◌then◌else◌}
 use Rattle.std.specs.Option.{option_or}
 use Rattle.rdl_tree.specs.Items.{Items, no_items, plain, holder, Plain, named, own, default, dynamic, Holder, define, anonymous}

@@ -42,6 +42,7 @@ use Rattle.rdl_elab.specs.Layouts.{number_in as number_of_value}
 use Rattle.rdl_elab.specs.Rows.{row_value, rows_of}
 use Rattle.rdl_elab.specs.Faults.{top_from, is_reset_too_wide, fault_of_top, rows_or, under_top}
 use Rattle.rdl_elab.specs.Known.{HasRows}
+use Rattle.rdl_elab.specs.Reach.{SaysTheSame}
 use Rattle.rdl_elab.specs.Harmless.{bits_in, bits_said, IsBelow, IsBelowIfAny, FitsReset, FitsWithout, IsHarmlessShell, is_judged, end_of_target, IsFittingReset, IsHarmlessAssignment, IsHarmlessValue, IsHarmlessLast, IsHarmless}
 use Rattle.rdl_elab.proofs.KeptAnswers.{judged-top}
 use Rattle.rdl_elab.proofs.KnownRows.{no-item-fault, top-there}
@@ -273,6 +274,24 @@ reset-outside = record { held = by }
 same-shell : (s u : Shell) (o q : Of) (i : Option Item) → i ≡ Some (Instance s o) → i ≡ Some (Instance u q) → s ≡ u
 same-shell s u o q i h g = let both : ◌≡◌ {A = Option Item} (Some (Instance s o)) (Some (Instance u q)) = sym h ∙ g in cc
 
+shells-same : (s u : Shell) → SaysTheSame s u → frame_shell u ≡ frame_shell s
+shells-same s u same = λ i.
+    record (frame_shell u) {
+      dims = sym same.dims i;
+      range = sym same.range i;
+      address = sym same.address i;
+      stride = sym same.stride i;
+      align = sym same.align i;
+    }
+
+pub shell-frame : (s u : Shell) → SaysTheSame s u → (o : Of) → SameFrame all_names (Instance s o) (Instance u o)
+shell-frame s u same (Named t) rest = ap (λ z. plain (named z t) (frame all_names rest)) (shells-same s u same)
+shell-frame s u same (Anonymous c) rest = ap (λ z. holder (anonymous z c.kind) (frame all_names c.body) (frame all_names rest)) (shells-same s u same)
+
+pub own-shell : (s u : Shell) (o : Of) → own_body (Instance u o) ≡ own_body (Instance s o)
+own-shell s u (Named t) = refl
+own-shell s u (Anonymous c) = refl
+
 module _ (at : List ℕ) (u : Shell) (d : Items) (is : IsHarmlessShell at u d) where
   abbrev shell : Shell
   shell = is.shell
@@ -280,36 +299,18 @@ module _ (at : List ℕ) (u : Shell) (d : Items) (is : IsHarmlessShell at u d) w
   abbrev new : Items
   new = patched (Exchange at (OfShell u)) d
 
-  shells-same : frame_shell u ≡ frame_shell shell
-  shells-same = λ i.
-      record (frame_shell u) {
-        dims = sym is.same.dims i;
-        range = sym is.same.range i;
-        address = sym is.same.address i;
-        stride = sym is.same.stride i;
-        align = sym is.same.align i;
-      }
-
-  shell-frame : (o : Of) → SameFrame all_names (Instance shell o) (Instance u o)
-  shell-frame (Named t) rest = ap (λ z. plain (named z t) (frame all_names rest)) shells-same
-  shell-frame (Anonymous c) rest = ap (λ z. holder (anonymous z c.kind) (frame all_names c.body) (frame all_names rest)) shells-same
-
   shell-outline : (o : Of) → SameOutline (Instance shell o) (Instance u o)
   shell-outline (Named t) rest = ap (λ n. plain (named (bare_shell n) t) (outline rest)) is.name
   shell-outline (Anonymous c) rest = ap (λ n. holder (anonymous (bare_shell n) c.kind) (outline c.body) (outline rest)) is.name
 
-  own-shell : (o : Of) → own_body (Instance u o) ≡ own_body (Instance shell o)
-  own-shell (Named t) = refl
-  own-shell (Anonymous c) = refl
-
   shell-framed : frame all_names new ≡ frame all_names d
-  shell-framed = exchange-frame at d (OfShell u) (Instance shell is.of) is.there all_names (shell-frame is.of)
+  shell-framed = exchange-frame at d (OfShell u) (Instance shell is.of) is.there all_names (shell-frame shell u is.same is.of)
 
   outlined : outline new ≡ outline d
   outlined = exchange-outline at d (OfShell u) (Instance shell is.of) is.there (shell-outline is.of)
 
   resets-read : (New : Option Item → Type 0) → ReadsAlike item_reset New (Some (Instance u is.of)) (Some (Instance shell is.of)) → (a : List ℕ) → ReadsAlike item_reset New (item a new) (item a d)
-  resets-read New h = exchange-read at d (OfShell u) (Instance shell is.of) is.there Value item_reset New reset-outside (own-shell is.of) h
+  resets-read New h = exchange-read at d (OfShell u) (Instance shell is.of) is.there Value item_reset New reset-outside (own-shell shell u is.of) h
 
   bits-same : bits_said u ≡ bits_said shell
   bits-same = λ i. bits_in (sym is.same.dims i) (sym is.same.range i)
@@ -343,7 +344,7 @@ module _ (at : List ℕ) (u : Shell) (d : Items) (is : IsHarmlessShell at u d) w
       by (inl h) = elsewhere path place c s h
       by (inr h) = fitting u.reset refl below h
   shell-stays (inr without) path place c s o there leads =
-      by (read-apart at d (OfShell u) (Instance shell is.of) is.there Value item_reset reset-outside (own-shell is.of) place (Instance s o) there)
+      by (read-apart at d (OfShell u) (Instance shell is.of) is.there Value item_reset reset-outside (own-shell shell u is.of) place (Instance s o) there)
     where
       by : (option_and_then item_reset (item place new) ≡ option_and_then item_reset (item place d)) ⊎ (place ≡ at) → Stays path place c s
       by (inl h) = elsewhere path place c s h

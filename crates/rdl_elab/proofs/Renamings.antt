@@ -4,8 +4,8 @@ use Rattle.std.specs.Prelude.{option_and_then, slice_get, slice_set, bytes_eq, n
 use Rattle.std.specs.Option.{is_some, is_none}
 use Rattle.std.proofs.lemmas.Slice.Eq.{bytes_eq-Decides}
 use Rattle.rdl_tree.specs.Items.{Items, no_items, plain, holder, Plain, named, own, default, dynamic, Holder, define, anonymous}
-use Rattle.rdl_tree.specs.View.{items_of, list_of, own_body, plain_item, holder_item}
-use Rattle.rdl_tree.specs.Address.{holder_of, number_of, inner, map_inner, body_at}
+use Rattle.rdl_tree.specs.View.{list_of, plain_item, holder_item}
+use Rattle.rdl_tree.specs.Address.{holder_of, number_of, map_inner, body_at}
 use Rattle.rdl_tree.specs.Component.{own_component}
 use Rattle.rdl_tree.specs.Patch.{patched}
 use Rattle.rdl_tree.specs.Part.{with_part_at}
@@ -17,7 +17,6 @@ use Rattle.rdl_tree.specs.declared.value.Value.TheVariants.{Number}
 use Rattle.rdl_tree.specs.declared.property.Property.{Property}
 use Rattle.rdl_tree.specs.declared.property.Property.TheVariants.{Reset}
 use Rattle.rdl_tree.specs.declared.fault.FaultKind.TheVariants.{NameTwice, UnknownType, KindNotAllowed, NotOfKind, WrongValue, AssignedTwice, NoSuchTarget, NotDynamic, PartNotAllowed, OutOfRange}
-use Rattle.rdl_tree.specs.declared.description.Component.{Component}
 use Rattle.rdl_tree.specs.declared.description.Item.{Item}
 use Rattle.rdl_tree.specs.declared.description.Item.TheVariants.{Define, Instance, Own, Default, Dynamic}
 use Rattle.rdl_tree.specs.declared.description.Of.{Of}
@@ -37,10 +36,10 @@ use Rattle.rdl_scope.proofs.Instances.{instance-stays, instance-found}
 use Rattle.rdl_elab.specs.Known.{HasRows}
 use Rattle.rdl_elab.specs.Renaming.{IsRenaming}
 use Rattle.rdl_elab.proofs.KnownRows.{no-item-fault}
-use Rattle.rdl_elab.proofs.Frames.{frame, frame_shell, type-frame}
-use Rattle.rdl_elab.proofs.FramedChanges.{PassAlike, AllPassAlike, assigned-both, SameFrame, ReadsOutside, ReadsAlike}
+use Rattle.rdl_elab.proofs.Frames.{frame, type-frame}
+use Rattle.rdl_elab.proofs.FramedChanges.{PassAlike, AllPassAlike, assigned-both, ReadsOutside}
 use Rattle.rdl_elab.proofs.FramedAssignments.{along}
-use Rattle.rdl_elab.proofs.HarmlessPatches.{all_names, ResetsStay, framed-rows, reset-both, reset-outside, path-same, read-same, in_body, stand, made, exchange-frame, exchange-read, exchange-inner, body-apart}
+use Rattle.rdl_elab.proofs.HarmlessPatches.{all_names, shell-frame, own-shell, ResetsStay, framed-rows, reset-both, reset-outside, path-same, read-same, in_body, stand, made, exchange-frame, exchange-read, exchange-inner, body-apart}
 
 -- ---- Items without a fault.
 
@@ -136,24 +135,19 @@ module _ (name : List ℕ) where
   holder-is (define n k) body = refl
   holder-is (anonymous s k) body = refl
 
+  -- the first of the name among these items
+  first-is : (x : Item) (rest : Items) (b : Bool) → is_instance name (Some x) ≡ b → (o : Option ℕ) → ((i : ℕ) → o ≡ Some i → is_instance name (slice_get (list_of rest) i) ≡ true)
+      → (j : ℕ) → cond b (Some 0) (option_map suc o) ≡ Some j → is_instance name (slice_get (x ∷ list_of rest) j) ≡ true
+  first-is x rest true g o ih j e = let place : 0 ≡ j = cc in ap (λ k. is_instance name (slice_get (x ∷ list_of rest) k)) (sym place) ∙ g
+  first-is x rest false g None ih j e = cc
+  first-is x rest false g (Some i) ih j e = let place : suc i ≡ j = cc in ap (λ k. is_instance name (slice_get (x ∷ list_of rest) k)) (sym place) ∙ ih i refl
+
   -- the one that is found has the name
   found-is : (n : ℕ) (t : Items) (j : ℕ) → instance_before name n t ≡ Some j → is_instance name (slice_get (list_of t) j) ≡ true
   found-is zero t j e = cc
   found-is (suc n) no_items j e = cc
-  found-is (suc n) (plain p rest) j e = first (plain_item p) rest (plain_named name p) (plain-is p) (instance_before name n rest) (λ i. found-is n rest i) j e
-    where
-      first : (x : Item) (rest : Items) (b : Bool) → is_instance name (Some x) ≡ b → (o : Option ℕ) → ((i : ℕ) → o ≡ Some i → is_instance name (slice_get (list_of rest) i) ≡ true)
-          → (j : ℕ) → cond b (Some 0) (option_map suc o) ≡ Some j → is_instance name (slice_get (x ∷ list_of rest) j) ≡ true
-      first x rest true g o ih j e = let place : 0 ≡ j = cc in ap (λ k. is_instance name (slice_get (x ∷ list_of rest) k)) (sym place) ∙ g
-      first x rest false g None ih j e = cc
-      first x rest false g (Some i) ih j e = let place : suc i ≡ j = cc in ap (λ k. is_instance name (slice_get (x ∷ list_of rest) k)) (sym place) ∙ ih i refl
-  found-is (suc n) (holder h body rest) j e = first (holder_item h body) rest (holder_named name h) (holder-is h body) (instance_before name n rest) (λ i. found-is n rest i) j e
-    where
-      first : (x : Item) (rest : Items) (b : Bool) → is_instance name (Some x) ≡ b → (o : Option ℕ) → ((i : ℕ) → o ≡ Some i → is_instance name (slice_get (list_of rest) i) ≡ true)
-          → (j : ℕ) → cond b (Some 0) (option_map suc o) ≡ Some j → is_instance name (slice_get (x ∷ list_of rest) j) ≡ true
-      first x rest true g o ih j e = let place : 0 ≡ j = cc in ap (λ k. is_instance name (slice_get (x ∷ list_of rest) k)) (sym place) ∙ g
-      first x rest false g None ih j e = cc
-      first x rest false g (Some i) ih j e = let place : suc i ≡ j = cc in ap (λ k. is_instance name (slice_get (x ∷ list_of rest) k)) (sym place) ∙ ih i refl
+  found-is (suc n) (plain p rest) j e = first-is (plain_item p) rest (plain_named name p) (plain-is p) (instance_before name n rest) (found-is n rest) j e
+  found-is (suc n) (holder h body rest) j e = first-is (holder_item h body) rest (holder_named name h) (holder-is h body) (instance_before name n rest) (found-is n rest) j e
 
   module _ (d : Items) (none : fault_of d ≡ None) (b : List ℕ) (t : Items) (held : body_at b d ≡ Some t) where
     none-before : (j : ℕ) → is_instance name (slice_get (list_of t) j) ≡ true → is_some (instance_before name j t) ≡ false
@@ -251,26 +245,8 @@ module _ (at : List ℕ) (u : Shell) (d : Items) (is : IsRenaming at u d) where
   abbrev old_item : Item
   old_item = Instance is.shell is.of
 
-  shells-same : frame_shell u ≡ frame_shell is.shell
-  shells-same = λ i.
-      record (frame_shell u) {
-        dims = sym is.same.dims i;
-        range = sym is.same.range i;
-        address = sym is.same.address i;
-        stride = sym is.same.stride i;
-        align = sym is.same.align i;
-      }
-
-  shell-frame : (o : Of) → SameFrame all_names (Instance is.shell o) (Instance u o)
-  shell-frame (Named t) rest = ap (λ z. plain (named z t) (frame all_names rest)) shells-same
-  shell-frame (Anonymous c) rest = ap (λ z. holder (anonymous z c.kind) (frame all_names c.body) (frame all_names rest)) shells-same
-
-  own-shell : (o : Of) → own_body (Instance u o) ≡ own_body (Instance is.shell o)
-  own-shell (Named t) = refl
-  own-shell (Anonymous c) = refl
-
   framed : frame all_names new ≡ frame all_names d
-  framed = exchange-frame at d (OfShell u) old_item is.there all_names (shell-frame is.of)
+  framed = exchange-frame at d (OfShell u) old_item is.there all_names (shell-frame is.shell u is.same is.of)
 
   -- ---- What the searches find.
 
@@ -290,7 +266,7 @@ module _ (at : List ℕ) (u : Shell) (d : Items) (is : IsRenaming at u d) where
       let each : option_and_then (held_by new a) (item a new) ≡ option_and_then (held_by d a) (item a new) = λ i. option_and_then (λ x. held-same a x i) (item a new) in
       each
       ∙ read-same (held_by d a) (item a new) (item a d)
-      (exchange-read at d (OfShell u) old_item is.there (List ℕ) (held_by d a) (λ o. ⊥) (held-outside d a) (own-shell is.of) (inl (holds is.of)) a)
+      (exchange-read at d (OfShell u) old_item is.there (List ℕ) (held_by d a) (λ o. ⊥) (held-outside d a) (own-shell is.shell u is.of) (inl (holds is.of)) a)
     where
       holds : (o : Of) → held_by d a (Instance u o) ≡ held_by d a (Instance is.shell o)
       holds (Named t) = refl
@@ -302,7 +278,7 @@ module _ (at : List ℕ) (u : Shell) (d : Items) (is : IsRenaming at u d) where
   items-same : (c : List ℕ) → items_in c new ≡ items_in c d
   items-same c =
       along (λ q x y. whole x ≡ whole y) (λ q o. refl) (λ q i f t. length-inner i f t) (holder_of at) (with_part_at (number_of at) (OfShell u)) d standing.body standing.held here
-      (exchange-inner at d (OfShell u) old_item is.there (own-shell is.of)) c
+      (exchange-inner at d (OfShell u) old_item is.there (own-shell is.shell u is.of)) c
     where
       here : length (list_of (with_part_at (number_of at) (OfShell u) standing.body)) ≡ length (list_of standing.body)
       here =
@@ -313,7 +289,7 @@ module _ (at : List ℕ) (u : Shell) (d : Items) (is : IsRenaming at u d) where
   -- the same dynamic assignments stand at the same places
   targets-same : (b : List ℕ) (t : Items) (n : ℕ) (target : List (List ℕ)) (p : List ℕ) (v : Value) → body_at b d ≡ Some t → slice_get (list_of t) n ≡ Some (Dynamic target p v)
       → in_body said_target n (body_at b new) ≡ Some target
-  targets-same b t n target p v held there = by (body-apart at d (OfShell u) old_item is.there (List (List ℕ)) said_target target-outside (own-shell is.of) b n)
+  targets-same b t n target p v held there = by (body-apart at d (OfShell u) old_item is.there (List (List ℕ)) said_target target-outside (own-shell is.shell u is.of) b n)
     where
       by : (in_body said_target n (body_at b new) ≡ in_body said_target n (body_at b d)) ⊎ ((b ≡ holder_of at) × (n ≡ number_of at)) → in_body said_target n (body_at b new) ≡ Some target
       by (inl h) = h ∙ ap (in_body said_target n) held ∙ ap (option_and_then said_target) there
@@ -333,7 +309,7 @@ module _ (at : List ℕ) (u : Shell) (d : Items) (is : IsRenaming at u d) where
         Apart i = (in_body said_name i (body_at b new) ≡ in_body said_name i (body_at b d)) ⊎ ((b ≡ holder_of at) × (i ≡ number_of at))
 
         apart : (i : ℕ) → Apart i
-        apart i = body-apart at d (OfShell u) old_item is.there (List ℕ) said_name name-outside (own-shell is.of) b i
+        apart i = body-apart at d (OfShell u) old_item is.there (List ℕ) said_name name-outside (own-shell is.shell u is.of) b i
 
         alike : (i : ℕ) → in_body said_name i (body_at b new) ≡ in_body said_name i (body_at b d) → is_instance name (slice_get (list_of s) i) ≡ is_instance name (slice_get (list_of t) i)
         alike i h =
@@ -449,7 +425,7 @@ module _ (at : List ℕ) (u : Shell) (d : Items) (is : IsRenaming at u d) where
         inl
         (path-same d new (reset-both all_names d new framed) path place c (assigned-both all_names (row Reset).name refl d new framed all-alike (path ++ place ∷ []))
         (read-same item_reset (item place new) (item place d)
-        (exchange-read at d (OfShell u) old_item is.there Value item_reset (λ o. ⊥) reset-outside (own-shell is.of) (inl (ap (option_map Number) is.reset)) place)))
+        (exchange-read at d (OfShell u) old_item is.there Value item_reset (λ o. ⊥) reset-outside (own-shell is.shell u is.of) (inl (ap (option_map Number) is.reset)) place)))
 
 -- ---- The law.
 
