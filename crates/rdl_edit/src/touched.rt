@@ -170,6 +170,20 @@ fn touched_at(alloc: Global, description: &Description, patch: &Patch, at: Addre
     }
 }
 
+/// What is known of a step of this patch alone, where any item may have a fault.
+fn touched_anywhere(description: &Description, patch: &Patch) -> Touched
+    ensures { IsTouched result (patch.now ∷ []) description.now.items }
+{
+    if !is_still_patch(description, patch) {
+        return Touched::Any;
+    }
+    if is_renaming(description, patch) {
+        Touched::Renamed
+    } else {
+        Touched::Any
+    }
+}
+
 /// What is known of the step from a description in which no item has a fault. Where memory is wanted, that is less.
 pub(crate) fn touched_by(alloc: Global, description: &Description, patches: &[Patch]) -> Touched
     requires nesting { depth description.now.items ≤ 16 }
@@ -181,9 +195,6 @@ pub(crate) fn touched_by(alloc: Global, description: &Description, patches: &[Pa
     };
     match touched_item(description, patch) {
         Some(at) => touched_at(alloc, description, patch, at),
-        None if is_still_patch(description, patch) && is_renaming(description, patch) => {
-            Touched::Renamed
-        }
-        None => Touched::Any,
+        None => touched_anywhere(description, patch),
     }
 }
