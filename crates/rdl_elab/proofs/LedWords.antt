@@ -1,5 +1,5 @@
 -- Words lead to the same numbers as a list of pairs and by their digest.
-use Rattle.std.proofs.Common.{◌≡◌, ℕ, zero, suc, List, [], ◌∷◌, ◌++◌, map, length, Bool, true, false, ◌||◌, cond, Option, Some, None, refl, ap, sym, subst, ◌∙◌, arith}
+use Rattle.std.proofs.Common.{◌≡◌, ℕ, zero, suc, List, [], ◌∷◌, ◌++◌, length, Bool, true, false, ◌||◌, cond, Option, Some, None, refl, ap, sym, ◌∙◌, arith}
 use Rattle.std.specs.Prelude.{bytes_eq, is_some, slice_get, option_and_then}
 use Rattle.std.specs.Option.{is_none, option_or}
 use Rattle.std.specs.Global.{Vec}

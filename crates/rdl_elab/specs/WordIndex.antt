@@ -1,6 +1,6 @@
 -- Words that lead to numbers: as a list of pairs, and how they are found by a digest.
 -- own: how kept layouts are found.
-use Rattle.std.specs.Prelude.{◌≡◌, ℕ, ◌+◌, ◌-◌, ◌*◌, ◌^◌, ◌%◌, List, ◌++◌, map, length, drop, Option, None, Some, slice_get, option_and_then, bytes_eq, if◌then◌else◌}
+use Rattle.std.specs.Prelude.{◌≡◌, ℕ, ◌+◌, ◌-◌, ◌*◌, ◌^◌, ◌%◌, List, map, length, drop, Option, None, Some, slice_get, option_and_then, bytes_eq, if◌then◌else◌}
 use Rattle.std.specs.List.{fold}
 use Rattle.std.specs.Map.{lookup}
 use Rattle.std.specs.BTreeMap.{BTreeMap, get_by}
@@ -20,14 +20,15 @@ number_of es q = lookup (bytes_eq q) es
 abbrev pub with_byte : ℕ → ℕ → ℕ
 with_byte n byte = (((n * 257) % 2 ^ 64) + byte) % 2 ^ 64
 
--- a digest of words: of how many bytes they have and of their last 64 bytes, as numbers to the base 257, so far as a `u64` holds it
+-- a digest of words: their length, and behind it their last 64 bytes, as the digits of a number to the base 257, so far as a `u64` holds it
 abbrev pub digest : List ℕ → ℕ
 digest q = fold with_byte (length q) (drop (length q - 64) q)
 
--- entries and pairs of an ordered map as pairs
+-- entries as pairs
 abbrev pub own_pairs : List Entry → List (List ℕ × ℕ)
 own_pairs es = map (λ (e : Entry). (e.words.items, e.number)) es
 
+-- what stands in an ordered map as pairs
 abbrev pub other_pairs : List (Vec ℕ × ℕ) → List (List ℕ × ℕ)
 other_pairs es = map (λ (e : Vec ℕ × ℕ). (e.0.items, e.1)) es
 
@@ -43,6 +44,6 @@ own_at es q spot = option_and_then (if_own q) (slice_get es spot)
 abbrev pub own_number : List Entry → BTreeMap ℕ ℕ → List ℕ → Option ℕ
 own_number es spots q = option_and_then (own_at es q) (get_by (nat_cmp (digest q)) spots)
 
--- what ties the parts: words of entries are found by their digest, and others only have digests that lead somewhere
+-- what ties the parts: words of entries are found by their digest, and no others have a digest that leads nowhere
 abbrev pub AreTied : List Entry → BTreeMap ℕ ℕ → List (Vec ℕ × ℕ) → Type 0
 AreTied es spots others = ((q : List ℕ) → number_of (own_pairs es) q ≡ own_number es spots q) × ((q : List ℕ) → get_by (nat_cmp (digest q)) spots ≡ None → number_of (other_pairs others) q ≡ None)

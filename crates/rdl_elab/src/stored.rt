@@ -85,11 +85,7 @@ fn lead(
 }
 
 /// Leads from the words of a finished component to its number, and answers what is to be kept of it.
-fn keep(
-    index: &mut WordIndex,
-    number: usize,
-    finished: Finished,
-) -> Result<Keyed, AllocError>
+fn keep(index: &mut WordIndex, number: usize, finished: Finished) -> Result<Keyed, AllocError>
     ensures keyed { IfOk result (λ k. k ≡ keyed finished.entry) }
     ensures there { OnOk result (is_among finished.entry.laid_out.words (words_in index.new) ≡ true) }
     ensures others { OnOk result ((words : List ℕ) → is_among words (words_in index.old) ≡ true → is_among words (words_in index.new) ≡ true) }

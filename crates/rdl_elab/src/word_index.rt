@@ -30,8 +30,7 @@ fn with_bytes(start: u64, bytes: &[u8]) -> u64
     digest
 }
 
-/// A digest of the words, which takes no longer where they are many. By words of one length that differ in no more than eight
-/// bytes of the last, side by side, it differs.
+/// A number that the length of the words and each of their last bytes have a part in. It takes no longer where they are many.
 fn digest(words: &[u8]) -> u64
     ensures { result ≡ digest words.now }
 {
@@ -66,9 +65,9 @@ fn add(
     Ok(())
 }
 
-/// Words that lead to numbers, in the time of a look-up by a number: the first words of each digest stand where the digest
-/// leads. All others stand in an order, so that words which somebody has chosen to share their digests cost no more than
-/// ordered look-ups. A contract sees the pairs.
+/// Words that lead to numbers. The first words of each digest stand where it leads, and are found in the time of a look-up by a
+/// number. All others stand in an order, so that words which somebody has chosen to share a digest cost no more than ordered
+/// look-ups. A contract sees the pairs.
 #[derive(Debug, Drop)]
 pub(crate) struct WordIndex {
     /// No two of one digest.

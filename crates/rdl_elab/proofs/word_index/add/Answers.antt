@@ -1,6 +1,6 @@
-use Rattle.std.proofs.Common.{rules, ◌≡◌, ℕ, List, true, false, None, ap, sym, ◌∙◌}
+use Rattle.std.proofs.Common.{rules, ◌≡◌, ℕ, List, false, None, ap, sym, ◌∙◌}
 use Rattle.std.specs.Prelude.{option_copied}
-use Rattle.std.specs.Option.{is_none, option_or}
+use Rattle.std.specs.Option.{is_none}
 use Rattle.std.specs.Global.{Vec}
 use Rattle.rdl_elab.specs.WordIndex.{other_pairs, number_of}
 use Rattle.rdl_elab.proofs.LedWords.{number_there, stays-led, other-found, other-added}

@@ -1,4 +1,4 @@
-use Rattle.std.proofs.Common.{rules, ◌≡◌, ℕ, length, List, [], ◌∷◌, ◌++◌, cond, true, false, None, Some, ap, sym, subst, ◌∙◌}
+use Rattle.std.proofs.Common.{rules, ◌≡◌, ℕ, length, List, [], ◌∷◌, ◌++◌, cond, false, None, Some, ap, sym, subst, ◌∙◌}
 use Rattle.std.specs.Option.{is_none, option_or}
 use Rattle.std.specs.BTreeMap.{get_by, is_at}
 use Rattle.std.specs.Ordering.{nat_cmp}
