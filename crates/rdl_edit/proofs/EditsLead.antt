@@ -21,8 +21,8 @@ use Rattle.rdl_rewrite.specs.Refuses.{MakesTooDeep, RefusesEdit}
 use Rattle.rdl_rewrite.specs.Rewritten.{path_of, refusal_of as of_path, put_body, change_body, at_body, by_way, rewritten}
 use Rattle.rdl_rewrite.specs.declared.edit.Edit.{Edit}
 use Rattle.rdl_rewrite.specs.declared.edit.Edit.TheVariants.{Add, Remove, Rename, Move, Resize, SetBits, SetAddress, SetStride, SetAlign, SetReset, SetOwn, SetDefault, ClearOwn, ClearDefault, Assign, Unassign}
-use Rattle.rdl_rewrite.specs.declared.edit.Refusal.{Refusal}
-use Rattle.rdl_rewrite.specs.declared.edit.Refusal.TheVariants.{NotAnInstance, TooDeep}
+use Rattle.rdl_rewrite.specs.declared.edit.PatchRefusal.{PatchRefusal}
+use Rattle.rdl_rewrite.specs.declared.edit.PatchRefusal.TheVariants.{NotAnInstance, TooDeep}
 use Rattle.rdl_rewrite.proofs.Made.{patches_made, patches_fit, too_deep}
 use Rattle.rdl_edit.specs.Step.{State, HasRows, judged, judged_anew, step}
 use Rattle.rdl_edit.proofs.Placings.{faultless}
@@ -62,16 +62,16 @@ steps old e new led = by (rewritten old.description e) refl led
         subst (Stepped old e) same (record { made = made; same_option = refl; rows = record { rows = rows; are = are } })
     of-rows d (Err fault) made are m = cc
 
-    by : (r : Result Items Refusal) → rewritten old.description e ≡ r → judged_anew old.option r ≡ Ok new → Stepped old e new
+    by : (r : Result Items PatchRefusal) → rewritten old.description e ≡ r → judged_anew old.option r ≡ Ok new → Stepped old e new
     by (Ok d) made m = of-rows d (elaborated d old.option) made refl m
     by (Err refusal) made m = cc
 
-pub same-made : (d new : Items) (r : Result Items Refusal) → r ≡ Ok d → r ≡ Ok new → d ≡ new
+pub same-made : (d new : Items) (r : Result Items PatchRefusal) → r ≡ Ok d → r ≡ Ok new → d ≡ new
 same-made d new r e f = let both = sym e ∙ f in cc
 
 -- ---- An edit between maps that nest at most 16 deep reaches no deeper.
 
-not-deep : (d new : Items) (r : Result Items Refusal) → r ≡ Ok new → depth d ≤ 16 → depth new ≤ 16 → RefusesEdit d r TooDeep → ⊥
+not-deep : (d new : Items) (r : Result Items PatchRefusal) → r ≡ Ok new → depth d ≤ 16 → depth new ≤ 16 → RefusesEdit d r TooDeep → ⊥
 not-deep d new r made low shallow (inl refuses) = refuses
 not-deep d new r made low shallow (inr t) = by t.deep
   where
@@ -82,7 +82,7 @@ not-deep d new r made low shallow (inr t) = by t.deep
 body-level : (way : List ℕ) (n : ℕ) (d new : Items) (e : Edit) → at_body way d (edited_body d n e) ≡ Ok new → depth d ≤ 16 → depth new ≤ 16 → level_in way e ≤ 16
 body-level way n d new e made low shallow = by (body_at way d) refl made
   where
-    accepted : (r : Result Items Refusal) → put_body way d r ≡ Ok new → is_ok r ≡ true
+    accepted : (r : Result Items PatchRefusal) → put_body way d r ≡ Ok new → is_ok r ≡ true
     accepted (Ok b) m = refl
     accepted (Err refusal) m = cc
 
@@ -94,7 +94,7 @@ body-level way n d new e made low shallow = by (body_at way d) refl made
     by None here m = cc
     by (Some b) here m = of-body b here (accepted (edited_body d n e b) m) (cases_lt 16 (level_in way e))
 
-inside : (b : Bool) (r : Result Items Refusal) (new : Items) → cond b (Err NotAnInstance) r ≡ Ok new → r ≡ Ok new
+inside : (b : Bool) (r : Result Items PatchRefusal) (new : Items) → cond b (Err NotAnInstance) r ≡ Ok new → r ≡ Ok new
 inside true r new m = cc
 inside false r new m = m
 

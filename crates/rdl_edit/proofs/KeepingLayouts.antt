@@ -27,7 +27,7 @@ use Rattle.rdl_rewrite.specs.Rewritten.{path_of, by_way, rewritten}
 use Rattle.rdl_rewrite.specs.declared.assignment.Sort.TheVariants as sort
 use Rattle.rdl_rewrite.specs.declared.edit.Edit.{Edit}
 use Rattle.rdl_rewrite.specs.declared.edit.Edit.TheVariants.{Add, Remove, Rename, Move, Resize, SetBits, SetAddress, SetStride, SetAlign, SetReset, SetOwn, SetDefault, ClearOwn, ClearDefault, Assign, Unassign}
-use Rattle.rdl_rewrite.specs.declared.edit.Refusal.TheVariants.{NotAnInstance}
+use Rattle.rdl_rewrite.specs.declared.edit.PatchRefusal.TheVariants.{NotAnInstance}
 use Rattle.rdl_rewrite.specs.declared.fate.Fate.{Fate}
 use Rattle.rdl_rewrite.specs.declared.fate.Fate.TheVariants.{Kept, Dropped, Given}
 use Rattle.rdl_elab.specs.Skeleton.{skeleton}

@@ -26,7 +26,7 @@ use Rattle.rdl_scope.proofs.Holds.{holds}
 use Rattle.rdl_scope.proofs.StandingBefore.{type_at-some, lookup-component}
 use Rattle.rdl_rewrite.specs.Addresses.{same, leads_to}
 use Rattle.rdl_rewrite.specs.Names.{holder_names, defined_names, has_name}
-use Rattle.rdl_rewrite.specs.declared.edit.Refusal.TheVariants.{NameTaken, Reserved}
+use Rattle.rdl_rewrite.specs.declared.edit.PatchRefusal.TheVariants.{NameTaken, Reserved}
 use Rattle.rdl_rewrite.specs.Renaming.{renamed_shell, renamed_items, is_taken, is_reserved, renamed}
 use Rattle.rdl_elab.specs.Skeleton.{lays_out, skeleton_shell, number_in, skeleton_type, skeleton_in, skeleton}
 use Rattle.rdl_elab.proofs.PartsFound.{item-here}

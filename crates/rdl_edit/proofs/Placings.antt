@@ -19,7 +19,7 @@ use Rattle.rdl_edit.specs.Keeping.{Keeps}
 use Rattle.rdl_edit.specs.Placing.{IsFew, KeepsLayouts, reordered}
 use Rattle.rdl_edit.specs.Faults.{is_memory, refused}
 use Rattle.rdl_edit.specs.Step.{State, IsJudged}
-use Rattle.rdl_edit.specs.declared.edit.Refusal.TheVariants.{Faulty, Memory}
+use Rattle.rdl_edit.specs.declared.refusal.Refusal.TheVariants.{Faulty, Memory}
 use Rattle.rdl_edit.specs.Still.{keeps_layouts}
 use Rattle.rdl_edit.proofs.KeepingLayouts.{keeps, moves-none, moves-back}
 

@@ -5,13 +5,13 @@ use Rattle.rdl_elab.specs.Faults.{elaborated}
 use Rattle.rdl_elab.specs.declared.row.Row.{Row}
 use Rattle.rdl_rewrite.specs.Rewritten.{rewritten}
 use Rattle.rdl_rewrite.specs.declared.edit.Edit.{Edit}
-use Rattle.rdl_rewrite.specs.declared.edit.Refusal.TheVariants as first
-use Rattle.rdl_rewrite.specs.declared.edit.Refusal.{Refusal as Early}
+use Rattle.rdl_rewrite.specs.declared.edit.PatchRefusal.TheVariants as first
+use Rattle.rdl_rewrite.specs.declared.edit.PatchRefusal.{PatchRefusal}
 use Rattle.rdl_tree.specs.Items.{Items}
 use Rattle.rdl_tree.specs.declared.fault.Fault.{Fault}
 use Rattle.rdl_tree.specs.declared.fault.FaultKind.TheVariants.{DescriptionTooLarge}
-use Rattle.rdl_edit.specs.declared.edit.Refusal.{Refusal}
-use Rattle.rdl_edit.specs.declared.edit.Refusal.TheVariants.{NoSuchPath, ThroughNamedType, NotAnInstance, NotAddable, NoSuchSibling, NameTaken, Reserved, InUse, NotSet, Faulty, Memory}
+use Rattle.rdl_edit.specs.declared.refusal.Refusal.{Refusal}
+use Rattle.rdl_edit.specs.declared.refusal.Refusal.TheVariants.{NoSuchPath, ThroughNamedType, NotAnInstance, NotAddable, NoSuchSibling, NameTaken, Reserved, InUse, NotSet, Faulty, Memory}
 
 -- a description, and the name that the option asks of its top
 pub record State : Type 0 where
@@ -28,7 +28,7 @@ abbrev pub too_large : Fault
 too_large = record { kind = DescriptionTooLarge; address = [] }
 
 -- what is refused before the new description is judged
-abbrev pub refusal_of : Early → Refusal
+abbrev pub refusal_of : PatchRefusal → Refusal
 refusal_of first.NoSuchPath = NoSuchPath
 refusal_of first.ThroughNamedType = ThroughNamedType
 refusal_of first.NoSuchSibling = NoSuchSibling
@@ -47,7 +47,7 @@ judged s (Ok rows) = Ok s
 judged s (Err fault) = Err (Faulty fault)
 
 -- the edited description is judged as a whole, with the same option
-abbrev pub judged_anew : Option (List ℕ) → Result Items Early → Result State Refusal
+abbrev pub judged_anew : Option (List ℕ) → Result Items PatchRefusal → Result State Refusal
 judged_anew option (Ok description) =
     judged (record { description = description; option = option }) (elaborated description option)
 judged_anew option (Err refusal) = Err (refusal_of refusal)

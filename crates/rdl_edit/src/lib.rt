@@ -2,9 +2,9 @@
 #![tactic(auto)]
 
 pub mod back;
-pub mod edit;
 pub mod laws;
 pub mod map;
+pub mod refusal;
 mod resuming;
 mod touched;
 mod turning;

@@ -17,7 +17,7 @@ ghost use Rattle.rdl_edit.specs.Resuming.{session_fault};
 ghost use Rattle.rdl_rewrite.specs.Patches.{patches};
 
 use crate::back::Back;
-use crate::edit::Refusal;
+use crate::refusal::Refusal;
 use crate::resuming::{Direction, backs, opened, visit};
 use crate::turning::{again, turn};
 use journal_core::invertible::Invertible;

@@ -15,7 +15,7 @@ ghost use Rattle.rdl_edit.specs.Touching.{IsKnown};
 ghost use Rattle.rdl_edit.specs.Ways.{IsMisfit, stop_at, refused, place_of, way_back, ways_along, AllLead, is_empty};
 
 use crate::back::Back;
-use crate::edit::is_memory;
+use crate::refusal::is_memory;
 use crate::touched::{Touched, touched_by};
 use crate::turning::lay_out;
 use rdl_elab::kept::Kept;

@@ -16,7 +16,7 @@ ghost use Rattle.rdl_edit.specs.Keeping.{Keeps};
 ghost use Rattle.rdl_edit.specs.Placing.{IsFew, KeepsLayouts};
 ghost use Rattle.rdl_edit.specs.Touching.{IsKnown, IfStill};
 
-use crate::edit::{Refusal, is_memory};
+use crate::refusal::{Refusal, is_memory};
 use crate::touched::{Touched, keeps_skeleton, touched_by};
 use rdl_elab::kept::Kept;
 use rdl_tree::description::Description;

@@ -26,8 +26,8 @@ use Rattle.rdl_elab.specs.Kept.{Part}
 use Rattle.rdl_elab.specs.Layouts.{mode_inside}
 use Rattle.rdl_elab.specs.Finished.{under}
 use Rattle.rdl_elab.specs.Reaches.{Reach, behind}
-use Rattle.rdl_elab.specs.KeptRows.{Surroundings, KeptRow, kept_row, kept_values, seen, kept_fault, field_fault, judged, surroundings_inside, level_rows, kept_rows, told_one, told, kept_top_row, kept_around_top, told_below, rows_unless, fault_or, kept_map_fault, kept_answer}
-use Rattle.rdl_elab.specs.KeptRows.{clashes_before}
+use Rattle.rdl_elab.specs.FinishedRows.{Surroundings, FinishedRow, finished_row, finished_values, seen, finished_fault, field_fault, judged, surroundings_inside, level_rows, finished_rows, told_one, told, finished_top_row, finished_around_top, told_below, rows_unless, fault_or, finished_map_fault, finished_answer}
+use Rattle.rdl_elab.specs.FinishedRows.{clashes_before}
 use Rattle.rdl_elab.specs.Faults.{is_read_only, is_write_only, is_reset_too_wide}
 use Rattle.rdl_elab.specs.Layouts.{number_in}
 use Rattle.rdl_elab.specs.Reaches.{value_under}
@@ -36,7 +36,7 @@ use Rattle.rdl_elab.specs.Clean.{are_faultless, IsAround, AreClean, bits_inside,
 use Rattle.rdl_elab.proofs.Telling.{one-left, no-part, no-span, no-finished}
 use Rattle.rdl_elab.proofs.Onward.{behind-append}
 
-faultless-append : (xs ys : List KeptRow) → are_faultless xs ≡ true → are_faultless ys ≡ true → are_faultless (xs ++ ys) ≡ true
+faultless-append : (xs ys : List FinishedRow) → are_faultless xs ≡ true → are_faultless ys ≡ true → are_faultless (xs ++ ys) ≡ true
 faultless-append [] ys a b = b
 faultless-append (x ∷ xs) ys a b = by_first (is_none x.fault) a (λ h. faultless-append xs ys h b)
   where
@@ -57,7 +57,7 @@ wider b c a before vs l h = by_first (nat_lt b a.span.end) (nat_lt c a.span.end)
     by_first false q k h = ap (λ x. finds_none x a before vs) (k refl) ∙ h
 
 more-bits : (k : Kind) (v : LayoutValues) (b c : ℕ) (s : Shell) (size : ℕ) (a : Sibling) (before : List Sibling) (vs : List PropertyValue) → b ≤ c
-    → is_none (kept_fault k v b s size a before vs) ≡ true → is_none (kept_fault k v c s size a before vs) ≡ true
+    → is_none (finished_fault k v b s size a before vs) ≡ true → is_none (finished_fault k v c s size a before vs) ≡ true
 more-bits Field v b c s size a before vs l h = wider b c a before vs l h
 more-bits Reg v b c s size a before vs l h = h
 more-bits Regfile v b c s size a before vs l h = h
@@ -71,51 +71,51 @@ no-fault-at a (Some k) h = h
 abbrev pub GoesOn : List Finished → Mode → ℕ → List Reach → List Span → List Part → List Sibling → ℕ → Type 0
 GoesOn fs m least rs spans parts siblings i =
     (n : ℕ) (o : Surroundings) → IsAround m least rs o
-    → are_faultless (level_rows fs (λ inside ss qs. kept_rows n fs inside ss qs) o siblings (drop i spans) (drop i parts)) ≡ true
-    → are_faultless (kept_rows (suc n) fs o spans parts) ≡ true
+    → are_faultless (level_rows fs (λ inside ss qs. finished_rows n fs inside ss qs) o siblings (drop i spans) (drop i parts)) ≡ true
+    → are_faultless (finished_rows (suc n) fs o spans parts) ≡ true
 
 module _ (fs : List Finished) (m : Mode) (least : ℕ) (rs : List Reach) (spans : List Span) (parts : List Part) where
   pub begins : (siblings : List Sibling) → siblings ≡ [] → GoesOn fs m least rs spans parts siblings 0
-  begins siblings e n o a h = ap (λ b. are_faultless (level_rows fs (λ inside ss qs. kept_rows n fs inside ss qs) o b spans parts)) (sym e) ∙ h
+  begins siblings e n o a h = ap (λ b. are_faultless (level_rows fs (λ inside ss qs. finished_rows n fs inside ss qs) o b spans parts)) (sym e) ∙ h
 
   ends : (siblings : List Sibling) (i : ℕ) → GoesOn fs m least rs spans parts siblings i
-      → ((n : ℕ) (o : Surroundings) → level_rows fs (λ inside ss qs. kept_rows n fs inside ss qs) o siblings (drop i spans) (drop i parts) ≡ [])
+      → ((n : ℕ) (o : Surroundings) → level_rows fs (λ inside ss qs. finished_rows n fs inside ss qs) o siblings (drop i spans) (drop i parts) ≡ [])
       → AreClean fs m least rs spans parts
   ends siblings i g e zero o a = refl
   ends siblings i g e (suc n) o a = g n o a (ap are_faultless (e n o))
 
   pub ends-parts : (siblings : List Sibling) (i : ℕ) → GoesOn fs m least rs spans parts siblings i → length parts ≤ i → AreClean fs m least rs spans parts
-  ends-parts siblings i g l = ends siblings i g (λ n o. no-part fs (λ inside ss qs. kept_rows n fs inside ss qs) o spans parts i siblings l)
+  ends-parts siblings i g l = ends siblings i g (λ n o. no-part fs (λ inside ss qs. finished_rows n fs inside ss qs) o spans parts i siblings l)
 
   pub ends-spans : (siblings : List Sibling) (i : ℕ) → GoesOn fs m least rs spans parts siblings i → slice_get spans i ≡ None → AreClean fs m least rs spans parts
-  ends-spans siblings i g l = ends siblings i g (λ n o. no-span fs (λ inside ss qs. kept_rows n fs inside ss qs) o spans parts i siblings l)
+  ends-spans siblings i g l = ends siblings i g (λ n o. no-span fs (λ inside ss qs. finished_rows n fs inside ss qs) o spans parts i siblings l)
 
   pub ends-finished : (siblings : List Sibling) (i : ℕ) (span : Span) (p : Part) → GoesOn fs m least rs spans parts siblings i
       → slice_get spans i ≡ Some span → slice_get parts i ≡ Some p → slice_get fs p.component ≡ None → AreClean fs m least rs spans parts
-  ends-finished siblings i span p g s t h = ends siblings i g (λ n o. no-finished fs (λ inside ss qs. kept_rows n fs inside ss qs) o spans parts i siblings span p s t h)
+  ends-finished siblings i span p g s t h = ends siblings i g (λ n o. no-finished fs (λ inside ss qs. finished_rows n fs inside ss qs) o spans parts i siblings span p s t h)
 
   -- one more instance has no fault, and none below it
   module _ (siblings : List Sibling) (i : ℕ) (span : Span) (p : Part) (f : Finished) (reaching : List Reach) (values : List PropertyValue) (after : List Sibling)
       (s : slice_get spans i ≡ Some span) (t : slice_get parts i ≡ Some p) (h : slice_get fs p.component ≡ Some f)
-      (r : reaching ≡ behind p.at rs) (v : values ≡ kept_values f.kind p.shell.reset reaching f.shown)
-      (k : is_none (kept_fault f.kind f.values least p.shell (under m f.layouts).size (seen span values) siblings values) ≡ true)
+      (r : reaching ≡ behind p.at rs) (v : values ≡ finished_values f.kind p.shell.reset reaching f.shown)
+      (k : is_none (finished_fault f.kind f.values least p.shell (under m f.layouts).size (seen span values) siblings values) ≡ true)
       (below : AreClean fs (mode_inside f.kind f.values m) f.values.regwidth (reaching ++ f.assignments.items) (under m f.layouts).spans f.parts.items)
       (w : after ≡ siblings ++ seen span values ∷ []) where
     module _ (n : ℕ) (o : Surroundings) (a : IsAround m least rs o) where
       abbrev here : Row
-      here = kept_row o span p f
+      here = finished_row o span p f
 
       reached : behind p.at o.reaching ≡ reaching
       reached = a.reaching p.at ∙ sym r
 
       shows : here.values ≡ values
-      shows = ap (λ x. kept_values f.kind p.shell.reset x f.shown) reached ∙ sym v
+      shows = ap (λ x. finished_values f.kind p.shell.reset x f.shown) reached ∙ sym v
 
       faultless-here : is_none (judged o siblings span p f here).fault ≡ true
       faultless-here =
-          no-fault-at p.at (kept_fault f.kind f.values o.bits p.shell (under o.mode f.layouts).size (seen span here.values) siblings here.values)
-          (ap (λ x. is_none (kept_fault f.kind f.values o.bits p.shell (under o.mode f.layouts).size (seen span x) siblings x)) shows
-          ∙ ap (λ x. is_none (kept_fault f.kind f.values o.bits p.shell (under x f.layouts).size (seen span values) siblings values)) a.mode
+          no-fault-at p.at (finished_fault f.kind f.values o.bits p.shell (under o.mode f.layouts).size (seen span here.values) siblings here.values)
+          (ap (λ x. is_none (finished_fault f.kind f.values o.bits p.shell (under o.mode f.layouts).size (seen span x) siblings x)) shows
+          ∙ ap (λ x. is_none (finished_fault f.kind f.values o.bits p.shell (under x f.layouts).size (seen span values) siblings values)) a.mode
           ∙ more-bits f.kind f.values least o.bits p.shell (under m f.layouts).size (seen span values) siblings values a.bits k)
 
       around-inside : IsAround (mode_inside f.kind f.values m) f.values.regwidth (reaching ++ f.assignments.items) (surroundings_inside o p f here)
@@ -125,22 +125,22 @@ module _ (fs : List Finished) (m : Mode) (least : ℕ) (rs : List Reach) (spans 
         reaching = λ b. ap (λ x. behind b (x ++ f.assignments.items)) reached;
       }
 
-      faultless-below : are_faultless (kept_rows n fs (surroundings_inside o p f here) (under o.mode f.layouts).spans f.parts.items) ≡ true
+      faultless-below : are_faultless (finished_rows n fs (surroundings_inside o p f here) (under o.mode f.layouts).spans f.parts.items) ≡ true
       faultless-below =
-          ap (λ x. are_faultless (kept_rows n fs (surroundings_inside o p f here) (under x f.layouts).spans f.parts.items)) a.mode
+          ap (λ x. are_faultless (finished_rows n fs (surroundings_inside o p f here) (under x f.layouts).spans f.parts.items)) a.mode
           ∙ below n (surroundings_inside o p f here) around-inside
 
-      further : are_faultless (level_rows fs (λ inside ss qs. kept_rows n fs inside ss qs) o after (drop (i + 1) spans) (drop (i + 1) parts)) ≡ true
-          → are_faultless (level_rows fs (λ inside ss qs. kept_rows n fs inside ss qs) o siblings (drop i spans) (drop i parts)) ≡ true
+      further : are_faultless (level_rows fs (λ inside ss qs. finished_rows n fs inside ss qs) o after (drop (i + 1) spans) (drop (i + 1) parts)) ≡ true
+          → are_faultless (level_rows fs (λ inside ss qs. finished_rows n fs inside ss qs) o siblings (drop i spans) (drop i parts)) ≡ true
       further rest =
-          ap are_faultless (one-left fs (λ inside ss qs. kept_rows n fs inside ss qs) o spans parts i siblings span p f s t h)
+          ap are_faultless (one-left fs (λ inside ss qs. finished_rows n fs inside ss qs) o spans parts i siblings span p f s t h)
           ∙ both_true faultless-here
-          (faultless-append (kept_rows n fs (surroundings_inside o p f here) (under o.mode f.layouts).spans f.parts.items)
-          (level_rows fs (λ inside ss qs. kept_rows n fs inside ss qs) o (siblings ++ seen span here.values ∷ []) (drop (suc i) spans) (drop (suc i) parts))
+          (faultless-append (finished_rows n fs (surroundings_inside o p f here) (under o.mode f.layouts).spans f.parts.items)
+          (level_rows fs (λ inside ss qs. finished_rows n fs inside ss qs) o (siblings ++ seen span here.values ∷ []) (drop (suc i) spans) (drop (suc i) parts))
           faultless-below
-          (ap (λ b. are_faultless (level_rows fs (λ inside ss qs. kept_rows n fs inside ss qs) o b (drop (suc i) spans) (drop (suc i) parts)))
+          (ap (λ b. are_faultless (level_rows fs (λ inside ss qs. finished_rows n fs inside ss qs) o b (drop (suc i) spans) (drop (suc i) parts)))
           (ap (λ x. siblings ++ seen span x ∷ []) shows ∙ sym w)
-          ∙ ap (λ j. are_faultless (level_rows fs (λ inside ss qs. kept_rows n fs inside ss qs) o after (drop j spans) (drop j parts))) (sym (add-one i))
+          ∙ ap (λ j. are_faultless (level_rows fs (λ inside ss qs. finished_rows n fs inside ss qs) o after (drop j spans) (drop j parts))) (sym (add-one i))
           ∙ rest))
 
     pub goes-further : GoesOn fs m least rs spans parts siblings i → GoesOn fs m least rs spans parts after (i + 1)
@@ -149,7 +149,7 @@ module _ (fs : List Finished) (m : Mode) (least : ℕ) (rs : List Reach) (spans 
 -- a component without instances is clean, whatever stands around it
 pub none-below : (fs : List Finished) (m : Mode) (least : ℕ) (rs : List Reach) (spans : List Span) (parts : List Part) → parts ≡ [] → AreClean fs m least rs spans parts
 none-below fs m least rs spans parts e zero o a = refl
-none-below fs m least rs spans parts e (suc n) o a = ap (λ ps. are_faultless (kept_rows (suc n) fs o spans ps)) e
+none-below fs m least rs spans parts e (suc n) o a = ap (λ ps. are_faultless (finished_rows (suc n) fs o spans ps)) e
 
 few-bits : (k : Kind) (n : ℕ) → bits_inside k n ≤ n
 few-bits Reg n = omega arith
@@ -185,7 +185,7 @@ one-more fs all f ms c there h k ns g m s t e = by_place (last-or-before all ms 
     by_place (inl a) = c k ns g m a t e
     by_place (inr b) = subst (λ x. IsCleanIn fs x m) (the-same f g (sym there ∙ ap (slice_get fs) (sym b.0) ∙ t)) (h m (ap (has_mode m) b.1 ∙ e))
 
-told-faultless : (rows : List Row) (ks : List KeptRow) → are_faultless ks ≡ true → (told rows ks).fault ≡ None
+told-faultless : (rows : List Row) (ks : List FinishedRow) → are_faultless ks ≡ true → (told rows ks).fault ≡ None
 told-faultless rows [] h = refl
 told-faultless rows (k ∷ ks) h = by_first k.fault h (λ g. told-faultless (rows ++ k.row ∷ []) ks g)
   where
@@ -195,20 +195,20 @@ told-faultless rows (k ∷ ks) h = by_first k.fault h (λ g. told-faultless (row
     by_first (Some x) g r = absurd cc
 
 -- a map whose top is clean has no fault in a row
-pub clean-answer : (fs : List Finished) (at name : List ℕ) (f : Finished) → kept_map_fault at f ≡ None
+pub clean-answer : (fs : List Finished) (at name : List ℕ) (f : Finished) → finished_map_fault at f ≡ None
     → AreClean fs (mode_inside f.kind f.values Regalign) 0 f.assignments.items f.layouts.regalign.spans f.parts.items
-    → fault_in (kept_answer fs at name (Some f)) ≡ None
+    → fault_in (finished_answer fs at name (Some f)) ≡ None
 clean-answer fs at name f h c =
     ap (λ o. fault_in (fault_or o (rows_unless (told_below fs name f).fault (told_below fs name f).rows))) h
-    ∙ ap (λ o. fault_in (rows_unless o (told_below fs name f).rows)) (told-faultless (kept_top_row name f ∷ []) (kept_rows 16 fs (kept_around_top name f) f.layouts.regalign.spans f.parts.items) faultless)
+    ∙ ap (λ o. fault_in (rows_unless o (told_below fs name f).rows)) (told-faultless (finished_top_row name f ∷ []) (finished_rows 16 fs (finished_around_top name f) f.layouts.regalign.spans f.parts.items) faultless)
   where
-    faultless : are_faultless (kept_rows 16 fs (kept_around_top name f) f.layouts.regalign.spans f.parts.items) ≡ true
-    faultless = c 16 (kept_around_top name f) (record { mode = refl; bits = omega arith; reaching = λ a. refl })
+    faultless : are_faultless (finished_rows 16 fs (finished_around_top name f) f.layouts.regalign.spans f.parts.items) ≡ true
+    faultless = c 16 (finished_around_top name f) (record { mode = refl; bits = omega arith; reaching = λ a. refl })
 
-pub clean-answers : (fs : List Finished) (at name : List ℕ) (f : Finished) → kept_map_fault at f ≡ None → (found : Option Finished) → found ≡ Some f → (r : Result Bool AllocError)
+pub clean-answers : (fs : List Finished) (at name : List ℕ) (f : Finished) → finished_map_fault at f ≡ None → (found : Option Finished) → found ≡ Some f → (r : Result Bool AllocError)
     → IfOk r (λ answer. answer ≡ true → AreClean fs (mode_inside f.kind f.values Regalign) 0 f.assignments.items f.layouts.regalign.spans f.parts.items)
-    → IfOk r (λ answer. answer ≡ true → fault_in (kept_answer fs at name found) ≡ None)
-clean-answers fs at name f h found e (Ok answer) c = λ yes. ap (λ o. fault_in (kept_answer fs at name o)) e ∙ clean-answer fs at name f h (c yes)
+    → IfOk r (λ answer. answer ≡ true → fault_in (finished_answer fs at name found) ≡ None)
+clean-answers fs at name f h found e (Ok answer) c = λ yes. ap (λ o. fault_in (finished_answer fs at name o)) e ∙ clean-answer fs at name f h (c yes)
 clean-answers fs at name f h found e (Err x) c = c
 
 -- a row is seen by its software access, and judged by its reset
@@ -216,10 +216,10 @@ pub seen-same : (span : Span) (xs ys : List PropertyValue) → value_under Sw xs
 seen-same span xs ys h = ap (λ v. record { span = span; is_read_only = is_read_only v; is_write_only = is_write_only v }) h
 
 pub fault-same : (k : Kind) (v : LayoutValues) (bits : ℕ) (s : Shell) (size : ℕ) (a b : Sibling) (before : List Sibling) (xs ys : List PropertyValue) → a ≡ b → value_under Reset xs ≡ value_under Reset ys
-    → kept_fault k v bits s size a before xs ≡ kept_fault k v bits s size b before ys
+    → finished_fault k v bits s size a before xs ≡ finished_fault k v bits s size b before ys
 fault-same Field v bits s size a b before xs ys e h =
-    ap (λ x. kept_fault Field v bits s size x before xs) e
+    ap (λ x. finished_fault Field v bits s size x before xs) e
     ∙ ap (λ o. first_of ((nat_lt bits b.span.end, FieldPastRegister) ∷ (clashes_before b before, FieldOverlap) ∷ (is_reset_too_wide (number_in o) b.span, ResetTooWide) ∷ [])) h
-fault-same Reg v bits s size a b before xs ys e h = ap (λ x. kept_fault Reg v bits s size x before xs) e
-fault-same Regfile v bits s size a b before xs ys e h = ap (λ x. kept_fault Regfile v bits s size x before xs) e
-fault-same Addrmap v bits s size a b before xs ys e h = ap (λ x. kept_fault Addrmap v bits s size x before xs) e
+fault-same Reg v bits s size a b before xs ys e h = ap (λ x. finished_fault Reg v bits s size x before xs) e
+fault-same Regfile v bits s size a b before xs ys e h = ap (λ x. finished_fault Regfile v bits s size x before xs) e
+fault-same Addrmap v bits s size a b before xs ys e h = ap (λ x. finished_fault Addrmap v bits s size x before xs) e

@@ -20,7 +20,7 @@ use Rattle.rdl_elab.specs.Faults.{levels, count, is_empty, first_empty}
 use Rattle.rdl_elab.specs.Finished.{under, IsPart, AreParts}
 use Rattle.rdl_elab.specs.EachMember.{shown_each}
 use Rattle.rdl_elab.specs.LaidOut.{kept_member, kept_members}
-use Rattle.rdl_elab.specs.Inside.{kept_part, kept_parts, part_levels, kept_levels, part_rows, kept_rows, lacks_parts, part_empty, kept_empty}
+use Rattle.rdl_elab.specs.Inside.{kept_part, kept_parts, part_levels, kept_levels, part_rows, finished_rows, lacks_parts, part_empty, kept_empty}
 
 pub or-assoc : {X : Type 0} (a b c : Option X) → option_or (option_or a b) c ≡ option_or a (option_or b c)
 or-assoc None b c = refl
@@ -54,12 +54,12 @@ module _ (d : Items) (fs : List Finished) where
       more : (a b f x y : ℕ) → f ≡ min a 16 → x ≡ f + 1 → min y 16 ≡ min b 16 → min (max x y) 16 ≡ min (max (a + 1) b) 16
       more a b f x y e g ih = omega arith
 
-  pub rows-kept : (n : ℕ) (ps : List Part) (inside : Parts) → AreParts d fs n ps inside → min (kept_rows fs ps) 65536 ≡ min (count inside) 65536
+  pub rows-kept : (n : ℕ) (ps : List Part) (inside : Parts) → AreParts d fs n ps inside → min (finished_rows fs ps) 65536 ≡ min (count inside) 65536
   rows-kept n [] no_parts h = refl
   rows-kept n (p ∷ ps) no_parts h = absurd h
   rows-kept n [] (part at s k inside rest) h = absurd h
   rows-kept n (p ∷ ps) (part at s k inside rest) h =
-      more (count inside) (count rest) h.0.finished.rows (part_rows (slice_get fs p.component)) (kept_rows fs ps) h.0.kept.rows (ap part_rows h.0.there) (rows-kept n ps rest h.1)
+      more (count inside) (count rest) h.0.finished.rows (part_rows (slice_get fs p.component)) (finished_rows fs ps) h.0.kept.rows (ap part_rows h.0.there) (rows-kept n ps rest h.1)
     where
       more : (a b f x y : ℕ) → f ≡ min a 65536 → x ≡ f + 1 → min y 65536 ≡ min b 65536 → min (x + y) 65536 ≡ min (a + 1 + b) 65536
       more a b f x y e g ih = omega arith
@@ -110,11 +110,11 @@ levels-next fs i ps p h = ap (kept_levels fs) (next i ps p h)
 pub levels-none : (fs : List Finished) (i : ℕ) (ps : List Part) → length ps ≤ i → kept_levels fs (drop i ps) ≡ 0
 levels-none fs i ps h = ap (kept_levels fs) (drop_all i ps h)
 
-pub rows-next : (fs : List Finished) (i : ℕ) (ps : List Part) (p : Part) → i < length ps → kept_rows fs (drop i ps) ≡ part_rows (slice_get fs (get_or ps i p).component) + kept_rows fs (drop (i + 1) ps)
-rows-next fs i ps p h = ap (kept_rows fs) (next i ps p h)
+pub rows-next : (fs : List Finished) (i : ℕ) (ps : List Part) (p : Part) → i < length ps → finished_rows fs (drop i ps) ≡ part_rows (slice_get fs (get_or ps i p).component) + finished_rows fs (drop (i + 1) ps)
+rows-next fs i ps p h = ap (finished_rows fs) (next i ps p h)
 
-pub rows-none : (fs : List Finished) (i : ℕ) (ps : List Part) → length ps ≤ i → kept_rows fs (drop i ps) ≡ 0
-rows-none fs i ps h = ap (kept_rows fs) (drop_all i ps h)
+pub rows-none : (fs : List Finished) (i : ℕ) (ps : List Part) → length ps ≤ i → finished_rows fs (drop i ps) ≡ 0
+rows-none fs i ps h = ap (finished_rows fs) (drop_all i ps h)
 
 pub empty-next : (fs : List Finished) (i : ℕ) (ps : List Part) (p : Part) → i < length ps → kept_empty fs (drop i ps) ≡ option_or (part_empty (get_or ps i p) (slice_get fs (get_or ps i p).component)) (kept_empty fs (drop (i + 1) ps))
 empty-next fs i ps p h = ap (kept_empty fs) (next i ps p h)
@@ -201,10 +201,10 @@ module _ (fs : List Finished) (i : ℕ) (ps : List Part) (p : Part) (o : Option 
       again : (s m x r : ℕ) → min m 16 ≡ min (max s x) 16 → min (max m r) 16 ≡ min (max s (max x r)) 16
       again s m x r e = omega arith
 
-  pub rows-more : (so_far more whole : ℕ) → min more 65536 ≡ min (so_far + part_rows o) 65536 → min (so_far + kept_rows fs (drop i ps)) 65536 ≡ whole → min (more + kept_rows fs (drop (i + 1) ps)) 65536 ≡ whole
+  pub rows-more : (so_far more whole : ℕ) → min more 65536 ≡ min (so_far + part_rows o) 65536 → min (so_far + finished_rows fs (drop i ps)) 65536 ≡ whole → min (more + finished_rows fs (drop (i + 1) ps)) 65536 ≡ whole
   rows-more so_far more whole e inv =
-      let r = kept_rows fs (drop (i + 1) ps) in
-      let one : kept_rows fs (drop i ps) ≡ part_rows o + r =
+      let r = finished_rows fs (drop (i + 1) ps) in
+      let one : finished_rows fs (drop i ps) ≡ part_rows o + r =
       rows-next fs i ps p h ∙ ap (λ (q : Part). part_rows (slice_get fs q.component) + r) (sym is) ∙ ap (λ x. part_rows x + r) found in
       again so_far more (part_rows o) r e ∙ ap (λ x. min (so_far + x) 65536) (sym one) ∙ inv
     where

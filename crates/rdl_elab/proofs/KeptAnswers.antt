@@ -21,7 +21,7 @@ use Rattle.rdl_elab.specs.Rows.{around_top, rows_below, rows_of, top_layout, top
 use Rattle.rdl_elab.specs.Faults.{levels, count, first_empty, first_row_fault, fault_of_top, rows_or, under_top, top_from, with_top, unless_fault, elaborated}
 use Rattle.rdl_elab.specs.Finished.{IsFinished}
 use Rattle.rdl_elab.specs.Reaches.{reaches, reaches_at}
-use Rattle.rdl_elab.specs.KeptRows.{Told, told, kept_rows, kept_map_fault, kept_top_row, kept_around_top, told_below, rows_unless, fault_or, kept_rows_or_fault, kept_answer}
+use Rattle.rdl_elab.specs.FinishedRows.{Told, told, finished_rows, finished_map_fault, finished_top_row, finished_around_top, told_below, rows_unless, fault_or, finished_rows_or_fault, finished_answer}
 use Rattle.rdl_scope.proofs.AsFound.{as_found}
 use Rattle.rdl_elab.proofs.RowsAlong.{values-top, reaches-body}
 use Rattle.rdl_elab.proofs.PartsFound.{parts-found}
@@ -97,7 +97,7 @@ module _ (d : Items) (n : ℕ) (name : List ℕ) (c : Made) (fs : List Finished)
   large-is : nat_lt (2 ^ 40) f.layouts.regalign.size ≡ nat_lt (2 ^ 40) (top_layout c).size
   large-is = ap (nat_lt (2 ^ 40)) size-is ∙ limit-same (2 ^ 40) (top_layout c).size (2 ^ 40 + 1) (omega arith)
 
-  map-is : kept_map_fault at f ≡ of_map
+  map-is : finished_map_fault at f ≡ of_map
   map-is = λ i.
       option_or (fault_at at (first_of ((levels-is i, TooManyLevels) ∷ (rows-is i, TooManyRows) ∷ [])))
       (option_or (option_and_then (λ a. fault_at a (Some EmptyComponent)) (q.kept.first_empty i))
@@ -116,7 +116,7 @@ module _ (d : Items) (n : ℕ) (name : List ℕ) (c : Made) (fs : List Finished)
         exactly : (x : ℕ) → x ≤ 2 ^ 40 → capped x ≡ x
         exactly x h = omega (arith, h)
 
-    row-is : kept_top_row name f ≡ top_row d name c
+    row-is : finished_top_row name f ≡ top_row d name c
     row-is = λ i.
         record {
           names = name ∷ [];
@@ -129,7 +129,7 @@ module _ (d : Items) (n : ℕ) (name : List ℕ) (c : Made) (fs : List Finished)
     reaching-is : f.assignments.items ≡ reaches_at d at
     reaching-is = q.kept.assignments none (ap (component d) (as_found d at c made).place ∙ made) ∙ ap (λ b. reaches d b 0 c.head.body) (as_found d at c made).place ∙ sym (reaches-body d at c made)
 
-    around-is : kept_around_top name f ≡ around_of d fs none at (around_top name c)
+    around-is : finished_around_top name f ≡ around_of d fs none at (around_top name c)
     around-is = λ i. record { mode = mode_inside (q.kept.kind i) (q.kept.values i) Regalign; names = name ∷ []; base = 0; bits = 0; reaching = reaching-is i }
 
     fields : FieldsIn c.head.kind c.parts
@@ -137,7 +137,7 @@ module _ (d : Items) (n : ℕ) (name : List ℕ) (c : Made) (fs : List Finished)
 
     below-is : told_below fs name f ≡ told_judged d (top_row d name c ∷ []) (rows_below d name c)
     below-is =
-        (λ i. told (row-is i ∷ []) (kept_rows 16 fs (around-is i) (ap (λ (x : Layout). x.spans) (q.kept.layouts Regalign) i) f.parts.items))
+        (λ i. told (row-is i ∷ []) (finished_rows 16 fs (around-is i) (ap (λ (x : Layout). x.spans) (q.kept.layouts Regalign) i) f.parts.items))
         ∙ levels-same d fs none 16 c.parts (λ k. level-same d fs none c.parts k) at (around_top name c) c.head.kind (top_layout c).spans f.parts.items number (top_row d name c ∷ []) q.parts (parts-found d at c made) fields
         (fits-inside Regalign 0 c.head c.parts fields (inr (omega (arith, small)))) (omega arith) few-levels
 
@@ -151,7 +151,7 @@ module _ (d : Items) (n : ℕ) (name : List ℕ) (c : Made) (fs : List Finished)
         by_fault None e = ap Ok (judged-rows d (top_row d name c ∷ []) (rows_below d name c) e)
         by_fault (Some g) e = refl
 
-  kept-is : kept_rows_or_fault fs at name f ≡ rows_or (rows_of d name c) (fault_of_top d at name c)
+  kept-is : finished_rows_or_fault fs at name f ≡ rows_or (rows_of d name c) (fault_of_top d at name c)
   kept-is =
       ap (λ x. fault_or x (rows_unless (told_below fs name f).fault (told_below fs name f).rows)) map-is
       ∙ by_fault of_map refl
@@ -162,16 +162,16 @@ module _ (d : Items) (n : ℕ) (name : List ℕ) (c : Made) (fs : List Finished)
       by_fault None e = answer-is e
       by_fault (Some g) e = refl
 
-  pub answer-kept : kept_answer fs at name (slice_get fs number) ≡ under_top d at name (component d at)
-  answer-kept = ap (kept_answer fs at name) q.there ∙ kept-is ∙ sym (ap (under_top d at name) made)
+  pub answer-kept : finished_answer fs at name (slice_get fs number) ≡ under_top d at name (component d at)
+  answer-kept = ap (finished_answer fs at name) q.there ∙ kept-is ∙ sym (ap (under_top d at name) made)
 
 -- the same of what a walk found
 pub answer-walked : (d : Items) (n : ℕ) (at name : List ℕ) (fs : List Finished) (number : ℕ) → fault_of d ≡ None → at ≡ n ∷ [] → is_some (component d (n ∷ [])) ≡ true
     → ((c : Made) → component d (n ∷ []) ≡ Some c → IsFinished d fs number c)
-    → kept_answer fs at name (slice_get fs number) ≡ under_top d (n ∷ []) name (component d (n ∷ []))
-answer-walked d n at name fs number none place there finished = ap (λ a. kept_answer fs a name (slice_get fs number)) place ∙ by_component (component d (n ∷ [])) refl
+    → finished_answer fs at name (slice_get fs number) ≡ under_top d (n ∷ []) name (component d (n ∷ []))
+answer-walked d n at name fs number none place there finished = ap (λ a. finished_answer fs a name (slice_get fs number)) place ∙ by_component (component d (n ∷ [])) refl
   where
-    by_component : (o : Option Made) → component d (n ∷ []) ≡ o → kept_answer fs (n ∷ []) name (slice_get fs number) ≡ under_top d (n ∷ []) name (component d (n ∷ []))
+    by_component : (o : Option Made) → component d (n ∷ []) ≡ o → finished_answer fs (n ∷ []) name (slice_get fs number) ≡ under_top d (n ∷ []) name (component d (n ∷ []))
     by_component None e = absurd (apart (sym (ap is_some e) ∙ there))
       where
         apart : false ≡ true → ⊥

@@ -10,7 +10,7 @@ use Rattle.std.proofs.lemmas.List.Folds.{list_any_none}
 use Rattle.rdl_elab.specs.declared.layout.Span.{Span}
 use Rattle.rdl_elab.specs.declared.siblings.Sibling.{Sibling}
 use Rattle.rdl_elab.specs.Faults.{overlap, SharesANumber}
-use Rattle.rdl_elab.specs.KeptRows.{overlaps_before}
+use Rattle.rdl_elab.specs.FinishedRows.{overlaps_before}
 use Rattle.rdl_elab.specs.SiblingRanges.{HasRange, AreRanges}
 use Rattle.rdl_elab.proofs.Overlaps.{overlap-shares, shares-overlap}
 

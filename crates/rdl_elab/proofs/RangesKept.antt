@@ -12,7 +12,7 @@ use Rattle.std.proofs.lemmas.List.Folds.{list_any-append}
 use Rattle.rdl_elab.specs.declared.layout.Span.{Span}
 use Rattle.rdl_elab.specs.declared.siblings.Sibling.{Sibling}
 use Rattle.rdl_elab.specs.Faults.{overlap}
-use Rattle.rdl_elab.specs.KeptRows.{overlaps_before}
+use Rattle.rdl_elab.specs.FinishedRows.{overlaps_before}
 use Rattle.rdl_elab.specs.SiblingRanges.{HasRange, IsTaken, AreRanges}
 use Rattle.rdl_elab.proofs.RangeSearches.{meets, same_end}
 

@@ -31,7 +31,7 @@ use Rattle.rdl_elab.specs.Faults.{levels, kind_fault, row_fault, first_row_fault
 use Rattle.rdl_elab.specs.Found.{IsPartFound, ArePartsFound}
 use Rattle.rdl_elab.specs.Finished.{under, IsKept, IsPart, AreParts}
 use Rattle.rdl_elab.specs.Reaches.{Reach, values_along, along, behind, reaches_at}
-use Rattle.rdl_elab.specs.KeptRows.{Surroundings, KeptRow, Told, kept_base, kept_values, kept_row, seen, kept_fault, judged, surroundings_inside, level_rows, kept_rows, told_one, told}
+use Rattle.rdl_elab.specs.FinishedRows.{Surroundings, FinishedRow, Told, finished_base, finished_values, finished_row, seen, finished_fault, judged, surroundings_inside, level_rows, finished_rows, told_one, told}
 use Rattle.rdl_elab.proofs.Along.{along-further}
 use Rattle.rdl_elab.proofs.RowsAlong.{values-row, values-alone, reaches-body}
 use Rattle.rdl_elab.proofs.Telling.{told_after, told-append, one-component}
@@ -110,7 +110,7 @@ pub bits-small : (h : Head) → (values_of h).regwidth ≤ 128
 bits-small h = width-small (number_in (head_value h Regwidth))
 
 -- where nothing is assigned, the values are those that the component has by itself
-kept-along : (h : Head) (reset : Option ℕ) (rs : List Reach) → kept_values h.kind reset rs (shown_values h) ≡ values_along h.kind reset rs (shown_values h)
+kept-along : (h : Head) (reset : Option ℕ) (rs : List Reach) → finished_values h.kind reset rs (shown_values h) ≡ values_along h.kind reset rs (shown_values h)
 kept-along h None [] = sym (values-alone h)
 kept-along h None (r ∷ rs) = refl
 kept-along h (Some n) rs = refl
@@ -133,7 +133,7 @@ module _ (d : Items) (fs : List Finished) (faultless : fault_of d ≡ None) wher
     o = around_of b a
 
     abbrev r' : Row
-    r' = kept_row o (capped_span span) p f
+    r' = finished_row o (capped_span span) p f
 
     size-is : (under a.mode f.layouts).size ≡ capped l.size
     size-is = ap (λ (x : Layout). x.size) (k.layouts a.mode)
@@ -143,13 +143,13 @@ module _ (d : Items) (fs : List Finished) (faultless : fault_of d ≡ None) wher
 
     values-is : r'.values ≡ r.row.values
     values-is =
-        (λ i. kept_values (k.kind i) ((ap (λ (x : Shell). x.reset) shell) i) (reaching-is i) (k.shown i))
+        (λ i. finished_values (k.kind i) ((ap (λ (x : Shell). x.reset) shell) i) (reaching-is i) (k.shown i))
         ∙ kept-along h s.reset (along d [] (a.path ++ at ∷ []))
         ∙ values-row d a.path at s found.of h within found.instance found.component
 
     kept-fault : (judged o (map sibling_of before) (capped_span span) p f r').fault ≡ row_fault d r
     kept-fault =
-        (λ i. fault_at (place i) (kept_fault (k.kind i) (k.values i) a.bits (shell i) (size-is i) (seen (capped_span span) (values-is i)) (map sibling_of before) (values-is i)))
+        (λ i. fault_at (place i) (finished_fault (k.kind i) (k.values i) a.bits (shell i) (size-is i) (seen (capped_span span) (values-is i)) (map sibling_of before) (values-is i)))
         ∙ ap (fault_at at) (fault-same d a before span at s h within small fits)
 
     fault-none : row_fault d r ≡ None → kind_fault h.kind d r ≡ None
@@ -167,7 +167,7 @@ module _ (d : Items) (fs : List Finished) (faultless : fault_of d ≡ None) wher
         record {
           names = a.names ++ ((ap (λ (x : Shell). x.name) shell) i) ∷ [];
           kind = k.kind i;
-          base = ((λ j. kept_base (k.kind j) a.base (capped_span span)) ∙ base-same d a before span at s h within e fits.bytes) i;
+          base = ((λ j. finished_base (k.kind j) a.base (capped_span span)) ∙ base-same d a before span at s h within e fits.bytes) i;
           place = ((λ j. place_of (k.kind j) (shell j) (capped_span span) (size-is j)) ∙ place-same d a before span at s h within e fits.bytes) i;
           values = values-is i;
         }
@@ -191,12 +191,12 @@ module _ (d : Items) (fs : List Finished) (faultless : fault_of d ≡ None) wher
   abbrev LevelSame : ℕ → Parts → Type 0
   LevelSame n P = (b : List ℕ) (a : Around) (m : Kind) (before : List (Span × Option Value)) (spans : List Span) (ps : List Part) (bound : ℕ) (rows : List Row)
       → AreParts d fs bound ps P → ArePartsFound d b P → FieldsIn m P → Fit a.mode a.base spans P → a.bits ≤ 128 → levels P ≤ suc n
-      → told rows (level_rows fs (λ inside ss qs. kept_rows n fs inside ss qs) (around_of b a) (map sibling_of before) (map capped_span spans) ps) ≡ told_judged d rows (rows_in d a before spans P)
+      → told rows (level_rows fs (λ inside ss qs. finished_rows n fs inside ss qs) (around_of b a) (map sibling_of before) (map capped_span spans) ps) ≡ told_judged d rows (rows_in d a before spans P)
 
   -- the same for so many levels
   pub levels-same : (n : ℕ) (P : Parts) → ((k : ℕ) → LevelSame k P) → (b : List ℕ) (a : Around) (m : Kind) (spans : List Span) (ps : List Part) (bound : ℕ) (rows : List Row)
       → AreParts d fs bound ps P → ArePartsFound d b P → FieldsIn m P → Fit a.mode a.base spans P → a.bits ≤ 128 → levels P ≤ n
-      → told rows (kept_rows n fs (around_of b a) (map capped_span spans) ps) ≡ told_judged d rows (rows_in d a [] spans P)
+      → told rows (finished_rows n fs (around_of b a) (map capped_span spans) ps) ≡ told_judged d rows (rows_in d a [] spans P)
   levels-same zero no_parts same b a m spans ps bound rows parts found fields fit small deep = refl
   levels-same zero (part at s h within rest) same b a m spans ps bound rows parts found fields fit small deep = absurd (none (levels within) (levels rest) deep)
     where
@@ -204,7 +204,7 @@ module _ (d : Items) (fs : List Finished) (faultless : fault_of d ≡ None) wher
       none x y h = omega (arith, h)
   levels-same (suc k) P same b a m spans ps bound rows parts found fields fit small deep = same k b a m [] spans ps bound rows parts found fields fit small deep
 
-  told-both : (t u : Told) (ks : List KeptRow) (rs : List Judged) → t ≡ u → ((rows : List Row) → told rows ks ≡ told_judged d rows rs) → told_after t.fault t ks ≡ judged_after d u.fault u rs
+  told-both : (t u : Told) (ks : List FinishedRow) (rs : List Judged) → t ≡ u → ((rows : List Row) → told rows ks ≡ told_judged d rows rs) → told_after t.fault t ks ≡ judged_after d u.fault u rs
   told-both t u ks rs e h = ap (λ (x : Told). told_after x.fault x ks) e ∙ by_fault u.fault
     where
       by_fault : (o : Option Fault) → told_after o u ks ≡ judged_after d o u rs
@@ -225,8 +225,8 @@ module _ (d : Items) (fs : List Finished) (faultless : fault_of d ≡ None) wher
       (same-within : (k : ℕ) → LevelSame k within) (same-rest : LevelSame n rest)
       (found-within : ArePartsFound d h.at within) (fields : FieldsIn h.kind within) (deep : levels within ≤ n)
       (parts-rest : AreParts d fs bound ps rest) (found-rest : ArePartsFound d b rest) (fields-rest : FieldsIn m rest) (fit-rest : Fit a.mode a.base spans rest) (deep-rest : levels rest ≤ suc n) where
-    abbrev below : Surroundings → List Span → List Part → List KeptRow
-    below inside ss qs = kept_rows n fs inside ss qs
+    abbrev below : Surroundings → List Span → List Part → List FinishedRow
+    below inside ss qs = finished_rows n fs inside ss qs
 
     abbrev f : Finished
     f = q.finished
@@ -238,12 +238,12 @@ module _ (d : Items) (fs : List Finished) (faultless : fault_of d ≡ None) wher
     judged_here = judged_row d a before span at s h size
 
     abbrev row' : Row
-    row' = kept_row (around_of b a) (capped_span span) p f
+    row' = finished_row (around_of b a) (capped_span span) p f
 
-    abbrev inner : List KeptRow
+    abbrev inner : List FinishedRow
     inner = below (surroundings_inside (around_of b a) p f row') (under a.mode f.layouts).spans f.parts.items
 
-    abbrev more : List KeptRow
+    abbrev more : List FinishedRow
     more = level_rows fs below (around_of b a) (map sibling_of before ++ seen (capped_span span) row'.values ∷ []) (map capped_span spans) ps
 
     abbrev inner_judged : List Judged
@@ -258,7 +258,7 @@ module _ (d : Items) (fs : List Finished) (faultless : fault_of d ≡ None) wher
 
     inner-same : (rows : List Row) → capped_span span ≡ span → told (rows ++ row' ∷ []) inner ≡ told_judged d (rows ++ judged_here.row ∷ []) inner_judged
     inner-same rows e =
-        (λ i. told (rows ++ row-is b a before span at s h within p f q.place q.shell q.kept found small fits e i ∷ []) (kept_rows n fs (inside-is b a before span at s h within p f q.place q.shell q.kept found small fits e i) (spans-is b a before span at s h within p f q.place q.shell q.kept found small fits i) f.parts.items))
+        (λ i. told (rows ++ row-is b a before span at s h within p f q.place q.shell q.kept found small fits e i ∷ []) (finished_rows n fs (inside-is b a before span at s h within p f q.place q.shell q.kept found small fits e i) (spans-is b a before span at s h within p f q.place q.shell q.kept found small fits i) f.parts.items))
         ∙ levels-same n within same-within h.at (inside judged_here) h.kind size.spans f.parts.items p.component (rows ++ judged_here.row ∷ []) q.inside found-within fields
         (fits-inside a.mode judged_here.row.base h within fields (room fits.bytes)) (bits-small h) deep
 
@@ -274,7 +274,7 @@ module _ (d : Items) (fs : List Finished) (faultless : fault_of d ≡ None) wher
         ∙ told-both (told (rows ++ row' ∷ []) inner) (told_judged d (rows ++ judged_here.row ∷ []) inner_judged) more more_judged (inner-same rows e) (more-same e)
         ∙ sym (judged-append d (rows ++ judged_here.row ∷ []) inner_judged more_judged)
 
-    abbrev kept_here : KeptRow
+    abbrev kept_here : FinishedRow
     kept_here = judged (around_of b a) (map sibling_of before) (capped_span span) p f row'
 
     by-fault : (rows : List Row) (x : Option Fault) → row_fault d judged_here ≡ x

@@ -22,7 +22,7 @@ use Rattle.rdl_elab.specs.Layouts.{values_of, number_in, layout_of}
 use Rattle.rdl_elab.specs.Capped.{capped, capped_span}
 use Rattle.rdl_elab.specs.Rows.{row_value, row_values, place_of, base_of, Around, Judged, judged_row}
 use Rattle.rdl_elab.specs.Faults.{overlap, overlaps_one, is_read_only, is_write_only, may_share, clashes, is_reset_too_wide, reset_of, kind_fault}
-use Rattle.rdl_elab.specs.KeptRows.{kept_base, seen, share, overlaps_before, clashes_before, extent_fault, kept_fault}
+use Rattle.rdl_elab.specs.FinishedRows.{finished_base, seen, share, overlaps_before, clashes_before, extent_fault, finished_fault}
 use Rattle.rdl_elab.specs.Reaches.{value_under}
 use Rattle.rdl_elab.proofs.Names.{all-named}
 use Rattle.rdl_elab.proofs.RowsAlong.{under-among}
@@ -80,7 +80,7 @@ module _ (d : Items) where
     r = judged_row d a before span at s h l
 
     abbrev kept_kind_fault : Kind → Span → ℕ → Option FaultKind
-    kept_kind_fault k sp size = kept_fault k (values_of h) a.bits s size (seen sp r.row.values) (map sibling_of before) r.row.values
+    kept_kind_fault k sp size = finished_fault k (values_of h) a.bits s size (seen sp r.row.values) (map sibling_of before) r.row.values
 
     -- exact numbers have the same faults
     clash-same : clashes_before (seen span r.row.values) (map sibling_of before) ≡ clashes span r.access before
@@ -153,12 +153,12 @@ module _ (d : Items) where
     place-same e (inl f) = ap (λ k. place_of k s (capped_span span) (capped l.size)) f ∙ ap (λ sp. place_of Field s sp l.size) e ∙ ap (λ k. place_of k s span l.size) (sym f)
     place-same e (inr g) = λ i. place_of h.kind s (e i) ((bytes-exact g).1 i)
 
-    base-kind : (k : Kind) → BytesFit a.mode a.base span h within → kept_base k a.base span ≡ base_of k a.base span
+    base-kind : (k : Kind) → BytesFit a.mode a.base span h within → finished_base k a.base span ≡ base_of k a.base span
     base-kind Field g = refl
     base-kind Addrmap g = omega (arith, g.holds, g.room)
     base-kind Regfile g = omega (arith, g.holds, g.room)
     base-kind Reg g = omega (arith, g.holds, g.room)
 
-    pub base-same : capped_span span ≡ span → ((h.kind ≡ Field) ⊎ BytesFit a.mode a.base span h within) → kept_base h.kind a.base (capped_span span) ≡ base_of h.kind a.base span
-    base-same e (inl f) = ap (λ k. kept_base k a.base (capped_span span)) f ∙ ap (λ k. base_of k a.base span) (sym f)
-    base-same e (inr g) = ap (kept_base h.kind a.base) e ∙ base-kind h.kind g
+    pub base-same : capped_span span ≡ span → ((h.kind ≡ Field) ⊎ BytesFit a.mode a.base span h within) → finished_base h.kind a.base (capped_span span) ≡ base_of h.kind a.base span
+    base-same e (inl f) = ap (λ k. finished_base k a.base (capped_span span)) f ∙ ap (λ k. base_of k a.base span) (sym f)
+    base-same e (inr g) = ap (finished_base h.kind a.base) e ∙ base-kind h.kind g

@@ -12,14 +12,14 @@ use Rattle.rdl_elab.specs.Kept.{Part}
 use Rattle.rdl_elab.specs.declared.finished.Finished.{Finished}
 use Rattle.rdl_elab.specs.declared.siblings.Sibling.{Sibling}
 use Rattle.rdl_elab.specs.Finished.{under}
-use Rattle.rdl_elab.specs.KeptRows.{Surroundings, KeptRow, Told, kept_row, seen, judged, surroundings_inside, with_below, level_rows, kept_rows, told_one, told, kept_top_row, kept_around_top, told_below, rows_unless}
+use Rattle.rdl_elab.specs.FinishedRows.{Surroundings, FinishedRow, Told, finished_row, seen, judged, surroundings_inside, with_below, level_rows, finished_rows, told_one, told, finished_top_row, finished_around_top, told_below, rows_unless}
 
 -- what is told of more rows, behind what is told already
-abbrev pub told_after : Option Fault → Told → List KeptRow → Told
+abbrev pub told_after : Option Fault → Told → List FinishedRow → Told
 told_after None t ks = told t.rows ks
 told_after (Some f) t ks = t
 
-pub told-append : (rows : List Row) (ks ls : List KeptRow) → told rows (ks ++ ls) ≡ told_after (told rows ks).fault (told rows ks) ls
+pub told-append : (rows : List Row) (ks ls : List FinishedRow) → told rows (ks ++ ls) ≡ told_after (told rows ks).fault (told rows ks) ls
 told-append rows [] ls = refl
 told-append rows (k ∷ ks) ls = by_fault (told-append (rows ++ k.row ∷ []) ks ls) k.fault
   where
@@ -29,7 +29,7 @@ told-append rows (k ∷ ks) ls = by_fault (told-append (rows ++ k.row ∷ []) ks
     by_fault h None = h
     by_fault h (Some f) = refl
 
-stays : (o : Option Fault) (t : Told) (ks : List KeptRow) → is_some o ≡ true → told_after o t ks ≡ t
+stays : (o : Option Fault) (t : Told) (ks : List FinishedRow) → is_some o ≡ true → told_after o t ks ≡ t
 stays None t ks h = absurd cc
 stays (Some f) t ks h = refl
 
@@ -47,21 +47,21 @@ not-there (x ∷ xs) zero h = absurd cc
 not-there (x ∷ xs) (suc i) h = not-there xs i h
 
 pub level-rows : (n : ℕ) (fs : List Finished) (o : Surroundings) (before : List Sibling) (spans : List Span) (ps : List Part) → ((n ≡ 0) → ⊥) → before ≡ []
-    → kept_rows n fs o spans ps ≡ level_rows fs (λ inside ss qs. kept_rows (n - 1) fs inside ss qs) o before spans ps
+    → finished_rows n fs o spans ps ≡ level_rows fs (λ inside ss qs. finished_rows (n - 1) fs inside ss qs) o before spans ps
 level-rows zero fs o before spans ps h e = absurd (h refl)
-level-rows (suc n) fs o before spans ps h e = ap (λ m. level_rows fs (λ inside ss qs. kept_rows m fs inside ss qs) o [] spans ps) (sym (less n)) ∙ ap (λ b. level_rows fs (λ inside ss qs. kept_rows (suc n - 1) fs inside ss qs) o b spans ps) (sym e)
+level-rows (suc n) fs o before spans ps h e = ap (λ m. level_rows fs (λ inside ss qs. finished_rows m fs inside ss qs) o [] spans ps) (sym (less n)) ∙ ap (λ b. level_rows fs (λ inside ss qs. finished_rows (suc n - 1) fs inside ss qs) o b spans ps) (sym e)
   where
     less : (n : ℕ) → suc n - 1 ≡ n
     less n = omega arith
 
 -- what is below an instance, where there are so many levels
-abbrev pub deeper : ℕ → List Finished → Surroundings → List Span → List Part → List KeptRow
-deeper n fs = λ inside ss qs. kept_rows (n - 1) fs inside ss qs
+abbrev pub deeper : ℕ → List Finished → Surroundings → List Span → List Part → List FinishedRow
+deeper n fs = λ inside ss qs. finished_rows (n - 1) fs inside ss qs
 
-pub told-end : (rows : List Row) (ks : List KeptRow) (all : Told) → ks ≡ [] → told rows ks ≡ all → record { fault = None; rows = rows } ≡ all
+pub told-end : (rows : List Row) (ks : List FinishedRow) (all : Told) → ks ≡ [] → told rows ks ≡ all → record { fault = None; rows = rows } ≡ all
 told-end rows ks all e h = ap (told rows) (sym e) ∙ h
 
-module _ (fs : List Finished) (below : Surroundings → List Span → List Part → List KeptRow) (o : Surroundings) where
+module _ (fs : List Finished) (below : Surroundings → List Span → List Part → List FinishedRow) (o : Surroundings) where
   rows-end : (before : List Sibling) (spans : List Span) → level_rows fs below o before spans [] ≡ []
   rows-end before spans = refl
 
@@ -73,20 +73,20 @@ module _ (fs : List Finished) (below : Surroundings → List Span → List Part 
   no-component before span spans p ps h =
       ap (λ found. elim found [
         | None ↦ []
-        | Some f ↦ with_below below o before span p f ++ level_rows fs below o (before ++ seen span (kept_row o span p f).values ∷ []) spans ps
+        | Some f ↦ with_below below o before span p f ++ level_rows fs below o (before ++ seen span (finished_row o span p f).values ∷ []) spans ps
       ]) h
 
   pub one-component : (before : List Sibling) (span : Span) (spans : List Span) (p : Part) (ps : List Part) (f : Finished) → slice_get fs p.component ≡ Some f
-      → level_rows fs below o before (span ∷ spans) (p ∷ ps) ≡ with_below below o before span p f ++ level_rows fs below o (before ++ seen span (kept_row o span p f).values ∷ []) spans ps
+      → level_rows fs below o before (span ∷ spans) (p ∷ ps) ≡ with_below below o before span p f ++ level_rows fs below o (before ++ seen span (finished_row o span p f).values ∷ []) spans ps
   one-component before span spans p ps f h =
       ap (λ found. elim found [
         | None ↦ []
-        | Some f ↦ with_below below o before span p f ++ level_rows fs below o (before ++ seen span (kept_row o span p f).values ∷ []) spans ps
+        | Some f ↦ with_below below o before span p f ++ level_rows fs below o (before ++ seen span (finished_row o span p f).values ∷ []) spans ps
       ]) h
 
   module _ (spans : List Span) (parts : List Part) (i : ℕ) where
     -- what is left of the instances
-    abbrev pub left : List Sibling → List KeptRow
+    abbrev pub left : List Sibling → List FinishedRow
     left before = level_rows fs below o before (drop i spans) (drop i parts)
 
     pub no-part : (before : List Sibling) → length parts ≤ i → left before ≡ []
@@ -102,7 +102,7 @@ module _ (fs : List Finished) (below : Surroundings → List Span → List Part 
         ∙ no-component before span (drop (suc i) spans) p (drop (suc i) parts) h
 
     pub one-left : (before : List Sibling) (span : Span) (p : Part) (f : Finished) → slice_get spans i ≡ Some span → slice_get parts i ≡ Some p → slice_get fs p.component ≡ Some f
-        → left before ≡ with_below below o before span p f ++ level_rows fs below o (before ++ seen span (kept_row o span p f).values ∷ []) (drop (suc i) spans) (drop (suc i) parts)
+        → left before ≡ with_below below o before span p f ++ level_rows fs below o (before ++ seen span (finished_row o span p f).values ∷ []) (drop (suc i) spans) (drop (suc i) parts)
     one-left before span p f s t h =
         ap (λ ss. level_rows fs below o before ss (drop i parts)) (found-there spans i span s)
         ∙ ap (λ ps. level_rows fs below o before (span ∷ drop (suc i) spans) ps) (found-there parts i p t)
@@ -112,12 +112,12 @@ module _ (fs : List Finished) (below : Surroundings → List Span → List Part 
     module _ (before : List Sibling) (span : Span) (p : Part) (f : Finished) (rows : List Row) (first then : Told)
         (s : slice_get spans i ≡ Some span) (t : slice_get parts i ≡ Some p) (h : slice_get fs p.component ≡ Some f) where
       abbrev row_here : Row
-      row_here = kept_row o span p f
+      row_here = finished_row o span p f
 
-      abbrev rows_inside : List KeptRow
+      abbrev rows_inside : List FinishedRow
       rows_inside = below (surroundings_inside o p f row_here) (under o.mode f.layouts).spans f.parts.items
 
-      abbrev more : List KeptRow
+      abbrev more : List FinishedRow
       more = level_rows fs below o (before ++ seen span row_here.values ∷ []) (drop (suc i) spans) (drop (suc i) parts)
 
       told-left : told rows (left before)
@@ -164,10 +164,10 @@ module _ (fs : List Finished) (below : Surroundings → List Span → List Part 
 
 -- the answer of a map, by what is told of the rows below its top
 pub told-answer : (fs : List Finished) (name : List ℕ) (f : Finished) (first : List Row) (o : Surroundings) (fault : Option Fault) (rows : List Row)
-    → first ≡ kept_top_row name f ∷ [] → o ≡ kept_around_top name f
-    → record { fault = fault; rows = rows } ≡ told first (kept_rows 16 fs o f.layouts.regalign.spans f.parts.items)
+    → first ≡ finished_top_row name f ∷ [] → o ≡ finished_around_top name f
+    → record { fault = fault; rows = rows } ≡ told first (finished_rows 16 fs o f.layouts.regalign.spans f.parts.items)
     → rows_unless fault rows ≡ rows_unless (told_below fs name f).fault (told_below fs name f).rows
 told-answer fs name f first o fault rows e g h =
     ap (λ (t : Told). rows_unless t.fault t.rows)
-    (h ∙ ap (λ rs. told rs (kept_rows 16 fs o f.layouts.regalign.spans f.parts.items)) e
-    ∙ ap (λ x. told (kept_top_row name f ∷ []) (kept_rows 16 fs x f.layouts.regalign.spans f.parts.items)) g)
+    (h ∙ ap (λ rs. told rs (finished_rows 16 fs o f.layouts.regalign.spans f.parts.items)) e
+    ∙ ap (λ x. told (finished_top_row name f ∷ []) (finished_rows 16 fs x f.layouts.regalign.spans f.parts.items)) g)

@@ -16,7 +16,7 @@ use Rattle.rdl_elab.specs.AllKept.{fault_in}
 use Rattle.rdl_elab.specs.declared.row.Row.{Row}
 use Rattle.rdl_tree.specs.declared.fault.Fault.{Fault}
 use Rattle.rdl_elab.specs.Faults.{may_be_top, name_of, has_name, top_from, under_top, with_top}
-use Rattle.rdl_elab.specs.KeptRows.{kept_answer}
+use Rattle.rdl_elab.specs.FinishedRows.{finished_answer}
 use Rattle.rdl_elab.specs.Stands.{AreTypes, IsType}
 use Rattle.rdl_elab.proofs.KeptAnswers.{answer-kept}
 use Rattle.rdl_elab.proofs.Namesakes.{unique}
@@ -145,11 +145,11 @@ type-found d fs name (k ∷ ks) (t ∷ ts) h =
 
 -- the map under a top is judged by it
 pub answer-numbered : (d : Items) (n : ℕ) (name : List ℕ) (fs : List Finished) (number : Option ℕ) → fault_of d ≡ None → IsType d fs number (component d (n ∷ []))
-    → kept_answer fs (n ∷ []) name (option_and_then (slice_get fs) number) ≡ under_top d (n ∷ []) name (component d (n ∷ []))
+    → finished_answer fs (n ∷ []) name (option_and_then (slice_get fs) number) ≡ under_top d (n ∷ []) name (component d (n ∷ []))
 answer-numbered d n name fs number none = by (component d (n ∷ [])) number refl
   where
     by : (o : Option Made) (number : Option ℕ) → component d (n ∷ []) ≡ o → IsType d fs number o
-        → kept_answer fs (n ∷ []) name (option_and_then (slice_get fs) number) ≡ under_top d (n ∷ []) name o
+        → finished_answer fs (n ∷ []) name (option_and_then (slice_get fs) number) ≡ under_top d (n ∷ []) name o
     by None None e h = refl
     by None (Some k) e h = absurd h
     by (Some c) None e h = absurd h
@@ -158,9 +158,9 @@ answer-numbered d n name fs number none = by (component d (n ∷ [])) number ref
 -- so its fault is that of the walk's answer
 pub fault-walked : (d : Items) (top : ℕ × List ℕ) (name : List ℕ) (fs all : List Finished) (number : Option ℕ) → fault_of d ≡ None → root_type d top.1 ≡ component d (top.0 ∷ []) → name ≡ top.1
     → IsType d all number (root_type d name) → fs ≡ all
-    → fault_in (kept_answer fs (top.0 ∷ []) top.1 (option_and_then (slice_get fs) number)) ≡ fault_in (with_top d (Some top))
+    → fault_in (finished_answer fs (top.0 ∷ []) top.1 (option_and_then (slice_get fs) number)) ≡ fault_in (with_top d (Some top))
 fault-walked d top name fs all number none last called type same =
-    ap (λ (x : List Finished). fault_in (kept_answer x (top.0 ∷ []) top.1 (option_and_then (slice_get x) number))) same
+    ap (λ (x : List Finished). fault_in (finished_answer x (top.0 ∷ []) top.1 (option_and_then (slice_get x) number))) same
     ∙ ap fault_in (answer-numbered d top.0 top.1 all number none (subst (IsType d all number) last (subst (λ n. IsType d all number (root_type d n)) called type)))
 
 -- an answer without a fault has rows

@@ -7,7 +7,7 @@ use Rattle.std.proofs.lemmas.List.Folds.{list_any_none}
 use Rattle.rdl_elab.specs.declared.layout.Span.{Span}
 use Rattle.rdl_elab.specs.declared.siblings.Sibling.{Sibling}
 use Rattle.rdl_elab.specs.Faults.{overlap}
-use Rattle.rdl_elab.specs.KeptRows.{share, overlaps_before, clashes_before}
+use Rattle.rdl_elab.specs.FinishedRows.{share, overlaps_before, clashes_before}
 
 and-false : (x : Bool) → (x && false) ≡ false
 and-false true = refl

@@ -1,5 +1,5 @@
 -- Components below which no row has a fault, once for all their instances.
--- own: SystemRDL 2.0 has no rows. `KeptRows` says which row has a fault; that needs neither names nor a base.
+-- own: SystemRDL 2.0 has no rows. `FinishedRows` says which row has a fault; that needs neither names nor a base.
 use Rattle.std.specs.Prelude.{◌≡◌, ℕ, ◌≤◌, ◌&&◌, List, [], ◌∷◌, Bool, true, Some, slice_get}
 use Rattle.std.specs.Option.{is_none}
 use Rattle.rdl_tree.specs.declared.shell.Kind.{Kind}
@@ -13,10 +13,10 @@ use Rattle.rdl_elab.specs.Kept.{Part}
 use Rattle.rdl_elab.specs.Layouts.{mode_inside}
 use Rattle.rdl_elab.specs.Reaches.{Reach, behind}
 use Rattle.rdl_elab.specs.Finished.{under}
-use Rattle.rdl_elab.specs.KeptRows.{Surroundings, KeptRow, kept_rows}
+use Rattle.rdl_elab.specs.FinishedRows.{Surroundings, FinishedRow, finished_rows}
 
 -- no row has a fault
-abbrev pub are_faultless : List KeptRow → Bool
+abbrev pub are_faultless : List FinishedRow → Bool
 are_faultless [] = true
 are_faultless (k ∷ ks) = is_none k.fault && are_faultless ks
 
@@ -28,7 +28,7 @@ pub record IsAround (m : Mode) (least : ℕ) (rs : List Reach) (o : Surroundings
 
 -- in such surroundings no row of these instances has a fault, and none below them, so many levels as one likes
 abbrev pub AreClean : List Finished → Mode → ℕ → List Reach → List Span → List Part → Type 0
-AreClean fs m least rs spans ps = (n : ℕ) (o : Surroundings) → IsAround m least rs o → are_faultless (kept_rows n fs o spans ps) ≡ true
+AreClean fs m least rs spans ps = (n : ℕ) (o : Surroundings) → IsAround m least rs o → are_faultless (finished_rows n fs o spans ps) ≡ true
 
 -- the bits that the fields of a component have; only a register has fields
 abbrev pub bits_inside : Kind → ℕ → ℕ

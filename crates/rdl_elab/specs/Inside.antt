@@ -43,9 +43,9 @@ abbrev pub part_rows : Option Finished → ℕ
 part_rows None = 0
 part_rows (Some f) = f.rows + 1
 
-abbrev pub kept_rows : List Finished → List Part → ℕ
-kept_rows fs [] = 0
-kept_rows fs (p ∷ ps) = part_rows (slice_get fs p.component) + kept_rows fs ps
+abbrev pub finished_rows : List Finished → List Part → ℕ
+finished_rows fs [] = 0
+finished_rows fs (p ∷ ps) = part_rows (slice_get fs p.component) + finished_rows fs ps
 
 -- whether a component of this kind with these instances is one that must not be without any
 abbrev pub lacks_parts : Kind → List Part → Bool

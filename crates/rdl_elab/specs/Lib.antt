@@ -16,7 +16,7 @@ pub mod EachMember
 pub mod Finished
 pub mod PartNames
 pub mod KeptTargets
-pub mod KeptRows
+pub mod FinishedRows
 pub mod Clean
 pub mod SiblingRanges
 pub mod Inside

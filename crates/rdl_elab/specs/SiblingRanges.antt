@@ -1,11 +1,11 @@
 -- The spans of earlier siblings as ordered ranges, from each start to its end, so that a search needn't go through them all.
--- own: how the siblings are kept. Which of them overlap `KeptRows` says.
+-- own: how the siblings are kept. Which of them overlap `FinishedRows` says.
 use Rattle.std.specs.Prelude.{◌≡◌, ℕ, ◌<◌, ◌≤◌, true, false, List, All, length, get_or, take, Option, Some, IfSome}
 use Rattle.std.specs.Ordering.{nat_cmp}
 use Rattle.std.specs.BTreeMap.{BTreeMap, get}
 use Rattle.rdl_elab.specs.declared.layout.Span.{Span}
 use Rattle.rdl_elab.specs.declared.siblings.Sibling.{Sibling}
-use Rattle.rdl_elab.specs.KeptRows.{overlaps_before}
+use Rattle.rdl_elab.specs.FinishedRows.{overlaps_before}
 
 -- the ranges have from this number to that one
 abbrev pub HasRange : BTreeMap ℕ ℕ → ℕ → ℕ → Type 0

@@ -4,7 +4,7 @@ ghost use Rattle.rdl_elab.specs.AllKept.{fault_in};
 ghost use Rattle.rdl_elab.specs.Clean.{AreClean, AreCleanIn, IsCleanIn, bits_inside, has_mode};
 ghost use Rattle.rdl_elab.specs.Finished.{under};
 ghost use Rattle.rdl_elab.specs.declared.finished.Finished.{Finished};
-ghost use Rattle.rdl_elab.specs.KeptRows.{kept_answer};
+ghost use Rattle.rdl_elab.specs.FinishedRows.{finished_answer};
 ghost use Rattle.rdl_elab.specs.Layouts.{mode_inside};
 
 use crate::elaborate::{Top, finished_at, map_fault};
@@ -314,7 +314,7 @@ pub(crate) fn is_clean_map(
     number: Option<usize>,
     top: &Top,
 ) -> Result<bool, AllocError>
-    ensures { IfOk result (λ answer. answer ≡ true → fault_in (kept_answer components.now (top.now.0 ∷ []) top.now.1 (option_and_then (slice_get components.now) number)) ≡ None) }
+    ensures { IfOk result (λ answer. answer ≡ true → fault_in (finished_answer components.now (top.now.0 ∷ []) top.now.1 (option_and_then (slice_get components.now) number)) ≡ None) }
 {
     let Some(number) = number else {
         return Ok(false);

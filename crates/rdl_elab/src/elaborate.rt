@@ -9,7 +9,7 @@ ghost use Rattle.rdl_elab.specs.Faults.{has_name, top_from, elaborated, under_to
 ghost use Rattle.rdl_elab.specs.Known.{HasRows};
 ghost use Rattle.rdl_elab.specs.Tops.{top_at};
 ghost use Rattle.rdl_tree.specs.View.{items_of};
-ghost use Rattle.rdl_elab.specs.KeptRows.{kept_map_fault, kept_top_row, kept_around_top, told_below, rows_unless, kept_rows_or_fault, kept_answer};
+ghost use Rattle.rdl_elab.specs.FinishedRows.{finished_map_fault, finished_top_row, finished_around_top, told_below, rows_unless, finished_rows_or_fault, finished_answer};
 
 use crate::finished::Finished;
 use crate::instances::mode_inside;
@@ -113,7 +113,7 @@ fn last_top<'a>(items: &'a [Item], wanted: Option<&str>) -> Option<Top<'a>>
 
 /// What is wrong with a map, but for single rows, whose top is this component.
 pub(crate) fn map_fault(at: &Address, top: &Finished) -> Option<Fault>
-    ensures { result ≡ kept_map_fault at.now top.now }
+    ensures { result ≡ finished_map_fault at.now top.now }
 {
     if top.levels >= 16 {
         return Some(fault_at(at, FaultKind::TooManyLevels));
@@ -140,7 +140,7 @@ fn one_name(alloc: Global, name: &Name) -> Result<Rc<Vec<Name>>, AllocError>
 }
 
 fn top_row(alloc: Global, name: &Name, top: &Finished) -> Result<Row, AllocError>
-    ensures { IfOk result (λ row. row ≡ kept_top_row name.now top.now) }
+    ensures { IfOk result (λ row. row ≡ finished_top_row name.now top.now) }
 {
     let size = top.layouts.under(Mode::Regalign).size;
     let around = Rc::new(alloc, Vec::new(alloc))?;
@@ -159,7 +159,7 @@ fn top_row(alloc: Global, name: &Name, top: &Finished) -> Result<Row, AllocError
 }
 
 fn top_rows(alloc: Global, name: &Name, top: &Finished) -> Result<Vec<Row>, AllocError>
-    ensures { IfOk result (λ rows. rows.items ≡ kept_top_row name.now top.now ∷ []) }
+    ensures { IfOk result (λ rows. rows.items ≡ finished_top_row name.now top.now ∷ []) }
 {
     let mut rows = Vec::with_capacity(alloc, top.rows.saturating_add(1))?;
     rows.push(top_row(alloc, name, top)?)?;
@@ -167,7 +167,7 @@ fn top_rows(alloc: Global, name: &Name, top: &Finished) -> Result<Vec<Row>, Allo
 }
 
 fn around_top<'a>(alloc: Global, name: &Name, top: &Finished<'a>) -> Result<Around<'a>, AllocError>
-    ensures { IfOk result (λ around. around ≡ kept_around_top name.now top.now) }
+    ensures { IfOk result (λ around. around ≡ finished_around_top name.now top.now) }
 {
     Ok(Around {
         mode: mode_inside(top.kind, top.values, Mode::Regalign),
@@ -205,7 +205,7 @@ fn rows_or_fault<'a>(
     name: &Name,
     top: &Finished<'a>,
 ) -> Result<Result<Rows, Fault>, AllocError>
-    ensures { IfOk result (λ answer. answer ≡ kept_rows_or_fault components.now at.now name.now top.now) }
+    ensures { IfOk result (λ answer. answer ≡ finished_rows_or_fault components.now at.now name.now top.now) }
 {
     match map_fault(at, top) {
         Some(fault) => Ok(Err(fault)),
@@ -230,7 +230,7 @@ fn rows_of<'a>(
     at: &Address,
     name: &Name,
 ) -> Result<Result<Rows, Fault>, AllocError>
-    ensures { IfOk result (λ answer. answer ≡ kept_answer components.now at.now name.now (slice_get components.now number)) }
+    ensures { IfOk result (λ answer. answer ≡ finished_answer components.now at.now name.now (slice_get components.now number)) }
 {
     match finished_at(components, number) {
         Some(top) => rows_or_fault(alloc, components, at, name, top),
@@ -245,7 +245,7 @@ pub(crate) fn rows_under<'a>(
     number: Option<usize>,
     top: &Top,
 ) -> Result<Result<Rows, Fault>, AllocError>
-    ensures { IfOk result (λ answer. answer ≡ kept_answer components.now (top.now.0 ∷ []) top.now.1 (option_and_then (slice_get components.now) number)) }
+    ensures { IfOk result (λ answer. answer ≡ finished_answer components.now (top.now.0 ∷ []) top.now.1 (option_and_then (slice_get components.now) number)) }
 {
     let at = Address::new().inside(top.number);
     match number {

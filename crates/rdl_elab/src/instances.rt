@@ -7,7 +7,7 @@ ghost use Rattle.rdl_tree.specs.declared.shell.Kind.TheVariants.{Regfile, Reg};
 ghost use Rattle.rdl_elab.specs.Layouts.{placement, field_bits, member, mode_inside, laid_out};
 ghost use Rattle.rdl_elab.specs.Capped.{capped_layout, IsAlignment};
 ghost use Rattle.rdl_elab.specs.Finished.{under};
-ghost use Rattle.rdl_elab.specs.Inside.{counted, shown_placement, kept_parts, kept_levels, kept_rows, lacks_parts, part_empty, kept_empty};
+ghost use Rattle.rdl_elab.specs.Inside.{counted, shown_placement, kept_parts, kept_levels, finished_rows, lacks_parts, part_empty, kept_empty};
 
 use crate::bits::bits;
 use crate::component::{field, register};
@@ -242,7 +242,7 @@ pub(crate) fn levels(parts: &[Part], components: &[Finished]) -> usize
 /// The rows below a component with these instances, at most 65,536.
 #[tactic(auto, using(crate::proofs::Insides::steps))]
 pub(crate) fn rows(parts: &[Part], components: &[Finished]) -> usize
-    ensures { result ≡ min (kept_rows components.now parts.now) 65536 }
+    ensures { result ≡ min (finished_rows components.now parts.now) 65536 }
 {
     let mut rows = 0usize;
     for part in parts {

@@ -9,7 +9,7 @@ ghost use Rattle.std.specs.String.{string_bytes};
 ghost use Rattle.rdl_elab.specs.Written.{all_layouts};
 ghost use Rattle.rdl_elab.specs.Words.{AreFoundAgain};
 ghost use Rattle.rdl_elab.specs.Stored.{all_under};
-ghost use Rattle.rdl_elab.specs.KeptRows.{kept_answer};
+ghost use Rattle.rdl_elab.specs.FinishedRows.{finished_answer};
 ghost use Rattle.rdl_elab.specs.AllKept.{fault_in, new_spans, has_layout, all_instances, instances_at, AreFoundBut};
 
 use crate::clean::is_clean_map;
@@ -90,7 +90,7 @@ fn judged<'a>(
     number: Option<usize>,
     top: &Top,
 ) -> Result<Option<Fault>, AllocError>
-    ensures { IfOk result (λ fault. fault ≡ fault_in (kept_answer components.now (top.now.0 ∷ []) top.now.1 (option_and_then (slice_get components.now) number))) }
+    ensures { IfOk result (λ fault. fault ≡ fault_in (finished_answer components.now (top.now.0 ∷ []) top.now.1 (option_and_then (slice_get components.now) number))) }
 {
     if is_clean_map(alloc, components, number, top)? {
         return Ok(None);
@@ -109,8 +109,8 @@ fn fault_under<'a>(
     top: &Top,
     judgement: Judgement,
 ) -> Result<Option<Fault>, AllocError>
-    requires known { judgement ≡ Judgement.Known → fault_in (kept_answer components.now (top.now.0 ∷ []) top.now.1 (option_and_then (slice_get components.now) number)) ≡ None }
-    ensures { IfOk result (λ fault. fault ≡ fault_in (kept_answer components.now (top.now.0 ∷ []) top.now.1 (option_and_then (slice_get components.now) number))) }
+    requires known { judgement ≡ Judgement.Known → fault_in (finished_answer components.now (top.now.0 ∷ []) top.now.1 (option_and_then (slice_get components.now) number)) ≡ None }
+    ensures { IfOk result (λ fault. fault ≡ fault_in (finished_answer components.now (top.now.0 ∷ []) top.now.1 (option_and_then (slice_get components.now) number))) }
 {
     match judgement {
         Judgement::Needed => judged(alloc, components, number, top),

@@ -9,7 +9,7 @@ ghost use Rattle.rdl_tree.specs.declared.property.Property.TheVariants.{Sw, Rese
 ghost use Rattle.rdl_tree.specs.declared.shell.Kind.{Kind};
 ghost use Rattle.rdl_elab.specs.declared.row.PropertyValue.{PropertyValue};
 ghost use Rattle.rdl_elab.specs.Finished.{under};
-ghost use Rattle.rdl_elab.specs.KeptRows.{kept_base, kept_values, kept_row, seen, kept_fault, field_fault, extent_fault, judged, surroundings_inside, level_rows, kept_rows, told_one, told};
+ghost use Rattle.rdl_elab.specs.FinishedRows.{finished_base, finished_values, finished_row, seen, finished_fault, field_fault, extent_fault, judged, surroundings_inside, level_rows, finished_rows, told_one, told};
 
 use crate::finished::{Finished, Part};
 use crate::instances::mode_inside;
@@ -45,7 +45,7 @@ pub(crate) struct Around<'a> {
 }
 
 impl<'a> Model for Around<'a> {
-    ghost use Rattle.rdl_elab.specs.KeptRows.{Surroundings};
+    ghost use Rattle.rdl_elab.specs.FinishedRows.{Surroundings};
 
     ghost Value = { Surroundings };
 
@@ -53,7 +53,7 @@ impl<'a> Model for Around<'a> {
 }
 
 fn base(kind: Kind, around: u64, span: Span) -> u64
-    ensures { result ≡ kept_base kind around span }
+    ensures { result ≡ finished_base kind around span }
 {
     match kind {
         Kind::Field => around,
@@ -101,8 +101,8 @@ fn longer(alloc: Global, names: &[Name], name: &Name) -> Result<Rc<Vec<Name>>, A
 
 /// Whether nothing reaches an instance with this reset.
 fn is_alone(reset: Option<Number>, reaching: &[Assignment]) -> bool
-    ensures alone { result ≡ true → (k : Kind) (own : List PropertyValue) → own ≡ kept_values k reset reaching.now own }
-    ensures reached { result ≡ false → (k : Kind) (own : List PropertyValue) → values_along k reset reaching.now own ≡ kept_values k reset reaching.now own }
+    ensures alone { result ≡ true → (k : Kind) (own : List PropertyValue) → own ≡ finished_values k reset reaching.now own }
+    ensures reached { result ≡ false → (k : Kind) (own : List PropertyValue) → values_along k reset reaching.now own ≡ finished_values k reset reaching.now own }
 {
     match reset {
         Some(_) => false,
@@ -118,7 +118,7 @@ pub(crate) fn values(
     reaching: &[Assignment],
     own: &ComponentValues,
 ) -> Result<RowValues, AllocError>
-    ensures { IfOk result (λ values. values ≡ kept_values kind reset reaching.now own.now) }
+    ensures { IfOk result (λ values. values ≡ finished_values kind reset reaching.now own.now) }
 {
     if has_come(reaching) {
         return row_values(alloc, kind, reset, reaching, own);
@@ -138,8 +138,8 @@ pub(crate) fn values_judged(
     reaching: &[Assignment],
     own: &ComponentValues,
 ) -> Result<RowValues, AllocError>
-    ensures sw { IfOk result (λ values. value_under Sw values ≡ value_under Sw (kept_values kind reset reaching.now own.now)) }
-    ensures reset { IfOk result (λ values. value_under Reset values ≡ value_under Reset (kept_values kind reset reaching.now own.now)) }
+    ensures sw { IfOk result (λ values. value_under Sw values ≡ value_under Sw (finished_values kind reset reaching.now own.now)) }
+    ensures reset { IfOk result (λ values. value_under Reset values ≡ value_under Reset (finished_values kind reset reaching.now own.now)) }
 {
     if has_come(reaching) {
         return judged_values(alloc, kind, reset, reaching, own);
@@ -167,7 +167,7 @@ fn row(
     reaching: &[Assignment],
 ) -> Result<Row, AllocError>
     requires { reaching.now ≡ behind part.now.at around.now.reaching }
-    ensures { IfOk result (λ row. row ≡ kept_row around.now span part.now component.now) }
+    ensures { IfOk result (λ row. row ≡ finished_row around.now span part.now component.now) }
 {
     let shell = part.shell();
     let size = component.layouts.under(around.mode).size;
@@ -243,7 +243,7 @@ pub(crate) fn fault_kind(
     before: &Siblings,
     values: &RowValues,
 ) -> Option<FaultKind>
-    ensures { result ≡ kept_fault component.now.kind component.now.values bits shell.now (under mode component.now.layouts).size sibling before.now values.now }
+    ensures { result ≡ finished_fault component.now.kind component.now.values bits shell.now (under mode component.now.layouts).size sibling before.now values.now }
 {
     let size = component.layouts.under(mode).size;
     match component.kind {
@@ -299,7 +299,7 @@ fn inside<'a>(
     reaching: &[Assignment<'a>],
 ) -> Result<Around<'a>, AllocError>
     requires { reaching.now ≡ behind part.now.at around.now.reaching }
-    ensures { IfOk result (λ inside. inside ≡ surroundings_inside around.now part.now component.now (kept_row around.now span part.now component.now)) }
+    ensures { IfOk result (λ inside. inside ≡ surroundings_inside around.now part.now component.now (finished_row around.now span part.now component.now)) }
 {
     Ok(Around {
         mode: mode_inside(component.kind, component.values, around.mode),
@@ -331,7 +331,7 @@ fn add_below<'a>(
     rows: &mut Vec<Row>,
 ) -> Result<Option<Fault>, AllocError>
     requires { reaching.now ≡ behind part.now.at around.now.reaching }
-    ensures { IfOk result (λ fault. record { fault = fault; rows = rows.new.items } ≡ told rows.old.items (kept_rows levels components.now (surroundings_inside around.now part.now component.now (kept_row around.now span part.now component.now)) (under around.now.mode component.now.layouts).spans component.now.parts.items)) }
+    ensures { IfOk result (λ fault. record { fault = fault; rows = rows.new.items } ≡ told rows.old.items (finished_rows levels components.now (surroundings_inside around.now part.now component.now (finished_row around.now span part.now component.now)) (under around.now.mode component.now.layouts).spans component.now.parts.items)) }
 {
     let parts = component.parts.as_slice();
     if parts.is_empty() {
@@ -354,7 +354,7 @@ pub(crate) fn add_rows<'a>(
     levels: usize,
     rows: &mut Vec<Row>,
 ) -> Result<Option<Fault>, AllocError>
-    ensures { IfOk result (λ fault. record { fault = fault; rows = rows.new.items } ≡ told rows.old.items (kept_rows levels components.now around.now spans.now parts.now)) }
+    ensures { IfOk result (λ fault. record { fault = fault; rows = rows.new.items } ≡ told rows.old.items (finished_rows levels components.now around.now spans.now parts.now)) }
 {
     if levels == 0 {
         return Ok(None);

@@ -1,7 +1,7 @@
 //! Siblings that overlap, and resets that are too wide.
 ghost use Rattle.std.specs.Prelude.{◌≡◌, ◌^◌, nat_le, option_copied, false, List, [], ◌∷◌, ◌++◌, IfOk};
 ghost use Rattle.rdl_elab.specs.Faults.{overlap, is_read_only, is_write_only, may_share, is_reset_too_wide};
-ghost use Rattle.rdl_elab.specs.KeptRows.{share, overlaps_before};
+ghost use Rattle.rdl_elab.specs.FinishedRows.{share, overlaps_before};
 ghost use Rattle.rdl_elab.specs.SiblingRanges.{AreApart, AreRanges, AreRangesIfKept};
 ghost use Rattle.rdl_elab.specs.declared.siblings.Sibling.{Sibling};
 
@@ -98,7 +98,7 @@ impl Model for Siblings {
 
 impl Siblings {
     ghost use Rattle.std.specs.Prelude.{◌≡◌, [], ◌∷◌, ◌++◌, OnOk, IfOk, true, false};
-    ghost use Rattle.rdl_elab.specs.KeptRows.{overlaps_before, clashes_before};
+    ghost use Rattle.rdl_elab.specs.FinishedRows.{overlaps_before, clashes_before};
     ghost use Rattle.rdl_elab.specs.SiblingRanges.{AreApart, AreRangesIfKept};
 
     pub(crate) fn new(alloc: Global) -> Siblings

@@ -5,7 +5,7 @@ use Rattle.std.specs.Option.{option_map_or}
 use Rattle.std.proofs.lemmas.List.{length-append}
 use Rattle.rdl_text.specs.Word.{Word}
 use Rattle.rdl_text.specs.Words.{words}
-use Rattle.rdl_text.specs.declared.fault.FaultKind.{FaultKind}
+use Rattle.rdl_text.specs.declared.fault.WordFault.{WordFault}
 use Rattle.rdl_text.specs.declared.fault.TextFault.{TextFault}
 use Rattle.rdl_text.specs.declared.token.Mark.TheVariants.{OpenBrace, Semicolon}
 use Rattle.rdl_tree.specs.Items.{Items}
@@ -95,7 +95,7 @@ opened-reaches (inside done o k n body) ws =
 -- ---- Faults.
 
 abbrev pub WordsFail : List ℕ → ParseFault → Type 0
-WordsFail text f = (f ≡ out_of_memory) ⊎ (((f ≡ too_long) × (max_text < length text)) ⊎ ((kind : FaultKind) × (f.kind ≡ Words kind) × HasWordFault text kind f.offset))
+WordsFail text f = (f ≡ out_of_memory) ⊎ (((f ≡ too_long) × (max_text < length text)) ⊎ ((kind : WordFault) × (f.kind ≡ Words kind) × HasWordFault text kind f.offset))
 
 pub words-refused : {X : Type 0} (spells : List Symbol → X → Type 0) (within : X → Type 0) (text : List ℕ) (f : ParseFault) → WordsFail text f → (f ≡ out_of_memory) ⊎ RefusesBy spells within text f.kind f.offset
 words-refused spells within text f (inl e) = inl e

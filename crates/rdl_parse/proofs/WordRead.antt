@@ -14,8 +14,8 @@ use Rattle.rdl_tree.specs.declared.value.Value.{Value}
 use Rattle.rdl_tree.specs.declared.value.Value.TheVariants as values
 use Rattle.rdl_tree.specs.declared.value.Word.{Word as ValueWord}
 use Rattle.rdl_tree.specs.declared.value.Word.TheVariants as word
-use Rattle.rdl_parse.specs.declared.class.Property.{Property}
-use Rattle.rdl_parse.specs.declared.class.Property.TheVariants as property
+use Rattle.rdl_parse.specs.declared.class.ReservedProperty.{ReservedProperty}
+use Rattle.rdl_parse.specs.declared.class.ReservedProperty.TheVariants as property
 use Rattle.rdl_parse.specs.Symbol as symbol
 use Rattle.rdl_parse.specs.Symbol.{Symbol, kind, outside, name, number, mark, property_text}
 use Rattle.rdl_parse.specs.Reading.{fault_at, taken, by, is_mark, begins, mark_at, name_by, number_by, prop_by, name_value, property_value, word_value, value_by, name_at, number_at, prop_at, size_at, Bracketed, bracketed_at, brackets_at, part_at, shell, inst_at, value_at, dot_at, dots_at}
@@ -93,7 +93,7 @@ name-value-by false false n v h k e = absurd cc
 name-value : (n : List ℕ) (v : Value) → name_value n ≡ Some v → name n ≡ value_symbol v
 name-value n v e = name-value-by (bytes_eq n (codes "r")) (bytes_eq n (codes "w")) n v (bytes_eq-Decides n (codes "r")).0 (bytes_eq-Decides n (codes "w")).0 e
 
-property-value : (p : Property) (v : Value) → property_value p ≡ Some v → symbol.property p ≡ value_symbol v
+property-value : (p : ReservedProperty) (v : Value) → property_value p ≡ Some v → symbol.property p ≡ value_symbol v
 property-value property.Sw v e = absurd cc
 property-value property.Hw v e = absurd cc
 property-value property.Rclr v e = let same : values.Word word.Rclr ≡ v = cc in ap value_symbol same

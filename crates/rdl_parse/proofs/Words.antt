@@ -14,8 +14,8 @@ use Rattle.rdl_parse.specs.Class.{class}
 use Rattle.rdl_parse.specs.Reading.{is_mark, number_by, begins, mark_at, fault_at, goes_on}
 use Rattle.rdl_parse.specs.declared.class.Class.{Class}
 use Rattle.rdl_parse.specs.declared.class.Class.TheVariants.{Kind, Outside, Default, Truth, Property, Word, Reserved, Name}
-use Rattle.rdl_parse.specs.declared.class.Property.{Property as Prop}
-use Rattle.rdl_parse.specs.declared.class.Property.TheVariants.{Sw, Hw, Rclr, Rset, Woset, Woclr}
+use Rattle.rdl_parse.specs.declared.class.ReservedProperty.{ReservedProperty as Prop}
+use Rattle.rdl_parse.specs.declared.class.ReservedProperty.TheVariants.{Sw, Hw, Rclr, Rset, Woset, Woclr}
 
 pub identifier_no_mark : (c : Class) (m : Mark) (n : List ℕ) → is_mark m (class_symbol c n) ≡ false
 identifier_no_mark (Kind k) m n = refl

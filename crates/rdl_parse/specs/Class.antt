@@ -4,7 +4,7 @@ use Rattle.std.specs.Prelude.{ℕ, Bool, true, false, ◌||◌, if◌then◌else
 use Rattle.rdl_tree.specs.declared.shell.Kind.TheVariants.{Addrmap, Regfile, Reg, Field}
 use Rattle.rdl_tree.specs.declared.shell.Outside.TheVariants.{External, Internal}
 use Rattle.rdl_tree.specs.declared.value.Word.TheVariants as value
-use Rattle.rdl_parse.specs.declared.class.Property.TheVariants as properties
+use Rattle.rdl_parse.specs.declared.class.ReservedProperty.TheVariants as properties
 use Rattle.rdl_parse.specs.declared.class.Class.{Class}
 use Rattle.rdl_parse.specs.declared.class.Class.TheVariants.{Kind, Outside, Default, Truth, Property, Word, Reserved, Name}
 

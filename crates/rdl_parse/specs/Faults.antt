@@ -3,7 +3,7 @@
 use Rattle.std.specs.Prelude.{ℕ, List, length}
 use Rattle.rdl_text.specs.Fault.{fault_number}
 use Rattle.rdl_text.specs.Word.{Word}
-use Rattle.rdl_text.specs.declared.fault.FaultKind.TheVariants as words
+use Rattle.rdl_text.specs.declared.fault.WordFault.TheVariants as words
 use Rattle.rdl_text.specs.declared.fault.TextFault.{TextFault}
 use Rattle.rdl_parse.specs.Places.{start_of}
 use Rattle.rdl_parse.specs.declared.fault.Fault.{Fault}

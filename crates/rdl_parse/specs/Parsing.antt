@@ -12,7 +12,7 @@ use Rattle.rdl_parse.specs.declared.found.Spot.{Spot}
 use Rattle.rdl_parse.specs.declared.fault.ParseFault.{ParseFault}
 use Rattle.rdl_parse.specs.declared.fault.ParseFaultKind.{ParseFaultKind}
 use Rattle.rdl_parse.specs.declared.fault.ParseFaultKind.TheVariants.{Words, UnexpectedWord, UnexpectedEnd, TooDeep, TooLarge, TooLong}
-use Rattle.rdl_text.specs.declared.fault.FaultKind.{FaultKind}
+use Rattle.rdl_text.specs.declared.fault.WordFault.{WordFault}
 use Rattle.rdl_parse.specs.Faults.{max_text}
 use Rattle.rdl_parse.specs.Places.{Located, located}
 use Rattle.rdl_parse.specs.Spelling.{Spells, SpellsItems}
@@ -76,7 +76,7 @@ pub record HasStatementFault {X : Type 0} (spells : List Symbol → X → Type 0
   pub stands_so : stands ws offset
 
 -- the text isn't too long, and its words have this first fault
-pub record HasWordFault (text : List ℕ) (kind : FaultKind) (offset : ℕ) : Type 0 where
+pub record HasWordFault (text : List ℕ) (kind : WordFault) (offset : ℕ) : Type 0 where
   pub short : length text ≤ max_text
   pub fault : words text ≡ Err (record { kind = kind; offset = offset })
 

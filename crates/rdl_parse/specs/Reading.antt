@@ -26,8 +26,8 @@ use Rattle.rdl_parse.specs.Finds.{Finds, nothing, single, joined, fits, less}
 use Rattle.rdl_parse.specs.Spelling.{component}
 use Rattle.rdl_parse.specs.Symbol as symbol
 use Rattle.rdl_parse.specs.Symbol.{Symbol, kind, outside, name, number, mark, property_text}
-use Rattle.rdl_parse.specs.declared.class.Property.{Property}
-use Rattle.rdl_parse.specs.declared.class.Property.TheVariants as property
+use Rattle.rdl_parse.specs.declared.class.ReservedProperty.{ReservedProperty}
+use Rattle.rdl_parse.specs.declared.class.ReservedProperty.TheVariants as property
 use Rattle.rdl_parse.specs.declared.fault.Fault.{Fault}
 use Rattle.rdl_parse.specs.declared.fault.Fault.TheVariants.{Unexpected, End, TooDeep, TooLarge}
 use Rattle.rdl_parse.specs.declared.fault.Stop.{Stop}
@@ -101,7 +101,7 @@ name_value n =
     else None
 
 -- properties that are values
-abbrev pub property_value : Property → Option Value
+abbrev pub property_value : ReservedProperty → Option Value
 property_value property.Sw = None
 property_value property.Hw = None
 property_value property.Rclr = Some (values.Word word.Rclr)

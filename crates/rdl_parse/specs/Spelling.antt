@@ -21,8 +21,8 @@ use Rattle.rdl_tree.specs.declared.value.Word.TheVariants as word
 use Rattle.rdl_parse.specs.Finds.{spot}
 use Rattle.rdl_parse.specs.Symbol as symbol
 use Rattle.rdl_parse.specs.Symbol.{Symbol, kind, outside, name, number, mark, property_text, symbols}
-use Rattle.rdl_parse.specs.declared.class.Property.{Property}
-use Rattle.rdl_parse.specs.declared.class.Property.TheVariants as property
+use Rattle.rdl_parse.specs.declared.class.ReservedProperty.{ReservedProperty}
+use Rattle.rdl_parse.specs.declared.class.ReservedProperty.TheVariants as property
 use Rattle.rdl_parse.specs.declared.found.Spot.{Spot}
 
 -- ---- Statements, as they are written.
@@ -50,7 +50,7 @@ pub data Out : Type 0 where
 -- an identifier that isn't reserved, or a reserved word
 pub data Prop : Type 0 where
   free : List ℕ → Prop
-  reserved : Property → Prop
+  reserved : ReservedProperty → Prop
 
 -- one constructor for each form of a statement; where it has instances, the first and the others
 mutual

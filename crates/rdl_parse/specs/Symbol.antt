@@ -8,8 +8,8 @@ use Rattle.rdl_text.specs.declared.token.TokenKind.TheVariants as kinds
 use Rattle.rdl_tree.specs.declared.shell.Kind.{Kind}
 use Rattle.rdl_tree.specs.declared.shell.Outside.{Outside}
 use Rattle.rdl_tree.specs.declared.value.Word.{Word as ValueWord}
-use Rattle.rdl_parse.specs.declared.class.Property.{Property}
-use Rattle.rdl_parse.specs.declared.class.Property.TheVariants.{Sw, Hw, Rclr, Rset, Woset, Woclr}
+use Rattle.rdl_parse.specs.declared.class.ReservedProperty.{ReservedProperty}
+use Rattle.rdl_parse.specs.declared.class.ReservedProperty.TheVariants.{Sw, Hw, Rclr, Rset, Woset, Woclr}
 use Rattle.rdl_parse.specs.declared.class.Class.{Class}
 use Rattle.rdl_parse.specs.declared.class.Class.TheVariants as classes
 use Rattle.rdl_parse.specs.Class.{class}
@@ -21,7 +21,7 @@ pub data Symbol : Type 0 where
   default : Symbol
   truth : Bool → Symbol
   -- a reserved word that is a property
-  property : Property → Symbol
+  property : ReservedProperty → Symbol
   -- a word that is a value and nothing else
   word : ValueWord → Symbol
   reserved : Symbol
@@ -60,7 +60,7 @@ abbrev pub symbols : List Word → List Symbol
 symbols ws = map symbol ws
 
 -- how a property that is a reserved word is spelled
-abbrev pub property_text : Property → List ℕ
+abbrev pub property_text : ReservedProperty → List ℕ
 property_text Sw = codes "sw"
 property_text Hw = codes "hw"
 property_text Rclr = codes "rclr"

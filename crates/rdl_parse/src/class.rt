@@ -9,7 +9,7 @@ use rdl_tree::value::Word;
 
 /// A reserved word that is a property.
 #[derive(Clone, Copy, Debug, PartialEq, Eq)]
-pub enum Property {
+pub enum ReservedProperty {
     Sw,
     Hw,
     Rclr,
@@ -28,7 +28,7 @@ pub enum Class {
     Default,
     /// `true` or `false`.
     Truth(bool),
-    Property(Property),
+    Property(ReservedProperty),
     /// A word that is a value and nothing else.
     Word(Word),
     /// A reserved word with no use in this profile.
@@ -42,8 +42,8 @@ fn of_two(identifier: &str) -> Class
     ensures { result ≡ look identifier.now (of_length 2 reserved) }
 {
     match identifier {
-        "sw" => Class::Property(Property::Sw),
-        "hw" => Class::Property(Property::Hw),
+        "sw" => Class::Property(ReservedProperty::Sw),
+        "hw" => Class::Property(ReservedProperty::Hw),
         "rw" => Class::Word(Word::Rw),
         "wr" => Class::Word(Word::Wr),
         "w1" => Class::Word(Word::W1),
@@ -74,8 +74,8 @@ fn of_four(identifier: &str) -> Class
 {
     match identifier {
         "true" => Class::Truth(true),
-        "rclr" => Class::Property(Property::Rclr),
-        "rset" => Class::Property(Property::Rset),
+        "rclr" => Class::Property(ReservedProperty::Rclr),
+        "rset" => Class::Property(ReservedProperty::Rset),
         "wclr" => Class::Word(Word::Wclr),
         "wset" => Class::Word(Word::Wset),
         "enum" => Class::Reserved,
@@ -90,8 +90,8 @@ fn of_five(identifier: &str) -> Class
     match identifier {
         "field" => Class::Kind(Kind::Field),
         "false" => Class::Truth(false),
-        "woset" => Class::Property(Property::Woset),
-        "woclr" => Class::Property(Property::Woclr),
+        "woset" => Class::Property(ReservedProperty::Woset),
+        "woclr" => Class::Property(ReservedProperty::Woclr),
         "ruser" => Class::Word(Word::Ruser),
         "wuser" => Class::Word(Word::Wuser),
         "alias" => Class::Reserved,
@@ -183,18 +183,18 @@ impl Class {
     }
 }
 
-impl Property {
+impl ReservedProperty {
     /// The property as a text spells it.
     pub fn text(self) -> &'static str
         ensures { result.now ≡ property_text self }
     {
         match self {
-            Property::Sw => "sw",
-            Property::Hw => "hw",
-            Property::Rclr => "rclr",
-            Property::Rset => "rset",
-            Property::Woset => "woset",
-            Property::Woclr => "woclr",
+            ReservedProperty::Sw => "sw",
+            ReservedProperty::Hw => "hw",
+            ReservedProperty::Rclr => "rclr",
+            ReservedProperty::Rset => "rset",
+            ReservedProperty::Woset => "woset",
+            ReservedProperty::Woclr => "woclr",
         }
     }
 }

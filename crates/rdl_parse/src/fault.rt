@@ -3,7 +3,7 @@ ghost use Rattle.std.specs.Prelude.{◌≡◌};
 ghost use Rattle.rdl_parse.specs.Faults.{parse_fault_number, words_fault, out_of_memory};
 ghost use Rattle.rdl_parse.specs.declared.fault.Stop.TheVariants.{Memory};
 
-use rdl_text::fault::{FaultKind, TextFault};
+use rdl_text::fault::{WordFault, TextFault};
 use std::alloc::{AllocError, AllocFailed};
 
 /// Why words spell no description, and where: how many words there are from the one at fault on.
@@ -42,7 +42,7 @@ impl<T: Drop> From<AllocFailed<T>> for Stop {
 #[derive(Clone, Copy, Debug, PartialEq, Eq)]
 pub enum ParseFaultKind {
     /// S1 to S7: the text has no words. S8: no memory.
-    Words(FaultKind),
+    Words(WordFault),
     /// S9: no text of the language goes on with the word here.
     UnexpectedWord,
     /// S10: the text ends too early.
@@ -80,7 +80,7 @@ pub struct ParseFault {
 
 impl ParseFault {
     pub(crate) const MEMORY: ParseFault = ParseFault {
-        kind: ParseFaultKind::Words(FaultKind::Memory),
+        kind: ParseFaultKind::Words(WordFault::Memory),
         offset: 0,
     };
 

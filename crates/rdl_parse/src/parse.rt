@@ -1,6 +1,6 @@
 //! A text as a description, or as one statement.
 ghost use Rattle.std.specs.Prelude.{◌≡◌, ◌⊎◌, ◌<◌, ◌≤◌, List, length, IfOk, IfErr, MatchResult, Ok, Err};
-ghost use Rattle.rdl_text.specs.declared.fault.FaultKind.{FaultKind};
+ghost use Rattle.rdl_text.specs.declared.fault.WordFault.{WordFault};
 ghost use Rattle.rdl_parse.specs.declared.fault.ParseFaultKind.{ParseFaultKind};
 ghost use Rattle.rdl_tree.specs.Items.{Items};
 ghost use Rattle.rdl_tree.specs.View.{items_of};
@@ -32,7 +32,7 @@ const TOO_LONG: ParseFault = ParseFault {
 fn words_of<'a>(alloc: Global, text: &'a str) -> Result<Tokens<'a>, ParseFault>
     ensures ok { IfOk result (λ ws. HasWords text.now ws) }
     ensures long { max_text < length text.now → result ≡ Err too_long }
-    ensures err { IfErr result (λ f. (f ≡ out_of_memory) ⊎ ((f ≡ too_long) × (max_text < length text.now)) ⊎ ((kind : FaultKind) × (f.kind ≡ ParseFaultKind.Words kind) × HasWordFault text.now kind f.offset)) }
+    ensures err { IfErr result (λ f. (f ≡ out_of_memory) ⊎ ((f ≡ too_long) × (max_text < length text.now)) ⊎ ((kind : WordFault) × (f.kind ≡ ParseFaultKind.Words kind) × HasWordFault text.now kind f.offset)) }
 {
     if text.len() > MAX_LEN {
         return Err(TOO_LONG);

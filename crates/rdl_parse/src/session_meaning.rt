@@ -8,7 +8,7 @@ use crate::class::Class;
 use crate::fault::ParseFaultKind;
 use crate::parse::{parse, parse_item};
 use crate::session_lines::PatchLine;
-use rdl_text::fault::FaultKind;
+use rdl_text::fault::WordFault;
 use rdl_text::name::{Name, NameFault};
 use rdl_tree::address::Address;
 use rdl_tree::description::{Description, Item, Of};
@@ -29,7 +29,7 @@ pub(crate) fn map_of(alloc: Global, bytes: &[u8]) -> Result<Option<Description>,
     match parse(alloc, text) {
         Ok((description, _)) => Ok(Some(description)),
         Err(fault) => match fault.kind {
-            ParseFaultKind::Words(FaultKind::Memory) => Err(AllocError),
+            ParseFaultKind::Words(WordFault::Memory) => Err(AllocError),
             _ => Ok(None),
         },
     }
@@ -53,7 +53,7 @@ fn item_of(alloc: Global, bytes: &[u8]) -> Result<Option<Item>, AllocError>
     match parse_item(alloc, text) {
         Ok(items) => Ok(one_of(items)),
         Err(fault) => match fault.kind {
-            ParseFaultKind::Words(FaultKind::Memory) => Err(AllocError),
+            ParseFaultKind::Words(WordFault::Memory) => Err(AllocError),
             _ => Ok(None),
         },
     }

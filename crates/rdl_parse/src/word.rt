@@ -10,7 +10,7 @@ ghost use Rattle.rdl_text.specs.declared.token.TokenKind.{TokenKind};
 ghost use Rattle.rdl_tree.specs.declared.value.Value.{Value};
 ghost use Rattle.rdl_parse.specs.declared.fault.Stop.{Stop};
 
-use crate::class::{Class, Property};
+use crate::class::{Class, ReservedProperty};
 use crate::fault::Stop;
 use rdl_text::name::{Name, NameFault};
 use rdl_text::token::{Mark, Number, Token, TokenKind};
@@ -85,7 +85,7 @@ pub(crate) fn prop_of<'a>(word: &Token<'a>) -> Option<&'a str>
 }
 
 #[tactic(auto, using(crate::proofs::Words::property_is_name))]
-pub(crate) fn property_name(property: Property) -> &'static str
+pub(crate) fn property_name(property: ReservedProperty) -> &'static str
     ensures value { result.now ≡ property_text property }
     ensures is_name { IsName result.now }
 {
@@ -115,15 +115,15 @@ fn name_value(name: &str) -> Option<Word>
     }
 }
 
-fn property_value(property: Property) -> Option<Word>
+fn property_value(property: ReservedProperty) -> Option<Word>
     ensures { option_map Value.Word result ≡ spec.property_value property }
 {
     match property {
-        Property::Sw | Property::Hw => None,
-        Property::Rclr => Some(Word::Rclr),
-        Property::Rset => Some(Word::Rset),
-        Property::Woset => Some(Word::Woset),
-        Property::Woclr => Some(Word::Woclr),
+        ReservedProperty::Sw | ReservedProperty::Hw => None,
+        ReservedProperty::Rclr => Some(Word::Rclr),
+        ReservedProperty::Rset => Some(Word::Rset),
+        ReservedProperty::Woset => Some(Word::Woset),
+        ReservedProperty::Woclr => Some(Word::Woclr),
     }
 }
 

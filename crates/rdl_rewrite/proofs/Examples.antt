@@ -12,7 +12,7 @@ use Rattle.rdl_tree.specs.declared.value.Value.TheVariants.{Number, Word as Word
 use Rattle.rdl_tree.specs.declared.value.Word.TheVariants.{R}
 use Rattle.rdl_rewrite.specs.declared.place.Place.TheVariants.{First, Last, Before, After}
 use Rattle.rdl_rewrite.specs.declared.edit.Edit.TheVariants as edit
-use Rattle.rdl_rewrite.specs.declared.edit.Refusal.TheVariants.{NoSuchPath, ThroughNamedType, NoSuchSibling, NameTaken, NotSet, NotAnInstance, NotAddable}
+use Rattle.rdl_rewrite.specs.declared.edit.PatchRefusal.TheVariants.{NoSuchPath, ThroughNamedType, NoSuchSibling, NameTaken, NotSet, NotAnInstance, NotAddable}
 use Rattle.rdl_rewrite.specs.Rewritten.{rewritten}
 
 abbrev pub shaped : Shell → Kind → Items → Items → Items

@@ -27,8 +27,8 @@ use Rattle.rdl_rewrite.specs.Shell.{edited_shell}
 use Rattle.rdl_rewrite.specs.declared.assignment.Sort.TheVariants as sort
 use Rattle.rdl_rewrite.specs.declared.edit.Edit.{Edit}
 use Rattle.rdl_rewrite.specs.declared.edit.Edit.TheVariants.{Add, Remove, Rename, Move, Resize, SetBits, SetAddress, SetStride, SetAlign, SetReset, SetOwn, SetDefault, ClearOwn, ClearDefault, Assign, Unassign}
-use Rattle.rdl_rewrite.specs.declared.edit.Refusal.{Refusal}
-use Rattle.rdl_rewrite.specs.declared.edit.Refusal.TheVariants.{InUse, NameTaken, Reserved, NotAddable, NotAnInstance, TooDeep}
+use Rattle.rdl_rewrite.specs.declared.edit.PatchRefusal.{PatchRefusal}
+use Rattle.rdl_rewrite.specs.declared.edit.PatchRefusal.TheVariants.{InUse, NameTaken, Reserved, NotAddable, NotAnInstance, TooDeep}
 use Rattle.rdl_rewrite.specs.declared.fate.Fate.{Fate}
 use Rattle.rdl_rewrite.specs.declared.place.Place.{Place}
 use Rattle.rdl_scope.specs.Types.{item}
@@ -38,7 +38,7 @@ use Rattle.rdl_rewrite.proofs.Fates.{staying-fated, renamed-fated, apt_removal, 
 use Rattle.rdl_rewrite.proofs.OneBody.{Yields, add_yields, move_yields, set_yields, assign_yields, clear_yields, unassign_yields, reshape_yields}
 
 -- the description expected is what the patches lead to, and they fit
-pub record Makes (whole : Items) (expected : Result Items Refusal) (ps : List Patch) : Type 0 where
+pub record Makes (whole : Items) (expected : Result Items PatchRefusal) (ps : List Patch) : Type 0 where
   pub made : expected ≡ Ok (image ps whole)
   pub fit : AllFit ps whole
 
@@ -63,10 +63,10 @@ body_yields way n whole body (ClearDefault path property) here level ok = clear_
 body_yields way n whole body (Assign path target property value) here level ok = assign_yields way whole body target property value here level
 body_yields way n whole body (Unassign path target property) here level ok = unassign_yields way whole body (assigns_to target property) here ok
 
-makes_put : (way : List ℕ) (whole : Items) (r : Result Items Refusal) (ps : List Patch) → Yields way whole r ps → Makes whole (put_body way whole r) ps
+makes_put : (way : List ℕ) (whole : Items) (r : Result Items PatchRefusal) (ps : List Patch) → Yields way whole r ps → Makes whole (put_body way whole r) ps
 makes_put way whole r ps y = record { made = ap (put_body way whole) y.made ∙ ap Ok (sym y.leads.made); fit = y.leads.fit }
 
-ok-put : (way : List ℕ) (whole : Items) (r : Result Items Refusal) → is_ok (put_body way whole r) ≡ true → is_ok r ≡ true
+ok-put : (way : List ℕ) (whole : Items) (r : Result Items PatchRefusal) → is_ok (put_body way whole r) ≡ true → is_ok r ≡ true
 ok-put way whole (Ok new) h = refl
 ok-put way whole (Err refusal) h = cc
 
@@ -79,7 +79,7 @@ at_body_makes way n whole e level ok = by_body (body_at way whole) refl ok
     by_body (Some body) here h =
         makes_put way whole (edited_body whole n e body) (body_patches way n e body) (body_yields way n whole body e here level (ok-put way whole (edited_body whole n e body) h))
 
-ok-whole : (way : List ℕ) (whole : Items) (r : Result Items Refusal) → is_ok r ≡ true → is_ok (put_body way whole r) ≡ true
+ok-whole : (way : List ℕ) (whole : Items) (r : Result Items PatchRefusal) → is_ok r ≡ true → is_ok (put_body way whole r) ≡ true
 ok-whole way whole (Ok new) h = refl
 ok-whole way whole (Err refusal) h = cc
 
@@ -110,7 +110,7 @@ renamed_makes whole way name ok = by_tests (is_taken whole way name (item way wh
 -- ---- Every edit.
 
 -- an edit of an item, which is not the root
-item_makes : (way : List ℕ) (whole : Items) (r : Result Items Refusal) (ps : List Patch) → (is_ok r ≡ true → Makes whole r ps)
+item_makes : (way : List ℕ) (whole : Items) (r : Result Items PatchRefusal) (ps : List Patch) → (is_ok r ≡ true → Makes whole r ps)
     → is_ok (cond (length way == 0) (Err NotAnInstance) r) ≡ true → Makes whole (cond (length way == 0) (Err NotAnInstance) r) ps
 item_makes way whole r ps makes ok = by_root (length way == 0) ok
   where
@@ -147,13 +147,13 @@ patches_make whole e way ps found level ok is =
     subst (λ r. Makes whole (by_way r whole e) ps) (sym found) (subst (λ qs. Makes whole (by_way (Ok way) whole e) qs) (sym is) (way_makes way whole e level ok))
 
 -- the answer of the patches along a way that was found
-pub patches_made : {X : Type 0} (whole : Items) (e : Edit) (way : List ℕ) (r : Result X Refusal) (patches : X → List Patch) → find (path_of e) whole ≡ Ok way
+pub patches_made : {X : Type 0} (whole : Items) (e : Edit) (way : List ℕ) (r : Result X PatchRefusal) (patches : X → List Patch) → find (path_of e) whole ≡ Ok way
     → IfOk r (λ _. level_on (Ok way) whole e ≤ 16) → IfOk r (λ _. is_ok (by_way (Ok way) whole e) ≡ true) → IfOk r (λ x. patches x ≡ patches_on (Ok way) whole e)
     → IfOk r (λ x. rewritten whole e ≡ Ok (image (patches x) whole))
 patches_made whole e way (Ok x) patches found level ok is = (patches_make whole e way (patches x) found level ok is).made
 patches_made whole e way (Err refusal) patches found level ok is = tt
 
-pub patches_fit : {X : Type 0} (whole : Items) (e : Edit) (way : List ℕ) (r : Result X Refusal) (patches : X → List Patch) → find (path_of e) whole ≡ Ok way
+pub patches_fit : {X : Type 0} (whole : Items) (e : Edit) (way : List ℕ) (r : Result X PatchRefusal) (patches : X → List Patch) → find (path_of e) whole ≡ Ok way
     → IfOk r (λ _. level_on (Ok way) whole e ≤ 16) → IfOk r (λ _. is_ok (by_way (Ok way) whole e) ≡ true) → IfOk r (λ x. patches x ≡ patches_on (Ok way) whole e)
     → IfOk r (λ x. AllFit (patches x) whole)
 patches_fit whole e way (Ok x) patches found level ok is = (patches_make whole e way (patches x) found level ok is).fit
@@ -190,7 +190,7 @@ added_deep way whole place new body here deep ok = by_components (list_all is_co
     by_components false h = cc
 
 -- the body on the way stands too deep for its items to have addresses
-pub over : (way : List ℕ) (whole body : Items) (expected : Result Items Refusal) → body_at way whole ≡ Some body → 16 < length way → RefusesEdit whole expected TooDeep
+pub over : (way : List ℕ) (whole body : Items) (expected : Result Items PatchRefusal) → body_at way whole ≡ Some body → 16 < length way → RefusesEdit whole expected TooDeep
 over way whole body expected here deep = inr (record { refused = refl; deep = inl (omega (arith, depth-body_at way whole body here, deep)) })
 
 put_deep : (way : List ℕ) (n : ℕ) (whole body : Items) (e : Edit) → body_at way whole ≡ Some body → 16 < level_in way e → is_ok (edited_body whole n e body) ≡ true

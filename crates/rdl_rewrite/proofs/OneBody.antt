@@ -34,8 +34,8 @@ use Rattle.rdl_rewrite.specs.Place.{place_number}
 use Rattle.rdl_rewrite.specs.Shell.{reshaped, reshaped_at}
 use Rattle.rdl_rewrite.specs.declared.assignment.Sort.{Sort}
 use Rattle.rdl_rewrite.specs.declared.assignment.Sort.TheVariants as sort
-use Rattle.rdl_rewrite.specs.declared.edit.Refusal.{Refusal}
-use Rattle.rdl_rewrite.specs.declared.edit.Refusal.TheVariants.{NameTaken, NotAddable}
+use Rattle.rdl_rewrite.specs.declared.edit.PatchRefusal.{PatchRefusal}
+use Rattle.rdl_rewrite.specs.declared.edit.PatchRefusal.TheVariants.{NameTaken, NotAddable}
 use Rattle.rdl_rewrite.specs.declared.place.Place.{Place}
 use Rattle.rdl_rewrite.specs.declared.place.Place.TheVariants.{First, Last, Before, After}
 use Rattle.rdl_rewrite.proofs.Assignments.{last_within}
@@ -43,7 +43,7 @@ use Rattle.rdl_rewrite.proofs.Leading.{Leads, leads-none, leads-append, leads-in
 use Rattle.rdl_rewrite.proofs.Places.{position_below}
 
 -- the change of the body is made, and the patches lead to it
-pub record Yields (way : List ℕ) (whole : Items) (changed : Result Items Refusal) (ps : List Patch) : Type 0 where
+pub record Yields (way : List ℕ) (whole : Items) (changed : Result Items PatchRefusal) (ps : List Patch) : Type 0 where
   pub new : Items
   pub made : changed ≡ Ok new
   pub leads : Leads way whole ps new

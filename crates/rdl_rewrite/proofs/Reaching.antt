@@ -9,7 +9,7 @@ use Rattle.rdl_tree.specs.declared.value.Value.TheVariants.{Number, Word as Word
 use Rattle.rdl_tree.specs.declared.value.Value.{Value}
 use Rattle.rdl_tree.specs.declared.value.Word.TheVariants.{R}
 use Rattle.rdl_rewrite.specs.declared.edit.Edit.TheVariants as edit
-use Rattle.rdl_rewrite.specs.declared.edit.Refusal.TheVariants.{NameTaken, Reserved, InUse, NotSet, NotAnInstance}
+use Rattle.rdl_rewrite.specs.declared.edit.PatchRefusal.TheVariants.{NameTaken, Reserved, InUse, NotSet, NotAnInstance}
 use Rattle.rdl_rewrite.specs.Rewritten.{rewritten}
 use Rattle.rdl_parse.specs.Class.{class, is_unused}
 use Rattle.rdl_rewrite.proofs.Examples.{held, of_type, top, to_top, field, reg}

@@ -10,8 +10,8 @@ use Rattle.rdl_tree.specs.declared.description.Item.TheVariants as item
 use Rattle.rdl_tree.specs.declared.value.Value.{Value}
 use Rattle.rdl_rewrite.specs.declared.assignment.Sort.{Sort}
 use Rattle.rdl_rewrite.specs.declared.assignment.Sort.TheVariants.{Own, Default}
-use Rattle.rdl_rewrite.specs.declared.edit.Refusal.{Refusal}
-use Rattle.rdl_rewrite.specs.declared.edit.Refusal.TheVariants.{NotSet}
+use Rattle.rdl_rewrite.specs.declared.edit.PatchRefusal.{PatchRefusal}
+use Rattle.rdl_rewrite.specs.declared.edit.PatchRefusal.TheVariants.{NotSet}
 
 -- the item is an assignment of this sort
 abbrev pub is_sort : Sort → Item → Bool
@@ -43,9 +43,9 @@ abbrev pub set : Sort → List ℕ → Value → Items → Items
 set sort property value b = set_at (position (assigns sort property) (list_of b)) sort property value b
 
 -- without the assignment that is there
-abbrev pub cleared_at : Option ℕ → Items → Result Items Refusal
+abbrev pub cleared_at : Option ℕ → Items → Result Items PatchRefusal
 cleared_at (Some number) b = Ok (remove_item number b)
 cleared_at None b = Err NotSet
 
-abbrev pub cleared : Sort → List ℕ → Items → Result Items Refusal
+abbrev pub cleared : Sort → List ℕ → Items → Result Items PatchRefusal
 cleared sort property b = cleared_at (position (assigns sort property) (list_of b)) b

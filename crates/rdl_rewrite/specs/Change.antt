@@ -16,8 +16,8 @@ use Rattle.rdl_rewrite.specs.declared.assignment.Sort.TheVariants.{Own, Default}
 use Rattle.rdl_rewrite.specs.declared.place.Place.{Place}
 use Rattle.rdl_rewrite.specs.declared.edit.Edit.{Edit}
 use Rattle.rdl_rewrite.specs.declared.edit.Edit.TheVariants.{Add, Move, SetOwn, SetDefault, ClearOwn, ClearDefault, Assign, Unassign}
-use Rattle.rdl_rewrite.specs.declared.edit.Refusal.{Refusal}
-use Rattle.rdl_rewrite.specs.declared.edit.Refusal.TheVariants.{NameTaken, NotAddable, NotAnInstance, NoSuchSibling}
+use Rattle.rdl_rewrite.specs.declared.edit.PatchRefusal.{PatchRefusal}
+use Rattle.rdl_rewrite.specs.declared.edit.PatchRefusal.TheVariants.{NameTaken, NotAddable, NotAnInstance, NoSuchSibling}
 
 -- ---- Items more.
 
@@ -35,30 +35,30 @@ taken whole new body = clash (defined_names new) (defined_names whole) || clash 
 abbrev pub insert_items : ℕ → (new : Items) → Items → Items
 insert_items number new b = items_of (take number (list_of b) ++ list_of new ++ drop number (list_of b))
 
-abbrev pub added_at : Option ℕ → (whole : Items) → (new : Items) → Items → Result Items Refusal
+abbrev pub added_at : Option ℕ → (whole : Items) → (new : Items) → Items → Result Items PatchRefusal
 added_at None whole new b = Err NoSuchSibling
 added_at (Some number) whole new b = if taken whole new b then Err NameTaken else Ok (insert_items number new b)
 
-abbrev pub added : (whole : Items) → Place → (new : Items) → Items → Result Items Refusal
+abbrev pub added : (whole : Items) → Place → (new : Items) → Items → Result Items PatchRefusal
 added whole place new b =
     if list_all is_component (list_of new) then added_at (place_number place (list_of b)) whole new b else Err NotAddable
 
 -- ---- An item out, and in again among the others.
 
-abbrev pub put_in : Option ℕ → Item → Items → Result Items Refusal
+abbrev pub put_in : Option ℕ → Item → Items → Result Items PatchRefusal
 put_in None x others = Err NoSuchSibling
 put_in (Some number) x others = Ok (insert_item number x others)
 
-abbrev pub moved_item : Option Item → Place → (others : Items) → Result Items Refusal
+abbrev pub moved_item : Option Item → Place → (others : Items) → Result Items PatchRefusal
 moved_item None place others = Err NotAnInstance
 moved_item (Some x) place others = put_in (place_number place (list_of others)) x others
 
-abbrev pub moved : Place → ℕ → Items → Result Items Refusal
+abbrev pub moved : Place → ℕ → Items → Result Items PatchRefusal
 moved place number b = moved_item (slice_get (list_of b) number) place (remove_item number b)
 
 -- ---- Every edit of one body. The number is that of the item, for an edit of an item.
 
-abbrev pub edited_body : (whole : Items) → ℕ → Edit → Items → Result Items Refusal
+abbrev pub edited_body : (whole : Items) → ℕ → Edit → Items → Result Items PatchRefusal
 edited_body whole number (Add path place new) b = added whole place new b
 edited_body whole number (Move path place) b = moved place number b
 edited_body whole number (SetOwn path property value) b = Ok (set Own property value b)

@@ -9,8 +9,8 @@ use Rattle.rdl_tree.specs.Edit.{insert_item, remove_item, replace_item}
 use Rattle.rdl_tree.specs.declared.description.Item.{Item}
 use Rattle.rdl_tree.specs.declared.description.Item.TheVariants.{Dynamic}
 use Rattle.rdl_tree.specs.declared.value.Value.{Value}
-use Rattle.rdl_rewrite.specs.declared.edit.Refusal.{Refusal}
-use Rattle.rdl_rewrite.specs.declared.edit.Refusal.TheVariants.{NotSet}
+use Rattle.rdl_rewrite.specs.declared.edit.PatchRefusal.{PatchRefusal}
+use Rattle.rdl_rewrite.specs.declared.edit.PatchRefusal.TheVariants.{NotSet}
 
 -- the item assigns this property of what the same names lead to
 abbrev pub assigns_to : (target : List (List ℕ)) → (property : List ℕ) → Item → Bool
@@ -26,9 +26,9 @@ abbrev pub assigned : List (List ℕ) → List ℕ → Value → Items → Items
 assigned target property value b = assigned_at (position (assigns_to target property) (list_of b)) target property value b
 
 -- without the assignment that is there
-abbrev pub unassigned_at : Option ℕ → Items → Result Items Refusal
+abbrev pub unassigned_at : Option ℕ → Items → Result Items PatchRefusal
 unassigned_at (Some number) b = Ok (remove_item number b)
 unassigned_at None b = Err NotSet
 
-abbrev pub unassigned : List (List ℕ) → List ℕ → Items → Result Items Refusal
+abbrev pub unassigned : List (List ℕ) → List ℕ → Items → Result Items PatchRefusal
 unassigned target property b = unassigned_at (position (assigns_to target property) (list_of b)) b

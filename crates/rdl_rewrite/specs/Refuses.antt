@@ -4,11 +4,11 @@ use Rattle.std.specs.Prelude.{◌≡◌, ◌⊎◌, ◌<◌, Result, Ok, Err}
 use Rattle.rdl_tree.specs.Items.{Items}
 use Rattle.rdl_tree.specs.Depth.{depth}
 use Rattle.rdl_tree.specs.Limits.{max_depth}
-use Rattle.rdl_rewrite.specs.declared.edit.Refusal.{Refusal}
-use Rattle.rdl_rewrite.specs.declared.edit.Refusal.TheVariants.{NoSuchPath, ThroughNamedType, NoSuchSibling, NameTaken, Reserved, InUse, NotSet, NotAnInstance, NotAddable, TooDeep, Memory}
+use Rattle.rdl_rewrite.specs.declared.edit.PatchRefusal.{PatchRefusal}
+use Rattle.rdl_rewrite.specs.declared.edit.PatchRefusal.TheVariants.{NoSuchPath, ThroughNamedType, NoSuchSibling, NameTaken, Reserved, InUse, NotSet, NotAnInstance, NotAddable, TooDeep, Memory}
 
 -- no part of the description says that it nests too deep
-abbrev pub Refuses : Result Items Refusal → Refusal → Type 0
+abbrev pub Refuses : Result Items PatchRefusal → PatchRefusal → Type 0
 Refuses expected NoSuchPath = expected ≡ Err NoSuchPath
 Refuses expected ThroughNamedType = expected ≡ Err ThroughNamedType
 Refuses expected NoSuchSibling = expected ≡ Err NoSuchSibling
@@ -22,16 +22,16 @@ Refuses expected TooDeep = ⊥
 Refuses expected Memory = Unit {0}
 
 -- what was to come is a description that nests over 16 deep
-pub record MakesTooDeep (expected : Result Items Refusal) : Type 0 where
+pub record MakesTooDeep (expected : Result Items PatchRefusal) : Type 0 where
   pub new : Items
   pub made : expected ≡ Ok new
   pub deep : max_depth < depth new
 
 -- the description nests over 16 deep, or what was to come does
-pub record IsTooDeep (whole : Items) (expected : Result Items Refusal) (refusal : Refusal) : Type 0 where
+pub record IsTooDeep (whole : Items) (expected : Result Items PatchRefusal) (refusal : PatchRefusal) : Type 0 where
   pub refused : refusal ≡ TooDeep
   pub deep : (max_depth < depth whole) ⊎ MakesTooDeep expected
 
 -- of an edit of this whole description
-abbrev pub RefusesEdit : (whole : Items) → (expected : Result Items Refusal) → Refusal → Type 0
+abbrev pub RefusesEdit : (whole : Items) → (expected : Result Items PatchRefusal) → PatchRefusal → Type 0
 RefusesEdit whole expected refusal = Refuses expected refusal ⊎ IsTooDeep whole expected refusal

@@ -7,8 +7,8 @@ use Rattle.rdl_tree.specs.Items.{Items, no_items, plain, holder}
 use Rattle.rdl_scope.specs.Types.{type_of}
 use Rattle.rdl_scope.specs.Target.{through}
 use Rattle.rdl_rewrite.specs.Addresses.{same, leads_to, passes_by, addresses}
-use Rattle.rdl_rewrite.specs.declared.edit.Refusal.{Refusal}
-use Rattle.rdl_rewrite.specs.declared.edit.Refusal.TheVariants.{InUse}
+use Rattle.rdl_rewrite.specs.declared.edit.PatchRefusal.{PatchRefusal}
+use Rattle.rdl_rewrite.specs.declared.edit.PatchRefusal.TheVariants.{InUse}
 
 -- the type of some instance is the item
 abbrev pub is_in_use : (whole : Items) → (way : List ℕ) → Bool
@@ -26,5 +26,5 @@ staying out b n (holder h body rest) =
     if out (b ++ n ∷ []) then staying out b (suc n) rest
     else holder h (staying out (b ++ n ∷ []) 0 body) (staying out b (suc n) rest)
 
-abbrev pub removed : (whole : Items) → (way : List ℕ) → Result Items Refusal
+abbrev pub removed : (whole : Items) → (way : List ℕ) → Result Items PatchRefusal
 removed whole way = if is_in_use whole way then Err InUse else Ok (staying (goes whole way) [] 0 whole)

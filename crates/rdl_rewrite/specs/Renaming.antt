@@ -15,8 +15,8 @@ use Rattle.rdl_scope.specs.Types.{item, type_of}
 use Rattle.rdl_scope.specs.Target.{through}
 use Rattle.rdl_rewrite.specs.Addresses.{same, leads_to}
 use Rattle.rdl_rewrite.specs.Names.{defined_names, instance_names, has_name}
-use Rattle.rdl_rewrite.specs.declared.edit.Refusal.{Refusal}
-use Rattle.rdl_rewrite.specs.declared.edit.Refusal.TheVariants.{NameTaken, Reserved}
+use Rattle.rdl_rewrite.specs.declared.edit.PatchRefusal.{PatchRefusal}
+use Rattle.rdl_rewrite.specs.declared.edit.PatchRefusal.TheVariants.{NameTaken, Reserved}
 
 -- ---- The names that follow.
 
@@ -71,7 +71,7 @@ is_taken whole way name (Some (Define n c)) = has_name name (defined_names whole
 is_taken whole way name (Some (Instance s of)) = has_name name (names_in (body_at (holder_of way) whole))
 is_taken whole way name x = false
 
-abbrev pub renamed : (whole : Items) → (way name : List ℕ) → Result Items Refusal
+abbrev pub renamed : (whole : Items) → (way name : List ℕ) → Result Items PatchRefusal
 renamed whole way name =
     if is_taken whole way name (item way whole) then Err NameTaken
     else if is_reserved name then Err Reserved

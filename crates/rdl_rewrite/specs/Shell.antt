@@ -9,8 +9,8 @@ use Rattle.rdl_tree.specs.declared.description.Item.TheVariants.{Instance}
 use Rattle.rdl_tree.specs.declared.shell.Shell.{Shell}
 use Rattle.rdl_rewrite.specs.declared.edit.Edit.{Edit}
 use Rattle.rdl_rewrite.specs.declared.edit.Edit.TheVariants.{Resize, SetBits, SetAddress, SetStride, SetAlign, SetReset}
-use Rattle.rdl_rewrite.specs.declared.edit.Refusal.{Refusal}
-use Rattle.rdl_rewrite.specs.declared.edit.Refusal.TheVariants.{NotAnInstance}
+use Rattle.rdl_rewrite.specs.declared.edit.PatchRefusal.{PatchRefusal}
+use Rattle.rdl_rewrite.specs.declared.edit.PatchRefusal.TheVariants.{NotAnInstance}
 
 -- what the edit makes of the shell: an array has no range, and what has a range is no array
 abbrev pub edited_shell : Edit → Shell → Shell
@@ -23,9 +23,9 @@ edited_shell (SetReset path new) s = record s { reset = new }
 edited_shell e s = s
 
 -- the items, with the shell of the instance of this number changed
-abbrev pub reshaped_at : (Shell → Shell) → ℕ → Items → Option Item → Result Items Refusal
+abbrev pub reshaped_at : (Shell → Shell) → ℕ → Items → Option Item → Result Items PatchRefusal
 reshaped_at change number b (Some (Instance s of)) = Ok (replace_item number (Instance (change s) of) b)
 reshaped_at change number b x = Err NotAnInstance
 
-abbrev pub reshaped : (Shell → Shell) → ℕ → Items → Result Items Refusal
+abbrev pub reshaped : (Shell → Shell) → ℕ → Items → Result Items PatchRefusal
 reshaped change number b = reshaped_at change number b (slice_get (list_of b) number)

@@ -6,7 +6,7 @@ ghost use Rattle.rdl_rewrite.specs.Assignment.{is_sort, assigns, assignment, up_
 ghost use Rattle.rdl_rewrite.specs.Patches.{set_property, drop_at};
 ghost use Rattle.rdl_rewrite.specs.Refuses.{Refuses};
 
-use crate::edit::Refusal;
+use crate::edit::PatchRefusal;
 use crate::patch::one;
 use rdl_text::name::Name;
 use rdl_tree::address::Address;
@@ -109,7 +109,7 @@ pub fn clear(
     sort: Sort,
     property: &Name,
     body: &Body,
-) -> Result<Vec<Patch>, Refusal>
+) -> Result<Vec<Patch>, PatchRefusal>
     requires room { length way.now < 17 }
     ensures which { IfOk result (λ ps. ps.items ≡ drop_at way.now (position (assigns sort property.now) (list_of body.now))) }
     ensures accepted { IfOk result (λ _. is_ok (cleared sort property.now body.now) ≡ true) }
@@ -117,6 +117,6 @@ pub fn clear(
 {
     match sort.position(property, body) {
         Some(number) => Ok(one(alloc, Patch::Delete(way.inside(number)))?),
-        None => Err(Refusal::NotSet),
+        None => Err(PatchRefusal::NotSet),
     }
 }

@@ -10,7 +10,7 @@ ghost use Rattle.rdl_rewrite.specs.Refuses.{Refuses};
 
 use crate::assignment::{Sort, clear, set};
 use crate::dynamics::{assign, unassign};
-use crate::edit::{Edit, Refusal};
+use crate::edit::{Edit, PatchRefusal};
 use crate::names::{definition_taken, instance_taken};
 use crate::patch::one;
 use crate::place::Place;
@@ -61,20 +61,20 @@ fn add(
     place: &Place,
     new: &Body,
     body: &Body,
-) -> Result<Vec<Patch>, Refusal>
+) -> Result<Vec<Patch>, PatchRefusal>
     requires room { length way.now < 17 }
     ensures which { IfOk result (λ ps. ps.items ≡ inserts_at way.now (place_number place.now (list_of body.now)) (list_of new.now)) }
     ensures accepted { IfOk result (λ _. is_ok (added whole.now place.now new.now body.now) ≡ true) }
     ensures refused { IfErr result (λ refusal. Refuses (added whole.now place.now new.now body.now) refusal) }
 {
     if !are_components(new) {
-        return Err(Refusal::NotAddable);
+        return Err(PatchRefusal::NotAddable);
     }
     let Some(number) = place.number(body) else {
-        return Err(Refusal::NoSuchSibling);
+        return Err(PatchRefusal::NoSuchSibling);
     };
     if are_taken(alloc, whole, new, body)? {
-        return Err(Refusal::NameTaken);
+        return Err(PatchRefusal::NameTaken);
     }
     // A slice is shorter than half of all numbers, so no new number is too large.
     let _old = body.as_slice();
@@ -88,18 +88,18 @@ fn shift(
     number: usize,
     place: &Place,
     body: &Body,
-) -> Result<Vec<Patch>, Refusal>
+) -> Result<Vec<Patch>, PatchRefusal>
     requires room { length way.now < 17 }
     ensures which { IfOk result (λ ps. ps.items ≡ move way.now number (place_number place.now (list_of (remove_item number body.now)))) }
     ensures accepted { IfOk result (λ _. is_ok (moved place.now number body.now) ≡ true) }
     ensures refused { IfErr result (λ refusal. Refuses (moved place.now number body.now) refusal) }
 {
     if number >= body.len() {
-        return Err(Refusal::NotAnInstance);
+        return Err(PatchRefusal::NotAnInstance);
     }
     match place.number_among(number, body) {
         Some(to) => Ok(one(alloc, Patch::Shift(way.inside(number), to))?),
-        None => Err(Refusal::NoSuchSibling),
+        None => Err(PatchRefusal::NoSuchSibling),
     }
 }
 
@@ -112,7 +112,7 @@ pub fn body_patches(
     number: usize,
     edit: &Edit,
     body: &Body,
-) -> Result<Vec<Patch>, Refusal>
+) -> Result<Vec<Patch>, PatchRefusal>
     requires room { length way.now < 17 }
     ensures which { IfOk result (λ ps. ps.items ≡ body_patches way.now number edit.now body.now) }
     ensures accepted { IfOk result (λ _. is_ok (edited_body whole.now number edit.now body.now) ≡ true) }

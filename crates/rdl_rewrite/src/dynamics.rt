@@ -6,7 +6,7 @@ ghost use Rattle.rdl_rewrite.specs.Dynamics.{assigns_to, unassigned};
 ghost use Rattle.rdl_rewrite.specs.Patches.{set_dynamic, drop_at};
 ghost use Rattle.rdl_rewrite.specs.Refuses.{Refuses};
 
-use crate::edit::Refusal;
+use crate::edit::PatchRefusal;
 use crate::patch::one;
 use rdl_text::name::Name;
 use rdl_tree::address::Address;
@@ -84,7 +84,7 @@ pub fn unassign(
     target: &Target,
     property: &Name,
     body: &Body,
-) -> Result<Vec<Patch>, Refusal>
+) -> Result<Vec<Patch>, PatchRefusal>
     requires room { length way.now < 17 }
     ensures which { IfOk result (λ ps. ps.items ≡ drop_at way.now (position (assigns_to target.now property.now) (list_of body.now))) }
     ensures accepted { IfOk result (λ _. is_ok (unassigned target.now property.now body.now) ≡ true) }
@@ -92,6 +92,6 @@ pub fn unassign(
 {
     match position_of(target, property, body) {
         Some(number) => Ok(one(alloc, Patch::Delete(way.inside(number)))?),
-        None => Err(Refusal::NotSet),
+        None => Err(PatchRefusal::NotSet),
     }
 }

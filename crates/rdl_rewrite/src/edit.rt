@@ -53,7 +53,7 @@ pub enum Edit {
 
 /// Why an edit isn't made.
 #[derive(Clone, Copy, Debug, PartialEq, Eq)]
-pub enum Refusal {
+pub enum PatchRefusal {
     /// X1, P1: the path leads nowhere.
     NoSuchPath,
     /// X1, P2: the path goes through an instance of a named type, or would change the body of one.
@@ -127,38 +127,38 @@ impl Edit {
     }
 }
 
-impl From<PathFault> for Refusal {
+impl From<PathFault> for PatchRefusal {
     ghost use Rattle.rdl_rewrite.specs.Rewritten.{refusal_of};
     ghost use Rattle.std.specs.Prelude.{◌≡◌};
 
     ghost from_gives = { λ fault refusal. refusal ≡ refusal_of fault };
 
-    fn from(fault: PathFault) -> Refusal {
+    fn from(fault: PathFault) -> PatchRefusal {
         match fault {
-            PathFault::NoSuchName => Refusal::NoSuchPath,
-            PathFault::ThroughNamedType => Refusal::ThroughNamedType,
+            PathFault::NoSuchName => PatchRefusal::NoSuchPath,
+            PathFault::ThroughNamedType => PatchRefusal::ThroughNamedType,
         }
     }
 }
 
-impl From<AllocError> for Refusal {
-    ghost use Rattle.rdl_rewrite.specs.declared.edit.Refusal.{Refusal};
+impl From<AllocError> for PatchRefusal {
+    ghost use Rattle.rdl_rewrite.specs.declared.edit.PatchRefusal.{PatchRefusal};
     ghost use Rattle.std.specs.Prelude.{◌≡◌};
 
-    ghost from_gives = { λ _ refusal. refusal ≡ Refusal.Memory };
+    ghost from_gives = { λ _ refusal. refusal ≡ PatchRefusal.Memory };
 
-    fn from(_error: AllocError) -> Refusal {
-        Refusal::Memory
+    fn from(_error: AllocError) -> PatchRefusal {
+        PatchRefusal::Memory
     }
 }
 
-impl<T: Drop> From<AllocFailed<T>> for Refusal {
-    ghost use Rattle.rdl_rewrite.specs.declared.edit.Refusal.{Refusal};
+impl<T: Drop> From<AllocFailed<T>> for PatchRefusal {
+    ghost use Rattle.rdl_rewrite.specs.declared.edit.PatchRefusal.{PatchRefusal};
     ghost use Rattle.std.specs.Prelude.{◌≡◌};
 
-    ghost from_gives = { λ _ refusal. refusal ≡ Refusal.Memory };
+    ghost from_gives = { λ _ refusal. refusal ≡ PatchRefusal.Memory };
 
-    fn from(_error: AllocFailed<T>) -> Refusal {
-        Refusal::Memory
+    fn from(_error: AllocFailed<T>) -> PatchRefusal {
+        PatchRefusal::Memory
     }
 }

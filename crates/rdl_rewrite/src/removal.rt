@@ -13,9 +13,9 @@ ghost use Rattle.rdl_rewrite.specs.Reach.{Knows};
 ghost use Rattle.rdl_rewrite.specs.Fates.{fate_in_removal, fate, fate_patches};
 ghost use Rattle.rdl_rewrite.specs.Removal.{is_in_use, goes, removed};
 ghost use Rattle.rdl_rewrite.specs.Refuses.{RefusesEdit};
-ghost use Rattle.rdl_rewrite.specs.declared.edit.Refusal.{Refusal};
+ghost use Rattle.rdl_rewrite.specs.declared.edit.PatchRefusal.{PatchRefusal};
 
-use crate::edit::Refusal;
+use crate::edit::PatchRefusal;
 use crate::fate::Fate;
 use crate::firsts::Firsts;
 use crate::leads::{leads_to, led_behind};
@@ -130,19 +130,19 @@ pub fn remove<'a>(
     alloc: Global,
     whole: &'a Description,
     way: &'a Address,
-) -> Result<Vec<Patch>, Refusal>
+) -> Result<Vec<Patch>, PatchRefusal>
     ensures which { IfOk result (λ ps. ps.items ≡ fate_patches (fate whole.now.items way.now None) [] 0 whole.now.items) }
     ensures accepted { IfOk result (λ _. is_ok (removed whole.now.items way.now) ≡ true) }
     ensures level { IfOk result (λ _. depth whole.now.items ≤ 16) }
-    ensures too_deep { IsErrOf result Refusal.TooDeep → 16 < depth whole.now.items }
+    ensures too_deep { IsErrOf result PatchRefusal.TooDeep → 16 < depth whole.now.items }
     ensures refused { IfErr result (λ refusal. RefusesEdit whole.now.items (removed whole.now.items way.now) refusal) }
 {
     if whole.depth() > 16 {
-        return Err(Refusal::TooDeep);
+        return Err(PatchRefusal::TooDeep);
     }
     let reach = Reach::new(whole, way, None);
     if is_in_use(&reach) {
-        return Err(Refusal::InUse);
+        return Err(PatchRefusal::InUse);
     }
     Ok(reach.patches(alloc)?)
 }

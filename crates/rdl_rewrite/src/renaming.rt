@@ -12,9 +12,9 @@ ghost use Rattle.rdl_rewrite.specs.Fates.{given_if, fate_of_target, fate_in_rena
 ghost use Rattle.rdl_rewrite.specs.Names.{has_name};
 ghost use Rattle.rdl_rewrite.specs.Renaming.{renamed_names, is_reserved, names_in, is_taken, renamed};
 ghost use Rattle.rdl_rewrite.specs.Refuses.{RefusesEdit};
-ghost use Rattle.rdl_rewrite.specs.declared.edit.Refusal.{Refusal};
+ghost use Rattle.rdl_rewrite.specs.declared.edit.PatchRefusal.{PatchRefusal};
 
-use crate::edit::Refusal;
+use crate::edit::PatchRefusal;
 use crate::fate::Fate;
 use crate::firsts::Firsts;
 use crate::leads::{is_at, leads_to};
@@ -188,21 +188,21 @@ pub fn rename<'a>(
     whole: &'a Description,
     way: &'a Address,
     name: &'a Name,
-) -> Result<Vec<Patch>, Refusal>
+) -> Result<Vec<Patch>, PatchRefusal>
     ensures which { IfOk result (λ ps. ps.items ≡ fate_patches (fate whole.now.items way.now (Some name.now)) [] 0 whole.now.items) }
     ensures accepted { IfOk result (λ _. is_ok (renamed whole.now.items way.now name.now) ≡ true) }
     ensures level { IfOk result (λ _. depth whole.now.items ≤ 16) }
-    ensures too_deep { IsErrOf result Refusal.TooDeep → 16 < depth whole.now.items }
+    ensures too_deep { IsErrOf result PatchRefusal.TooDeep → 16 < depth whole.now.items }
     ensures refused { IfErr result (λ refusal. RefusesEdit whole.now.items (renamed whole.now.items way.now name.now) refusal) }
 {
     if whole.depth() > 16 {
-        return Err(Refusal::TooDeep);
+        return Err(PatchRefusal::TooDeep);
     }
     if is_taken(alloc, whole, way, name)? {
-        return Err(Refusal::NameTaken);
+        return Err(PatchRefusal::NameTaken);
     }
     if is_reserved(name) {
-        return Err(Refusal::Reserved);
+        return Err(PatchRefusal::Reserved);
     }
     Ok(Reach::new(whole, way, Some(name)).patches(alloc)?)
 }

@@ -7,10 +7,10 @@ ghost use Rattle.rdl_rewrite.specs.Change.{edited_body};
 ghost use Rattle.rdl_rewrite.specs.Patches.{patches, patches_on, item_edit_patches, patches_in, level, level_on, item_edit_level, level_in};
 ghost use Rattle.rdl_rewrite.specs.Rewritten.{at_body, of_item, by_way, rewritten};
 ghost use Rattle.rdl_rewrite.specs.Refuses.{RefusesEdit};
-ghost use Rattle.rdl_rewrite.specs.declared.edit.Refusal.{Refusal};
+ghost use Rattle.rdl_rewrite.specs.declared.edit.PatchRefusal.{PatchRefusal};
 
 use crate::body::body_patches;
-use crate::edit::{Edit, Refusal};
+use crate::edit::{Edit, PatchRefusal};
 use crate::removal::remove;
 use crate::renaming::rename;
 use rdl_tree::address::Address;
@@ -21,12 +21,12 @@ use std::alloc::Global;
 /// The patches that make the edit, one for each item that it inserts, drops, moves or sets; or the edit's first refusal.
 /// Refused with `TooDeep` are new items that would nest over 16 deep; and of a description that nests so as it is, every
 /// removal and renaming, and each change of a body at a level over 16. An address could hold no more.
-pub fn patches(alloc: Global, description: &Description, edit: &Edit) -> Result<Vec<Patch>, Refusal>
+pub fn patches(alloc: Global, description: &Description, edit: &Edit) -> Result<Vec<Patch>, PatchRefusal>
     ensures made { IfOk result (λ ps. rewritten description.now.items edit.now ≡ Ok (image ps.items description.now.items)) }
     ensures fit { IfOk result (λ ps. AllFit ps.items description.now.items) }
     ensures which { IfOk result (λ ps. ps.items ≡ patches description.now.items edit.now) }
     ensures level { IfOk result (λ _. level description.now.items edit.now ≤ 16) }
-    ensures too_deep { IsErrOf result Refusal.TooDeep → 16 < level description.now.items edit.now }
+    ensures too_deep { IsErrOf result PatchRefusal.TooDeep → 16 < level description.now.items edit.now }
     ensures refused { IfErr result (λ refusal. RefusesEdit description.now.items (rewritten description.now.items edit.now) refusal) }
 {
     let way = description.find(edit.path())?;
@@ -39,18 +39,18 @@ fn patches_on(
     whole: &Description,
     way: &Address,
     edit: &Edit,
-) -> Result<Vec<Patch>, Refusal>
+) -> Result<Vec<Patch>, PatchRefusal>
     ensures which { IfOk result (λ ps. ps.items ≡ patches_on (Ok way.now) whole.now.items edit.now) }
     ensures accepted { IfOk result (λ _. is_ok (by_way (Ok way.now) whole.now.items edit.now) ≡ true) }
     ensures level { IfOk result (λ _. level_on (Ok way.now) whole.now.items edit.now ≤ 16) }
-    ensures too_deep { IsErrOf result Refusal.TooDeep → 16 < level_on (Ok way.now) whole.now.items edit.now }
+    ensures too_deep { IsErrOf result PatchRefusal.TooDeep → 16 < level_on (Ok way.now) whole.now.items edit.now }
     ensures refused { IfErr result (λ refusal. RefusesEdit whole.now.items (by_way (Ok way.now) whole.now.items edit.now) refusal) }
 {
     if !edit.is_of_item() {
         return patches_in(alloc, whole, way, 0, edit);
     }
     if way.is_empty() {
-        return Err(Refusal::NotAnInstance);
+        return Err(PatchRefusal::NotAnInstance);
     }
     item_edit_patches(alloc, whole, way, edit)
 }
@@ -61,12 +61,12 @@ fn item_edit_patches(
     whole: &Description,
     way: &Address,
     edit: &Edit,
-) -> Result<Vec<Patch>, Refusal>
+) -> Result<Vec<Patch>, PatchRefusal>
     requires item { 0 < length way.now }
     ensures which { IfOk result (λ ps. ps.items ≡ item_edit_patches whole.now.items way.now edit.now) }
     ensures accepted { IfOk result (λ _. is_ok (of_item way.now whole.now.items edit.now) ≡ true) }
     ensures level { IfOk result (λ _. item_edit_level whole.now.items way.now edit.now ≤ 16) }
-    ensures too_deep { IsErrOf result Refusal.TooDeep → 16 < item_edit_level whole.now.items way.now edit.now }
+    ensures too_deep { IsErrOf result PatchRefusal.TooDeep → 16 < item_edit_level whole.now.items way.now edit.now }
     ensures refused { IfErr result (λ refusal. RefusesEdit whole.now.items (of_item way.now whole.now.items edit.now) refusal) }
 {
     match edit {
@@ -83,22 +83,22 @@ fn patches_in(
     way: &Address,
     number: usize,
     edit: &Edit,
-) -> Result<Vec<Patch>, Refusal>
+) -> Result<Vec<Patch>, PatchRefusal>
     ensures which { IfOk result (λ ps. ps.items ≡ patches_in way.now number edit.now (body_at way.now whole.now.items)) }
     ensures accepted { IfOk result (λ _. is_ok (at_body way.now whole.now.items (edited_body whole.now.items number edit.now)) ≡ true) }
     ensures level { IfOk result (λ _. level_in way.now edit.now ≤ 16) }
-    ensures too_deep { IsErrOf result Refusal.TooDeep → 16 < level_in way.now edit.now }
+    ensures too_deep { IsErrOf result PatchRefusal.TooDeep → 16 < level_in way.now edit.now }
     ensures refused { IfErr result (λ refusal. RefusesEdit whole.now.items (at_body way.now whole.now.items (edited_body whole.now.items number edit.now)) refusal) }
 {
     let Some(body) = whole.body(way) else {
-        return Err(Refusal::ThroughNamedType);
+        return Err(PatchRefusal::ThroughNamedType);
     };
     if way.len() > 16 {
-        return Err(Refusal::TooDeep);
+        return Err(PatchRefusal::TooDeep);
     }
     let patches = body_patches(alloc, &whole.items, way, number, edit, body)?;
     if level_in(way, edit) > 16 {
-        return Err(Refusal::TooDeep);
+        return Err(PatchRefusal::TooDeep);
     }
     Ok(patches)
 }

@@ -5,7 +5,7 @@ ghost use Rattle.rdl_rewrite.specs.Patches.{reshape};
 ghost use Rattle.rdl_rewrite.specs.Shell.{edited_shell, reshaped};
 ghost use Rattle.rdl_rewrite.specs.Refuses.{Refuses};
 
-use crate::edit::{Edit, Refusal};
+use crate::edit::{Edit, PatchRefusal};
 use crate::patch::one;
 use rdl_tree::address::Address;
 use rdl_tree::description::{Body, Item};
@@ -55,14 +55,14 @@ pub fn reshape(
     number: usize,
     edit: &Edit,
     body: &Body,
-) -> Result<Vec<Patch>, Refusal>
+) -> Result<Vec<Patch>, PatchRefusal>
     requires room { length way.now < 17 }
     ensures which { IfOk result (λ ps. ps.items ≡ reshape (edited_shell edit.now) (way.now ++ number ∷ []) (slice_get (list_of body.now) number)) }
     ensures accepted { IfOk result (λ _. is_ok (reshaped (edited_shell edit.now) number body.now) ≡ true) }
     ensures refused { IfErr result (λ refusal. Refuses (reshaped (edited_shell edit.now) number body.now) refusal) }
 {
     let Some(Item::Instance(shell, _)) = body.item(number) else {
-        return Err(Refusal::NotAnInstance);
+        return Err(PatchRefusal::NotAnInstance);
     };
     let new = edited_shell(alloc, edit, shell)?;
     Ok(one(

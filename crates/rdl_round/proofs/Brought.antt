@@ -21,8 +21,8 @@ use Rattle.rdl_parse.specs.Class.{class}
 use Rattle.rdl_parse.specs.Reading.{is_mark, number_by, name_value, property_value, word_value, value_by}
 use Rattle.rdl_parse.specs.Symbol as symbol
 use Rattle.rdl_parse.specs.Symbol.{Symbol, symbols}
-use Rattle.rdl_parse.specs.declared.class.Property.{Property}
-use Rattle.rdl_parse.specs.declared.class.Property.TheVariants as property
+use Rattle.rdl_parse.specs.declared.class.ReservedProperty.{ReservedProperty}
+use Rattle.rdl_parse.specs.declared.class.ReservedProperty.TheVariants as property
 use Rattle.rdl_rewrite.specs.declared.edit.Edit.{Edit}
 use Rattle.rdl_rewrite.specs.declared.edit.Edit.TheVariants as edits
 use Rattle.rdl_rewrite.specs.declared.place.Place.{Place}
@@ -145,7 +145,7 @@ named-value-good n =
     either-some IsValue (bytes_eq n (codes "r")) (Some (values.Word word.R)) (if bytes_eq n (codes "w") then Some (values.Word word.W) else None) tt
     (either-some IsValue (bytes_eq n (codes "w")) (Some (values.Word word.W)) None tt tt)
 
-property-value-good : (p : Property) → IfSome (property_value p) IsValue
+property-value-good : (p : ReservedProperty) → IfSome (property_value p) IsValue
 property-value-good property.Sw = tt
 property-value-good p = tt
 

@@ -13,8 +13,8 @@ use Rattle.rdl_parse.specs.Class.{class, is_unused}
 use Rattle.rdl_parse.specs.Symbol as symbol
 use Rattle.rdl_parse.specs.Symbol.{Symbol, class_symbol, property_text}
 use Rattle.rdl_parse.specs.Spelling.{Prop, free, reserved, prop_symbol, prop_text, word_symbol, value_symbol}
-use Rattle.rdl_parse.specs.declared.class.Property.{Property}
-use Rattle.rdl_parse.specs.declared.class.Property.TheVariants as properties
+use Rattle.rdl_parse.specs.declared.class.ReservedProperty.{ReservedProperty}
+use Rattle.rdl_parse.specs.declared.class.ReservedProperty.TheVariants as properties
 use Rattle.rdl_write.specs.Texts.{kind_text, boolean_text}
 use Rattle.rdl_round.specs.Spellable.{IsFree, IsProperty}
 use Rattle.rdl_round.specs.WrittenWords.{identifier_word, value_word}
@@ -77,7 +77,7 @@ value-is (Text t) = refl
 value-is (Boolean b) = truth-is b
 value-is (Word w) = word-is w
 
-reserved-is : (p : Property) → identifier_word (property_text p) ≡ symbol.property p
+reserved-is : (p : ReservedProperty) → identifier_word (property_text p) ≡ symbol.property p
 unfolding class is_unused
 reserved-is properties.Sw = refl
 reserved-is properties.Hw = refl

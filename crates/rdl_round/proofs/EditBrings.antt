@@ -42,7 +42,7 @@ use Rattle.rdl_rewrite.specs.Rewritten.{path_of, refusal_of, put_body, change_bo
 use Rattle.rdl_rewrite.specs.Shell.{edited_shell}
 use Rattle.rdl_rewrite.specs.declared.edit.Edit.{Edit}
 use Rattle.rdl_rewrite.specs.declared.edit.Edit.TheVariants.{Add, Remove, Rename, Move, Resize, SetBits, SetAddress, SetStride, SetAlign, SetReset, SetOwn, SetDefault, ClearOwn, ClearDefault, Assign, Unassign}
-use Rattle.rdl_rewrite.specs.declared.edit.Refusal.TheVariants.{NameTaken, NotAddable, NotAnInstance, Reserved}
+use Rattle.rdl_rewrite.specs.declared.edit.PatchRefusal.TheVariants.{NameTaken, NotAddable, NotAnInstance, Reserved}
 use Rattle.rdl_rewrite.specs.declared.place.Place.{Place}
 use Rattle.rdl_edit.specs.Step.{State, step}
 use Rattle.rdl_edit.proofs.EditsLead.{same-made, steps}

@@ -28,8 +28,8 @@ use Rattle.rdl_rewrite.specs.declared.assignment.Sort.{Sort}
 use Rattle.rdl_rewrite.specs.declared.assignment.Sort.TheVariants as sort
 use Rattle.rdl_rewrite.specs.declared.edit.Edit.{Edit}
 use Rattle.rdl_rewrite.specs.declared.edit.Edit.TheVariants.{Add, Remove, Rename, Move, Resize, SetBits, SetAddress, SetStride, SetAlign, SetReset, SetOwn, SetDefault, ClearOwn, ClearDefault, Assign, Unassign}
-use Rattle.rdl_rewrite.specs.declared.edit.Refusal.{Refusal}
-use Rattle.rdl_rewrite.specs.declared.edit.Refusal.TheVariants.{InUse, NameTaken, NotAddable, NotAnInstance, Reserved}
+use Rattle.rdl_rewrite.specs.declared.edit.PatchRefusal.{PatchRefusal}
+use Rattle.rdl_rewrite.specs.declared.edit.PatchRefusal.TheVariants.{InUse, NameTaken, NotAddable, NotAnInstance, Reserved}
 use Rattle.rdl_rewrite.specs.declared.place.Place.{Place}
 use Rattle.rdl_round.proofs.Each.{chosen, Each, Fits, items-fit, each-of, fits-get, each-insert, each-remove, each-replace, body-each, changed-body}
 
@@ -58,7 +58,7 @@ Brings P H whole (Unassign path target property) = Unit {0}
 Brings P H whole e = KeptShell P H (edited_shell e)
 
 module _ (P : Plain → Type 0) (H : Holder → Type 0) where
-  unless : (z : Bool) (r : Refusal) (x : Result Items Refusal) → IfOk x (Each P H) → IfOk (cond z (Err r) x) (Each P H)
+  unless : (z : Bool) (r : PatchRefusal) (x : Result Items PatchRefusal) → IfOk x (Each P H) → IfOk (cond z (Err r) x) (Each P H)
   unless true r x h = tt
   unless false r x h = h
 
@@ -135,11 +135,11 @@ module _ (P : Plain → Type 0) (H : Holder → Type 0) where
   kept-body whole n (Remove path) b f e = kept-reshape (edited_shell (Remove path)) n b (record { of_type = λ s t h. h; of_component = λ s k h. h }) e
   kept-body whole n (Rename path name) b f e = kept-reshape (edited_shell (Rename path name)) n b (record { of_type = λ s t h. h; of_component = λ s k h. h }) e
 
-  kept-put_body : (way : List ℕ) (whole : Items) (r : Result Items Refusal) → Each P H whole → IfOk r (Each P H) → IfOk (put_body way whole r) (Each P H)
+  kept-put_body : (way : List ℕ) (whole : Items) (r : Result Items PatchRefusal) → Each P H whole → IfOk r (Each P H) → IfOk (put_body way whole r) (Each P H)
   kept-put_body way whole (Ok new) e f = changed-body P H way (λ _. new) whole (λ b g. f) e
   kept-put_body way whole (Err refusal) e f = tt
 
-  kept-change : (way : List ℕ) (whole : Items) (change : Items → Result Items Refusal) (o : Option Items) → Each P H whole → IfSome o (Each P H)
+  kept-change : (way : List ℕ) (whole : Items) (change : Items → Result Items PatchRefusal) (o : Option Items) → Each P H whole → IfSome o (Each P H)
       → ((b : Items) → Each P H b → IfOk (change b) (Each P H)) → IfOk (change_body way whole change o) (Each P H)
   kept-change way whole change None e f k = tt
   kept-change way whole change (Some b) e f k = kept-put_body way whole (change b) e (k b f)

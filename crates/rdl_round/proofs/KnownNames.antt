@@ -9,7 +9,7 @@ use Rattle.rdl_tree.specs.Properties.{row, properties, property_of}
 use Rattle.rdl_tree.specs.declared.property.Property.{Property}
 use Rattle.rdl_tree.specs.declared.property.Property.TheVariants as property
 use Rattle.rdl_parse.specs.Class.{class, is_unused}
-use Rattle.rdl_parse.specs.declared.class.Property.TheVariants as reserved
+use Rattle.rdl_parse.specs.declared.class.ReservedProperty.TheVariants as reserved
 use Rattle.rdl_scope.specs.ItemFaults.{instance_kind, last_of, target_kind}
 use Rattle.rdl_scope.specs.Target.{plain_named, holder_named, instance_before, instance_in, passes}
 use Rattle.rdl_scope.specs.Types.{component_of, items_in}

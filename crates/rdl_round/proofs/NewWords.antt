@@ -10,7 +10,7 @@ use Rattle.rdl_rewrite.specs.Rewritten.{rewritten}
 use Rattle.rdl_rewrite.specs.Shell.{edited_shell}
 use Rattle.rdl_rewrite.specs.declared.edit.Edit.{Edit}
 use Rattle.rdl_rewrite.specs.declared.edit.Edit.TheVariants.{Add, Remove, Rename, Move, Resize, SetBits, SetAddress, SetStride, SetAlign, SetReset, SetOwn, SetDefault, ClearOwn, ClearDefault, Assign, Unassign}
-use Rattle.rdl_rewrite.specs.declared.edit.Refusal.{Refusal}
+use Rattle.rdl_rewrite.specs.declared.edit.PatchRefusal.{PatchRefusal}
 use Rattle.rdl_text.specs.Name.{IsName}
 use Rattle.rdl_round.specs.NewParts.{IsEditOfWords}
 use Rattle.rdl_round.specs.OfWords.{AreNames, IsShellOfWords, IsPlainOfWords, IsHolderOfWords, IsOfWords}
@@ -84,7 +84,7 @@ brings-words whole (ClearDefault path property) f = tt
 brings-words whole (Assign path target property value) f = f
 brings-words whole (Unassign path target property) f = tt
 
-made : (r : Result Items Refusal) → IfOk r (Each IsPlainOfWords IsHolderOfWords) → IfOk r IsOfWords
+made : (r : Result Items PatchRefusal) → IfOk r (Each IsPlainOfWords IsHolderOfWords) → IfOk r IsOfWords
 made (Ok new) h = of-words-each new h
 made (Err refusal) h = tt
 

@@ -41,8 +41,8 @@ use Rattle.rdl_rewrite.specs.declared.assignment.Sort.{Sort}
 use Rattle.rdl_rewrite.specs.declared.assignment.Sort.TheVariants as sort
 use Rattle.rdl_rewrite.specs.declared.edit.Edit.{Edit}
 use Rattle.rdl_rewrite.specs.declared.edit.Edit.TheVariants.{Add, Remove, Rename, Move, Resize, SetBits, SetAddress, SetStride, SetAlign, SetReset, SetOwn, SetDefault, ClearOwn, ClearDefault, Assign, Unassign}
-use Rattle.rdl_rewrite.specs.declared.edit.Refusal.{Refusal}
-use Rattle.rdl_rewrite.specs.declared.edit.Refusal.TheVariants.{NameTaken, NotAddable, NotAnInstance, Reserved}
+use Rattle.rdl_rewrite.specs.declared.edit.PatchRefusal.{PatchRefusal}
+use Rattle.rdl_rewrite.specs.declared.edit.PatchRefusal.TheVariants.{NameTaken, NotAddable, NotAnInstance, Reserved}
 use Rattle.rdl_edit.specs.Step.{State, step}
 use Rattle.rdl_edit.proofs.EditsLead.{same-made, steps}
 use Rattle.rdl_round.specs.Histories.{IsWritable}
@@ -88,11 +88,11 @@ body-good d new b c way here is g =
     subst (λ o. IfSome o IsGood) there (body-each IsGoodPlain IsGoodHolder way new g)
 
 -- what follows of the changed body follows of the new map
-in-body : (d new : Items) (way : List ℕ) (change : Items → Result Items Refusal) (Q : Type 0) → at_body way d change ≡ Ok new → IsGood new
+in-body : (d new : Items) (way : List ℕ) (change : Items → Result Items PatchRefusal) (Q : Type 0) → at_body way d change ≡ Ok new → IsGood new
     → ((b c : Items) → change b ≡ Ok c → IsGood c → Q) → Q
 in-body d new way change Q made g k = by-body (body_at way d) refl made
   where
-    by-change : (b : Items) → body_at way d ≡ Some b → (r : Result Items Refusal) → change b ≡ r → put_body way d r ≡ Ok new → Q
+    by-change : (b : Items) → body_at way d ≡ Some b → (r : Result Items PatchRefusal) → change b ≡ r → put_body way d r ≡ Ok new → Q
     by-change b here (Ok c) e m = k b c e (body-good d new b c way here (same-made (map_body way (λ _. c) d) new (put_body way d (Ok c)) refl m) g)
     by-change b here (Err refusal) e m = absurd cc
 
@@ -287,7 +287,7 @@ renamed-name d new (s ∷ path) name way f m g = by (ltb 17 (length (s ∷ path)
 -- ---- Every edit.
 
 -- an edit of an item isn't one of the root
-past-root : (root : Bool) (r : Result Items Refusal) (new : Items) → cond root (Err NotAnInstance) r ≡ Ok new → r ≡ Ok new
+past-root : (root : Bool) (r : Result Items PatchRefusal) (new : Items) → cond root (Err NotAnInstance) r ≡ Ok new → r ≡ Ok new
 past-root true r new m = absurd cc
 past-root false r new m = m
 

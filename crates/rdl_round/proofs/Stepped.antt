@@ -14,7 +14,7 @@ use Rattle.rdl_elab.specs.Faults.{elaborated}
 use Rattle.rdl_elab.specs.declared.row.Row.{Row}
 use Rattle.rdl_rewrite.specs.Rewritten.{rewritten}
 use Rattle.rdl_rewrite.specs.declared.edit.Edit.{Edit}
-use Rattle.rdl_rewrite.specs.declared.edit.Refusal.{Refusal as Early}
+use Rattle.rdl_rewrite.specs.declared.edit.PatchRefusal.{PatchRefusal}
 use Rattle.rdl_write.specs.MapText.{map_text}
 use Rattle.rdl_edit.specs.Step.{State, HasRows, judged, judged_anew, step}
 use Rattle.rdl_round.specs.Histories.{ReadsBack, IsWritable, Action, edit, undo, redo, Acts, Follows, BringWords, begun}
@@ -41,7 +41,7 @@ rows-read-back text d p option rows s e = faultless-parses-again text d p s (wit
 -- ---- One edit.
 
 -- what holds of the edited description holds of an accepted one, which has no fault besides
-accepted : (P : Items → Type 0) (option : Option (List ℕ)) (made : Result Items Early) → IfOk made P → IfOk (judged_anew option made) (λ s. P s.description × (fault_of s.description ≡ None))
+accepted : (P : Items → Type 0) (option : Option (List ℕ)) (made : Result Items PatchRefusal) → IfOk made P → IfOk (judged_anew option made) (λ s. P s.description × (fault_of s.description ≡ None))
 accepted P option (Err refusal) h = tt
 accepted P option (Ok d) h = by (elaborated d option) refl
   where

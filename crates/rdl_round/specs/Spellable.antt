@@ -6,7 +6,7 @@ use Rattle.rdl_tree.specs.declared.shell.Shell.{Shell}
 use Rattle.rdl_parse.specs.Class.{class}
 use Rattle.rdl_parse.specs.Symbol.{property_text}
 use Rattle.rdl_parse.specs.declared.class.Class.TheVariants.{Name}
-use Rattle.rdl_parse.specs.declared.class.Property.{Property}
+use Rattle.rdl_parse.specs.declared.class.ReservedProperty.{ReservedProperty}
 
 -- an identifier that isn't reserved
 abbrev pub IsFree : List ℕ → Type 0
@@ -14,7 +14,7 @@ IsFree name = class name ≡ Name
 
 -- one that isn't reserved, or a reserved word that is a property
 abbrev pub IsProperty : List ℕ → Type 0
-IsProperty name = IsFree name ⊎ ((p : Property) × (name ≡ property_text p))
+IsProperty name = IsFree name ⊎ ((p : ReservedProperty) × (name ≡ property_text p))
 
 abbrev pub AreFree : List (List ℕ) → Type 0
 AreFree [] = Unit {0}

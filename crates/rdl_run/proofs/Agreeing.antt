@@ -16,8 +16,8 @@ use Rattle.rdl_rewrite.specs.declared.edit.Edit.TheVariants.{Add}
 use Rattle.rdl_rewrite.specs.declared.place.Place.{Place}
 use Rattle.rdl_edit.specs.Step.{State, step}
 use Rattle.rdl_edit.specs.Step as edits
-use Rattle.rdl_edit.specs.declared.edit.Refusal.{Refusal}
-use Rattle.rdl_edit.specs.declared.edit.Refusal.TheVariants.{Memory}
+use Rattle.rdl_edit.specs.declared.refusal.Refusal.{Refusal}
+use Rattle.rdl_edit.specs.declared.refusal.Refusal.TheVariants.{Memory}
 use Rattle.rdl_script.specs.Commands.{Command, nothing, undo, redo, list, edit, add, refused, command_of, lines_of}
 use Rattle.rdl_script.specs.declared.request.CommandFault.{CommandFault}
 use Rattle.rdl_run.specs.Answers.{History', Made, NotMade, AnswersEdit, AnswersAdd, Answers, Run, is_refused}

@@ -8,7 +8,7 @@ use Rattle.journal_core.specs.History.{IsAt, after_edit, after_undo, after_redo}
 use Rattle.rdl_list.specs.ListText.{list_lines}
 use Rattle.rdl_edit.specs.Step.{State, HasRows, step}
 use Rattle.rdl_edit.proofs.EditsLead.{steps}
-use Rattle.rdl_edit.specs.declared.edit.Refusal.{Refusal}
+use Rattle.rdl_edit.specs.declared.refusal.Refusal.{Refusal}
 use Rattle.rdl_rewrite.specs.declared.edit.Edit.{Edit}
 use Rattle.rdl_rewrite.specs.declared.edit.Edit.TheVariants.{Add}
 use Rattle.rdl_rewrite.specs.declared.place.Place.{Place}

@@ -26,22 +26,22 @@ use Rattle.rdl_rewrite.specs.Rewritten.{rewritten, is_of_item, by_way, of_item, 
 use Rattle.rdl_rewrite.specs.Shell.{reshaped_at, edited_shell}
 use Rattle.rdl_rewrite.specs.declared.edit.Edit.{Edit}
 use Rattle.rdl_rewrite.specs.declared.edit.Edit.TheVariants.{Add, Remove, Rename, Move, SetOwn, SetDefault, ClearOwn, ClearDefault, Assign, Unassign}
-use Rattle.rdl_rewrite.specs.declared.edit.Refusal.{Refusal as Early}
-use Rattle.rdl_rewrite.specs.declared.edit.Refusal.TheVariants as first
+use Rattle.rdl_rewrite.specs.declared.edit.PatchRefusal.{PatchRefusal}
+use Rattle.rdl_rewrite.specs.declared.edit.PatchRefusal.TheVariants as first
 use Rattle.rdl_rewrite.specs.declared.place.Place.{Place}
 use Rattle.rdl_edit.specs.Step.{State, Refuses, refusal_of, judged, judged_anew, step}
-use Rattle.rdl_edit.specs.declared.edit.Refusal.{Refusal}
-use Rattle.rdl_edit.specs.declared.edit.Refusal.TheVariants as refusals
+use Rattle.rdl_edit.specs.declared.refusal.Refusal.{Refusal}
+use Rattle.rdl_edit.specs.declared.refusal.Refusal.TheVariants as refusals
 
 -- ---- Rewriting.
 
 -- it isn't refused for want of memory
-abbrev Real : Result Items Early → Type 0
+abbrev Real : Result Items PatchRefusal → Type 0
 Real (Ok d) = Unit {0}
 Real (Err first.Memory) = ⊥
 Real (Err refusal) = Unit {0}
 
-either : (b : Bool) (r q : Result Items Early) → Real r → Real q → Real (cond b r q)
+either : (b : Bool) (r q : Result Items PatchRefusal) → Real r → Real q → Real (cond b r q)
 either true r q p s = p
 either false r q p s = s
 
@@ -85,11 +85,11 @@ edited_body-real whole number (Assign path target property value) b = tt
 edited_body-real whole number (Unassign path target property) b = unassigned_at-real (position (assigns_to target property) (list_of b)) b
 edited_body-real whole number e b = reshaped_at-real (edited_shell e) number b (slice_get (list_of b) number)
 
-put_body-real : (way : List ℕ) (whole : Items) (r : Result Items Early) → Real r → Real (put_body way whole r)
+put_body-real : (way : List ℕ) (whole : Items) (r : Result Items PatchRefusal) → Real r → Real (put_body way whole r)
 put_body-real way whole (Ok new) h = tt
 put_body-real way whole (Err refusal) h = h
 
-change_body-real : (way : List ℕ) (whole : Items) (change : Items → Result Items Early) (b : Option Items) → ((b : Items) → Real (change b)) → Real (change_body way whole change b)
+change_body-real : (way : List ℕ) (whole : Items) (change : Items → Result Items PatchRefusal) (b : Option Items) → ((b : Items) → Real (change b)) → Real (change_body way whole change b)
 change_body-real way whole change None h = tt
 change_body-real way whole change (Some b) h = put_body-real way whole (change b) (h b)
 
@@ -130,7 +130,7 @@ abbrev IsReal : Refusal → Type 0
 IsReal refusals.Memory = ⊥
 IsReal refusal = Unit {0}
 
-refusal_of-real : (refusal : Early) → Real (Err refusal) → IsReal (refusal_of refusal)
+refusal_of-real : (refusal : PatchRefusal) → Real (Err refusal) → IsReal (refusal_of refusal)
 refusal_of-real first.Memory h = absurd h
 refusal_of-real refusal h = tt
 
@@ -142,7 +142,7 @@ judged-real : (s : State) (r : Result (List Row) Fault) → IsRealStep (judged s
 judged-real s (Ok rows) = tt
 judged-real s (Err fault) = tt
 
-judged_anew-real : (option : Option (List ℕ)) (r : Result Items Early) → Real r → IsRealStep (judged_anew option r)
+judged_anew-real : (option : Option (List ℕ)) (r : Result Items PatchRefusal) → Real r → IsRealStep (judged_anew option r)
 judged_anew-real option (Ok d) h = judged-real (record { description = d; option = option }) (elaborated d option)
 judged_anew-real option (Err refusal) h = refusal_of-real refusal h
 

@@ -7,7 +7,7 @@ use Rattle.std.proofs.lemmas.Str.{IsUtf8-from_is_utf8, is_utf8-from_IsUtf8}
 use Rattle.std.proofs.lemmas.Bool.{ltb-true, ltb-false}
 use Rattle.rdl_text.specs.Word.{Word}
 use Rattle.rdl_text.specs.Words.{words}
-use Rattle.rdl_text.specs.declared.fault.FaultKind.TheVariants.{BadCharacter}
+use Rattle.rdl_text.specs.declared.fault.WordFault.TheVariants.{BadCharacter}
 use Rattle.rdl_text.specs.declared.fault.TextFault.{TextFault}
 use Rattle.rdl_tree.specs.Items.{Items}
 use Rattle.rdl_tree.specs.declared.description.Item.{Item}

@@ -5,8 +5,8 @@ use Rattle.journal_core.specs.History.{History, IsAt, Edits, after_undo, after_r
 use Rattle.rdl_script.specs.Commands.{Command, nothing, undo, redo, list, edit, add, refused, command_of}
 use Rattle.rdl_edit.specs.Step.{State, HasRows, Leads}
 use Rattle.rdl_edit.specs.Step as edits
-use Rattle.rdl_edit.specs.declared.edit.Refusal.{Refusal}
-use Rattle.rdl_edit.specs.declared.edit.Refusal.TheVariants.{Memory}
+use Rattle.rdl_edit.specs.declared.refusal.Refusal.{Refusal}
+use Rattle.rdl_edit.specs.declared.refusal.Refusal.TheVariants.{Memory}
 use Rattle.rdl_list.specs.ListText.{list_lines}
 use Rattle.rdl_rewrite.specs.declared.edit.Edit.{Edit}
 use Rattle.rdl_rewrite.specs.declared.edit.Edit.TheVariants.{Add}

@@ -2,10 +2,10 @@
 use Rattle.std.specs.Prelude.{ℕ, ◌+◌, ◌-◌, ◌^◌, min, List, [], ◌++◌, codes}
 use Rattle.std.specs.Fmt.{decimal}
 use Rattle.rdl_text.specs.Place.{line, column}
-use Rattle.rdl_text.specs.declared.fault.FaultKind.{FaultKind as WordsFault}
-use Rattle.rdl_text.specs.declared.fault.FaultKind.TheVariants as words
-use Rattle.rdl_edit.specs.declared.edit.Refusal.{Refusal}
-use Rattle.rdl_edit.specs.declared.edit.Refusal.TheVariants as refusals
+use Rattle.rdl_text.specs.declared.fault.WordFault.{WordFault}
+use Rattle.rdl_text.specs.declared.fault.WordFault.TheVariants as words
+use Rattle.rdl_edit.specs.declared.refusal.Refusal.{Refusal}
+use Rattle.rdl_edit.specs.declared.refusal.Refusal.TheVariants as refusals
 use Rattle.rdl_parse.specs.declared.fault.ParseFault.{ParseFault}
 use Rattle.rdl_parse.specs.declared.fault.ParseFaultKind.{ParseFaultKind}
 use Rattle.rdl_parse.specs.declared.fault.ParseFaultKind.TheVariants as texts
@@ -24,7 +24,7 @@ use Rattle.rdl_script.specs.declared.request.CommandFault.{CommandFault}
 use Rattle.rdl_script.specs.declared.request.CommandFault.TheVariants as commands
 
 -- want of memory ends the run, and has no message
-abbrev pub words_fault_text : WordsFault → List ℕ
+abbrev pub words_fault_text : WordFault → List ℕ
 words_fault_text words.BadCharacter = codes "S1 bad character"
 words_fault_text words.UnendedComment = codes "S2 unended comment"
 words_fault_text words.UnendedString = codes "S3 unended string"

@@ -6,7 +6,7 @@ use Rattle.rdl_parse.specs.Parsing.{SpellsText, SpellsItemText, Refuses, Refuses
 use Rattle.rdl_parse.specs.Places.{Located}
 use Rattle.rdl_parse.specs.declared.fault.ParseFault.{ParseFault}
 use Rattle.rdl_parse.specs.declared.fault.ParseFaultKind.TheVariants.{Words}
-use Rattle.rdl_text.specs.declared.fault.FaultKind.TheVariants.{BadCharacter}
+use Rattle.rdl_text.specs.declared.fault.WordFault.TheVariants.{BadCharacter}
 use Rattle.rdl_tree.specs.Items.{Items}
 use Rattle.rdl_tree.specs.Limits.{IsWithinLimits}
 use Rattle.rdl_tree.specs.View.{items_of}

@@ -17,7 +17,7 @@ use crate::reading::{ReadingFault, map_of};
 use crate::reply::{fault_text, map_line, parse_fault_text};
 use crate::session_message::session_line;
 use journal_core::journal::Journal;
-use rdl_edit::edit::is_memory;
+use rdl_edit::refusal::is_memory;
 use rdl_edit::map::{Map, Resumed};
 use rdl_elab::row::Rows;
 use rdl_parse::fault::ParseFault;

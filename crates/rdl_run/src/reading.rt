@@ -7,7 +7,7 @@ ghost use Rattle.rdl_run.specs.ReadingFaults.{IfRefused};
 use rdl_parse::fault::{ParseFault, ParseFaultKind};
 use rdl_parse::parse::{parse, parse_item};
 use rdl_parse::places::Places;
-use rdl_text::fault::FaultKind;
+use rdl_text::fault::WordFault;
 use rdl_tree::description::{Description, Item};
 use std::alloc::Global;
 use std::str;
@@ -24,7 +24,7 @@ fn reading_fault(fault: ParseFault) -> ReadingFault
     ensures { IfRefused (λ f. (f ≡ fault) × (f ≢ out_of_memory)) result }
 {
     match fault.kind {
-        ParseFaultKind::Words(FaultKind::Memory) => ReadingFault::Memory,
+        ParseFaultKind::Words(WordFault::Memory) => ReadingFault::Memory,
         _ => ReadingFault::Refused(fault),
     }
 }
@@ -37,7 +37,7 @@ fn text_of(bytes: &[u8]) -> Result<&str, ReadingFault>
     match str::from_utf8(bytes) {
         Ok(text) => Ok(text),
         Err(e) => Err(ReadingFault::Refused(ParseFault {
-            kind: ParseFaultKind::Words(FaultKind::BadCharacter),
+            kind: ParseFaultKind::Words(WordFault::BadCharacter),
             offset: e.valid_up_to(),
         })),
     }

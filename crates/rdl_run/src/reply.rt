@@ -16,10 +16,10 @@ ghost use Rattle.rdl_run.specs.Messages.{
   map_line,
 };
 
-use rdl_edit::edit::Refusal;
+use rdl_edit::refusal::Refusal;
 use rdl_parse::fault::{ParseFault, ParseFaultKind};
 use rdl_script::request::CommandFault;
-use rdl_text::fault::FaultKind as WordsFault;
+use rdl_text::fault::WordFault;
 use rdl_text::token::Number;
 use rdl_tree::fault::FaultKind;
 use rdl_write::push_decimal;
@@ -60,18 +60,18 @@ impl Reply {
     }
 }
 
-fn words_fault_text(fault: WordsFault) -> &'static str
+fn words_fault_text(fault: WordFault) -> &'static str
     ensures { result.now ≡ words_fault_text fault }
 {
     match fault {
-        WordsFault::BadCharacter => "S1 bad character",
-        WordsFault::UnendedComment => "S2 unended comment",
-        WordsFault::UnendedString => "S3 unended string",
-        WordsFault::NumberTooLarge => "S4 number over 128 bits",
-        WordsFault::ValueTooWide => "S5 Verilog value does not fit its width",
-        WordsFault::WidthOutOfRange => "S6 Verilog width out of range",
-        WordsFault::IdentifierTooLong => "S7 identifier too long",
-        WordsFault::Memory => "",
+        WordFault::BadCharacter => "S1 bad character",
+        WordFault::UnendedComment => "S2 unended comment",
+        WordFault::UnendedString => "S3 unended string",
+        WordFault::NumberTooLarge => "S4 number over 128 bits",
+        WordFault::ValueTooWide => "S5 Verilog value does not fit its width",
+        WordFault::WidthOutOfRange => "S6 Verilog width out of range",
+        WordFault::IdentifierTooLong => "S7 identifier too long",
+        WordFault::Memory => "",
     }
 }
 

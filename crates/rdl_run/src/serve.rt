@@ -25,7 +25,7 @@ use crate::shown::rows_of;
 use crate::status::RunFault;
 use journal_core::fault::{EditFault, StepFault};
 use journal_core::journal::Journal;
-use rdl_edit::edit::Refusal;
+use rdl_edit::refusal::Refusal;
 use rdl_edit::map::Map;
 use rdl_elab::row::Rows;
 use rdl_list::list_text;

@@ -4,7 +4,7 @@ ghost use Rattle.rdl_parse.specs.Symbol.{symbol, symbols};
 ghost use Rattle.rdl_script.specs.Operands as spec;
 
 use rdl_parse::word::{is_mark, name_of, number_of, value_of};
-use rdl_text::fault::FaultKind;
+use rdl_text::fault::WordFault;
 use rdl_text::token::{Mark, Number, Token};
 use rdl_text::tokens;
 use rdl_tree::dims::Dims;
@@ -21,7 +21,7 @@ fn words_in<'a>(alloc: Global, text: &'a str) -> Result<Option<Vec<Token<'a>>>, 
     match tokens(alloc, text) {
         Ok(words) => Ok(Some(words.to_vec(alloc)?)),
         Err(fault) => match fault.kind {
-            FaultKind::Memory => Err(AllocError),
+            WordFault::Memory => Err(AllocError),
             _ => Ok(None),
         },
     }

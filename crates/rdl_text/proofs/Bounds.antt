@@ -9,8 +9,8 @@ use Rattle.rdl_text.specs.Rows.{byte, run, identifier_len, decimal_len, hexadeci
 use Rattle.rdl_text.specs.WellSpelled.{IsBounded, AreWellSpelled, WordsAreWellSpelled}
 use Rattle.rdl_text.specs.Word.{Word, word}
 use Rattle.rdl_text.specs.Words.{candidate, identifier, decimal, hexadecimal, verilog, string, marked, mark, longer, longest, judged, word_piece, piece, block_comment, enclosed, comment_end, is_blank, is_in_line, before, words_from}
-use Rattle.rdl_text.specs.declared.fault.FaultKind.{FaultKind}
-use Rattle.rdl_text.specs.declared.fault.FaultKind.TheVariants.{UnendedString, BadCharacter, NumberTooLarge, WidthOutOfRange, ValueTooWide, IdentifierTooLong}
+use Rattle.rdl_text.specs.declared.fault.WordFault.{WordFault}
+use Rattle.rdl_text.specs.declared.fault.WordFault.TheVariants.{UnendedString, BadCharacter, NumberTooLarge, WidthOutOfRange, ValueTooWide, IdentifierTooLong}
 use Rattle.rdl_text.specs.declared.fault.TextFault.{TextFault}
 use Rattle.rdl_text.specs.declared.token.Mark.{Mark}
 use Rattle.rdl_text.specs.declared.token.TokenKind.{TokenKind}
@@ -22,7 +22,7 @@ use Rattle.rdl_text.proofs.Spellings.{piece_fits}
 
 -- ---- Words that may be found are bounded.
 
-abbrev Kept : Result TokenKind FaultKind → Type 0
+abbrev Kept : Result TokenKind WordFault → Type 0
 Kept (Ok kind) = IsBounded kind
 Kept (Err fault) = Unit {0}
 
@@ -49,7 +49,7 @@ sized-kept w v false true e f =
     let wide : 2 ^ w ≤ 2 ^ number_bits = pow_mono (low-width number_bits w e) in
     omega (arith, small, wide)
 
-candidate-kept : (n : ℕ) (k : Result TokenKind FaultKind) → Kept k → KeptWord (candidate n k)
+candidate-kept : (n : ℕ) (k : Result TokenKind WordFault) → Kept k → KeptWord (candidate n k)
 candidate-kept n k h = by-none (nat_eq n 0)
   where
     by-none : (b : Bool) → KeptWord (cond b None (Some (record { len = n; kind = k })))
@@ -110,12 +110,12 @@ longest-kept s =
 
 -- ---- Pieces.
 
-abbrev KeptPiece : Result Piece FaultKind → Type 0
+abbrev KeptPiece : Result Piece WordFault → Type 0
 KeptPiece (Ok (pieces.Gap n)) = Unit {0}
 KeptPiece (Ok (pieces.Word kind n)) = IsBounded kind
 KeptPiece (Err fault) = Unit {0}
 
-judged-kept : (n : ℕ) (k : Result TokenKind FaultKind) → Kept k → KeptPiece (judged n k)
+judged-kept : (n : ℕ) (k : Result TokenKind WordFault) → Kept k → KeptPiece (judged n k)
 judged-kept n (Ok kind) h = h
 judged-kept n (Err fault) h = tt
 
@@ -131,7 +131,7 @@ enclosed-kept : (o : Option ℕ) → KeptPiece (enclosed o)
 enclosed-kept None = tt
 enclosed-kept (Some n) = tt
 
-chosen-kept : (b : Bool) (x y : Result Piece FaultKind) → KeptPiece x → KeptPiece y → KeptPiece (cond b x y)
+chosen-kept : (b : Bool) (x y : Result Piece WordFault) → KeptPiece x → KeptPiece y → KeptPiece (cond b x y)
 chosen-kept true x y h k = h
 chosen-kept false x y h k = k
 
@@ -155,17 +155,17 @@ before-kept : (w : Word) (r : Answer) → AreWellSpelled (w ∷ []) → IfWords 
 before-kept w (Ok ws) h k = (h.0, k)
 before-kept w (Err f) h k = tt
 
-abbrev step : ℕ → List ℕ → Result Piece FaultKind → Answer
+abbrev step : ℕ → List ℕ → Result Piece WordFault → Answer
 step at s (Ok (pieces.Gap len)) = words_from (len - 1) (at + 1) (drop 1 s)
 step at s (Ok (pieces.Word kind len)) = before (word kind at (take len s)) (words_from (len - 1) (at + 1) (drop 1 s))
 step at s (Err fault) = Err (record { kind = fault; offset = at })
 
-step-kept : (at : ℕ) (s : List ℕ) (p : Result Piece FaultKind) → piece s ≡ p → KeptPiece p → ((skip : ℕ) → IfWords (words_from skip (at + 1) (drop 1 s))) → IfWords (step at s p)
+step-kept : (at : ℕ) (s : List ℕ) (p : Result Piece WordFault) → piece s ≡ p → KeptPiece p → ((skip : ℕ) → IfWords (words_from skip (at + 1) (drop 1 s))) → IfWords (step at s p)
 step-kept at s (Ok (pieces.Gap len)) e h k = k (len - 1)
 step-kept at s (Ok (pieces.Word kind len)) e h k = before-kept (word kind at (take len s)) (words_from (len - 1) (at + 1) (drop 1 s)) ((piece_fits s kind len e, h), tt) (k (len - 1))
 step-kept at s (Err fault) e h k = tt
 
-one-step : (at c : ℕ) (cs : List ℕ) (p : Result Piece FaultKind) → piece (c ∷ cs) ≡ p → words_from 0 at (c ∷ cs) ≡ step at (c ∷ cs) p
+one-step : (at c : ℕ) (cs : List ℕ) (p : Result Piece WordFault) → piece (c ∷ cs) ≡ p → words_from 0 at (c ∷ cs) ≡ step at (c ∷ cs) p
 unfolding words_from
 one-step at c cs (Ok (pieces.Gap len)) e = rw (e, words_from) refl
 one-step at c cs (Ok (pieces.Word kind len)) e = rw (e, words_from) refl

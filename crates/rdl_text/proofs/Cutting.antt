@@ -6,7 +6,7 @@ use Rattle.std.specs.Str.{IsCharBoundary}
 use Rattle.rdl_text.specs.Front.{span_of}
 use Rattle.rdl_text.specs.Word.{Word, word}
 use Rattle.rdl_text.specs.Words.{words, words_from, piece}
-use Rattle.rdl_text.specs.declared.fault.FaultKind.{FaultKind}
+use Rattle.rdl_text.specs.declared.fault.WordFault.{WordFault}
 use Rattle.rdl_text.specs.declared.token.TokenKind.{TokenKind}
 use Rattle.rdl_text.specs.Piece.{Piece}
 use Rattle.rdl_text.specs.Piece.{Gap, Word as Found}
@@ -47,7 +47,7 @@ step-word ws text at len kind e n told =
     let on = ap (words_from 0 (at + len)) (drop-drop len at text) in
     ap (follow (ws ++ (w ∷ []))) (sym on) ∙ (sym (follow_before ws w _) ∙ (ap (follow ws) (sym turn) ∙ told))
 
-pub step-fault : (ws : List Word) (text : List ℕ) (at : ℕ) (kind : FaultKind) → at < length text → piece (drop at text) ≡ Err kind
+pub step-fault : (ws : List Word) (text : List ℕ) (at : ℕ) (kind : WordFault) → at < length text → piece (drop at text) ≡ Err kind
     → follow ws (words_from 0 at (drop at text)) ≡ words text → words text ≡ Err (record { kind = kind; offset = at })
 step-fault ws text at kind h e told =
     sym told ∙ ap (follow ws) (words-fault at kind (drop at text) e (omega (arith, length-drop at text)))
@@ -58,20 +58,20 @@ step-end ws text at h told =
 
 -- ---- What a piece without the kind of its word says of the piece.
 
-pub span_piece : (b text : List ℕ) (at : ℕ) (r : Result Span FaultKind) → b ≡ text → r ≡ span_of (piece (take (length b - at) (drop at b))) → span_of (piece (drop at text)) ≡ r
+pub span_piece : (b text : List ℕ) (at : ℕ) (r : Result Span WordFault) → b ≡ text → r ≡ span_of (piece (take (length b - at) (drop at b))) → span_of (piece (drop at text)) ≡ r
 span_piece b text at r e f = ap (λ (s : List ℕ). span_of (piece s)) (sym (tail b text at e)) ∙ sym f
 
-pub span_gap : (r : Result Piece FaultKind) (len : ℕ) → span_of r ≡ Ok (spans.Gap len) → r ≡ Ok (Gap len)
+pub span_gap : (r : Result Piece WordFault) (len : ℕ) → span_of r ≡ Ok (spans.Gap len) → r ≡ Ok (Gap len)
 span_gap (Ok (Gap n)) len e = let long : n ≡ len = cc in ap (λ (k : ℕ). Ok (Gap k)) long
 span_gap (Ok (Found kind n)) len e = cc
 span_gap (Err fault) len e = cc
 
-pub span_word : (r : Result Piece FaultKind) (len : ℕ) → span_of r ≡ Ok (spans.Word len) → (kind : TokenKind) × (r ≡ Ok (Found kind len))
+pub span_word : (r : Result Piece WordFault) (len : ℕ) → span_of r ≡ Ok (spans.Word len) → (kind : TokenKind) × (r ≡ Ok (Found kind len))
 span_word (Ok (Gap n)) len e = cc
 span_word (Ok (Found kind n)) len e = let long : n ≡ len = cc in (kind, ap (λ (k : ℕ). Ok (Found kind k)) long)
 span_word (Err fault) len e = cc
 
-pub span_fault : (r : Result Piece FaultKind) (fault : FaultKind) → span_of r ≡ Err fault → r ≡ Err fault
+pub span_fault : (r : Result Piece WordFault) (fault : WordFault) → span_of r ≡ Err fault → r ≡ Err fault
 span_fault (Ok (Gap n)) fault e = cc
 span_fault (Ok (Found kind n)) fault e = cc
 span_fault (Err f) fault e = cc

@@ -13,8 +13,8 @@ use Rattle.std.specs.Str.{IsCharBoundary}
 use Rattle.rdl_text.specs.Name.{is_letter, is_rest}
 use Rattle.rdl_text.specs.Rows.{byte, run, is_digit_rest, identifier_len, decimal_len, hexadecimal_len, width_len, base_of, verilog_base, verilog_len, closing, quoted_len, string_len, short_mark, long_mark}
 use Rattle.rdl_text.specs.Words.{candidate, identifier, decimal, hexadecimal, verilog, string, marked, mark, longer, longest, judged, word_piece, is_blank, is_in_line, comment_end, enclosed, block_comment, piece}
-use Rattle.rdl_text.specs.declared.fault.FaultKind.{FaultKind}
-use Rattle.rdl_text.specs.declared.fault.FaultKind.TheVariants.{UnendedString, BadCharacter}
+use Rattle.rdl_text.specs.declared.fault.WordFault.{WordFault}
+use Rattle.rdl_text.specs.declared.fault.WordFault.TheVariants.{UnendedString, BadCharacter}
 use Rattle.rdl_text.specs.declared.token.Mark.{Mark}
 use Rattle.rdl_text.specs.declared.token.TokenKind.{TokenKind}
 use Rattle.rdl_text.specs.Piece.{Candidate}
@@ -101,11 +101,11 @@ same_len : (x y : Candidate) → Some x ≡ Some y → x.len ≡ y.len
 unfolding len_or
 same_len x y e = ap len_or e
 
-pub candidate_found : (n : ℕ) (k : Result TokenKind FaultKind) (x : Candidate) → candidate n k ≡ Some x → (0 < n) × (n ≡ x.len)
+pub candidate_found : (n : ℕ) (k : Result TokenKind WordFault) (x : Candidate) → candidate n k ≡ Some x → (0 < n) × (n ≡ x.len)
 candidate_found zero k x e = cc
 candidate_found (suc n) k x e = (omega arith, same_len (record { len = suc n; kind = k }) x (sym (candidate_some (suc n) k (omega arith)) ∙ e))
 
-candidate_ends : (s : List ℕ) (b : Bool) (n : ℕ) (k : Result TokenKind FaultKind) (x : Candidate) → (b ≡ true → Ends s n) → candidate (cond b n 0) k ≡ Some x → Ends s x.len
+candidate_ends : (s : List ℕ) (b : Bool) (n : ℕ) (k : Result TokenKind WordFault) (x : Candidate) → (b ≡ true → Ends s n) → candidate (cond b n 0) k ≡ Some x → Ends s x.len
 candidate_ends s true n k x h e = subst (Ends s) (candidate_found n k x e).1 (h refl)
 candidate_ends s false n k x h e = cc
 
@@ -230,18 +230,18 @@ abbrev pub piece_len : Piece → ℕ
 piece_len (Gap n) = n
 piece_len (Word kind n) = n
 
-len_ok : Result Piece FaultKind → ℕ
+len_ok : Result Piece WordFault → ℕ
 len_ok (Ok p) = piece_len p
 len_ok (Err f) = 0
 
-abbrev found : Piece → Result Piece FaultKind
+abbrev found : Piece → Result Piece WordFault
 found p = Ok p
 
 same_piece : (p q : Piece) → found p ≡ Ok q → piece_len p ≡ piece_len q
 unfolding len_ok
 same_piece p q e = ap len_ok e
 
-judged_len : (n : ℕ) (k : Result TokenKind FaultKind) (p : Piece) → judged n k ≡ Ok p → n ≡ piece_len p
+judged_len : (n : ℕ) (k : Result TokenKind WordFault) (p : Piece) → judged n k ≡ Ok p → n ≡ piece_len p
 judged_len n (Ok kind) p e = same_piece (Word kind n) p e
 judged_len n (Err f) p e = cc
 
@@ -296,7 +296,7 @@ comment_ends s p u e = go (comment_end (drop 2 s)) refl e
         let same : n + 3 + 1 ≡ piece_len p = omega (arith, same_piece (Gap (n + 4)) p f) in
         subst (Ends s) same (byte_ends s (n + 3) u (omega (arith, place)) (omega (arith, place)))
 
-pub chosen : (b : Bool) (x y z : Result Piece FaultKind) (P : Type 0) → (b ≡ true → x ≡ z → P) → (b ≡ false → y ≡ z → P) → cond b x y ≡ z → P
+pub chosen : (b : Bool) (x y z : Result Piece WordFault) (P : Type 0) → (b ≡ true → x ≡ z → P) → (b ≡ false → y ≡ z → P) → cond b x y ≡ z → P
 chosen true x y z P f g e = f refl e
 chosen false x y z P f g e = g refl e
 

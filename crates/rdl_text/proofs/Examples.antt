@@ -5,13 +5,13 @@ use Rattle.rdl_text.specs.Word.{Word, word}
 use Rattle.rdl_text.specs.Number.{value}
 use Rattle.rdl_text.specs.Rows.{identifier_len, decimal_len, hexadecimal_len, verilog_len, string_len}
 use Rattle.rdl_text.specs.Words.{words, words_from, piece, longest, identifier, decimal, hexadecimal, verilog, string, mark}
-use Rattle.rdl_text.specs.declared.fault.FaultKind.{FaultKind}
-use Rattle.rdl_text.specs.declared.fault.FaultKind.TheVariants.{BadCharacter, UnendedComment, UnendedString, NumberTooLarge, ValueTooWide, WidthOutOfRange}
+use Rattle.rdl_text.specs.declared.fault.WordFault.{WordFault}
+use Rattle.rdl_text.specs.declared.fault.WordFault.TheVariants.{BadCharacter, UnendedComment, UnendedString, NumberTooLarge, ValueTooWide, WidthOutOfRange}
 use Rattle.rdl_text.specs.declared.fault.TextFault.{TextFault}
 use Rattle.rdl_text.specs.declared.token.Mark.TheVariants.{OpenBrace, CloseBrace, Semicolon, At, PlusEquals, PercentEquals, Arrow, Dot}
 use Rattle.rdl_text.specs.declared.token.TokenKind.TheVariants.{Identifier, Number, Text, Mark}
 
-abbrev at : FaultKind → ℕ → Result (List Word) TextFault
+abbrev at : WordFault → ℕ → Result (List Word) TextFault
 at kind offset = Err (record { kind = kind; offset = offset })
 
 nothing : words [] ≡ Ok []

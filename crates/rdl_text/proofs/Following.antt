@@ -2,7 +2,7 @@
 use Rattle.std.proofs.Common.{◌≡◌, ℕ, zero, suc, ◌+◌, ◌-◌, ◌≤◌, List, [], ◌∷◌, ◌++◌, length, take, drop, Result, Ok, Err, refl, sym, ◌∙◌, ap, append_assoc, arith}
 use Rattle.rdl_text.specs.Word.{Word, word}
 use Rattle.rdl_text.specs.Words.{words_from, piece, before}
-use Rattle.rdl_text.specs.declared.fault.FaultKind.{FaultKind}
+use Rattle.rdl_text.specs.declared.fault.WordFault.{WordFault}
 use Rattle.rdl_text.specs.declared.fault.TextFault.{TextFault}
 use Rattle.rdl_text.specs.declared.token.TokenKind.{TokenKind}
 use Rattle.rdl_text.specs.Piece.{Gap, Word as Found}
@@ -48,7 +48,7 @@ words-word at zero kind s e low high = absurd (omega arith)
 words-word at (suc n) kind [] e low high = absurd (omega arith)
 words-word at (suc n) kind (c ∷ cs) e low high = rw (e, words_from) (ap (before (word kind at (take (suc n) (c ∷ cs)))) (past_piece n at cs))
 
-pub words-fault : (at : ℕ) (kind : FaultKind) (s : List ℕ) → piece s ≡ Err kind → 1 ≤ length s → words_from 0 at s ≡ Err (record { kind = kind; offset = at })
+pub words-fault : (at : ℕ) (kind : WordFault) (s : List ℕ) → piece s ≡ Err kind → 1 ≤ length s → words_from 0 at s ≡ Err (record { kind = kind; offset = at })
 unfolding words_from
 words-fault at kind [] e some = absurd (omega arith)
 words-fault at kind (c ∷ cs) e some = rw (e, words_from) refl

@@ -9,8 +9,8 @@ use Rattle.rdl_text.specs.Name.{is_letter, is_rest}
 use Rattle.rdl_text.specs.Piece.{Candidate}
 use Rattle.rdl_text.specs.Rows.{byte, run, identifier_len, closing, quoted_len, string_len, short_mark, long_mark}
 use Rattle.rdl_text.specs.Words.{candidate, identifier, decimal, hexadecimal, verilog, string, marked, mark, longer, longest, judged, word_piece}
-use Rattle.rdl_text.specs.declared.fault.FaultKind.{FaultKind}
-use Rattle.rdl_text.specs.declared.fault.FaultKind.TheVariants.{UnendedString, BadCharacter, IdentifierTooLong}
+use Rattle.rdl_text.specs.declared.fault.WordFault.{WordFault}
+use Rattle.rdl_text.specs.declared.fault.WordFault.TheVariants.{UnendedString, BadCharacter, IdentifierTooLong}
 use Rattle.rdl_text.specs.declared.piece.Span.{Span}
 use Rattle.rdl_text.specs.declared.piece.Span.TheVariants as spans
 use Rattle.rdl_text.specs.declared.token.Mark.{Mark}
@@ -19,19 +19,19 @@ use Rattle.rdl_text.specs.declared.token.TokenKind.TheVariants as kinds
 use Rattle.rdl_text.proofs.Longest.{longest_letter, longest_digit, longest_quote, longest_other, digit_no_quote}
 use Rattle.rdl_text.proofs.Steps.{candidate_some}
 
-abbrev spanned : List ℕ → Option Candidate → Result Span FaultKind
+abbrev spanned : List ℕ → Option Candidate → Result Span WordFault
 spanned s o = span_of (word_piece (byte s 0) o)
 
 -- ---- Identifiers.
 
-abbrev name_kind : ℕ → Result TokenKind FaultKind
+abbrev name_kind : ℕ → Result TokenKind WordFault
 name_kind n = cond (nat_lt 255 n) (Err IdentifierTooLong) (Ok kinds.Identifier)
 
 identifier_is : (s : List ℕ) → is_letter (byte s 0) ≡ true → identifier s ≡ Some (record { len = 1 + run is_rest 1 s; kind = name_kind (1 + run is_rest 1 s) })
 unfolding identifier identifier_len
 identifier_is s h = rw h (candidate_some (1 + run is_rest 1 s) (name_kind (1 + run is_rest 1 s)) (omega arith))
 
-abbrev pub name_span : ℕ → Result Span FaultKind
+abbrev pub name_span : ℕ → Result Span WordFault
 name_span n = cond (nat_lt 255 n) (Err IdentifierTooLong) (Ok (spans.Word n))
 
 pub letter_span : (s : List ℕ) → is_letter (byte s 0) ≡ true → front_span s ≡ name_span (1 + run is_rest 1 s)
@@ -51,7 +51,7 @@ digit_span_none s h e = digit_span s None h e ∙ rw (ne_eqb (byte s 0) 34 (digi
 
 -- ---- Strings.
 
-abbrev pub quoted_span : Option ℕ → Result Span FaultKind
+abbrev pub quoted_span : Option ℕ → Result Span WordFault
 quoted_span (Some n) = Ok (spans.Word (n + 2))
 quoted_span None = Err UnendedString
 
@@ -68,7 +68,7 @@ quote_span s h = ap (spanned s) (sym (longest_quote s h) ∙ string_is s h) ∙ 
 
 -- ---- Marks.
 
-abbrev pub marked_span : Option Mark → Option Mark → Result Span FaultKind
+abbrev pub marked_span : Option Mark → Option Mark → Result Span WordFault
 marked_span (Some m) o = Ok (spans.Word 2)
 marked_span None (Some m) = Ok (spans.Word 1)
 marked_span None None = Err BadCharacter

@@ -4,7 +4,7 @@ use Rattle.std.proofs.lemmas.List.{length-drop}
 use Rattle.std.proofs.lemmas.Str.{IsUtf8-take, IsUtf8-drop}
 use Rattle.rdl_text.specs.Word.{Word, word}
 use Rattle.rdl_text.specs.Words.{words, words_from, piece, before}
-use Rattle.rdl_text.specs.declared.fault.FaultKind.{FaultKind}
+use Rattle.rdl_text.specs.declared.fault.WordFault.{WordFault}
 use Rattle.rdl_text.specs.declared.fault.TextFault.{TextFault}
 use Rattle.rdl_text.specs.Piece.{Piece}
 use Rattle.rdl_text.specs.Piece.{Gap, Word as Found}
@@ -37,7 +37,7 @@ from-kept zero at (c ∷ cs) short u = absurd (omega (arith, short))
 from-kept (suc n) at [] short u = subst IfWords (sym (words-end at [] refl)) tt
 from-kept (suc n) at (c ∷ cs) short u = by (piece (c ∷ cs)) refl (from-kept n)
   where
-    by : (r : Result Piece FaultKind) → piece (c ∷ cs) ≡ r → ((place : ℕ) (rest : List ℕ) → length rest ≤ n → IsUtf8 rest → IfWords (words_from 0 place rest)) → IfWords (words_from 0 at (c ∷ cs))
+    by : (r : Result Piece WordFault) → piece (c ∷ cs) ≡ r → ((place : ℕ) (rest : List ℕ) → length rest ≤ n → IsUtf8 rest → IfWords (words_from 0 place rest)) → IfWords (words_from 0 at (c ∷ cs))
     by (Ok p) e others =
         let ends = piece_ends (c ∷ cs) p u e in
         let len = piece_len p in

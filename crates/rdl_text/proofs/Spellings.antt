@@ -11,8 +11,8 @@ use Rattle.rdl_text.specs.Raw.{is_inside}
 use Rattle.rdl_text.specs.Rows.{byte, run, identifier_len, decimal_len, hexadecimal_len, width_len, verilog_base, verilog_len, closing, quoted_len, string_len, short_mark, long_mark}
 use Rattle.rdl_text.specs.Spelling.{IsQuoted, IsSpelled}
 use Rattle.rdl_text.specs.Words.{candidate, number, sized, identifier, decimal, hexadecimal, verilog, string, marked, mark, longer, longest, judged, word_piece, piece, enclosed, comment_end, is_blank, is_in_line}
-use Rattle.rdl_text.specs.declared.fault.FaultKind.{FaultKind}
-use Rattle.rdl_text.specs.declared.fault.FaultKind.TheVariants.{UnendedString, BadCharacter, NumberTooLarge, WidthOutOfRange, ValueTooWide, IdentifierTooLong}
+use Rattle.rdl_text.specs.declared.fault.WordFault.{WordFault}
+use Rattle.rdl_text.specs.declared.fault.WordFault.TheVariants.{UnendedString, BadCharacter, NumberTooLarge, WidthOutOfRange, ValueTooWide, IdentifierTooLong}
 use Rattle.rdl_text.specs.declared.token.Mark.{Mark}
 use Rattle.rdl_text.specs.declared.token.TokenKind.{TokenKind}
 use Rattle.rdl_text.specs.declared.token.TokenKind.TheVariants as kinds
@@ -23,7 +23,7 @@ use Rattle.rdl_text.proofs.Ends.{candidate_found, mapped, quoted_some, longer_fr
 use Rattle.rdl_text.proofs.Steps.{candidate_some}
 
 -- a word that is no fault is spelled by its kind
-abbrev Fits : List ℕ → ℕ → Result TokenKind FaultKind → Type 0
+abbrev Fits : List ℕ → ℕ → Result TokenKind WordFault → Type 0
 Fits s n (Ok kind) = IsSpelled kind (take n s)
 Fits s n (Err fault) = Unit {0}
 
@@ -43,7 +43,7 @@ sized_fits s n w v = go (nat_eq w 0 || nat_lt number_bits w) (nat_lt v (2 ^ w))
     go false false = tt
 
 -- the kind of what was found
-candidate_of : Option Candidate → ℕ → Result TokenKind FaultKind
+candidate_of : Option Candidate → ℕ → Result TokenKind WordFault
 candidate_of None n = Err BadCharacter
 candidate_of (Some x) n = x.kind
 
@@ -51,11 +51,11 @@ same_kind : (x y : Candidate) → Some x ≡ Some y → x.kind ≡ y.kind
 unfolding candidate_of
 same_kind x y e = ap (λ (o : Option Candidate). candidate_of o 0) e
 
-candidate_kind : (n : ℕ) (k : Result TokenKind FaultKind) (x : Candidate) → candidate n k ≡ Some x → k ≡ x.kind
+candidate_kind : (n : ℕ) (k : Result TokenKind WordFault) (x : Candidate) → candidate n k ≡ Some x → k ≡ x.kind
 candidate_kind zero k x e = cc
 candidate_kind (suc n) k x e = same_kind (record { len = suc n; kind = k }) x (sym (candidate_some (suc n) k (omega arith)) ∙ e)
 
-candidate_fits : (s : List ℕ) (n : ℕ) (k : Result TokenKind FaultKind) (x : Candidate) → (0 < n → Fits s n k) → candidate n k ≡ Some x → Fits s x.len x.kind
+candidate_fits : (s : List ℕ) (n : ℕ) (k : Result TokenKind WordFault) (x : Candidate) → (0 < n → Fits s n k) → candidate n k ≡ Some x → Fits s x.len x.kind
 candidate_fits s n k x h e =
     let len = candidate_found n k x e in
     subst (λ (m : ℕ). Fits s m x.kind) len.1 (subst (Fits s n) (candidate_kind n k x e) (h len.0))
@@ -197,7 +197,7 @@ longest_fits s x e =
     (longer_from P (verilog s) _ x (verilog_fits s x)
     (longer_from P (string s) (mark s) x (string_fits s x) (mark_fits s x))))) e
 
-judged_fits : (s : List ℕ) (n len : ℕ) (k : Result TokenKind FaultKind) (kind : TokenKind) → Fits s n k → judged n k ≡ Ok (pieces.Word kind len) → IsSpelled kind (take len s)
+judged_fits : (s : List ℕ) (n len : ℕ) (k : Result TokenKind WordFault) (kind : TokenKind) → Fits s n k → judged n k ≡ Ok (pieces.Word kind len) → IsSpelled kind (take len s)
 judged_fits s n len (Ok k) kind f e =
     let same : k ≡ kind = cc in
     let long : n ≡ len = cc in
@@ -216,7 +216,7 @@ enclosed_gap : (o : Option ℕ) (kind : TokenKind) (len : ℕ) → enclosed o �
 enclosed_gap None kind len e = cc
 enclosed_gap (Some n) kind len e = cc
 
-abbrev gap : ℕ → Result Piece FaultKind
+abbrev gap : ℕ → Result Piece WordFault
 gap n = Ok (pieces.Gap n)
 
 gap_word : (n len : ℕ) (kind : TokenKind) → gap n ≡ Ok (pieces.Word kind len) → ⊥

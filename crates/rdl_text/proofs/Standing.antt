@@ -17,8 +17,8 @@ use Rattle.rdl_text.specs.Spelling.{IsSpelled}
 use Rattle.rdl_text.specs.Standing.{word_of, word_at, Stands, kind_mark}
 use Rattle.rdl_text.specs.Word.{Word, word}
 use Rattle.rdl_text.specs.Words.{candidate, identifier, decimal, hexadecimal, verilog, string, marked, mark, longer, longest, number, sized, judged, word_piece, piece, enclosed, is_blank, is_in_line, comment_end}
-use Rattle.rdl_text.specs.declared.fault.FaultKind.{FaultKind}
-use Rattle.rdl_text.specs.declared.fault.FaultKind.TheVariants.{UnendedString, BadCharacter, NumberTooLarge, WidthOutOfRange, ValueTooWide, IdentifierTooLong}
+use Rattle.rdl_text.specs.declared.fault.WordFault.{WordFault}
+use Rattle.rdl_text.specs.declared.fault.WordFault.TheVariants.{UnendedString, BadCharacter, NumberTooLarge, WidthOutOfRange, ValueTooWide, IdentifierTooLong}
 use Rattle.rdl_text.specs.Piece.{Candidate}
 use Rattle.rdl_text.specs.Piece.{Piece}
 use Rattle.rdl_text.specs.Piece as pieces
@@ -34,7 +34,7 @@ use Rattle.rdl_text.proofs.Spellings.{piece_fits}
 abbrev some : Candidate → Option Candidate
 some x = Some x
 
-abbrev ok : TokenKind → Result TokenKind FaultKind
+abbrev ok : TokenKind → Result TokenKind WordFault
 ok kind = Ok kind
 
 pub word_at-found : (text : List ℕ) (at : ℕ) (kind : TokenKind) (len : ℕ) → piece (drop at text) ≡ Ok (pieces.Word kind len) → word_at text at ≡ word kind at (take len (drop at text))
@@ -46,7 +46,7 @@ word_at-found text at kind len e = ap (word_of at (drop at text)) e
 abbrev found : TokenKind → ℕ → Candidate
 found kind len = record { len = len; kind = Ok kind }
 
-judged_found : (n len : ℕ) (k : Result TokenKind FaultKind) (kind : TokenKind) → judged n k ≡ Ok (pieces.Word kind len) → record { len = n; kind = k } ≡ found kind len
+judged_found : (n len : ℕ) (k : Result TokenKind WordFault) (kind : TokenKind) → judged n k ≡ Ok (pieces.Word kind len) → record { len = n; kind = k } ≡ found kind len
 judged_found n len (Ok k) kind e =
     let same : k ≡ kind = cc in
     let long : n ≡ len = cc in
@@ -65,7 +65,7 @@ enclosed_gap : (o : Option ℕ) (kind : TokenKind) (len : ℕ) → enclosed o �
 enclosed_gap None kind len e = cc
 enclosed_gap (Some n) kind len e = cc
 
-abbrev gap : ℕ → Result Piece FaultKind
+abbrev gap : ℕ → Result Piece WordFault
 gap n = Ok (pieces.Gap n)
 
 gap_word : (n len : ℕ) (kind : TokenKind) → gap n ≡ Ok (pieces.Word kind len) → ⊥
@@ -84,7 +84,7 @@ longest_found s kind len e =
 
 -- ---- The mark that a word is.
 
-abbrev Marks : Option Mark → Result TokenKind FaultKind → Type 0
+abbrev Marks : Option Mark → Result TokenKind WordFault → Type 0
 Marks o (Ok kind) = kind_mark kind ≡ o
 Marks o (Err fault) = Unit {0}
 
@@ -92,7 +92,7 @@ abbrev WordMarks : Option Mark → Option Candidate → Type 0
 WordMarks o None = Unit {0}
 WordMarks o (Some x) = Marks o x.kind
 
-candidate-marks : (o : Option Mark) (n : ℕ) (k : Result TokenKind FaultKind) → Marks o k → WordMarks o (candidate n k)
+candidate-marks : (o : Option Mark) (n : ℕ) (k : Result TokenKind WordFault) → Marks o k → WordMarks o (candidate n k)
 candidate-marks o n k h = by-none (nat_eq n 0)
   where
     by-none : (b : Bool) → WordMarks o (cond b None (Some (record { len = n; kind = k })))
@@ -216,7 +216,7 @@ mark_at_place text start first second long h e f g =
     ∙ (mark_found s h.kind h.len h.found ∙ (ap (λ (c : ℕ). either (long_mark c (byte s 1)) (short_mark c)) one ∙ (ap (λ (c : ℕ). either (long_mark first c) (short_mark first)) two ∙ ap (λ (o : Option Mark). either o (short_mark first)) (sym g))))
 
 -- what a front that is the longest word says of the word that stands there
-pub front_is : (text b : List ℕ) (start : ℕ) (front : Front) (k : Result TokenKind FaultKind) → b ≡ text → (h : Stands text start)
+pub front_is : (text b : List ℕ) (start : ℕ) (front : Front) (k : Result TokenKind WordFault) → b ≡ text → (h : Stands text start)
     → some (judged_front (take (length b - start) (drop start b)) front) ≡ longest (take (length b - start) (drop start b))
     → k ≡ kind_in front.row (take (length b - start) (drop start b)) front.len → (front.len ≡ h.len) × (k ≡ Ok h.kind)
 front_is text b start front k e h f g =

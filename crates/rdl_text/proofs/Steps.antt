@@ -3,10 +3,10 @@ use Rattle.std.proofs.Common.{◌≡◌, ℕ, ◌<◌, List, length, get_or, Som
 use Rattle.std.proofs.lemmas.Bool.{ne_eqb, cases_lt}
 use Rattle.std.proofs.lemmas.List.{get_or_past}
 use Rattle.rdl_text.specs.Words.{candidate}
-use Rattle.rdl_text.specs.declared.fault.FaultKind.{FaultKind}
+use Rattle.rdl_text.specs.declared.fault.WordFault.{WordFault}
 use Rattle.rdl_text.specs.declared.token.TokenKind.{TokenKind}
 
-pub candidate_some : (n : ℕ) (k : Result TokenKind FaultKind) → 0 < n → candidate n k ≡ Some (record { len = n; kind = k })
+pub candidate_some : (n : ℕ) (k : Result TokenKind WordFault) → 0 < n → candidate n k ≡ Some (record { len = n; kind = k })
 candidate_some n k h = rw (ne_eqb n 0 (λ e. absurd (omega arith))) refl
 
 -- a byte that isn't 0 was read inside the text

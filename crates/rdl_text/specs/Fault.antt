@@ -1,11 +1,11 @@
 -- The numbers of the faults of a text, and the fault that isn't the text's.
 -- Own.
 use Rattle.std.specs.Prelude.{ℕ}
-use Rattle.rdl_text.specs.declared.fault.FaultKind.{FaultKind}
-use Rattle.rdl_text.specs.declared.fault.FaultKind.TheVariants.{BadCharacter, UnendedComment, UnendedString, NumberTooLarge, ValueTooWide, WidthOutOfRange, IdentifierTooLong, Memory}
+use Rattle.rdl_text.specs.declared.fault.WordFault.{WordFault}
+use Rattle.rdl_text.specs.declared.fault.WordFault.TheVariants.{BadCharacter, UnendedComment, UnendedString, NumberTooLarge, ValueTooWide, WidthOutOfRange, IdentifierTooLong, Memory}
 use Rattle.rdl_text.specs.declared.fault.TextFault.{TextFault}
 
-abbrev pub fault_number : FaultKind → ℕ
+abbrev pub fault_number : WordFault → ℕ
 fault_number BadCharacter = 1
 fault_number UnendedComment = 2
 fault_number UnendedString = 3

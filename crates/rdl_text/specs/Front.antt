@@ -5,8 +5,8 @@ use Rattle.rdl_text.specs.Number.{value}
 use Rattle.rdl_text.specs.Piece.{Candidate, Piece, Gap, Word}
 use Rattle.rdl_text.specs.Rows.{byte, width_len, verilog_base}
 use Rattle.rdl_text.specs.Words.{number, sized, word_piece, longest}
-use Rattle.rdl_text.specs.declared.fault.FaultKind.{FaultKind}
-use Rattle.rdl_text.specs.declared.fault.FaultKind.TheVariants.{IdentifierTooLong}
+use Rattle.rdl_text.specs.declared.fault.WordFault.{WordFault}
+use Rattle.rdl_text.specs.declared.fault.WordFault.TheVariants.{IdentifierTooLong}
 use Rattle.rdl_text.specs.declared.piece.Front.{Front}
 use Rattle.rdl_text.specs.declared.piece.Row.{Row}
 use Rattle.rdl_text.specs.declared.piece.Row.TheVariants.{Identifier, Decimal, Hexadecimal, Verilog, Text, Mark}
@@ -16,7 +16,7 @@ use Rattle.rdl_text.specs.declared.token.TokenKind.{TokenKind}
 use Rattle.rdl_text.specs.declared.token.TokenKind.TheVariants as kinds
 
 -- what the word of a row is that has so many bytes of a text, or why it is refused
-abbrev pub kind_in : Row → List ℕ → (len : ℕ) → Result TokenKind FaultKind
+abbrev pub kind_in : Row → List ℕ → (len : ℕ) → Result TokenKind WordFault
 kind_in Identifier s len = if nat_lt 255 len then Err IdentifierTooLong else Ok kinds.Identifier
 kind_in Decimal s len = number (value 10 (slice_range s 0 len))
 kind_in Hexadecimal s len = number (value 16 (slice_range s 2 len))
@@ -41,11 +41,11 @@ pub record IsInside (s : List ℕ) (front : Front) : Type 0 where
   pub digits : HasDigits front.row s front.len
 
 -- a piece without the kind of a word
-abbrev pub span_of : Result Piece FaultKind → Result Span FaultKind
+abbrev pub span_of : Result Piece WordFault → Result Span WordFault
 span_of (Ok (Gap len)) = Ok (spans.Gap len)
 span_of (Ok (Word kind len)) = Ok (spans.Word len)
 span_of (Err fault) = Err fault
 
 -- the piece that the longest word in front of a text is, without its kind
-abbrev pub front_span : List ℕ → Result Span FaultKind
+abbrev pub front_span : List ℕ → Result Span WordFault
 front_span s = span_of (word_piece (byte s 0) (longest s))

@@ -4,7 +4,7 @@ use Rattle.std.specs.Prelude.{◌≡◌, ℕ, ◌≤◌, List, [], ◌∷◌, le
 use Rattle.std.specs.Str.{IsCharBoundary}
 use Rattle.rdl_text.specs.Word.{Word, word}
 use Rattle.rdl_text.specs.Words.{piece}
-use Rattle.rdl_text.specs.declared.fault.FaultKind.{FaultKind}
+use Rattle.rdl_text.specs.declared.fault.WordFault.{WordFault}
 use Rattle.rdl_text.specs.Piece.{Piece}
 use Rattle.rdl_text.specs.Piece as pieces
 use Rattle.rdl_text.specs.declared.token.Mark.{Mark}
@@ -12,7 +12,7 @@ use Rattle.rdl_text.specs.declared.token.TokenKind.{TokenKind}
 use Rattle.rdl_text.specs.declared.token.TokenKind.TheVariants as kinds
 
 -- the word that is the piece at a place; a gap or a fault is none, and counts as one without bytes
-abbrev pub word_of : (at : ℕ) → (rest : List ℕ) → Result Piece FaultKind → Word
+abbrev pub word_of : (at : ℕ) → (rest : List ℕ) → Result Piece WordFault → Word
 word_of at rest (Ok (pieces.Word kind len)) = word kind at (take len rest)
 word_of at rest (Ok (pieces.Gap len)) = word kinds.Text at []
 word_of at rest (Err fault) = word kinds.Text at []

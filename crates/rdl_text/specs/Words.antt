@@ -5,8 +5,8 @@ use Rattle.std.specs.Option.{option_map}
 use Rattle.rdl_text.specs.Number.{value, number_bits}
 use Rattle.rdl_text.specs.Rows.{byte, run, identifier_len, decimal_len, hexadecimal_len, width_len, verilog_base, verilog_len, string_len, short_mark, long_mark}
 use Rattle.rdl_text.specs.Word.{Word, word}
-use Rattle.rdl_text.specs.declared.fault.FaultKind.{FaultKind}
-use Rattle.rdl_text.specs.declared.fault.FaultKind.TheVariants.{BadCharacter, UnendedComment, UnendedString, NumberTooLarge, ValueTooWide, WidthOutOfRange, IdentifierTooLong}
+use Rattle.rdl_text.specs.declared.fault.WordFault.{WordFault}
+use Rattle.rdl_text.specs.declared.fault.WordFault.TheVariants.{BadCharacter, UnendedComment, UnendedString, NumberTooLarge, ValueTooWide, WidthOutOfRange, IdentifierTooLong}
 use Rattle.rdl_text.specs.declared.fault.TextFault.{TextFault}
 use Rattle.rdl_text.specs.declared.token.Mark.{Mark}
 use Rattle.rdl_text.specs.declared.token.TokenKind.{TokenKind}
@@ -16,14 +16,14 @@ use Rattle.rdl_text.specs.Piece.{Piece}
 use Rattle.rdl_text.specs.Piece as pieces
 
 -- the word of a row that begins a text, and what it is or why it is refused
-abbrev pub candidate : (len : ℕ) → Result TokenKind FaultKind → Option Candidate
+abbrev pub candidate : (len : ℕ) → Result TokenKind WordFault → Option Candidate
 candidate len kind = if nat_eq len 0 then None else Some (record { len = len; kind = kind })
 
 unfoldable pub identifier : List ℕ → Option Candidate
 identifier s =
     candidate (identifier_len s) (if nat_lt 255 (identifier_len s) then Err IdentifierTooLong else Ok kinds.Identifier)
 
-abbrev pub number : ℕ → Result TokenKind FaultKind
+abbrev pub number : ℕ → Result TokenKind WordFault
 number v = if nat_lt v (2 ^ number_bits) then Ok (kinds.Number v) else Err NumberTooLarge
 
 unfoldable pub decimal : List ℕ → Option Candidate
@@ -33,11 +33,11 @@ unfoldable pub hexadecimal : List ℕ → Option Candidate
 hexadecimal s = candidate (hexadecimal_len s) (number (value 16 (slice_range s 2 (hexadecimal_len s))))
 
 -- a number whose value must be below two to the power of a width
-abbrev pub within : (width : ℕ) → (value : ℕ) → Result TokenKind FaultKind
+abbrev pub within : (width : ℕ) → (value : ℕ) → Result TokenKind WordFault
 within width value = if nat_lt value (2 ^ width) then Ok (kinds.Number value) else Err ValueTooWide
 
 -- a Verilog number: first the width is judged, then the value
-abbrev pub sized : (width : ℕ) → (value : ℕ) → Result TokenKind FaultKind
+abbrev pub sized : (width : ℕ) → (value : ℕ) → Result TokenKind WordFault
 sized width value = if nat_eq width 0 || nat_lt number_bits width then Err WidthOutOfRange else within width value
 
 unfoldable pub verilog : List ℕ → Option Candidate
@@ -65,12 +65,12 @@ unfoldable pub longest : List ℕ → Option Candidate
 longest s = longer (identifier s) (longer (decimal s) (longer (hexadecimal s) (longer (verilog s) (longer (string s) (mark s)))))
 
 -- the word that a text begins with, or why it is refused
-abbrev pub judged : (len : ℕ) → Result TokenKind FaultKind → Result Piece FaultKind
+abbrev pub judged : (len : ℕ) → Result TokenKind WordFault → Result Piece WordFault
 judged len (Ok kind) = Ok (pieces.Word kind len)
 judged len (Err fault) = Err fault
 
 -- the same where there may be none: with a quote begins a string that doesn't end
-abbrev pub word_piece : (first : ℕ) → Option Candidate → Result Piece FaultKind
+abbrev pub word_piece : (first : ℕ) → Option Candidate → Result Piece WordFault
 word_piece first None = if nat_eq first 34 then Err UnendedString else Err BadCharacter
 word_piece first (Some word) = judged word.len word.kind
 
@@ -88,16 +88,16 @@ comment_end (c ∷ cs) =
     if nat_eq c 42 && nat_eq (byte cs 0) 47 then Some 0 else option_map (λ n. n + 1) (comment_end cs)
 
 -- a comment with so many bytes between `/*` and `*/`, if it is closed
-abbrev pub enclosed : Option ℕ → Result Piece FaultKind
+abbrev pub enclosed : Option ℕ → Result Piece WordFault
 enclosed (Some n) = Ok (pieces.Gap (n + 4))
 enclosed None = Err UnendedComment
 
 -- `/*`, up to the `*/` after it
-abbrev pub block_comment : List ℕ → Result Piece FaultKind
+abbrev pub block_comment : List ℕ → Result Piece WordFault
 block_comment s = enclosed (comment_end (drop 2 s))
 
 -- what begins a text that isn't empty: blanks, a comment up to a line feed, one up to `*/`, or a word
-unfoldable pub piece : List ℕ → Result Piece FaultKind
+unfoldable pub piece : List ℕ → Result Piece WordFault
 piece s =
     if is_blank (byte s 0) then Ok (pieces.Gap (run is_blank 0 s))
     else if nat_eq (byte s 0) 47 && nat_eq (byte s 1) 47 then Ok (pieces.Gap (2 + run is_in_line 2 s))

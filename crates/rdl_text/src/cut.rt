@@ -11,7 +11,7 @@ ghost use Rattle.rdl_text.specs.Words.{is_in_line};
 ghost use Rattle.rdl_text.specs.Words as spec;
 
 use crate::bytes::{Class, byte_at, is_blank, is_digit, run_len};
-use crate::fault::{FaultKind, TextFault};
+use crate::fault::{WordFault, TextFault};
 use crate::list::Tokens;
 use crate::name::{Name, is_letter};
 use crate::piece::Span;
@@ -33,13 +33,13 @@ fn comment_end(bytes: &[u8]) -> Option<usize>
     None
 }
 
-fn block_comment(bytes: &[u8]) -> Result<Span, FaultKind>
+fn block_comment(bytes: &[u8]) -> Result<Span, WordFault>
     requires { 2 ≤ length bytes.now }
     ensures { result ≡ span_of (spec.block_comment bytes.now) }
 {
     match comment_end(&bytes[2..]) {
         Some(len) => Ok(Span::Gap(len + 4)),
-        None => Err(FaultKind::UnendedComment),
+        None => Err(WordFault::UnendedComment),
     }
 }
 
@@ -59,13 +59,13 @@ fn line_len(bytes: &[u8]) -> usize
 /// The identifier that a text begins with, which begins with a letter.
 #[inline]
 #[tactic(auto, using(crate::proofs::Fronts::letter_span))]
-fn identifier_span(bytes: &[u8]) -> Result<Span, FaultKind>
+fn identifier_span(bytes: &[u8]) -> Result<Span, WordFault>
     requires { is_letter (slice_index bytes.now 0) ≡ true }
     ensures { result ≡ front_span bytes.now }
 {
     let len = 1 + run_len(bytes, 1, Class::IdentifierRest);
     if len > Name::MAX_LEN {
-        Err(FaultKind::IdentifierTooLong)
+        Err(WordFault::IdentifierTooLong)
     } else {
         Ok(Span::Word(len))
     }
@@ -74,7 +74,7 @@ fn identifier_span(bytes: &[u8]) -> Result<Span, FaultKind>
 /// The number that a text begins with, which begins with a digit.
 #[inline]
 #[tactic(auto, using(crate::proofs::Fronts::digit_span, crate::proofs::Fronts::digit_span_none))]
-fn number_span(bytes: &[u8]) -> Result<Span, FaultKind>
+fn number_span(bytes: &[u8]) -> Result<Span, WordFault>
     requires { is_digit (slice_index bytes.now 0) 10 ≡ true }
     ensures { result ≡ front_span bytes.now }
 {
@@ -83,27 +83,27 @@ fn number_span(bytes: &[u8]) -> Result<Span, FaultKind>
             Ok(_) => Ok(Span::Word(front.len)),
             Err(fault) => Err(fault),
         },
-        None => Err(FaultKind::BadCharacter),
+        None => Err(WordFault::BadCharacter),
     }
 }
 
 /// The string that a text begins with, which begins with a quote.
 #[inline]
 #[tactic(auto, using(crate::proofs::Fronts::quote_span, crate::proofs::Steps::row_lemmas))]
-fn string_span(bytes: &[u8]) -> Result<Span, FaultKind>
+fn string_span(bytes: &[u8]) -> Result<Span, WordFault>
     requires { slice_index bytes.now 0 ≡ 34 }
     ensures { result ≡ front_span bytes.now }
 {
     match closing(&bytes[1..]) {
         Some(len) => Ok(Span::Word(len + 2)),
-        None => Err(FaultKind::UnendedString),
+        None => Err(WordFault::UnendedString),
     }
 }
 
 /// The mark that a text begins with, which begins with no letter, no digit and no quote.
 #[inline]
 #[tactic(auto, using(crate::proofs::Fronts::mark_span))]
-fn mark_span(bytes: &[u8]) -> Result<Span, FaultKind>
+fn mark_span(bytes: &[u8]) -> Result<Span, WordFault>
     requires letter { is_letter (slice_index bytes.now 0) ≡ false }
     requires digit { is_digit (slice_index bytes.now 0) 10 ≡ false }
     requires quote { slice_index bytes.now 0 ≢ 34 }
@@ -114,14 +114,14 @@ fn mark_span(bytes: &[u8]) -> Result<Span, FaultKind>
         Some(_) => Ok(Span::Word(2)),
         None => match short_mark(first) {
             Some(_) => Ok(Span::Word(1)),
-            None => Err(FaultKind::BadCharacter),
+            None => Err(WordFault::BadCharacter),
         },
     }
 }
 
 /// What a text begins with that begins with no blank and no comment.
 #[inline]
-fn word_span(bytes: &[u8]) -> Result<Span, FaultKind>
+fn word_span(bytes: &[u8]) -> Result<Span, WordFault>
     ensures { result ≡ front_span bytes.now }
 {
     let first = byte_at(bytes, 0);
@@ -139,7 +139,7 @@ fn word_span(bytes: &[u8]) -> Result<Span, FaultKind>
 /// What a text that isn't empty begins with.
 #[inline]
 #[tactic(auto, using(crate::proofs::Steps::row_lemmas), unfolding(crate::specs::Words::piece))]
-fn span_at(bytes: &[u8]) -> Result<Span, FaultKind>
+fn span_at(bytes: &[u8]) -> Result<Span, WordFault>
     ensures { result ≡ span_of (spec.piece bytes.now) }
 {
     let first = byte_at(bytes, 0);

@@ -6,7 +6,7 @@ use std::alloc::{AllocError, AllocFailed};
 
 /// What is wrong at a place of a text.
 #[derive(Clone, Copy, Debug, PartialEq, Eq)]
-pub enum FaultKind {
+pub enum WordFault {
     /// S1: no word, blank or comment begins there.
     BadCharacter,
     /// S2: a comment from `/*` on has no `*/`.
@@ -25,20 +25,20 @@ pub enum FaultKind {
     Memory,
 }
 
-impl FaultKind {
+impl WordFault {
     /// The number that messages name it by.
     pub fn number(&self) -> u8
         ensures { result ≡ fault_number self.now }
     {
         match self {
-            FaultKind::BadCharacter => 1,
-            FaultKind::UnendedComment => 2,
-            FaultKind::UnendedString => 3,
-            FaultKind::NumberTooLarge => 4,
-            FaultKind::ValueTooWide => 5,
-            FaultKind::WidthOutOfRange => 6,
-            FaultKind::IdentifierTooLong => 7,
-            FaultKind::Memory => 8,
+            WordFault::BadCharacter => 1,
+            WordFault::UnendedComment => 2,
+            WordFault::UnendedString => 3,
+            WordFault::NumberTooLarge => 4,
+            WordFault::ValueTooWide => 5,
+            WordFault::WidthOutOfRange => 6,
+            WordFault::IdentifierTooLong => 7,
+            WordFault::Memory => 8,
         }
     }
 }
@@ -46,14 +46,14 @@ impl FaultKind {
 /// A fault, and the byte at which the word that has it begins; 0 for `Memory`.
 #[derive(Clone, Copy, Debug, PartialEq, Eq)]
 pub struct TextFault {
-    pub kind: FaultKind,
+    pub kind: WordFault,
     pub offset: usize,
 }
 
 impl TextFault {
     /// S8.
     pub(crate) const MEMORY: TextFault = TextFault {
-        kind: FaultKind::Memory,
+        kind: WordFault::Memory,
         offset: 0,
     };
 
@@ -70,7 +70,7 @@ impl From<AllocError> for TextFault {
 
     fn from(_error: AllocError) -> TextFault {
         TextFault {
-            kind: FaultKind::Memory,
+            kind: WordFault::Memory,
             offset: 0,
         }
     }
@@ -81,7 +81,7 @@ impl<T: Drop> From<AllocFailed<T>> for TextFault {
 
     fn from(_error: AllocFailed<T>) -> TextFault {
         TextFault {
-            kind: FaultKind::Memory,
+            kind: WordFault::Memory,
             offset: 0,
         }
     }

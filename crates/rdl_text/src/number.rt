@@ -4,7 +4,7 @@ ghost use Rattle.rdl_text.specs.Number.{value, in_bits, number_bits};
 ghost use Rattle.rdl_text.specs.Words.{number, within, sized};
 
 use crate::bytes::digit_value;
-use crate::fault::FaultKind;
+use crate::fault::WordFault;
 use crate::token::{Number, TokenKind};
 
 /// A number with one more digit behind it, if its bits suffice.
@@ -58,12 +58,12 @@ pub(crate) fn value(base: u8, digits: &[u8]) -> Option<Number>
 }
 
 /// What a number of this value is.
-pub(crate) fn number(value: Option<Number>) -> Result<TokenKind, FaultKind>
+pub(crate) fn number(value: Option<Number>) -> Result<TokenKind, WordFault>
     ensures { (v : ℕ) → value ≡ in_bits v → result ≡ number v }
 {
     match value {
         Some(value) => Ok(TokenKind::Number(value)),
-        None => Err(FaultKind::NumberTooLarge),
+        None => Err(WordFault::NumberTooLarge),
     }
 }
 
@@ -77,22 +77,22 @@ fn fits(value: Number, width: Number) -> bool
 
 /// What a Verilog number of this value is, in a width that a number may have.
 #[tactic(auto, using(crate::proofs::Numbers::past_width))]
-fn within(width: Number, value: Option<Number>) -> Result<TokenKind, FaultKind>
+fn within(width: Number, value: Option<Number>) -> Result<TokenKind, WordFault>
     requires { width ≤ number_bits }
     ensures { (v : ℕ) → value ≡ in_bits v → result ≡ within width v }
 {
     match value {
         Some(value) if fits(value, width) => Ok(TokenKind::Number(value)),
-        _ => Err(FaultKind::ValueTooWide),
+        _ => Err(WordFault::ValueTooWide),
     }
 }
 
 /// What a Verilog number of this width and value is.
-pub(crate) fn sized(width: Option<Number>, value: Option<Number>) -> Result<TokenKind, FaultKind>
+pub(crate) fn sized(width: Option<Number>, value: Option<Number>) -> Result<TokenKind, WordFault>
     ensures { (w v : ℕ) → width ≡ in_bits w → value ≡ in_bits v → result ≡ sized w v }
 {
     match width {
         Some(width) if 0 < width && width <= Number::BITS as Number => within(width, value),
-        _ => Err(FaultKind::WidthOutOfRange),
+        _ => Err(WordFault::WidthOutOfRange),
     }
 }

@@ -6,7 +6,7 @@ ghost use Rattle.rdl_text.specs.Rows.{closing, short_mark, long_mark};
 ghost use Rattle.rdl_text.specs.Words as spec;
 
 use crate::bytes::{Class, base_of, byte_at, is_digit, run_len};
-use crate::fault::FaultKind;
+use crate::fault::WordFault;
 use crate::name::{Name, is_letter};
 use crate::number::{number, sized, value};
 use crate::piece::{Front, Row};
@@ -209,7 +209,7 @@ pub(crate) fn longest(bytes: &[u8]) -> Option<Front>
 }
 
 /// What a Verilog number of so many bytes is.
-fn verilog_kind(bytes: &[u8], len: usize) -> Result<TokenKind, FaultKind>
+fn verilog_kind(bytes: &[u8], len: usize) -> Result<TokenKind, WordFault>
     requires { IsInside bytes.now (record { row = Row.Verilog; len = len }) }
     ensures { result ≡ kind_in Row.Verilog bytes.now len }
 {
@@ -223,12 +223,12 @@ fn verilog_kind(bytes: &[u8], len: usize) -> Result<TokenKind, FaultKind>
 
 /// What a word is that a text begins with, or why it is refused.
 #[inline]
-pub(crate) fn kind_of(bytes: &[u8], front: Front) -> Result<TokenKind, FaultKind>
+pub(crate) fn kind_of(bytes: &[u8], front: Front) -> Result<TokenKind, WordFault>
     requires { IsInside bytes.now front }
     ensures { result ≡ kind_in front.row bytes.now front.len }
 {
     match front.row {
-        Row::Identifier if front.len > Name::MAX_LEN => Err(FaultKind::IdentifierTooLong),
+        Row::Identifier if front.len > Name::MAX_LEN => Err(WordFault::IdentifierTooLong),
         Row::Identifier => Ok(TokenKind::Identifier),
         Row::Decimal => number(value(10, &bytes[..front.len])),
         Row::Hexadecimal => number(value(16, &bytes[2..front.len])),

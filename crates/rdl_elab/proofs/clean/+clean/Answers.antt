@@ -3,7 +3,7 @@ use Rattle.std.proofs.Common.{rules, refl, sym, ◌++◌, ◌∷◌, [], true, �
 use Rattle.std.specs.Option.{is_none}
 use Rattle.rdl_elab.specs.Clean.{AreClean}
 use Rattle.rdl_elab.specs.Finished.{under}
-use Rattle.rdl_elab.specs.KeptRows.{kept_values, kept_fault, seen}
+use Rattle.rdl_elab.specs.FinishedRows.{finished_values, finished_fault, seen}
 use Rattle.rdl_elab.specs.Layouts.{mode_inside}
 use Rattle.rdl_tree.specs.declared.property.Property.TheVariants.{Sw, Reset}
 use Rattle.rdl_elab.specs.Reaches.{behind, value_under}
@@ -37,12 +37,12 @@ is_clean_level-loop-i-preserved t c =
     let part : slice_get c.args.parts.now c.loop-i.i ≡ Some p = slice_get_read c.args.parts.now (length c.args.parts.now) c.loop-i.i p refl c.loop-i-test.true c.index-parts-i.is in
     let there : slice_get fs p.component ≡ Some f = search rules in
     let reached : c.as_slice-reaching.result.now ≡ behind p.at c.args.level.now.reaching.items = search rules in
-    let values = kept_values f.kind p.shell.reset c.as_slice-reaching.result.now f.shown in
+    let values = finished_values f.kind p.shell.reset c.as_slice-reaching.result.now f.shown in
     let sw : value_under Sw c.in_ok-values.values ≡ value_under Sw values = search rules in
     let reset : value_under Reset c.in_ok-values.values ≡ value_under Reset values = search rules in
     let same : seen c.in-Some.span c.in_ok-values.values ≡ seen c.in-Some.span values = seen-same c.in-Some.span c.in_ok-values.values values sw in
-    let none : is_none (kept_fault f.kind f.values c.args.level.now.bits p.shell (under m f.layouts).size (seen c.in-Some.span c.in_ok-values.values) c.loop-i.siblings c.in_ok-values.values) ≡ true = search rules in
-    let kept : is_none (kept_fault f.kind f.values c.args.level.now.bits p.shell (under m f.layouts).size (seen c.in-Some.span values) c.loop-i.siblings values) ≡ true =
+    let none : is_none (finished_fault f.kind f.values c.args.level.now.bits p.shell (under m f.layouts).size (seen c.in-Some.span c.in_ok-values.values) c.loop-i.siblings c.in_ok-values.values) ≡ true = search rules in
+    let kept : is_none (finished_fault f.kind f.values c.args.level.now.bits p.shell (under m f.layouts).size (seen c.in-Some.span values) c.loop-i.siblings values) ≡ true =
     ap is_none (sym (fault-same f.kind f.values c.args.level.now.bits p.shell (under m f.layouts).size (seen c.in-Some.span c.in_ok-values.values) (seen c.in-Some.span values) c.loop-i.siblings c.in_ok-values.values values same reset)) ∙ none in
     let below : AreClean fs (mode_inside f.kind f.values m) f.values.regwidth (c.as_slice-reaching.result.now ++ f.assignments.items) (under m f.layouts).spans f.parts.items = search rules in
     let pushed : c.push.new.self ≡ c.loop-i.siblings ++ seen c.in-Some.span c.in_ok-values.values ∷ [] = search rules in

@@ -1,6 +1,6 @@
 use Rattle.std.proofs.lemmas.Option.{slice_get_read}
 use Rattle.std.proofs.Common.{rules, refl, ◌+◌, ◌*◌, ◌<◌, ◌-◌, ◌++◌, ◌∷◌, [], true, false, ◌≡◌, ◌≤◌, length, ap, sym, ◌∙◌, arith, Some, None, slice_get}
-use Rattle.rdl_elab.specs.KeptRows.{Told, told, kept_row, kept_rows, seen, judged, surroundings_inside}
+use Rattle.rdl_elab.specs.FinishedRows.{Told, told, finished_row, finished_rows, seen, judged, surroundings_inside}
 use Rattle.rdl_elab.specs.Finished.{under}
 use Rattle.rdl_elab.specs.Reaches.{behind}
 use Rattle.std.specs.Option.{is_some}
@@ -30,7 +30,7 @@ add_rows-returns-then-is_some t c =
     let span : slice_get c.args.spans.now c.loop-i.i ≡ Some c.in-Some.span = search rules in
     let part : slice_get c.args.parts.now c.loop-i.i ≡ Some p = slice_get_read c.args.parts.now (length c.args.parts.now) c.loop-i.i p refl c.loop-i-test.true c.index-parts-i.is in
     let there : slice_get fs p.component ≡ Some f = search rules in
-    let row : c.in_ok-row.row ≡ kept_row c.args.around.now c.in-Some.span p f = search rules in
+    let row : c.in_ok-row.row ≡ finished_row c.args.around.now c.in-Some.span p f = search rules in
     let below = surroundings_inside c.args.around.now p f c.in_ok-row.row in
     let first : Told = record { fault = c.in_ok-fault.fault; rows = c.add_row.new.rows.items } in
     let told-first : first ≡ told c.loop-i.rows.items (judged c.args.around.now c.loop-i.siblings c.in-Some.span p f c.in_ok-row.row ∷ []) = search rules in
@@ -46,12 +46,12 @@ add_rows-returns-then-is_some-2 t c =
     let span : slice_get c.args.spans.now c.loop-i.i ≡ Some c.in-Some.span = search rules in
     let part : slice_get c.args.parts.now c.loop-i.i ≡ Some p = slice_get_read c.args.parts.now (length c.args.parts.now) c.loop-i.i p refl c.loop-i-test.true c.index-parts-i.is in
     let there : slice_get fs p.component ≡ Some f = search rules in
-    let row : c.in_ok-row.row ≡ kept_row c.args.around.now c.in-Some.span p f = search rules in
+    let row : c.in_ok-row.row ≡ finished_row c.args.around.now c.in-Some.span p f = search rules in
     let below = surroundings_inside c.args.around.now p f c.in_ok-row.row in
     let first : Told = record { fault = c.in_ok-fault.fault; rows = c.add_row.new.rows.items } in
     let told-first : first ≡ told c.loop-i.rows.items (judged c.args.around.now c.loop-i.siblings c.in-Some.span p f c.in_ok-row.row ∷ []) = search rules in
     let then : Told = record { fault = c.in_ok-fault-2.fault; rows = c.add_below.new.rows.items } in
-    let told-then : then ≡ told first.rows (kept_rows (c.args.levels - 1) fs below (under c.args.around.now.mode f.layouts).spans f.parts.items) = search rules in
+    let told-then : then ≡ told first.rows (finished_rows (c.args.levels - 1) fs below (under c.args.around.now.mode f.layouts).spans f.parts.items) = search rules in
     let on : is_some first.fault ≡ false = search rules in
     let stops : is_some then.fault ≡ true = search rules in
     below-row fs (deeper c.args.levels fs) c.args.around.now c.args.spans.now c.args.parts.now c.loop-i.i c.loop-i.siblings c.in-Some.span p f c.loop-i.rows.items first then span part there c.in_ok-row.row below row refl told-first on told-then stops ∙ c.loop-i.invariant
@@ -64,12 +64,12 @@ add_rows-loop-i-preserved t c =
     let span : slice_get c.args.spans.now c.loop-i.i ≡ Some c.in-Some.span = search rules in
     let part : slice_get c.args.parts.now c.loop-i.i ≡ Some p = slice_get_read c.args.parts.now (length c.args.parts.now) c.loop-i.i p refl c.loop-i-test.true c.index-parts-i.is in
     let there : slice_get fs p.component ≡ Some f = search rules in
-    let row : c.in_ok-row.row ≡ kept_row c.args.around.now c.in-Some.span p f = search rules in
+    let row : c.in_ok-row.row ≡ finished_row c.args.around.now c.in-Some.span p f = search rules in
     let below = surroundings_inside c.args.around.now p f c.in_ok-row.row in
     let first : Told = record { fault = c.in_ok-fault.fault; rows = c.add_row.new.rows.items } in
     let told-first : first ≡ told c.loop-i.rows.items (judged c.args.around.now c.loop-i.siblings c.in-Some.span p f c.in_ok-row.row ∷ []) = search rules in
     let then : Told = record { fault = c.in_ok-fault-2.fault; rows = c.add_below.new.rows.items } in
-    let told-then : then ≡ told first.rows (kept_rows (c.args.levels - 1) fs below (under c.args.around.now.mode f.layouts).spans f.parts.items) = search rules in
+    let told-then : then ≡ told first.rows (finished_rows (c.args.levels - 1) fs below (under c.args.around.now.mode f.layouts).spans f.parts.items) = search rules in
     let on : is_some first.fault ≡ false = search rules in
     let further : is_some then.fault ≡ false = search rules in
     let after : c.add_row.new.siblings ≡ c.loop-i.siblings ++ seen c.in-Some.span c.in_ok-row.row.values ∷ [] = c.in_ok-fault.ensures.siblings (none-is first.fault on) in

@@ -2,7 +2,7 @@
 use Rattle.std.proofs.Common.{Result, Some, sym, ◌∙◌, ap}
 use Rattle.rdl_text.specs.Front.{span_of, judged_front}
 use Rattle.rdl_text.specs.Words.{judged}
-use Rattle.rdl_text.specs.declared.fault.FaultKind.{FaultKind}
+use Rattle.rdl_text.specs.declared.fault.WordFault.{WordFault}
 use Rattle.rdl_text.specs.declared.token.TokenKind.{TokenKind}
 use Rattle.rdl_text.proofs.Fronts.{digit_span}
 use Rattle.rdl_text.proofs.cut.number_span.Goals as goal
@@ -12,11 +12,11 @@ returns-in-Ok c =
     let s = c.args.bytes.now in
     let front = c.in-Some.front in
     sym (digit_span s (Some (judged_front s front)) c.requires c.in-Some.ensures.word
-    ∙ ap (λ (k : Result TokenKind FaultKind). span_of (judged front.len k)) (sym c.kind_of.ensures ∙ c.in-Ok.is))
+    ∙ ap (λ (k : Result TokenKind WordFault). span_of (judged front.len k)) (sym c.kind_of.ensures ∙ c.in-Ok.is))
 
 pub returns-in-Err : goal.returns-in-Err
 returns-in-Err c =
     let s = c.args.bytes.now in
     let front = c.in-Some.front in
     sym (digit_span s (Some (judged_front s front)) c.requires c.in-Some.ensures.word
-    ∙ ap (λ (k : Result TokenKind FaultKind). span_of (judged front.len k)) (sym c.kind_of.ensures ∙ c.in-Err.is))
+    ∙ ap (λ (k : Result TokenKind WordFault). span_of (judged front.len k)) (sym c.kind_of.ensures ∙ c.in-Err.is))

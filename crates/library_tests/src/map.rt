@@ -2,7 +2,7 @@
 ghost use Rattle.std.specs.Prelude.{◌≡◌, ◌⊎◌, IfOk, IfErr};
 ghost use Rattle.rdl_parse.specs.Faults.{out_of_memory};
 ghost use Rattle.rdl_parse.specs.Parsing.{Refuses};
-ghost use Rattle.worked.specs.MapRows.{IsAnswerFor};
+ghost use Rattle.library_tests.specs.MapRows.{IsAnswerFor};
 
 use rdl_elab::elaborate::elaborate;
 use rdl_elab::row::Rows;

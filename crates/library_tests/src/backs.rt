@@ -9,7 +9,7 @@ use crate::parse::description;
 use crate::tree::{address, path};
 use journal_core::invertible::Invertible;
 use rdl_edit::back::Back;
-use rdl_edit::edit::Refusal;
+use rdl_edit::refusal::Refusal;
 use rdl_edit::map::Map;
 use rdl_rewrite::edit::Edit;
 use rdl_tree::address::Address;

@@ -37,29 +37,29 @@ pub record Surroundings : Type 0 where
   pub reaching : List Reach
 
 -- a row, and what is wrong with it
-pub record KeptRow : Type 0 where
+pub record FinishedRow : Type 0 where
   pub row : Row
   pub fault : Option Fault
 
 -- an instance's address; no base is as great as the greatest number of 64 bits
-abbrev pub kept_base : Kind → ℕ → Span → ℕ
-kept_base Field base span = base
-kept_base kind base span = min (base + span.start) (2 ^ 64 - 1)
+abbrev pub finished_base : Kind → ℕ → Span → ℕ
+finished_base Field base span = base
+finished_base kind base span = min (base + span.start) (2 ^ 64 - 1)
 
 -- where nothing is assigned to the instance, the values are those of its component
-abbrev pub kept_values : Kind → Option ℕ → List Reach → List PropertyValue → List PropertyValue
-kept_values k None [] values = values
-kept_values k None (r ∷ rs) values = values_along k None (r ∷ rs) values
-kept_values k (Some n) rs values = values_along k (Some n) rs values
+abbrev pub finished_values : Kind → Option ℕ → List Reach → List PropertyValue → List PropertyValue
+finished_values k None [] values = values
+finished_values k None (r ∷ rs) values = values_along k None (r ∷ rs) values
+finished_values k (Some n) rs values = values_along k (Some n) rs values
 
-abbrev pub kept_row : Surroundings → Span → Part → Finished → Row
-kept_row o span p f =
+abbrev pub finished_row : Surroundings → Span → Part → Finished → Row
+finished_row o span p f =
     record {
       names = o.names ++ p.shell.name ∷ [];
       kind = f.kind;
-      base = kept_base f.kind o.base span;
+      base = finished_base f.kind o.base span;
       place = place_of f.kind p.shell span (under o.mode f.layouts).size;
-      values = kept_values f.kind p.shell.reset (behind p.at o.reaching) f.shown;
+      values = finished_values f.kind p.shell.reset (behind p.at o.reaching) f.shown;
     }
 
 -- a row as later siblings see it
@@ -89,17 +89,17 @@ field_fault bits a before values =
     ∷ [])
 
 -- what is wrong with a row, the lower number first
-abbrev pub kept_fault : Kind → LayoutValues → ℕ → Shell → ℕ → Sibling → List Sibling → List PropertyValue → Option FaultKind
-kept_fault Field v bits s size a before values = field_fault bits a before values
-kept_fault Reg v bits s size a before values =
+abbrev pub finished_fault : Kind → LayoutValues → ℕ → Shell → ℕ → Sibling → List Sibling → List PropertyValue → Option FaultKind
+finished_fault Field v bits s size a before values = field_fault bits a before values
+finished_fault Reg v bits s size a before values =
     if nat_lt v.regwidth v.accesswidth then Some AccessTooWide else extent_fault s size a.span before
-kept_fault kind v bits s size a before values = extent_fault s size a.span before
+finished_fault kind v bits s size a before values = extent_fault s size a.span before
 
-abbrev pub judged : Surroundings → List Sibling → Span → Part → Finished → Row → KeptRow
+abbrev pub judged : Surroundings → List Sibling → Span → Part → Finished → Row → FinishedRow
 judged o before span p f r =
     record {
       row = r;
-      fault = fault_at p.at (kept_fault f.kind f.values o.bits p.shell (under o.mode f.layouts).size (seen span r.values) before r.values);
+      fault = fault_at p.at (finished_fault f.kind f.values o.bits p.shell (under o.mode f.layouts).size (seen span r.values) before r.values);
     }
 
 abbrev pub surroundings_inside : Surroundings → Part → Finished → Row → Surroundings
@@ -113,25 +113,25 @@ surroundings_inside o p f r =
     }
 
 -- an instance with what is below it
-abbrev pub with_below : (Surroundings → List Span → List Part → List KeptRow) → Surroundings → List Sibling → Span → Part → Finished → List KeptRow
+abbrev pub with_below : (Surroundings → List Span → List Part → List FinishedRow) → Surroundings → List Sibling → Span → Part → Finished → List FinishedRow
 with_below below o before span p f =
-    let r = kept_row o span p f in
+    let r = finished_row o span p f in
     judged o before span p f r ∷ below (surroundings_inside o p f r) (under o.mode f.layouts).spans f.parts.items
 
 -- the instances of a component; the list ends where there is no such component
-abbrev pub level_rows : List Finished → (Surroundings → List Span → List Part → List KeptRow) → Surroundings → List Sibling → List Span → List Part → List KeptRow
+abbrev pub level_rows : List Finished → (Surroundings → List Span → List Part → List FinishedRow) → Surroundings → List Sibling → List Span → List Part → List FinishedRow
 level_rows fs below o before spans [] = []
 level_rows fs below o before [] (p ∷ ps) = []
 level_rows fs below o before (span ∷ spans) (p ∷ ps) =
     elim (slice_get fs p.component) [
       | None ↦ []
-      | Some f ↦ with_below below o before span p f ++ level_rows fs below o (before ++ seen span (kept_row o span p f).values ∷ []) spans ps
+      | Some f ↦ with_below below o before span p f ++ level_rows fs below o (before ++ seen span (finished_row o span p f).values ∷ []) spans ps
     ]
 
 -- so many levels of instances
-abbrev pub kept_rows : ℕ → List Finished → Surroundings → List Span → List Part → List KeptRow
-kept_rows zero fs o spans ps = []
-kept_rows (suc n) fs o spans ps = level_rows fs (λ inside ss qs. kept_rows n fs inside ss qs) o [] spans ps
+abbrev pub finished_rows : ℕ → List Finished → Surroundings → List Span → List Part → List FinishedRow
+finished_rows zero fs o spans ps = []
+finished_rows (suc n) fs o spans ps = level_rows fs (λ inside ss qs. finished_rows n fs inside ss qs) o [] spans ps
 
 -- the rows up to the first that has a fault, and that fault
 pub record Told : Type 0 where
@@ -142,27 +142,27 @@ abbrev pub told_one : Option Fault → Row → List Row → Told → Told
 told_one None r rows rest = rest
 told_one (Some f) r rows rest = record { fault = Some f; rows = rows }
 
-abbrev pub told : List Row → List KeptRow → Told
+abbrev pub told : List Row → List FinishedRow → Told
 told rows [] = record { fault = None; rows = rows }
 told rows (k ∷ ks) = told_one k.fault k.row rows (told (rows ++ k.row ∷ []) ks)
 
 -- what is wrong with a map, but for single rows, whose top is this component, defined here
-abbrev pub kept_map_fault : List ℕ → Finished → Option Fault
-kept_map_fault at f =
+abbrev pub finished_map_fault : List ℕ → Finished → Option Fault
+finished_map_fault at f =
     option_or (fault_at at (first_of ((nat_lt 16 (f.levels + 1), TooManyLevels) ∷ (nat_lt 65536 (f.rows + 1), TooManyRows) ∷ [])))
     (option_or (option_and_then (λ a. fault_at a (Some EmptyComponent)) f.first_empty)
     (fault_at at (first_of ((nat_lt (2 ^ 40) f.layouts.regalign.size, MapTooLarge) ∷ []))))
 
-abbrev pub kept_top_row : List ℕ → Finished → Row
-kept_top_row name f =
+abbrev pub finished_top_row : List ℕ → Finished → Row
+finished_top_row name f =
     let size = f.layouts.regalign.size in
     record { names = name ∷ []; kind = f.kind; base = 0; place = Bytes (record { offset = 0; size = size; dims = []; stride = size }); values = f.shown }
 
-abbrev pub kept_around_top : List ℕ → Finished → Surroundings
-kept_around_top name f = record { mode = mode_inside f.kind f.values Regalign; names = name ∷ []; base = 0; bits = 0; reaching = f.assignments.items }
+abbrev pub finished_around_top : List ℕ → Finished → Surroundings
+finished_around_top name f = record { mode = mode_inside f.kind f.values Regalign; names = name ∷ []; base = 0; bits = 0; reaching = f.assignments.items }
 
 abbrev pub told_below : List Finished → List ℕ → Finished → Told
-told_below fs name f = told (kept_top_row name f ∷ []) (kept_rows 16 fs (kept_around_top name f) f.layouts.regalign.spans f.parts.items)
+told_below fs name f = told (finished_top_row name f ∷ []) (finished_rows 16 fs (finished_around_top name f) f.layouts.regalign.spans f.parts.items)
 
 abbrev pub rows_unless : Option Fault → List Row → Result (List Row) Fault
 rows_unless None rows = Ok rows
@@ -173,9 +173,9 @@ fault_or None answer = answer
 fault_or (Some f) answer = Err f
 
 -- the rows of the map with this top, or its first fault
-abbrev pub kept_rows_or_fault : List Finished → List ℕ → List ℕ → Finished → Result (List Row) Fault
-kept_rows_or_fault fs at name f = fault_or (kept_map_fault at f) (rows_unless (told_below fs name f).fault (told_below fs name f).rows)
+abbrev pub finished_rows_or_fault : List Finished → List ℕ → List ℕ → Finished → Result (List Row) Fault
+finished_rows_or_fault fs at name f = fault_or (finished_map_fault at f) (rows_unless (told_below fs name f).fault (told_below fs name f).rows)
 
-abbrev pub kept_answer : List Finished → List ℕ → List ℕ → Option Finished → Result (List Row) Fault
-kept_answer fs at name None = Err (record { kind = NoTop; address = [] })
-kept_answer fs at name (Some f) = kept_rows_or_fault fs at name f
+abbrev pub finished_answer : List Finished → List ℕ → List ℕ → Option Finished → Result (List Row) Fault
+finished_answer fs at name None = Err (record { kind = NoTop; address = [] })
+finished_answer fs at name (Some f) = finished_rows_or_fault fs at name f

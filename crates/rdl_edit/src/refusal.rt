@@ -3,7 +3,7 @@ ghost use Rattle.std.specs.Prelude.{◌≡◌};
 ghost use Rattle.rdl_edit.specs.Faults.{is_memory};
 ghost use Rattle.rdl_edit.specs.Step.{too_large};
 
-use rdl_rewrite::edit as early;
+use rdl_rewrite::edit::PatchRefusal;
 use rdl_tree::address::Address;
 use rdl_tree::fault::{Fault, FaultKind};
 use std::alloc::AllocError;
@@ -52,31 +52,31 @@ fn too_large() -> Fault
     }
 }
 
-impl From<early::Refusal> for Refusal {
+impl From<PatchRefusal> for Refusal {
     ghost use Rattle.rdl_edit.specs.Step.{refusal_of};
     ghost use Rattle.std.specs.Prelude.{◌≡◌};
 
     ghost from_gives = { λ refusal f. f ≡ refusal_of refusal };
 
-    fn from(refusal: early::Refusal) -> Refusal {
+    fn from(refusal: PatchRefusal) -> Refusal {
         match refusal {
-            early::Refusal::NoSuchPath => Refusal::NoSuchPath,
-            early::Refusal::ThroughNamedType => Refusal::ThroughNamedType,
-            early::Refusal::NoSuchSibling => Refusal::NoSuchSibling,
-            early::Refusal::NameTaken => Refusal::NameTaken,
-            early::Refusal::Reserved => Refusal::Reserved,
-            early::Refusal::InUse => Refusal::InUse,
-            early::Refusal::NotSet => Refusal::NotSet,
-            early::Refusal::NotAnInstance => Refusal::NotAnInstance,
-            early::Refusal::NotAddable => Refusal::NotAddable,
-            early::Refusal::TooDeep => Refusal::Faulty(too_large()),
-            early::Refusal::Memory => Refusal::Memory,
+            PatchRefusal::NoSuchPath => Refusal::NoSuchPath,
+            PatchRefusal::ThroughNamedType => Refusal::ThroughNamedType,
+            PatchRefusal::NoSuchSibling => Refusal::NoSuchSibling,
+            PatchRefusal::NameTaken => Refusal::NameTaken,
+            PatchRefusal::Reserved => Refusal::Reserved,
+            PatchRefusal::InUse => Refusal::InUse,
+            PatchRefusal::NotSet => Refusal::NotSet,
+            PatchRefusal::NotAnInstance => Refusal::NotAnInstance,
+            PatchRefusal::NotAddable => Refusal::NotAddable,
+            PatchRefusal::TooDeep => Refusal::Faulty(too_large()),
+            PatchRefusal::Memory => Refusal::Memory,
         }
     }
 }
 
 impl From<AllocError> for Refusal {
-    ghost use Rattle.rdl_edit.specs.declared.edit.Refusal.{Refusal};
+    ghost use Rattle.rdl_edit.specs.declared.refusal.Refusal.{Refusal};
     ghost use Rattle.std.specs.Prelude.{◌≡◌};
 
     ghost from_gives = { λ _ f. f ≡ Refusal.Memory };

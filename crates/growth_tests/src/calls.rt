@@ -219,7 +219,7 @@ fn rows_answer(alloc: Global, text: &str) -> Answer {
 }
 
 /// The lines of the rows of layouts that are kept.
-fn kept_answer(alloc: Global, text: &str) -> Answer {
+fn finished_answer(alloc: Global, text: &str) -> Answer {
     let description = description(alloc, text)?;
     match Kept::of(alloc, &description, None) {
         Ok(kept) => list_text(alloc, kept.rows(alloc, &description)?.as_slice()),
@@ -258,7 +258,7 @@ fn answer(alloc: Global, call: Call, text: &str) -> Answer {
         Call::Elaborate => elaborate_answer(alloc, text),
         Call::Open => open_answer(alloc, text),
         Call::Rows => rows_answer(alloc, text),
-        Call::Kept => kept_answer(alloc, text),
+        Call::Kept => finished_answer(alloc, text),
         Call::Header => header_answer(alloc, text),
     }
 }

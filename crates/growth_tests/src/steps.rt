@@ -15,7 +15,7 @@ use crate::patches::{kept, tried};
 use crate::{Answer, assert_answered, is_same};
 use journal_core::invertible::Invertible;
 use rdl_edit::back::Back;
-use rdl_edit::edit::Refusal;
+use rdl_edit::refusal::Refusal;
 use rdl_edit::map::Map;
 use rdl_rewrite::edit::Edit;
 use rdl_rewrite::rewrite::patches;

@@ -11,7 +11,7 @@ use crate::{Answer, assert_answered, is_same};
 use journal_core::fault::{EditFault, StepFault};
 use journal_core::journal::Journal;
 use rdl_edit::back::Back;
-use rdl_edit::edit::Refusal;
+use rdl_edit::refusal::Refusal;
 use rdl_edit::map::Map;
 use rdl_parse::parse::parse_item;
 use rdl_rewrite::edit::Edit;

@@ -25,7 +25,7 @@ impl Description {
     {
         match address.as_slice() {
             [] => Some(&mut self.items),
-            [number, rest @ ..] => Sixteen::reach(self.items.component_mut(*number)?, rest),
+            [number, rest @ ..] => Sixteen::descend(self.items.component_mut(*number)?, rest),
         }
     }
 }
@@ -67,10 +67,10 @@ impl Of {
 }
 
 /// A way down from a component, along a path of at most `depth` numbers.
-pub trait Reach {
+pub trait Descent {
     ghost depth: { ℕ };
 
-    fn reach<'a>(component: &'a mut Component, path: &[usize]) -> Option<&'a mut Body>
+    fn descend<'a>(component: &'a mut Component, path: &[usize]) -> Option<&'a mut Body>
         requires { length path.now ≤ depth }
         ensures* writes_back { sem 𝓛 (LendsIf component_row body_row component.entry result (λ w. record component.old { body = map_body path.now (λ _. w) component.old.body }) component.old) }
         ensures value { option_copied_mut result ≡ body_at path.now component.old.body };
@@ -80,12 +80,12 @@ pub trait Reach {
 pub struct Here;
 
 /// One number, and then `R`.
-pub struct Deeper<R: Reach>(R);
+pub struct Deeper<R: Descent>(R);
 
-impl Reach for Here {
+impl Descent for Here {
     ghost depth = { 0 };
 
-    fn reach<'a>(component: &'a mut Component, path: &[usize]) -> Option<&'a mut Body> {
+    fn descend<'a>(component: &'a mut Component, path: &[usize]) -> Option<&'a mut Body> {
         match path {
             [] => Some(&mut component.body),
             _ => unreachable!(),
@@ -93,13 +93,13 @@ impl Reach for Here {
     }
 }
 
-impl<R: Reach> Reach for Deeper<R> {
+impl<R: Descent> Descent for Deeper<R> {
     ghost depth = { R.depth + 1 };
 
-    fn reach<'a>(component: &'a mut Component, path: &[usize]) -> Option<&'a mut Body> {
+    fn descend<'a>(component: &'a mut Component, path: &[usize]) -> Option<&'a mut Body> {
         match path {
             [] => Some(&mut component.body),
-            [number, rest @ ..] => R::reach(component.body.component_mut(*number)?, rest),
+            [number, rest @ ..] => R::descend(component.body.component_mut(*number)?, rest),
         }
     }
 }
