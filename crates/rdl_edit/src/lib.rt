@@ -8,3 +8,5 @@ pub mod refusal;
 mod resuming;
 mod touched;
 mod turning;
+
+pub use rdl_rewrite::{edit, place};

@@ -1,10 +1,10 @@
 //! Addresses and bits of a register map.
 #![tactic(auto)]
 
-pub mod bits;
+mod bits;
 mod built_ins;
 mod clean;
-pub mod component;
+mod component;
 mod defaults;
 mod each_member;
 pub mod elaborate;
@@ -18,14 +18,14 @@ pub mod layout;
 mod numbers;
 mod own_values;
 mod part_list;
-pub mod place;
+mod place;
 mod reaches;
 mod round;
 pub mod row;
 pub mod row_values;
 mod rows;
 mod shared;
-pub mod siblings;
+mod siblings;
 mod stored;
 mod targets;
 mod types;

@@ -1,6 +1,6 @@
 //! Siblings that overlap, and resets that are too wide.
 ghost use Rattle.std.specs.Prelude.{◌≡◌, ◌^◌, nat_le, option_copied, false, List, [], ◌∷◌, ◌++◌, IfOk};
-ghost use Rattle.rdl_elab.specs.Faults.{overlap, is_read_only, is_write_only, may_share, is_reset_too_wide};
+ghost use Rattle.rdl_elab.specs.Faults.{overlap, is_read_only, is_write_only, is_reset_too_wide};
 ghost use Rattle.rdl_elab.specs.FinishedRows.{share, overlaps_before};
 ghost use Rattle.rdl_elab.specs.SiblingRanges.{AreApart, AreRanges, AreRangesIfKept};
 ghost use Rattle.rdl_elab.specs.declared.siblings.Sibling.{Sibling};
@@ -198,13 +198,6 @@ fn is_write_only(access: Option<&Value>) -> bool
         Some(Value::Word(word)) => *word == Word::W || *word == Word::W1,
         _ => false,
     }
-}
-
-/// Whether two fields with these values of `sw` may have bits in common.
-pub fn may_share(first: Option<&Value>, second: Option<&Value>) -> bool
-    ensures { result ≡ may_share (option_copied first.entry) (option_copied second.entry) }
-{
-    is_read_only(first) && is_write_only(second) || is_write_only(first) && is_read_only(second)
 }
 
 /// Whether the number has more bits than this.

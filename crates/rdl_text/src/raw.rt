@@ -64,13 +64,6 @@ impl Raw {
         Ok(Raw { text })
     }
 
-    /// What each such text is. It does nothing when it runs.
-    pub fn is_raw(&self)
-        ensures { IsRaw self.now }
-    {
-        let _text = &self.text;
-    }
-
     pub fn as_str(&self) -> &str
         ensures { result.now ≡ self.now }
     {

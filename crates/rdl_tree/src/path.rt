@@ -49,12 +49,6 @@ impl Path {
         }
     }
 
-    pub fn from_vec(segments: Vec<Segment>) -> Path
-        ensures { result ≡ segments.items }
-    {
-        Path { segments }
-    }
-
     pub fn as_slice(&self) -> &[Segment]
         ensures { result.now ≡ self.now }
     {
