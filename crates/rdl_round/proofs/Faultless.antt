@@ -1,5 +1,5 @@
 -- A map without a fault is within the limits, and one whose names aren't reserved is then one that a text can spell.
-use Rattle.std.proofs.Common.{◌≡◌, ℕ, suc, Bool, true, false, true≢false, ◌&&◌, ◌||◌, not, List, [], ◌∷◌, ◌++◌, length, Option, Some, None, IfSome, Ok, refl, ap, sym, ◌∙◌, is_ok, not-suc-le-zero}
+use Rattle.std.proofs.Common.{◌≡◌, ℕ, suc, Bool, true, false, true≢false, ◌&&◌, ◌||◌, not, List, [], ◌∷◌, ◌++◌, length, Option, Some, None, IfSome, Ok, refl, ap, sym, ◌∙◌, not-suc-le-zero}
 use Rattle.std.proofs.Math.Bool.{and-true}
 use Rattle.std.proofs.lemmas.Bool.{ltb-false}
 use Rattle.std.proofs.lemmas.Option.{none-some}
@@ -22,8 +22,6 @@ use Rattle.rdl_tree.specs.declared.value.Value.{Value}
 use Rattle.rdl_scope.specs.ItemFaults.{may_instantiate, has_dims, wrong_part_of_kind, wrong_part, wrong_number, first_of, instance_fault, own_fault, default_fault, dynamic_fault, excluded_by, reached_before, is_of, instance_kind, target_kind, item_fault, fault_at, first_fault, is_too_large, fault_of}
 use Rattle.rdl_scope.specs.Target.{instance_before}
 use Rattle.rdl_scope.specs.Value.{own_before, last_default}
-use Rattle.rdl_elab.specs.Faults.{unless_fault, elaborated}
-use Rattle.rdl_elab.specs.declared.row.Row.{Row}
 use Rattle.rdl_round.specs.Spellable.{IsProperty, IsTarget, AreBrackets, IsPlain, IsHolder, IsSpellable}
 use Rattle.rdl_round.proofs.FreeNames.{HasFreeNames, HasFreeName, AreNamesFree}
 use Rattle.rdl_round.proofs.KnownNames.{known-spelled, reached-free}
@@ -144,13 +142,6 @@ clear d h = by (is_too_large d) h
     by : (z : Bool) → ◌≡◌ {A = Option Fault} (elim z [ true ↦ Some (record { kind = DescriptionTooLarge; address = [] }) | false ↦ first_fault d None [] d 0 d ]) None → (z ≡ false) × (first_fault d None [] d 0 d ≡ None)
     by true e = absurd (none-some (record { kind = DescriptionTooLarge; address = [] }) (sym e))
     by false e = (refl, e)
-
-pub without-fault : (d : Items) (option : Option (List ℕ)) (rows : List Row) → elaborated d option ≡ Ok rows → fault_of d ≡ None
-without-fault d option rows e = by (fault_of d) e
-  where
-    by : (o : Option Fault) → unless_fault d option o ≡ Ok rows → o ≡ None
-    by None h = refl
-    by (Some fault) h = absurd (true≢false (sym (ap is_ok h)))
 
 pub fitting : (d : Items) → fault_of d ≡ None → IsWithinLimits d
 fitting d h =

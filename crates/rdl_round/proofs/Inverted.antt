@@ -26,7 +26,7 @@ use Rattle.rdl_tree.specs.declared.value.Value.{Value}
 use Rattle.rdl_tree.proofs.Places.{length-holder}
 use Rattle.rdl_parse.specs.Class.{class, is_unused}
 use Rattle.rdl_parse.specs.Session.{IsItemAddress}
-use Rattle.rdl_round.specs.Histories.{IsWritable}
+use Rattle.rdl_round.specs.Writable.{IsWritable}
 use Rattle.rdl_round.specs.OfWords.{AreNames, IsValue, IsShellOfWords, IsPlainOfWords, IsHolderOfWords, IsOfWords}
 use Rattle.rdl_round.specs.Sessions.{IsWritableItem, IsWritablePart, IsWritablePatch, IsDropWithin, AreDropsWithin}
 use Rattle.rdl_round.specs.Spellable.{IsFree, IsTarget, IsShell, IsPlain, IsHolder, IsSpellable}

@@ -18,7 +18,7 @@ use Rattle.rdl_parse.specs.Spelling.{SpellsItems}
 use Rattle.rdl_write.specs.ItemText.{item_text}
 use Rattle.rdl_write.specs.MapText.{map_text}
 use Rattle.rdl_write.specs.SessionLines.{written, session_lines}
-use Rattle.rdl_round.specs.Histories.{IsWritable}
+use Rattle.rdl_round.specs.Writable.{IsWritable}
 use Rattle.rdl_round.specs.OfWords.{IsOfWords}
 use Rattle.rdl_round.specs.Sessions.{IsWritableItem, IsWritablePatch, AreWritable}
 use Rattle.rdl_round.specs.Spellable.{IsSpellable}

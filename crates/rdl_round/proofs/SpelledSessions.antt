@@ -18,7 +18,7 @@ use Rattle.rdl_parse.proofs.SessionMeant.{name-utf8}
 use Rattle.rdl_write.specs.ItemText.{item_text}
 use Rattle.rdl_write.specs.MapText.{map_text}
 use Rattle.rdl_write.specs.SessionLines.{written, session_lines}
-use Rattle.rdl_round.specs.Histories.{IsWritable}
+use Rattle.rdl_round.specs.Writable.{IsWritable}
 use Rattle.rdl_round.specs.Sessions.{IsWritableItem, IsWritablePatch, AreWritable, IsSpelledMap, IsSpelledPatch, AreSpelled}
 use Rattle.rdl_round.proofs.Endings.{item-text}
 use Rattle.rdl_round.proofs.MadeOfWords.{spelled-made, statement-of-words}

@@ -1,6 +1,5 @@
 pub mod WrittenWords
 pub mod Spellable
 pub mod OfWords
-pub mod NewParts
-pub mod Histories
+pub mod Writable
 pub mod Sessions

@@ -1,7 +1,6 @@
--- Which maps and patches a written session gives back, and which history a session spells.
+-- Which maps and patches a written session gives back.
 -- own: SystemRDL 2.0 has no sessions.
-use Rattle.std.specs.Prelude.{◌≡◌, ◌≢◌, ℕ, ◌<◌, ◌^◌, List, [], ◌∷◌, ◌++◌, IfSome, All}
-use Rattle.journal_core.specs.History.{History}
+use Rattle.std.specs.Prelude.{◌≡◌, ℕ, ◌<◌, ◌^◌, List, [], ◌∷◌, IfSome, All}
 use Rattle.rdl_tree.specs.ItemAt.{item_at}
 use Rattle.rdl_tree.specs.Items.{Items}
 use Rattle.rdl_tree.specs.Limits.{IsWithinLimits}
@@ -13,13 +12,8 @@ use Rattle.rdl_tree.specs.declared.part.Part.{Part}
 use Rattle.rdl_tree.specs.declared.part.Part.TheVariants.{OfShell, OfValue, OfTarget, OfType, OfDefine}
 use Rattle.rdl_tree.specs.declared.patch.Patch.{Patch}
 use Rattle.rdl_tree.specs.declared.patch.Patch.TheVariants.{Insert, Delete, Shift, Exchange}
-use Rattle.rdl_parse.specs.Session.{IsItemAddress, IsFreeName, SpellsPatch, SpellsMap, SpellsSession}
-use Rattle.rdl_edit.specs.Step.{State}
-use Rattle.rdl_run.specs.Output.{Output, Wrote}
-use Rattle.rdl_run.specs.Sessions.{LeadBack, LeadOn}
-use Rattle.rdl_run.specs.declared.run.Options.{Options}
-use Rattle.rdl_write.specs.Texts.{newline}
-use Rattle.rdl_round.specs.Histories.{IsWritable}
+use Rattle.rdl_parse.specs.Session.{IsItemAddress, IsFreeName, SpellsPatch, SpellsMap}
+use Rattle.rdl_round.specs.Writable.{IsWritable}
 
 -- ---- What can be written.
 
@@ -66,33 +60,3 @@ IsSpelledPatch patch = (lines : PatchLines) × SpellsPatch lines patch
 
 abbrev pub AreSpelled : List (List Patch) → Type 0
 AreSpelled steps = All (All IsSpelledPatch) steps
-
--- ---- The session of a history.
-
--- the bytes spell this map, with steps that lead back from it and on, through all other maps of the history
-pub record SpellsHistory (bytes : List ℕ) (now : State) (h : History State) : Type 0 where
-  pub undo : List (List Patch)
-  pub redo : List (List Patch)
-  pub back : LeadBack h undo
-  pub on : LeadOn h redo
-  pub spelled : SpellsSession bytes now.description undo redo
-
--- ---- Runs that stop and go on.
-
--- a run of a map or session that leaves a session
-pub record LeavesSession (options : Options) (map script session : List ℕ) : Type 0 where
-  pub out : Output
-  pub wrote : Wrote options map script out
-  pub session_is : out.session ≡ session
-  pub some : session ≢ []
-
--- what the next run reads where a map was run with these scripts, the last one first: the map, or the session that the run before
--- left, which read the map or a session likewise
-abbrev pub GoesOnFrom : Options → (map : List ℕ) → (scripts : List (List ℕ)) → (bytes : List ℕ) → Type 0
-GoesOnFrom options map [] bytes = bytes ≡ map
-GoesOnFrom options map (script ∷ scripts) bytes = (before : List ℕ) × GoesOnFrom options map scripts before × LeavesSession options before script bytes
-
--- these scripts, the last one first, and one more behind them, as one
-abbrev pub joined : (scripts : List (List ℕ)) → (more : List ℕ) → List ℕ
-joined [] more = more
-joined (script ∷ scripts) more = joined scripts (script ++ newline ++ more)

@@ -1,8 +1,6 @@
-//! Laws of reading what was written. Nothing here does anything when it runs, but for one call that writes a session and
-//! reads it.
+//! Laws of reading what was written: a map, and a session. Nothing here does anything when it runs, but for one call that
+//! writes a session and reads it.
 #![tactic(auto)]
 
-pub mod edits;
 pub mod laws;
-pub mod scripts;
 pub mod sessions;

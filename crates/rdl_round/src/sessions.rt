@@ -13,11 +13,7 @@ ghost use Rattle.rdl_parse.specs.Parsing.{SpellsItemText};
 ghost use Rattle.rdl_parse.specs.Session.{SpellsSession};
 ghost use Rattle.rdl_write.specs.ItemText.{item_text};
 ghost use Rattle.rdl_write.specs.SessionLines.{session_lines};
-ghost use Rattle.rdl_rewrite.specs.Patches.{patches};
-ghost use Rattle.rdl_rewrite.specs.declared.edit.Edit.{Edit};
-ghost use Rattle.rdl_edit.specs.Step.{State, step};
-ghost use Rattle.rdl_round.specs.Histories.{IsWritable};
-ghost use Rattle.rdl_round.specs.NewParts.{IsEditOfWords, IsEditSpellable};
+ghost use Rattle.rdl_round.specs.Writable.{IsWritable};
 ghost use Rattle.rdl_round.specs.OfWords.{IsOfWords};
 ghost use Rattle.rdl_round.specs.Sessions.{IsWritablePatch, AreWritable, AreDropsWithin, IsSpelledMap, AreSpelled};
 ghost use Rattle.rdl_round.specs.Spellable.{IsSpellable};
@@ -65,26 +61,6 @@ pub fn spelled_steps_are_writable()
 pub fn inverses_are_writable()
     ensures back { (patches : List Patch) (d : Items) → IsWritable d → All IsWritablePatch patches → AreDropsWithin patches d → All IsWritablePatch (inverses patches d) }
     ensures place { (patches : List Patch) (d : Items) → IsWritable d → All IsWritablePatch patches → IsWithinLimits (image patches d) → IsWritable (image patches d) }
-{}
-
-/// The patches of an accepted edit can be written, where the map can and what the edit brings, and so can those that take
-/// them back.
-pub fn patches_of_edits_are_writable()
-    ensures on { (old : State) (e : Edit) (new : State) → step old e ≡ Ok new → IsWritable old.description → IsEditOfWords e → IsEditSpellable e → All IsWritablePatch (patches old.description e) }
-    ensures back { (old : State) (e : Edit) (new : State) → step old e ≡ Ok new → IsWritable old.description → IsEditOfWords e → IsEditSpellable e
-        → All IsWritablePatch (inverses (patches old.description e) old.description) }
-{}
-
-/// What an accepted edit brings stands in the new map: where that can be written, so can what the edit brings.
-pub fn edits_to_writable_maps_bring_words()
-    ensures { (old : State) (e : Edit) (new : State) → step old e ≡ Ok new → IsWritable new.description → IsEditOfWords e × IsEditSpellable e }
-{}
-
-/// So the patches of an accepted edit between maps that can be written can be written, and so can those that take them back.
-pub fn patches_between_writable_maps_are_writable()
-    ensures on { (old : State) (e : Edit) (new : State) → step old e ≡ Ok new → IsWritable old.description → IsWritable new.description → All IsWritablePatch (patches old.description e) }
-    ensures back { (old : State) (e : Edit) (new : State) → step old e ≡ Ok new → IsWritable old.description → IsWritable new.description
-        → All IsWritablePatch (inverses (patches old.description e) old.description) }
 {}
 
 /// What `parse_session` answers for the text that `session` wrote: the same map and the same steps, but for want of memory

@@ -1,8 +1,0 @@
-use Rattle.rdl_round.proofs.Standing.{step-patches-between}
-use Rattle.rdl_round.proofs.sessions.patches_between_writable_maps_are_writable.Goals as goal
-
-pub returns-clause-on : goal.returns-clause-on
-returns-clause-on c = λ old e new led from to. (step-patches-between old e new led from to).0
-
-pub returns-clause-back : goal.returns-clause-back
-returns-clause-back c = λ old e new led from to. (step-patches-between old e new led from to).1

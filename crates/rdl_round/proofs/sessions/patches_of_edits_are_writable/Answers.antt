@@ -1,8 +1,0 @@
-use Rattle.rdl_round.proofs.EditBrings.{step-patches}
-use Rattle.rdl_round.proofs.sessions.patches_of_edits_are_writable.Goals as goal
-
-pub returns-clause-on : goal.returns-clause-on
-returns-clause-on c = λ old e new led w words spells. (step-patches old e new led w words spells).on
-
-pub returns-clause-back : goal.returns-clause-back
-returns-clause-back c = λ old e new led w words spells. (step-patches old e new led w words spells).back

@@ -1,0 +1,14 @@
+use Rattle.run_laws.proofs.Scripted.{run-reads-back, place-of-run-reads-back, output-reads-back, output-short}
+use Rattle.run_laws.proofs.scripts.runs_read_back.Goals as goal
+
+pub returns-clause-all : goal.returns-clause-all
+returns-clause-all c = run-reads-back
+
+pub returns-clause-current : goal.returns-clause-current
+returns-clause-current c = place-of-run-reads-back
+
+pub returns-clause-written : goal.returns-clause-written
+returns-clause-written c = output-reads-back
+
+pub returns-clause-short : goal.returns-clause-short
+returns-clause-short c = output-short

@@ -1,0 +1,17 @@
+use Rattle.run_laws.proofs.SavedRuns.{saved-session, saved-opens, session-spelled, session-opens}
+use Rattle.run_laws.proofs.Stops.{goes-on-own}
+use Rattle.run_laws.proofs.scripts.saved_sessions_read_back.Goals as goal
+
+pub returns-clause-text_spelled : goal.returns-clause-text_spelled
+returns-clause-text_spelled c = saved-session
+
+pub returns-clause-text_opened : goal.returns-clause-text_opened
+returns-clause-text_opened c = saved-opens
+
+pub returns-clause-spelled : goal.returns-clause-spelled
+returns-clause-spelled c = λ options map bytes script scripts out unnamed from wrote ran is some.
+    session-spelled options bytes script out (goes-on-own options map scripts bytes unnamed from) wrote ran is some
+
+pub returns-clause-opened : goal.returns-clause-opened
+returns-clause-opened c = λ options map bytes script scripts out unnamed from wrote ran is some.
+    session-opens options bytes script out (goes-on-own options map scripts bytes unnamed from) wrote ran is some

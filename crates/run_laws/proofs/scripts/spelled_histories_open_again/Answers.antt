@@ -1,0 +1,5 @@
+use Rattle.run_laws.proofs.OpenedAgain.{opened-again}
+use Rattle.run_laws.proofs.scripts.spelled_histories_open_again.Goals as goal
+
+pub returns : goal.returns
+returns c = opened-again

@@ -1,0 +1,3 @@
+pub mod NewParts
+pub mod Histories
+pub mod Stops
