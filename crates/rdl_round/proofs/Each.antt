@@ -1,5 +1,5 @@
 -- What holds of each item of a description, and of those inside.
-use Rattle.std.proofs.Common.{ℕ, zero, suc, Bool, true, false, if◌then◌else◌, List, [], ◌∷◌, Option, Some, None, All, drop, insert, remove, take, slice_get, slice_set}
+use Rattle.std.proofs.Common.{ℕ, zero, suc, Bool, true, false, if◌then◌else◌, List, [], ◌∷◌, ◌++◌, Option, Some, None, All, drop, insert, remove, take, slice_get, slice_set}
 use Rattle.std.specs.Prelude.{IfSome, option_and_then}
 use Rattle.std.proofs.lemmas.List.Elements.{All-nil, All-cons, All-head, All-tail, All-append, All-set, All-take, All-drop}
 use Rattle.rdl_tree.specs.Address.{inner, map_inner, body_at, map_body}
@@ -64,6 +64,15 @@ module _ (P : Plain → Type 0) (H : Holder → Type 0) where
   pub each-of : (xs : List Item) → All (Fits P H) xs → Each P H (items_of xs)
   each-of [] f = tt
   each-of (x ∷ xs) f = each-add x (items_of xs) (All-head (Fits P H) x xs f) (each-of xs (All-tail (Fits P H) x xs f))
+
+  pub together : (xs ys : List Item) → Each P H (items_of xs) → Each P H (items_of ys) → Each P H (items_of (xs ++ ys))
+  together [] ys h k = k
+  together (Define n c ∷ xs) ys h k = (h.0, h.1, together xs ys h.2 k)
+  together (Instance s (Named t) ∷ xs) ys h k = (h.0, together xs ys h.1 k)
+  together (Instance s (Anonymous c) ∷ xs) ys h k = (h.0, h.1, together xs ys h.2 k)
+  together (Own p v ∷ xs) ys h k = (h.0, together xs ys h.1 k)
+  together (Default p v ∷ xs) ys h k = (h.0, together xs ys h.1 k)
+  together (Dynamic t p v ∷ xs) ys h k = (h.0, together xs ys h.1 k)
 
   pub fits-get : (xs : List Item) (n : ℕ) → All (Fits P H) xs → IfSome (slice_get xs n) (Fits P H)
   fits-get [] n f = tt

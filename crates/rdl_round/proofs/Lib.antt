@@ -1,5 +1,6 @@
 pub mod Classes
 pub mod Statements
+pub mod Suits
 pub mod Spelled
 pub mod Parts
 pub mod Numerals
