@@ -5,6 +5,7 @@ use Rattle.std.specs.Option.{is_some}
 use Rattle.std.proofs.lemmas.Bool.{cases_Bool}
 use Rattle.std.proofs.lemmas.List.Folds.{list_any-append}
 use Rattle.std.proofs.lemmas.Slice.Eq.{bytes_eq-Decides}
+use Rattle.rdl_tree.specs.ItemAt.{item_at}
 use Rattle.rdl_tree.specs.Items.{Items, no_items, plain, holder, Plain, named, own, default, dynamic, Holder, define, anonymous}
 use Rattle.rdl_tree.specs.View.{list_of, own_body}
 use Rattle.rdl_tree.specs.Address.{inner, body_at}
@@ -17,7 +18,7 @@ use Rattle.rdl_tree.specs.declared.description.Item.TheVariants.{Define, Instanc
 use Rattle.rdl_tree.specs.declared.description.Of.{Of}
 use Rattle.rdl_tree.specs.declared.description.Of.TheVariants.{Named, Anonymous}
 use Rattle.rdl_tree.proofs.Rounds.{inner-slice_get}
-use Rattle.rdl_scope.specs.Types.{item, type_at, type_from, type_of, held_by, component_of, component_at}
+use Rattle.rdl_scope.specs.Types.{type_at, type_from, type_of, held_by, component_of, component_at}
 use Rattle.rdl_scope.specs.ItemFaults.{item_fault, instance_fault, instance_kind, kind_at, fault_of}
 use Rattle.rdl_scope.specs.Closed.{Made, Standing, nothing, lookup, with_type, head_at, parts, after_plain, after_holder, before, standing_at, component}
 use Rattle.rdl_scope.proofs.Accepted.{clear-root, clear-inside}
@@ -43,7 +44,7 @@ own-held (Own p v) c e = cc
 own-held (Default p v) c e = cc
 own-held (Dynamic t p v) c e = cc
 
-held-body : (a : List ℕ) (t : Items) (c : Component) → option_and_then own_component (item a t) ≡ Some c → body_at a t ≡ Some c.body
+held-body : (a : List ℕ) (t : Items) (c : Component) → option_and_then own_component (item_at a t) ≡ Some c → body_at a t ≡ Some c.body
 held-body [] t c e = cc
 held-body (k ∷ []) t c e = ap (option_and_then (body_at [])) (inner-slice_get k t) ∙ by (slice_get (list_of t) k) e
   where
@@ -52,8 +53,8 @@ held-body (k ∷ []) t c e = ap (option_and_then (body_at [])) (inner-slice_get 
     by (Some x) e = ap (option_and_then (body_at [])) (own-held x c e)
 held-body (k ∷ j ∷ a) t c e = by (inner k t) (λ u. held-body (j ∷ a) u c) e
   where
-    by : (o : Option Items) → ((u : Items) → option_and_then own_component (item (j ∷ a) u) ≡ Some c → body_at (j ∷ a) u ≡ Some c.body)
-        → option_and_then own_component (option_and_then (item (j ∷ a)) o) ≡ Some c → option_and_then (body_at (j ∷ a)) o ≡ Some c.body
+    by : (o : Option Items) → ((u : Items) → option_and_then own_component (item_at (j ∷ a) u) ≡ Some c → body_at (j ∷ a) u ≡ Some c.body)
+        → option_and_then own_component (option_and_then (item_at (j ∷ a)) o) ≡ Some c → option_and_then (body_at (j ∷ a)) o ≡ Some c.body
     by None ih e = cc
     by (Some u) ih e = ih u e
 
@@ -283,12 +284,12 @@ defined-inside zero (holder o body rest) u n e h =
     has-inside n o body rest (ap (λ z. has_name n (defined_names z)) same ∙ h)
 defined-inside (suc k) (holder o body rest) u n e h = has-rest n o body rest (defined-inside k rest u n e h)
 
-defined-at : (a : List ℕ) (t : Items) (n : List ℕ) (c : Component) → item a t ≡ Some (Define n c) → has_name n (defined_names t) ≡ true
+defined-at : (a : List ℕ) (t : Items) (n : List ℕ) (c : Component) → item_at a t ≡ Some (Define n c) → has_name n (defined_names t) ≡ true
 defined-at [] t n c e = cc
 defined-at (k ∷ []) t n c e = defined-here k t n c e
 defined-at (k ∷ j ∷ a) t n c e = by (inner k t) refl (λ u. defined-at (j ∷ a) u n c) e
   where
-    by : (o : Option Items) → inner k t ≡ o → ((u : Items) → item (j ∷ a) u ≡ Some (Define n c) → has_name n (defined_names u) ≡ true) → option_and_then (item (j ∷ a)) o ≡ Some (Define n c) → has_name n (defined_names t) ≡ true
+    by : (o : Option Items) → inner k t ≡ o → ((u : Items) → item_at (j ∷ a) u ≡ Some (Define n c) → has_name n (defined_names u) ≡ true) → option_and_then (item_at (j ∷ a)) o ≡ Some (Define n c) → has_name n (defined_names t) ≡ true
     by None is ih e = cc
     by (Some u) is ih e = defined-inside k t u n is (ih u e)
 
@@ -296,7 +297,7 @@ defined-at (k ∷ j ∷ a) t n c e = by (inner k t) refl (λ u. defined-at (j �
 
 module _ (d : Items) (accepted : fault_of d ≡ None) (way name : List ℕ) (Good : List (List ℕ × Made) → Type 0)
     (resolve : (t : List ℕ) (ts : List (List ℕ × Made)) (m : Made) → Good ts → lookup t ts ≡ Some m → number_in (names ts) t ≡ number_in (new_names way name ts) (its_name way name t m))
-    (grow : (x : List ℕ × Made) (ts : List (List ℕ × Made)) (c : Component) → item x.1.head.at d ≡ Some (Define x.0 c) → Good ts → Good (x ∷ ts)) where
+    (grow : (x : List ℕ × Made) (ts : List (List ℕ × Made)) (c : Component) → item_at x.1.head.at d ≡ Some (Define x.0 c) → Good ts → Good (x ∷ ts)) where
   -- a body, with what stands at its beginning
   record IsBody (b : List ℕ) (e : Standing) (t : Items) : Type 0 where
     body : body_at b d ≡ Some t
@@ -389,7 +390,7 @@ module _ (d : Items) (accepted : fault_of d ≡ None) (way name : List ℕ) (Goo
   items-same (holder (define x k) body rest) b e t n f is h good =
       let at = b ++ n ∷ [] in
       let c : Made = record { head = head_at at k body f; parts = parts f at 0 body } in
-      let here : item at d ≡ Some (Define x (record { kind = k; body = body })) = item-here b d t n is.body ∙ item-first b e t n f (holder (define x k) body rest) h in
+      let here : item_at at d ≡ Some (Define x (record { kind = k; body = body })) = item-here b d t n is.body ∙ item-first b e t n f (holder (define x k) body rest) h in
       let more = items-same rest b e t (suc n) (with_type x c f) is (behind-holder b e t n f (define x k) body rest h) (grow (x, c) f.types (record { kind = k; body = body }) here good) in
       let within = items-same body at f body 0 f (own-body-is b e t n f (define x k) body rest is h) (all-rest at f body) good in
       λ i. holder (define (length-new way name f.types i ∷ []) k) (within i) (more i)
@@ -406,22 +407,22 @@ module _ (d : Items) (accepted : fault_of d ≡ None) (way name : List ℕ) (Goo
 -- ---- Of a definition, and of another item.
 
 module _ (d : Items) (accepted : fault_of d ≡ None) (way name : List ℕ) where
-  apart-from : (x : List ℕ × Made) (c : Component) → ((was : List ℕ) (y : Component) → item way d ≡ Some (Define was y) → ⊥) → item x.1.head.at d ≡ Some (Define x.0 c) → same x.1.head.at way ≡ false
+  apart-from : (x : List ℕ × Made) (c : Component) → ((was : List ℕ) (y : Component) → item_at way d ≡ Some (Define was y) → ⊥) → item_at x.1.head.at d ≡ Some (Define x.0 c) → same x.1.head.at way ≡ false
   apart-from x c other is = by (cases_Bool (same x.1.head.at way))
     where
       by : ((same x.1.head.at way ≡ true) ⊎ (same x.1.head.at way ≡ false)) → same x.1.head.at way ≡ false
-      by (inl e) = absurd (other x.0 c (ap (λ a. item a d) (sym ((bytes_eq-Decides x.1.head.at way).0 e)) ∙ is))
+      by (inl e) = absurd (other x.0 c (ap (λ a. item_at a d) (sym ((bytes_eq-Decides x.1.head.at way).0 e)) ∙ is))
       by (inr e) = e
 
   -- no definition gets the name
-  of-another : ((was : List ℕ) (y : Component) → item way d ≡ Some (Define was y) → ⊥) → skeleton (renamed_items d way name [] 0 d) ≡ skeleton d
+  of-another : ((was : List ℕ) (y : Component) → item_at way d ≡ Some (Define was y) → ⊥) → skeleton (renamed_items d way name [] 0 d) ≡ skeleton d
   of-another other = whole-same d accepted way name (OthersOnly way name) (other-same way name) (λ x ts c is good. (apart-from x c other is, good)) tt
 
   -- this definition gets it, and none has it yet
-  of-definition : (was : List ℕ) (y : Component) → item way d ≡ Some (Define was y) → has_name name (defined_names d) ≡ false → skeleton (renamed_items d way name [] 0 d) ≡ skeleton d
+  of-definition : (was : List ℕ) (y : Component) → item_at way d ≡ Some (Define was y) → has_name name (defined_names d) ≡ false → skeleton (renamed_items d way name [] 0 d) ≡ skeleton d
   of-definition was y there free = whole-same d accepted way name (HaveOldNames way name was) (number-same way name was) (λ x ts c is good. (new x c is, old x c is, good)) tt
     where
-      new : (x : List ℕ × Made) (c : Component) → item x.1.head.at d ≡ Some (Define x.0 c) → bytes_eq x.0 name ≡ false
+      new : (x : List ℕ × Made) (c : Component) → item_at x.1.head.at d ≡ Some (Define x.0 c) → bytes_eq x.0 name ≡ false
       new x c is = by (cases_Bool (bytes_eq x.0 name))
         where
           by : ((bytes_eq x.0 name ≡ true) ⊎ (bytes_eq x.0 name ≡ false)) → bytes_eq x.0 name ≡ false
@@ -431,12 +432,12 @@ module _ (d : Items) (accepted : fault_of d ≡ None) (way name : List ℕ) wher
               cc
           by (inr e) = e
 
-      old : (x : List ℕ × Made) (c : Component) → item x.1.head.at d ≡ Some (Define x.0 c) → same x.1.head.at way ≡ true → x.0 ≡ was
+      old : (x : List ℕ × Made) (c : Component) → item_at x.1.head.at d ≡ Some (Define x.0 c) → same x.1.head.at way ≡ true → x.0 ≡ was
       old x c is e =
-          let both : Some (Define x.0 c) ≡ Some (Define was y) = sym is ∙ ap (λ a. item a d) ((bytes_eq-Decides x.1.head.at way).0 e) ∙ there in
+          let both : Some (Define x.0 c) ≡ Some (Define was y) = sym is ∙ ap (λ a. item_at a d) ((bytes_eq-Decides x.1.head.at way).0 e) ∙ there in
           cc
 
-  by-item : (x : Option Item) → item way d ≡ x → is_taken d way name x ≡ false → skeleton (renamed_items d way name [] 0 d) ≡ skeleton d
+  by-item : (x : Option Item) → item_at way d ≡ x → is_taken d way name x ≡ false → skeleton (renamed_items d way name [] 0 d) ≡ skeleton d
   by-item None is free = of-another (λ was y e. let no : None ≡ Some (Define was y) = sym is ∙ e in cc)
   by-item (Some (Define n c)) is free = of-definition n c is free
   by-item (Some (Instance s o)) is free = of-another (λ was y e. let no : Some (Instance s o) ≡ Some (Define was y) = sym is ∙ e in cc)
@@ -444,13 +445,13 @@ module _ (d : Items) (accepted : fault_of d ≡ None) (way name : List ℕ) wher
   by-item (Some (Default p v)) is free = of-another (λ was y e. let no : Some (Default p v) ≡ Some (Define was y) = sym is ∙ e in cc)
   by-item (Some (Dynamic t p v)) is free = of-another (λ was y e. let no : Some (Dynamic t p v) ≡ Some (Define was y) = sym is ∙ e in cc)
 
-  by-tests : (new : Items) (taken reserved : Bool) → is_taken d way name (item way d) ≡ taken → (if taken then Err NameTaken else if reserved then Err Reserved else Ok (renamed_items d way name [] 0 d)) ≡ Ok new
+  by-tests : (new : Items) (taken reserved : Bool) → is_taken d way name (item_at way d) ≡ taken → (if taken then Err NameTaken else if reserved then Err Reserved else Ok (renamed_items d way name [] 0 d)) ≡ Ok new
       → skeleton new ≡ skeleton d
   by-tests new true reserved f e = cc
   by-tests new false true f e = cc
   by-tests new false false f e =
       let same : renamed_items d way name [] 0 d ≡ new = cc in
-      ap skeleton (sym same) ∙ by-item (item way d) refl f
+      ap skeleton (sym same) ∙ by-item (item_at way d) refl f
 
 pub renaming-same : (d new : Items) (way name : List ℕ) → fault_of d ≡ None → renamed d way name ≡ Ok new → skeleton new ≡ skeleton d
-renaming-same d new way name accepted e = by-tests d accepted way name new (is_taken d way name (item way d)) (is_reserved name) refl e
+renaming-same d new way name accepted e = by-tests d accepted way name new (is_taken d way name (item_at way d)) (is_reserved name) refl e

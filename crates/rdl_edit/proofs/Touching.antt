@@ -13,7 +13,7 @@ use Rattle.rdl_tree.specs.declared.shell.Shell.{Shell}
 use Rattle.rdl_tree.specs.declared.description.Of.{Of}
 use Rattle.rdl_scope.specs.ItemFaults.{fault_of}
 use Rattle.rdl_scope.specs.OneItem.{NoOtherFault}
-use Rattle.rdl_scope.proofs.OneChange.{item-item_at, new_shell, new_value, last_dynamic}
+use Rattle.rdl_scope.proofs.OneChange.{new_shell, new_value, last_dynamic}
 use Rattle.rdl_elab.specs.HarmlessPlaces.{IsLast}
 use Rattle.rdl_elab.specs.Skeleton.{skeleton}
 use Rattle.rdl_elab.specs.Harmless.{IsHarmless}
@@ -56,13 +56,13 @@ one-still p d h = skeleton-stays (p ∷ []) d (h, tt)
 
 -- a part by which no other item has a fault
 pub one-alone : (at : List ℕ) (part : Part) (x : Item) (d : Items) → fault_of d ≡ None → item_at at d ≡ Some x → IsAlone part x → NoOtherFault (patched (Exchange at part) d) at
-one-alone at (OfShell new) (Instance s o) d none is h = new_shell d at s new o none (item-item_at at d ∙ is) h
+one-alone at (OfShell new) (Instance s o) d none is h = new_shell d at s new o none is h
 one-alone at (OfValue new) (Instance s o) d none is h = absurd h
 one-alone at (OfTarget new) (Instance s o) d none is h = absurd h
 one-alone at (OfType new) (Instance s o) d none is h = absurd h
 one-alone at (OfDefine new) (Instance s o) d none is h = absurd h
 one-alone at (OfShell new) (Dynamic t p v) d none is h = absurd h
-one-alone at (OfValue new) (Dynamic t p v) d none is h = new_value d at t p v new none (item-item_at at d ∙ is)
+one-alone at (OfValue new) (Dynamic t p v) d none is h = new_value d at t p v new none is
 one-alone at (OfTarget new) (Dynamic t p v) d none is h = absurd h
 one-alone at (OfType new) (Dynamic t p v) d none is h = absurd h
 one-alone at (OfDefine new) (Dynamic t p v) d none is h = absurd h

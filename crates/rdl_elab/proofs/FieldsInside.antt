@@ -1,6 +1,7 @@
 -- In a description without a fault, fields alone stand in a register.
 use Rattle.std.proofs.Common.{◌≡◌, ℕ, List, [], ◌∷◌, ◌++◌, true, Some, None, refl, ap, sym, ◌∙◌}
 use Rattle.std.specs.Prelude.{option_and_then, slice_get}
+use Rattle.rdl_tree.specs.ItemAt.{item_at}
 use Rattle.rdl_tree.specs.Items.{Items}
 use Rattle.rdl_tree.specs.View.{list_of}
 use Rattle.rdl_tree.specs.declared.shell.Shell.{Shell}
@@ -8,7 +9,6 @@ use Rattle.rdl_tree.specs.declared.shell.Kind.{Kind}
 use Rattle.rdl_tree.specs.declared.shell.Kind.TheVariants.{Addrmap, Regfile, Reg, Field}
 use Rattle.rdl_tree.specs.declared.description.Item.{Item}
 use Rattle.rdl_tree.specs.declared.description.Item.TheVariants.{Instance}
-use Rattle.rdl_scope.specs.Types.{item}
 use Rattle.rdl_scope.specs.Target.{body_of, number_of}
 use Rattle.rdl_scope.specs.ItemFaults.{may_instantiate, kind_at, instance_kind, fault_of}
 use Rattle.rdl_scope.specs.Closed.{Head, Parts, no_parts, part, Made, component}
@@ -24,7 +24,7 @@ field-alone Regfile e = cc
 field-alone Reg e = cc
 field-alone Field e = refl
 
-item-place : (a : List ℕ) (d : Items) (x : Item) → item a d ≡ Some x → a ≡ body_of a ++ number_of a ∷ []
+item-place : (a : List ℕ) (d : Items) (x : Item) → item_at a d ≡ Some x → a ≡ body_of a ++ number_of a ∷ []
 item-place [] d x e = cc
 item-place (k ∷ []) d x e = refl
 item-place (k ∷ j ∷ a) d x e = ap (λ c. k ∷ c) (parted (j ∷ a) k j a refl)
@@ -41,7 +41,7 @@ kind-allowed d b m at s h inside none holds f =
     let within = as_found d h.at (record { head = h; parts = inside }) f.component in
     let place : at ≡ b ++ number_of at ∷ [] = item-place at d (Instance s f.of) f.instance ∙ ap (λ c. c ++ number_of at ∷ []) f.around in
     let here : slice_get (list_of m.head.body) (number_of at) ≡ Some (Instance s f.of) =
-    sym (item-here b d m.head.body (number_of at) around.body) ∙ ap (λ a. item a d) (sym place) ∙ f.instance in
+    sym (item-here b d m.head.body (number_of at) around.body) ∙ ap (λ a. item_at a d) (sym place) ∙ f.instance in
     let kind : instance_kind d (b ++ number_of at ∷ []) ≡ Some h.kind =
     ap (instance_kind d) (sym place) ∙ ap (option_and_then (kind_at d)) f.is ∙ ap (λ o. elim o [ None ↦ None | Some c ↦ Some c.kind ]) within.component in
     kinds-allowed d b (record { kind = m.head.kind; body = m.head.body }) (number_of at) s f.of h.kind none around.component here kind

@@ -6,6 +6,7 @@ use Rattle.std.specs.Cmp.Lexicographic.{pointwise}
 use Rattle.std.proofs.lemmas.Bool.{cases_Bool}
 use Rattle.std.proofs.lemmas.Bool.Decides.{Decides-eqb}
 use Rattle.std.proofs.lemmas.Slice.Eq.{bytes_eq-Decides, slice_eq-Decides}
+use Rattle.rdl_tree.specs.ItemAt.{item_at}
 use Rattle.rdl_tree.specs.Items.{Items, no_items, plain, holder, named, own, default, dynamic, Holder, define, anonymous}
 use Rattle.rdl_tree.specs.View.{add, items_of, list_of, own_body, holder_item}
 use Rattle.rdl_tree.specs.Address.{inner, map_inner, body_at, map_body}
@@ -17,7 +18,6 @@ use Rattle.rdl_tree.specs.declared.description.Item.TheVariants.{Define, Instanc
 use Rattle.rdl_tree.specs.declared.description.Of.TheVariants.{Named, Anonymous}
 use Rattle.rdl_tree.proofs.Places.{inner_some}
 use Rattle.rdl_tree.proofs.Rounds.{list_of-add}
-use Rattle.rdl_scope.specs.Types.{item}
 use Rattle.rdl_scope.specs.Target.{passes, body_of}
 use Rattle.rdl_scope.specs.ItemFaults.{last_of}
 use Rattle.rdl_scope.specs.Value.{assigns, assigned_in, assigned, leads_to, same_path, item_reset, instance_reset}
@@ -156,7 +156,7 @@ all-pass d e same b t held = each t 0
 
 -- ---- Items of a body.
 
-item-first : (x : Item) (rest : Items) → item (0 ∷ []) (add x rest) ≡ Some x
+item-first : (x : Item) (rest : Items) → item_at (0 ∷ []) (add x rest) ≡ Some x
 item-first x rest = ap (λ (l : List Item). slice_get l 0) (list_of-add x rest)
 
 inner-first : (x : Item) (rest : Items) → inner 0 (add x rest) ≡ own_body x
@@ -175,9 +175,9 @@ inner-later k (Own p v) rest = refl
 inner-later k (Default p v) rest = refl
 inner-later k (Dynamic t p v) rest = refl
 
-item-later : (k : ℕ) (a : List ℕ) (x : Item) (rest : Items) → item (suc k ∷ a) (add x rest) ≡ item (k ∷ a) rest
+item-later : (k : ℕ) (a : List ℕ) (x : Item) (rest : Items) → item_at (suc k ∷ a) (add x rest) ≡ item_at (k ∷ a) rest
 item-later k [] x rest = ap (λ (l : List Item). slice_get l (suc k)) (list_of-add x rest)
-item-later k (j ∷ a) x rest = ap (option_and_then (item (j ∷ a))) (inner-later k x rest)
+item-later k (j ∷ a) x rest = ap (option_and_then (item_at (j ∷ a))) (inner-later k x rest)
 
 -- the bodies inside the items stay
 pub inner-set : (xs : List Item) (n : ℕ) (x y : Item) → slice_get xs n ≡ Some x → own_body y ≡ own_body x → (k : ℕ) → inner k (items_of (slice_set xs n y)) ≡ inner k (items_of xs)
@@ -210,13 +210,13 @@ module _ (X : Type 0) (read : Item → Option X) (New : Option Item → Type 0) 
   along-both a b c d e f (inl h) = inl (ap (option_and_then read) e ∙ h ∙ sym (ap (option_and_then read) f))
   along-both a b c d e f (inr h) = inr (subst New (sym e) h)
 
-  read-inner : ReadsOutside X read → (i k : ℕ) (a : List ℕ) (f : Items → Items) (t s : Items) → inner i t ≡ Some s → ((c : List ℕ) → ReadsAlike read New (item c (f s)) (item c s))
-      → ReadsAlike read New (item (k ∷ a) (map_inner i f t)) (item (k ∷ a) t)
+  read-inner : ReadsOutside X read → (i k : ℕ) (a : List ℕ) (f : Items → Items) (t s : Items) → inner i t ≡ Some s → ((c : List ℕ) → ReadsAlike read New (item_at c (f s)) (item_at c s))
+      → ReadsAlike read New (item_at (k ∷ a) (map_inner i f t)) (item_at (k ∷ a) t)
   read-inner r i k a f no_items s e h = cc
   read-inner r zero k a f (plain p rest) s e h = cc
   read-inner r zero zero [] f (holder o body rest) s e h = inl (r.held o (f body) body)
   read-inner r zero zero (j ∷ a) f (holder o body rest) s e h =
-      let same : body ≡ s = cc in subst (λ x. ReadsAlike read New (item (j ∷ a) (f x)) (item (j ∷ a) x)) (sym same) (h (j ∷ a))
+      let same : body ≡ s = cc in subst (λ x. ReadsAlike read New (item_at (j ∷ a) (f x)) (item_at (j ∷ a) x)) (sym same) (h (j ∷ a))
   read-inner r zero (suc k) [] f (holder o body rest) s e h = inl refl
   read-inner r zero (suc k) (j ∷ a) f (holder o body rest) s e h = inl refl
   read-inner r (suc i) zero [] f (plain p rest) s e h = inl refl
@@ -228,31 +228,31 @@ module _ (X : Type 0) (read : Item → Option X) (New : Option Item → Type 0) 
   read-inner r (suc i) (suc k) [] f (holder o body rest) s e h = read-inner r i k [] f rest s e h
   read-inner r (suc i) (suc k) (j ∷ a) f (holder o body rest) s e h = read-inner r i k (j ∷ a) f rest s e h
 
-  pub read-body : ReadsOutside X read → (p : List ℕ) (f : Items → Items) (t c : Items) → body_at p t ≡ Some c → ((a : List ℕ) → ReadsAlike read New (item a (f c)) (item a c))
-      → (a : List ℕ) → ReadsAlike read New (item a (map_body p f t)) (item a t)
-  read-body r [] f t c e h a = let same : t ≡ c = cc in subst (λ x. ReadsAlike read New (item a (f x)) (item a x)) (sym same) (h a)
+  pub read-body : ReadsOutside X read → (p : List ℕ) (f : Items → Items) (t c : Items) → body_at p t ≡ Some c → ((a : List ℕ) → ReadsAlike read New (item_at a (f c)) (item_at a c))
+      → (a : List ℕ) → ReadsAlike read New (item_at a (map_body p f t)) (item_at a t)
+  read-body r [] f t c e h a = let same : t ≡ c = cc in subst (λ x. ReadsAlike read New (item_at a (f x)) (item_at a x)) (sym same) (h a)
   read-body r (i ∷ p) f t c e h [] = inl refl
   read-body r (i ∷ p) f t c e h (k ∷ a) =
       let step = inner_some i p t c e in read-inner r i k a (map_body p f) t step.0 step.1 (read-body r p f step.0 c step.2 h)
 
   pub read-set : (xs : List Item) (n : ℕ) (x y : Item) → slice_get xs n ≡ Some x → own_body y ≡ own_body x → ReadsAlike read New (Some y) (Some x)
-      → (a : List ℕ) → ReadsAlike read New (item a (items_of (slice_set xs n y))) (item a (items_of xs))
+      → (a : List ℕ) → ReadsAlike read New (item_at a (items_of (slice_set xs n y))) (item_at a (items_of xs))
   read-set xs n x y e h g [] = inl refl
   read-set [] n x y e h g (k ∷ a) = cc
   read-set (z ∷ zs) zero x y e h g (zero ∷ []) =
       let same : z ≡ x = cc in
-      along-both (item (0 ∷ []) (add y (items_of zs))) (Some y) (item (0 ∷ []) (add z (items_of zs))) (Some x) (item-first y (items_of zs)) (item-first z (items_of zs) ∙ ap Some same) g
-  read-set (z ∷ zs) zero x y e h g (zero ∷ j ∷ a) = inl (ap (λ o. option_and_then read (option_and_then (item (j ∷ a)) o)) (inner-set (z ∷ zs) 0 x y e h 0))
+      along-both (item_at (0 ∷ []) (add y (items_of zs))) (Some y) (item_at (0 ∷ []) (add z (items_of zs))) (Some x) (item-first y (items_of zs)) (item-first z (items_of zs) ∙ ap Some same) g
+  read-set (z ∷ zs) zero x y e h g (zero ∷ j ∷ a) = inl (ap (λ o. option_and_then read (option_and_then (item_at (j ∷ a)) o)) (inner-set (z ∷ zs) 0 x y e h 0))
   read-set (z ∷ zs) zero x y e h g (suc k ∷ a) = inl (ap (option_and_then read) (item-later k a y (items_of zs) ∙ sym (item-later k a z (items_of zs))))
   read-set (z ∷ zs) (suc n) x y e h g (zero ∷ []) = inl (ap (option_and_then read) (item-first z (items_of (slice_set zs n y)) ∙ sym (item-first z (items_of zs))))
   read-set (z ∷ zs) (suc n) x y e h g (zero ∷ j ∷ a) =
-      inl (ap (λ o. option_and_then read (option_and_then (item (j ∷ a)) o)) (inner-first z (items_of (slice_set zs n y)) ∙ sym (inner-first z (items_of zs))))
+      inl (ap (λ o. option_and_then read (option_and_then (item_at (j ∷ a)) o)) (inner-first z (items_of (slice_set zs n y)) ∙ sym (inner-first z (items_of zs))))
   read-set (z ∷ zs) (suc n) x y e h g (suc k ∷ a) =
-      along-both (item (suc k ∷ a) (add z (items_of (slice_set zs n y)))) (item (k ∷ a) (items_of (slice_set zs n y))) (item (suc k ∷ a) (add z (items_of zs))) (item (k ∷ a) (items_of zs))
+      along-both (item_at (suc k ∷ a) (add z (items_of (slice_set zs n y)))) (item_at (k ∷ a) (items_of (slice_set zs n y))) (item_at (suc k ∷ a) (add z (items_of zs))) (item_at (k ∷ a) (items_of zs))
       (item-later k a z (items_of (slice_set zs n y))) (item-later k a z (items_of zs)) (read-set zs n x y e h g (k ∷ a))
 
   pub read-insert : (xs : List Item) (n : ℕ) (t : List (List ℕ)) (p : List ℕ) (v : Value) → n ≡ length xs → read (Dynamic t p v) ≡ None
-      → (a : List ℕ) → ReadsAlike read New (item a (items_of (insert xs n (Dynamic t p v)))) (item a (items_of xs))
+      → (a : List ℕ) → ReadsAlike read New (item_at a (items_of (insert xs n (Dynamic t p v)))) (item_at a (items_of xs))
   read-insert xs n t p v e h [] = inl refl
   read-insert [] zero t p v e h (zero ∷ []) = inl h
   read-insert [] zero t p v e h (zero ∷ j ∷ a) = inl refl
@@ -264,10 +264,10 @@ module _ (X : Type 0) (read : Item → Option X) (New : Option Item → Type 0) 
       let rest : Items = items_of (insert ys n (Dynamic t p v)) in inl (ap (option_and_then read) (item-first y rest ∙ sym (item-first y (items_of ys))))
   read-insert (y ∷ ys) (suc n) t p v e h (zero ∷ j ∷ a) =
       let rest : Items = items_of (insert ys n (Dynamic t p v)) in
-      inl (ap (λ o. option_and_then read (option_and_then (item (j ∷ a)) o)) (inner-first y rest ∙ sym (inner-first y (items_of ys))))
+      inl (ap (λ o. option_and_then read (option_and_then (item_at (j ∷ a)) o)) (inner-first y rest ∙ sym (inner-first y (items_of ys))))
   read-insert (y ∷ ys) (suc n) t p v e h (suc k ∷ a) =
       let rest : Items = items_of (insert ys n (Dynamic t p v)) in
-      along-both (item (suc k ∷ a) (add y rest)) (item (k ∷ a) rest) (item (suc k ∷ a) (add y (items_of ys))) (item (k ∷ a) (items_of ys))
+      along-both (item_at (suc k ∷ a) (add y rest)) (item_at (k ∷ a) rest) (item_at (suc k ∷ a) (add y (items_of ys))) (item_at (k ∷ a) (items_of ys))
       (item-later k a y rest) (item-later k a y (items_of ys)) (read-insert ys n t p v (omega arith) h (k ∷ a))
 
 -- what is read outside of what is changed inside an item
@@ -296,7 +296,7 @@ get-other (z ∷ zs) (suc k) (suc n) y = by (get-other zs k n y)
 
 -- ---- Paths.
 
-pub reset-last : (d : Items) (path : List (List ℕ)) (at : List ℕ) → instance_reset d Reset (path ++ at ∷ []) ≡ option_and_then item_reset (item at d)
+pub reset-last : (d : Items) (path : List (List ℕ)) (at : List ℕ) → instance_reset d Reset (path ++ at ∷ []) ≡ option_and_then item_reset (item_at at d)
 reset-last d [] at = refl
 reset-last d (a ∷ []) at = refl
 reset-last d (a ∷ b ∷ path) at = reset-last d (b ∷ path) at

@@ -2,6 +2,7 @@
 use Rattle.std.proofs.Common.{◌≡◌, ℕ, ◌+◌, ◌-◌, ◌^◌, ◌≤◌, Bool, true, false, List, [], ◌∷◌, ◌++◌, map, Some, None, Option, refl, ap, sym, ◌∙◌, arith}
 use Rattle.std.specs.Prelude.{nat_lt, max, unwrap_or, option_and_then, if◌then◌else◌}
 use Rattle.std.specs.Option.{option_or}
+use Rattle.rdl_tree.specs.ItemAt.{item_at}
 use Rattle.rdl_tree.specs.Items.{Items}
 use Rattle.rdl_tree.specs.Properties.{row}
 use Rattle.rdl_tree.specs.declared.shell.Kind.{Kind}
@@ -15,7 +16,7 @@ use Rattle.rdl_tree.specs.declared.description.Item.TheVariants.{Instance}
 use Rattle.rdl_tree.specs.declared.description.Of.{Of}
 use Rattle.rdl_tree.specs.declared.fault.FaultKind.{FaultKind}
 use Rattle.rdl_tree.specs.declared.fault.FaultKind.TheVariants.{TooManyLevels, TooManyRows, EmptyComponent, MapTooLarge, AccessTooWide, StrideTooSmall, AddressOverlap, FieldPastRegister, FieldOverlap, ResetTooWide}
-use Rattle.rdl_scope.specs.Types.{item, component_of}
+use Rattle.rdl_scope.specs.Types.{component_of}
 use Rattle.rdl_scope.specs.Closed.{Head, Parts, no_parts, part, Made, lookup, stated, head_value, component}
 use Rattle.rdl_scope.specs.ItemFaults.{first_of, fault_at, may_instantiate, fault_of}
 use Rattle.rdl_elab.specs.declared.layout.Mode.{Mode}
@@ -230,7 +231,7 @@ no-kind-fault Regfile d e r q a fits h =
 -- what is asked of the rows of the field instances of another description of this frame: the same access, and a reset that is the same or fits
 pub record StaysSo (keep : List ℕ → Bool) (d e : Items) : Type 0 where
   pub access : (path : List (List ℕ)) (h k : Head) → frame_head keep k ≡ frame_head keep h → row_value e path k Sw ≡ row_value d path h Sw
-  pub reset : (path : List (List ℕ)) (at : List ℕ) (s : Shell) (o : Of) (h k : Head) (span : Span) → item at e ≡ Some (Instance s o) → component_of e at ≡ Some k.at → frame_head keep k ≡ frame_head keep h → k.kind ≡ Field
+  pub reset : (path : List (List ℕ)) (at : List ℕ) (s : Shell) (o : Of) (h k : Head) (span : Span) → item_at at e ≡ Some (Instance s o) → component_of e at ≡ Some k.at → frame_head keep k ≡ frame_head keep h → k.kind ≡ Field
       → bits_said s ≤ span.end - span.start
       → is_reset_too_wide (number_of_value (row_value d (path ++ at ∷ []) h Reset)) span ≡ false → is_reset_too_wide (number_of_value (row_value e (path ++ at ∷ []) k Reset)) span ≡ false
 

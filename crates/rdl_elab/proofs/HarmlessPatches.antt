@@ -30,12 +30,11 @@ use Rattle.rdl_tree.specs.declared.patch.Patch.TheVariants.{Insert, Delete, Shif
 use Rattle.rdl_tree.proofs.Rounds.{items_of-list_of, list_of-items_of}
 use Rattle.rdl_tree.proofs.Places.{Stands, stands, found_at, body_at-map, place-whole, item_at-place}
 use Rattle.rdl_tree.proofs.Undone.{exchange_is, exchange-found}
-use Rattle.rdl_scope.specs.Types.{item, component_of}
+use Rattle.rdl_scope.specs.Types.{component_of}
 use Rattle.rdl_scope.specs.ItemFaults.{fault_of}
 use Rattle.rdl_scope.specs.Value.{shown, assigned_in, assigned, item_reset, instance_reset, component_value, path_value}
 use Rattle.rdl_scope.specs.Closed.{Head, Made, component}
 use Rattle.rdl_scope.proofs.Outlines.{outline, component-outline, SameOutline, outline-map_body, outline-set, outline-insert}
-use Rattle.rdl_scope.proofs.OneChange.{item-item_at}
 use Rattle.rdl_elab.specs.declared.layout.Span.{Span}
 use Rattle.rdl_elab.specs.declared.row.Row.{Row}
 use Rattle.rdl_elab.specs.Layouts.{number_in as number_of_value}
@@ -63,7 +62,7 @@ pub record HasFittingReset (e : Items) (path : List (List ℕ)) (c : List ℕ) (
   fits : IsBelowIfAny (bits_said s) (number_of_value value)
 
 abbrev pub ResetsStay : Items → Items → Type 0
-ResetsStay d e = (path : List (List ℕ)) (at c : List ℕ) (s : Shell) (o : Of) → item at e ≡ Some (Instance s o) → component_of e at ≡ Some c → (path_value e (path ++ at ∷ []) c Reset ≡ path_value d (path ++ at ∷ []) c Reset) ⊎ HasFittingReset e (path ++ at ∷ []) c s
+ResetsStay d e = (path : List (List ℕ)) (at c : List ℕ) (s : Shell) (o : Of) → item_at at e ≡ Some (Instance s o) → component_of e at ≡ Some c → (path_value e (path ++ at ∷ []) c Reset ≡ path_value d (path ++ at ∷ []) c Reset) ⊎ HasFittingReset e (path ++ at ∷ []) c s
 
 no-rows : (rows : List Row) (f : Fault) → ◌≡◌ {A = Result (List Row) Fault} (Err f) (Ok rows) → ⊥
 no-rows rows f e = cc
@@ -177,12 +176,12 @@ module _ (at : List ℕ) (d : Items) (part : Part) (x : Item) (there : item_at a
       (ap outline made ∙ outline-set (list_of stand.body) (number_of at) x changed stand.found h ∙ ap outline whole)
 
   pub exchange-read : (X : Type 0) (read : Item → Option X) (New : Option Item → Type 0) → ReadsOutside X read → own_body changed ≡ own_body x → ReadsAlike read New (Some changed) (Some x)
-      → (a : List ℕ) → ReadsAlike read New (item a (patched (Exchange at part) d)) (item a d)
+      → (a : List ℕ) → ReadsAlike read New (item_at a (patched (Exchange at part) d)) (item_at a d)
   exchange-read X read New outside own h =
       read-body X read New outside (holder_of at) (with_part_at (number_of at) part) d stand.body stand.held
       (λ a.
-      subst (λ t. ReadsAlike read New (item a t) (item a stand.body)) (sym made)
-      (subst (λ t. ReadsAlike read New (item a (items_of (slice_set (list_of stand.body) (number_of at) changed))) (item a t)) whole
+      subst (λ t. ReadsAlike read New (item_at a t) (item_at a stand.body)) (sym made)
+      (subst (λ t. ReadsAlike read New (item_at a (items_of (slice_set (list_of stand.body) (number_of at) changed))) (item_at a t)) whole
       (read-set X read New (list_of stand.body) (number_of at) x changed stand.found own h a)))
 
   pub exchange-inner : own_body changed ≡ own_body x → (k : ℕ) → inner k (with_part_at (number_of at) part stand.body) ≡ inner k stand.body
@@ -214,21 +213,21 @@ module _ (at : List ℕ) (d : Items) (part : Part) (x : Item) (there : item_at a
           one (inr e) = inr (refl, e)
 
   -- at any other address the same is read
-  read-apart : (X : Type 0) (read : Item → Option X) → ReadsOutside X read → own_body changed ≡ own_body x → (a : List ℕ) (y : Item) → item a (patched (Exchange at part) d) ≡ Some y
-      → (option_and_then read (item a (patched (Exchange at part) d)) ≡ option_and_then read (item a d)) ⊎ (a ≡ at)
+  read-apart : (X : Type 0) (read : Item → Option X) → ReadsOutside X read → own_body changed ≡ own_body x → (a : List ℕ) (y : Item) → item_at a (patched (Exchange at part) d) ≡ Some y
+      → (option_and_then read (item_at a (patched (Exchange at part) d)) ≡ option_and_then read (item_at a d)) ⊎ (a ≡ at)
   read-apart X read outside own a y h = by (body-apart X read outside own (holder_of a) (number_of a))
     where
       now : Items
       now = patched (Exchange at part) d
 
       within : 0 < length a
-      within = (stands a now y (sym (item-item_at a now) ∙ h)).within
+      within = (stands a now y h).within
 
-      placed : (t : Items) → option_and_then read (item a t) ≡ in_body read (number_of a) (body_at (holder_of a) t)
-      placed t = ap (option_and_then read) (item-item_at a t ∙ item_at-place a t within)
+      placed : (t : Items) → option_and_then read (item_at a t) ≡ in_body read (number_of a) (body_at (holder_of a) t)
+      placed t = ap (option_and_then read) (item_at-place a t within)
 
       by : (in_body read (number_of a) (body_at (holder_of a) now) ≡ in_body read (number_of a) (body_at (holder_of a) d)) ⊎ ((holder_of a ≡ holder_of at) × (number_of a ≡ number_of at))
-          → (option_and_then read (item a now) ≡ option_and_then read (item a d)) ⊎ (a ≡ at)
+          → (option_and_then read (item_at a now) ≡ option_and_then read (item_at a d)) ⊎ (a ≡ at)
       by (inl e) = inl (placed now ∙ e ∙ sym (placed d))
       by (inr e) = inr (sym (place-whole a within) ∙ (λ i. e.0 i ++ e.1 i ∷ []) ∙ place-whole at stand.within)
 
@@ -236,12 +235,12 @@ module _ (at : List ℕ) (d : Items) (part : Part) (x : Item) (there : item_at a
 
 module _ (d e : Items) (resets : (c : List ℕ) → component_value e c Reset ≡ component_value d c Reset) where
   pub path-same : (path : List (List ℕ)) (at c : List ℕ) → assigned e (row Reset).name (path ++ at ∷ []) ≡ assigned d (row Reset).name (path ++ at ∷ [])
-      → option_and_then item_reset (item at e) ≡ option_and_then item_reset (item at d) → path_value e (path ++ at ∷ []) c Reset ≡ path_value d (path ++ at ∷ []) c Reset
+      → option_and_then item_reset (item_at at e) ≡ option_and_then item_reset (item_at at d) → path_value e (path ++ at ∷ []) c Reset ≡ path_value d (path ++ at ∷ []) c Reset
   path-same path at c h g = λ i. option_or (h i) (option_or ((reset-last e path at ∙ g ∙ sym (reset-last d path at)) i) (resets c i))
 
   -- the instance at the end has this reset, or its component this one
   path-instance : (path : List (List ℕ)) (at c : List ℕ) (v : Option Value) (s : Shell) → assigned e (row Reset).name (path ++ at ∷ []) ≡ assigned d (row Reset).name (path ++ at ∷ [])
-      → option_or (option_and_then item_reset (item at e)) (component_value e c Reset) ≡ v → IsBelowIfAny (bits_said s) (number_of_value v)
+      → option_or (option_and_then item_reset (item_at at e)) (component_value e c Reset) ≡ v → IsBelowIfAny (bits_said s) (number_of_value v)
       → (path_value e (path ++ at ∷ []) c Reset ≡ path_value d (path ++ at ∷ []) c Reset) ⊎ HasFittingReset e (path ++ at ∷ []) c s
   path-instance path at c v s h g fits = by (assigned d (row Reset).name (path ++ at ∷ [])) refl
     where
@@ -309,7 +308,7 @@ module _ (at : List ℕ) (u : Shell) (d : Items) (is : IsHarmlessShell at u d) w
   outlined : outline new ≡ outline d
   outlined = exchange-outline at d (OfShell u) (Instance shell is.of) is.there (shell-outline is.of)
 
-  resets-read : (New : Option Item → Type 0) → ReadsAlike item_reset New (Some (Instance u is.of)) (Some (Instance shell is.of)) → (a : List ℕ) → ReadsAlike item_reset New (item a new) (item a d)
+  resets-read : (New : Option Item → Type 0) → ReadsAlike item_reset New (Some (Instance u is.of)) (Some (Instance shell is.of)) → (a : List ℕ) → ReadsAlike item_reset New (item_at a new) (item_at a d)
   resets-read New h = exchange-read at d (OfShell u) (Instance shell is.of) is.there Value item_reset New reset-outside (own-shell shell u is.of) h
 
   bits-same : bits_said u ≡ bits_said shell
@@ -321,36 +320,36 @@ module _ (at : List ℕ) (u : Shell) (d : Items) (is : IsHarmlessShell at u d) w
   abbrev Stays : List (List ℕ) → List ℕ → List ℕ → Shell → Type 0
   Stays path place c s = (path_value new (path ++ place ∷ []) c Reset ≡ path_value d (path ++ place ∷ []) c Reset) ⊎ HasFittingReset new (path ++ place ∷ []) c s
 
-  elsewhere : (path : List (List ℕ)) (place c : List ℕ) (s : Shell) → option_and_then item_reset (item place new) ≡ option_and_then item_reset (item place d) → Stays path place c s
+  elsewhere : (path : List (List ℕ)) (place c : List ℕ) (s : Shell) → option_and_then item_reset (item_at place new) ≡ option_and_then item_reset (item_at place d) → Stays path place c s
   elsewhere path place c s h = inl (path-same d new (reset-both all_names d new shell-framed) path place c (same-assigned (path ++ place ∷ [])) h)
 
   shell-stays : FitsReset shell u.reset ⊎ FitsWithout d at shell u.reset → ResetsStay d new
   shell-stays (inl (inl equal)) path place c s o there leads = by (resets-read (λ o. ⊥) (inl (ap (option_map Number) equal)) place)
     where
-      by : ReadsAlike item_reset (λ o. ⊥) (item place new) (item place d) → Stays path place c s
+      by : ReadsAlike item_reset (λ o. ⊥) (item_at place new) (item_at place d) → Stays path place c s
       by (inl h) = elsewhere path place c s h
       by (inr h) = absurd h
   shell-stays (inl (inr below)) path place c s o there leads = by (resets-read (IsInstance u) (inr (record { of = is.of; is = refl })) place)
     where
-      fitting : (r : Option ℕ) → u.reset ≡ r → IsBelow (bits_said shell) r → IsInstance u (item place new) → Stays path place c s
+      fitting : (r : Option ℕ) → u.reset ≡ r → IsBelow (bits_said shell) r → IsInstance u (item_at place new) → Stays path place c s
       fitting None q h g = absurd h
       fitting (Some n) q h g =
-          let equal : s ≡ u = same-shell s u o g.of (item place new) there g.is in
+          let equal : s ≡ u = same-shell s u o g.of (item_at place new) there g.is in
           let bits : bits_said shell ≡ bits_said s = sym bits-same ∙ ap bits_said (sym equal) in
           path-instance d new (reset-both all_names d new shell-framed) path place c (Some (Number n)) s (same-assigned (path ++ place ∷ []))
           (ap (λ x. option_or x (component_value new c Reset)) (ap (option_and_then item_reset) g.is ∙ ap (option_map Number) q)) (subst (λ b. n < 2 ^ b) bits h)
 
-      by : ReadsAlike item_reset (IsInstance u) (item place new) (item place d) → Stays path place c s
+      by : ReadsAlike item_reset (IsInstance u) (item_at place new) (item_at place d) → Stays path place c s
       by (inl h) = elsewhere path place c s h
       by (inr h) = fitting u.reset refl below h
   shell-stays (inr without) path place c s o there leads =
       by (read-apart at d (OfShell u) (Instance shell is.of) is.there Value item_reset reset-outside (own-shell shell u is.of) place (Instance s o) there)
     where
-      by : (option_and_then item_reset (item place new) ≡ option_and_then item_reset (item place d)) ⊎ (place ≡ at) → Stays path place c s
+      by : (option_and_then item_reset (item_at place new) ≡ option_and_then item_reset (item_at place d)) ⊎ (place ≡ at) → Stays path place c s
       by (inl h) = elsewhere path place c s h
       by (inr equal) =
-          let now : item place new ≡ Some (Instance u is.of) = ap (λ a. item a new) equal ∙ item-item_at at new ∙ exchange-there at d (OfShell u) (Instance shell is.of) is.there in
-          let shells : s ≡ u = same-shell s u o is.of (item place new) there now in
+          let now : item_at place new ≡ Some (Instance u is.of) = ap (λ a. item_at a new) equal ∙ exchange-there at d (OfShell u) (Instance shell is.of) is.there in
+          let shells : s ≡ u = same-shell s u o is.of (item_at place new) there now in
           let bits : bits_said shell ≡ bits_said s = sym bits-same ∙ ap bits_said (sym shells) in
           let both : Some c ≡ Some without.component = sym leads ∙ leads-both d new outlined place ∙ ap (component_of d) equal ∙ without.is in
           let places : c ≡ without.component = cc in
@@ -386,8 +385,8 @@ read-same read x y (inr h) = absurd h
 record StaysBut (d e : Items) (b : List ℕ) (n : ℕ) (t : List (List ℕ)) (p : List ℕ) (v : Value) : Type 0 where
   frames : (keep : List ℕ → Bool) → keep p ≡ false → frame keep e ≡ frame keep d
   outlines : outline e ≡ outline d
-  resets : (a : List ℕ) → option_and_then item_reset (item a e) ≡ option_and_then item_reset (item a d)
-  shells : (a : List ℕ) → option_and_then shell_of (item a e) ≡ option_and_then shell_of (item a d)
+  resets : (a : List ℕ) → option_and_then item_reset (item_at a e) ≡ option_and_then item_reset (item_at a d)
+  shells : (a : List ℕ) → option_and_then shell_of (item_at a e) ≡ option_and_then shell_of (item_at a d)
   assigned : (path : List (List ℕ)) → AssignsAlike v (end_of_target d b n t) path (assigned e p path) (assigned d p path)
 
 abbrev is_access : List ℕ → Bool
@@ -415,8 +414,8 @@ module _ (d e : Items) (b : List ℕ) (n : ℕ) (t : List (List ℕ)) (p : List 
           let ends : Some place ≡ Some f.at = sym (last-place path place) ∙ h.1 ∙ f.end in
           let equal : place ≡ f.at = cc in
           let shells : Some s ≡ Some f.shell =
-          sym (ap (option_and_then shell_of) there) ∙ stays.shells place ∙ ap (λ a. option_and_then shell_of (item a d)) equal
-          ∙ ap (option_and_then shell_of) (item-item_at f.at d ∙ f.there) in
+          sym (ap (option_and_then shell_of) there) ∙ stays.shells place ∙ ap (λ a. option_and_then shell_of (item_at a d)) equal
+          ∙ ap (option_and_then shell_of) f.there in
           let shell : s ≡ f.shell = cc in
           let assigned_now : assigned e (row Reset).name (path ++ place ∷ []) ≡ Some (Number f.reset) = h.0 ∙ ap Some f.value in
           inr (record {
@@ -447,8 +446,8 @@ module _ (at : List ℕ) (w : Value) (d : Items) (is : IsHarmlessValue at w d) w
   value-stays = record {
     frames = λ keep h. exchange-frame at d (OfValue w) old_item is.there keep (value-frame keep is.target is.property is.value w h);
     outlines = value-outlined;
-    resets = λ a. read-same item_reset (item a valued) (item a d) (exchange-read at d (OfValue w) old_item is.there Value item_reset (λ o. ⊥) reset-outside refl (inl refl) a);
-    shells = λ a. read-same shell_of (item a valued) (item a d) (exchange-read at d (OfValue w) old_item is.there Shell shell_of (λ o. ⊥) shell-outside refl (inl refl) a);
+    resets = λ a. read-same item_reset (item_at a valued) (item_at a d) (exchange-read at d (OfValue w) old_item is.there Value item_reset (λ o. ⊥) reset-outside refl (inl refl) a);
+    shells = λ a. read-same shell_of (item_at a valued) (item_at a d) (exchange-read at d (OfValue w) old_item is.there Shell shell_of (λ o. ⊥) shell-outside refl (inl refl) a);
     assigned =
         let n = number_of at in
         let there : Stands at d old_item = stands at d old_item is.there in
@@ -472,11 +471,11 @@ module _ (at : List ℕ) (t : List (List ℕ)) (p : List ℕ) (w : Value) (d : I
   before-last : items_of (list_of is.body) ≡ is.body
   before-last = items_of-list_of is.body
 
-  last-read : (X : Type 0) (read : Item → Option X) → ReadsOutside X read → read (Dynamic t p w) ≡ None → (a : List ℕ) → option_and_then read (item a longer) ≡ option_and_then read (item a d)
+  last-read : (X : Type 0) (read : Item → Option X) → ReadsOutside X read → read (Dynamic t p w) ≡ None → (a : List ℕ) → option_and_then read (item_at a longer) ≡ option_and_then read (item_at a d)
   last-read X read outside h a =
-      read-same read (item a longer) (item a d)
+      read-same read (item_at a longer) (item_at a d)
       (read-body X read (λ o. ⊥) outside (holder_of at) change d is.body is.held
-      (λ c. subst (λ u. ReadsAlike read (λ o. ⊥) (item c (change is.body)) (item c u)) before-last (read-insert X read (λ o. ⊥) (list_of is.body) (number_of at) t p w is.last h c)) a)
+      (λ c. subst (λ u. ReadsAlike read (λ o. ⊥) (item_at c (change is.body)) (item_at c u)) before-last (read-insert X read (λ o. ⊥) (list_of is.body) (number_of at) t p w is.last h c)) a)
 
   last-outlined : outline longer ≡ outline d
   last-outlined =

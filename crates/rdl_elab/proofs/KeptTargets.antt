@@ -3,6 +3,7 @@ use Rattle.std.proofs.Common.{◌≡◌, ℕ, zero, suc, ◌+◌, ◌<◌, ◌�
 use Rattle.std.specs.Prelude.{option_and_then, slice_get, nat_lt, bytes_eq, if◌then◌else◌}
 use Rattle.std.specs.Option.{is_some}
 use Rattle.std.proofs.lemmas.Bool.{cases_lt, lt-ltb, le-ltb}
+use Rattle.rdl_tree.specs.ItemAt.{item_at}
 use Rattle.rdl_tree.specs.Items.{Items, no_items, plain, holder, named, own, default, dynamic, define, anonymous}
 use Rattle.rdl_tree.specs.View.{list_of}
 use Rattle.rdl_tree.specs.Address.{number_of, inner, body_at}
@@ -14,7 +15,7 @@ use Rattle.rdl_tree.specs.declared.description.Item.TheVariants.{Instance}
 use Rattle.rdl_tree.specs.declared.description.Of.{Of}
 use Rattle.rdl_tree.specs.declared.description.Of.TheVariants.{Named, Anonymous}
 use Rattle.rdl_tree.proofs.Places.{number-place}
-use Rattle.rdl_scope.specs.Types.{item, component_of, component_at, items_in}
+use Rattle.rdl_scope.specs.Types.{component_of, component_at, items_in}
 use Rattle.rdl_scope.specs.Target.{plain_named, holder_named, instance_before, instance_in, passes}
 use Rattle.rdl_scope.specs.ItemFaults.{kind_at, instance_kind, instance_fault, item_fault, fault_of}
 use Rattle.rdl_scope.specs.Closed.{Head, Made, Parts, no_parts, part, component, instances, with_made}
@@ -99,7 +100,7 @@ held-body (k ∷ []) t c e = ap (option_and_then (body_at [])) (held-inner k t c
 held-body (k ∷ j ∷ a) t c e = into (λ u. held-body (j ∷ a) u c) (inner k t) refl e
   where
     into : ((u : Items) → component_at u (j ∷ a) ≡ Some c → body_at (j ∷ a) u ≡ Some c.body) → (o : Option Items) → inner k t ≡ o
-        → option_and_then own_component (option_and_then (item (j ∷ a)) o) ≡ Some c → option_and_then (body_at (j ∷ a)) (inner k t) ≡ Some c.body
+        → option_and_then own_component (option_and_then (item_at (j ∷ a)) o) ≡ Some c → option_and_then (body_at (j ∷ a)) (inner k t) ≡ Some c.body
     into ih None g e = cc
     into ih (Some u) g e = ap (option_and_then (body_at (j ∷ a))) g ∙ ih u e
 

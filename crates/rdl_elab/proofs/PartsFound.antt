@@ -1,6 +1,7 @@
 -- The instances of a component are as the searches find them.
 use Rattle.std.proofs.Common.{◌≡◌, ℕ, suc, ◌+◌, List, [], ◌∷◌, ◌++◌, Some, None, Option, refl, ap, ◌∙◌, sym, arith}
 use Rattle.std.specs.Prelude.{option_and_then, slice_get}
+use Rattle.rdl_tree.specs.ItemAt.{item_at}
 use Rattle.rdl_tree.specs.Items.{Items, no_items, plain, holder, named, own, default, dynamic, define, anonymous}
 use Rattle.rdl_tree.specs.View.{list_of}
 use Rattle.rdl_tree.specs.Address.{inner, body_at}
@@ -8,7 +9,7 @@ use Rattle.rdl_tree.specs.declared.shell.Shell.{Shell}
 use Rattle.rdl_tree.specs.declared.description.Item.TheVariants.{Instance}
 use Rattle.rdl_tree.specs.declared.description.Of.{Of}
 use Rattle.rdl_tree.specs.declared.description.Of.TheVariants.{Named, Anonymous}
-use Rattle.rdl_scope.specs.Types.{item, component_of}
+use Rattle.rdl_scope.specs.Types.{component_of}
 use Rattle.rdl_scope.specs.Target.{body_of}
 use Rattle.rdl_scope.specs.Closed.{Head, Parts, no_parts, part, Made, component, instances, with_made}
 use Rattle.rdl_scope.proofs.AsFound.{as_found}
@@ -21,31 +22,31 @@ body_of-item (k ∷ j ∷ b) n = ap (λ x. k ∷ x) (body_of-item (j ∷ b) n)
 
 -- the items of the body at b from number n on are t
 abbrev Lies : Items → List ℕ → ℕ → Items → Type 0
-Lies d b n t = (i : ℕ) → item (b ++ (n + i) ∷ []) d ≡ slice_get (list_of t) i
+Lies d b n t = (i : ℕ) → item_at (b ++ (n + i) ∷ []) d ≡ slice_get (list_of t) i
 
 lies-next : (d : Items) (b : List ℕ) (n : ℕ) (t rest : Items) → ((i : ℕ) → slice_get (list_of t) (suc i) ≡ slice_get (list_of rest) i) → Lies d b n t → Lies d b (suc n) rest
-lies-next d b n t rest more l i = let e : suc n + i ≡ n + suc i = omega arith in ap (λ k. item (b ++ k ∷ []) d) e ∙ l (suc i) ∙ more i
+lies-next d b n t rest more l i = let e : suc n + i ≡ n + suc i = omega arith in ap (λ k. item_at (b ++ k ∷ []) d) e ∙ l (suc i) ∙ more i
 
-lies-first : (d : Items) (b : List ℕ) (n : ℕ) (t : Items) → Lies d b n t → item (b ++ n ∷ []) d ≡ slice_get (list_of t) 0
-lies-first d b n t l = let e : n ≡ n + 0 = omega arith in ap (λ k. item (b ++ k ∷ []) d) e ∙ l 0
+lies-first : (d : Items) (b : List ℕ) (n : ℕ) (t : Items) → Lies d b n t → item_at (b ++ n ∷ []) d ≡ slice_get (list_of t) 0
+lies-first d b n t l = let e : n ≡ n + 0 = omega arith in ap (λ k. item_at (b ++ k ∷ []) d) e ∙ l 0
 
-pub item-here : (b : List ℕ) (d body : Items) (k : ℕ) → body_at b d ≡ Some body → item (b ++ k ∷ []) d ≡ slice_get (list_of body) k
+pub item-here : (b : List ℕ) (d body : Items) (k : ℕ) → body_at b d ≡ Some body → item_at (b ++ k ∷ []) d ≡ slice_get (list_of body) k
 item-here [] d body k h = let same : d ≡ body = cc in ap (λ t. slice_get (list_of t) k) same
 item-here (j ∷ []) d body k h = into (λ t. item-here [] t body k) (inner j d) refl h
   where
-    into : ((t : Items) → body_at [] t ≡ Some body → item (k ∷ []) t ≡ slice_get (list_of body) k)
-        → (o : Option Items) → inner j d ≡ o → option_and_then (body_at []) o ≡ Some body → option_and_then (item (k ∷ [])) (inner j d) ≡ slice_get (list_of body) k
+    into : ((t : Items) → body_at [] t ≡ Some body → item_at (k ∷ []) t ≡ slice_get (list_of body) k)
+        → (o : Option Items) → inner j d ≡ o → option_and_then (body_at []) o ≡ Some body → option_and_then (item_at (k ∷ [])) (inner j d) ≡ slice_get (list_of body) k
     into ih None e g = cc
-    into ih (Some t) e g = ap (option_and_then (item (k ∷ []))) e ∙ ih t g
+    into ih (Some t) e g = ap (option_and_then (item_at (k ∷ []))) e ∙ ih t g
 item-here (j ∷ i ∷ b) d body k h = into (λ t. item-here (i ∷ b) t body k) (inner j d) refl h
   where
-    into : ((t : Items) → body_at (i ∷ b) t ≡ Some body → item (i ∷ (b ++ k ∷ [])) t ≡ slice_get (list_of body) k)
-        → (o : Option Items) → inner j d ≡ o → option_and_then (body_at (i ∷ b)) o ≡ Some body → option_and_then (item (i ∷ (b ++ k ∷ []))) (inner j d) ≡ slice_get (list_of body) k
+    into : ((t : Items) → body_at (i ∷ b) t ≡ Some body → item_at (i ∷ (b ++ k ∷ [])) t ≡ slice_get (list_of body) k)
+        → (o : Option Items) → inner j d ≡ o → option_and_then (body_at (i ∷ b)) o ≡ Some body → option_and_then (item_at (i ∷ (b ++ k ∷ []))) (inner j d) ≡ slice_get (list_of body) k
     into ih None e g = cc
-    into ih (Some t) e g = ap (option_and_then (item (i ∷ (b ++ k ∷ [])))) e ∙ ih t g
+    into ih (Some t) e g = ap (option_and_then (item_at (i ∷ (b ++ k ∷ [])))) e ∙ ih t g
 
 lies-body : (d : Items) (a : List ℕ) (body : Items) → body_at a d ≡ Some body → Lies d a 0 body
-lies-body d a body h i = let e : 0 + i ≡ i = omega arith in ap (λ k. item (a ++ k ∷ []) d) e ∙ item-here a d body i h
+lies-body d a body h i = let e : 0 + i ≡ i = omega arith in ap (λ k. item_at (a ++ k ∷ []) d) e ∙ item-here a d body i h
 
 -- these instances, if they are those that the searches find in a body, are as found
 abbrev Finds : Items → Parts → Type 0
@@ -53,7 +54,7 @@ Finds d ps = (b : List ℕ) (n : ℕ) (t : Items) → Lies d b n t → ps ≡ in
 
 -- one instance, by what the searches find of its type
 found-one : (d : Items) (b : List ℕ) (n : ℕ) (rest : Items) (z : Shell) (of : Of) (at : List ℕ) (s : Shell) (h : Head) (inside more : Parts)
-    → Finds d inside → Finds d more → Lies d b (suc n) rest → item (b ++ n ∷ []) d ≡ Some (Instance z of)
+    → Finds d inside → Finds d more → Lies d b (suc n) rest → item_at (b ++ n ∷ []) d ≡ Some (Instance z of)
     → (part at s h inside more ≡ instances d b (suc n) rest → ArePartsFound d b (part at s h inside more))
     → part at s h inside more ≡ with_made (b ++ n ∷ []) z (option_and_then (component d) (component_of d (b ++ n ∷ []))) (instances d b (suc n) rest)
     → ArePartsFound d b (part at s h inside more)
@@ -74,7 +75,7 @@ found-one d b n rest z of at s h inside more deep next l i skip e = by (componen
           record {
             around = ap body_of (sym at_is) ∙ body_of-item b n;
             of = of;
-            instance = ap (λ a. item a d) (sym at_is) ∙ i ∙ ap (λ s. Some (Instance s of)) shell_is;
+            instance = ap (λ a. item_at a d) (sym at_is) ∙ i ∙ ap (λ s. Some (Instance s of)) shell_is;
             is = ap (component_of d) (sym at_is) ∙ leads ∙ ap Some place;
             component = there;
           },

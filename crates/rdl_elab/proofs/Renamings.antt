@@ -3,6 +3,7 @@ use Rattle.std.proofs.Common.{◌≡◌, ℕ, zero, suc, ◌+◌, ◌<◌, Bool,
 use Rattle.std.specs.Prelude.{option_and_then, slice_get, slice_set, bytes_eq, not, ◌&&◌}
 use Rattle.std.specs.Option.{is_some, is_none}
 use Rattle.std.proofs.lemmas.Slice.Eq.{bytes_eq-Decides}
+use Rattle.rdl_tree.specs.ItemAt.{item_at}
 use Rattle.rdl_tree.specs.Items.{Items, no_items, plain, holder, Plain, named, own, default, dynamic, Holder, define, anonymous}
 use Rattle.rdl_tree.specs.View.{list_of, plain_item, holder_item}
 use Rattle.rdl_tree.specs.Address.{holder_of, number_of, map_inner, body_at}
@@ -26,7 +27,7 @@ use Rattle.rdl_tree.specs.declared.patch.Patch.TheVariants.{Exchange}
 use Rattle.rdl_tree.proofs.Edits.{length-set}
 use Rattle.rdl_tree.proofs.Rounds.{list_of-items_of}
 use Rattle.rdl_tree.proofs.Places.{Stands, inner_some}
-use Rattle.rdl_scope.specs.Types.{type_at, item, held_by, component_of, component_at, items_in}
+use Rattle.rdl_scope.specs.Types.{type_at, held_by, component_of, component_at, items_in}
 use Rattle.rdl_scope.specs.Target.{plain_named, holder_named, instance_before, instance_in, passes}
 use Rattle.rdl_scope.specs.Walk.{is_instance}
 use Rattle.rdl_scope.specs.Value.{item_reset}
@@ -53,7 +54,7 @@ component-body i [] t s e =
 component-body i (j ∷ p) t s e =
     let step = inner_some i (j ∷ p) t s e in
     let deeper = component-body j p step.0 s step.2 in
-    (deeper.0, ap (λ o. option_and_then own_component (option_and_then (item (j ∷ p)) o)) step.1 ∙ deeper.1)
+    (deeper.0, ap (λ o. option_and_then own_component (option_and_then (item_at (j ∷ p)) o)) step.1 ∙ deeper.1)
 
 clear-item : (d : Items) (b : List ℕ) (t : Items) (n : ℕ) (x : Item) → fault_of d ≡ None → body_at b d ≡ Some t → slice_get (list_of t) n ≡ Some x → (k : Option Kind) × (item_fault d k b t n x ≡ None)
 clear-item d [] t n x h e g =
@@ -263,9 +264,9 @@ module _ (at : List ℕ) (u : Shell) (d : Items) (is : IsRenaming at u d) where
 
   components-same : (a : List ℕ) → component_of new a ≡ component_of d a
   components-same a =
-      let each : option_and_then (held_by new a) (item a new) ≡ option_and_then (held_by d a) (item a new) = λ i. option_and_then (λ x. held-same a x i) (item a new) in
+      let each : option_and_then (held_by new a) (item_at a new) ≡ option_and_then (held_by d a) (item_at a new) = λ i. option_and_then (λ x. held-same a x i) (item_at a new) in
       each
-      ∙ read-same (held_by d a) (item a new) (item a d)
+      ∙ read-same (held_by d a) (item_at a new) (item_at a d)
       (exchange-read at d (OfShell u) old_item is.there (List ℕ) (held_by d a) (λ o. ⊥) (held-outside d a) (own-shell is.shell u is.of) (inl (holds is.of)) a)
     where
       holds : (o : Of) → held_by d a (Instance u o) ≡ held_by d a (Instance is.shell o)
@@ -424,7 +425,7 @@ module _ (at : List ℕ) (u : Shell) (d : Items) (is : IsRenaming at u d) where
     resets-stay path place c s o there component =
         inl
         (path-same d new (reset-both all_names d new framed) path place c (assigned-both all_names (row Reset).name refl d new framed all-alike (path ++ place ∷ []))
-        (read-same item_reset (item place new) (item place d)
+        (read-same item_reset (item_at place new) (item_at place d)
         (exchange-read at d (OfShell u) old_item is.there Value item_reset (λ o. ⊥) reset-outside (own-shell is.shell u is.of) (inl (ap (option_map Number) is.reset)) place)))
 
 -- ---- The law.

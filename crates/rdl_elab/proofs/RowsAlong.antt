@@ -3,6 +3,7 @@ use Rattle.std.proofs.Common.{◌≡◌, ℕ, List, [], ◌∷◌, ◌++◌, tru
 use Rattle.std.specs.Prelude.{bytes_eq, ◌||◌, option_map, option_and_then, unwrap_or, if◌then◌else◌}
 use Rattle.std.specs.List.{filter_map, cons_option}
 use Rattle.std.specs.Option.{option_or}
+use Rattle.rdl_tree.specs.ItemAt.{item_at}
 use Rattle.rdl_tree.specs.Items.{Items}
 use Rattle.rdl_tree.specs.Properties.{row, on, properties}
 use Rattle.rdl_tree.specs.declared.shell.Shell.{Shell}
@@ -12,7 +13,6 @@ use Rattle.rdl_tree.specs.declared.property.Property.{Property}
 use Rattle.rdl_tree.specs.declared.property.Property.TheVariants.{Reset}
 use Rattle.rdl_tree.specs.declared.description.Item.TheVariants.{Instance}
 use Rattle.rdl_tree.specs.declared.description.Of.{Of}
-use Rattle.rdl_scope.specs.Types.{item}
 use Rattle.rdl_scope.specs.Target.{body_of}
 use Rattle.rdl_scope.specs.Value.{shown, instance_reset, item_reset, component_value}
 use Rattle.rdl_scope.specs.Closed.{Head, Parts, Made, component, head_value}
@@ -86,13 +86,13 @@ values-alone h =
     all properties
 
 -- the reset of the last instance
-reset-last : (d : Items) (path : List (List ℕ)) (at : List ℕ) (s : Shell) (o : Of) (p : Property) → item at d ≡ Some (Instance s o) → instance_reset d p (path ++ at ∷ []) ≡ reset_value p s.reset
+reset-last : (d : Items) (path : List (List ℕ)) (at : List ℕ) (s : Shell) (o : Of) (p : Property) → item_at at d ≡ Some (Instance s o) → instance_reset d p (path ++ at ∷ []) ≡ reset_value p s.reset
 reset-last d [] at s o Reset h = ap (option_and_then item_reset) h
 reset-last d (a ∷ []) at s o Reset h = ap (option_and_then item_reset) h
 reset-last d (a ∷ b ∷ path) at s o Reset h = reset-last d (b ∷ path) at s o Reset h
 reset-last d path at s o p h = refl
 
-value-row : (d : Items) (path : List (List ℕ)) (at : List ℕ) (s : Shell) (o : Of) (h : Head) → item at d ≡ Some (Instance s o) → head_value h ≡ component_value d h.at
+value-row : (d : Items) (path : List (List ℕ)) (at : List ℕ) (s : Shell) (o : Of) (h : Head) → item_at at d ≡ Some (Instance s o) → head_value h ≡ component_value d h.at
     → (p : Property) → value_along h.kind s.reset (along d [] (path ++ at ∷ [])) (shown_values h) p ≡ row_value d (path ++ at ∷ []) h p
 value-row d path at s o h i same p =
     let whole = path ++ at ∷ [] in
@@ -101,7 +101,7 @@ value-row d path at s o h i same p =
     ∙ ap f (or-assoc (reached (row p).name (along d [] whole)) (reset_value p s.reset) (head_value h p))
     ∙ (λ j. f (option_or (reached-assigned d (row p).name whole j) (option_or (sym (reset-last d path at s o p i) j) (same j p))))
 
-pub values-row : (d : Items) (path : List (List ℕ)) (at : List ℕ) (s : Shell) (o : Of) (h : Head) (inside : Parts) → item at d ≡ Some (Instance s o) → component d h.at ≡ Some (record { head = h; parts = inside })
+pub values-row : (d : Items) (path : List (List ℕ)) (at : List ℕ) (s : Shell) (o : Of) (h : Head) (inside : Parts) → item_at at d ≡ Some (Instance s o) → component d h.at ≡ Some (record { head = h; parts = inside })
     → values_along h.kind s.reset (along d [] (path ++ at ∷ [])) (shown_values h) ≡ row_values d (path ++ at ∷ []) h
 values-row d path at s o h inside i c =
     let one = value-row d path at s o h i (value-found d h.at (record { head = h; parts = inside }) c) in

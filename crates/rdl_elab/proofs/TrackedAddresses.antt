@@ -2,13 +2,13 @@
 use Rattle.std.proofs.Common.{◌≡◌, ℕ, Bool, true, false, ◌||◌, List, [], ◌∷◌, ◌++◌, Option, Some, None, refl, ap, sym, ◌∙◌}
 use Rattle.std.specs.Prelude.{is_some, option_map, option_and_then}
 use Rattle.std.specs.Option.{option_or}
+use Rattle.rdl_tree.specs.ItemAt.{item_at}
 use Rattle.rdl_tree.specs.Items.{Items}
 use Rattle.rdl_tree.specs.Address.{inner, body_at}
 use Rattle.rdl_tree.specs.Component.{own_component}
 use Rattle.rdl_tree.specs.Properties.{row}
 use Rattle.rdl_tree.specs.declared.property.Property.{Property}
 use Rattle.rdl_tree.specs.declared.description.Component.{Component}
-use Rattle.rdl_scope.specs.Types.{item}
 use Rattle.rdl_scope.specs.Value.{nearest_default, last_default}
 use Rattle.rdl_scope.specs.Closed.{component}
 use Rattle.rdl_scope.specs.ItemFaults.{kind_at}
@@ -171,8 +171,8 @@ stays-inside i j a t h free r = record {
   now = ap (option_and_then (body_at (j ∷ a))) h.now ∙ r.now;
   was = ap (option_and_then (body_at (r.number ∷ r.rest))) h.was ∙ r.was;
   kinds =
-      ap (λ o. option_map (λ (c : Component). c.kind) (option_and_then own_component (option_and_then (item (j ∷ a)) o))) h.now ∙ r.kinds
-      ∙ sym (ap (λ o. option_map (λ (c : Component). c.kind) (option_and_then own_component (option_and_then (item (r.number ∷ r.rest)) o))) h.was);
+      ap (λ o. option_map (λ (c : Component). c.kind) (option_and_then own_component (option_and_then (item_at (j ∷ a)) o))) h.now ∙ r.kinds
+      ∙ sym (ap (λ o. option_map (λ (c : Component). c.kind) (option_and_then own_component (option_and_then (item_at (r.number ∷ r.rest)) o))) h.was);
   defaults = λ p shows.
       same-nearest i h.number (j ∷ a) (r.number ∷ r.rest) (new_of t) (old_of t) (new_of h.body) (old_of h.body) (row p).name h.now h.was (r.defaults p shows)
       (default-before p shows t i h.number (no-default i (j ∷ a) t free) h.before);

@@ -2,9 +2,10 @@
 use Rattle.std.proofs.Common.{◌≡◌, ℕ, zero, suc, Bool, true, false, ◌&&◌, ◌||◌, List, [], ◌∷◌, ◌++◌, Option, Some, None, refl, ap, sym, subst, ◌∙◌}
 use Rattle.std.specs.Prelude.{is_some, slice_get, bytes_eq, option_map, option_and_then, if◌then◌else◌}
 use Rattle.std.specs.Option.{option_or}
+use Rattle.rdl_tree.specs.ItemAt.{item_at}
 use Rattle.rdl_tree.specs.View.{list_of}
 use Rattle.rdl_tree.specs.Address.{inner, body_at}
-use Rattle.rdl_scope.specs.Types.{last_definition, type_at, item, type_of}
+use Rattle.rdl_scope.specs.Types.{last_definition, type_at, type_of}
 use Rattle.rdl_scope.specs.Walk.{reference_of}
 use Rattle.rdl_scope.specs.Closed.{Made, component}
 use Rattle.rdl_scope.proofs.AsFound.{as_found}
@@ -334,7 +335,7 @@ module _ (t : Tracked) (bodies : List (List ℕ))
     was : body_at (i ∷ a) (old_of t) ≡ Some (old_of s.body)
     was = ap (λ b. body_at b (old_of t)) (sym address-is) ∙ s.was
 
-    reference-is : (n : ℕ) → option_and_then reference_of (item (i ∷ a ++ n ∷ []) (new_of t)) ≡ option_and_then reference_of (item (i ∷ a ++ n ∷ []) (old_of t))
+    reference-is : (n : ℕ) → option_and_then reference_of (item_at (i ∷ a ++ n ∷ []) (new_of t)) ≡ option_and_then reference_of (item_at (i ∷ a ++ n ∷ []) (old_of t))
     reference-is n =
         ap (option_and_then reference_of) (item-here (i ∷ a) (new_of t) (new_of s.body) n s.now)
         ∙ reference-same s.body n (body-same (i ∷ a) t s.body s.tracked free)
@@ -354,9 +355,9 @@ module _ (t : Tracked) (bodies : List (List ℕ))
         let now = type_of-reference (new_of t) b in
         let before = type_of-reference (old_of t) b in
         let same : type_of (new_of t) b ≡ type_of (old_of t) b =
-        now ∙ ap (option_and_then (type_at b (new_of t))) (reference-is n) ∙ type-is n (option_and_then reference_of (item b (old_of t))) ∙ sym before in
+        now ∙ ap (option_and_then (type_at b (new_of t))) (reference-is n) ∙ type-is n (option_and_then reference_of (item_at b (old_of t))) ∙ sym before in
         lead-alike (type_of (new_of t) b) (type_of (old_of t) (s.number ∷ s.rest ++ m ∷ [])) (same ∙ ap (type_of (old_of t)) (sym (item-is n m e)))
-        (λ p f. type-there n (option_and_then reference_of (item b (new_of t))) p (sym now ∙ f))
+        (λ p f. type-there n (option_and_then reference_of (item_at b (new_of t))) p (sym now ∙ f))
 
   pub rest-unchanged : AreUnchangedBut (λ a. is_changed_at a t) (old_of t) bodies (new_of t)
   rest-unchanged [] c e free = cc

@@ -3,6 +3,7 @@ use Rattle.std.proofs.Common.{◌≡◌, ℕ, suc, ◌+◌, true, false, ◌&&�
 use Rattle.std.specs.Prelude.{is_some, nat_eq, bytes_eq, slice_get, unwrap_or, option_map, option_and_then}
 use Rattle.std.proofs.lemmas.Bool.{and_parts, not-false, eqb-true}
 use Rattle.std.proofs.lemmas.Slice.Eq.{bytes_eq-Decides}
+use Rattle.rdl_tree.specs.ItemAt.{item_at}
 use Rattle.rdl_tree.specs.Items.{Items}
 use Rattle.rdl_tree.specs.View.{add, list_of}
 use Rattle.rdl_tree.specs.declared.shell.Shell.{Shell}
@@ -11,7 +12,7 @@ use Rattle.rdl_tree.specs.declared.description.Item.{Item}
 use Rattle.rdl_tree.specs.declared.description.Item.TheVariants.{Define, Instance, Own, Default, Dynamic}
 use Rattle.rdl_tree.specs.declared.description.Of.TheVariants.{Named, Anonymous}
 use Rattle.rdl_tree.proofs.Rounds.{list_of-add}
-use Rattle.rdl_scope.specs.Types.{item, held_by, type_from, type_of, component_of}
+use Rattle.rdl_scope.specs.Types.{held_by, type_from, type_of, component_of}
 use Rattle.rdl_scope.specs.Closed.{Parts, Made, component, with_made, instances}
 use Rattle.rdl_scope.proofs.AsFound.{as_found}
 use Rattle.rdl_elab.specs.Reach.{SaysTheSame, AreLike}
@@ -109,16 +110,16 @@ instances-add d b n (Dynamic t p v) rest e = refl
 
 -- the items of the body at b from number n on are these
 abbrev Lies : Items → List ℕ → ℕ → List Item → Type 0
-Lies d b n xs = (i : ℕ) → item (b ++ (n + i) ∷ []) d ≡ slice_get xs i
+Lies d b n xs = (i : ℕ) → item_at (b ++ (n + i) ∷ []) d ≡ slice_get xs i
 
 lies-next : (d : Items) (b : List ℕ) (n : ℕ) (x : Item) (xs : List Item) → Lies d b n (x ∷ xs) → Lies d b (suc n) xs
-lies-next d b n x xs l i = let e : suc n + i ≡ n + suc i = omega arith in ap (λ k. item (b ++ k ∷ []) d) e ∙ l (suc i)
+lies-next d b n x xs l i = let e : suc n + i ≡ n + suc i = omega arith in ap (λ k. item_at (b ++ k ∷ []) d) e ∙ l (suc i)
 
-lies-first : (d : Items) (b : List ℕ) (n : ℕ) (x : Item) (xs : List Item) → Lies d b n (x ∷ xs) → item (b ++ n ∷ []) d ≡ Some x
-lies-first d b n x xs l = let e : n ≡ n + 0 = omega arith in ap (λ k. item (b ++ k ∷ []) d) e ∙ l 0
+lies-first : (d : Items) (b : List ℕ) (n : ℕ) (x : Item) (xs : List Item) → Lies d b n (x ∷ xs) → item_at (b ++ n ∷ []) d ≡ Some x
+lies-first d b n x xs l = let e : n ≡ n + 0 = omega arith in ap (λ k. item_at (b ++ k ∷ []) d) e ∙ l 0
 
 -- the component of a named instance is that of its type
-named-of : (d : Items) (a : List ℕ) (s : Shell) (y : List ℕ) → item a d ≡ Some (Instance s (Named y)) → component_of d a ≡ type_of d a
+named-of : (d : Items) (a : List ℕ) (s : Shell) (y : List ℕ) → item_at a d ≡ Some (Instance s (Named y)) → component_of d a ≡ type_of d a
 named-of d a s y e = ap (option_and_then (held_by d a)) e ∙ sym (ap (option_and_then (type_from d a)) e)
 
 -- from these numbers on, after the step and before it, a tracked body goes on with these items
@@ -153,14 +154,14 @@ module _ (old new : Items) (stands : List ℕ → Option (List ℕ)) (a x : List
     (types : (n m : ℕ) → number_before n body ≡ Some m → LeadAlike old new stands (type_of new (a ++ n ∷ [])) (type_of old (x ++ m ∷ [])))
     (itself : (n m : ℕ) → number_before n body ≡ Some m → StandsAs old new stands (a ++ n ∷ []) (x ++ m ∷ [])) where
   -- the type of a named instance
-  type-alike : (n m : ℕ) (s u : Shell) (y z : List ℕ) → number_before n body ≡ Some m → item (a ++ n ∷ []) new ≡ Some (Instance s (Named y)) → item (x ++ m ∷ []) old ≡ Some (Instance u (Named z))
+  type-alike : (n m : ℕ) (s u : Shell) (y z : List ℕ) → number_before n body ≡ Some m → item_at (a ++ n ∷ []) new ≡ Some (Instance s (Named y)) → item_at (x ++ m ∷ []) old ≡ Some (Instance u (Named z))
       → LeadAlike old new stands (component_of new (a ++ n ∷ [])) (component_of old (x ++ m ∷ []))
   type-alike n m s u y z number e f =
       subst (λ o. LeadAlike old new stands o (component_of old (x ++ m ∷ []))) (sym (named-of new (a ++ n ∷ []) s y e))
       (subst (λ o. LeadAlike old new stands (type_of new (a ++ n ∷ [])) o) (sym (named-of old (x ++ m ∷ []) u z f)) (types n m number))
 
   -- the component of an anonymous one
-  own-alike : (n m : ℕ) (s u : Shell) (c k : Component) → number_before n body ≡ Some m → item (a ++ n ∷ []) new ≡ Some (Instance s (Anonymous c)) → item (x ++ m ∷ []) old ≡ Some (Instance u (Anonymous k))
+  own-alike : (n m : ℕ) (s u : Shell) (c k : Component) → number_before n body ≡ Some m → item_at (a ++ n ∷ []) new ≡ Some (Instance s (Anonymous c)) → item_at (x ++ m ∷ []) old ≡ Some (Instance u (Anonymous k))
       → LeadAlike old new stands (component_of new (a ++ n ∷ [])) (component_of old (x ++ m ∷ []))
   own-alike n m s u c k number e f =
       let now : component_of new (a ++ n ∷ []) ≡ Some (a ++ n ∷ []) = ap (option_and_then (held_by new (a ++ n ∷ []))) e in

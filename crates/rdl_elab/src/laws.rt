@@ -1,5 +1,6 @@
 //! What the definitions have in common. Each function here is a law: it does nothing when it runs.
 ghost use Rattle.std.specs.Prelude.{◌≡◌, ◌++◌, ◌∷◌, [], ℕ, Bool, List, map, Option, Some, None, true, false};
+ghost use Rattle.rdl_tree.specs.ItemAt.{item_at};
 ghost use Rattle.rdl_tree.specs.Items.{Items};
 ghost use Rattle.rdl_tree.specs.declared.shell.Kind.{Kind};
 ghost use Rattle.rdl_tree.specs.declared.shell.Shell.{Shell};
@@ -12,7 +13,6 @@ ghost use Rattle.rdl_tree.specs.declared.patch.Patch.TheVariants.{Exchange};
 ghost use Rattle.rdl_tree.specs.declared.part.Part.TheVariants.{OfShell};
 ghost use Rattle.rdl_tree.specs.Patch.{patched};
 ghost use Rattle.rdl_scope.specs.Closed.{Head, Parts, Made, component, instances};
-ghost use Rattle.rdl_scope.specs.Types.{item};
 ghost use Rattle.rdl_scope.specs.Target.{body_of};
 ghost use Rattle.rdl_scope.specs.Value.{assigned, component_value};
 ghost use Rattle.rdl_elab.specs.declared.layout.Mode.{Mode};
@@ -90,7 +90,7 @@ pub fn assignments_come_along()
 /// The values of a row are made of those that its component has by itself, of the reset of its instance, and of the
 /// assignments that come along its path. Where there is neither, and for the top, they are those of the component.
 pub fn values_are_along()
-    ensures row { (d : Items) (path : List (List ℕ)) (at : List ℕ) (s : Shell) (o : Of) (h : Head) (inside : Parts) → item at d ≡ Some (Instance s o) → component d h.at ≡ Some (record { head = h; parts = inside }) → values_along h.kind s.reset (along d [] (path ++ at ∷ [])) (shown_values h) ≡ row_values d (path ++ at ∷ []) h }
+    ensures row { (d : Items) (path : List (List ℕ)) (at : List ℕ) (s : Shell) (o : Of) (h : Head) (inside : Parts) → item_at at d ≡ Some (Instance s o) → component d h.at ≡ Some (record { head = h; parts = inside }) → values_along h.kind s.reset (along d [] (path ++ at ∷ [])) (shown_values h) ≡ row_values d (path ++ at ∷ []) h }
     ensures alone { (h : Head) → values_along h.kind None [] (shown_values h) ≡ shown_values h }
     ensures top { (d : Items) (a : List ℕ) (c : Made) → component d a ≡ Some c → shown_values c.head ≡ row_values d [] c.head }
 {}

@@ -3,7 +3,7 @@ ghost use Rattle.std.specs.Prelude.{◌≡◌};
 ghost use Rattle.rdl_parse.specs.Faults.{parse_fault_number, words_fault, out_of_memory};
 ghost use Rattle.rdl_parse.specs.declared.fault.Stop.TheVariants.{Memory};
 
-use rdl_text::fault::{WordFault, TextFault};
+use rdl_text::fault::{TextFault, WordFault};
 use std::alloc::{AllocError, AllocFailed};
 
 /// Why words spell no description, and where: how many words there are from the one at fault on.

@@ -2,6 +2,7 @@
 use Rattle.std.proofs.Common.{◌≡◌, ℕ, suc, Bool, true, false, cond, List, [], ◌∷◌, ◌++◌, Some, None, Option, refl, ap, sym, ◌∙◌}
 use Rattle.std.proofs.lemmas.Slice.Eq.{bytes_eq-Decides}
 use Rattle.std.specs.Prelude.{option_and_then}
+use Rattle.rdl_tree.specs.ItemAt.{item_at}
 use Rattle.rdl_tree.specs.Items.{Items, no_items, plain, holder, Plain, named, own, default, dynamic, Holder, define, anonymous}
 use Rattle.rdl_tree.specs.View.{add, plain_item, holder_item}
 use Rattle.rdl_tree.specs.Part.{has_part}
@@ -13,7 +14,7 @@ use Rattle.rdl_tree.specs.declared.part.Part.TheVariants.{OfShell, OfTarget, OfT
 use Rattle.rdl_tree.specs.declared.shell.Shell.{Shell}
 use Rattle.rdl_tree.specs.declared.shell.Kind.{Kind}
 use Rattle.rdl_tree.specs.declared.value.Value.{Value}
-use Rattle.rdl_scope.specs.Types.{item, type_of, type_from}
+use Rattle.rdl_scope.specs.Types.{type_of, type_from}
 use Rattle.rdl_scope.specs.Target.{through}
 use Rattle.rdl_scope.specs.Walk.{is_definition}
 use Rattle.rdl_rewrite.specs.Addresses.{same, leads_to, passes_by}
@@ -67,9 +68,9 @@ apt_removal whole way at x part e = apt-if (goes whole way at) x part e
 
 -- no item is its own type
 unled-self : (whole : Items) (way : List ℕ) → leads_to way (type_of whole way) ≡ false
-unled-self whole way = by_case (item way whole) refl
+unled-self whole way = by_case (item_at way whole) refl
   where
-    by_case : (o : Option Item) → item way whole ≡ o → leads_to way (option_and_then (type_from whole way) o) ≡ false
+    by_case : (o : Option Item) → item_at way whole ≡ o → leads_to way (option_and_then (type_from whole way) o) ≡ false
     by_case None e = refl
     by_case (Some (Define n c)) e = refl
     by_case (Some (Instance s (Named t))) e = unled-name whole way way t (ap (is_definition t) e)

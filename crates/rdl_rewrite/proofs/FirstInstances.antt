@@ -3,13 +3,14 @@ use Rattle.std.proofs.Common.{◌≡◌, ℕ, suc, ◌+◌, Bool, true, false, c
 use Rattle.std.proofs.lemmas.Slice.Eq.{bytes_eq-Decides}
 use Rattle.std.specs.Prelude.{slice_get, option_and_then, bytes_eq}
 use Rattle.std.specs.Option.{option_or}
+use Rattle.rdl_tree.specs.ItemAt.{item_at}
 use Rattle.rdl_tree.specs.Items.{Items}
 use Rattle.rdl_tree.specs.View.{list_of}
 use Rattle.rdl_tree.specs.Address.{body_at}
 use Rattle.rdl_tree.specs.declared.description.Item.{Item}
 use Rattle.rdl_tree.specs.declared.description.Item.TheVariants.{Define, Instance, Own, Default, Dynamic}
 use Rattle.rdl_tree.specs.declared.description.Of.TheVariants.{Named, Anonymous}
-use Rattle.rdl_scope.specs.Types.{item, held_by, component_of}
+use Rattle.rdl_scope.specs.Types.{held_by, component_of}
 use Rattle.rdl_scope.specs.Target.{instance_before, instance_in}
 use Rattle.rdl_scope.specs.Walk.{is_instance}
 use Rattle.rdl_scope.proofs.Instances.{instance-suc}
@@ -53,10 +54,10 @@ pub firsts_here : (d : Items) (place b c : List ℕ) (n m : ℕ) (firsts : First
 firsts_here d place b c n m firsts e f is = subst (λ k. AreFirsts d place c k firsts) (sym f) (subst (λ a. AreFirsts d place a n firsts) (sym e) is)
 
 -- whether an instance's component is the one in which the item on the way stands
-component_inside : (d : Items) (place at : List ℕ) (x : Item) (led : Bool) → item at d ≡ Some x → IsLed d place at led → is_inside place (item place d) at led x ≡ leads_to place (component_of d at)
+component_inside : (d : Items) (place at : List ℕ) (x : Item) (led : Bool) → item_at at d ≡ Some x → IsLed d place at led → is_inside place (item_at place d) at led x ≡ leads_to place (component_of d at)
 component_inside d place at x led here is = by_item x ∙ sym (ap (λ o. leads_to place (option_and_then (held_by d at) o)) here)
   where
-    by_item : (y : Item) → is_inside place (item place d) at led y ≡ leads_to place (held_by d at y)
+    by_item : (y : Item) → is_inside place (item_at place d) at led y ≡ leads_to place (held_by d at y)
     by_item (Define n c) = refl
     by_item (Instance s (Named t)) = led_name d place at led t is
     by_item (Instance s (Anonymous c)) = refl
@@ -64,7 +65,7 @@ component_inside d place at x led here is = by_item x ∙ sym (ap (λ o. leads_t
     by_item (Default p v) = refl
     by_item (Dynamic t p v) = refl
 
-pub inside_same : (d : Items) (p place : List ℕ) (o : Option Item) (at : List ℕ) (x : Item) (led inside : Bool) → item at d ≡ Some x → IsLed d place at led → inside ≡ is_inside p o at led x → p ≡ place → o ≡ item place d
+pub inside_same : (d : Items) (p place : List ℕ) (o : Option Item) (at : List ℕ) (x : Item) (led inside : Bool) → item_at at d ≡ Some x → IsLed d place at led → inside ≡ is_inside p o at led x → p ≡ place → o ≡ item_at place d
     → inside ≡ leads_to place (component_of d at)
 inside_same d p place o at x led inside here is made e f = made ∙ ap (λ q. is_inside q o at led x) e ∙ ap (λ h. is_inside place h at led x) f ∙ component_inside d place at x led here is
 

@@ -17,7 +17,6 @@ use Rattle.rdl_tree.specs.declared.part.Part.{Part}
 use Rattle.rdl_tree.specs.declared.patch.Patch.{Patch}
 use Rattle.rdl_tree.specs.declared.patch.Patch.TheVariants.{Insert, Delete, Shift, Exchange}
 use Rattle.rdl_tree.proofs.Changes.{map_body-cong, map_body-same}
-use Rattle.rdl_scope.specs.Types.{item}
 use Rattle.rdl_scope.proofs.Levelled.{item-deeper}
 
 -- ---- Changes of a body, one behind another or one inside another.
@@ -111,18 +110,8 @@ holder-inside b n = ap (λ k. take k (b ++ n ∷ [])) (length-inside b n) ∙ ta
 pub number-inside : (b : List ℕ) (n : ℕ) → number_of (b ++ n ∷ []) ≡ n
 number-inside b n = ap (λ k. slice_index (b ++ n ∷ []) k) (length-inside b n) ∙ get_or-append_seam b n [] 0
 
--- the two definitions of the item at an address are one
-pub item-item_at : (at : List ℕ) (t : Items) → item at t ≡ item_at at t
-item-item_at [] t = refl
-item-item_at (k ∷ []) t = refl
-item-item_at (k ∷ j ∷ at) t = into (item-item_at (j ∷ at)) (inner k t)
-  where
-    into : ((d : Items) → item (j ∷ at) d ≡ item_at (j ∷ at) d) → (o : Option Items) → option_and_then (item (j ∷ at)) o ≡ option_and_then (item_at (j ∷ at)) o
-    into ih None = refl
-    into ih (Some d) = ih d
-
 pub item_at-inside : (b : List ℕ) (n : ℕ) (whole body : Items) → body_at b whole ≡ Some body → item_at (b ++ n ∷ []) whole ≡ slice_get (list_of body) n
-item_at-inside b n whole body here = sym (item-item_at (b ++ n ∷ []) whole) ∙ item-deeper b n whole body here
+item_at-inside b n whole body here = item-deeper b n whole body here
 
 made-inside : (b : List ℕ) (n : ℕ) (change : ℕ → Items → Items) (whole body : Items) → body_at b whole ≡ Some body
     → map_body (holder_of (b ++ n ∷ [])) (change (number_of (b ++ n ∷ []))) whole ≡ map_body b (λ _. change n body) whole

@@ -4,12 +4,13 @@ use Rattle.std.proofs.lemmas.Bool.{and_right}
 use Rattle.std.proofs.lemmas.Slice.Eq.{bytes_eq-Decides}
 use Rattle.std.specs.Prelude.{bytes_eq, slice_get, option_and_then}
 use Rattle.std.specs.Option.{option_or}
+use Rattle.rdl_tree.specs.ItemAt.{item_at}
 use Rattle.rdl_tree.specs.Items.{Items}
 use Rattle.rdl_tree.specs.View.{list_of}
 use Rattle.rdl_tree.specs.Address.{inner, body_at}
 use Rattle.rdl_tree.specs.declared.description.Item.{Item}
 use Rattle.rdl_tree.specs.declared.description.Item.TheVariants.{Define, Instance, Own, Default, Dynamic}
-use Rattle.rdl_scope.specs.Types.{last_definition, type_at, type_of, item}
+use Rattle.rdl_scope.specs.Types.{last_definition, type_at, type_of}
 use Rattle.rdl_scope.specs.Walk.{is_definition, reference_of}
 use Rattle.rdl_scope.proofs.Searches.{last-suc, type_of-reference}
 use Rattle.rdl_rewrite.specs.Addresses.{same, leads_to}
@@ -97,10 +98,10 @@ behind way taken at (Dynamic t p v) led q h = refl
 
 -- one item more
 pub led_next : (d : Items) (way b : List ℕ) (n : ℕ) (body : Items) (x : Item) (led new : Bool) → body_at b d ≡ Some body → slice_get (list_of body) n ≡ Some x → IsLed d way (b ++ n ∷ []) led
-    → new ≡ led_behind way (item way d) (b ++ n ∷ []) x led → IsLed d way (b ++ (n + 1) ∷ []) new
+    → new ≡ led_behind way (item_at way d) (b ++ n ∷ []) x led → IsLed d way (b ++ (n + 1) ∷ []) new
 led_next d way b n body x led new here got is made = record {
   leads = λ q h.
-      made ∙ behind way (item way d) (b ++ n ∷ []) x led q h
+      made ∙ behind way (item_at way d) (b ++ n ∷ []) x led q h
       ∙ by_case q h (is_definition q (Some x))
       ∙ ap (λ o. leads_to way (option_or (option_map (λ k. b ++ k ∷ []) o) (type_at b d q))) (ap (λ o. cond (is_definition q o) (Some n) (last_definition q n body)) (sym got) ∙ sym (last-suc q n body))
       ∙ sym (ap (leads_to way) (type_at-deeper b (suc n) d body q here))
@@ -110,7 +111,7 @@ led_next d way b n body x led new here got is made = record {
     next : suc n ≡ n + 1
     next = omega arith
 
-    by_case : (q : List ℕ) → is_definition q (item way d) ≡ true → (defined : Bool)
+    by_case : (q : List ℕ) → is_definition q (item_at way d) ≡ true → (defined : Bool)
         → cond defined (same (b ++ n ∷ []) way) led ≡ leads_to way (option_or (option_map (λ k. b ++ k ∷ []) (cond defined (Some n) (last_definition q n body))) (type_at b d q))
     by_case q h true = refl
     by_case q h false = is.leads q h ∙ ap (leads_to way) (type_at-deeper b n d body q here)
@@ -122,19 +123,19 @@ and-true true = refl
 and-true false = refl
 
 -- a reference to this name
-pub led_name : (d : Items) (way at : List ℕ) (led : Bool) (t : List ℕ) → IsLed d way at led → (led && is_definition t (item way d)) ≡ leads_to way (type_at at d t)
-led_name d way at led t is = by_name (is_definition t (item way d)) refl
+pub led_name : (d : Items) (way at : List ℕ) (led : Bool) (t : List ℕ) → IsLed d way at led → (led && is_definition t (item_at way d)) ≡ leads_to way (type_at at d t)
+led_name d way at led t is = by_name (is_definition t (item_at way d)) refl
   where
-    by_name : (b : Bool) → is_definition t (item way d) ≡ b → (led && b) ≡ leads_to way (type_at at d t)
+    by_name : (b : Bool) → is_definition t (item_at way d) ≡ b → (led && b) ≡ leads_to way (type_at at d t)
     by_name true e = and-true led ∙ is.leads t e
     by_name false e = and_right led false refl ∙ sym (unled-name d way at t e)
 
-pub led_type : (d : Items) (way at : List ℕ) (x : Item) (led : Bool) → item at d ≡ Some x → IsLed d way at led → (led && refers_to (item way d) x) ≡ leads_to way (type_of d at)
+pub led_type : (d : Items) (way at : List ℕ) (x : Item) (led : Bool) → item_at at d ≡ Some x → IsLed d way at led → (led && refers_to (item_at way d) x) ≡ leads_to way (type_of d at)
 led_type d way at x led here is =
     by_reference (reference_of x)
     ∙ sym (ap (leads_to way) (type_of-reference d at) ∙ ap (λ o. leads_to way (option_and_then (type_at at d) (option_and_then reference_of o))) here)
   where
-    by_reference : (r : Option (List ℕ)) → (led && is_name_of (item way d) r) ≡ leads_to way (option_and_then (type_at at d) r)
+    by_reference : (r : Option (List ℕ)) → (led && is_name_of (item_at way d) r) ≡ leads_to way (option_and_then (type_at at d) r)
     by_reference None = and_right led false refl
     by_reference (Some t) = led_name d way at led t is
 

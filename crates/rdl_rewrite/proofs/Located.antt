@@ -4,6 +4,7 @@ use Rattle.std.proofs.lemmas.List.{append-nil}
 use Rattle.std.proofs.lemmas.List.Folds.{list_any-append}
 use Rattle.std.specs.Prelude.{option_and_then}
 use Rattle.std.specs.List.{list_any}
+use Rattle.rdl_tree.specs.ItemAt.{item_at}
 use Rattle.rdl_tree.specs.Items.{Items, no_items, count}
 use Rattle.rdl_tree.specs.View.{add, items_of, list_of, own_body}
 use Rattle.rdl_tree.specs.Address.{inner, body_at}
@@ -15,10 +16,8 @@ use Rattle.rdl_tree.proofs.Nesting.{stands-short}
 use Rattle.rdl_tree.proofs.Rests.{rest-next}
 use Rattle.rdl_tree.proofs.Rounds.{items_of-list_of, inner-slice_get}
 use Rattle.rdl_tree.proofs.Sizes.{item_count}
-use Rattle.rdl_scope.specs.Types.{item}
 use Rattle.rdl_scope.proofs.Levelled.{item-deeper, item_got}
 use Rattle.rdl_rewrite.specs.Addresses.{addresses}
-use Rattle.rdl_rewrite.proofs.Leading.{item-item_at}
 
 -- ---- Where an item and its own body stand.
 
@@ -27,18 +26,18 @@ some-same None = refl
 some-same (Some x) = refl
 
 -- the body at an item's address is that of its own component
-pub body_at-item : (a : List ℕ) (d : Items) (x : Item) → item a d ≡ Some x → body_at a d ≡ own_body x
+pub body_at-item : (a : List ℕ) (d : Items) (x : Item) → item_at a d ≡ Some x → body_at a d ≡ own_body x
 body_at-item [] d x e = cc
 body_at-item (k ∷ []) d x e = some-same (inner k d) ∙ inner-slice_get k d ∙ ap (option_and_then own_body) e
 body_at-item (k ∷ j ∷ a) d x e = into (λ t. body_at-item (j ∷ a) t x) (inner k d) refl e
   where
-    into : ((t : Items) → item (j ∷ a) t ≡ Some x → body_at (j ∷ a) t ≡ own_body x) → (o : Option Items) → inner k d ≡ o → option_and_then (item (j ∷ a)) o ≡ Some x
+    into : ((t : Items) → item_at (j ∷ a) t ≡ Some x → body_at (j ∷ a) t ≡ own_body x) → (o : Option Items) → inner k d ≡ o → option_and_then (item_at (j ∷ a)) o ≡ Some x
         → option_and_then (body_at (j ∷ a)) (inner k d) ≡ own_body x
     into ih None g h = cc
     into ih (Some t) g h = ap (option_and_then (body_at (j ∷ a))) g ∙ ih t h
 
 -- the item that a loop over a body is at
-pub item_met : (b : List ℕ) (i : ℕ) (d body : Items) (xs : List Item) (x : Item) → body_at b d ≡ Some body → xs ≡ list_of body → i < length xs → x ≡ get_or xs i x → item (b ++ i ∷ []) d ≡ Some x
+pub item_met : (b : List ℕ) (i : ℕ) (d body : Items) (xs : List Item) (x : Item) → body_at b d ≡ Some body → xs ≡ list_of body → i < length xs → x ≡ get_or xs i x → item_at (b ++ i ∷ []) d ≡ Some x
 item_met b i d body xs x here e h is = item-deeper b i d body here ∙ item_got body i xs x e h is
 
 -- going into an item's own body ends
@@ -94,5 +93,5 @@ any_itself p b n (Dynamic t q v) r none e = e ∙ or-itself (p (b ++ n ∷ []))
 
 -- ---- How long an item's address is.
 
-pub item-short : (at : List ℕ) (d : Items) (x : Item) → item at d ≡ Some x → depth d ≤ 16 → length at ≤ 17
-item-short at d x e h = omega (arith, stands-short at d x (sym (item-item_at at d) ∙ e))
+pub item-short : (at : List ℕ) (d : Items) (x : Item) → item_at at d ≡ Some x → depth d ≤ 16 → length at ≤ 17
+item-short at d x e h = omega (arith, stands-short at d x e)

@@ -2,6 +2,7 @@
 use Rattle.std.proofs.Common.{◌≡◌, ◌≤◌, ◌<◌, ◌+◌, inl, inr, ℕ, Bool, true, false, cond, List, [], ◌++◌, length, take, drop, Some, None, Option, IfOk, refl, ap, sym, subst, ◌∙◌, arith}
 use Rattle.std.specs.Prelude.{Result, Ok, Err, is_ok, ◌==◌}
 use Rattle.std.specs.List.{list_all}
+use Rattle.rdl_tree.specs.ItemAt.{item_at}
 use Rattle.rdl_tree.specs.Items.{Items}
 use Rattle.rdl_tree.specs.View.{items_of, list_of}
 use Rattle.rdl_tree.specs.Address.{holder_of, number_of, body_at, map_body}
@@ -31,7 +32,6 @@ use Rattle.rdl_rewrite.specs.declared.edit.PatchRefusal.{PatchRefusal}
 use Rattle.rdl_rewrite.specs.declared.edit.PatchRefusal.TheVariants.{InUse, NameTaken, Reserved, NotAddable, NotAnInstance, TooDeep}
 use Rattle.rdl_rewrite.specs.declared.fate.Fate.{Fate}
 use Rattle.rdl_rewrite.specs.declared.place.Place.{Place}
-use Rattle.rdl_scope.specs.Types.{item}
 use Rattle.rdl_rewrite.proofs.Deep.{depth-put}
 use Rattle.rdl_rewrite.proofs.Fated.{Apt, fated, fated_whole}
 use Rattle.rdl_rewrite.proofs.Fates.{staying-fated, renamed-fated, apt_removal, apt_renaming}
@@ -99,7 +99,7 @@ removed_makes whole way ok = by_use (is_in_use whole way) ok
     by_use false h = fated_makes whole (fate whole way None) (apt_removal whole way) _ (staying-fated whole way [] 0 whole)
 
 renamed_makes : (whole : Items) (way name : List ℕ) → is_ok (renamed whole way name) ≡ true → Makes whole (renamed whole way name) (fate_patches (fate whole way (Some name)) [] 0 whole)
-renamed_makes whole way name ok = by_tests (is_taken whole way name (item way whole)) (is_reserved name) ok
+renamed_makes whole way name ok = by_tests (is_taken whole way name (item_at way whole)) (is_reserved name) ok
   where
     by_tests : (t r : Bool) → is_ok (cond t (Err NameTaken) (cond r (Err Reserved) (Ok (renamed_items whole way name [] 0 whole)))) ≡ true
         → Makes whole (cond t (Err NameTaken) (cond r (Err Reserved) (Ok (renamed_items whole way name [] 0 whole)))) (fate_patches (fate whole way (Some name)) [] 0 whole)

@@ -1,12 +1,13 @@
 -- What an edit that reaches every body knows of the item on the way.
 -- own: SystemRDL 2.0 has no edits.
 use Rattle.std.specs.Prelude.{◌≡◌, option_copied}
+use Rattle.rdl_tree.specs.ItemAt.{item_at}
 use Rattle.rdl_tree.specs.Address.{holder_of}
-use Rattle.rdl_scope.specs.Types.{item, items_in}
+use Rattle.rdl_scope.specs.Types.{items_in}
 use Rattle.rdl_rewrite.specs.declared.reach.Reach.{Reach}
 
 pub record Knows (r : Reach) : Type 0 where
-  pub taken : option_copied r.taken ≡ item r.way.now r.whole.now.items
+  pub taken : option_copied r.taken ≡ item_at r.way.now r.whole.now.items
   pub place : r.place ≡ holder_of r.way.now
-  pub holder : option_copied r.holder ≡ item (holder_of r.way.now) r.whole.now.items
+  pub holder : option_copied r.holder ≡ item_at (holder_of r.way.now) r.whole.now.items
   pub siblings : r.siblings ≡ items_in (holder_of r.way.now) r.whole.now.items

@@ -2,6 +2,7 @@
 -- for an instance. What leads where is as it was before the edit.
 -- own: SystemRDL 2.0 has no edits.
 use Rattle.std.specs.Prelude.{ℕ, suc, if◌then◌else◌, Bool, true, false, not, List, [], ◌∷◌, ◌++◌, Option, Some, None, Result, Ok, Err}
+use Rattle.rdl_tree.specs.ItemAt.{item_at}
 use Rattle.rdl_tree.specs.Items.{Items, no_items, plain, holder, Plain, named, own, default, dynamic, Holder, define, anonymous}
 use Rattle.rdl_tree.specs.View.{list_of}
 use Rattle.rdl_tree.specs.Address.{holder_of, body_at}
@@ -11,7 +12,7 @@ use Rattle.rdl_tree.specs.declared.shell.Shell.{Shell}
 use Rattle.rdl_parse.specs.Class.{class}
 use Rattle.rdl_parse.specs.declared.class.Class.{Class}
 use Rattle.rdl_parse.specs.declared.class.Class.TheVariants.{Name}
-use Rattle.rdl_scope.specs.Types.{item, type_of}
+use Rattle.rdl_scope.specs.Types.{type_of}
 use Rattle.rdl_scope.specs.Target.{through}
 use Rattle.rdl_rewrite.specs.Addresses.{same, leads_to}
 use Rattle.rdl_rewrite.specs.Names.{defined_names, instance_names, has_name}
@@ -73,6 +74,6 @@ is_taken whole way name x = false
 
 abbrev pub renamed : (whole : Items) → (way name : List ℕ) → Result Items PatchRefusal
 renamed whole way name =
-    if is_taken whole way name (item way whole) then Err NameTaken
+    if is_taken whole way name (item_at way whole) then Err NameTaken
     else if is_reserved name then Err Reserved
     else Ok (renamed_items whole way name [] 0 whole)

@@ -1,10 +1,11 @@
 //! The patches of an edit that reaches every body.
 ghost use Rattle.std.specs.Prelude.{◌≡◌, ◌≤◌, ◌<◌, ◌++◌, ◌∷◌, [], length, reverse, Some, IfOk, option_copied};
+ghost use Rattle.rdl_tree.specs.ItemAt.{item_at};
 ghost use Rattle.rdl_tree.specs.Items.{no_items};
 ghost use Rattle.rdl_tree.specs.View.{add};
 ghost use Rattle.rdl_tree.specs.Address.{body_at, holder_of, number_of};
 ghost use Rattle.rdl_tree.specs.Depth.{depth};
-ghost use Rattle.rdl_scope.specs.Types.{item, items_in};
+ghost use Rattle.rdl_scope.specs.Types.{items_in};
 ghost use Rattle.rdl_rewrite.specs.Firsts.{AreFirsts};
 ghost use Rattle.rdl_rewrite.specs.Led.{IsLed};
 ghost use Rattle.rdl_rewrite.specs.Reach.{Knows};
@@ -14,10 +15,10 @@ use crate::fate::Fate;
 use crate::firsts::Firsts;
 use crate::leads::{is_inside, led_behind};
 use crate::{removal, renaming};
-use rdl_scope::types::item_at;
 use rdl_text::name::Name;
 use rdl_tree::address::Address;
 use rdl_tree::description::{Body, Description, Item};
+use rdl_tree::find::item_at;
 use rdl_tree::patch::Patch;
 use std::alloc::{AllocError, Global};
 
@@ -93,7 +94,7 @@ impl<'a> Reach<'a> {
     ) -> Result<Fate, AllocError>
         requires nesting { depth self.now.whole.now.items ≤ 16 }
         requires known { Knows self.now }
-        requires here { item at.now self.now.whole.now.items ≡ Some found.now }
+        requires here { item_at at.now self.now.whole.now.items ≡ Some found.now }
         requires led { IsLed self.now.whole.now.items self.now.way.now at.now led }
         requires firsts { AreFirsts self.now.whole.now.items (holder_of self.now.way.now) (holder_of at.now) (number_of at.now) firsts.now }
         ensures { IfOk result (λ new. new ≡ fate self.now.whole.now.items self.now.way.now (option_copied self.now.name) at.now found.now) }
@@ -153,7 +154,7 @@ impl<'a> Reach<'a> {
         requires nesting { depth self.now.whole.now.items ≤ 16 }
         requires known { Knows self.now }
         requires room { length at.now < 17 }
-        requires here { item (at.now ++ number ∷ []) self.now.whole.now.items ≡ Some found.now }
+        requires here { item_at (at.now ++ number ∷ []) self.now.whole.now.items ≡ Some found.now }
         requires led { IsLed self.now.whole.now.items self.now.way.now (at.now ++ number ∷ []) led }
         requires inside_led { IsLed self.now.whole.now.items (holder_of self.now.way.now) (at.now ++ number ∷ []) inside_led }
         requires firsts { AreFirsts self.now.whole.now.items (holder_of self.now.way.now) at.now number firsts.now }

@@ -1,11 +1,12 @@
 //! What goes with an item that is taken out.
 ghost use Rattle.std.specs.Prelude.{◌≡◌, ◌≤◌, ◌<◌, ◌++◌, ◌∷◌, [], length, true, is_ok, Some, None, IfOk, IfErr, IsErrOf, option_copied};
 ghost use Rattle.std.specs.List.{list_any};
+ghost use Rattle.rdl_tree.specs.ItemAt.{item_at};
 ghost use Rattle.rdl_tree.specs.Items.{no_items};
 ghost use Rattle.rdl_tree.specs.View.{add};
 ghost use Rattle.rdl_tree.specs.Address.{body_at, holder_of, number_of};
 ghost use Rattle.rdl_tree.specs.Depth.{depth};
-ghost use Rattle.rdl_scope.specs.Types.{item, type_of};
+ghost use Rattle.rdl_scope.specs.Types.{type_of};
 ghost use Rattle.rdl_rewrite.specs.Addresses.{leads_to, addresses};
 ghost use Rattle.rdl_rewrite.specs.Led.{IsLed};
 ghost use Rattle.rdl_rewrite.specs.Firsts.{AreFirsts};
@@ -52,7 +53,7 @@ fn is_used_by(reach: &Reach, at: &Address, number: usize, found: &Item, led: boo
     requires nesting { depth reach.now.whole.now.items ≤ 16 }
     requires known { Knows reach.now }
     requires room { length at.now < 17 }
-    requires here { item (at.now ++ number ∷ []) reach.now.whole.now.items ≡ Some found.now }
+    requires here { item_at (at.now ++ number ∷ []) reach.now.whole.now.items ≡ Some found.now }
     requires led { IsLed reach.now.whole.now.items reach.now.way.now (at.now ++ number ∷ []) led }
     ensures { result ≡ list_any (λ a. leads_to reach.now.way.now (type_of reach.now.whole.now.items a)) (addresses at.now number (add found.now no_items)) }
 {
@@ -87,7 +88,7 @@ fn goes<'a>(
 ) -> Result<bool, AllocError>
     requires nesting { depth reach.now.whole.now.items ≤ 16 }
     requires known { Knows reach.now }
-    requires here { item at.now reach.now.whole.now.items ≡ Some found.now }
+    requires here { item_at at.now reach.now.whole.now.items ≡ Some found.now }
     requires firsts { AreFirsts reach.now.whole.now.items (holder_of reach.now.way.now) (holder_of at.now) (number_of at.now) firsts.now }
     ensures { IfOk result (λ answer. answer ≡ goes reach.now.whole.now.items reach.now.way.now at.now) }
 {
@@ -113,7 +114,7 @@ pub(crate) fn fate<'a>(
 ) -> Result<Fate, AllocError>
     requires nesting { depth reach.now.whole.now.items ≤ 16 }
     requires known { Knows reach.now }
-    requires here { item at.now reach.now.whole.now.items ≡ Some found.now }
+    requires here { item_at at.now reach.now.whole.now.items ≡ Some found.now }
     requires firsts { AreFirsts reach.now.whole.now.items (holder_of reach.now.way.now) (holder_of at.now) (number_of at.now) firsts.now }
     ensures { IfOk result (λ fate. fate ≡ fate_in_removal reach.now.whole.now.items reach.now.way.now at.now) }
 {

@@ -1,8 +1,8 @@
 //! What follows the name of an item.
 ghost use Rattle.std.specs.Prelude.{◌≡◌, ◌≤◌, ◌<◌, [], length, true, is_ok, Some, IfOk, IfErr, IsErrOf, option_copied, if◌then◌else◌};
+ghost use Rattle.rdl_tree.specs.ItemAt.{item_at};
 ghost use Rattle.rdl_tree.specs.Address.{holder_of, number_of};
 ghost use Rattle.rdl_tree.specs.Depth.{depth};
-ghost use Rattle.rdl_scope.specs.Types.{item};
 ghost use Rattle.rdl_scope.specs.Target.{passes};
 ghost use Rattle.rdl_rewrite.specs.Firsts.{AreFirsts};
 ghost use Rattle.rdl_rewrite.specs.Passed.{if_passed};
@@ -22,10 +22,10 @@ use crate::names::{is_defined, is_instantiated};
 use crate::passed::passed;
 use crate::reach::Reach;
 use rdl_parse::class::Class;
-use rdl_scope::types::item_at;
 use rdl_text::name::Name;
 use rdl_tree::address::Address;
 use rdl_tree::description::{Body, Description, Item, Of};
+use rdl_tree::find::item_at;
 use rdl_tree::part::Part;
 use rdl_tree::patch::Patch;
 use rdl_tree::shell::Shell;
@@ -126,7 +126,7 @@ pub(crate) fn fate<'a>(
 ) -> Result<Fate, AllocError>
     requires nesting { depth reach.now.whole.now.items ≤ 16 }
     requires known { Knows reach.now }
-    requires here { item at.now reach.now.whole.now.items ≡ Some found.now }
+    requires here { item_at at.now reach.now.whole.now.items ≡ Some found.now }
     requires led { IsLed reach.now.whole.now.items reach.now.way.now at.now led }
     requires firsts { AreFirsts reach.now.whole.now.items (holder_of reach.now.way.now) (holder_of at.now) (number_of at.now) firsts.now }
     ensures { IfOk result (λ fate. fate ≡ fate_in_renaming reach.now.whole.now.items reach.now.way.now name.now at.now found.now) }
@@ -170,7 +170,7 @@ fn is_taken(
     way: &Address,
     name: &Name,
 ) -> Result<bool, AllocError>
-    ensures { IfOk result (λ answer. answer ≡ is_taken whole.now.items way.now name.now (item way.now whole.now.items)) }
+    ensures { IfOk result (λ answer. answer ≡ is_taken whole.now.items way.now name.now (item_at way.now whole.now.items)) }
 {
     if way.is_empty() {
         return Ok(false);

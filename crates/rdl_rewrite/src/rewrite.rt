@@ -21,7 +21,11 @@ use std::alloc::Global;
 /// The patches that make the edit, one for each item that it inserts, drops, moves or sets; or the edit's first refusal.
 /// Refused with `TooDeep` are new items that would nest over 16 deep; and of a description that nests so as it is, every
 /// removal and renaming, and each change of a body at a level over 16. An address could hold no more.
-pub fn patches(alloc: Global, description: &Description, edit: &Edit) -> Result<Vec<Patch>, PatchRefusal>
+pub fn patches(
+    alloc: Global,
+    description: &Description,
+    edit: &Edit,
+) -> Result<Vec<Patch>, PatchRefusal>
     ensures made { IfOk result (λ ps. rewritten description.now.items edit.now ≡ Ok (image ps.items description.now.items)) }
     ensures fit { IfOk result (λ ps. AllFit ps.items description.now.items) }
     ensures which { IfOk result (λ ps. ps.items ≡ patches description.now.items edit.now) }

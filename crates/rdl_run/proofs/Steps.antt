@@ -4,7 +4,7 @@ use Rattle.std.specs.Prelude.{◌-◌, slice_get, slice_index}
 use Rattle.std.specs.List.{list_all, position}
 use Rattle.rdl_elab.specs.Faults.{elaborated}
 use Rattle.rdl_elab.specs.declared.row.Row.{Row}
-use Rattle.rdl_scope.specs.Types.{item}
+use Rattle.rdl_tree.specs.ItemAt.{item_at}
 use Rattle.rdl_tree.specs.Address.{body_at}
 use Rattle.rdl_tree.specs.Edit.{remove_item}
 use Rattle.rdl_tree.specs.Find.{find}
@@ -102,7 +102,7 @@ removed-real whole way = either (is_in_use whole way) (Err first.InUse) (Ok (sta
 renamed-real : (whole : Items) (way name : List ℕ) → Real (renamed whole way name)
 renamed-real whole way name =
     let unreserved = cond (is_reserved name) (Err first.Reserved) (Ok (renamed_items whole way name [] 0 whole)) in
-    either (is_taken whole way name (item way whole)) (Err first.NameTaken) unreserved tt
+    either (is_taken whole way name (item_at way whole)) (Err first.NameTaken) unreserved tt
     (either (is_reserved name) (Err first.Reserved) (Ok (renamed_items whole way name [] 0 whole)) tt tt)
 
 of_item-real : (way : List ℕ) (whole : Items) (e : Edit) → Real (of_item way whole e)

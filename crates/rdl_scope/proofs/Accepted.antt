@@ -2,6 +2,7 @@
 use Rattle.std.proofs.Common.{◌≡◌, ℕ, zero, suc, ◌+◌, Bool, true, false, List, [], ◌∷◌, ◌++◌, Some, None, Option, refl, ap, sym, subst, ◌∙◌, arith, append_assoc}
 use Rattle.std.specs.Prelude.{option_and_then, slice_get, not}
 use Rattle.std.specs.Option.{option_or, is_some}
+use Rattle.rdl_tree.specs.ItemAt.{item_at}
 use Rattle.rdl_tree.specs.Items.{Items, no_items, plain, holder, Plain, named, own, default, dynamic, Holder, define, anonymous}
 use Rattle.rdl_tree.specs.View.{list_of, holder_item, plain_item}
 use Rattle.rdl_tree.specs.Address.{inner}
@@ -15,7 +16,7 @@ use Rattle.rdl_tree.specs.declared.description.Component.{Component}
 use Rattle.rdl_tree.specs.declared.description.Item.{Item}
 use Rattle.rdl_tree.specs.declared.description.Item.TheVariants.{Instance}
 use Rattle.rdl_tree.specs.declared.description.Of.{Of}
-use Rattle.rdl_scope.specs.Types.{item, component_at}
+use Rattle.rdl_scope.specs.Types.{component_at}
 use Rattle.rdl_scope.specs.Target.{instance_before}
 use Rattle.rdl_scope.specs.ItemFaults.{may_instantiate, wrong_part, wrong_number, first_of, instance_kind, instance_fault, item_fault, fault_at, first_fault, inside_fault, is_too_large, fault_of}
 
@@ -101,7 +102,7 @@ clear-below d (k ∷ []) around b body c h e = by (slice_get (list_of body) k) r
 clear-below d (k ∷ j ∷ a) around b body c h e = into (λ kind t. clear-below d (j ∷ a) (Some kind) (b ++ k ∷ []) t c) (inner k body) refl e
   where
     into : ((kind : Kind) (t : Items) → first_fault d (Some kind) (b ++ k ∷ []) t 0 t ≡ None → component_at t (j ∷ a) ≡ Some c → inside_fault d ((b ++ k ∷ []) ++ j ∷ a) (Some c) ≡ None)
-        → (o : Option Items) → inner k body ≡ o → option_and_then own_component (option_and_then (item (j ∷ a)) o) ≡ Some c → inside_fault d (b ++ k ∷ j ∷ a) (Some c) ≡ None
+        → (o : Option Items) → inner k body ≡ o → option_and_then own_component (option_and_then (item_at (j ∷ a)) o) ≡ Some c → inside_fault d (b ++ k ∷ j ∷ a) (Some c) ≡ None
     into ih None g e = cc
     into ih (Some t) g e =
         let held = inner-own k body t g in

@@ -2,6 +2,7 @@
 use Rattle.std.proofs.Common.{◌≡◌, ℕ, zero, suc, ◌+◌, List, [], ◌∷◌, ◌++◌, Some, None, Option, refl, ap, sym, subst, ◌∙◌, arith, append_assoc}
 use Rattle.std.specs.Prelude.{option_and_then, slice_get}
 use Rattle.std.specs.Option.{option_or}
+use Rattle.rdl_tree.specs.ItemAt.{item_at}
 use Rattle.rdl_tree.specs.Items.{Items, no_items, plain, holder, Plain, named, own, default, dynamic, Holder, define, anonymous}
 use Rattle.rdl_tree.specs.View.{list_of, holder_item}
 use Rattle.rdl_tree.specs.Address.{inner, body_at}
@@ -9,7 +10,7 @@ use Rattle.rdl_tree.specs.Component.{holder_kind, own_component}
 use Rattle.rdl_tree.specs.Properties.{row}
 use Rattle.rdl_tree.specs.declared.property.Property.{Property}
 use Rattle.rdl_tree.specs.declared.property.Property.TheVariants.{Accesswidth, Regwidth}
-use Rattle.rdl_scope.specs.Types.{item, held_by}
+use Rattle.rdl_scope.specs.Types.{held_by}
 use Rattle.rdl_scope.specs.Value.{nearest_default, component_value, own_value, stated_value, built_in_value}
 use Rattle.rdl_scope.specs.Closed.{Made, Standing, lookup, after_plain, after_holder, parts, with_made, before, component_in, standing_at, closed, nothing, component, head_value, stated, built_in, instances, found_part, IsAsFound}
 use Rattle.rdl_scope.proofs.StandingBefore.{lookup-component, default-search}
@@ -18,7 +19,7 @@ use Rattle.rdl_scope.proofs.StandingBefore.{lookup-component, default-search}
 record Here (d : Items) (b : List ℕ) (n : ℕ) (t : Items) (e : Standing) : Type 0 where
   standing : (i : ℕ) → standing_at nothing [] (b ++ (n + i) ∷ []) d ≡ Some (before i e b n t)
   holds : (i : ℕ) → component d (b ++ (n + i) ∷ []) ≡ component_in i e b n t
-  items : (i : ℕ) → item (b ++ (n + i) ∷ []) d ≡ slice_get (list_of t) i
+  items : (i : ℕ) → item_at (b ++ (n + i) ∷ []) d ≡ slice_get (list_of t) i
 
 at_zero : (b : List ℕ) (n : ℕ) → b ++ n ∷ [] ≡ b ++ (n + 0) ∷ []
 at_zero b n = let e : n ≡ n + 0 = omega arith in ap (λ k. b ++ k ∷ []) e
@@ -30,14 +31,14 @@ next_plain : (d : Items) (b : List ℕ) (n : ℕ) (p : Plain) (rest : Items) (e 
 next_plain d b n p rest e h = record {
   standing = λ i. ap (λ a. standing_at nothing [] a d) (at_next b n i) ∙ h.standing (suc i);
   holds = λ i. ap (component d) (at_next b n i) ∙ h.holds (suc i);
-  items = λ i. ap (λ a. item a d) (at_next b n i) ∙ h.items (suc i);
+  items = λ i. ap (λ a. item_at a d) (at_next b n i) ∙ h.items (suc i);
 }
 
 next_holder : (d : Items) (b : List ℕ) (n : ℕ) (k : Holder) (body rest : Items) (e : Standing) → Here d b n (holder k body rest) e → Here d b (suc n) rest (after_holder k (b ++ n ∷ []) body (parts e (b ++ n ∷ []) 0 body) e)
 next_holder d b n k body rest e h = record {
   standing = λ i. ap (λ a. standing_at nothing [] a d) (at_next b n i) ∙ h.standing (suc i);
   holds = λ i. ap (component d) (at_next b n i) ∙ h.holds (suc i);
-  items = λ i. ap (λ a. item a d) (at_next b n i) ∙ h.items (suc i);
+  items = λ i. ap (λ a. item_at a d) (at_next b n i) ∙ h.items (suc i);
 }
 
 -- the instances of a body are those that the searches find
@@ -46,7 +47,7 @@ parts-instances d b n no_items e h = refl
 parts-instances d b n (plain (named s t) rest) e h =
     let more = parts-instances d b (suc n) rest e (next_plain d b n (named s t) rest e h) in
     let stands : standing_at nothing [] (b ++ n ∷ []) d ≡ Some e = ap (λ a. standing_at nothing [] a d) (at_zero b n) ∙ h.standing 0 in
-    let of = ap (λ a. item a d) (at_zero b n) ∙ h.items 0 in
+    let of = ap (λ a. item_at a d) (at_zero b n) ∙ h.items 0 in
     ap (λ o. with_made (b ++ n ∷ []) s o (parts e b (suc n) rest)) (lookup-component t (b ++ n ∷ []) d e stands ∙ ap (λ o. option_and_then (component d) (option_and_then (held_by d (b ++ n ∷ [])) o)) (sym of))
     ∙ ap (found_part d (b ++ n ∷ []) s) more
 parts-instances d b n (plain (own p v) rest) e h = parts-instances d b (suc n) rest e (next_plain d b n (own p v) rest e h)
@@ -55,7 +56,7 @@ parts-instances d b n (plain (dynamic t p v) rest) e h = parts-instances d b (su
 parts-instances d b n (holder (define m k) body rest) e h = parts-instances d b (suc n) rest (after_holder (define m k) (b ++ n ∷ []) body (parts e (b ++ n ∷ []) 0 body) e) (next_holder d b n (define m k) body rest e h)
 parts-instances d b n (holder (anonymous s k) body rest) e h =
     let more = parts-instances d b (suc n) rest e (next_holder d b n (anonymous s k) body rest e h) in
-    let of = ap (λ a. item a d) (at_zero b n) ∙ h.items 0 in
+    let of = ap (λ a. item_at a d) (at_zero b n) ∙ h.items 0 in
     let made = ap (component d) (at_zero b n) ∙ h.holds 0 in
     ap (λ o. with_made (b ++ n ∷ []) s o (parts e b (suc n) rest)) (sym made ∙ ap (λ o. option_and_then (component d) (option_and_then (held_by d (b ++ n ∷ [])) o)) (sym of))
     ∙ ap (found_part d (b ++ n ∷ []) s) more
@@ -90,14 +91,14 @@ within-made e b n (suc k) (holder j body rest) m h =
 record Agrees (d : Items) (b : List ℕ) (e : Standing) (t : Items) : Type 0 where
   standing : (i : ℕ) (c : List ℕ) → standing_at nothing [] (b ++ i ∷ c) d ≡ standing_at e b (i ∷ c) t
   holds : (i : ℕ) (c : List ℕ) → component d (b ++ i ∷ c) ≡ closed e b (i ∷ c) t
-  items : (i : ℕ) (c : List ℕ) → item (b ++ i ∷ c) d ≡ item (i ∷ c) t
+  items : (i : ℕ) (c : List ℕ) → item_at (b ++ i ∷ c) d ≡ item_at (i ∷ c) t
   bodies : (i : ℕ) (c : List ℕ) → body_at (b ++ i ∷ c) d ≡ body_at (i ∷ c) t
 
 agrees-inside : (d : Items) (b : List ℕ) (e : Standing) (t : Items) (k : ℕ) (body : Items) → Agrees d b e t → inner k t ≡ Some body → Agrees d (b ++ k ∷ []) (before k e b 0 t) body
 agrees-inside d b e t k body g h = record {
   standing = λ i c. ap (λ a. standing_at nothing [] a d) (append_assoc b (k ∷ []) (i ∷ c)) ∙ g.standing k (i ∷ c) ∙ ap (option_and_then (standing_at (before k e b 0 t) (b ++ k ∷ []) (i ∷ c))) h;
   holds = λ i c. ap (component d) (append_assoc b (k ∷ []) (i ∷ c)) ∙ g.holds k (i ∷ c) ∙ ap (option_and_then (closed (before k e b 0 t) (b ++ k ∷ []) (i ∷ c))) h;
-  items = λ i c. ap (λ a. item a d) (append_assoc b (k ∷ []) (i ∷ c)) ∙ g.items k (i ∷ c) ∙ ap (option_and_then (item (i ∷ c))) h;
+  items = λ i c. ap (λ a. item_at a d) (append_assoc b (k ∷ []) (i ∷ c)) ∙ g.items k (i ∷ c) ∙ ap (option_and_then (item_at (i ∷ c))) h;
   bodies = λ i c. ap (λ a. body_at a d) (append_assoc b (k ∷ []) (i ∷ c)) ∙ g.bodies k (i ∷ c) ∙ ap (option_and_then (body_at (i ∷ c))) h;
 }
 
@@ -105,7 +106,7 @@ here-first : (d : Items) (b : List ℕ) (e : Standing) (t : Items) → Agrees d 
 here-first d b e t g = record {
   standing = λ i. let z : 0 + i ≡ i = omega arith in ap (λ k. standing_at nothing [] (b ++ k ∷ []) d) z ∙ g.standing i [];
   holds = λ i. let z : 0 + i ≡ i = omega arith in ap (λ k. component d (b ++ k ∷ [])) z ∙ g.holds i [];
-  items = λ i. let z : 0 + i ≡ i = omega arith in ap (λ k. item (b ++ k ∷ []) d) z ∙ g.items i [];
+  items = λ i. let z : 0 + i ≡ i = omega arith in ap (λ k. item_at (b ++ k ∷ []) d) z ∙ g.items i [];
 }
 
 or-none : {X : Type 0} (o : Option X) → option_or o None ≡ o

@@ -4,6 +4,7 @@ use Rattle.std.specs.Prelude.{◌||◌, option_and_then, slice_get, bytes_eq}
 use Rattle.std.specs.Option.{option_or, is_some}
 use Rattle.std.specs.Cmp.Lexicographic.{pointwise}
 use Rattle.std.proofs.lemmas.List.{take-append-le, take_all}
+use Rattle.rdl_tree.specs.ItemAt.{item_at}
 use Rattle.rdl_tree.specs.Items.{Items}
 use Rattle.rdl_tree.specs.View.{list_of}
 use Rattle.rdl_tree.specs.Address.{body_at}
@@ -16,7 +17,7 @@ use Rattle.rdl_tree.specs.declared.description.Of.{Of}
 use Rattle.rdl_tree.specs.declared.description.Of.TheVariants.{Named, Anonymous}
 use Rattle.rdl_tree.specs.declared.description.Item.{Item}
 use Rattle.rdl_tree.specs.declared.description.Item.TheVariants.{Define, Instance, Own, Default, Dynamic}
-use Rattle.rdl_scope.specs.Types.{item, component_of}
+use Rattle.rdl_scope.specs.Types.{component_of}
 use Rattle.rdl_scope.specs.Target.{instance_before}
 use Rattle.rdl_scope.specs.Value.{own_before, last_default}
 use Rattle.rdl_scope.specs.Walk.{found, is_instance, owned_by, defaulted_by}
@@ -140,7 +141,7 @@ within-body b n (Some r) h =
     let inside : r.0 ≤ length b = omega (arith, h r refl) in
     ap (λ xs. Some (xs ++ r.1 ∷ [])) (sym (take-append-le r.0 b (n ∷ []) inside))
 
-pub place-component : (d : Items) (b : List ℕ) (n : ℕ) (s : Shell) (o : Of) (f : List ℕ → Option (ℕ × ℕ)) → item (b ++ n ∷ []) d ≡ Some (Instance s o) → ((q : List ℕ) → f q ≡ found (b ++ n ∷ []) d q)
+pub place-component : (d : Items) (b : List ℕ) (n : ℕ) (s : Shell) (o : Of) (f : List ℕ → Option (ℕ × ℕ)) → item_at (b ++ n ∷ []) d ≡ Some (Instance s o) → ((q : List ℕ) → f q ≡ found (b ++ n ∷ []) d q)
     → option_map (along_place b) (place_held b n o f) ≡ component_of d (b ++ n ∷ [])
 place-component d b n s (Named t) f e scope =
     ap (λ z. option_map (along_place b) (option_map (λ p. record { depth = p.0; number = p.1 }) z)) (scope t)
@@ -156,14 +157,14 @@ at-place d b None = refl
 at-place d b (Some p) = refl
 
 -- and its kind
-pub held-kind : (d : Items) (b : List ℕ) (n : ℕ) (s : Shell) (o : Of) (p : Option Place) → item (b ++ n ∷ []) d ≡ Some (Instance s o) → option_map (along_place b) p ≡ component_of d (b ++ n ∷ [])
+pub held-kind : (d : Items) (b : List ℕ) (n : ℕ) (s : Shell) (o : Of) (p : Option Place) → item_at (b ++ n ∷ []) d ≡ Some (Instance s o) → option_map (along_place b) p ≡ component_of d (b ++ n ∷ [])
     → kind_held d b o p ≡ instance_kind d (b ++ n ∷ [])
 held-kind d b n s (Named t) p e h = at-place d b p ∙ ap (option_and_then (kind_at d)) h
 held-kind d b n s (Anonymous c) p e h =
     sym (ap (option_and_then (kind_at d)) (component-anonymous d (b ++ n ∷ []) s c e) ∙ ap (λ x. option_map (λ (k : Component). k.kind) (option_and_then own_component x)) e)
 
 -- and its fault
-pub met-instance : (d : Items) (around : Option Kind) (b : List ℕ) (body : Items) (n : ℕ) (p : Passed) (s : Shell) (o : Of) (held : Option Place) (kind : Option Kind) (twice : Bool) → item (b ++ n ∷ []) d ≡ Some (Instance s o)
+pub met-instance : (d : Items) (around : Option Kind) (b : List ℕ) (body : Items) (n : ℕ) (p : Passed) (s : Shell) (o : Of) (held : Option Place) (kind : Option Kind) (twice : Bool) → item_at (b ++ n ∷ []) d ≡ Some (Instance s o)
     → option_map (along_place b) held ≡ component_of d (b ++ n ∷ []) → kind ≡ kind_held d b o held → twice ≡ is_some (place_under p.places s.name) → Knows d b body n p
     → instance_fault around twice s kind ≡ instance_fault around (is_some (instance_before s.name n body)) s (instance_kind d (b ++ n ∷ []))
 met-instance d around b body n p s o held kind twice e leads of before k =

@@ -2,6 +2,7 @@
 use Rattle.std.proofs.Common.{◌≡◌, ℕ, suc, ◌+◌, ◌<◌, cond, List, [], ◌∷◌, ◌++◌, length, get_or, Some, None, Option, refl, ap, sym, ◌∙◌, arith, option_map}
 use Rattle.std.specs.Prelude.{option_and_then, slice_get}
 use Rattle.std.specs.Option.{option_or}
+use Rattle.rdl_tree.specs.ItemAt.{item_at}
 use Rattle.rdl_tree.specs.Items.{Items}
 use Rattle.rdl_tree.specs.View.{list_of, own_body}
 use Rattle.rdl_tree.specs.Address.{inner, body_at}
@@ -11,7 +12,7 @@ use Rattle.rdl_tree.specs.declared.description.Item.{Item}
 use Rattle.rdl_tree.specs.declared.description.Item.TheVariants.{Define, Instance, Own, Default, Dynamic}
 use Rattle.rdl_tree.specs.declared.description.Of.TheVariants.{Named, Anonymous}
 use Rattle.rdl_tree.proofs.Rounds.{inner-slice_get}
-use Rattle.rdl_scope.specs.Types.{last_definition, item}
+use Rattle.rdl_scope.specs.Types.{last_definition}
 use Rattle.rdl_scope.specs.Walk.{found, below, is_definition}
 use Rattle.rdl_scope.proofs.Searches.{last-suc}
 use Rattle.std.proofs.lemmas.Option.{slice_get_read}
@@ -90,19 +91,19 @@ scope-found levels m b n d body q e h around here =
     ∙ sym (found-deeper b n d body q e)
 
 -- the item of a number, and the body inside it
-pub item-deeper : (b : List ℕ) (n : ℕ) (d body : Items) → body_at b d ≡ Some body → item (b ++ n ∷ []) d ≡ slice_get (list_of body) n
+pub item-deeper : (b : List ℕ) (n : ℕ) (d body : Items) → body_at b d ≡ Some body → item_at (b ++ n ∷ []) d ≡ slice_get (list_of body) n
 item-deeper [] n d body e = let same : d ≡ body = cc in ap (λ t. slice_get (list_of t) n) same
 item-deeper (i ∷ []) n d body e = into (inner i d) refl e
   where
-    into : (o : Option Items) → inner i d ≡ o → option_and_then (body_at []) o ≡ Some body → option_and_then (item (n ∷ [])) (inner i d) ≡ slice_get (list_of body) n
+    into : (o : Option Items) → inner i d ≡ o → option_and_then (body_at []) o ≡ Some body → option_and_then (item_at (n ∷ [])) (inner i d) ≡ slice_get (list_of body) n
     into None g h = cc
-    into (Some t) g h = let same : t ≡ body = cc in ap (option_and_then (item (n ∷ []))) g ∙ ap (λ t. slice_get (list_of t) n) same
+    into (Some t) g h = let same : t ≡ body = cc in ap (option_and_then (item_at (n ∷ []))) g ∙ ap (λ t. slice_get (list_of t) n) same
 item-deeper (i ∷ j ∷ b) n d body e = into (λ t. item-deeper (j ∷ b) n t body) (inner i d) refl e
   where
-    into : ((t : Items) → body_at (j ∷ b) t ≡ Some body → item (j ∷ b ++ n ∷ []) t ≡ slice_get (list_of body) n) → (o : Option Items) → inner i d ≡ o → option_and_then (body_at (j ∷ b)) o ≡ Some body
-        → option_and_then (item (j ∷ b ++ n ∷ [])) (inner i d) ≡ slice_get (list_of body) n
+    into : ((t : Items) → body_at (j ∷ b) t ≡ Some body → item_at (j ∷ b ++ n ∷ []) t ≡ slice_get (list_of body) n) → (o : Option Items) → inner i d ≡ o → option_and_then (body_at (j ∷ b)) o ≡ Some body
+        → option_and_then (item_at (j ∷ b ++ n ∷ [])) (inner i d) ≡ slice_get (list_of body) n
     into ih None g h = cc
-    into ih (Some t) g h = ap (option_and_then (item (j ∷ b ++ n ∷ []))) g ∙ ih t h
+    into ih (Some t) g h = ap (option_and_then (item_at (j ∷ b ++ n ∷ []))) g ∙ ih t h
 
 pub body-deeper : (b : List ℕ) (n : ℕ) (d body : Items) → body_at b d ≡ Some body → body_at (b ++ n ∷ []) d ≡ inner n body
 body-deeper [] n d body e = let same : d ≡ body = cc in into (inner n d) ∙ ap (inner n) same

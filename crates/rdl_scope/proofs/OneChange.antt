@@ -25,7 +25,6 @@ use Rattle.rdl_tree.proofs.Rounds.{items_of-list_of, list_of-items_of}
 use Rattle.rdl_tree.proofs.Edits.{get-insert}
 use Rattle.rdl_tree.proofs.Places.{Stands, stands, found_at, body_at-map}
 use Rattle.rdl_tree.proofs.Undone.{exchange_is, exchange-found}
-use Rattle.rdl_scope.specs.Types.{item}
 use Rattle.rdl_scope.specs.ItemFaults.{kind_at, item_fault, first_fault, fault_of}
 use Rattle.rdl_scope.specs.OneItem.{fault_of_item, NoOtherFault}
 use Rattle.rdl_scope.proofs.Accepted.{no_first}
@@ -33,23 +32,18 @@ use Rattle.rdl_scope.proofs.Flats.{flat, SameFlat, flat-set, flat-insert}
 use Rattle.rdl_scope.proofs.Outlines.{outline, SameOutline, kind-outline, outline-map_body, outline-set, outline-insert}
 use Rattle.rdl_scope.proofs.Unchanged.{exchanged, inserted, kind_along, along}
 
-pub item-item_at : (a : List ℕ) (t : Items) → item a t ≡ item_at a t
-item-item_at [] t = refl
-item-item_at (i ∷ []) t = refl
-item-item_at (i ∷ j ∷ a) t = λ n. option_and_then (λ b. item-item_at (j ∷ a) b n) (inner i t)
-
 kind-whole : (p : List ℕ) (d : Items) → kind_along None p d ≡ kind_at d p
 kind-whole [] d = refl
 kind-whole (i ∷ p) d = refl
 
 -- the fault of an item that stands in a body
-standing-fault : (e : Items) (at : List ℕ) (body : Items) (y : Item) → body_at (holder_of at) e ≡ Some body → item at e ≡ Some y
+standing-fault : (e : Items) (at : List ℕ) (body : Items) (y : Item) → body_at (holder_of at) e ≡ Some body → item_at at e ≡ Some y
     → fault_of_item e at ≡ item_fault e (kind_at e (holder_of at)) (holder_of at) body (number_of at) y
 standing-fault e at body y h g = λ i. option_and_then (λ c. option_and_then (item_fault e (kind_at e (holder_of at)) (holder_of at) c (number_of at)) (g i)) (h i)
 
 -- a change of one body that leaves the outline the same
 within : (d c : Items) (at : List ℕ) (f : Items → Items) (y : Item) → fault_of d ≡ None → body_at (holder_of at) d ≡ Some c → outline (f c) ≡ outline c
-    → item at (map_body (holder_of at) f d) ≡ Some y
+    → item_at at (map_body (holder_of at) f d) ≡ Some y
     → ((e : Items) (around : Option Kind) → outline d ≡ outline e → item_fault e around (holder_of at) (f c) (number_of at) y ≡ None
     → first_fault d around (holder_of at) c 0 c ≡ None → first_fault e around (holder_of at) (f c) 0 (f c) ≡ None)
     → NoOtherFault (map_body (holder_of at) f d) at
@@ -66,19 +60,19 @@ within d c at f y clear held same got last small fine =
 -- ---- Another part of one item.
 
 -- one that leaves its outline the same, and what counts for the items behind it
-part_of_one : (d : Items) (at : List ℕ) (part : Part) (x : Item) → fault_of d ≡ None → item at d ≡ Some x
+part_of_one : (d : Items) (at : List ℕ) (part : Part) (x : Item) → fault_of d ≡ None → item_at at d ≡ Some x
     → SameOutline x (with_part part x) → SameFlat x (with_part part x) → own_component (with_part part x) ≡ own_component x
     → NoOtherFault (patched (Exchange at part) d) at
 part_of_one d at part x clear is outlines flats own =
-    let s : Stands at d x = stands at d x (sym (item-item_at at d) ∙ is) in
+    let s : Stands at d x = stands at d x is in
     let n = number_of at in
     let y : Item = with_part part x in
     let made : with_part_at n part s.body ≡ items_of (slice_set (list_of s.body) n y) = exchange_is n part s.body x s.found in
     let whole : items_of (list_of s.body) ≡ s.body = items_of-list_of s.body in
     let same : outline (with_part_at n part s.body) ≡ outline s.body = ap outline made ∙ outline-set (list_of s.body) n x y s.found outlines ∙ ap outline whole in
     let each : (j : ℕ) → flat j s.body ≡ flat j (with_part_at n part s.body) = λ j. sym (ap (flat j) made ∙ flat-set j (list_of s.body) n x y s.found flats ∙ ap (flat j) whole) in
-    let got : item at (patched (Exchange at part) d) ≡ Some y =
-    item-item_at at (patched (Exchange at part) d) ∙ found_at at (patched (Exchange at part) d) (with_part_at n part s.body) y s.within (body_at-map (holder_of at) (with_part_at n part) d s.body s.held) (exchange-found n part s.body x s.found) in
+    let got : item_at at (patched (Exchange at part) d) ≡ Some y =
+    found_at at (patched (Exchange at part) d) (with_part_at n part s.body) y s.within (body_at-map (holder_of at) (with_part_at n part) d s.body s.held) (exchange-found n part s.body x s.found) in
     let number : 0 + n ≡ n = omega arith in
     within d s.body at (with_part_at n part) y clear s.held same got
     (λ e around h fine was.
@@ -97,7 +91,7 @@ shell-flat s new (Anonymous c) e zero rest = refl
 shell-flat s new (Anonymous c) e (suc n) rest = ap (λ m. holder (anonymous (bare_shell m) c.kind) no_items (flat n rest)) e
 
 -- another shell of the same name
-pub new_shell : (d : Items) (at : List ℕ) (s new : Shell) (o : Of) → fault_of d ≡ None → item at d ≡ Some (Instance s o) → new.name ≡ s.name → NoOtherFault (patched (Exchange at (OfShell new)) d) at
+pub new_shell : (d : Items) (at : List ℕ) (s new : Shell) (o : Of) → fault_of d ≡ None → item_at at d ≡ Some (Instance s o) → new.name ≡ s.name → NoOtherFault (patched (Exchange at (OfShell new)) d) at
 new_shell d at s new o clear is name = part_of_one d at (OfShell new) (Instance s o) clear is (shell-outline s new o name) (shell-flat s new o name) refl
 
 value-flat : (t : List (List ℕ)) (p : List ℕ) (v w : Value) → SameFlat (Dynamic t p v) (Dynamic t p w)
@@ -105,7 +99,7 @@ value-flat t p v w zero rest = refl
 value-flat t p v w (suc n) rest = refl
 
 -- another value of a dynamic assignment
-pub new_value : (d : Items) (at : List ℕ) (t : List (List ℕ)) (p : List ℕ) (v w : Value) → fault_of d ≡ None → item at d ≡ Some (Dynamic t p v) → NoOtherFault (patched (Exchange at (OfValue w)) d) at
+pub new_value : (d : Items) (at : List ℕ) (t : List (List ℕ)) (p : List ℕ) (v w : Value) → fault_of d ≡ None → item_at at d ≡ Some (Dynamic t p v) → NoOtherFault (patched (Exchange at (OfValue w)) d) at
 new_value d at t p v w clear is = part_of_one d at (OfValue w) (Dynamic t p v) clear is (λ rest. refl) (value-flat t p v w) refl
 
 -- ---- One item more.
@@ -122,7 +116,7 @@ last_dynamic d b at t p v clear long held end =
     let same : outline (f b) ≡ outline b = outline-insert (list_of b) n t p v end ∙ ap outline whole in
     let each : (j : ℕ) → j < n → flat j b ≡ flat j (f b) = λ j h. sym (flat-insert j (list_of b) n x (omega arith) fits ∙ ap (flat j) whole) in
     let found : slice_get (list_of (f b)) n ≡ Some x = ap (λ (l : List Item). slice_get l n) (list_of-items_of (insert (list_of b) n x)) ∙ get-insert (list_of b) n x fits in
-    let got : item at (patched (Insert at x) d) ≡ Some x = item-item_at at (patched (Insert at x) d) ∙ found_at at (patched (Insert at x) d) (f b) x long (body_at-map (holder_of at) f d b held) found in
+    let got : item_at at (patched (Insert at x) d) ≡ Some x = found_at at (patched (Insert at x) d) (f b) x long (body_at-map (holder_of at) f d b held) found in
     let number : 0 + n ≡ n = omega arith in
     within d b at f x clear held same got
     (λ e around h fine was.

@@ -2,6 +2,7 @@
 use Rattle.std.proofs.Common.{◌≡◌, ℕ, suc, ◌+◌, ◌-◌, ◌<◌, ◌≤◌, List, [], ◌∷◌, length, drop, get_or, Some, None, refl, ap, ◌∙◌, sym, arith, drop-cons}
 use Rattle.std.specs.Prelude.{option_and_then}
 use Rattle.std.specs.Option.{option_or}
+use Rattle.rdl_tree.specs.ItemAt.{item_at}
 use Rattle.rdl_tree.specs.Items.{Items}
 use Rattle.rdl_tree.specs.View.{add, items_of}
 use Rattle.rdl_tree.specs.Address.{body_at}
@@ -10,7 +11,7 @@ use Rattle.rdl_tree.specs.declared.description.Item.{Item}
 use Rattle.rdl_tree.specs.declared.description.Item.TheVariants.{Define, Instance, Own, Default, Dynamic}
 use Rattle.rdl_tree.specs.declared.description.Of.TheVariants.{Named, Anonymous}
 use Rattle.rdl_tree.proofs.Rests.{rest-next, rest-none, rest-all}
-use Rattle.rdl_scope.specs.Types.{item, component_of}
+use Rattle.rdl_scope.specs.Types.{component_of}
 use Rattle.rdl_scope.specs.Target.{body_of}
 use Rattle.rdl_scope.specs.Value.{assigned_in, assigned, instance_reset, item_reset, end_of}
 use Rattle.rdl_scope.specs.Walk.{assigned_by}
@@ -46,12 +47,12 @@ around-next d p i path a h =
 pub ruleset steps = (assigned-next, assigned-none, around-next, rest-all)
 
 -- the last instance of a path
-pub reset-last : (d : Items) (path : List (List ℕ)) (a : List ℕ) → 0 < length path → instance_reset d Reset path ≡ option_and_then item_reset (item (get_or path (length path - 1) a) d)
+pub reset-last : (d : Items) (path : List (List ℕ)) (a : List ℕ) → 0 < length path → instance_reset d Reset path ≡ option_and_then item_reset (item_at (get_or path (length path - 1) a) d)
 reset-last d [] a h = absurd (omega arith)
 reset-last d (b ∷ []) a h = refl
 reset-last d (b ∷ c ∷ path) a h =
     let one : suc (length (c ∷ path) - 1) ≡ length (b ∷ c ∷ path) - 1 = omega arith in
-    reset-last d (c ∷ path) a (omega arith) ∙ ap (λ n. option_and_then item_reset (item (get_or (b ∷ c ∷ path) n a) d)) one
+    reset-last d (c ∷ path) a (omega arith) ∙ ap (λ n. option_and_then item_reset (item_at (get_or (b ∷ c ∷ path) n a) d)) one
 
 pub end-last : (d : Items) (top : List ℕ) (path : List (List ℕ)) (a : List ℕ) → 0 < length path → end_of d top path ≡ component_of d (get_or path (length path - 1) a)
 end-last d top [] a h = absurd (omega arith)

@@ -2,6 +2,7 @@
 use Rattle.std.proofs.Common.{◌≡◌, ℕ, zero, suc, cond, List, [], ◌∷◌, ◌++◌, length, Some, None, Option, option_map, refl, ap, sym, ◌∙◌, arith}
 use Rattle.std.specs.Prelude.{option_and_then, slice_get, slice_set, insert}
 use Rattle.std.specs.Option.{option_or}
+use Rattle.rdl_tree.specs.ItemAt.{item_at}
 use Rattle.rdl_tree.specs.Items.{Items, no_items, plain, holder, Plain, named, own, default, dynamic, Holder, define, anonymous}
 use Rattle.rdl_tree.specs.Shell.{bare_shell}
 use Rattle.rdl_tree.specs.View.{add, items_of, list_of, holder_item}
@@ -16,7 +17,7 @@ use Rattle.rdl_tree.specs.declared.description.Item.{Item}
 use Rattle.rdl_tree.specs.declared.description.Item.TheVariants.{Define, Instance, Own, Default, Dynamic}
 use Rattle.rdl_tree.specs.declared.description.Of.TheVariants.{Named, Anonymous}
 use Rattle.rdl_tree.proofs.Places.{inner_some}
-use Rattle.rdl_scope.specs.Types.{defines, last_definition, type_at, item, held_by, component_of, items_in}
+use Rattle.rdl_scope.specs.Types.{defines, last_definition, type_at, held_by, component_of, items_in}
 use Rattle.rdl_scope.specs.Target.{plain_named, holder_named, instance_before, instance_in, passes}
 use Rattle.rdl_scope.specs.ItemFaults.{kind_at, instance_kind, last_of, target_kind}
 use Rattle.rdl_scope.proofs.Flats.{flat_holder}
@@ -166,14 +167,14 @@ get-outline f (suc k) (plain (default p v) rest) r = ap (option_and_then f) (get
 get-outline f (suc k) (plain (dynamic t p v) rest) r = ap (option_and_then f) (get-gap-suc k (outline rest)) ∙ get-outline f k rest r
 get-outline f (suc k) (holder h body rest) r = get-outline f k rest r
 
-item-outline : {X : Type 0} (f : Item → Option X) (a : List ℕ) (t : Items) → Reads X f → option_and_then f (item a (outline t)) ≡ option_and_then f (item a t)
+item-outline : {X : Type 0} (f : Item → Option X) (a : List ℕ) (t : Items) → Reads X f → option_and_then f (item_at a (outline t)) ≡ option_and_then f (item_at a t)
 item-outline f [] t r = refl
 item-outline f (k ∷ []) t r = get-outline f k t r
 item-outline f (k ∷ j ∷ a) t r =
-    ap (λ o. option_and_then f (option_and_then (item (j ∷ a)) o)) (inner-outline k t) ∙ into (λ b. item-outline f (j ∷ a) b r) (inner k t)
+    ap (λ o. option_and_then f (option_and_then (item_at (j ∷ a)) o)) (inner-outline k t) ∙ into (λ b. item-outline f (j ∷ a) b r) (inner k t)
   where
-    into : ((b : Items) → option_and_then f (item (j ∷ a) (outline b)) ≡ option_and_then f (item (j ∷ a) b))
-        → (o : Option Items) → option_and_then f (option_and_then (item (j ∷ a)) (option_map outline o)) ≡ option_and_then f (option_and_then (item (j ∷ a)) o)
+    into : ((b : Items) → option_and_then f (item_at (j ∷ a) (outline b)) ≡ option_and_then f (item_at (j ∷ a) b))
+        → (o : Option Items) → option_and_then f (option_and_then (item_at (j ∷ a)) (option_map outline o)) ≡ option_and_then f (option_and_then (item_at (j ∷ a)) o)
     into h None = refl
     into h (Some b) = h b
 
@@ -193,7 +194,7 @@ holder-leads d a (anonymous s k) body = refl
 
 pub component-outline : (d : Items) (a : List ℕ) → component_of (outline d) a ≡ component_of d a
 component-outline d a =
-    let each : option_and_then (held_by (outline d) a) (item a (outline d)) ≡ option_and_then (held_by d a) (item a (outline d)) = λ i. option_and_then (λ x. held-outline d a x i) (item a (outline d)) in
+    let each : option_and_then (held_by (outline d) a) (item_at a (outline d)) ≡ option_and_then (held_by d a) (item_at a (outline d)) = λ i. option_and_then (λ x. held-outline d a x i) (item_at a (outline d)) in
     each
     ∙ item-outline (held_by d a) a d (record { instance = λ s t. refl; held = holder-leads d a; own = λ p v. refl; default = λ p v. refl; dynamic = λ t p v. refl })
 
@@ -210,9 +211,9 @@ holder-kind (anonymous s k) body = refl
 
 pub kind-outline : (d : Items) (a : List ℕ) → kind_at (outline d) a ≡ kind_at d a
 kind-outline d a =
-    kind-read (item a (outline d))
+    kind-read (item_at a (outline d))
     ∙ item-outline own_kind a d (record { instance = λ s t. refl; held = holder-kind; own = λ p v. refl; default = λ p v. refl; dynamic = λ t p v. refl })
-    ∙ sym (kind-read (item a d))
+    ∙ sym (kind-read (item_at a d))
 
 pub instance_kind-outline : (d : Items) (a : List ℕ) → instance_kind (outline d) a ≡ instance_kind d a
 instance_kind-outline d a =

@@ -2,13 +2,14 @@
 use Rattle.std.proofs.Common.{◌≡◌, ℕ, zero, suc, ◌+◌, Bool, true, false, cond, List, [], ◌∷◌, ◌++◌, take, Some, None, Option, refl, ap, sym, ◌∙◌, arith, option_map}
 use Rattle.std.specs.Prelude.{slice_get, option_and_then}
 use Rattle.std.specs.Option.{option_or, is_none}
+use Rattle.rdl_tree.specs.ItemAt.{item_at}
 use Rattle.rdl_tree.specs.Items.{Items, no_items, plain, holder, named, own, default, dynamic, define, anonymous}
 use Rattle.rdl_tree.specs.View.{list_of}
 use Rattle.rdl_tree.specs.Address.{inner}
 use Rattle.rdl_tree.specs.declared.description.Item.{Item}
 use Rattle.rdl_tree.specs.declared.description.Item.TheVariants.{Define, Instance, Own, Default, Dynamic}
 use Rattle.rdl_tree.specs.declared.description.Of.TheVariants.{Named, Anonymous}
-use Rattle.rdl_scope.specs.Types.{defines, last_definition, type_at, type_of, item, type_from}
+use Rattle.rdl_scope.specs.Types.{defines, last_definition, type_at, type_of, type_from}
 use Rattle.rdl_scope.specs.Walk.{found, below, deeper, is_definition, reference_of}
 
 map-cond : (b : Bool) (i : ℕ) (o : Option ℕ) → option_map suc (cond b (Some i) o) ≡ cond b (Some (suc i)) (option_map suc o)
@@ -101,8 +102,8 @@ type_from-reference d a (Some (Own p v)) = refl
 type_from-reference d a (Some (Default p v)) = refl
 type_from-reference d a (Some (Dynamic t p v)) = refl
 
-pub type_of-reference : (d : Items) (a : List ℕ) → type_of d a ≡ option_and_then (type_at a d) (option_and_then reference_of (item a d))
-type_of-reference d a = type_from-reference d a (item a d)
+pub type_of-reference : (d : Items) (a : List ℕ) → type_of d a ≡ option_and_then (type_at a d) (option_and_then reference_of (item_at a d))
+type_of-reference d a = type_from-reference d a (item_at a d)
 
 none-map : {X Y : Type 0} (f : X → Y) (o : Option X) → is_none (option_map f o) ≡ is_none o
 none-map f None = refl

@@ -2,6 +2,7 @@
 use Rattle.std.proofs.Common.{◌≡◌, ℕ, zero, suc, ◌+◌, ◌<◌, List, [], ◌∷◌, ◌++◌, length, Some, None, Option, option_map, refl, ap, sym, ◌∙◌, arith, append_assoc, append-nil}
 use Rattle.std.specs.Prelude.{option_and_then, slice_get, slice_set, insert}
 use Rattle.std.specs.Option.{option_or, is_some}
+use Rattle.rdl_tree.specs.ItemAt.{item_at}
 use Rattle.rdl_tree.specs.Items.{Items, no_items, plain, holder, Holder, define, anonymous}
 use Rattle.rdl_tree.specs.View.{items_of, list_of, plain_item, holder_item}
 use Rattle.rdl_tree.specs.Address.{inner, map_inner, body_at, map_body}
@@ -12,7 +13,6 @@ use Rattle.rdl_tree.specs.declared.description.Component.{Component}
 use Rattle.rdl_tree.specs.declared.description.Item.{Item}
 use Rattle.rdl_tree.specs.declared.description.Item.TheVariants.{Define, Instance, Own, Default, Dynamic}
 use Rattle.rdl_tree.proofs.Places.{inner_some}
-use Rattle.rdl_scope.specs.Types.{item}
 use Rattle.rdl_scope.specs.ItemFaults.{kind_at, define_fault, instance_fault, own_fault, default_fault, dynamic_fault, item_fault, fault_at, first_fault, inside_fault}
 use Rattle.rdl_scope.proofs.Accepted.{neither, no_kind}
 use Rattle.rdl_scope.proofs.Firsts.{first-add}
@@ -165,7 +165,7 @@ kind_along around (i ∷ p) t = kind_at t (i ∷ p)
 
 kind-step : (i : ℕ) (p : List ℕ) (t s : Items) (k : Kind) → inner i t ≡ Some s → kind_at t (i ∷ []) ≡ Some k → kind_along (Some k) p s ≡ kind_at t (i ∷ p)
 kind-step i [] t s k q e = sym e
-kind-step i (j ∷ p) t s k q e = ap (λ o. option_map (λ (c : Component). c.kind) (option_and_then own_component (option_and_then (item (j ∷ p)) o))) (sym q)
+kind-step i (j ∷ p) t s k q e = ap (λ o. option_map (λ (c : Component). c.kind) (option_and_then own_component (option_and_then (item_at (j ∷ p)) o))) (sym q)
 
 pub along : (d e : Items) (around : Option Kind) (b p : List ℕ) (t c : Items) (f : Items → Items) → outline d ≡ outline e → body_at p t ≡ Some c
     → (first_fault d (kind_along around p t) (b ++ p) c 0 c ≡ None → first_fault e (kind_along around p t) (b ++ p) (f c) 0 (f c) ≡ None)

@@ -1,15 +1,15 @@
 -- The fault of one item, and a description in which no other item can have one.
 -- own: no part of what a fault is; by it one item is judged where a change was made, and the others only if it has a fault.
 use Rattle.std.specs.Prelude.{◌≡◌, ℕ, false, List, Option, None, option_and_then}
+use Rattle.rdl_tree.specs.ItemAt.{item_at}
 use Rattle.rdl_tree.specs.Items.{Items}
 use Rattle.rdl_tree.specs.Address.{holder_of, number_of, body_at}
 use Rattle.rdl_tree.specs.declared.fault.FaultKind.{FaultKind}
-use Rattle.rdl_scope.specs.Types.{item}
 use Rattle.rdl_scope.specs.ItemFaults.{kind_at, item_fault, is_too_large, fault_of}
 
 -- the fault of the item at an address, which stands in this body; without an item there is none
 abbrev pub fault_in : Items → List ℕ → Items → Option FaultKind
-fault_in d at body = option_and_then (item_fault d (kind_at d (holder_of at)) (holder_of at) body (number_of at)) (item at d)
+fault_in d at body = option_and_then (item_fault d (kind_at d (holder_of at)) (holder_of at) body (number_of at)) (item_at at d)
 
 -- the fault of the item at an address; the component around an item of the root has no kind
 abbrev pub fault_of_item : Items → List ℕ → Option FaultKind

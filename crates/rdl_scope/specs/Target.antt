@@ -1,11 +1,12 @@
 -- The instances that a target passes.
 -- SystemRDL 2.0, clause 5, dynamic assignment: the target names instances that stand before it, one inside the other.
 use Rattle.std.specs.Prelude.{ℕ, zero, suc, Bool, false, List, [], ◌∷◌, ◌++◌, Option, Some, None, option_map, option_and_then, bytes_eq, if◌then◌else◌}
+use Rattle.rdl_tree.specs.ItemAt.{item_at}
 use Rattle.rdl_tree.specs.Items.{Items, no_items, plain, holder, Plain, named, own, default, dynamic, Holder, define, anonymous}
 use Rattle.rdl_tree.specs.Address.{body_at}
 use Rattle.rdl_tree.specs.declared.description.Item.{Item}
 use Rattle.rdl_tree.specs.declared.description.Item.TheVariants.{Define, Instance, Own, Default, Dynamic}
-use Rattle.rdl_scope.specs.Types.{item, component_of, items_in}
+use Rattle.rdl_scope.specs.Types.{component_of, items_in}
 
 abbrev pub plain_named : List ℕ → Plain → Bool
 plain_named name (named s t) = bytes_eq s.name name
@@ -56,4 +57,4 @@ through_of d x (Default p v) = None
 
 -- the instances that the target of the dynamic item at this address passes
 abbrev pub through : Items → List ℕ → Option (List (List ℕ))
-through d x = option_and_then (through_of d x) (item x d)
+through d x = option_and_then (through_of d x) (item_at x d)

@@ -3,6 +3,7 @@
 -- own: of two definitions of a name in one body, which other faults refuse, the last before the reference counts.
 use Rattle.std.specs.Prelude.{ℕ, zero, suc, Bool, false, List, [], ◌∷◌, length, Option, Some, None, option_map, option_and_then, slice_get, bytes_eq, if◌then◌else◌}
 use Rattle.std.specs.Option.{option_or}
+use Rattle.rdl_tree.specs.ItemAt.{item_at}
 use Rattle.rdl_tree.specs.Items.{Items, no_items, plain, holder, Holder, define, anonymous}
 use Rattle.rdl_tree.specs.View.{list_of}
 use Rattle.rdl_tree.specs.Address.{inner, body_at}
@@ -30,12 +31,6 @@ type_at (i ∷ path) t name =
     option_or (option_map (λ a. i ∷ a) (option_and_then (λ b. type_at path b name) (inner i t)))
     (option_map (λ k. k ∷ []) (last_definition name i t))
 
--- the item at an address
-abbrev pub item : List ℕ → Items → Option Item
-item [] t = None
-item (k ∷ []) t = slice_get (list_of t) k
-item (k ∷ j ∷ path) t = option_and_then (item (j ∷ path)) (inner k t)
-
 -- the definition to which the type reference of a named instance leads
 abbrev pub type_from : Items → List ℕ → Item → Option (List ℕ)
 type_from d a (Instance s (Named t)) = type_at a d t
@@ -46,7 +41,7 @@ type_from d a (Default p v) = None
 type_from d a (Dynamic t p v) = None
 
 abbrev pub type_of : Items → List ℕ → Option (List ℕ)
-type_of d a = option_and_then (type_from d a) (item a d)
+type_of d a = option_and_then (type_from d a) (item_at a d)
 
 -- the item that holds the component of the instance at this address
 abbrev pub held_by : Items → List ℕ → Item → Option (List ℕ)
@@ -58,11 +53,11 @@ held_by d a (Default p v) = None
 held_by d a (Dynamic t p v) = None
 
 abbrev pub component_of : Items → List ℕ → Option (List ℕ)
-component_of d a = option_and_then (held_by d a) (item a d)
+component_of d a = option_and_then (held_by d a) (item_at a d)
 
 -- the component that the item at this address holds
 abbrev pub component_at : Items → List ℕ → Option Component
-component_at d a = option_and_then own_component (item a d)
+component_at d a = option_and_then own_component (item_at a d)
 
 -- how many items the body at an address has
 abbrev pub items_in : List ℕ → Items → ℕ

@@ -4,6 +4,7 @@
 use Rattle.std.specs.Prelude.{ℕ, zero, suc, ◌==◌, ◌&&◌, nat_eq, not, Bool, true, false, List, [], ◌∷◌, Option, Some, None, option_map, option_and_then, bytes_eq, if◌then◌else◌}
 use Rattle.std.specs.Option.{option_or}
 use Rattle.std.specs.Cmp.Lexicographic.{pointwise}
+use Rattle.rdl_tree.specs.ItemAt.{item_at}
 use Rattle.rdl_tree.specs.Items.{Items, no_items, plain, holder, Plain, named, own, default, dynamic}
 use Rattle.rdl_tree.specs.Address.{inner, body_at}
 use Rattle.rdl_tree.specs.Properties.{row, property_of, on}
@@ -16,7 +17,7 @@ use Rattle.rdl_tree.specs.declared.property.Form.TheVariants.{OnlyTrue, Booleans
 use Rattle.rdl_tree.specs.declared.description.Component.{Component}
 use Rattle.rdl_tree.specs.declared.description.Item.{Item}
 use Rattle.rdl_tree.specs.declared.description.Item.TheVariants.{Define, Instance, Own, Default, Dynamic}
-use Rattle.rdl_scope.specs.Types.{item, component_of, component_at, items_in}
+use Rattle.rdl_scope.specs.Types.{component_of, component_at, items_in}
 use Rattle.rdl_scope.specs.Target.{passes, body_of}
 
 abbrev pub owned : List ℕ → Plain → Option Value
@@ -102,7 +103,7 @@ item_reset (Dynamic t p v) = None
 
 abbrev pub instance_reset : Items → Property → List (List ℕ) → Option Value
 instance_reset d Reset [] = None
-instance_reset d Reset (a ∷ []) = option_and_then item_reset (item a d)
+instance_reset d Reset (a ∷ []) = option_and_then item_reset (item_at a d)
 instance_reset d Reset (a ∷ b ∷ path) = instance_reset d Reset (b ∷ path)
 instance_reset d p path = None
 
@@ -146,4 +147,4 @@ is_define x = false
 -- the value of the property of this name of the instance path below the definition at top, as a row holds it
 abbrev pub value : Items → List ℕ → List (List ℕ) → List ℕ → Option Value
 value d top names name =
-    if is_define (item top d) then option_and_then (λ p. option_and_then (value_along d top p) (path_below d top names)) (property_of name) else None
+    if is_define (item_at top d) then option_and_then (λ p. option_and_then (value_along d top p) (path_below d top names)) (property_of name) else None

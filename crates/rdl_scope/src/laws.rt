@@ -1,6 +1,7 @@
 //! What the definitions have in common.
 ghost use Rattle.std.specs.Prelude.{◌≡◌, ℕ, ◌<◌, true, length, List, [], ◌∷◌, ◌++◌, Some, None, slice_get};
 ghost use Rattle.std.specs.Option.{is_some};
+ghost use Rattle.rdl_tree.specs.ItemAt.{item_at};
 ghost use Rattle.rdl_tree.specs.Items.{Items};
 ghost use Rattle.rdl_tree.specs.Address.{holder_of, number_of, body_at};
 ghost use Rattle.rdl_tree.specs.View.{list_of};
@@ -14,7 +15,7 @@ ghost use Rattle.rdl_tree.specs.declared.description.Component.{Component};
 ghost use Rattle.rdl_tree.specs.declared.description.Item.{Item};
 ghost use Rattle.rdl_tree.specs.declared.description.Item.TheVariants.{Instance, Dynamic};
 ghost use Rattle.rdl_tree.specs.declared.description.Of.{Of};
-ghost use Rattle.rdl_scope.specs.Types.{item, component_at};
+ghost use Rattle.rdl_scope.specs.Types.{component_at};
 ghost use Rattle.rdl_scope.specs.ItemFaults.{may_instantiate, instance_kind, item_fault, fault_of};
 ghost use Rattle.rdl_scope.specs.OneItem.{NoOtherFault};
 ghost use Rattle.rdl_scope.specs.Value.{component_value};
@@ -43,9 +44,9 @@ pub fn accepted_items_have_no_fault()
 /// assignment, and one more dynamic assignment at the end of a body can give no other item a fault. It does nothing when
 /// it runs.
 pub fn other_items_keep_no_fault()
-    ensures shell { (d : Items) (at : List ℕ) (s new : Shell) (o : Of) → fault_of d ≡ None → item at d ≡ Some (Instance s o) → new.name ≡ s.name
+    ensures shell { (d : Items) (at : List ℕ) (s new : Shell) (o : Of) → fault_of d ≡ None → item_at at d ≡ Some (Instance s o) → new.name ≡ s.name
         → NoOtherFault (patched (Exchange at (OfShell new)) d) at }
-    ensures value { (d : Items) (at : List ℕ) (t : List (List ℕ)) (p : List ℕ) (v w : Value) → fault_of d ≡ None → item at d ≡ Some (Dynamic t p v)
+    ensures value { (d : Items) (at : List ℕ) (t : List (List ℕ)) (p : List ℕ) (v w : Value) → fault_of d ≡ None → item_at at d ≡ Some (Dynamic t p v)
         → NoOtherFault (patched (Exchange at (OfValue w)) d) at }
     ensures put { (d b : Items) (at : List ℕ) (t : List (List ℕ)) (p : List ℕ) (v : Value) → fault_of d ≡ None → 0 < length at
         → body_at (holder_of at) d ≡ Some b → number_of at ≡ length (list_of b) → NoOtherFault (patched (Insert at (Dynamic t p v)) d) at }

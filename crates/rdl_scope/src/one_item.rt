@@ -16,12 +16,13 @@ use crate::faults::{check, instance_kind, is_set, is_too_large, kind_at, names_k
 use crate::kinds::define_fault;
 use crate::shells::instance_fault;
 use crate::targets::instance_before;
-use crate::types::{item_at, last_definition};
+use crate::types::last_definition;
 use crate::values::{last_default, own_before};
 use rdl_text::name::Name;
 use rdl_tree::address::Address;
 use rdl_tree::description::{Body, Description, Item};
 use rdl_tree::fault::{Fault, FaultKind};
+use rdl_tree::find::item_at;
 use rdl_tree::properties::property;
 use rdl_tree::property::Property;
 use rdl_tree::shell::Kind;

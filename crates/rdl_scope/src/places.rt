@@ -1,6 +1,6 @@
 //! Where the components of instances stand.
 ghost use Rattle.std.specs.Prelude.{◌≡◌, ◌<◌, ◌++◌, ◌∷◌, [], length, take, option_copied};
-ghost use Rattle.rdl_scope.specs.Types.{item};
+ghost use Rattle.rdl_tree.specs.ItemAt.{item_at};
 ghost use Rattle.rdl_scope.specs.ItemFaults.{kind_at};
 ghost use Rattle.rdl_scope.specs.Scopes.{along_place, place_held, kind_held, scope_found};
 
@@ -68,7 +68,7 @@ pub(crate) fn address_of(at: &Address, place: Place) -> Address
 
 /// The item of this number in the body that is so deep along the path.
 fn item_along<'a>(body: &'a Body, path: &[usize], depth: usize, number: usize) -> Option<&'a Item>
-    ensures { option_copied result ≡ item (take depth path.now ++ number ∷ []) body.now }
+    ensures { option_copied result ≡ item_at (take depth path.now ++ number ∷ []) body.now }
 {
     match path {
         [first, rest @ ..] if depth > 0 => {

@@ -4,10 +4,11 @@ ghost use Rattle.rdl_tree.specs.Depth.{depth};
 ghost use Rattle.rdl_scope.specs.Target.{instance_before, instance_in, passes, body_of, through};
 ghost use Rattle.rdl_scope.specs.Walk.{is_instance};
 
-use crate::types::{component_of, item_at, items_in, prefix};
+use crate::types::{component_of, items_in, prefix};
 use rdl_text::name::Name;
 use rdl_tree::address::Address;
 use rdl_tree::description::{Body, Description, Item};
+use rdl_tree::find::item_at;
 use std::alloc::{AllocError, Global};
 
 /// Whether the item is an instance of this name.

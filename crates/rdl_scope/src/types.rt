@@ -1,16 +1,17 @@
 //! The type of a reference.
 ghost use Rattle.std.specs.Prelude.{◌≡◌, ℕ, ◌≤◌, ◌<◌, ◌+◌, ◌++◌, ◌∷◌, [], length, take, option_map, IfSome};
 ghost use Rattle.std.specs.Option.{option_or, is_none};
+ghost use Rattle.rdl_tree.specs.ItemAt.{item_at};
 ghost use Rattle.rdl_tree.specs.View.{list_of};
 ghost use Rattle.rdl_tree.specs.Component.{own_component};
 ghost use Rattle.rdl_scope.specs.Types.{last_definition, type_at, type_of, component_of, component_at, items_in};
 ghost use Rattle.rdl_scope.specs.Walk.{found, is_definition, reference_of};
 ghost use Rattle.std.specs.Prelude.{option_copied, option_and_then};
-ghost use Rattle.rdl_scope.specs.Types.{item};
 
 use rdl_text::name::Name;
 use rdl_tree::address::Address;
 use rdl_tree::description::{Body, Component, Description, Item, Of};
+use rdl_tree::find::item_at;
 
 /// Whether the item is a definition of this name.
 pub fn defines(item: Option<&Item>, name: &Name) -> bool
@@ -67,17 +68,6 @@ fn found(body: &Body, path: &[usize], name: &Name) -> Option<(usize, usize)>
         }
     }
     place
-}
-
-/// The item at this address of the body.
-pub fn item_at<'a>(body: &'a Body, path: &[usize]) -> Option<&'a Item>
-    ensures { option_copied result ≡ item path.now body.now }
-{
-    match path {
-        [] => None,
-        [k] => body.item(*k),
-        [k, rest @ ..] => item_at(body.inner(*k)?, rest),
-    }
 }
 
 /// The address that goes along the path to this depth, or to its end.

@@ -1,19 +1,21 @@
 //! The value of a property.
 ghost use Rattle.std.specs.Prelude.{◌≡◌, ◌==◌, ◌&&◌, ℕ, ◌≤◌, ◌<◌, List, Option, Some, None, IfOk, IfSome, option_copied, option_map, option_and_then, bytes_eq, drop, if◌then◌else◌};
 ghost use Rattle.std.specs.Option.{option_or};
+ghost use Rattle.rdl_tree.specs.ItemAt.{item_at};
 ghost use Rattle.rdl_tree.specs.Depth.{depth};
 ghost use Rattle.rdl_tree.specs.Address.{body_at};
 ghost use Rattle.rdl_tree.specs.Properties.{row};
-ghost use Rattle.rdl_scope.specs.Types.{component_at, item};
+ghost use Rattle.rdl_scope.specs.Types.{component_at};
 ghost use Rattle.rdl_scope.specs.Target.{passes, body_of};
 ghost use Rattle.rdl_scope.specs.Value.{value_along, own_value, own_before, last_default, nearest_default, stated_value, built_in_value, component_value, leads_to, assigned_in, assigned, item_reset, instance_reset, path_value, is_false, shown, path_below, end_of, value_of_kind, is_define, value};
 ghost use Rattle.rdl_scope.specs.Walk.{owned_by, defaulted_by, assigned_by};
 
 use crate::targets::{body_of, passes};
-use crate::types::{component_at, component_of, item_at, items_in};
+use crate::types::{component_at, component_of, items_in};
 use rdl_text::name::Name;
 use rdl_tree::address::Address;
 use rdl_tree::description::{Body, Component, Description, Item};
+use rdl_tree::find::item_at;
 use rdl_tree::properties::property;
 use rdl_tree::property::{Form, Property};
 use rdl_tree::value::Value;

@@ -11,7 +11,7 @@ ghost use Rattle.rdl_text.specs.Words.{is_in_line};
 ghost use Rattle.rdl_text.specs.Words as spec;
 
 use crate::bytes::{Class, byte_at, is_blank, is_digit, run_len};
-use crate::fault::{WordFault, TextFault};
+use crate::fault::{TextFault, WordFault};
 use crate::list::Tokens;
 use crate::name::{Name, is_letter};
 use crate::piece::Span;

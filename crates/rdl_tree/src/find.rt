@@ -1,6 +1,7 @@
 //! The way along a path of names.
 ghost use Rattle.std.specs.Prelude.{◌≡◌, option_copied};
 ghost use Rattle.std.specs.List.{position};
+ghost use Rattle.rdl_tree.specs.ItemAt.{item_at};
 ghost use Rattle.rdl_tree.specs.View.{list_of};
 ghost use Rattle.rdl_tree.specs.Find.{is_named, find};
 
@@ -51,5 +52,16 @@ impl Segment {
             (Segment::Inst(name), Item::Instance(shell, _)) => &shell.name == name,
             _ => false,
         }
+    }
+}
+
+/// The item at this address of the body: each number but the last leads to an item's own body.
+pub fn item_at<'a>(body: &'a Body, path: &[usize]) -> Option<&'a Item>
+    ensures { option_copied result ≡ item_at path.now body.now }
+{
+    match path {
+        [] => None,
+        [number] => body.item(*number),
+        [number, rest @ ..] => item_at(body.inner(*number)?, rest),
     }
 }

@@ -7,6 +7,7 @@ ghost use Rattle.rdl_tree.specs.Patch.{fits, is_level, has_place, has_item, has_
 
 use crate::address::Address;
 use crate::description::{Body, Description, Item, Of};
+use crate::find::item_at;
 use crate::part::Part;
 use crate::patch::Patch;
 
@@ -81,16 +82,6 @@ impl Item {
             (Part::OfDefine(_), Item::Define(_, _)) => true,
             _ => false,
         }
-    }
-}
-
-fn item_at<'a>(body: &'a Body, path: &[usize]) -> Option<&'a Item>
-    ensures { option_copied result ≡ item_at path.now body.now }
-{
-    match path {
-        [] => None,
-        [number] => body.item(*number),
-        [number, rest @ ..] => item_at(body.inner(*number)?, rest),
     }
 }
 

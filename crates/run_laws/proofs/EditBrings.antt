@@ -5,6 +5,7 @@ use Rattle.std.specs.List.{list_all}
 use Rattle.std.proofs.lemmas.List.{length-append}
 use Rattle.std.proofs.lemmas.List.Elements.{All-nil, All-cons, All-head, All-tail, All-append, All-weaker}
 use Rattle.rdl_text.specs.Name.{IsName}
+use Rattle.rdl_tree.specs.ItemAt.{item_at}
 use Rattle.rdl_tree.specs.Address.{holder_of, number_of, body_at, map_body}
 use Rattle.rdl_tree.specs.Depth.{depth}
 use Rattle.rdl_tree.specs.Edit.{remove_item}
@@ -30,7 +31,7 @@ use Rattle.rdl_tree.proofs.Rounds.{items_of-list_of}
 use Rattle.rdl_parse.specs.Class.{class}
 use Rattle.rdl_parse.specs.Session.{IsItemAddress}
 use Rattle.rdl_scope.specs.Target.{through}
-use Rattle.rdl_scope.specs.Types.{item, type_of}
+use Rattle.rdl_scope.specs.Types.{type_of}
 use Rattle.rdl_rewrite.specs.Addresses.{same, leads_to, passes_by}
 use Rattle.rdl_rewrite.specs.Change.{is_component, taken, insert_items, added_at, edited_body}
 use Rattle.rdl_rewrite.specs.Fates.{given_if, fate, item_patches, fate_patches}
@@ -225,7 +226,7 @@ module _ (whole : Items) (way name : List ℕ) (is_name : IsName name) (free : I
 
 renamed-both : (d new : Items) (path : List Segment) (name way : List ℕ) → Accepted d new (Rename path name) way → IsName name → AreBothWritable (patches_on (Ok way) d (Rename path name)) d
 renamed-both d new path name way a n =
-    let fine = by (length way == 0) (is_taken d way name (item way d)) (is_reserved name) refl a.made in
+    let fine = by (length way == 0) (is_taken d way name (item_at way d)) (is_reserved name) refl a.made in
     brought (fate_patches (fate d way (Some name)) [] 0 d) d fine.keep fine.writable a.from
   where
     by : (root taken_already reserved : Bool) → is_reserved name ≡ reserved

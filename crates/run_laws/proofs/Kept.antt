@@ -3,6 +3,7 @@ use Rattle.std.proofs.Common.{◌≡◌, ℕ, suc, Bool, true, false, cond, if�
 use Rattle.std.specs.List.{list_all}
 use Rattle.std.specs.Prelude.{◌==◌}
 use Rattle.std.proofs.lemmas.List.Elements.{All-append, All-take, All-drop}
+use Rattle.rdl_tree.specs.ItemAt.{item_at}
 use Rattle.rdl_tree.specs.Address.{holder_of, number_of, body_at}
 use Rattle.rdl_tree.specs.Edit.{remove_item}
 use Rattle.rdl_tree.specs.Find.{find}
@@ -15,7 +16,6 @@ use Rattle.rdl_tree.specs.declared.path.PathFault.{PathFault}
 use Rattle.rdl_tree.specs.declared.shell.Kind.{Kind}
 use Rattle.rdl_tree.specs.declared.shell.Shell.{Shell}
 use Rattle.rdl_tree.specs.declared.value.Value.{Value}
-use Rattle.rdl_scope.specs.Types.{item}
 use Rattle.rdl_rewrite.specs.Assignment.{is_sort, assigns, up_to_last, assignment, set_at, cleared_at}
 use Rattle.rdl_rewrite.specs.Change.{is_component, taken, insert_items, added_at, put_in, moved_item, edited_body}
 use Rattle.rdl_rewrite.specs.Dynamics.{assigns_to, assigned_at, unassigned_at}
@@ -172,7 +172,7 @@ module _ (P : Plain → Type 0) (H : Holder → Type 0) where
 
   kept-rename : (whole : Items) (way name : List ℕ) → (is_reserved name ≡ false → KeptName P H whole name) → Each P H whole → IfOk (renamed whole way name) (Each P H)
   kept-rename whole way name f e =
-      unless (is_taken whole way name (item way whole)) NameTaken (if is_reserved name then Err Reserved else Ok (renamed_items whole way name [] 0 whole))
+      unless (is_taken whole way name (item_at way whole)) NameTaken (if is_reserved name then Err Reserved else Ok (renamed_items whole way name [] 0 whole))
       (kept-name (is_reserved name) whole way name refl f e)
 
   kept-item : (way : List ℕ) (whole : Items) (edit : Edit) → Brings P H whole edit → Each P H whole → IfOk (of_item way whole edit) (Each P H)

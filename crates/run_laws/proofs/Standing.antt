@@ -8,6 +8,7 @@ use Rattle.std.proofs.lemmas.List.Quantifiers.{position-Some}
 use Rattle.std.proofs.lemmas.Option.{slice_get_within, slice_get-get_or}
 use Rattle.std.proofs.lemmas.Slice.Eq.{bytes_eq-Decides}
 use Rattle.rdl_text.specs.Name.{IsName}
+use Rattle.rdl_tree.specs.ItemAt.{item_at}
 use Rattle.rdl_tree.specs.Address.{inner, holder_of, number_of, body_at, map_body}
 use Rattle.rdl_tree.specs.Edit.{insert_item, replace_item}
 use Rattle.rdl_tree.specs.Find.{is_named, after_number, by_number, walk, find}
@@ -27,7 +28,6 @@ use Rattle.rdl_tree.specs.declared.value.Value.{Value}
 use Rattle.rdl_tree.specs.declared.value.Value.TheVariants.{Number}
 use Rattle.rdl_tree.proofs.Places.{body_at-map}
 use Rattle.rdl_tree.proofs.Rounds.{items_of-list_of, list_of-items_of}
-use Rattle.rdl_scope.specs.Types.{item}
 use Rattle.rdl_rewrite.specs.Addresses.{same}
 use Rattle.rdl_rewrite.specs.Assignment.{is_sort, assigns, assignment, up_to_last, set_at, set}
 use Rattle.rdl_rewrite.specs.Change.{is_component, taken, insert_items, added_at, edited_body}
@@ -267,7 +267,7 @@ root-kept d new name way f m =
     cc
 
 renamed-map : (d new : Items) (path : List Segment) (name way : List ℕ) → by_way (Ok way) d (Rename path name) ≡ Ok new → renamed_items d way name [] 0 d ≡ new
-renamed-map d new path name way made = by (length way == 0) (is_taken d way name (item way d)) (is_reserved name) made
+renamed-map d new path name way made = by (length way == 0) (is_taken d way name (item_at way d)) (is_reserved name) made
   where
     by : (root used reserved : Bool) → cond root (Err NotAnInstance) (cond used (Err NameTaken) (cond reserved (Err Reserved) (Ok (renamed_items d way name [] 0 d)))) ≡ Ok new
         → renamed_items d way name [] 0 d ≡ new

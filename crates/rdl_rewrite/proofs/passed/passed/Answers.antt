@@ -1,9 +1,9 @@
 use Rattle.std.proofs.Common.{◌≡◌, ◌∷◌, ◌++◌, [], Some, false, length, ap, sym, ◌∙◌, arith, length-take, option_copied}
 use Rattle.std.proofs.lemmas.Bool.{not-true}
 use Rattle.std.specs.Prelude.{option_and_then}
+use Rattle.rdl_tree.specs.ItemAt.{item_at}
 use Rattle.rdl_tree.specs.Address.{holder_of, number_of}
 use Rattle.rdl_scope.specs.Target.{passes}
-use Rattle.rdl_scope.specs.Types.{item}
 use Rattle.rdl_rewrite.specs.Addresses.{same, passes_by}
 use Rattle.rdl_rewrite.specs.Firsts.{first_under}
 use Rattle.rdl_rewrite.specs.Passed.{may_pass, passes_from}
@@ -30,8 +30,8 @@ returns-then-not-may_pass c =
     let first = first_some d place b n c.args.firsts.now name k inside c.requires.firsts got in
     let here = c.inside-instance.ensures ∙ ap (λ p. p ++ k ∷ []) c.holder.ensures in
     let apart : same (b ++ k ∷ []) way ≡ false = ap (λ a. same a way) (sym here) ∙ not-true (same c.inside-instance.result way) (sym c.ne.ensures ∙ c.if-ne.true) in
-    let may : may_pass (item way d) (item place d) inside rest ≡ false =
-    ap (λ o. may_pass o (item place d) inside rest) (sym c.requires.known.taken) ∙ ap (λ o. may_pass (option_copied reach.taken) o inside rest) (sym c.requires.known.holder)
+    let may : may_pass (item_at way d) (item_at place d) inside rest ≡ false =
+    ap (λ o. may_pass o (item_at place d) inside rest) (sym c.requires.known.taken) ∙ ap (λ o. may_pass (option_copied reach.taken) o inside rest) (sym c.requires.known.holder)
     ∙ sym c.may_pass.ensures ∙ c.if-not-may_pass.true in
     let path : passes d b n c.args.names.now ≡ passes_from d (b ++ k ∷ []) rest =
     ap (passes d b n) c.in-Some.ensures.cases.0 ∙ passes-first d b n name rest ∙ ap (option_and_then (λ a. passes_from d a rest)) first.0 in

@@ -2,10 +2,10 @@ use Rattle.std.proofs.Common.{◌≡◌, ◌∷◌, ◌++◌, [], cond, Some, ap
 use Rattle.std.specs.Prelude.{◌||◌, bytes_eq}
 use Rattle.std.specs.Cmp.Lexicographic.{pointwise}
 use Rattle.std.specs.Option.{is_some}
+use Rattle.rdl_tree.specs.ItemAt.{item_at}
 use Rattle.rdl_tree.specs.View.{list_of}
 use Rattle.rdl_tree.specs.Properties.{property_of}
 use Rattle.rdl_tree.specs.declared.description.Item.TheVariants.{Instance}
-use Rattle.rdl_scope.specs.Types.{item}
 use Rattle.rdl_scope.specs.Keys.{key_before, texts}
 use Rattle.rdl_scope.specs.ItemFaults.{dynamic_fault, item_fault, reached_before, target_kind}
 use Rattle.rdl_scope.specs.Scopes.{number_under, scope_found, place_under, place_put, along_place}
@@ -28,7 +28,7 @@ returns-in_ok-twice-in-Instance-clause-fault c =
     let n = c.args.n in
     let s = c.in-Instance.shell in
     let o = c.in-Instance.of in
-    let stands : item (b ++ n ∷ []) d ≡ Some (Instance s o) = item-deeper b n d c.args.body.now c.requires.here ∙ c.requires.item ∙ ap Some c.in-Instance.is in
+    let stands : item_at (b ++ n ∷ []) d ≡ Some (Instance s o) = item-deeper b n d c.args.body.now c.requires.here ∙ c.requires.item ∙ ap Some c.in-Instance.is in
     c.instance_fault.ensures
     ∙ met-instance d c.args.around b c.args.body.now n c.args.passed.now s o c.place_of-place.result c.kind_of-kind.result c.in_ok-twice-in-Instance.twice
     stands (ap (option_map (along_place b)) c.place_of-place.ensures ∙ place-component d b n s o (scope_found c.args.levels.now c.args.definitions.now) stands c.requires.scope)
@@ -44,7 +44,7 @@ returns-in_ok-twice-in-Instance-clause-passed c = λ none.
     let s = c.in-Instance.shell in
     let o = c.in-Instance.of in
     let got = c.requires.item ∙ ap Some c.in-Instance.is in
-    let stands : item (b ++ n ∷ []) d ≡ Some (Instance s o) = item-deeper b n d c.args.body.now c.requires.here ∙ got in
+    let stands : item_at (b ++ n ∷ []) d ≡ Some (Instance s o) = item-deeper b n d c.args.body.now c.requires.here ∙ got in
     let leads = ap (option_map (along_place b)) c.place_of-place.ensures ∙ place-component d b n s o (scope_found c.args.levels.now c.args.definitions.now) stands c.requires.scope in
     know-instance d c.args.around b c.args.body.now n c.args.passed.now s o c.place_of-place.result c.note.new.self c.requires.here got leads
     (sym (c.instance_fault.ensures
