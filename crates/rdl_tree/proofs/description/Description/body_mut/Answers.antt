@@ -22,10 +22,10 @@ returns-in_ok-self-in-len1-up c =
     let whole : Description = c.args.self.now in
     let part : Component = c.in_ok-self-in-len1-up.field-0.now in
     let found = lent_some _ _ _ c.component_mut.follows c.in_ok-self-in-len1-up.was in (
-      λ j. read_of (ghost_name_of c.reach.result)
+      λ j. read_of (ghost_name_of c.descend.result)
           (λ (w : Items). record { items = (set-map_body c.as_slice.result.now whole.items w part c.in-len1-up.len_at_least found ∙ ap (λ p. map_body p (λ _. w) whole.items) c.as_slice.ensures.value) j })
           (record { items = set_component-same _ whole.items part found j }),
-      record { writes_back = tt; value = c.reach.ensures.value ∙ sym (ap (λ p. body_at p whole.items) (sym c.as_slice.ensures.value) ∙ body_at-some c.as_slice.result.now whole.items part c.in-len1-up.len_at_least found) },
+      record { writes_back = tt; value = c.descend.ensures.value ∙ sym (ap (λ p. body_at p whole.items) (sym c.as_slice.ensures.value) ∙ body_at-some c.as_slice.result.now whole.items part c.in-len1-up.len_at_least found) },
     )
 
 pub returns-in-empty : goal.returns-in-empty
