@@ -112,7 +112,7 @@ impl Map {
         }
     }
 
-    /// Does the same as `open`, and makes the rows of the map.
+    /// Takes the description as `open` does, or drops it with the fault of its map, and makes the rows of the map besides.
     pub fn open_with_rows(
         alloc: Global,
         description: Description,

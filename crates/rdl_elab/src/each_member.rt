@@ -47,7 +47,7 @@ pub(crate) struct Extent {
     pub access: u64,
 }
 
-/// The same under each mode.
+/// How large a component is under each mode.
 #[derive(Clone, Copy, Debug, PartialEq, Eq)]
 pub(crate) struct Extents {
     pub compact: Extent,

@@ -222,7 +222,7 @@ pub(crate) fn finished_at<'c, 'a>(
     components.get(number)
 }
 
-/// The same of the component of this number, if there is one.
+/// The rows of the map whose top has the component of this number, or the first fault; no top, where there is no such component.
 fn rows_of<'a>(
     alloc: Global,
     components: &[Finished<'a>],
@@ -238,7 +238,7 @@ fn rows_of<'a>(
     }
 }
 
-/// The same of this top, whose component has this number among them.
+/// The rows of the map with this top, whose component has this number among them, or the first fault.
 pub(crate) fn rows_under<'a>(
     alloc: Global,
     components: &[Finished<'a>],
@@ -254,7 +254,7 @@ pub(crate) fn rows_under<'a>(
     }
 }
 
-/// The same of this top of the description, whose component is laid out here.
+/// The rows of the map with this top of the description, whose component is laid out here, or the first fault.
 fn under_top(
     alloc: Global,
     description: &Description,
@@ -320,7 +320,8 @@ pub(crate) fn checked_top<'a>(
     top_of(description, wanted)
 }
 
-/// The same of a description in which no item but the one at this address may have a fault.
+/// The top of a description in which no item but the one at this address may have a fault, or the first fault of an item, or
+/// that there is no top.
 pub(crate) fn checked_top_but<'a>(
     alloc: Global,
     description: &'a Description,

@@ -156,7 +156,7 @@ impl Layouts {
     ghost use Rattle.rdl_elab.specs.EachMode.{of_three};
     ghost use Rattle.rdl_elab.specs.Finished.{under};
 
-    /// The same layout under each mode.
+    /// One layout for each mode.
     pub(crate) fn same(layout: Layout) -> Layouts
         ensures { (m : Mode) → under m result ≡ layout }
     {
@@ -214,7 +214,7 @@ pub(crate) struct Finished<'a> {
     pub assignments: Vec<Assignment<'a>>,
     pub parts: PartList<'a>,
     pub layouts: SharedLayouts,
-    /// The same layouts, with the words of what they are made of.
+    /// Its layouts once more, with the words of what they are made of.
     pub laid_out: LaidOut,
     /// The key of its layouts, if they were kept before.
     pub key: Option<usize>,

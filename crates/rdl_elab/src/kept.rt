@@ -101,7 +101,7 @@ fn judged<'a>(
     }
 }
 
-/// The same fault, where it isn't known that there is none.
+/// The first fault of the map with this top, where it isn't known that there is none.
 fn fault_under<'a>(
     alloc: Global,
     components: &[Finished<'a>],
@@ -165,7 +165,7 @@ fn fault_with_top<'a>(
     judged(alloc, found.components.as_slice(), found.number, top)
 }
 
-/// Does the same, and makes the rows of the map.
+/// Lays out all components of the description, judges the map with this top, and makes its rows.
 fn lay_out_rows<'a>(
     alloc: Global,
     stored: &mut Stored,
@@ -309,7 +309,8 @@ impl Kept {
         }
     }
 
-    /// Does the same as `of`, and makes the rows of the map, for which nothing is laid out again.
+    /// Lays out all components of the description as `of` does, and makes the rows of the map, for which nothing is laid out
+    /// again.
     pub fn with_rows(
         alloc: Global,
         description: &Description,
@@ -353,7 +354,8 @@ impl Kept {
         }
     }
 
-    /// Does the same for a description in which no item but the one at this address may have a fault.
+    /// Lays out this description as `relay` does, where no item but the one at this address may have a fault: of the items that
+    /// one alone is judged.
     pub fn relay_item(
         &mut self,
         alloc: Global,
@@ -378,8 +380,8 @@ impl Kept {
         }
     }
 
-    /// Does the same for a description that is known to have rows with this top, as one that was laid out before. It is
-    /// not judged again, so this fails for memory alone.
+    /// Lays out this description as `relay` does, where it is known to have rows with this top, as one that was laid out before.
+    /// It is not judged again, so this fails for memory alone.
     pub fn relay_known(
         &mut self,
         alloc: Global,
@@ -422,8 +424,8 @@ impl Kept {
         self.stored.stay();
     }
 
-    /// Does the same, where it isn't known whether the description has rows, and no item of it but the one at this address
-    /// may have a fault. Nothing changes if the map has one.
+    /// Keeps the layouts as they are for this description, which has the same skeleton, if it has rows. No item of it but the
+    /// one at this address may have a fault. Nothing changes if the map has one.
     pub fn stay_judged(
         &mut self,
         alloc: Global,
@@ -450,7 +452,8 @@ impl Kept {
         }
     }
 
-    /// Does the same, where the description is known to have rows if no item has a fault.
+    /// Keeps the layouts as they are for this description, which has the same skeleton and is known to have rows if no item has
+    /// a fault. No item but the one at this address may have one, and nothing changes if it has.
     pub fn stay_checked(
         &mut self,
         alloc: Global,
@@ -471,7 +474,8 @@ impl Kept {
         Ok(())
     }
 
-    /// Does the same, where any item may have a fault.
+    /// Keeps the layouts as they are for this description, which has the same skeleton and is known to have rows if no item has
+    /// a fault. Any item may have one, and nothing changes if one has.
     pub fn stay_if_faultless(
         &mut self,
         alloc: Global,

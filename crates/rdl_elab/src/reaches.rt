@@ -139,7 +139,7 @@ fn assignments<'a>(
     Ok(list)
 }
 
-/// The same, where it is known whether the body has any.
+/// The dynamic assignments of a body with these instances whose targets are there, where it is known whether it has any.
 pub(crate) fn assignments_if<'a>(
     alloc: Global,
     has_any: bool,

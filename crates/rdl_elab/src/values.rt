@@ -268,7 +268,8 @@ pub(crate) fn add_stated(
     Ok(())
 }
 
-/// The same of an assignment to the property of a name, if there is one.
+/// Puts the value that is assigned to the property of this name behind the others, if there is such a property and the kind has
+/// it.
 pub(crate) fn add_assigned(
     alloc: Global,
     kind: Kind,
