@@ -1,7 +1,9 @@
 -- What a contract sees of the lines that are read.
 -- Own.
-use Rattle.std.specs.Prelude.{map}
+use Rattle.std.specs.Prelude.{◌≡◌, List, map}
+use Rattle.rdl_tree.specs.Items.{Items}
 use Rattle.rdl_tree.specs.SessionText.{PatchLines, SessionLines, insert, delete, shift, shell, value, target, type, name}
+use Rattle.rdl_tree.specs.declared.patch.Patch.{Patch}
 use Rattle.rdl_parse.specs.SessionMeaning.{Session as Meant}
 use Rattle.rdl_parse.specs.declared.session.Session.{Session}
 use Rattle.rdl_parse.specs.declared.session_lines.PatchLine.{PatchLine}
@@ -23,3 +25,7 @@ seen_lines l = record { map = l.map.now; undo = map (λ step. map seen step.item
 
 abbrev pub seen_session : Session → Meant
 seen_session s = (s.map.items, map (λ step. step.items) s.undo.items, map (λ step. step.items) s.redo.items)
+
+-- it is this map with these steps back and on
+abbrev pub IsSession : Session → (d : Items) → (undo redo : List (List Patch)) → Type 0
+IsSession s d undo redo = (s.map.items ≡ d) × (map (λ step. step.items) s.undo.items ≡ undo) × (map (λ step. step.items) s.redo.items ≡ redo)

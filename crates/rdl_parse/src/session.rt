@@ -5,7 +5,7 @@ ghost use Rattle.rdl_tree.specs.declared.patch.Patch.{Patch};
 ghost use Rattle.rdl_tree.specs.declared.session.SessionFault.TheVariants.{NotASession, Memory};
 ghost use Rattle.rdl_parse.specs.Session.{SpellsSession};
 ghost use Rattle.rdl_parse.specs.SessionMeaning as spec;
-ghost use Rattle.rdl_parse.specs.SessionSeen.{seen_session};
+ghost use Rattle.rdl_parse.specs.SessionSeen.{IsSession, seen_session};
 
 use crate::session_lines::lines_of;
 use crate::session_meaning::{map_of, steps_of};
@@ -52,7 +52,7 @@ pub fn parse_session(alloc: Global, text: &str) -> Result<Session, SessionFault>
     // What is answered is the text's session.
     ensures found { IfOk result (λ s. SpellsSession text.now s.map.items (map (λ step. step.items) s.undo.items) (map (λ step. step.items) s.redo.items)) }
     // The session that the text is is answered, unless memory runs out.
-    ensures only { (d : Items) (undo redo : List (List Patch)) → SpellsSession text.now d undo redo → MatchResult result (λ s. (s.map.items ≡ d) × (map (λ step. step.items) s.undo.items ≡ undo) × (map (λ step. step.items) s.redo.items ≡ redo)) (λ f. f ≡ Memory) }
+    ensures only { (d : Items) (undo redo : List (List Patch)) → SpellsSession text.now d undo redo → MatchResult result (λ s. IsSession s d undo redo) (λ f. f ≡ Memory) }
     // A fault other than want of memory comes only where the text is no session.
     ensures refused { IfErr result (λ f. (f ≡ Memory) ⊎ ((f ≡ NotASession) × ((d : Items) (undo redo : List (List Patch)) → SpellsSession text.now d undo redo → ⊥))) }
 {

@@ -11,6 +11,7 @@ ghost use Rattle.rdl_tree.specs.declared.session.SessionFault.TheVariants.{TooLo
 ghost use Rattle.rdl_parse.specs.Faults.{max_text};
 ghost use Rattle.rdl_parse.specs.Parsing.{SpellsItemText};
 ghost use Rattle.rdl_parse.specs.Session.{SpellsSession};
+ghost use Rattle.rdl_parse.specs.SessionSeen.{IsSession};
 ghost use Rattle.rdl_write.specs.ItemText.{item_text};
 ghost use Rattle.rdl_write.specs.SessionLines.{session_lines};
 ghost use Rattle.rdl_round.specs.Writable.{IsWritable};
@@ -73,7 +74,7 @@ pub fn written_sessions_are_parsed(
 ) -> Result<Session, SessionFault>
     ensures { let d = description.now.items in let back = map (λ step. step.now) undo.entry.now in let on = map (λ step. step.now) redo.entry.now in
         IsWritable d → AreWritable back → AreWritable on
-        → MatchResult result (λ s. (s.map.items ≡ d) × (map (λ step. step.items) s.undo.items ≡ back) × (map (λ step. step.items) s.redo.items ≡ on))
+        → MatchResult result (λ s. IsSession s d back on)
         (λ f. (f ≡ Memory) ⊎ ((f ≡ TooLong) × (max_session < length (session_text (session_lines d back on))))) }
 {
     match session(alloc, description, undo, redo) {
