@@ -6,7 +6,7 @@ ghost use Rattle.command_line.specs.ComparisonWords.{AreTaken, HasOperands, Mean
 
 use crate::arguments::regdiff_command;
 use crate::fault::WordsFault;
-use crate::values::{text_of, top_of};
+use crate::values::{argument, top_of};
 use clap::error::ErrorKind;
 use clap::{ArgMatches, Error};
 use rdl_text::name::Name;
@@ -40,8 +40,8 @@ fn line_of(alloc: Global, matches: &ArgMatches<'_>) -> Result<Comparison, WordsF
 {
     let top = top_of(alloc, matches)?;
     Ok(Comparison {
-        old: text_of(alloc, matches, "old")?,
-        new: text_of(alloc, matches, "new")?,
+        old: argument(alloc, matches, "old")?,
+        new: argument(alloc, matches, "new")?,
         top,
     })
 }

@@ -10,7 +10,7 @@ use rdl_text::name::{Name, NameFault};
 use std::alloc::{AllocError, Global};
 
 /// The value of an argument that has one.
-pub(crate) fn text_of(
+pub(crate) fn argument(
     alloc: Global,
     matches: &ArgMatches<'_>,
     id: &str,

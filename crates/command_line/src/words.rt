@@ -10,7 +10,7 @@ use crate::arguments::regedit_command;
 use crate::fault::WordsFault;
 use crate::line::{Line, LineFault};
 use crate::meeting::{Meeting, file_named, meeting_at};
-use crate::values::{text_of, top_of};
+use crate::values::{argument, top_of};
 use clap::error::ErrorKind;
 use clap::{ArgMatches, Error};
 use std::alloc::{AllocError, Global};
@@ -70,10 +70,10 @@ fn line_of(alloc: Global, matches: &ArgMatches<'_>) -> Result<Line, WordsFault>
 {
     let top = top_of(alloc, matches)?;
     Ok(Line {
-        map: text_of(alloc, matches, "map")?,
-        script: text_of(alloc, matches, "script")?,
-        rdl: text_of(alloc, matches, "rdl")?,
-        header: text_of(alloc, matches, "header")?,
+        map: argument(alloc, matches, "map")?,
+        script: argument(alloc, matches, "script")?,
+        rdl: argument(alloc, matches, "rdl")?,
+        header: argument(alloc, matches, "header")?,
         top,
         history: history_of(matches),
         session: session_of(alloc, matches)?,

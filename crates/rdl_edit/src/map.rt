@@ -85,7 +85,7 @@ pub struct Resumed {
     pub redo: Vec<Back>,
 }
 
-fn text_of(name: Option<&Name>) -> Option<&str>
+fn top_text(name: Option<&Name>) -> Option<&str>
     ensures { option_copied result ≡ option_copied name.entry }
 {
     match name {
@@ -102,7 +102,7 @@ impl Map {
         ensures accepted { IfOk result (λ _. HasRows (record { description = description.items; option = name })) }
         ensures refused { IfErr result (λ fault. (elaborated description.items name ≡ Err fault) ⊎ (fault ≡ out_of_memory)) }
     {
-        match Kept::of(alloc, &description, text_of(name.as_ref())) {
+        match Kept::of(alloc, &description, top_text(name.as_ref())) {
             Ok(kept) => Ok(Map {
                 description,
                 name,
@@ -123,7 +123,7 @@ impl Map {
         ensures rows { IfOk result (λ shown. elaborated description.items name ≡ Ok shown.1) }
         ensures refused { IfErr result (λ fault. (elaborated description.items name ≡ Err fault) ⊎ (fault ≡ out_of_memory)) }
     {
-        let (kept, rows) = Kept::with_rows(alloc, &description, text_of(name.as_ref()))?;
+        let (kept, rows) = Kept::with_rows(alloc, &description, top_text(name.as_ref()))?;
         let map = Map {
             description,
             name,
@@ -151,7 +151,7 @@ impl Map {
         ensures refused { IfErr result (λ f. (session_fault name description.items (map (λ step. step.items) undo.items) (map (λ step. step.items) redo.items) ≡ Some f) ⊎ (f ≡ SessionFault.Memory)) }
     {
         let mut description = description;
-        let top = text_of(name.as_ref());
+        let top = top_text(name.as_ref());
         let mut kept = match opened(alloc, &description, top) {
             Ok(kept) => kept,
             Err(fault) => return Err(fault),
@@ -267,7 +267,7 @@ impl Invertible for Map {
         ensures err { OnErr result (self.new ≡ self.old) }
     {
         let patches = patches(alloc, &self.description, edit)?;
-        let name = text_of(self.name.as_ref());
+        let name = top_text(self.name.as_ref());
         let back = turn(alloc, &mut self.description, &mut self.kept, name, patches)?;
         Ok(Back::new(back, false))
     }
@@ -292,7 +292,7 @@ impl Invertible for Map {
         ensures handed { IfErr result (λ same. same ≡ back) }
         ensures err { OnErr result (self.new ≡ self.old) }
     {
-        let name = text_of(self.name.as_ref());
+        let name = top_text(self.name.as_ref());
         let read = back.read();
         let patches = back.into_vec();
         let forward = match again(alloc, &mut self.description, &mut self.kept, name, patches) {

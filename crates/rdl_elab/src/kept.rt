@@ -53,7 +53,7 @@ fn all_placed(components: &[Finished]) -> u64
     placed
 }
 
-fn text_of(alloc: Global, name: Option<&str>) -> Result<Option<String>, AllocError>
+fn copy_of_top(alloc: Global, name: Option<&str>) -> Result<Option<String>, AllocError>
     ensures { IfOk result (λ text. option_map string_bytes text ≡ option_copied name.entry) }
 {
     match name {
@@ -254,7 +254,7 @@ impl Kept {
         ensures unchanged { IfOk result (λ answer. OnErr answer (self.new ≡ self.old)) }
         ensures err { OnErr result (self.new ≡ self.old) }
     {
-        let wanted = text_of(alloc, wanted)?;
+        let wanted = copy_of_top(alloc, wanted)?;
         let answer = lay_out(alloc, &mut self.stored, description, top, judgement)?;
         match answer {
             Ok(()) => {
@@ -295,7 +295,7 @@ impl Kept {
         ensures rows { IfOk result (λ answer. IfOk answer (λ shown. elaborated description.now.items (option_copied wanted.entry) ≡ Ok shown.1)) }
         ensures refused { IfOk result (λ answer. IfErr answer (λ fault. elaborated description.now.items (option_copied wanted.entry) ≡ Err fault)) }
     {
-        let wanted = text_of(alloc, wanted)?;
+        let wanted = copy_of_top(alloc, wanted)?;
         let mut stored = Stored::empty(alloc);
         match lay_out_rows(alloc, &mut stored, description, top)? {
             Ok(rows) => Ok(Ok((

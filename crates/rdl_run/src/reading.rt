@@ -30,7 +30,7 @@ fn reading_fault(fault: ParseFault) -> ReadingFault
 }
 
 /// The text of the bytes.
-fn text_of(bytes: &[u8]) -> Result<&str, ReadingFault>
+fn as_utf8(bytes: &[u8]) -> Result<&str, ReadingFault>
     ensures text { IfOk result (λ text. IsUtf8 bytes.now × (text.now ≡ bytes.now)) }
     ensures refused { IfErr result (λ e. IfRefused (IsNoText bytes.now) e) }
 {
@@ -48,7 +48,7 @@ pub fn map_of<'a>(alloc: Global, bytes: &'a [u8]) -> Result<(Description, Places
     ensures read { IfOk result (λ x. ReadsMap bytes.now x.0.items x.1) }
     ensures refused { IfErr result (λ e. IfRefused (RefusesMap bytes.now) e) }
 {
-    match text_of(bytes) {
+    match as_utf8(bytes) {
         Err(fault) => Err(fault),
         Ok(text) => match parse(alloc, text) {
             Ok(read) => Ok(read),
@@ -62,7 +62,7 @@ pub fn items_of(alloc: Global, bytes: &[u8]) -> Result<Vec<Item>, ReadingFault>
     ensures read { IfOk result (λ items. ReadsItems bytes.now items.items) }
     ensures refused { IfErr result (λ e. IfRefused (RefusesItems bytes.now) e) }
 {
-    match text_of(bytes) {
+    match as_utf8(bytes) {
         Err(fault) => Err(fault),
         Ok(text) => match parse_item(alloc, text) {
             Ok(items) => Ok(items),

@@ -47,7 +47,7 @@ fn file_of<R: Files>(rt: &R, alloc: Global, path: &str) -> Option<String> {
     plain_file(rt, alloc, path).unwrap_or(None)
 }
 
-fn text_of(file: &Option<String>) -> Option<&str> {
+fn path_text(file: &Option<String>) -> Option<&str> {
     match file {
         Some(path) => Some(path.as_str()),
         None => None,
@@ -65,10 +65,10 @@ pub(crate) fn meeting_of_files<R: Files>(rt: &R, alloc: Global, paths: &Paths) -
         None => None,
     };
     meeting_at(
-        text_of(&map),
-        text_of(&script),
-        text_of(&rdl),
-        text_of(&header),
-        text_of(&session),
+        path_text(&map),
+        path_text(&script),
+        path_text(&rdl),
+        path_text(&header),
+        path_text(&session),
     )
 }

@@ -12,7 +12,7 @@ use Rattle.rdl_edit.proofs.map.MapInvertible.revert.Goals as goal
 
 pub again-requires-clause-known : goal.again-requires-clause-known
 again-requires-clause-known c =
-    let there : prior c.args.self.now.state c.args.back ≡ record { description = image c.into_vec-patches.result.items c.self.inside.description.items; option = option_copied c.text_of-name.result } = search rules in
+    let there : prior c.args.self.now.state c.args.back ≡ record { description = image c.into_vec-patches.result.items c.self.inside.description.items; option = option_copied c.top_text-name.result } = search rules in
     subst HasRows there c.requires.has_rows
 
 pub returns-clause-fits : goal.returns-clause-fits

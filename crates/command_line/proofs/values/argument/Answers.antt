@@ -2,7 +2,7 @@ use Rattle.std.proofs.Common.{ap, is_some, rules, ◌∙◌}
 use Rattle.clap.proofs.CallerLemmas.{some_of_text}
 use Rattle.clap.proofs.WalkLemmas.{first_value-rows}
 use Rattle.clap.specs.Words.{found_of}
-use Rattle.command_line.proofs.values.text_of.Goals as goal
+use Rattle.command_line.proofs.values.argument.Goals as goal
 
 pub unwrap-requires : goal.unwrap-requires
 unwrap-requires c =
