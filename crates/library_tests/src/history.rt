@@ -1,10 +1,10 @@
 //! Histories of maps under lines of a script.
 use crate::parse::description;
 use journal_core::journal::Journal;
+use rdl_edit::edit::Edit;
 use rdl_edit::map::Map;
+use rdl_edit::place::Place;
 use rdl_parse::parse::parse_item;
-use rdl_rewrite::edit::Edit;
-use rdl_rewrite::place::Place;
 use rdl_script::request::{Request, request_of};
 use rdl_tree::description::Body;
 use rdl_tree::path::Path;
