@@ -12,7 +12,7 @@ use Rattle.rdl_run.specs.Closing.{Closes}
 use Rattle.rdl_run.specs.Known.{Gives}
 use Rattle.rdl_run.specs.Opening.{RefusesToOpen}
 use Rattle.rdl_run.specs.OwnSteps.{AllOwn, IsOwnSession, OpensKept}
-use Rattle.rdl_run.specs.Output.{Outputs, RanFrom, Ran, RanCounted}
+use Rattle.rdl_run.specs.Output.{Outputs, RanFrom, Ran, RanCounted, outputs}
 use Rattle.rdl_run.specs.Turns.{HasTaken, Tallies}
 use Rattle.rdl_run.specs.declared.counted.Counts.{Counts}
 use Rattle.rdl_run.specs.declared.run.Options.{Options}
@@ -20,9 +20,6 @@ use Rattle.rdl_run.specs.declared.status.RunFault.{RunFault}
 use Rattle.rdl_run.specs.declared.status.Status.{Status}
 use Rattle.rdl_run.specs.declared.status.Status.TheVariants.{MapRefused}
 use Rattle.rdl_run.proofs.Tallied.{taken-none, taken-both}
-
-abbrev pub outputs : (messages rdl header session : Option (List ℕ)) → Outputs
-outputs messages rdl header session = record { messages = messages; rdl = rdl; header = header; session = session }
 
 -- the script was run, and all was written that closes the run
 pub ran_from : (are_own : Type 0) (asked : Bool) (first : History') (script : List ℕ) (refuses : Bool) (status : Status) (last : History')

@@ -9,14 +9,13 @@ use Rattle.rdl_run.specs.Closing.{Closes}
 use Rattle.rdl_run.specs.Faulted.{IsWholeLines, Leaves, LeavesLines, FaultedFrom, Faulted, StopsServing}
 use Rattle.rdl_run.specs.Known.{Gives, AppendsFront}
 use Rattle.rdl_run.specs.Opening.{EachElaborates, OpensHistory, RefusesToOpen}
-use Rattle.rdl_run.specs.Output.{Output, Outputs, Runs}
+use Rattle.rdl_run.specs.Output.{Output, Outputs, Runs, outputs}
 use Rattle.rdl_run.specs.declared.run.Options.{Options}
 use Rattle.rdl_run.specs.declared.status.RunFault.{RunFault}
 use Rattle.rdl_run.specs.declared.status.RunFault.TheVariants.{Read, Write, Memory, TooLong, Interrupted}
 use Rattle.rdl_run.specs.declared.status.Status.{Status}
 use Rattle.rdl_run.specs.declared.status.Status.TheVariants.{MapRefused}
 use Rattle.rdl_run.proofs.Continued.{Continues, continued, has_output}
-use Rattle.rdl_run.proofs.RunLemmas.{outputs}
 use Rattle.rdl_run.proofs.WholeLines.{run-whole}
 use Rattle.rdl_run.proofs.Written.{AppendsFront-after}
 

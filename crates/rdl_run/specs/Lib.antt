@@ -11,6 +11,7 @@ pub mod Opening
 pub mod OpenedRows
 pub mod OpeningFaults
 pub mod Output
+pub mod Writers
 pub mod ReadingFaults
 pub mod Readings
 pub mod Refused

@@ -57,6 +57,9 @@ pub record Outputs : Type 0 where
   pub header : Option (List ℕ)
   pub session : Option (List ℕ)
 
+abbrev pub outputs : (messages rdl header session : Option (List ℕ)) → Outputs
+outputs messages rdl header session = record { messages = messages; rdl = rdl; header = header; session = session }
+
 -- all of an output was written, and nothing else
 pub record Holds (old new : Outputs) (status : Status) (out : Output) : Type 0 where
   pub messages : Appends old.messages new.messages out.messages

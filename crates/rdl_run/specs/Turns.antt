@@ -61,26 +61,6 @@ pub record IsGivenUp (counts : Counts) : Type 0 where
   pub ended : counts.ended ≡ true
   pub cause : (counts.refused ≡ true) ⊎ (counts.interrupts ≡ most_interrupts)
 
--- none of the four outputs has ended
-pub record AreOpen (messages rdl header session : Counts) : Type 0 where
-  pub messages_open : IsOpen messages
-  pub rdl_open : IsOpen rdl
-  pub header_open : IsOpen header
-  pub session_open : IsOpen session
-
--- one of the four outputs has ended
-abbrev pub HasEnded : (messages rdl header session : Counts) → Type 0
-HasEnded messages rdl header session = (messages.ended ≡ true) ⊎ (rdl.ended ≡ true) ⊎ (header.ended ≡ true) ⊎ (session.ended ≡ true)
-
--- one of the four outputs has ended for a cause
-abbrev pub GivesUp : (messages rdl header session : Counts) → Type 0
-GivesUp messages rdl header session = IsGivenUp messages ⊎ IsGivenUp rdl ⊎ IsGivenUp header ⊎ IsGivenUp session
-
--- it took so many bytes more, as far as they are counted
-pub record HasTaken (old new : Counts) (n : ℕ) : Type 0 where
-  pub no_more : new.taken ≤ old.taken + n
-  pub no_fewer : min (old.taken + n) most_counted ≤ new.taken
-
 -- the counts of the four outputs
 pub record Tallies : Type 0 where
   pub messages : Counts
@@ -90,6 +70,40 @@ pub record Tallies : Type 0 where
 
 abbrev pub tallies : (messages rdl header session : Counts) → Tallies
 tallies messages rdl header session = record { messages = messages; rdl = rdl; header = header; session = session }
+
+-- none of the four outputs has ended
+pub record AreOpen (t : Tallies) : Type 0 where
+  pub messages : IsOpen t.messages
+  pub rdl : IsOpen t.rdl
+  pub header : IsOpen t.header
+  pub session : IsOpen t.session
+
+-- none of them was asked
+pub record AreUnwritten (t : Tallies) : Type 0 where
+  pub messages : t.messages ≡ unwritten
+  pub rdl : t.rdl ≡ unwritten
+  pub header : t.header ≡ unwritten
+  pub session : t.session ≡ unwritten
+
+-- one of them has ended
+abbrev pub HasEnded : Tallies → Type 0
+HasEnded t = (t.messages.ended ≡ true) ⊎ (t.rdl.ended ≡ true) ⊎ (t.header.ended ≡ true) ⊎ (t.session.ended ≡ true)
+
+-- one of them has ended for a cause
+abbrev pub GivesUp : Tallies → Type 0
+GivesUp t = IsGivenUp t.messages ⊎ IsGivenUp t.rdl ⊎ IsGivenUp t.header ⊎ IsGivenUp t.session
+
+-- each was interrupted at most 1,000 times
+pub record AreFew (t : Tallies) : Type 0 where
+  pub messages : t.messages.interrupts ≤ most_interrupts
+  pub rdl : t.rdl.interrupts ≤ most_interrupts
+  pub header : t.header.interrupts ≤ most_interrupts
+  pub session : t.session.interrupts ≤ most_interrupts
+
+-- it took so many bytes more, as far as they are counted
+pub record HasTaken (old new : Counts) (n : ℕ) : Type 0 where
+  pub no_more : new.taken ≤ old.taken + n
+  pub no_fewer : min (old.taken + n) most_counted ≤ new.taken
 
 -- what it wrote of these bytes
 abbrev pub WritesOnce : (old new : Option (List ℕ)) → List ℕ → Outcome → Type 0

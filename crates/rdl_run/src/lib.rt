@@ -10,6 +10,7 @@ pub mod input;
 pub mod laws;
 pub mod open;
 pub mod output;
+mod outputs;
 mod part;
 mod reading;
 mod reply;

@@ -4,10 +4,11 @@ ghost use Rattle.rdl_run.specs.Opening.{EachElaborates};
 ghost use Rattle.rdl_run.specs.Faulted.{Faulted, FaultedFrom, Leaves};
 ghost use Rattle.rdl_run.specs.ClosingTexts.{texts_of};
 ghost use Rattle.rdl_run.specs.OwnSteps.{AllOwn};
-ghost use Rattle.rdl_run.specs.Output.{HaveTaken, Holds, Ran, RanCounted, RanFrom};
+ghost use Rattle.rdl_run.specs.Output.{HaveTaken, Holds, Ran, RanCounted, RanFrom, outputs};
 ghost use Rattle.rdl_run.specs.Known.{IsOver, IsWithin};
 ghost use Rattle.rdl_run.specs.Shown.{AreAt};
-ghost use Rattle.rdl_run.specs.Turns.{AreOpen, GivesUp, HasEnded, IsInterrupted, IsOpen, tallies, unread, unwritten};
+ghost use Rattle.rdl_run.specs.Turns.{AreFew, AreOpen, AreUnwritten, GivesUp, HasEnded, IsInterrupted, unread};
+ghost use Rattle.rdl_run.specs.Writers.{SameWriters, counts_of, known};
 ghost use Rattle.rdl_run.specs.declared.status.RunFault.{RunFault};
 
 use crate::closing::Closing;
@@ -15,6 +16,7 @@ use crate::counted::{CountedReader, CountedWriter};
 use crate::input::read_counted;
 use crate::open::{OpenFault, open_shown};
 use crate::output::write_counted;
+use crate::outputs::Outputs;
 use crate::serve::serve_all;
 use crate::status::{RunFault, Status};
 use journal_core::journal::Journal;
@@ -41,41 +43,22 @@ pub const MOST_BYTES: usize = 67_108_864;
 /// Writes what closes a run, the messages first.
 fn write_closing<R: Write, H: Write, Z: Write, E: Write>(
     closing: &Closing,
-    rdl: &mut CountedWriter<'_, R>,
-    header: &mut CountedWriter<'_, H>,
-    session: &mut CountedWriter<'_, Z>,
-    messages: &mut CountedWriter<'_, E>,
+    outputs: &mut Outputs<'_, '_, '_, '_, R, H, Z, E>,
 ) -> Result<(), RunFault>
-    requires asked { IsOpen messages.old.counts }
-    requires rdl_asked { IsOpen rdl.old.counts }
-    requires header_asked { IsOpen header.old.counts }
-    requires session_asked { IsOpen session.old.counts }
-    ensures wrote { OnOk result (Holds
-        (record { messages = E.contents messages.old.writer.now; rdl = R.contents rdl.old.writer.now; header = H.contents header.old.writer.now; session = Z.contents session.old.writer.now })
-        (record { messages = E.contents messages.new.writer.now; rdl = R.contents rdl.new.writer.now; header = H.contents header.new.writer.now; session = Z.contents session.new.writer.now })
-        closing.now.status (texts_of closing.now)) }
-    ensures took { OnOk result (HaveTaken (tallies messages.old.counts rdl.old.counts header.old.counts session.old.counts)
-        (tallies messages.new.counts rdl.new.counts header.new.counts session.new.counts) (texts_of closing.now)) }
-    ensures stopped { IfErr result (λ fault. Leaves fault
-        (record { messages = E.contents messages.old.writer.now; rdl = R.contents rdl.old.writer.now; header = H.contents header.old.writer.now; session = Z.contents session.old.writer.now })
-        (record { messages = E.contents messages.new.writer.now; rdl = R.contents rdl.new.writer.now; header = H.contents header.new.writer.now; session = Z.contents session.new.writer.now })
-        (texts_of closing.now)) }
+    requires asked { AreOpen (counts_of outputs.old) }
+    ensures wrote { OnOk result (Holds (known R.contents H.contents Z.contents E.contents outputs.old) (known R.contents H.contents Z.contents E.contents outputs.new) closing.now.status (texts_of closing.now)) }
+    ensures took { OnOk result (HaveTaken (counts_of outputs.old) (counts_of outputs.new) (texts_of closing.now)) }
+    ensures stopped { IfErr result (λ fault. Leaves fault (known R.contents H.contents Z.contents E.contents outputs.old) (known R.contents H.contents Z.contents E.contents outputs.new) (texts_of closing.now)) }
     ensures fault { IsOkUnless result RunFault.Write }
-    ensures ended { OnErr result (GivesUp messages.new.counts rdl.new.counts header.new.counts session.new.counts) }
-    ensures all_open { OnOk result (AreOpen messages.new.counts rdl.new.counts header.new.counts session.new.counts) }
-    ensures few { messages.new.counts.interrupts ≤ 1000 }
-    ensures rdl_few { rdl.new.counts.interrupts ≤ 1000 }
-    ensures header_few { header.new.counts.interrupts ≤ 1000 }
-    ensures session_few { session.new.counts.interrupts ≤ 1000 }
-    ensures same_messages { messages.new.writer.ghost_name ≡ messages.old.writer.ghost_name }
-    ensures same_rdl { rdl.new.writer.ghost_name ≡ rdl.old.writer.ghost_name }
-    ensures same_header { header.new.writer.ghost_name ≡ header.old.writer.ghost_name }
-    ensures same_session { session.new.writer.ghost_name ≡ session.old.writer.ghost_name }
+    ensures ended { OnErr result (GivesUp (counts_of outputs.new)) }
+    ensures all_open { OnOk result (AreOpen (counts_of outputs.new)) }
+    ensures few { AreFew (counts_of outputs.new) }
+    ensures same { SameWriters outputs.old outputs.new }
 {
-    write_counted(messages, closing.message.as_bytes())?;
-    write_counted(rdl, closing.rdl.as_bytes())?;
-    write_counted(header, closing.header.as_bytes())?;
-    write_counted(session, closing.session.as_bytes())?;
+    write_counted(&mut outputs.messages, closing.message.as_bytes())?;
+    write_counted(&mut outputs.rdl, closing.rdl.as_bytes())?;
+    write_counted(&mut outputs.header, closing.header.as_bytes())?;
+    write_counted(&mut outputs.session, closing.session.as_bytes())?;
     Ok(())
 }
 
@@ -88,43 +71,25 @@ fn run_script<R: Write, H: Write, Z: Write, E: Write>(
     mut kept: Option<Rows>,
     has_session: bool,
     script: &[u8],
-    rdl: &mut CountedWriter<'_, R>,
-    header: &mut CountedWriter<'_, H>,
-    session: &mut CountedWriter<'_, Z>,
-    messages: &mut CountedWriter<'_, E>,
+    outputs: &mut Outputs<'_, '_, '_, '_, R, H, Z, E>,
 ) -> Result<Status, RunFault>
     requires length { length script.now < 2 ^ 32 }
     requires kept { AreAt journal.old.history kept }
-    requires asked { IsOpen messages.old.counts }
-    requires rdl_asked { IsOpen rdl.old.counts }
-    requires header_asked { IsOpen header.old.counts }
-    requires session_asked { IsOpen session.old.counts }
-    ensures ran { IfOk result (RanFrom (AllOwn journal.old) has_session journal.old.history script.now
-        (record { messages = E.contents messages.old.writer.now; rdl = R.contents rdl.old.writer.now; header = H.contents header.old.writer.now; session = Z.contents session.old.writer.now })
-        (record { messages = E.contents messages.new.writer.now; rdl = R.contents rdl.new.writer.now; header = H.contents header.new.writer.now; session = Z.contents session.new.writer.now })
-        (tallies messages.old.counts rdl.old.counts header.old.counts session.old.counts)
-        (tallies messages.new.counts rdl.new.counts header.new.counts session.new.counts)) }
-    ensures faulted { EachElaborates journal.old.history → IfErr result (FaultedFrom has_session journal.old.history script.now
-        (record { messages = E.contents messages.old.writer.now; rdl = R.contents rdl.old.writer.now; header = H.contents header.old.writer.now; session = Z.contents session.old.writer.now })
-        (record { messages = E.contents messages.new.writer.now; rdl = R.contents rdl.new.writer.now; header = H.contents header.new.writer.now; session = Z.contents session.new.writer.now })) }
-    ensures write_ended { IsErrOf result RunFault.Write → GivesUp messages.new.counts rdl.new.counts header.new.counts session.new.counts }
-    ensures all_open { OnOk result (AreOpen messages.new.counts rdl.new.counts header.new.counts session.new.counts) }
-    ensures ends { HasEnded messages.new.counts rdl.new.counts header.new.counts session.new.counts → result ≡ Err RunFault.Write }
+    requires asked { AreOpen (counts_of outputs.old) }
+    ensures ran { IfOk result (RanFrom (AllOwn journal.old) has_session journal.old.history script.now (known R.contents H.contents Z.contents E.contents outputs.old) (known R.contents H.contents Z.contents E.contents outputs.new) (counts_of outputs.old) (counts_of outputs.new)) }
+    ensures faulted { EachElaborates journal.old.history → IfErr result (FaultedFrom has_session journal.old.history script.now (known R.contents H.contents Z.contents E.contents outputs.old) (known R.contents H.contents Z.contents E.contents outputs.new)) }
+    ensures write_ended { IsErrOf result RunFault.Write → GivesUp (counts_of outputs.new) }
+    ensures all_open { OnOk result (AreOpen (counts_of outputs.new)) }
+    ensures ends { HasEnded (counts_of outputs.new) → result ≡ Err RunFault.Write }
     ensures no_read { result ≢ Err RunFault.Read }
     ensures no_too_long { result ≢ Err RunFault.TooLong }
     ensures no_interrupted { result ≢ Err RunFault.Interrupted }
-    ensures few { messages.new.counts.interrupts ≤ 1000 }
-    ensures rdl_few { rdl.new.counts.interrupts ≤ 1000 }
-    ensures header_few { header.new.counts.interrupts ≤ 1000 }
-    ensures session_few { session.new.counts.interrupts ≤ 1000 }
-    ensures same_messages { messages.new.writer.ghost_name ≡ messages.old.writer.ghost_name }
-    ensures same_rdl { rdl.new.writer.ghost_name ≡ rdl.old.writer.ghost_name }
-    ensures same_header { header.new.writer.ghost_name ≡ header.old.writer.ghost_name }
-    ensures same_session { session.new.writer.ghost_name ≡ session.old.writer.ghost_name }
+    ensures few { AreFew (counts_of outputs.new) }
+    ensures same { SameWriters outputs.old outputs.new }
 {
-    let is_refused = serve_all(alloc, journal, &mut kept, script, messages)?;
+    let is_refused = serve_all(alloc, journal, &mut kept, script, &mut outputs.messages)?;
     let closing = Closing::of(alloc, journal, kept, is_refused, has_session)?;
-    write_closing(&closing, rdl, header, session, messages)?;
+    write_closing(&closing, outputs)?;
     Ok(closing.status)
 }
 
@@ -139,42 +104,24 @@ fn run_counted<M: Read, S: Read, R: Write, H: Write, Z: Write, E: Write>(
     map: &mut CountedReader<'_, M>,
     script: &mut CountedReader<'_, S>,
     options: &Options,
-    rdl: &mut CountedWriter<'_, R>,
-    header: &mut CountedWriter<'_, H>,
-    session: &mut CountedWriter<'_, Z>,
-    messages: &mut CountedWriter<'_, E>,
+    outputs: &mut Outputs<'_, '_, '_, '_, R, H, Z, E>,
 ) -> Result<Status, RunFault>
     requires map_fresh { map.old.counts ≡ unread }
     requires script_fresh { script.old.counts ≡ unread }
-    requires fresh { messages.old.counts ≡ unwritten }
-    requires rdl_fresh { rdl.old.counts ≡ unwritten }
-    requires header_fresh { header.old.counts ≡ unwritten }
-    requires session_fresh { session.old.counts ≡ unwritten }
-    ensures ran { IfOk result (RanCounted options.now (M.remaining map.old.reader.now) (S.remaining script.old.reader.now)
-        (record { messages = E.contents messages.old.writer.now; rdl = R.contents rdl.old.writer.now; header = H.contents header.old.writer.now; session = Z.contents session.old.writer.now })
-        (record { messages = E.contents messages.new.writer.now; rdl = R.contents rdl.new.writer.now; header = H.contents header.new.writer.now; session = Z.contents session.new.writer.now })
-        (tallies messages.old.counts rdl.old.counts header.old.counts session.old.counts)
-        (tallies messages.new.counts rdl.new.counts header.new.counts session.new.counts)) }
-    ensures faulted { IfErr result (Faulted options.now (M.remaining map.old.reader.now) (S.remaining script.old.reader.now)
-        (record { messages = E.contents messages.old.writer.now; rdl = R.contents rdl.old.writer.now; header = H.contents header.old.writer.now; session = Z.contents session.old.writer.now })
-        (record { messages = E.contents messages.new.writer.now; rdl = R.contents rdl.new.writer.now; header = H.contents header.new.writer.now; session = Z.contents session.new.writer.now })) }
-    ensures write_ended { IsErrOf result RunFault.Write → GivesUp messages.new.counts rdl.new.counts header.new.counts session.new.counts }
-    ensures all_open { OnOk result (AreOpen messages.new.counts rdl.new.counts header.new.counts session.new.counts) }
-    ensures ends { HasEnded messages.new.counts rdl.new.counts header.new.counts session.new.counts → result ≡ Err RunFault.Write }
+    requires fresh { AreUnwritten (counts_of outputs.old) }
+    ensures ran { IfOk result (RanCounted options.now (M.remaining map.old.reader.now) (S.remaining script.old.reader.now) (known R.contents H.contents Z.contents E.contents outputs.old) (known R.contents H.contents Z.contents E.contents outputs.new) (counts_of outputs.old) (counts_of outputs.new)) }
+    ensures faulted { IfErr result (Faulted options.now (M.remaining map.old.reader.now) (S.remaining script.old.reader.now) (known R.contents H.contents Z.contents E.contents outputs.old) (known R.contents H.contents Z.contents E.contents outputs.new)) }
+    ensures write_ended { IsErrOf result RunFault.Write → GivesUp (counts_of outputs.new) }
+    ensures all_open { OnOk result (AreOpen (counts_of outputs.new)) }
+    ensures ends { HasEnded (counts_of outputs.new) → result ≡ Err RunFault.Write }
     ensures too_long { IsErrOf result RunFault.TooLong → IsOver (M.remaining map.old.reader.now) ⊎ IsOver (S.remaining script.old.reader.now) }
     ensures bound { OnOk result (IsWithin (M.remaining map.old.reader.now) × IsWithin (S.remaining script.old.reader.now)) }
     ensures interrupted { IsErrOf result RunFault.Interrupted → IsInterrupted map.new.counts ⊎ IsInterrupted script.new.counts }
     ensures read_failed { IsErrOf result RunFault.Read → (map.new.counts.failed ≡ true) ⊎ (script.new.counts.failed ≡ true) }
     ensures map_reads { map.new.counts.reads ≤ 67109865 }
     ensures script_reads { script.new.counts.reads ≤ 67109865 }
-    ensures few { messages.new.counts.interrupts ≤ 1000 }
-    ensures rdl_few { rdl.new.counts.interrupts ≤ 1000 }
-    ensures header_few { header.new.counts.interrupts ≤ 1000 }
-    ensures session_few { session.new.counts.interrupts ≤ 1000 }
-    ensures same_messages { messages.new.writer.ghost_name ≡ messages.old.writer.ghost_name }
-    ensures same_rdl { rdl.new.writer.ghost_name ≡ rdl.old.writer.ghost_name }
-    ensures same_header { header.new.writer.ghost_name ≡ header.old.writer.ghost_name }
-    ensures same_session { session.new.writer.ghost_name ≡ session.old.writer.ghost_name }
+    ensures few { AreFew (counts_of outputs.new) }
+    ensures same { SameWriters outputs.old outputs.new }
 {
     let map_bytes = read_counted(alloc, map, MOST_BYTES)?;
     let script_bytes = read_counted(alloc, script, MOST_BYTES)?;
@@ -194,14 +141,11 @@ fn run_counted<M: Read, S: Read, R: Write, H: Write, Z: Write, E: Write>(
                 kept,
                 options.session,
                 script_bytes.as_slice(),
-                rdl,
-                header,
-                session,
-                messages,
+                outputs,
             )
         }
         Err(OpenFault::Refused(message)) => {
-            write_counted(messages, message.as_bytes())?;
+            write_counted(&mut outputs.messages, message.as_bytes())?;
             Ok(Status::MapRefused)
         }
         Err(OpenFault::Memory) => Err(RunFault::Memory),
@@ -221,11 +165,11 @@ pub fn run<M: Read, S: Read, R: Write, H: Write, Z: Write, E: Write>(
     messages: &mut E,
 ) -> Result<Status, RunFault>
     ensures ran { IfOk result (Ran options.now (M.remaining map.old) (S.remaining script.old)
-        (record { messages = E.contents messages.old; rdl = R.contents rdl.old; header = H.contents header.old; session = Z.contents session.old })
-        (record { messages = E.contents messages.new; rdl = R.contents rdl.new; header = H.contents header.new; session = Z.contents session.new })) }
+        (outputs (E.contents messages.old) (R.contents rdl.old) (H.contents header.old) (Z.contents session.old))
+        (outputs (E.contents messages.new) (R.contents rdl.new) (H.contents header.new) (Z.contents session.new))) }
     ensures faulted { IfErr result (Faulted options.now (M.remaining map.old) (S.remaining script.old)
-        (record { messages = E.contents messages.old; rdl = R.contents rdl.old; header = H.contents header.old; session = Z.contents session.old })
-        (record { messages = E.contents messages.new; rdl = R.contents rdl.new; header = H.contents header.new; session = Z.contents session.new })) }
+        (outputs (E.contents messages.old) (R.contents rdl.old) (H.contents header.old) (Z.contents session.old))
+        (outputs (E.contents messages.new) (R.contents rdl.new) (H.contents header.new) (Z.contents session.new))) }
 
     // Where a reader tells its bytes, it stops for too many only if there are more than 67,108,864.
     ensures too_long { IsErrOf result RunFault.TooLong → IsOver (M.remaining map.old) ⊎ IsOver (S.remaining script.old) }
@@ -233,18 +177,11 @@ pub fn run<M: Read, S: Read, R: Write, H: Write, Z: Write, E: Write>(
 {
     let mut map = CountedReader::new(map);
     let mut script = CountedReader::new(script);
-    let mut rdl = CountedWriter::new(rdl, 0);
-    let mut header = CountedWriter::new(header, 0);
-    let mut session = CountedWriter::new(session, 0);
-    let mut messages = CountedWriter::new(messages, 0);
-    run_counted(
-        alloc,
-        &mut map,
-        &mut script,
-        options,
-        &mut rdl,
-        &mut header,
-        &mut session,
-        &mut messages,
-    )
+    let mut outputs = Outputs {
+        rdl: CountedWriter::new(rdl, 0),
+        header: CountedWriter::new(header, 0),
+        session: CountedWriter::new(session, 0),
+        messages: CountedWriter::new(messages, 0),
+    };
+    run_counted(alloc, &mut map, &mut script, options, &mut outputs)
 }

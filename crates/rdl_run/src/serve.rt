@@ -1,6 +1,5 @@
 //! One line of a script after another.
 ghost use Rattle.std.specs.Prelude.{◌≡◌, ◌⊎◌, ℕ, ◌≤◌, ◌<◌, ◌^◌, List, ◌∷◌, length, string_bytes, Err, IfOk, IfErr, OnOk, OnErr, IsErrOf, IsOkUnless};
-ghost use Rattle.std.specs.Io.KnownBytes.{Appends};
 ghost use Rattle.std.specs.List.{prefix_len};
 ghost use Rattle.std.specs.Option.{option_copied};
 ghost use Rattle.journal_core.specs.History.{Edits};
@@ -8,14 +7,15 @@ ghost use Rattle.journal_core.specs.Faults.{Explains};
 ghost use Rattle.journal_core.specs.declared.fault.EditFault.{EditFault};
 ghost use Rattle.rdl_edit.specs.Step.{Leads, Refuses};
 ghost use Rattle.rdl_run.specs.OwnSteps.{AllOwn};
-ghost use Rattle.rdl_run.specs.Answers.{Answers, AnswersAdd, AnswersEdit, IsListOf, Replied, Serves};
+ghost use Rattle.rdl_run.specs.Answers.{Answers, AnswersAdd, AnswersEdit, IsListOf, Replied};
 ghost use Rattle.rdl_script.specs.Commands.{undo, redo, lines_of, lines_left};
 ghost use Rattle.rdl_run.specs.ScriptLines.{is_in_line, left_len};
 ghost use Rattle.rdl_script.specs.Seen.{seen};
 ghost use Rattle.rdl_run.specs.Replies.{said};
 ghost use Rattle.rdl_run.specs.Shown.{AreAt, AreOf};
 ghost use Rattle.rdl_run.specs.Faulted.{StopsServing};
-ghost use Rattle.rdl_run.specs.Turns.{HasTaken, IsGivenUp, IsOpen};
+ghost use Rattle.rdl_run.specs.Turns.{IsGivenUp, IsOpen};
+ghost use Rattle.rdl_run.specs.Writers.{ServesAll};
 
 use crate::counted::CountedWriter;
 use crate::output::write_counted;
@@ -224,7 +224,8 @@ pub fn serve_all<E: Write>(
     requires length { length script.now < 2 ^ 32 }
     requires asked { IsOpen messages.old.counts }
     requires kept { AreAt journal.old.history kept.old }
-    ensures served { IfOk result (λ refused. (text : List ℕ) × (Serves journal.old.history (lines_of script.now) text refused journal.new.history) × (Appends (E.contents messages.old.writer.now) (E.contents messages.new.writer.now) text) × HasTaken messages.old.counts messages.new.counts (length text)) }
+    ensures served { IfOk result (ServesAll journal.old.history journal.new.history (lines_of script.now)
+        (E.contents messages.old.writer.now) (E.contents messages.new.writer.now) messages.old.counts messages.new.counts) }
     ensures keeps { OnOk result (AreAt journal.new.history kept.new) }
     ensures stay_own { AllOwn journal.old → AllOwn journal.new }
     ensures fault { IfErr result (λ fault. (fault ≡ RunFault.Memory) ⊎ (fault ≡ RunFault.Write)) }

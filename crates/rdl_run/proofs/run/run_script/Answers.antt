@@ -3,8 +3,9 @@ use Rattle.std.proofs.lemmas.Str.{IsUtf8-string_bytes}
 use Rattle.rdl_run.specs.ClosingTexts.{texts_of}
 use Rattle.rdl_run.specs.OwnSteps.{AllOwn}
 use Rattle.rdl_run.specs.Faulted.{FaultedFrom, Leaves}
+use Rattle.rdl_run.specs.Output.{outputs}
 use Rattle.rdl_run.specs.Turns.{tallies}
-use Rattle.rdl_run.proofs.RunLemmas.{outputs, ran_from}
+use Rattle.rdl_run.proofs.RunLemmas.{ran_from}
 use Rattle.rdl_run.proofs.Stopped.{went, stopped_serving, stopped_closing, failed_closing}
 use Rattle.rdl_run.proofs.run.run_script.Goals as goal
 
@@ -14,8 +15,8 @@ returns-clause-ran g c =
     let took = c.in_ok-write_closing.ensures.took in
     let closing = c.in_ok-closing.closing in
     ran_from (AllOwn c.args.journal.now) c.args.has_session c.args.journal.now.history c.args.script.now c.in_ok-is_refused.is_refused _ c.serve_all.new.journal.history _ _ _ _ _ _ _ _ _ _ _ _ _
-    (tallies c.args.messages.now.counts c.args.rdl.now.counts c.args.header.now.counts c.args.session.now.counts)
-    (tallies c.write_closing.new.messages.counts c.write_closing.new.rdl.counts c.write_closing.new.header.counts c.write_closing.new.session.counts)
+    (tallies c.args.outputs.now.messages.counts c.args.outputs.now.rdl.counts c.args.outputs.now.header.counts c.args.outputs.now.session.counts)
+    (tallies c.write_closing.new.outputs.messages.counts c.write_closing.new.outputs.rdl.counts c.write_closing.new.outputs.header.counts c.write_closing.new.outputs.session.counts)
     c.serve_all.new.messages.counts
     c.in_ok-is_refused.ensures.served c.in_ok-closing.ensures.closes held.messages held.rdl held.header held.session
     (IsUtf8-string_bytes closing.rdl) (IsUtf8-string_bytes closing.header) (IsUtf8-string_bytes closing.session)
@@ -23,10 +24,10 @@ returns-clause-ran g c =
 
 pub returns-in_err-is_refused-clause-faulted : goal.returns-in_err-is_refused-clause-faulted
 returns-in_err-is_refused-clause-faulted g c = λ whole.
-    let m = g.E.Write.contents c.args.messages.now.writer.now in
-    let r = g.R.Write.contents c.args.rdl.now.writer.now in
-    let h = g.H.Write.contents c.args.header.now.writer.now in
-    let z = g.Z.Write.contents c.args.session.now.writer.now in
+    let m = g.E.Write.contents c.args.outputs.now.messages.writer.now in
+    let r = g.R.Write.contents c.args.outputs.now.rdl.writer.now in
+    let h = g.H.Write.contents c.args.outputs.now.header.writer.now in
+    let z = g.Z.Write.contents c.args.outputs.now.session.writer.now in
     let m' = g.E.Write.contents c.serve_all.new.messages.writer.now in
     let fault = c.in_err-is_refused.field-0.0 in
     went c.from_residual.result fault (FaultedFrom c.args.has_session c.args.journal.now.history c.args.script.now (outputs m r h z) (outputs m' r h z)) c.from_residual.ensures.1
@@ -35,10 +36,10 @@ returns-in_err-is_refused-clause-faulted g c = λ whole.
 pub returns-in_err-closing-clause-faulted : goal.returns-in_err-closing-clause-faulted
 returns-in_err-closing-clause-faulted g c = λ whole.
     let served = c.in_ok-is_refused.ensures.served in
-    let m = g.E.Write.contents c.args.messages.now.writer.now in
-    let r = g.R.Write.contents c.args.rdl.now.writer.now in
-    let h = g.H.Write.contents c.args.header.now.writer.now in
-    let z = g.Z.Write.contents c.args.session.now.writer.now in
+    let m = g.E.Write.contents c.args.outputs.now.messages.writer.now in
+    let r = g.R.Write.contents c.args.outputs.now.rdl.writer.now in
+    let h = g.H.Write.contents c.args.outputs.now.header.writer.now in
+    let z = g.Z.Write.contents c.args.outputs.now.session.writer.now in
     let m' = g.E.Write.contents c.serve_all.new.messages.writer.now in
     let stopped = FaultedFrom c.args.has_session c.args.journal.now.history c.args.script.now (outputs m r h z) (outputs m' r h z) in
     went c.from_residual-in_err-closing.result c.in_err-closing.field-0.0 stopped c.from_residual-in_err-closing.ensures.1
@@ -49,15 +50,15 @@ pub returns-in_err-write_closing-clause-faulted : goal.returns-in_err-write_clos
 returns-in_err-write_closing-clause-faulted g c = λ whole.
     let served = c.in_ok-is_refused.ensures.served in
     let closing = c.in_ok-closing.closing in
-    let m = g.E.Write.contents c.args.messages.now.writer.now in
-    let r = g.R.Write.contents c.args.rdl.now.writer.now in
-    let h = g.H.Write.contents c.args.header.now.writer.now in
-    let z = g.Z.Write.contents c.args.session.now.writer.now in
+    let m = g.E.Write.contents c.args.outputs.now.messages.writer.now in
+    let r = g.R.Write.contents c.args.outputs.now.rdl.writer.now in
+    let h = g.H.Write.contents c.args.outputs.now.header.writer.now in
+    let z = g.Z.Write.contents c.args.outputs.now.session.writer.now in
     let mid = g.E.Write.contents c.serve_all.new.messages.writer.now in
-    let m' = g.E.Write.contents c.write_closing.new.messages.writer.now in
-    let r' = g.R.Write.contents c.write_closing.new.rdl.writer.now in
-    let h' = g.H.Write.contents c.write_closing.new.header.writer.now in
-    let z' = g.Z.Write.contents c.write_closing.new.session.writer.now in
+    let m' = g.E.Write.contents c.write_closing.new.outputs.messages.writer.now in
+    let r' = g.R.Write.contents c.write_closing.new.outputs.rdl.writer.now in
+    let h' = g.H.Write.contents c.write_closing.new.outputs.header.writer.now in
+    let z' = g.Z.Write.contents c.write_closing.new.outputs.session.writer.now in
     let stopped = FaultedFrom c.args.has_session c.args.journal.now.history c.args.script.now (outputs m r h z) (outputs m' r' h' z') in
     let is_write = c.in_err-write_closing.ensures.fault in
     went c.from_residual-in_err-write_closing.result c.in_err-write_closing.field-0.0 stopped c.from_residual-in_err-write_closing.ensures.1

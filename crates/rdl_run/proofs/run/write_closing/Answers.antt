@@ -5,16 +5,16 @@ use Rattle.rdl_run.specs.Faulted.{Leaves}
 use Rattle.rdl_run.specs.Known.{AppendsFront}
 use Rattle.rdl_run.specs.Turns.{HasTaken}
 use Rattle.rdl_run.specs.declared.status.RunFault.{RunFault}
-use Rattle.rdl_run.proofs.RunLemmas.{outputs}
+use Rattle.rdl_run.specs.Output.{outputs}
 use Rattle.rdl_run.proofs.Stopped.{went}
 use Rattle.rdl_run.proofs.run.write_closing.Goals as goal
 
 pub returns-clause-wrote : goal.returns-clause-wrote
 returns-clause-wrote g c =
-    let m = g.E.Write.contents c.args.messages.now.writer.now in
-    let r = g.R.Write.contents c.args.rdl.now.writer.now in
-    let h = g.H.Write.contents c.args.header.now.writer.now in
-    let z = g.Z.Write.contents c.args.session.now.writer.now in
+    let m = g.E.Write.contents c.args.outputs.now.messages.writer.now in
+    let r = g.R.Write.contents c.args.outputs.now.rdl.writer.now in
+    let h = g.H.Write.contents c.args.outputs.now.header.writer.now in
+    let z = g.Z.Write.contents c.args.outputs.now.session.writer.now in
     let m' = g.E.Write.contents c.write_counted.new.output.writer.now in
     let r' = g.R.Write.contents c.write_counted-2.new.output.writer.now in
     let h' = g.H.Write.contents c.write_counted-3.new.output.writer.now in
@@ -29,10 +29,10 @@ returns-clause-wrote g c =
 
 pub returns-clause-took : goal.returns-clause-took
 returns-clause-took g c =
-    let m = c.args.messages.now.counts in
-    let r = c.args.rdl.now.counts in
-    let h = c.args.header.now.counts in
-    let z = c.args.session.now.counts in
+    let m = c.args.outputs.now.messages.counts in
+    let r = c.args.outputs.now.rdl.counts in
+    let h = c.args.outputs.now.header.counts in
+    let z = c.args.outputs.now.session.counts in
     let m' = c.write_counted.new.output.counts in
     let r' = c.write_counted-2.new.output.counts in
     let h' = c.write_counted-3.new.output.counts in
@@ -46,10 +46,10 @@ returns-clause-took g c =
 
 pub returns-in_err-write_counted-clause-stopped : goal.returns-in_err-write_counted-clause-stopped
 returns-in_err-write_counted-clause-stopped g c =
-    let m = g.E.Write.contents c.args.messages.now.writer.now in
-    let r = g.R.Write.contents c.args.rdl.now.writer.now in
-    let h = g.H.Write.contents c.args.header.now.writer.now in
-    let z = g.Z.Write.contents c.args.session.now.writer.now in
+    let m = g.E.Write.contents c.args.outputs.now.messages.writer.now in
+    let r = g.R.Write.contents c.args.outputs.now.rdl.writer.now in
+    let h = g.H.Write.contents c.args.outputs.now.header.writer.now in
+    let z = g.Z.Write.contents c.args.outputs.now.session.writer.now in
     let m' = g.E.Write.contents c.write_counted.new.output.writer.now in
     let leaves : RunFault → Type 0 = λ f. Leaves f (outputs m r h z) (outputs m' r h z) (texts_of c.args.closing.now) in
     went c.from_residual.result c.in_err-write_counted.field-0.0 leaves c.from_residual.ensures.1
@@ -57,10 +57,10 @@ returns-in_err-write_counted-clause-stopped g c =
 
 pub returns-in_err-write_counted-2-clause-stopped : goal.returns-in_err-write_counted-2-clause-stopped
 returns-in_err-write_counted-2-clause-stopped g c =
-    let m = g.E.Write.contents c.args.messages.now.writer.now in
-    let r = g.R.Write.contents c.args.rdl.now.writer.now in
-    let h = g.H.Write.contents c.args.header.now.writer.now in
-    let z = g.Z.Write.contents c.args.session.now.writer.now in
+    let m = g.E.Write.contents c.args.outputs.now.messages.writer.now in
+    let r = g.R.Write.contents c.args.outputs.now.rdl.writer.now in
+    let h = g.H.Write.contents c.args.outputs.now.header.writer.now in
+    let z = g.Z.Write.contents c.args.outputs.now.session.writer.now in
     let m' = g.E.Write.contents c.write_counted.new.output.writer.now in
     let r' = g.R.Write.contents c.write_counted-2.new.output.writer.now in
     let leaves : RunFault → Type 0 = λ f. Leaves f (outputs m r h z) (outputs m' r' h z) (texts_of c.args.closing.now) in
@@ -69,10 +69,10 @@ returns-in_err-write_counted-2-clause-stopped g c =
 
 pub returns-in_err-write_counted-3-clause-stopped : goal.returns-in_err-write_counted-3-clause-stopped
 returns-in_err-write_counted-3-clause-stopped g c =
-    let m = g.E.Write.contents c.args.messages.now.writer.now in
-    let r = g.R.Write.contents c.args.rdl.now.writer.now in
-    let h = g.H.Write.contents c.args.header.now.writer.now in
-    let z = g.Z.Write.contents c.args.session.now.writer.now in
+    let m = g.E.Write.contents c.args.outputs.now.messages.writer.now in
+    let r = g.R.Write.contents c.args.outputs.now.rdl.writer.now in
+    let h = g.H.Write.contents c.args.outputs.now.header.writer.now in
+    let z = g.Z.Write.contents c.args.outputs.now.session.writer.now in
     let m' = g.E.Write.contents c.write_counted.new.output.writer.now in
     let r' = g.R.Write.contents c.write_counted-2.new.output.writer.now in
     let h' = g.H.Write.contents c.write_counted-3.new.output.writer.now in
@@ -82,10 +82,10 @@ returns-in_err-write_counted-3-clause-stopped g c =
 
 pub returns-in_err-write_counted-4-clause-stopped : goal.returns-in_err-write_counted-4-clause-stopped
 returns-in_err-write_counted-4-clause-stopped g c =
-    let m = g.E.Write.contents c.args.messages.now.writer.now in
-    let r = g.R.Write.contents c.args.rdl.now.writer.now in
-    let h = g.H.Write.contents c.args.header.now.writer.now in
-    let z = g.Z.Write.contents c.args.session.now.writer.now in
+    let m = g.E.Write.contents c.args.outputs.now.messages.writer.now in
+    let r = g.R.Write.contents c.args.outputs.now.rdl.writer.now in
+    let h = g.H.Write.contents c.args.outputs.now.header.writer.now in
+    let z = g.Z.Write.contents c.args.outputs.now.session.writer.now in
     let m' = g.E.Write.contents c.write_counted.new.output.writer.now in
     let r' = g.R.Write.contents c.write_counted-2.new.output.writer.now in
     let h' = g.H.Write.contents c.write_counted-3.new.output.writer.now in
