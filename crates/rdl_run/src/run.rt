@@ -46,9 +46,11 @@ fn write_closing<R: Write, H: Write, Z: Write, E: Write>(
     outputs: &mut Outputs<'_, '_, '_, '_, R, H, Z, E>,
 ) -> Result<(), RunFault>
     requires asked { AreOpen (counts_of outputs.old) }
-    ensures wrote { OnOk result (Holds (known R.contents H.contents Z.contents E.contents outputs.old) (known R.contents H.contents Z.contents E.contents outputs.new) closing.now.status (texts_of closing.now)) }
+    ensures wrote { let held = known R.contents H.contents Z.contents E.contents in
+        OnOk result (Holds (held outputs.old) (held outputs.new) closing.now.status (texts_of closing.now)) }
     ensures took { OnOk result (HaveTaken (counts_of outputs.old) (counts_of outputs.new) (texts_of closing.now)) }
-    ensures stopped { IfErr result (λ fault. Leaves fault (known R.contents H.contents Z.contents E.contents outputs.old) (known R.contents H.contents Z.contents E.contents outputs.new) (texts_of closing.now)) }
+    ensures stopped { let held = known R.contents H.contents Z.contents E.contents in
+        IfErr result (λ fault. Leaves fault (held outputs.old) (held outputs.new) (texts_of closing.now)) }
     ensures fault { IsOkUnless result RunFault.Write }
     ensures ended { OnErr result (GivesUp (counts_of outputs.new)) }
     ensures all_open { OnOk result (AreOpen (counts_of outputs.new)) }
@@ -76,8 +78,10 @@ fn run_script<R: Write, H: Write, Z: Write, E: Write>(
     requires length { length script.now < 2 ^ 32 }
     requires kept { AreAt journal.old.history kept }
     requires asked { AreOpen (counts_of outputs.old) }
-    ensures ran { IfOk result (RanFrom (AllOwn journal.old) has_session journal.old.history script.now (known R.contents H.contents Z.contents E.contents outputs.old) (known R.contents H.contents Z.contents E.contents outputs.new) (counts_of outputs.old) (counts_of outputs.new)) }
-    ensures faulted { EachElaborates journal.old.history → IfErr result (FaultedFrom has_session journal.old.history script.now (known R.contents H.contents Z.contents E.contents outputs.old) (known R.contents H.contents Z.contents E.contents outputs.new)) }
+    ensures ran { let held = known R.contents H.contents Z.contents E.contents in
+        IfOk result (RanFrom (AllOwn journal.old) has_session journal.old.history script.now (held outputs.old) (held outputs.new) (counts_of outputs.old) (counts_of outputs.new)) }
+    ensures faulted { let held = known R.contents H.contents Z.contents E.contents in
+        EachElaborates journal.old.history → IfErr result (FaultedFrom has_session journal.old.history script.now (held outputs.old) (held outputs.new)) }
     ensures write_ended { IsErrOf result RunFault.Write → GivesUp (counts_of outputs.new) }
     ensures all_open { OnOk result (AreOpen (counts_of outputs.new)) }
     ensures ends { HasEnded (counts_of outputs.new) → result ≡ Err RunFault.Write }
@@ -109,8 +113,10 @@ fn run_counted<M: Read, S: Read, R: Write, H: Write, Z: Write, E: Write>(
     requires map_fresh { map.old.counts ≡ unread }
     requires script_fresh { script.old.counts ≡ unread }
     requires fresh { AreUnwritten (counts_of outputs.old) }
-    ensures ran { IfOk result (RanCounted options.now (M.remaining map.old.reader.now) (S.remaining script.old.reader.now) (known R.contents H.contents Z.contents E.contents outputs.old) (known R.contents H.contents Z.contents E.contents outputs.new) (counts_of outputs.old) (counts_of outputs.new)) }
-    ensures faulted { IfErr result (Faulted options.now (M.remaining map.old.reader.now) (S.remaining script.old.reader.now) (known R.contents H.contents Z.contents E.contents outputs.old) (known R.contents H.contents Z.contents E.contents outputs.new)) }
+    ensures ran { let held = known R.contents H.contents Z.contents E.contents in
+        IfOk result (RanCounted options.now (M.remaining map.old.reader.now) (S.remaining script.old.reader.now) (held outputs.old) (held outputs.new) (counts_of outputs.old) (counts_of outputs.new)) }
+    ensures faulted { let held = known R.contents H.contents Z.contents E.contents in
+        IfErr result (Faulted options.now (M.remaining map.old.reader.now) (S.remaining script.old.reader.now) (held outputs.old) (held outputs.new)) }
     ensures write_ended { IsErrOf result RunFault.Write → GivesUp (counts_of outputs.new) }
     ensures all_open { OnOk result (AreOpen (counts_of outputs.new)) }
     ensures ends { HasEnded (counts_of outputs.new) → result ≡ Err RunFault.Write }
