@@ -3,5 +3,5 @@
 #![tactic(auto)]
 
 pub mod edits;
+pub mod one_script;
 pub mod scripts;
-pub mod stops;
