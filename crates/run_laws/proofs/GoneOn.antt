@@ -16,7 +16,6 @@ use Rattle.rdl_run.specs.declared.run.Options.{Options}
 use Rattle.rdl_run.specs.declared.status.Status.{Status}
 use Rattle.rdl_run.proofs.Agreeing.{AreAlike, alike-self, run-alike, closes-alike}
 use Rattle.rdl_run.proofs.OpenedOnce.{opened-agree, opened-or-not}
-use Rattle.run_laws.specs.Histories.{Action, edit, undo, redo, Follows}
 use Rattle.run_laws.proofs.SavedRuns.{saved-opens}
 use Rattle.run_laws.proofs.Scripted.{served}
 use Rattle.run_laws.proofs.Staying.{limit-stays}

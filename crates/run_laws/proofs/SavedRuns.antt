@@ -22,7 +22,6 @@ use Rattle.rdl_run.specs.declared.run.Options.{Options}
 use Rattle.rdl_run.proofs.Continued.{good-run}
 use Rattle.rdl_run.proofs.Openings.{opened-elaborates}
 use Rattle.rdl_round.specs.Writable.{IsWritable}
-use Rattle.run_laws.specs.Histories.{Action, edit, undo, redo, Follows}
 use Rattle.rdl_round.specs.Sessions.{IsWritablePatch, AreWritable}
 use Rattle.run_laws.specs.Stops.{SpellsHistory}
 use Rattle.run_laws.proofs.Opened.{opened-writable}

@@ -1,5 +1,5 @@
 -- What each accepted edit, undo and redo leaves as it was stays along a history.
-use Rattle.std.proofs.Common.{◌≡◌, ℕ, Bool, List, [], ◌∷◌, refl, ap, ◌∙◌}
+use Rattle.std.proofs.Common.{◌≡◌, List, [], ◌∷◌, refl, ap, ◌∙◌}
 use Rattle.journal_core.specs.History.{History, Edits, after_undo, after_redo}
 use Rattle.rdl_rewrite.specs.declared.edit.Edit.{Edit}
 use Rattle.rdl_edit.specs.Step.{State, Leads}
