@@ -24,10 +24,7 @@ fn push_path(text: &mut String, path: &RowPath) -> Result<(), AllocError>
     ensures { OnOk result (string_bytes text.new ≡ string_bytes text.old ++ path_text path.now) }
 {
     let (last, around) = path.split_last();
-    'names: for name in around {
-        text.push_str(name.as_str())?;
-        text.push_str("__")?;
-    }
+    text.push_str(around.joined())?;
     text.push_str(last.as_str())?;
     Ok(())
 }
