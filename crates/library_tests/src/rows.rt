@@ -1,5 +1,5 @@
 //! Rows made by hand.
-use rdl_elab::row::{Extent, Place, Row, RowPath};
+use rdl_elab::row::{Extent, NamesAround, Place, Row, RowPath};
 use rdl_elab::row_values::RowValues;
 use rdl_text::name::Name;
 use rdl_text::token::Number;
@@ -9,18 +9,13 @@ use std::alloc::{AllocError, Global};
 use std::rc::Rc;
 use std::test::Fail;
 
-fn named(alloc: Global, names: &[&str]) -> Result<Vec<Name>, Fail> {
-    let mut named = Vec::new(alloc);
-    for name in names {
-        named.push(Name::new(alloc, name)?)?;
-    }
-    Ok(named)
-}
-
 fn path(alloc: Global, names: &[&str]) -> Result<RowPath, Fail> {
     let (last, before) = names.split_last().ok_or("no names")?;
-    let around = Rc::new(alloc, named(alloc, before)?)?;
-    Ok(RowPath::new(around, Name::new(alloc, last)?))
+    let mut around = NamesAround::none(alloc);
+    for name in before {
+        around = around.inside(alloc, &Name::new(alloc, name)?)?;
+    }
+    Ok(RowPath::new(Rc::new(alloc, around)?, Name::new(alloc, last)?))
 }
 
 fn extent(alloc: Global, sizes: &[Number]) -> Result<Extent, AllocError> {

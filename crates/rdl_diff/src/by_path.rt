@@ -15,7 +15,7 @@ pub(crate) fn put_names_below<'a>(
 {
     names.clear();
     let (last, around) = path.split_last();
-    match around {
+    match around.as_slice() {
         [] => Ok(()),
         [_, between @ ..] => {
             'names: for name in between {
@@ -32,7 +32,7 @@ fn names_below(alloc: Global, path: &RowPath) -> Result<Vec<&str>, AllocError>
     ensures { IfOk result (λ names. texts names.items ≡ drop 1 path.now) }
 {
     let (_, around) = path.split_last();
-    let mut names = Vec::with_capacity(alloc, around.len())?;
+    let mut names = Vec::with_capacity(alloc, around.as_slice().len())?;
     put_names_below(&mut names, path)?;
     Ok(names)
 }

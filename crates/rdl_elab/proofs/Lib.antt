@@ -80,6 +80,7 @@ pub mod TrackedValues
 pub mod TrackedInstances
 pub mod TrackedRest
 pub mod TrackedChanges
+pub mod NamesAround
 pub mod Namesakes
 pub mod TopTypes
 pub mod StandInWalks

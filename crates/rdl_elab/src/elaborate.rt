@@ -15,7 +15,7 @@ use crate::finished::Finished;
 use crate::instances::mode_inside;
 use crate::layout::Mode;
 use crate::reaches::with_own;
-use crate::row::{Extent, Place, Row, RowPath, Rows};
+use crate::row::{Extent, NamesAround, Place, Row, RowPath, Rows};
 use crate::row_values::RowValues;
 use crate::rows::{Around, add_rows};
 use crate::walk::lay_out_item;
@@ -131,19 +131,11 @@ pub(crate) fn map_fault(at: &Address, top: &Finished) -> Option<Fault>
     }
 }
 
-fn one_name(alloc: Global, name: &Name) -> Result<Rc<Vec<Name>>, AllocError>
-    ensures { IfOk result (λ names. names.value.items ≡ name.now ∷ []) }
-{
-    let mut names = Vec::new(alloc);
-    names.push(name.try_copy(alloc)?)?;
-    Ok(Rc::new(alloc, names)?)
-}
-
 fn top_row(alloc: Global, name: &Name, top: &Finished) -> Result<Row, AllocError>
     ensures { IfOk result (λ row. row ≡ finished_top_row name.now top.now) }
 {
     let size = top.layouts.under(Mode::Regalign).size;
-    let around = Rc::new(alloc, Vec::new(alloc))?;
+    let around = Rc::new(alloc, NamesAround::none(alloc))?;
     Ok(Row {
         names: RowPath::new(around, name.try_copy(alloc)?),
         kind: top.kind,
@@ -171,7 +163,7 @@ fn around_top<'a>(alloc: Global, name: &Name, top: &Finished<'a>) -> Result<Arou
 {
     Ok(Around {
         mode: mode_inside(top.kind, top.values, Mode::Regalign),
-        names: one_name(alloc, name)?,
+        names: Rc::new(alloc, NamesAround::none(alloc).inside(alloc, name)?)?,
         base: 0,
         bits: 0,
         reaching: with_own(alloc, &[], top.assignments.as_slice())?,

@@ -1,5 +1,5 @@
 //! Rows of a map.
-ghost use Rattle.std.specs.Prelude.{◌≡◌, length, slice_get, option_copied};
+ghost use Rattle.std.specs.Prelude.{◌≡◌, [], ◌∷◌, ◌++◌, IfOk, codes, length, map, slice_get, option_copied, string_bytes};
 
 use crate::layout::Span;
 use crate::row_values::RowValues;
@@ -13,11 +13,98 @@ use std::alloc::{AllocError, Global};
 use std::marker::Model;
 use std::rc::Rc;
 
-/// The names from the top down to a row, the top's first. The rows of a component's instances share the names around
-/// them. A contract sees the list of the names' bytes.
+/// The names of the components around a row, from the top down. The paths of all that stands there share them. A contract
+/// sees the list of the names' bytes.
+#[derive(Debug, Drop)]
+pub struct NamesAround {
+    names: Vec<Rc<Name>>,
+    joined: String,
+}
+
+impl Model for NamesAround {
+    ghost use Rattle.std.specs.Prelude.{◌≡◌, ℕ, List, ◌++◌, codes, map, string_bytes};
+    ghost use Rattle.std.specs.List.{flat_map};
+
+    ghost Value = { List (List ℕ) };
+
+    ghost view = { λ around. map (λ name. name.value) around.names.items };
+
+    ghost invariant = { λ around. string_bytes around.joined ≡ flat_map (λ name. name ++ codes "__") (map (λ name. name.value) around.names.items) };
+}
+
+impl NamesAround {
+    ghost use Rattle.std.specs.Prelude.{◌≡◌, [], ◌∷◌, ◌++◌, IfOk, codes, map};
+    ghost use Rattle.std.specs.List.{flat_map};
+
+    /// Of the top, around which nothing stands.
+    pub fn none(alloc: Global) -> NamesAround
+        ensures { result ≡ [] }
+    {
+        NamesAround {
+            names: Vec::new(alloc),
+            joined: String::new(alloc),
+        }
+    }
+
+    /// Of what stands in the component of this name.
+    #[tactic(auto, using(crate::proofs::NamesAround::joined_more))]
+    pub fn inside(&self, alloc: Global, name: &Name) -> Result<NamesAround, AllocError>
+        ensures { IfOk result (λ around. around ≡ self.now ++ name.now ∷ []) }
+    {
+        Ok(NamesAround {
+            names: longer(alloc, self.names.as_slice(), name)?,
+            joined: joined_with(alloc, self.joined.as_str(), name)?,
+        })
+    }
+
+    pub fn as_slice(&self) -> &[Rc<Name>]
+        ensures { map (λ name. name.value) result.now ≡ self.now }
+    {
+        self.names.as_slice()
+    }
+
+    /// The names with two underscores behind each.
+    pub fn joined(&self) -> &str
+        ensures { result.now ≡ flat_map (λ name. name ++ codes "__") self.now }
+    {
+        self.joined.as_str()
+    }
+}
+
+fn shared(name: &Rc<Name>) -> Result<Rc<Name>, AllocError>
+    ensures { IfOk result (λ n. n.value ≡ name.now.value) }
+{
+    name.clone()
+}
+
+/// The names with one more behind them.
+fn longer(alloc: Global, names: &[Rc<Name>], name: &Name) -> Result<Vec<Rc<Name>>, AllocError>
+    ensures { IfOk result (λ more. map (λ n. n.value) more.items ≡ map (λ n. n.value) names.now ++ name.now ∷ []) }
+{
+    let mut more = Vec::with_capacity(alloc, names.len().saturating_add(1))?;
+    'names: for around in names {
+        more.push(shared(around)?)?;
+    }
+    more.push(Rc::new(alloc, name.try_copy(alloc)?)?)?;
+    Ok(more)
+}
+
+/// The text with a name and two underscores behind it.
+fn joined_with(alloc: Global, joined: &str, name: &Name) -> Result<String, AllocError>
+    ensures { IfOk result (λ text. string_bytes text ≡ joined.now ++ name.now ++ codes "__") }
+{
+    let room = joined.len().saturating_add(name.len()).saturating_add(2);
+    let mut text = String::with_capacity(alloc, room)?;
+    text.push_str(joined)?;
+    text.push_str(name.as_str())?;
+    text.push_str("__")?;
+    Ok(text)
+}
+
+/// The names from the top down to a row, the top's first. A contract sees the list of the names' bytes.
 #[derive(Debug, Drop)]
 pub struct RowPath {
-    around: Rc<Vec<Name>>,
+    around: Rc<NamesAround>,
     last: Name,
 }
 
@@ -26,23 +113,23 @@ impl Model for RowPath {
 
     ghost Value = { List (List ℕ) };
 
-    ghost view = { λ path. path.around.value.items ++ path.last ∷ [] };
+    ghost view = { λ path. path.around.value ++ path.last ∷ [] };
 }
 
 impl RowPath {
     ghost use Rattle.std.specs.Prelude.{◌≡◌, [], ◌∷◌, ◌++◌};
 
-    pub fn new(around: Rc<Vec<Name>>, last: Name) -> RowPath
-        ensures { result ≡ around.value.items ++ last ∷ [] }
+    pub fn new(around: Rc<NamesAround>, last: Name) -> RowPath
+        ensures { result ≡ around.value ++ last ∷ [] }
     {
         RowPath { around, last }
     }
 
     /// The last name, and those before it.
-    pub fn split_last(&self) -> (&Name, &[Name])
+    pub fn split_last(&self) -> (&Name, &NamesAround)
         ensures { self.now ≡ result.1.now ++ result.0.now ∷ [] }
     {
-        (&self.last, self.around.as_slice())
+        (&self.last, &self.around)
     }
 }
 

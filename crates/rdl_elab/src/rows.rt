@@ -15,11 +15,10 @@ use crate::finished::{Finished, Part};
 use crate::instances::mode_inside;
 use crate::layout::{Mode, Span};
 use crate::reaches::{Assignment, Onward, has_come, with_own};
-use crate::row::{Extent, Place, Row, RowPath};
+use crate::row::{Extent, NamesAround, Place, Row, RowPath};
 use crate::row_values::{ComponentValues, RowValues};
 use crate::siblings::{Sibling, Siblings, as_sibling, is_reset_too_wide};
 use crate::values::{judged_values, row_values};
-use rdl_text::name::Name;
 use rdl_text::token::Number;
 use rdl_tree::address::Address;
 use rdl_tree::fault::{Fault, FaultKind};
@@ -36,7 +35,7 @@ pub(crate) struct Around<'a> {
     /// The mode in which the instances are placed.
     pub mode: Mode,
     /// From the top down to the component.
-    pub names: Rc<Vec<Name>>,
+    pub names: Rc<NamesAround>,
     /// The address of the component, in bytes.
     pub base: u64,
     /// How many bits it has if it is a register.
@@ -49,7 +48,7 @@ impl<'a> Model for Around<'a> {
 
     ghost Value = { Surroundings };
 
-    ghost view = { λ a. record { mode = a.mode; names = a.names.value.items; base = a.base; bits = a.bits; reaching = a.reaching.items } };
+    ghost view = { λ a. record { mode = a.mode; names = a.names.value; base = a.base; bits = a.bits; reaching = a.reaching.items } };
 }
 
 fn base(kind: Kind, around: u64, span: Span) -> u64
@@ -85,18 +84,6 @@ fn place(
         Kind::Field => Ok(Place::Bits(span)),
         _ => Ok(Place::Bytes(extent(alloc, shell, span, size)?)),
     }
-}
-
-/// The names with one more behind them.
-fn longer(alloc: Global, names: &[Name], name: &Name) -> Result<Rc<Vec<Name>>, AllocError>
-    ensures { IfOk result (λ path. path.value.items ≡ names.now ++ name.now ∷ []) }
-{
-    let mut copies = Vec::with_capacity(alloc, names.len().saturating_add(1))?;
-    for around in names {
-        copies.push(around.try_copy(alloc)?)?;
-    }
-    copies.push(name.try_copy(alloc)?)?;
-    Ok(Rc::new(alloc, copies)?)
 }
 
 /// Whether nothing reaches an instance with this reset.
@@ -303,7 +290,7 @@ fn inside<'a>(
 {
     Ok(Around {
         mode: mode_inside(component.kind, component.values, around.mode),
-        names: longer(alloc, around.names.as_slice(), &part.shell().name)?,
+        names: Rc::new(alloc, around.names.inside(alloc, &part.shell().name)?)?,
         base: base(component.kind, around.base, span),
         bits: component.values.regwidth,
         reaching: with_own(alloc, reaching, component.assignments.as_slice())?,

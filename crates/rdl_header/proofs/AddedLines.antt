@@ -1,13 +1,11 @@
 -- The lines of macros, one behind the other.
 use Rattle.std.proofs.Common.{◌≡◌, ℕ, ◌+◌, List, [], ◌∷◌, ◌++◌, length, codes, refl, ap, sym, ◌∙◌, append_assoc, append-nil, length-append, arith}
-use Rattle.std.proofs.lemmas.List.{map-append}
 use Rattle.std.proofs.lemmas.List.Concat.{flat_map-append}
 use Rattle.std.specs.List.{flat_map}
 use Rattle.rdl_write.specs.Texts.{newline}
 use Rattle.rdl_header.specs.declared.stretch.Stretch.{Stretch}
 use Rattle.rdl_header.specs.HeaderText.{Macro, macro_line, guard_lines, header_text}
-use Rattle.rdl_header.specs.Lines.{Lines, name_at, names_at, marks_of, guarded, added, ended, header_lines}
-use Rattle.rdl_header.specs.Marks.{mark}
+use Rattle.rdl_header.specs.Lines.{Lines, name_at, names_at, guarded, added, ended, header_lines}
 
 -- ---- One line more.
 
@@ -18,10 +16,10 @@ line : (old front middle text : List ℕ) (m : Macro) → front ≡ old ++ codes
 unfolding macro_line
 line old front middle text m e f g = g ∙ ap (λ t. t ++ newline) (f ∙ ap (λ t. t ++ m.value) e) ∙ regroup old (codes "#define ") m.name (codes " ") m.value newline
 
-pub line_added : (old : Lines) (m : Macro) (front middle text : List ℕ) (names : List Stretch) (marks : List ℕ) → front ≡ old.text ++ codes "#define " ++ m.name ++ codes " " → middle ≡ front ++ m.value → text ≡ middle ++ newline → names ≡ old.names ++ name_at (length old.text) m.name ∷ []
-    → marks ≡ old.marks ++ mark m.name ∷ [] → record { text = text; names = names; marks = marks } ≡ added old (m ∷ [])
+pub line_added : (old : Lines) (m : Macro) (front middle text : List ℕ) (names : List Stretch) → front ≡ old.text ++ codes "#define " ++ m.name ++ codes " " → middle ≡ front ++ m.value → text ≡ middle ++ newline → names ≡ old.names ++ name_at (length old.text) m.name ∷ []
+    → record { text = text; names = names } ≡ added old (m ∷ [])
 unfolding added
-line_added old m front middle text names marks e f g h k = λ i. record { text = line old.text front middle text m e f g i; names = h i; marks = k i }
+line_added old m front middle text names e f g h = λ i. record { text = line old.text front middle text m e f g i; names = h i }
 
 -- ---- Macros behind macros.
 
@@ -40,16 +38,13 @@ more-names text names xs ys =
     ∙ ap (λ p. names ++ (names_at (length text) xs ++ names_at p ys)) (length-append text (flat_map macro_line xs))
     ∙ ap (λ t. names ++ t) (sym (names-append (length text) xs ys))
 
-more-marks : (marks : List ℕ) (xs ys : List Macro) → (marks ++ marks_of xs) ++ marks_of ys ≡ marks ++ marks_of (xs ++ ys)
-more-marks marks xs ys = append_assoc marks (marks_of xs) (marks_of ys) ∙ ap (λ t. marks ++ t) (sym (map-append (λ (m : Macro). mark m.name) xs ys))
-
 pub added_more : (lines : Lines) (xs ys : List Macro) → added (added lines xs) ys ≡ added lines (xs ++ ys)
 unfolding added
-added_more lines xs ys = λ i. record { text = more-text lines.text xs ys i; names = more-names lines.text lines.names xs ys i; marks = more-marks lines.marks xs ys i }
+added_more lines xs ys = λ i. record { text = more-text lines.text xs ys i; names = more-names lines.text lines.names xs ys i }
 
 pub none_added : (lines : Lines) → added lines [] ≡ lines
 unfolding added
-none_added lines = λ i. record { text = append-nil lines.text i; names = append-nil lines.names i; marks = append-nil lines.marks i }
+none_added lines = λ i. record { text = append-nil lines.text i; names = append-nil lines.names i }
 
 pub ruleset added_lines = (added_more, none_added)
 
@@ -69,26 +64,20 @@ name_is path first e =
     let end : length (first ++ path ++ codes "_H") ≡ 8 + length (path ++ codes "_H") = omega (arith, length-append first path, length-append (first ++ path) (codes "_H"), length-append path (codes "_H")) in
     λ i. record { start = start i; end = end i }
 
-pub guard_made : (path none first second third fourth text : List ℕ) (nothing names : List Stretch) (unmarked marks : List ℕ) → none ≡ [] → first ≡ none ++ codes "#ifndef " → second ≡ first ++ path ++ codes "_H" → third ≡ second ++ codes "\n#define " → fourth ≡ third ++ path → text ≡ fourth ++ codes "_H\n"
-    → nothing ≡ [] → names ≡ nothing ++ record { start = length first; end = length (first ++ path ++ codes "_H") } ∷ [] → unmarked ≡ [] → marks ≡ unmarked ++ mark (path ++ codes "_H") ∷ [] → record { text = text; names = names; marks = marks } ≡ guarded (record { name = path ++ codes "_H"; value = [] })
+pub guard_made : (path none first second third fourth text : List ℕ) (nothing names : List Stretch) → none ≡ [] → first ≡ none ++ codes "#ifndef " → second ≡ first ++ path ++ codes "_H" → third ≡ second ++ codes "\n#define " → fourth ≡ third ++ path → text ≡ fourth ++ codes "_H\n"
+    → nothing ≡ [] → names ≡ nothing ++ record { start = length first; end = length (first ++ path ++ codes "_H") } ∷ [] → record { text = text; names = names } ≡ guarded (record { name = path ++ codes "_H"; value = [] })
 unfolding guarded
-guard_made path none first second third fourth text nothing names unmarked marks z a b d e f y g x h =
+guard_made path none first second third fourth text nothing names z a b d e f y g =
     let one : first ≡ codes "#ifndef " = a ∙ ap (λ t. t ++ codes "#ifndef ") z in
     let lines : text ≡ guard_lines (record { name = path ++ codes "_H"; value = [] }) = guard_is path second third fourth text (b ∙ ap (λ t. t ++ path ++ codes "_H") one) d e f in
     let name : names ≡ name_at 0 (path ++ codes "_H") ∷ [] = g ∙ ap (λ ns. ns ++ record { start = length first; end = length (first ++ path ++ codes "_H") } ∷ []) y ∙ ap (λ n. n ∷ []) (name_is path first one) in
-    let marked : marks ≡ mark (path ++ codes "_H") ∷ [] = h ∙ ap (λ ms. ms ++ mark (path ++ codes "_H") ∷ []) x in
-    λ i. record { text = lines i; names = name i; marks = marked i }
+    λ i. record { text = lines i; names = name i }
 
-pub end_made : (lines : Lines) (text : List ℕ) → text ≡ lines.text ++ codes "#endif\n" → record { text = text; names = lines.names; marks = lines.marks } ≡ ended lines
+pub end_made : (lines : Lines) (text : List ℕ) → text ≡ lines.text ++ codes "#endif\n" → record { text = text; names = lines.names } ≡ ended lines
 unfolding ended
-end_made lines text e = λ i. record { text = (e ∙ sym (append_assoc lines.text (codes "#endif") newline)) i; names = lines.names; marks = lines.marks }
+end_made lines text e = λ i. record { text = (e ∙ sym (append_assoc lines.text (codes "#endif") newline)) i; names = lines.names }
 
 pub header_lines-text : (ms : List Macro) → (header_lines ms).text ≡ header_text ms
 unfolding guarded added ended
 header_lines-text [] = refl
 header_lines-text (m ∷ ms) = refl
-
-pub header_lines-marks : (ms : List Macro) → (header_lines ms).marks ≡ marks_of ms
-unfolding guarded added ended
-header_lines-marks [] = refl
-header_lines-marks (m ∷ ms) = refl

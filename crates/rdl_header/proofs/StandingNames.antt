@@ -10,9 +10,8 @@ use Rattle.rdl_write.specs.Texts.{newline}
 use Rattle.rdl_header.specs.declared.stretch.Stretch.{Stretch}
 use Rattle.rdl_elab.specs.declared.row.Row.{Row}
 use Rattle.rdl_header.specs.HeaderText.{Macro, macros, macro_line, guard_lines, header_text, is_defined, clash_behind, first_clash, text_unless, header_of}
-use Rattle.rdl_header.specs.Lines.{Lines, name_at, names_at, marks_of, guarded, added, ended, header_lines, IsCut, named}
-use Rattle.rdl_header.proofs.AddedLines.{header_lines-text, header_lines-marks}
-use Rattle.rdl_header.proofs.Apart.{AreApart, no_clash}
+use Rattle.rdl_header.specs.Lines.{Lines, name_at, names_at, guarded, added, ended, header_lines, IsCut, named}
+use Rattle.rdl_header.proofs.AddedLines.{header_lines-text}
 
 -- ---- One name.
 
@@ -169,9 +168,8 @@ module _ (rows : List Row) (lines : Lines) (text : List ℕ) (names : List Stret
       ap (λ clash. text_unless clash (header_text (macros rows))) (sym same_clash ∙ sym e)
       ∙ ap Ok (sym (a ∙ ap (λ x. x.text) made ∙ header_lines-text (macros rows)))
 
--- the text where the marks of the names are known to differ
-pub text_apart : (rows : List Row) (lines : Lines) (marks answer : List ℕ) → lines ≡ header_lines (macros rows) → marks ≡ lines.marks → AreApart marks → answer ≡ lines.text → header_of rows ≡ Ok answer
-text_apart rows lines marks answer made n apart a =
-    let all : marks ≡ marks_of (macros rows) = n ∙ ap (λ x. x.marks) made ∙ header_lines-marks (macros rows) in
-    ap (λ clash. text_unless clash (header_text (macros rows))) (no_clash (macros rows) (subst AreApart all apart))
+-- the text where nothing is known to clash
+pub text_apart : (rows : List Row) (lines : Lines) (answer : List ℕ) → lines ≡ header_lines (macros rows) → first_clash (macros rows) ≡ None → answer ≡ lines.text → header_of rows ≡ Ok answer
+text_apart rows lines answer made none a =
+    ap (λ clash. text_unless clash (header_text (macros rows))) none
     ∙ ap Ok (sym (a ∙ ap (λ x. x.text) made ∙ header_lines-text (macros rows)))

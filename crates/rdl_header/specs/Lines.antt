@@ -1,17 +1,15 @@
--- The lines of macros as they are made, one behind the other, where their names stand in them, and the marks of these names. Own.
+-- The lines of macros as they are made, one behind the other, and where their names stand in them. Own.
 use Rattle.std.specs.Prelude.{ℕ, ◌+◌, ◌≤◌, List, [], ◌∷◌, ◌++◌, length, map, codes, slice_range}
 use Rattle.std.specs.List.{flat_map}
 use Rattle.std.specs.Str.{IsCharBoundary}
 use Rattle.rdl_write.specs.Texts.{newline}
 use Rattle.rdl_header.specs.declared.stretch.Stretch.{Stretch}
 use Rattle.rdl_header.specs.HeaderText.{Macro, macro_line, guard_lines}
-use Rattle.rdl_header.specs.Marks.{mark}
 
--- a text, where the names of its macros stand, and their marks
+-- a text, and where the names of its macros stand
 pub record Lines : Type 0 where
   pub text : List ℕ
   pub names : List Stretch
-  pub marks : List ℕ
 
 -- the name behind the eight bytes `#define ` or `#ifndef ` of a line that begins at a place
 abbrev pub name_at : (place : ℕ) → (name : List ℕ) → Stretch
@@ -22,24 +20,20 @@ abbrev pub names_at : (place : ℕ) → List Macro → List Stretch
 names_at place [] = []
 names_at place (m ∷ ms) = name_at place m.name ∷ names_at (place + length (macro_line m)) ms
 
--- the marks of the names of macros
-abbrev pub marks_of : List Macro → List ℕ
-marks_of ms = map (λ (m : Macro). mark m.name) ms
-
 -- the lines with those of macros behind them
 unfoldable pub added : Lines → List Macro → Lines
-added lines ms = record { text = lines.text ++ flat_map macro_line ms; names = lines.names ++ names_at (length lines.text) ms; marks = lines.marks ++ marks_of ms }
+added lines ms = record { text = lines.text ++ flat_map macro_line ms; names = lines.names ++ names_at (length lines.text) ms }
 
 abbrev pub no_lines : Lines
-no_lines = record { text = []; names = []; marks = [] }
+no_lines = record { text = []; names = [] }
 
 -- the lines of a guard
 unfoldable pub guarded : Macro → Lines
-guarded m = record { text = guard_lines m; names = name_at 0 m.name ∷ []; marks = marks_of (m ∷ []) }
+guarded m = record { text = guard_lines m; names = name_at 0 m.name ∷ [] }
 
 -- the lines with the end of what is guarded behind them
 unfoldable pub ended : Lines → Lines
-ended lines = record { text = lines.text ++ codes "#endif" ++ newline; names = lines.names; marks = lines.marks }
+ended lines = record { text = lines.text ++ codes "#endif" ++ newline; names = lines.names }
 
 -- those of a header; the first macro is the guard
 abbrev pub header_lines : List Macro → Lines

@@ -2,29 +2,32 @@
 ghost use Rattle.std.specs.Prelude.{◌≡◌, ◌+◌, ◌++◌, [], ◌∷◌, length, codes, string_bytes, IfOk, OnOk};
 ghost use Rattle.rdl_header.specs.HeaderText.{hexadecimal_macro, decimal_macro};
 ghost use Rattle.rdl_header.specs.Lines.{name_at, no_lines, guarded, added, ended};
-ghost use Rattle.rdl_header.specs.Marks.{mark};
 
-use crate::mark::Front;
 use crate::stretch::Stretch;
 use rdl_text::token::Number;
 use rdl_write::{push_decimal, push_hexadecimal};
 use std::alloc::{AllocError, Global};
 use std::marker::Model;
 
-/// The lines of macros, where the names stand in them, and the marks of these.
+/// The lines of macros, and where the names stand in them.
 #[derive(Drop)]
 pub(crate) struct Lines {
     text: String,
     names: Vec<Stretch>,
-    marks: Vec<u64>,
 }
 
-/// What lines are made of: their text, where the names of the macros stand in it, and the marks of these names.
+/// How many bytes and names are made room for at first.
+#[derive(Clone, Copy)]
+pub(crate) struct Room {
+    pub bytes: usize,
+    pub names: usize,
+}
+
+/// What lines are made of: their text, and where the names of the macros stand in it.
 #[derive(Drop)]
 pub(crate) struct Parts {
     pub text: String,
     pub names: Vec<Stretch>,
-    pub marks: Vec<u64>,
 }
 
 impl Model for Lines {
@@ -33,7 +36,7 @@ impl Model for Lines {
 
     ghost Value = { Seen };
 
-    ghost view = { λ lines. record { text = string_bytes lines.text; names = lines.names.items; marks = lines.marks.items } };
+    ghost view = { λ lines. record { text = string_bytes lines.text; names = lines.names.items } };
 }
 
 impl Lines {
@@ -44,41 +47,33 @@ impl Lines {
         Lines {
             text: String::new(alloc),
             names: Vec::new(alloc),
-            marks: Vec::new(alloc),
         }
     }
 
-    /// The lines of the guard, whose name is the path and `_H`.
-    pub(crate) fn guarded(alloc: Global, path: &Front) -> Result<Lines, AllocError>
+    /// The lines of the guard, whose name is the path and `_H`. There is room for so many bytes and names.
+    pub(crate) fn guarded(alloc: Global, room: Room, path: &str) -> Result<Lines, AllocError>
         ensures { IfOk result (λ lines. lines ≡ guarded (record { name = path.now ++ codes "_H"; value = [] })) }
     {
-        let mut text = String::new(alloc);
-        let mut names = Vec::new(alloc);
-        let mut marks = Vec::new(alloc);
+        let mut text = String::with_capacity(alloc, room.bytes)?;
+        let mut names = Vec::with_capacity(alloc, room.names)?;
         text.push_str("#ifndef ")?;
-        push_name(&mut text, &mut names, &mut marks, path, "_H")?;
+        push_name(&mut text, &mut names, path, "_H")?;
         text.push_str("\n#define ")?;
-        text.push_str(path.text())?;
+        text.push_str(path)?;
         text.push_str("_H\n")?;
-        Ok(Lines { text, names, marks })
+        Ok(Lines { text, names })
     }
 
     /// Puts the line of a macro behind the others. Its name is the path and the ending, its value `0x` and upper-case digits.
     pub(crate) fn push_hexadecimal(
         &mut self,
-        path: &Front,
+        path: &str,
         ending: &str,
         number: Number,
     ) -> Result<(), AllocError>
         ensures { OnOk result (self.new ≡ added self.old (hexadecimal_macro path.now ending.now number ∷ [])) }
     {
-        begin(
-            &mut self.text,
-            &mut self.names,
-            &mut self.marks,
-            path,
-            ending,
-        )?;
+        begin(&mut self.text, &mut self.names, path, ending)?;
         push_hexadecimal(&mut self.text, number)?;
         self.text.push_str("\n")?;
         Ok(())
@@ -87,19 +82,13 @@ impl Lines {
     /// Puts the line of a macro behind the others. Its name is the path and the ending, its value decimal.
     pub(crate) fn push_decimal(
         &mut self,
-        path: &Front,
+        path: &str,
         ending: &str,
         number: Number,
     ) -> Result<(), AllocError>
         ensures { OnOk result (self.new ≡ added self.old (decimal_macro path.now ending.now number ∷ [])) }
     {
-        begin(
-            &mut self.text,
-            &mut self.names,
-            &mut self.marks,
-            path,
-            ending,
-        )?;
+        begin(&mut self.text, &mut self.names, path, ending)?;
         push_decimal(&mut self.text, number)?;
         self.text.push_str("\n")?;
         Ok(())
@@ -116,32 +105,28 @@ impl Lines {
     pub(crate) fn into_parts(self) -> Parts
         ensures text { string_bytes result.text ≡ self.text }
         ensures names { result.names.items ≡ self.names }
-        ensures marks { result.marks.items ≡ self.marks }
     {
-        let Lines { text, names, marks } = self;
-        Parts { text, names, marks }
+        let Lines { text, names } = self;
+        Parts { text, names }
     }
 }
 
-/// Appends a name, which is the path and the ending, and notes where it stands, and its mark.
+/// Appends a name, which is the path and the ending, and notes where it stands.
 fn push_name(
     text: &mut String,
     names: &mut Vec<Stretch>,
-    marks: &mut Vec<u64>,
-    path: &Front,
+    path: &str,
     ending: &str,
 ) -> Result<(), AllocError>
     ensures text { OnOk result (string_bytes text.new ≡ string_bytes text.old ++ path.now ++ ending.now) }
     ensures name { OnOk result (names.new.items ≡ names.old.items
         ++ record { start = length (string_bytes text.old); end = length (string_bytes text.old ++ path.now ++ ending.now) } ∷ []) }
-    ensures mark { OnOk result (marks.new.items ≡ marks.old.items ++ mark (path.now ++ ending.now) ∷ []) }
 {
     let start = text.len();
-    text.push_str(path.text())?;
+    text.push_str(path)?;
     text.push_str(ending)?;
     let end = text.len();
     names.push(Stretch { start, end })?;
-    marks.push(path.mark_with(ending))?;
     Ok(())
 }
 
@@ -149,16 +134,14 @@ fn push_name(
 fn begin(
     text: &mut String,
     names: &mut Vec<Stretch>,
-    marks: &mut Vec<u64>,
-    path: &Front,
+    path: &str,
     ending: &str,
 ) -> Result<(), AllocError>
     ensures text { OnOk result (string_bytes text.new ≡ string_bytes text.old ++ codes "#define " ++ (path.now ++ ending.now) ++ codes " ") }
     ensures name { OnOk result (names.new.items ≡ names.old.items ++ name_at (length (string_bytes text.old)) (path.now ++ ending.now) ∷ []) }
-    ensures mark { OnOk result (marks.new.items ≡ marks.old.items ++ mark (path.now ++ ending.now) ∷ []) }
 {
     text.push_str("#define ")?;
-    push_name(text, names, marks, path, ending)?;
+    push_name(text, names, path, ending)?;
     text.push_str(" ")?;
     Ok(())
 }

@@ -6,8 +6,7 @@ ghost use Rattle.rdl_header.specs.Lines.{guarded, added, header_lines};
 ghost use Rattle.std.specs.Fmt.{decimal};
 
 use crate::bits::{mask, width};
-use crate::lines::Lines;
-use crate::mark::Front;
+use crate::lines::{Lines, Room};
 use rdl_elab::layout::Span;
 use rdl_elab::row::{Extent, Place, Row, RowPath};
 use rdl_scope::shells::product;
@@ -24,10 +23,7 @@ fn push_path(text: &mut String, path: &RowPath) -> Result<(), AllocError>
     ensures { OnOk result (string_bytes text.new ≡ string_bytes text.old ++ path_text path.now) }
 {
     let (last, around) = path.split_last();
-    'names: for name in around {
-        text.push_str(name.as_str())?;
-        text.push_str("__")?;
-    }
+    text.push_str(around.joined())?;
     text.push_str(last.as_str())?;
     Ok(())
 }
@@ -44,7 +40,7 @@ fn numbered(alloc: Global, ending: &str, index: u64) -> Result<String, AllocErro
 #[tactic(auto, using(crate::proofs::AddedLines::added_lines))]
 fn add_array(
     lines: &mut Lines,
-    path: &Front,
+    path: &str,
     dims: &[Number],
     stride: Number,
 ) -> Result<(), AllocError>
@@ -61,7 +57,7 @@ fn add_array(
 
 /// The macros of an instance that has bytes.
 #[tactic(auto, using(crate::proofs::AddedLines::added_lines), unfolding(crate::specs::HeaderText::bytes_macros))]
-fn add_bytes(lines: &mut Lines, path: &Front, base: u64, extent: &Extent) -> Result<(), AllocError>
+fn add_bytes(lines: &mut Lines, path: &str, base: u64, extent: &Extent) -> Result<(), AllocError>
     ensures { OnOk result (lines.new ≡ added lines.old (bytes_macros path.now base extent.now)) }
 {
     lines.push_hexadecimal(path, "_base", Number::from(base))?;
@@ -76,7 +72,7 @@ fn add_bytes(lines: &mut Lines, path: &Front, base: u64, extent: &Extent) -> Res
 fn add_words(
     alloc: Global,
     lines: &mut Lines,
-    path: &Front,
+    path: &str,
     ending: &str,
     number: Number,
     count: u64,
@@ -96,7 +92,7 @@ fn add_words(
 fn add_mask(
     alloc: Global,
     lines: &mut Lines,
-    path: &Front,
+    path: &str,
     register: u64,
     span: &Span,
 ) -> Result<(), AllocError>
@@ -114,7 +110,7 @@ fn add_mask(
 fn add_reset(
     alloc: Global,
     lines: &mut Lines,
-    path: &Front,
+    path: &str,
     width: u64,
     reset: Option<Number>,
 ) -> Result<(), AllocError>
@@ -134,7 +130,7 @@ fn add_reset(
 fn add_width(
     alloc: Global,
     lines: &mut Lines,
-    path: &Front,
+    path: &str,
     span: &Span,
     reset: Option<Number>,
 ) -> Result<(), AllocError>
@@ -151,7 +147,7 @@ fn add_width(
 fn add_bits(
     alloc: Global,
     lines: &mut Lines,
-    path: &Front,
+    path: &str,
     register: u64,
     span: &Span,
     reset: Option<Number>,
@@ -174,7 +170,7 @@ fn add_row(
 {
     path.clear();
     push_path(path, &row.names)?;
-    let path = &Front::of(path.as_str());
+    let path = path.as_str();
     match &row.place {
         Place::Bytes(extent) => add_bytes(lines, path, row.base, extent),
         Place::Bits(span) => {
@@ -208,13 +204,43 @@ fn add_rows(alloc: Global, lines: &mut Lines, rows: &[Row]) -> Result<(), AllocE
     Ok(())
 }
 
+/// How many lines a row has, where no number takes several words.
+fn count(place: &Place) -> usize {
+    match place {
+        Place::Bytes(extent) if extent.dims.as_slice().is_empty() => 3,
+        Place::Bytes(_) => 5,
+        Place::Bits(_) => 4,
+    }
+}
+
+/// How many bytes lines of so many macros mostly need, that begin with this path.
+fn bytes(path: &RowPath, count: usize) -> usize {
+    let (last, around) = path.split_last();
+    let name = around.joined().len().saturating_add(last.len());
+    name.saturating_add(32).saturating_mul(count)
+}
+
+/// As much as the lines of the rows mostly need.
+fn room(rows: &[Row]) -> Room {
+    let mut room = Room {
+        bytes: 64,
+        names: 1,
+    };
+    'rows: for row in rows {
+        let count = count(&row.place);
+        room.names = room.names.saturating_add(count);
+        room.bytes = room.bytes.saturating_add(bytes(&row.names, count));
+    }
+    room
+}
+
 /// The lines of the guard: the macro that is defined wherever the header of this top has been read.
-fn guard(alloc: Global, top: &Row) -> Result<Lines, AllocError>
+fn guard(alloc: Global, room: Room, top: &Row) -> Result<Lines, AllocError>
     ensures { IfOk result (λ lines. lines ≡ guarded (guard top.now)) }
 {
     let mut path = String::new(alloc);
     push_path(&mut path, &top.names)?;
-    Lines::guarded(alloc, &Front::of(path.as_str()))
+    Lines::guarded(alloc, room, path.as_str())
 }
 
 /// The lines of the guard, of the macros of the rows below the top, and of the guard's end.
@@ -224,7 +250,7 @@ pub(crate) fn header_lines(alloc: Global, rows: &[Row]) -> Result<Lines, AllocEr
     let [top, below @ ..] = rows else {
         return Ok(Lines::new(alloc));
     };
-    let mut lines = guard(alloc, top)?;
+    let mut lines = guard(alloc, room(rows), top)?;
     add_rows(alloc, &mut lines, below)?;
     lines.end()?;
     Ok(lines)

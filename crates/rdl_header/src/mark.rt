@@ -1,11 +1,14 @@
 //! Marks: numbers by which names are mostly told apart.
-ghost use Rattle.std.specs.Prelude.{◌≡◌, true};
+ghost use Rattle.std.specs.Prelude.{◌≡◌, ◌++◌, true, None, IfOk, OnOk};
 ghost use Rattle.std.specs.List.{IsDistinct};
 ghost use Rattle.std.specs.List.Sorted.{IsStrictlyIncreasing};
 ghost use Rattle.std.specs.Ordering.{nat_cmp, eq_by_cmp};
-ghost use Rattle.rdl_header.specs.Marks.{mark_on};
+ghost use Rattle.rdl_header.specs.HeaderText.{path_text, macros, first_clash};
+ghost use Rattle.rdl_header.specs.Marks.{mark_on, mark, is_narrow, row_marks, path_marks};
 
-use std::marker::Model;
+use crate::bits::width;
+use rdl_elab::row::{Place, Row, RowPath};
+use std::alloc::{AllocError, Global};
 
 /// The mark of what this mark is of, with the bytes of a text behind it.
 fn mark_on(before: u64, text: &str) -> u64
@@ -18,53 +21,57 @@ fn mark_on(before: u64, text: &str) -> u64
     mark
 }
 
-/// The text with which the names of a row's macros begin, and its mark. A contract sees the text.
-#[derive(Drop)]
-pub(crate) struct Front<'t> {
-    text: &'t str,
-    marked: u64,
+/// The mark of the names from the top with two underscores between them.
+fn path_mark(path: &RowPath) -> u64
+    ensures { result ≡ mark (path_text path.now) }
+{
+    let (last, around) = path.split_last();
+    mark_on(mark_on(0, around.joined()), last.as_str())
 }
 
-impl<'t> Model for Front<'t> {
-    ghost use Rattle.std.specs.Prelude.{◌≡◌, ℕ, List};
-    ghost use Rattle.rdl_header.specs.Marks.{mark};
-
-    ghost Value = { List ℕ };
-
-    ghost view = { λ front. front.text.now };
-
-    ghost invariant = { λ front. front.marked ≡ mark front.text.now };
+/// Whether the row has no number of more than four words.
+fn is_narrow(place: &Place) -> bool
+    ensures { result ≡ is_narrow place.now }
+{
+    match place {
+        Place::Bytes(_) => true,
+        Place::Bits(span) => width(span) <= 128,
+    }
 }
 
-impl<'t> Front<'t> {
-    ghost use Rattle.std.specs.Prelude.{◌≡◌, ◌++◌};
-    ghost use Rattle.rdl_header.specs.Marks.{mark};
-
-    pub(crate) fn of(text: &'t str) -> Front<'t>
-        ensures { result ≡ text.now }
-    {
-        Front {
-            text,
-            marked: mark_on(0, text),
-        }
+/// Puts the mark of the row's path behind the others, twice if the row isn't narrow.
+fn push_marks(marks: &mut Vec<u64>, row: &Row) -> Result<(), AllocError>
+    ensures { OnOk result (marks.new.items ≡ marks.old.items ++ row_marks row.now) }
+{
+    let mark = path_mark(&row.names);
+    marks.push(mark)?;
+    if !is_narrow(&row.place) {
+        marks.push(mark)?;
     }
+    Ok(())
+}
 
-    pub(crate) fn text(&self) -> &'t str
-        ensures { result.now ≡ self.now }
-    {
-        self.text
+/// The marks of the paths of the rows.
+fn path_marks(alloc: Global, rows: &[Row]) -> Result<Vec<u64>, AllocError>
+    ensures { IfOk result (λ marks. marks.items ≡ path_marks rows.now) }
+{
+    let mut marks = Vec::with_capacity(alloc, rows.len())?;
+    'rows: for row in rows {
+        push_marks(&mut marks, row)?;
     }
+    Ok(marks)
+}
 
-    /// The mark of the name with this ending.
-    pub(crate) fn mark_with(&self, ending: &str) -> u64
-        ensures { result ≡ mark (self.now ++ ending.now) }
-    {
-        mark_on(self.marked, ending)
-    }
+/// Whether the rows are known to have no two macros of one name: the marks of their paths all differ.
+pub(crate) fn paths_differ(alloc: Global, rows: &[Row]) -> Result<bool, AllocError>
+    ensures { IfOk result (λ differ. differ ≡ true → first_clash (macros rows.now) ≡ None) }
+{
+    let mut marks = path_marks(alloc, rows)?;
+    Ok(are_apart(marks.as_mut_slice()))
 }
 
 /// Whether these marks are known to differ from each other. They are put in order.
-pub(crate) fn are_apart(marks: &mut [u64]) -> bool
+fn are_apart(marks: &mut [u64]) -> bool
     ensures { result ≡ true → IsDistinct (eq_by_cmp nat_cmp) marks.old }
 {
     marks.sort_unstable();

@@ -6,7 +6,7 @@ ghost use Rattle.rdl_header.specs.HeaderFaults.{IsFault};
 use crate::clashes::first_clash;
 use crate::lines::Parts;
 use crate::macros::header_lines;
-use crate::mark::are_apart;
+use crate::mark::paths_differ;
 use rdl_elab::row::Row;
 use std::alloc::{AllocError, AllocFailed, Global};
 
@@ -46,12 +46,9 @@ pub fn header(alloc: Global, rows: &[Row]) -> Result<String, HeaderFault>
     ensures ok { IfOk result (λ text. header_of rows.now ≡ Ok (string_bytes text)) }
     ensures err { IfErr result (IsFault rows.now) }
 {
-    let Parts {
-        text,
-        names,
-        mut marks,
-    } = header_lines(alloc, rows)?.into_parts();
-    if are_apart(marks.as_mut_slice()) {
+    let differ = paths_differ(alloc, rows)?;
+    let Parts { text, names } = header_lines(alloc, rows)?.into_parts();
+    if differ {
         return Ok(text);
     }
     if let Some(name) = first_clash(alloc, text.as_str(), names.as_slice())? {

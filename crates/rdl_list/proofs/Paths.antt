@@ -1,6 +1,6 @@
 -- The names of a path with dots between them, the last one apart.
-use Rattle.std.proofs.Common.{◌≡◌, ℕ, List, [], ◌∷◌, ◌++◌, ap, ◌∙◌, sym, codes, append_assoc, append-nil, length, take, ◌≤◌}
-use Rattle.std.proofs.lemmas.List.{take_all}
+use Rattle.std.proofs.Common.{◌≡◌, ℕ, List, [], ◌∷◌, ◌++◌, ap, ◌∙◌, sym, codes, append_assoc, append-nil, zero, suc, length, map, take, drop, refl, ◌≤◌, ◌-◌, arith}
+use Rattle.std.proofs.lemmas.List.{take_all, length-drop}
 use Rattle.std.specs.List.{flat_map}
 use Rattle.rdl_list.specs.ListText.{path_text}
 
@@ -19,11 +19,26 @@ ends : (around : List (List ℕ)) (last : List ℕ) → path_text (around ++ las
 ends [] last = append-nil last
 ends (x ∷ xs) last = dots x xs last
 
+dots_behind : {A : Type 0} (name_of : A → List ℕ) (xs : List A) → flat_map (λ n. name_of n ++ codes ".") xs ≡ flat_map (λ n. n ++ codes ".") (map name_of xs)
+dots_behind name_of [] = refl
+dots_behind name_of (x ∷ xs) = ap (λ t. (name_of x ++ codes ".") ++ t) (dots_behind name_of xs)
+
 -- the text with the names before the last, and then with the last
-pub path-pushed : (old between new : List ℕ) (around : List (List ℕ)) (last : List ℕ) (i : ℕ) → length around ≤ i → between ≡ old ++ flat_map (λ n. n ++ codes ".") (take i around) → new ≡ between ++ last
-    → new ≡ old ++ path_text (around ++ last ∷ [])
-path-pushed old between new around last i all f g =
+pub path-pushed : {A : Type 0} (name_of : A → List ℕ) (old between new : List ℕ) (around : List A) (last : List ℕ) (i : ℕ) → length around ≤ i → between ≡ old ++ flat_map (λ n. name_of n ++ codes ".") (take i around) → new ≡ between ++ last
+    → new ≡ old ++ path_text (map name_of around ++ last ∷ [])
+path-pushed name_of old between new around last i all f g =
     g
-    ∙ ap (λ t. t ++ last) (f ∙ ap (λ ns. old ++ flat_map (λ n. n ++ codes ".") ns) (take_all i around all))
-    ∙ append_assoc old (flat_map (λ n. n ++ codes ".") around) last
-    ∙ ap (λ t. old ++ t) (sym (ends around last))
+    ∙ ap (λ t. t ++ last) (f ∙ ap (λ ns. old ++ flat_map (λ n. name_of n ++ codes ".") ns) (take_all i around all) ∙ ap (λ t. old ++ t) (dots_behind name_of around))
+    ∙ append_assoc old (flat_map (λ n. n ++ codes ".") (map name_of around)) last
+    ∙ ap (λ t. old ++ t) (sym (ends (map name_of around) last))
+
+-- without so many of the first names, of which the last is none
+dropped : {A : Type 0} (name_of : A → List ℕ) (around : List A) (last : List ℕ) (n : ℕ) → n ≤ length around → map name_of (drop n around) ++ last ∷ [] ≡ drop n (map name_of around ++ last ∷ [])
+dropped name_of around last zero h = refl
+dropped name_of [] last (suc n) h = grind arith
+dropped name_of (x ∷ xs) last (suc n) h = dropped name_of xs last n (omega arith)
+
+pub left_out : {A : Type 0} (name_of : A → List ℕ) (around : List A) (last : List ℕ) (n : ℕ) → n ≤ length around → map name_of (take (length around - n) (drop n around)) ++ last ∷ [] ≡ drop n (map name_of around ++ last ∷ [])
+left_out name_of around last n h =
+    let all : length (drop n around) ≤ length around - n = omega (arith, length-drop n around) in
+    ap (λ xs. map name_of xs ++ last ∷ []) (take_all (length around - n) (drop n around) all) ∙ dropped name_of around last n h

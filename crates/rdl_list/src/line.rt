@@ -1,5 +1,5 @@
 //! The line of a row.
-ghost use Rattle.std.specs.Prelude.{◌≡◌, ◌++◌, ◌∷◌, [], drop, string_bytes, OnOk};
+ghost use Rattle.std.specs.Prelude.{◌≡◌, ◌++◌, ◌∷◌, [], drop, map, string_bytes, OnOk};
 ghost use Rattle.rdl_list.specs.ListText.{path_text, part_text, stride_text, reset_text, head_text, extent_text, bytes_line, span_text, bits_line, line_of};
 
 use rdl_elab::layout::Span;
@@ -10,13 +10,15 @@ use rdl_tree::dims::Dims;
 use rdl_tree::property::Property;
 use rdl_write::{kind_text, push_dims, push_hexadecimal};
 use std::alloc::AllocError;
+use std::rc::Rc;
 
 /// Appends names with dots between them, the last one apart.
-fn push_names(text: &mut String, around: &[Name], last: &Name) -> Result<(), AllocError>
-    ensures { OnOk result (string_bytes text.new ≡ string_bytes text.old ++ path_text (around.now ++ last.now ∷ [])) }
+fn push_names(text: &mut String, around: &[Rc<Name>], last: &Name) -> Result<(), AllocError>
+    ensures { OnOk result (string_bytes text.new ≡ string_bytes text.old ++ path_text (map (λ n. n.value) around.now ++ last.now ∷ [])) }
 {
     'names: for name in around {
-        write!(text, "{name}.")?;
+        text.push_str(name.as_str())?;
+        text.push_str(".")?;
     }
     text.push_str(last.as_str())?;
     Ok(())
@@ -27,6 +29,7 @@ pub fn push_path(text: &mut String, path: &RowPath, left_out: usize) -> Result<(
     ensures { OnOk result (string_bytes text.new ≡ string_bytes text.old ++ path_text (drop left_out path.now)) }
 {
     let (last, around) = path.split_last();
+    let around = around.as_slice();
     if left_out > around.len() {
         return text.push_str(".");
     }

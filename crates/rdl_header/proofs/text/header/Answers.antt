@@ -3,9 +3,9 @@ use Rattle.std.specs.Prelude.{Some, option_map}
 use Rattle.rdl_header.proofs.StandingNames.{whole_names, clash_answered, text_answered, text_apart}
 use Rattle.rdl_header.proofs.text.header.Goals as goal
 
-pub returns-then-are_apart-clause-ok : goal.returns-then-are_apart-clause-ok
-returns-then-are_apart-clause-ok c =
-    text_apart c.args.rows.now c.in_ok-header_lines.field-0 c.as_mut_slice.result.now _ c.in_ok-header_lines.ensures (c.as_mut_slice.ensures.value ∙ c.into_parts-text.ensures.marks) (c.are_apart.ensures c.if-are_apart.true) c.into_parts-text.ensures.text
+pub returns-then-differ-clause-ok : goal.returns-then-differ-clause-ok
+returns-then-differ-clause-ok c =
+    text_apart c.args.rows.now c.in_ok-header_lines.field-0 _ c.in_ok-header_lines.ensures (c.in_ok-differ.ensures c.if-differ.true) c.into_parts-text.ensures.text
 
 pub first_clash-requires : goal.first_clash-requires
 first_clash-requires c = whole_names c.args.rows.now c.in_ok-header_lines.field-0 c.as_str.result.now c.as_slice.result.now c.in_ok-header_lines.ensures (c.as_str.ensures.value ∙ c.into_parts-text.ensures.text) (c.as_slice.ensures.value ∙ c.into_parts-text.ensures.names) c.as_str.utf8

@@ -1,6 +1,0 @@
-use Rattle.std.proofs.Common.{◌≡◌, ◌++◌, string_bytes, take, codes}
-use Rattle.std.specs.List.{flat_map}
-use Rattle.rdl_header.proofs.macros.push_path.Given as goal
-
-abbrev pub invariant-names : goal.invariant-names
-invariant-names l = string_bytes l.text ≡ string_bytes l.initial.text ++ flat_map (λ n. n ++ codes "__") (take l.name-index l.around)
