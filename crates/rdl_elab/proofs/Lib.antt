@@ -20,6 +20,7 @@ pub mod Cleaning
 pub mod Counting
 pub mod EachMember
 pub mod Insides
+pub mod InstanceLists
 pub mod Making
 pub mod Goings
 pub mod Writing
@@ -30,7 +31,6 @@ pub mod OnlyKept
 pub mod Wider
 pub mod Stays
 pub mod Onward
-pub mod ListedValues
 pub mod BareHeads
 pub mod Unstated
 pub mod StatedLists

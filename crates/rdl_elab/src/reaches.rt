@@ -1,17 +1,26 @@
 //! The dynamic assignments that reach an instance.
-ghost use Rattle.std.specs.Prelude.{◌≡◌, ℕ, ◌++◌, List, [], true, IfOk, OnOk, option_copied};
+ghost use Rattle.std.specs.Prelude.{◌≡◌, ℕ, ◌++◌, ◌∷◌, List, [], true, IfOk, OnOk, option_copied};
+ghost use Rattle.std.specs.Option.{option_or};
+ghost use Rattle.rdl_tree.specs.Properties.{row};
+ghost use Rattle.rdl_tree.specs.declared.property.Property.{Property};
 ghost use Rattle.rdl_tree.specs.Address.{number_of};
 ghost use Rattle.rdl_elab.specs.KeptTargets.{kept_target};
 ghost use Rattle.std.specs.List.{list_any};
 ghost use Rattle.rdl_elab.specs.OwnValues.{any_dynamic};
-ghost use Rattle.rdl_elab.specs.Reaches.{Reach, reaches_by, behind, reached, reach_by, has_ended};
+ghost use Rattle.rdl_elab.specs.Reaches.{Reach, reaches_by, behind, reached, reach_by, has_ended, value_under};
+ghost use Rattle.rdl_elab.specs.StatedValues.{shown_on};
 
 use crate::finished::{Finished, Part};
 use crate::part_list::PartList;
+use crate::row::PropertyValue;
 use crate::targets::target_path;
+use crate::values::add_assigned;
 use rdl_text::name::Name;
 use rdl_tree::address::Address;
 use rdl_tree::description::{Body, Item};
+use rdl_tree::properties::property;
+use rdl_tree::property::Property;
+use rdl_tree::shell::Kind;
 use rdl_tree::value::Value;
 use std::alloc::{AllocError, Global};
 use std::collections::BTreeMap;
@@ -268,14 +277,35 @@ impl<'a> Onward<'a> {
     }
 }
 
-/// What the first assignment of the property that has passed all its instances assigns.
-pub(crate) fn reached<'a>(name: &str, reaching: &[Assignment<'a>]) -> Option<&'a Value>
-    ensures { option_copied result ≡ reached name.now reaching.now }
+/// Adds the value that this assigns to a component of this kind, if it has passed all its instances and no value before
+/// is of the same property.
+fn add_come(
+    alloc: Global,
+    kind: Kind,
+    assignment: &Assignment,
+    items: &mut Vec<PropertyValue>,
+) -> Result<(), AllocError>
+    ensures { OnOk result ((p : Property) → value_under p items.new.items ≡ option_or (value_under p items.old.items) (shown_on kind p (reached (row p).name (assignment.now ∷ [])))) }
+{
+    if !assignment.has_ended() {
+        return Ok(());
+    }
+    let property = property(assignment.property.as_str());
+    add_assigned(alloc, kind, items, property, assignment.value)
+}
+
+/// Adds the values that those assign to a component of this kind which have passed all their instances, the first of each
+/// property, unless a value before is of that property.
+pub(crate) fn add_reached(
+    alloc: Global,
+    kind: Kind,
+    reaching: &[Assignment],
+    items: &mut Vec<PropertyValue>,
+) -> Result<(), AllocError>
+    ensures { OnOk result ((p : Property) → value_under p items.new.items ≡ option_or (value_under p items.old.items) (shown_on kind p (reached (row p).name reaching.now))) }
 {
     for assignment in reaching {
-        if assignment.has_ended() && assignment.property.as_str() == name {
-            return Some(assignment.value);
-        }
+        add_come(alloc, kind, assignment, items)?;
     }
-    None
+    Ok(())
 }

@@ -18,7 +18,7 @@ use crate::reaches::{Assignment, Onward, has_come, with_own};
 use crate::row::{Extent, Place, Row, RowPath};
 use crate::row_values::{ComponentValues, RowValues};
 use crate::siblings::{Sibling, Siblings, as_sibling, is_reset_too_wide};
-use crate::values::{judged_values, row_values};
+use crate::values::row_values;
 use rdl_text::name::Name;
 use rdl_text::token::Number;
 use rdl_tree::address::Address;
@@ -141,9 +141,6 @@ pub(crate) fn values_judged(
     ensures sw { IfOk result (λ values. value_under Sw values ≡ value_under Sw (kept_values kind reset reaching.now own.now)) }
     ensures reset { IfOk result (λ values. value_under Reset values ≡ value_under Reset (kept_values kind reset reaching.now own.now)) }
 {
-    if has_come(reaching) {
-        return judged_values(alloc, kind, reset, reaching, own);
-    }
     values(alloc, kind, reset, reaching, own)
 }
 
