@@ -46,6 +46,7 @@ pub mod PartsFound
 pub mod Names
 pub mod RowsAlong
 pub mod Fitting
+pub mod SameInstances
 pub mod SameRows
 pub mod SameLevels
 pub mod FieldsInside
