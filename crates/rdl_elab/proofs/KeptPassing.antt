@@ -1,33 +1,43 @@
 -- Steps along the names of a target, by what is kept of the components.
-use Rattle.std.proofs.Common.{◌≡◌, ℕ, ◌≤◌, List, [], ◌∷◌, ◌++◌, length, Some, None, Option, refl, ap, sym, ◌∙◌, arith, append_assoc, option_map}
-use Rattle.std.specs.Prelude.{option_and_then, slice_get}
+use Rattle.std.proofs.Common.{◌≡◌, ℕ, true, List, [], ◌∷◌, ◌++◌, Some, None, Option, refl, ap, sym, ◌∙◌, append_assoc, option_map}
+use Rattle.std.specs.Prelude.{option_and_then, slice_get, nat_lt, if◌then◌else◌}
+use Rattle.rdl_tree.specs.Address.{number_of}
 use Rattle.rdl_elab.specs.Kept.{Part}
 use Rattle.rdl_elab.specs.declared.finished.Finished.{Finished}
 use Rattle.rdl_elab.specs.PartNames.{part_named}
-use Rattle.rdl_elab.specs.KeptTargets.{after, kept_passes}
+use Rattle.rdl_elab.specs.KeptTargets.{after, is_before, kept_from, kept_passes, kept_target}
 
 after-push : (path : List (List ℕ)) (a : List ℕ) (o : Option (List (List ℕ))) → after path (option_map (λ more. a ∷ more) o) ≡ after (path ++ a ∷ []) o
 after-push path a None = refl
 after-push path a (Some x) = ap Some (sym (append_assoc path (a ∷ []) x))
 
-module _ (fs : List Finished) (ps : List Part) (path : List (List ℕ)) (name : List ℕ) where
-  abbrev on : List (List ℕ) → Part → Option (List (List ℕ))
-  on names p = option_map (λ more. p.at ∷ more) (option_and_then (λ (f : Finished). kept_passes fs f.parts.items names) (slice_get fs p.component))
+pub after-nothing : (o : Option (List (List ℕ))) → after [] o ≡ o
+after-nothing None = refl
+after-nothing (Some x) = refl
 
-  -- the name is that of no instance
-  pub kept_none : (names : List (List ℕ)) → part_named name ps ≡ None → after path (kept_passes fs ps (name ∷ names)) ≡ None
-  kept_none [] e = ap (λ o. after path (option_map (λ (p : Part). p.at ∷ []) o)) e
-  kept_none (next ∷ names) e = ap (λ o. after path (option_and_then (on (next ∷ names)) o)) e
+module _ (fs : List Finished) where
+  -- from an instance to that of the next name
+  abbrev inside : List ℕ → List (List ℕ) → Finished → Option (List (List ℕ))
+  inside name names f = option_and_then (λ (q : Part). kept_from fs q names) (part_named name f.parts.items)
 
-  -- it is the last
-  pub kept_last : (names : List (List ℕ)) (p : Part) → length names ≡ 0 → part_named name ps ≡ Some p → after path (kept_passes fs ps (name ∷ names)) ≡ Some (path ++ p.at ∷ [])
-  kept_last [] p last e = ap (λ o. after path (option_map (λ (p : Part). p.at ∷ []) o)) e
-  kept_last (next ∷ names) p last e = absurd (omega (arith, last))
+  abbrev onward : List ℕ → List (List ℕ) → Part → Option Finished → Option (List (List ℕ))
+  onward name names p o = option_map (λ more. p.at ∷ more) (option_and_then (inside name names) o)
 
-  -- the way goes on in the component of its instance
-  pub kept_more : (names : List (List ℕ)) (p : Part) (o : Option Finished) → 1 ≤ length names → part_named name ps ≡ Some p → slice_get fs p.component ≡ o
-      → after path (kept_passes fs ps (name ∷ names)) ≡ after (path ++ p.at ∷ []) (option_and_then (λ (f : Finished). kept_passes fs f.parts.items names) o)
-  kept_more [] p o more e f = absurd (omega arith)
-  kept_more (next ∷ names) p o more e f =
-      let inner = option_and_then (λ (f : Finished). kept_passes fs f.parts.items (next ∷ names)) in
-      ap (λ x. after path (option_and_then (on (next ∷ names)) x)) e ∙ after-push path p.at (inner (slice_get fs p.component)) ∙ ap (λ x. after (path ++ p.at ∷ []) (inner x)) f
+  last : (o : Option Part) → option_map (λ (p : Part). p.at ∷ []) o ≡ option_and_then (λ (p : Part). kept_from fs p []) o
+  last None = refl
+  last (Some p) = refl
+
+  passes-from : (names : List (List ℕ)) (name : List ℕ) (ps : List Part) → kept_passes fs ps (name ∷ names) ≡ option_and_then (λ (p : Part). kept_from fs p names) (part_named name ps)
+  passes-from [] name ps = last (part_named name ps)
+  passes-from (next ∷ names) name ps =
+      λ i. option_and_then (λ (p : Part). option_map (λ more. p.at ∷ more) (option_and_then (λ (f : Finished). passes-from names next f.parts.items i) (slice_get fs p.component))) (part_named name ps)
+
+  -- the target begins at this instance
+  target-from : (ps : List Part) (n : ℕ) (name : List ℕ) (names : List (List ℕ)) (p : Part) → part_named name ps ≡ Some p → kept_target fs ps n (name ∷ names) ≡ (if nat_lt (number_of p.at) n then kept_from fs p names else None)
+  target-from ps n name names p e =
+      (λ i. if is_before n (e i) then passes-from names name ps i else None)
+      ∙ ap (λ o. if nat_lt (number_of p.at) n then option_and_then (λ (q : Part). kept_from fs q names) o else None) e
+
+  -- which stands before item n
+  pub target-path : (ps : List Part) (n : ℕ) (name : List ℕ) (names : List (List ℕ)) (p : Part) → part_named name ps ≡ Some p → nat_lt (number_of p.at) n ≡ true → kept_target fs ps n (name ∷ names) ≡ kept_from fs p names
+  target-path ps n name names p e before = target-from ps n name names p e ∙ ap (λ b. if b then kept_from fs p names else None) before

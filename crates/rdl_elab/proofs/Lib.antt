@@ -20,6 +20,7 @@ pub mod Cleaning
 pub mod Counting
 pub mod EachMember
 pub mod Insides
+pub mod InstanceLists
 pub mod Making
 pub mod Goings
 pub mod Writing
@@ -30,7 +31,6 @@ pub mod OnlyKept
 pub mod Wider
 pub mod Stays
 pub mod Onward
-pub mod ListedValues
 pub mod BareHeads
 pub mod Unstated
 pub mod StatedLists
@@ -46,6 +46,7 @@ pub mod PartsFound
 pub mod Names
 pub mod RowsAlong
 pub mod Fitting
+pub mod SameInstances
 pub mod SameRows
 pub mod SameLevels
 pub mod FieldsInside

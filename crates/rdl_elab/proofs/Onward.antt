@@ -7,10 +7,12 @@ use Rattle.std.proofs.lemmas.Bool.{cases_eq}
 use Rattle.std.proofs.lemmas.List.{take_more, drop-drop}
 use Rattle.std.proofs.lemmas.List.Elements.{filter_map-append}
 use Rattle.std.proofs.lemmas.Slice.Eq.{bytes_eq-Decides}
+use Rattle.std.specs.Global.{Vec}
+use Rattle.std.specs.Option.{option_or}
 use Rattle.rdl_tree.specs.Address.{number_of}
 use Rattle.rdl_elab.specs.Reaches.{Reach, passed, behind}
 use Rattle.rdl_elab.specs.declared.reaches.Onward.{Onward}
-use Rattle.rdl_elab.specs.Onward.{going_to, IsOnward}
+use Rattle.rdl_elab.specs.Onward.{list_or_none, going_to, IsOnward}
 use Rattle.rdl_elab.proofs.ValueLists.{behind-none}
 
 pub first-dropped : {X : Type 0} (n : ℕ) (xs : List X) → slice_get (drop n xs) 0 ≡ slice_get xs n
@@ -80,3 +82,14 @@ onward-next old new n i rs r x l is first number there others h =
 pub onward-ended : (onward : Onward) (i : ℕ) (rs : List Reach) (r : Reach) → i < length rs → r ≡ get_or rs i r → slice_get r.path 0 ≡ None → IsOnward onward (take i rs) → IsOnward onward (take (i + 1) rs)
 onward-ended onward i rs r l is none h a =
     h a ∙ sym (behind-none a i rs r l (ap (λ (q : Reach). passed a q q.path) (sym is) ∙ passed-gone a r r.path none))
+
+-- lists of which none has an assignment, and one more of them
+pub none-more : (lists : List (Vec Reach)) (v : Vec Reach) → v.items ≡ [] → ((k : ℕ) → list_or_none (slice_get lists k) ≡ []) → (k : ℕ) → list_or_none (slice_get (lists ++ v ∷ []) k) ≡ []
+none-more [] v e h zero = e
+none-more [] v e h (suc k) = refl
+none-more (x ∷ lists) v e h zero = h zero
+none-more (x ∷ lists) v e h (suc k) = none-more lists v e (λ k. h (suc k)) k
+
+pub or-none : (o other : Option (Vec Reach)) → other ≡ None → list_or_none o ≡ [] → list_or_none (option_or o other) ≡ []
+or-none None other none e = ap list_or_none none
+or-none (Some v) other none e = e

@@ -16,10 +16,10 @@ use Rattle.rdl_scope.specs.Closed.{Head, stated, head_value, lookup}
 use Rattle.rdl_elab.specs.declared.row.PropertyValue.{PropertyValue}
 use Rattle.rdl_elab.specs.declared.defaults.Default.{Default}
 use Rattle.rdl_elab.specs.Shown.{valued, bare, shown_value, shown_values, built_in_values}
-use Rattle.rdl_elab.specs.Reaches.{Reach, reached, reset_value, value_under, value_along, values_among, values_along}
-use Rattle.rdl_elab.specs.StatedValues.{shown_on, if_named, stated_for, under_either, over, value_over, values_over}
-use Rattle.rdl_elab.proofs.Names.{named-back, names-apart, is_named, all-named}
-use Rattle.rdl_elab.proofs.RowsAlong.{under-among, under_along}
+use Rattle.rdl_elab.specs.Reaches.{value_under}
+use Rattle.rdl_elab.specs.StatedValues.{shown_on, if_named, stated_for, under_either, over}
+use Rattle.rdl_elab.proofs.Names.{named-back, names-apart, all-named}
+use Rattle.rdl_elab.proofs.RowsAlong.{under-among}
 use Rattle.rdl_elab.proofs.DefaultStacks.{nearest, nearest-next}
 
 or-none : (o : Option Value) → option_or o None ≡ o
@@ -167,14 +167,6 @@ over-by-none k =
 pub under-over : (p : Property) (xs ys : List PropertyValue) → value_under p (over (Some xs) ys) ≡ under_either xs ys p
 under-over p xs ys = under-among (under_either xs ys) p properties ∙ ap (λ b. if b then under_either xs ys p else None) (all-named p)
 
--- the values of a row are those over both
-pub along-over : (k : Kind) (reset : Option ℕ) (rs : List Reach) (own xs ys : List PropertyValue) → ((p : Property) → value_under p own ≡ under_either xs ys p) → values_over k reset rs xs ys properties ≡ values_along k reset rs own
-along-over k reset rs own xs ys all =
-    let one : (p : Property) → value_over k reset rs xs ys p ≡ value_along k reset rs own p =
-    λ p. ap (λ v. if on p k then option_or (option_map (shown (row p).form) (option_or (reached (row p).name rs) (reset_value p reset))) v else None) (sym (all p)) in
-    let each : (ps : List Property) → values_over k reset rs xs ys ps ≡ values_among k reset rs own ps = λ ps i. filter_map (λ p. option_map (valued p) (one p i)) ps in
-    each properties
-
 -- a component's values, from the two lists that it keeps
 pub of-parts : {R : Type 0} (items : R → List PropertyValue) (own : List PropertyValue) (o : Option R) (r : R) (xs ys built_ins : List PropertyValue) → over (option_map items o) built_ins ≡ own → o ≡ Some r → xs ≡ items r → ys ≡ built_ins
     → (p : Property) → value_under p own ≡ under_either xs ys p
@@ -209,12 +201,3 @@ one-nearer k p left xs x first before after some within is e f =
     ∙ or-assoc first (shown_on k p behind) (shown_on k p this)
     ∙ ap (option_or first) (shown-or k p behind this)
     ∙ ap (λ o. option_or first (shown_on k p o)) (sym all)
-
--- the values of some properties of a row are those among all
-pub judged-over : (k : Kind) (reset : Option ℕ) (rs : List Reach) (own xs ys : List PropertyValue) (ps : List Property) → ((p : Property) → value_under p own ≡ under_either xs ys p) → (p : Property) → is_named (row p).name ps ≡ true
-    → value_under p (values_over k reset rs xs ys ps) ≡ value_under p (values_along k reset rs own)
-judged-over k reset rs own xs ys ps all p named =
-    under-among (value_over k reset rs xs ys) p ps
-    ∙ ap (λ b. if b then value_over k reset rs xs ys p else None) named
-    ∙ ap (λ v. if on p k then option_or (option_map (shown (row p).form) (option_or (reached (row p).name rs) (reset_value p reset))) v else None) (sym (all p))
-    ∙ sym (under_along k reset rs own p)

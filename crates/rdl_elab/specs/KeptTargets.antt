@@ -13,6 +13,12 @@ kept_passes fs ps (name ∷ []) = option_map (λ p. p.at ∷ []) (part_named nam
 kept_passes fs ps (name ∷ next ∷ names) =
     option_and_then (λ p. option_map (λ more. p.at ∷ more) (option_and_then (λ f. kept_passes fs f.parts.items (next ∷ names)) (slice_get fs p.component))) (part_named name ps)
 
+-- those of this instance, and of those that these names pass inside it
+abbrev pub kept_from : List Finished → Part → List (List ℕ) → Option (List (List ℕ))
+kept_from fs p [] = Some (p.at ∷ [])
+kept_from fs p (name ∷ names) =
+    option_map (λ more. p.at ∷ more) (option_and_then (λ f. option_and_then (λ q. kept_from fs q names) (part_named name f.parts.items)) (slice_get fs p.component))
+
 -- these instances, and then those that are yet to come, if they are there
 abbrev pub after : List (List ℕ) → Option (List (List ℕ)) → Option (List (List ℕ))
 after path more = option_map (λ x. path ++ x) more

@@ -9,7 +9,7 @@ pub mod Faults
 pub mod Shown
 pub mod Reaches
 pub mod Onward
-pub mod InstanceResets
+pub mod InstanceValues
 pub mod Kept
 pub mod EachMode
 pub mod EachMember

@@ -1,6 +1,7 @@
 -- The assignments that go on from a level, under the number that the next instance of each has in its body.
 -- own: how they are found. Which of them pass an instance `behind` says.
-use Rattle.std.specs.Prelude.{◌≡◌, ℕ, List, [], Option, Some, None}
+use Rattle.std.specs.Prelude.{◌≡◌, ℕ, List, [], Option, Some, None, slice_get}
+use Rattle.std.specs.Option.{option_or}
 use Rattle.std.specs.BTreeMap.{get}
 use Rattle.std.specs.Ordering.{nat_cmp}
 use Rattle.std.specs.Global.{Vec}
@@ -14,7 +15,7 @@ list_or_none (Some v) = v.items
 
 -- those under a number
 abbrev pub going_to : Onward → ℕ → List Reach
-going_to onward k = list_or_none (get nat_cmp onward.by_number k)
+going_to onward k = list_or_none (option_or (slice_get onward.lists.items k) (get nat_cmp onward.others k))
 
 -- whatever the instance, those of these assignments that pass it stand under its number, in the same order
 abbrev pub IsOnward : Onward → List Reach → Type 0

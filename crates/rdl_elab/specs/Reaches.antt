@@ -1,9 +1,9 @@
 -- The dynamic assignments that reach an instance, found on the way down from the top.
 -- SystemRDL 2.0, clause 5, property assignment: dynamic assignments. own: that the outermost wins.
 -- The law `values_are_along` says that this is what the search through the bodies of a path finds.
-use Rattle.std.specs.Prelude.{ℕ, suc, nat_eq, Bool, true, false, not, List, [], ◌∷◌, ◌++◌, Option, Some, None, option_map, unwrap_or, bytes_eq, ◌&&◌, if◌then◌else◌}
+use Rattle.std.specs.Prelude.{ℕ, suc, nat_eq, Bool, true, false, List, [], ◌∷◌, ◌++◌, Option, Some, None, option_map, unwrap_or, bytes_eq, ◌&&◌, if◌then◌else◌}
 use Rattle.std.specs.Option.{option_or}
-use Rattle.std.specs.List.{filter_map, list_any}
+use Rattle.std.specs.List.{filter_map}
 use Rattle.std.specs.Cmp.Lexicographic.{pointwise}
 use Rattle.rdl_tree.specs.Items.{Items, no_items, plain, holder, Plain, named, own, default, dynamic}
 use Rattle.rdl_tree.specs.Address.{body_at}
@@ -98,13 +98,3 @@ values_among k reset rs values = filter_map (λ p. option_map (valued p) (value_
 
 abbrev pub values_along : Kind → Option ℕ → List Reach → List PropertyValue → List PropertyValue
 values_along k reset rs values = values_among k reset rs values properties
-
--- no two of these have one name
-abbrev pub are_distinct : List Property → Bool
-are_distinct [] = true
-are_distinct (p ∷ ps) = not (list_any (λ q. bytes_eq (row p).name (row q).name) ps) && are_distinct ps
-
--- those behind the first, if that is the value of this property
-abbrev pub past : Property → List PropertyValue → List PropertyValue
-past p [] = []
-past p (v ∷ vs) = if bytes_eq (row v.property).name (row p).name then vs else v ∷ vs

@@ -12,7 +12,7 @@ use Rattle.rdl_scope.specs.Value.{shown}
 use Rattle.rdl_scope.specs.Closed.{Head, stated}
 use Rattle.rdl_elab.specs.declared.row.PropertyValue.{PropertyValue}
 use Rattle.rdl_elab.specs.Shown.{valued}
-use Rattle.rdl_elab.specs.Reaches.{Reach, reached, reset_value, value_under}
+use Rattle.rdl_elab.specs.Reaches.{value_under}
 
 -- a value as a component of this kind shows it
 abbrev pub shown_on : Kind → Property → Option Value → Option Value
@@ -35,11 +35,3 @@ under_either stated built_ins p = option_or (value_under p stated) (value_under 
 abbrev pub over : Option (List PropertyValue) → List PropertyValue → List PropertyValue
 over None built_ins = built_ins
 over (Some stated) built_ins = filter_map (λ p. option_map (valued p) (under_either stated built_ins p)) properties
-
--- the value of a property of a row, as `value_along` has it, where its component has the values of both lists
-abbrev pub value_over : Kind → Option ℕ → List Reach → List PropertyValue → List PropertyValue → Property → Option Value
-value_over k reset rs stated built_ins p =
-    if on p k then option_or (option_map (shown (row p).form) (option_or (reached (row p).name rs) (reset_value p reset))) (under_either stated built_ins p) else None
-
-abbrev pub values_over : Kind → Option ℕ → List Reach → List PropertyValue → List PropertyValue → List Property → List PropertyValue
-values_over k reset rs stated built_ins = filter_map (λ p. option_map (valued p) (value_over k reset rs stated built_ins p))

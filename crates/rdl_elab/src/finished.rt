@@ -4,7 +4,7 @@ use crate::layout::{Layout, LayoutValues, Mode};
 use crate::part_list::PartList;
 use crate::reaches::Assignment;
 use crate::row_values::ComponentValues;
-use crate::shared::SharedAddress;
+use crate::shared::{InstanceAddress, SharedAddress};
 use rdl_tree::address::Address;
 use rdl_tree::shell::{Kind, Shell};
 use std::alloc::{AllocError, Global};
@@ -34,7 +34,7 @@ impl<'a> Model for Part<'a> {
 }
 
 impl<'a> Part<'a> {
-    ghost use Rattle.std.specs.Prelude.{◌≡◌, ◌<◌, ◌++◌, ◌∷◌, [], length, option_copied, slice_get};
+    ghost use Rattle.std.specs.Prelude.{◌≡◌, ◌<◌, ◌++◌, ◌∷◌, [], length, IfOk, option_copied, slice_get};
     ghost use Rattle.rdl_tree.specs.Address.{number_of};
 
     pub(crate) fn new(
@@ -58,6 +58,14 @@ impl<'a> Part<'a> {
         ensures { result ≡ self.now.at }
     {
         self.around.as_address().inside(self.number)
+    }
+
+    /// Its address, that of the body around it being shared.
+    pub(crate) fn instance(&self) -> Result<InstanceAddress, AllocError>
+        ensures { IfOk result (λ address. address ≡ self.now.at) }
+    {
+        let around = self.around.share()?;
+        Ok(InstanceAddress::new(around, self.number))
     }
 
     /// The number of its item in the body around it.

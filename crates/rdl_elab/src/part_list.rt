@@ -8,6 +8,9 @@ use rdl_text::name::Name;
 use std::alloc::{AllocError, Global};
 use std::marker::Model;
 
+/// How few instances are looked through for a name.
+const FEW: usize = 8;
+
 /// The number of the first instance of each name.
 #[derive(Drop)]
 pub(crate) struct PartNames<'a> {
@@ -18,7 +21,7 @@ pub(crate) struct PartNames<'a> {
 #[derive(Drop)]
 pub(crate) struct PartList<'a> {
     items: Vec<Part<'a>>,
-    /// Only where targets look them up.
+    /// Only where targets look them up, and there are many.
     names: Option<PartNames<'a>>,
 }
 
@@ -87,7 +90,7 @@ impl<'a> PartList<'a> {
     ghost use Rattle.std.specs.Prelude.{◌≡◌, IfOk, option_copied};
     ghost use Rattle.rdl_elab.specs.PartNames.{part_named};
 
-    /// These instances. Their names are put in order if targets look them up.
+    /// These instances. If targets look them up, the names of many are put in order.
     pub(crate) fn of(
         alloc: Global,
         items: Vec<Part<'a>>,
@@ -95,7 +98,7 @@ impl<'a> PartList<'a> {
     ) -> Result<PartList<'a>, AllocError>
         ensures { IfOk result (λ parts. parts.items ≡ items.entry.items) }
     {
-        let names = if by_name {
+        let names = if by_name && items.len() > FEW {
             Some(PartNames::of(alloc, items.as_slice())?)
         } else {
             None

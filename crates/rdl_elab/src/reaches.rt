@@ -1,17 +1,25 @@
 //! The dynamic assignments that reach an instance.
-ghost use Rattle.std.specs.Prelude.{◌≡◌, ℕ, ◌++◌, List, [], true, IfOk, OnOk, option_copied};
-ghost use Rattle.rdl_tree.specs.Address.{number_of};
+ghost use Rattle.std.specs.Prelude.{◌≡◌, ℕ, ◌++◌, ◌∷◌, List, [], true, IfOk, OnOk, option_copied};
+ghost use Rattle.std.specs.Option.{option_or};
+ghost use Rattle.rdl_tree.specs.Properties.{row};
+ghost use Rattle.rdl_tree.specs.declared.property.Property.{Property};
 ghost use Rattle.rdl_elab.specs.KeptTargets.{kept_target};
 ghost use Rattle.std.specs.List.{list_any};
 ghost use Rattle.rdl_elab.specs.OwnValues.{any_dynamic};
-ghost use Rattle.rdl_elab.specs.Reaches.{Reach, reaches_by, behind, reached, reach_by, has_ended};
+ghost use Rattle.rdl_elab.specs.Reaches.{Reach, reaches_by, behind, reached, reach_by, has_ended, value_under};
+ghost use Rattle.rdl_elab.specs.StatedValues.{shown_on};
 
 use crate::finished::{Finished, Part};
 use crate::part_list::PartList;
+use crate::row::PropertyValue;
+use crate::shared::InstanceAddress;
 use crate::targets::target_path;
+use crate::values::add_assigned;
 use rdl_text::name::Name;
-use rdl_tree::address::Address;
 use rdl_tree::description::{Body, Item};
+use rdl_tree::properties::property;
+use rdl_tree::property::Property;
+use rdl_tree::shell::Kind;
 use rdl_tree::value::Value;
 use std::alloc::{AllocError, Global};
 use std::collections::BTreeMap;
@@ -22,7 +30,7 @@ use std::rc::Rc;
 #[derive(Drop)]
 pub(crate) struct Assignment<'a> {
     /// The instances that its target passes.
-    path: Rc<Vec<Address>>,
+    path: Rc<Vec<InstanceAddress>>,
     /// How many of them it has passed.
     passed: usize,
     property: &'a Name,
@@ -36,16 +44,6 @@ impl<'a> Model for Assignment<'a> {
     ghost Value = { Reach };
 
     ghost view = { λ a. record { path = drop a.passed a.path.value.items; property = a.property.now; value = a.value.now } };
-}
-
-/// The number that the item at this address has in its body.
-fn number_of(address: &Address) -> usize
-    ensures { result ≡ number_of address.now }
-{
-    match address.as_slice() {
-        [.., number] => *number,
-        [] => 0,
-    }
 }
 
 impl<'a> Assignment<'a> {
@@ -65,7 +63,7 @@ impl<'a> Assignment<'a> {
     }
 
     /// The next instance that its target has to pass.
-    fn next(&self) -> Option<&Address>
+    fn next(&self) -> Option<&InstanceAddress>
         ensures { option_copied result ≡ slice_get self.now.path 0 }
     {
         self.path.as_slice().get(self.passed)
@@ -73,11 +71,11 @@ impl<'a> Assignment<'a> {
 
     /// The assignment behind an instance, if its target passes that.
     #[tactic(auto, using(crate::proofs::Onward::passing))]
-    fn passed(&self, instance: &Address) -> Result<Option<Assignment<'a>>, AllocError>
+    fn passed(&self, instance: &InstanceAddress) -> Result<Option<Assignment<'a>>, AllocError>
         ensures { IfOk result (λ behind. behind ≡ passed instance.now self.now self.now.path) }
     {
         match self.path.as_slice().get(self.passed) {
-            Some(next) if next == instance => Ok(Some(Assignment {
+            Some(next) if next.is(instance) => Ok(Some(Assignment {
                 path: self.path.clone()?,
                 passed: self.passed + 1,
                 property: self.property,
@@ -165,7 +163,7 @@ pub(crate) fn with_own<'a>(
 ) -> Result<Vec<Assignment<'a>>, AllocError>
     ensures { IfOk result (λ list. list.items ≡ reaching.now ++ own.now) }
 {
-    let mut list = Vec::new(alloc);
+    let mut list = Vec::with_capacity(alloc, reaching.len().saturating_add(own.len()))?;
     add_all(&mut list, reaching)?;
     add_all(&mut list, own)?;
     Ok(list)
@@ -204,7 +202,7 @@ pub(crate) fn has_come(reaching: &[Assignment]) -> bool
 #[tactic(auto, using(crate::proofs::ValueLists::steps))]
 fn behind<'a>(
     alloc: Global,
-    instance: &Address,
+    instance: &InstanceAddress,
     reaching: &[Assignment<'a>],
 ) -> Result<Vec<Assignment<'a>>, AllocError>
     ensures { IfOk result (λ list. list.items ≡ behind instance.now reaching.now) }
@@ -221,33 +219,60 @@ fn behind<'a>(
 /// The assignments that go on from a level, under the number that the next instance of each has in its body.
 #[derive(Drop)]
 pub(crate) struct Onward<'a> {
-    by_number: BTreeMap<usize, Vec<Assignment<'a>>>,
+    /// Those under small numbers.
+    lists: Vec<Vec<Assignment<'a>>>,
+    others: BTreeMap<usize, Vec<Assignment<'a>>>,
 }
 
 impl<'a> Onward<'a> {
-    ghost use Rattle.std.specs.Prelude.{◌≡◌, ◌≢◌, ℕ, ◌++◌, ◌∷◌, [], List, IfOk, OnOk};
-    ghost use Rattle.rdl_elab.specs.Onward.{IsOnward, going_to};
+    ghost use Rattle.std.specs.Prelude.{◌≡◌, ◌≢◌, ℕ, ◌++◌, ◌∷◌, [], List, IfOk, OnOk, option_copied};
+    ghost use Rattle.rdl_elab.specs.Onward.{IsOnward, going_to, list_or_none};
     ghost use Rattle.rdl_elab.specs.Reaches.{Reach, behind};
+
+    /// None under any number. So many numbers are small.
+    fn with_room(alloc: Global, small: usize) -> Result<Onward<'a>, AllocError>
+        ensures { IfOk result (λ onward. (k : ℕ) → going_to onward k ≡ []) }
+    {
+        let mut lists = Vec::with_capacity(alloc, small)?;
+        for _ in 0..small {
+            lists.push(Vec::new(alloc))?;
+        }
+        Ok(Onward {
+            lists,
+            others: BTreeMap::new(alloc),
+        })
+    }
 
     /// Puts one more behind those under this number.
     fn put(&mut self, number: usize, assignment: Assignment<'a>) -> Result<(), AllocError>
         ensures there { OnOk result (going_to self.new number ≡ going_to self.old number ++ assignment.entry ∷ []) }
         ensures others { OnOk result ((k : ℕ) → k ≢ number → going_to self.new k ≡ going_to self.old k) }
     {
-        self.by_number.entry(number)?.or_default().push(assignment)?;
+        match self.lists.get_mut(number) {
+            Some(list) => list.push(assignment)?,
+            None => self.others.entry(number)?.or_default().push(assignment)?,
+        }
         Ok(())
+    }
+
+    /// Those under this number.
+    fn get(&self, number: usize) -> Option<&Vec<Assignment<'a>>>
+        ensures { list_or_none (option_copied result) ≡ going_to self.now number }
+    {
+        match self.lists.get(number) {
+            Some(list) => Some(list),
+            None => self.others.get(&number),
+        }
     }
 
     /// Those of these that go on.
     pub(crate) fn of(alloc: Global, reaching: &[Assignment<'a>]) -> Result<Onward<'a>, AllocError>
         ensures { IfOk result (λ onward. IsOnward onward reaching.now) }
     {
-        let mut onward = Onward {
-            by_number: BTreeMap::new(alloc),
-        };
+        let mut onward = Onward::with_room(alloc, reaching.len())?;
         for assignment in reaching {
             if let Some(next) = assignment.next() {
-                onward.put(number_of(next), assignment.share()?)?;
+                onward.put(next.number(), assignment.share()?)?;
             }
         }
         Ok(onward)
@@ -261,21 +286,42 @@ impl<'a> Onward<'a> {
     ) -> Result<Vec<Assignment<'a>>, AllocError>
         ensures { IfOk result (λ list. (reaching : List Reach) → IsOnward self.now reaching → list.items ≡ behind part.now.at reaching) }
     {
-        match self.by_number.get(&part.place()) {
-            Some(list) => behind(alloc, &part.at(), list.as_slice()),
+        match self.get(part.place()) {
+            Some(list) => behind(alloc, &part.instance()?, list.as_slice()),
             None => Ok(Vec::new(alloc)),
         }
     }
 }
 
-/// What the first assignment of the property that has passed all its instances assigns.
-pub(crate) fn reached<'a>(name: &str, reaching: &[Assignment<'a>]) -> Option<&'a Value>
-    ensures { option_copied result ≡ reached name.now reaching.now }
+/// Adds the value that this assigns to a component of this kind, if it has passed all its instances and no value before
+/// is of the same property.
+fn add_come(
+    alloc: Global,
+    kind: Kind,
+    assignment: &Assignment,
+    items: &mut Vec<PropertyValue>,
+) -> Result<(), AllocError>
+    ensures { OnOk result ((p : Property) → value_under p items.new.items ≡ option_or (value_under p items.old.items) (shown_on kind p (reached (row p).name (assignment.now ∷ [])))) }
+{
+    if !assignment.has_ended() {
+        return Ok(());
+    }
+    let property = property(assignment.property.as_str());
+    add_assigned(alloc, kind, items, property, assignment.value)
+}
+
+/// Adds the values that those assign to a component of this kind which have passed all their instances, the first of each
+/// property, unless a value before is of that property.
+pub(crate) fn add_reached(
+    alloc: Global,
+    kind: Kind,
+    reaching: &[Assignment],
+    items: &mut Vec<PropertyValue>,
+) -> Result<(), AllocError>
+    ensures { OnOk result ((p : Property) → value_under p items.new.items ≡ option_or (value_under p items.old.items) (shown_on kind p (reached (row p).name reaching.now))) }
 {
     for assignment in reaching {
-        if assignment.has_ended() && assignment.property.as_str() == name {
-            return Some(assignment.value);
-        }
+        add_come(alloc, kind, assignment, items)?;
     }
-    None
+    Ok(())
 }

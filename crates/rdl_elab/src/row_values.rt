@@ -1,6 +1,6 @@
 //! The values of rows.
 use crate::row::PropertyValue;
-use crate::values::under_either;
+use crate::values::{under_either, value_under};
 use rdl_text::token::Number;
 use rdl_tree::property::Property;
 use rdl_tree::shell::Kind;
@@ -92,54 +92,80 @@ impl ComponentValues {
     }
 }
 
-/// The number behind the `=` of an instance of a component of this kind, if there is one.
+/// What an instance has in the place of values of its component.
 #[derive(Debug, Drop)]
-pub(crate) struct InstanceReset {
-    kind: Kind,
-    value: Option<Value>,
+pub(crate) enum Replaced {
+    /// The number behind its `=`, if there is one.
+    Reset(Option<Value>),
+    /// What is assigned to it from outside, and the number behind its `=` where nothing is assigned to its reset.
+    Assigned(Vec<PropertyValue>),
 }
 
-impl InstanceReset {
-    ghost use Rattle.std.specs.Prelude.{◌≡◌, [], option_copied};
-    ghost use Rattle.rdl_elab.specs.InstanceResets.{number};
-    ghost use Rattle.rdl_elab.specs.Reaches.{value_along};
+impl Replaced {
+    ghost use Rattle.std.specs.Prelude.{◌≡◌, option_copied};
+    ghost use Rattle.rdl_elab.specs.InstanceValues.{replaced};
+    ghost use Rattle.rdl_elab.specs.Reaches.{value_under};
+
+    /// The value of the property among these.
+    fn get(&self, property: Property) -> Option<&Value>
+        ensures { option_copied result ≡ value_under property (replaced self.now) }
+    {
+        match self {
+            Replaced::Reset(value) if property == Property::Reset => value.as_ref(),
+            Replaced::Reset(_) => None,
+            Replaced::Assigned(values) => value_under(property, values.as_slice()),
+        }
+    }
+}
+
+/// The values that an instance of a component of this kind has in the place of those of the component.
+#[derive(Debug, Drop)]
+pub(crate) struct InstanceValues {
+    kind: Kind,
+    replaced: Replaced,
+}
+
+impl InstanceValues {
+    ghost use Rattle.std.specs.Prelude.{◌≡◌, option_copied};
+    ghost use Rattle.rdl_elab.specs.InstanceValues.{replaced, instance_value};
 
     /// The value of a property of the instance, whose component has these values.
     fn get<'v>(&'v self, own: &'v ComponentValues, property: Property) -> Option<&'v Value>
-        ensures { option_copied result ≡ value_along self.now.kind (number self.now) [] own.now property }
+        ensures { option_copied result ≡ instance_value self.now.kind (replaced self.now.replaced) own.now property }
     {
         if !property.on(self.kind) {
             return None;
         }
-        match (property, &self.value) {
-            (Property::Reset, Some(Value::Number(_))) => self.value.as_ref(),
-            _ => own.get(property),
+        match self.replaced.get(property) {
+            Some(value) => Some(value),
+            None => own.get(property),
         }
     }
 }
 
 /// The properties of a row that have a value, in the order of the table of properties. A contract sees the list.
 ///
-/// The rows of a component share its values. Beside them stands the reset of the instance, if it has one.
+/// The rows of a component share its values. Beside them stand those that the instance has in their place, if it has any.
 #[derive(Debug, Drop)]
 pub struct RowValues {
     own: ComponentValues,
-    reset: Option<InstanceReset>,
+    instance: Option<InstanceValues>,
 }
 
 impl Model for RowValues {
     ghost use Rattle.std.specs.Prelude.{List};
     ghost use Rattle.rdl_elab.specs.declared.row.PropertyValue.{PropertyValue};
-    ghost use Rattle.rdl_elab.specs.InstanceResets.{with_reset};
+    ghost use Rattle.rdl_elab.specs.InstanceValues.{with_instance};
 
     ghost Value = { List PropertyValue };
 
-    ghost view = { λ values. with_reset values.reset values.own };
+    ghost view = { λ values. with_instance values.instance values.own };
 }
 
 impl RowValues {
     ghost use Rattle.std.specs.Prelude.{◌≡◌, [], Some, IfOk, option_copied};
     ghost use Rattle.rdl_elab.specs.Layouts.{number_in};
+    ghost use Rattle.rdl_elab.specs.InstanceValues.{instance_values};
     ghost use Rattle.rdl_elab.specs.Reaches.{value_under, values_along};
 
     pub fn from_vec(alloc: Global, items: Vec<PropertyValue>) -> Result<RowValues, AllocError>
@@ -153,7 +179,10 @@ impl RowValues {
     pub(crate) fn of(own: ComponentValues) -> RowValues
         ensures { result ≡ own }
     {
-        RowValues { own, reset: None }
+        RowValues {
+            own,
+            instance: None,
+        }
     }
 
     /// Those of an instance with this reset, whose component, of this kind, has these values by itself.
@@ -162,9 +191,26 @@ impl RowValues {
     {
         RowValues {
             own,
-            reset: Some(InstanceReset {
+            instance: Some(InstanceValues {
                 kind,
-                value: reset.map(Value::Number),
+                replaced: Replaced::Reset(reset.map(Value::Number)),
+            }),
+        }
+    }
+
+    /// Those of an instance that has these values in the place of those of its component, which is of this kind.
+    pub(crate) fn with_assigned(
+        own: ComponentValues,
+        kind: Kind,
+        assigned: Vec<PropertyValue>,
+    ) -> RowValues
+        ensures { result ≡ instance_values kind assigned.items own }
+    {
+        RowValues {
+            own,
+            instance: Some(InstanceValues {
+                kind,
+                replaced: Replaced::Assigned(assigned),
             }),
         }
     }
@@ -173,8 +219,8 @@ impl RowValues {
     pub fn get(&self, property: Property) -> Option<&Value>
         ensures { option_copied result ≡ value_under property self.now }
     {
-        match &self.reset {
-            Some(reset) => reset.get(&self.own, property),
+        match &self.instance {
+            Some(instance) => instance.get(&self.own, property),
             None => self.own.get(property),
         }
     }

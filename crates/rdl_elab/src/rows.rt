@@ -18,7 +18,7 @@ use crate::reaches::{Assignment, Onward, has_come, with_own};
 use crate::row::{Extent, NamesAround, Place, Row, RowPath};
 use crate::row_values::{ComponentValues, RowValues};
 use crate::siblings::{Sibling, Siblings, as_sibling, is_reset_too_wide};
-use crate::values::{judged_values, row_values};
+use crate::values::row_values;
 use rdl_text::token::Number;
 use rdl_tree::address::Address;
 use rdl_tree::fault::{Fault, FaultKind};
@@ -128,9 +128,6 @@ pub(crate) fn values_judged(
     ensures sw { IfOk result (λ values. value_under Sw values ≡ value_under Sw (finished_values kind reset reaching.now own.now)) }
     ensures reset { IfOk result (λ values. value_under Reset values ≡ value_under Reset (finished_values kind reset reaching.now own.now)) }
 {
-    if has_come(reaching) {
-        return judged_values(alloc, kind, reset, reaching, own);
-    }
     values(alloc, kind, reset, reaching, own)
 }
 

@@ -47,6 +47,47 @@ impl SharedAddress {
     }
 }
 
+/// The address of an instance, of which that of the body around it is shared. A contract sees the list of its numbers.
+#[derive(Drop)]
+pub(crate) struct InstanceAddress {
+    around: SharedAddress,
+    number: usize,
+}
+
+impl Model for InstanceAddress {
+    ghost use Rattle.std.specs.Prelude.{ℕ, List, ◌++◌, ◌∷◌, []};
+
+    ghost Value = { List ℕ };
+
+    ghost view = { λ a. a.around ++ a.number ∷ [] };
+}
+
+impl InstanceAddress {
+    ghost use Rattle.std.specs.Prelude.{◌≡◌, ◌++◌, ◌∷◌, [], nat_eq};
+    ghost use Rattle.std.specs.Cmp.Lexicographic.{pointwise};
+    ghost use Rattle.rdl_tree.specs.Address.{number_of};
+
+    pub(crate) fn new(around: SharedAddress, number: usize) -> InstanceAddress
+        ensures { result ≡ around ++ number ∷ [] }
+    {
+        InstanceAddress { around, number }
+    }
+
+    /// The number that the instance has in its body.
+    pub(crate) fn number(&self) -> usize
+        ensures { result ≡ number_of self.now }
+    {
+        self.number
+    }
+
+    /// Whether it is that of the same instance.
+    pub(crate) fn is(&self, other: &InstanceAddress) -> bool
+        ensures { result ≡ pointwise nat_eq self.now other.now }
+    {
+        self.number == other.number && self.around.as_address() == other.around.as_address()
+    }
+}
+
 /// The address, shared with those who have asked for it before, if there are any.
 pub(crate) fn share(
     alloc: Global,

@@ -1,9 +1,10 @@
 //! The instances that the target of a dynamic assignment passes, by what is finished.
 ghost use Rattle.std.specs.Prelude.{◌≡◌, Some, None, IfOk, option_map, if◌then◌else◌};
-ghost use Rattle.rdl_elab.specs.KeptTargets.{after, kept_passes, kept_target, is_before, first_named};
+ghost use Rattle.rdl_elab.specs.KeptTargets.{after, kept_from, kept_target};
 
-use crate::finished::Finished;
+use crate::finished::{Finished, Part};
 use crate::part_list::PartList;
+use crate::shared::InstanceAddress;
 use rdl_scope::types::own_component;
 use rdl_text::name::Name;
 use rdl_tree::address::Address;
@@ -32,42 +33,26 @@ fn item_goes_further(item: &Item) -> bool {
     }
 }
 
-/// Puts the instances that these names pass behind the others, the first of them being among these. It answers whether
-/// all of them are there.
+/// Puts this instance behind the others, and then those that these names pass inside it. It answers whether all of them
+/// are there.
 fn add_passed<'a>(
     components: &[Finished<'a>],
-    parts: &PartList<'a>,
+    part: &Part<'a>,
     names: &'a [Name],
-    path: &mut Vec<Address>,
+    path: &mut Vec<InstanceAddress>,
 ) -> Result<bool, AllocError>
-    ensures { IfOk result (λ there. (if there then Some path.new.items else None) ≡ after path.old.items (kept_passes components.now parts.now.items names.now)) }
+    ensures { IfOk result (λ there. (if there then Some path.new.items else None) ≡ after path.old.items (kept_from components.now part.now names.now)) }
 {
+    path.push(part.instance()?)?;
     let Some((name, rest)) = names.split_first() else {
-        return Ok(false);
-    };
-    let Some(part) = parts.named(name) else {
-        return Ok(false);
-    };
-    path.push(part.at())?;
-    if rest.is_empty() {
         return Ok(true);
-    }
-    match part.component(components) {
-        Some(component) => add_passed(components, &component.parts, rest, path),
+    };
+    let Some(component) = part.component(components) else {
+        return Ok(false);
+    };
+    match component.parts.named(name) {
+        Some(next) => add_passed(components, next, rest, path),
         None => Ok(false),
-    }
-}
-
-/// Whether the first of these names is that of an instance before item `n`.
-fn begins_before<'a>(n: usize, parts: &PartList<'a>, names: &'a [Name]) -> bool
-    ensures { result ≡ is_before n (first_named names.now parts.now.items) }
-{
-    match names {
-        [first, ..] => match parts.named(first) {
-            Some(part) => part.place() < n,
-            None => false,
-        },
-        [] => false,
     }
 }
 
@@ -78,11 +63,20 @@ pub(crate) fn target_path<'a>(
     parts: &PartList<'a>,
     n: usize,
     names: &'a [Name],
-) -> Result<Option<Vec<Address>>, AllocError>
+) -> Result<Option<Vec<InstanceAddress>>, AllocError>
     ensures { IfOk result (λ path. option_map (λ v. v.items) path ≡ kept_target components.now parts.now.items n names.now) }
 {
-    let mut path = Vec::new(alloc);
-    if begins_before(n, parts, names) && add_passed(components, parts, names, &mut path)? {
+    let Some((first, rest)) = names.split_first() else {
+        return Ok(None);
+    };
+    let Some(part) = parts.named(first) else {
+        return Ok(None);
+    };
+    if n <= part.place() {
+        return Ok(None);
+    }
+    let mut path = Vec::with_capacity(alloc, names.len().min(Address::MAX_LEN))?;
+    if add_passed(components, part, rest, &mut path)? {
         Ok(Some(path))
     } else {
         Ok(None)

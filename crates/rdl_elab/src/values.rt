@@ -12,14 +12,14 @@ ghost use Rattle.std.specs.List.{cons_option};
 ghost use Rattle.rdl_tree.specs.Items.{no_items};
 ghost use Rattle.rdl_elab.specs.Shown.{bare, shown_value, shown_among, shown_values, built_in_values};
 ghost use Rattle.rdl_elab.specs.Shown.{valued};
-ghost use Rattle.rdl_elab.specs.Reaches.{are_distinct, past, values_along, reset_value, value_under};
-ghost use Rattle.rdl_elab.specs.StatedValues.{shown_on, if_named, stated_for, under_either, value_over, values_over};
+ghost use Rattle.rdl_elab.specs.Reaches.{reached, reset_value, value_under, values_along};
+ghost use Rattle.rdl_elab.specs.StatedValues.{shown_on, if_named, stated_for, under_either};
 
 use crate::built_ins::BuiltIns;
 use crate::defaults::Defaults;
 use crate::layout::{LayoutValues, Mode};
 use crate::own_values::OwnValues;
-use crate::reaches::{Assignment, reached};
+use crate::reaches::{Assignment, add_reached};
 use crate::row::PropertyValue;
 use crate::row_values::{ComponentValues, RowValues};
 use rdl_scope::values::shown;
@@ -356,15 +356,6 @@ pub(crate) fn shown_values(
     Ok(values)
 }
 
-fn reset_value(property: Property, reset: Option<Number>) -> Option<Value>
-    ensures { result ≡ reset_value property reset }
-{
-    match (property, reset) {
-        (Property::Reset, Some(number)) => Some(Value::Number(number)),
-        _ => None,
-    }
-}
-
 /// Whether they are the same. No two properties have one name.
 pub(crate) fn same_property(a: Property, b: Property) -> bool
     ensures { result ≡ bytes_eq (row a).name (row b).name }
@@ -372,7 +363,8 @@ pub(crate) fn same_property(a: Property, b: Property) -> bool
     a == b
 }
 
-fn value_under(property: Property, own: &[PropertyValue]) -> Option<&Value>
+/// The first value of the property among these.
+pub(crate) fn value_under(property: Property, own: &[PropertyValue]) -> Option<&Value>
     ensures { option_copied result ≡ value_under property own.now }
 {
     for value in own {
@@ -397,80 +389,21 @@ pub(crate) fn under_either<'v>(
     }
 }
 
-/// The value of a property of the row of such an instance, whose component states these values over those.
-fn value_over(
+/// Adds what is assigned to an instance of this kind, and this reset where nothing is assigned to its reset.
+fn add_replaced(
     alloc: Global,
     kind: Kind,
     reset: Option<Number>,
     reaching: &[Assignment],
-    stated: &[PropertyValue],
-    built_ins: &[PropertyValue],
-    property: Property,
-) -> Result<Option<Value>, AllocError>
-    ensures { IfOk result (λ v. v ≡ value_over kind reset reaching.now stated.now built_ins.now property) }
-{
-    if !property.on(kind) {
-        return Ok(None);
-    }
-    if let Some(value) = reached(property.name(), reaching) {
-        return Ok(Some(shown(property.form(), value.try_copy(alloc)?)));
-    }
-    match reset_value(property, reset) {
-        Some(value) => Ok(Some(shown(property.form(), value))),
-        None => copied(alloc, under_either(property, stated, built_ins)),
-    }
-}
-
-fn add_value(
     items: &mut Vec<PropertyValue>,
-    property: Property,
-    value: Option<Value>,
 ) -> Result<(), AllocError>
-    ensures { OnOk result (items.new.items ≡ items.old.items ++ cons_option (option_map (valued property) value) []) }
+    ensures { OnOk result ((p : Property) → value_under p items.new.items ≡ option_or (value_under p items.old.items) (shown_on kind p (option_or (reached (row p).name reaching.now) (reset_value p reset)))) }
 {
-    if let Some(value) = value {
-        items.push(PropertyValue { property, value })?;
+    add_reached(alloc, kind, reaching, items)?;
+    match reset {
+        Some(number) => { add_stated(alloc, kind, items, Property::Reset, &Value::Number(number)) }
+        None => Ok(()),
     }
-    Ok(())
-}
-
-/// The values behind the first, if that is the value of this property.
-fn past(own: &[PropertyValue], property: Property) -> &[PropertyValue]
-    ensures { result.now ≡ past property own.now }
-{
-    match own {
-        [first, others @ ..] if same_property(first.property, property) => others,
-        _ => own,
-    }
-}
-
-/// The values that there are of these properties of the row of such an instance.
-///
-/// The built-in values stand in the order of the properties, so each is looked for behind those that were found.
-fn values_over(
-    alloc: Global,
-    kind: Kind,
-    reset: Option<Number>,
-    reaching: &[Assignment],
-    stated: &[PropertyValue],
-    built_ins: &[PropertyValue],
-    properties: &[Property],
-) -> Result<RowValues, AllocError>
-    requires { IsTrue (are_distinct properties.now) }
-    ensures { IfOk result (λ values. values ≡ values_over kind reset reaching.now stated.now built_ins.now properties.now) }
-{
-    let room = built_ins
-        .len()
-        .saturating_add(stated.len())
-        .saturating_add(1);
-    let mut items = Vec::with_capacity(alloc, room)?;
-    let mut rest = built_ins;
-    'properties: for property in properties {
-        let value = value_over(alloc, kind, reset, reaching, stated, rest, *property)?;
-        add_value(&mut items, *property, value)?;
-        rest = past(rest, *property);
-    }
-    RowValues::from_vec(alloc, items)
 }
 
 /// The values of the row of an instance with this reset, which these assignments reach, and whose component, of this
@@ -486,37 +419,7 @@ pub(crate) fn row_values(
 ) -> Result<RowValues, AllocError>
     ensures { IfOk result (λ values. values ≡ values_along kind reset reaching.now own.now) }
 {
-    let (stated, built_ins) = own.parts();
-    values_over(
-        alloc,
-        kind,
-        reset,
-        reaching,
-        stated,
-        built_ins,
-        &Property::ALL,
-    )
-}
-
-/// Those of these values on which faults depend: of software access and of the reset.
-pub(crate) fn judged_values(
-    alloc: Global,
-    kind: Kind,
-    reset: Option<Number>,
-    reaching: &[Assignment],
-    own: &ComponentValues,
-) -> Result<RowValues, AllocError>
-    ensures sw { IfOk result (λ values. value_under Sw values ≡ value_under Sw (values_along kind reset reaching.now own.now)) }
-    ensures reset { IfOk result (λ values. value_under Reset values ≡ value_under Reset (values_along kind reset reaching.now own.now)) }
-{
-    let (stated, built_ins) = own.parts();
-    values_over(
-        alloc,
-        kind,
-        reset,
-        reaching,
-        stated,
-        built_ins,
-        &[Property::Sw, Property::Reset],
-    )
+    let mut items = Vec::with_capacity(alloc, reaching.len().saturating_add(1))?;
+    add_replaced(alloc, kind, reset, reaching, &mut items)?;
+    Ok(RowValues::with_assigned(own.share()?, kind, items))
 }

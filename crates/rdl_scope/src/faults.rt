@@ -10,6 +10,7 @@ ghost use Rattle.rdl_tree.specs.Address.{body_at};
 ghost use Rattle.rdl_scope.specs.Types.{last_definition};
 ghost use Rattle.rdl_scope.specs.Value.{own_before};
 ghost use Rattle.rdl_scope.specs.Scopes.{number_under, scope_found, level_found, address_under, instance_component, kind_below, Knows};
+ghost use Rattle.rdl_scope.specs.Target.{instance_in};
 ghost use Rattle.rdl_scope.specs.Walk.{found};
 ghost use Rattle.rdl_scope.specs.ItemFaults.{kind_at, instance_kind, target_kind, is_set, is_excluded, excluded_by, item_fault, fault_at, first_fault, inside_fault, is_too_large, fault_of, out_of_memory};
 ghost use Rattle.rdl_tree.specs.View.{list_of};
@@ -22,7 +23,7 @@ use crate::passed::Passed;
 use crate::places::{Places, address_of, kind_of, place_of};
 use crate::shells::instance_fault;
 use crate::size::body_size;
-use crate::targets::passes;
+use crate::targets::{instance_in, passes};
 use crate::types::{component_at, component_of, items_in, own_component};
 use crate::values::{is_false, own_before};
 use rdl_text::name::Name;
@@ -49,6 +50,16 @@ pub(crate) fn instance_kind(description: &Description, address: &Address) -> Opt
     ensures { result ≡ instance_kind description.now.items address.now }
 {
     kind_at(description, &component_of(description, address)?)
+}
+
+/// The kind of the component to which one name leads, that of an instance among the first `n` items of the body at this
+/// address.
+fn name_kind(description: &Description, body: &Address, n: usize, name: &Name) -> Option<Kind>
+    requires { depth description.now.items ≤ 16 }
+    ensures { result ≡ option_and_then (instance_kind description.now.items) (instance_in description.now.items body.now n name.now) }
+{
+    let instance = instance_in(description, body, n, name)?;
+    instance_kind(description, &instance)
 }
 
 /// The kind of the component to which names lead, the first of them among the first `n` items of the body at this
@@ -84,11 +95,12 @@ fn kind_below(
     requires { depth description.now.items ≤ 16 }
     ensures { IfOk result (λ kind. kind ≡ kind_below description.now.items names.now component.now) }
 {
-    if names.is_empty() {
-        return Ok(kind_at(description, component));
-    }
     let n = items_in(description, component);
-    names_kind(alloc, description, component, n, names)
+    match names {
+        [] => Ok(kind_at(description, component)),
+        [name] => Ok(name_kind(description, component, n, name)),
+        _ => names_kind(alloc, description, component, n, names),
+    }
 }
 
 /// The kind of the component to which a target leads, from the `n`-th item of the body at this address. These are the

@@ -16,7 +16,8 @@ pub(crate) fn target_key<'a>(
 ) -> Result<Vec<&'a str>, AllocError>
     ensures { IfOk result (λ key. texts key ≡ name.now ∷ target.now) }
 {
-    let mut key = vec![in alloc; name.as_str()]?;
+    let mut key = Vec::with_capacity(alloc, target.names().len().saturating_add(1))?;
+    key.push(name.as_str())?;
     for part in target.names() {
         key.push(part.as_str())?;
     }

@@ -36,7 +36,12 @@ pub(crate) fn instance_before(body: &Body, n: usize, name: &Name) -> Option<usiz
 
 /// The address of the instance of the name among the first `n` items of the body at this address.
 #[tactic(auto, using(crate::proofs::Depths::levels))]
-fn instance_in(description: &Description, body: &Address, n: usize, name: &Name) -> Option<Address>
+pub(crate) fn instance_in(
+    description: &Description,
+    body: &Address,
+    n: usize,
+    name: &Name,
+) -> Option<Address>
     requires { depth description.now.items ≤ 16 }
     ensures { result ≡ instance_in description.now.items body.now n name.now }
 {

@@ -12,8 +12,16 @@ pub fn property(name: &str) -> Option<Property>
     named(name, &Property::ALL)
 }
 
+/// Whether the property has this name. Most others have a name of another length.
+fn is_named(property: Property, name: &str) -> bool
+    ensures { result ≡ bytes_eq name.now (row property).name }
+{
+    let own = property.name();
+    own.len() == name.len() && name == own
+}
+
 fn named(name: &str, properties: &[Property]) -> Option<Property>
     ensures { result ≡ find (λ p. bytes_eq name.now (row p).name) properties.now }
 {
-    properties.iter().copied().find(|p| name == p.name())
+    properties.iter().copied().find(|p| is_named(*p, name))
 }

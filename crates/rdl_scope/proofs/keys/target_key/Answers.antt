@@ -12,7 +12,7 @@ loop-part-preserved c =
     let i = c.loop-part.part-index in
     let parts = c.names-part-items.result.now in
     let text = c.as_str-in-loop-part.result in
-    ap (map (λ s. s.now)) c.in_ok-push.ensures.items
+    ap (map (λ s. s.now)) c.in_ok-push-2.ensures.items
     ∙ map-append (λ s. s.now) c.loop-part.key.items (text ∷ [])
     ∙ ap (λ ts. ts ++ text.now ∷ []) c.loop-part.invariant
     ∙ ap (λ n. c.args.name.now ∷ (take i parts ++ n ∷ [])) (c.as_str-in-loop-part.ensures ∙ c.part-item.is)

@@ -16,9 +16,9 @@ loop-assignment-preserved c =
     elim c.match-next.branch [
       | in-Some+in_ok-share+in_ok-put w ↦
           subst (λ (o : Onward). IsOnward o (take (i + 1) rs)) (sym w.onward-is)
-          (onward-next old w.put.new.self w.number_of.result i rs r w.in-Some.next.now c.loop-assignment-test.true c.assignment-item.is
-          (sym c.next.ensures ∙ ap option_copied w.in-Some.is) w.number_of.ensures
-          (w.in_ok-put.ensures.there ∙ ap (λ (q : Reach). going_to old w.number_of.result ++ q ∷ []) w.in_ok-share.ensures)
+          (onward-next old w.put.new.self w.number.result i rs r w.in-Some.next.now c.loop-assignment-test.true c.assignment-item.is
+          (sym c.next.ensures ∙ ap option_copied w.in-Some.is) w.number.ensures
+          (w.in_ok-put.ensures.there ∙ ap (λ (q : Reach). going_to old w.number.result ++ q ∷ []) w.in_ok-share.ensures)
           w.in_ok-put.ensures.others c.loop-assignment.invariant)
       | in_default w ↦
           subst (λ (o : Onward). IsOnward o (take (i + 1) rs)) (sym w.onward-is)

@@ -1,15 +1,18 @@
-use Rattle.std.proofs.Common.{◌≡◌, [], ap, sym, ◌∙◌, option_copied}
-use Rattle.rdl_elab.specs.InstanceResets.{number, with_reset}
-use Rattle.rdl_elab.specs.Reaches.{value_under, value_along}
-use Rattle.rdl_elab.proofs.RowsAlong.{under_along}
+use Rattle.std.proofs.Common.{◌≡◌, ap, sym, ◌∙◌, option_copied}
+use Rattle.rdl_elab.specs.InstanceValues.{replaced, instance_value, with_instance}
+use Rattle.rdl_elab.specs.Reaches.{value_under}
+use Rattle.rdl_elab.proofs.InstanceLists.{under-instance}
 use Rattle.rdl_elab.proofs.row_values.RowValues.get.Goals as goal
 
 pub returns-in-Some : goal.returns-in-Some
 returns-in-Some c =
     let p = c.args.property in
-    let found : option_copied c.get.result ≡ value_along c.in-Some.reset.kind (number c.in-Some.reset) [] c.self.inside.own p = c.get.ensures in
-    let view : with_reset c.self.inside.reset c.self.inside.own ≡ c.args.self.now = c.self.view_is in
+    let k = c.in-Some.instance.kind in
+    let values = replaced c.in-Some.instance.replaced in
+    let own = c.self.inside.own in
+    let found : option_copied c.get.result ≡ instance_value k values own p = c.get.ensures in
+    let view : with_instance c.self.inside.instance own ≡ c.args.self.now = c.self.view_is in
     found
-    ∙ sym (under_along c.in-Some.reset.kind (number c.in-Some.reset) [] c.self.inside.own p)
-    ∙ sym (ap (λ r. value_under p (with_reset r c.self.inside.own)) c.in-Some.is)
+    ∙ sym (under-instance k values own p)
+    ∙ sym (ap (λ i. value_under p (with_instance i own)) c.in-Some.is)
     ∙ ap (value_under p) view
