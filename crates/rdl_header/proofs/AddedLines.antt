@@ -1,11 +1,11 @@
 -- The lines of macros, one behind the other.
-use Rattle.std.proofs.Common.{◌≡◌, ℕ, ◌+◌, List, [], ◌∷◌, ◌++◌, length, codes, refl, ap, sym, ◌∙◌, append_assoc, append-nil, length-append, arith}
+use Rattle.std.proofs.Common.{◌≡◌, ℕ, Bool, true, false, ◌+◌, List, [], ◌∷◌, ◌++◌, length, codes, refl, ap, sym, ◌∙◌, append_assoc, append-nil, length-append, arith}
 use Rattle.std.proofs.lemmas.List.Concat.{flat_map-append}
 use Rattle.std.specs.List.{flat_map}
 use Rattle.rdl_write.specs.Texts.{newline}
 use Rattle.rdl_header.specs.declared.stretch.Stretch.{Stretch}
 use Rattle.rdl_header.specs.HeaderText.{Macro, macro_line, guard_lines, header_text}
-use Rattle.rdl_header.specs.Lines.{Lines, name_at, names_at, guarded, added, ended, header_lines}
+use Rattle.rdl_header.specs.Lines.{Lines, name_at, names_at, noted, guarded, added, ended, header_lines}
 
 -- ---- One line more.
 
@@ -16,10 +16,10 @@ line : (old front middle text : List ℕ) (m : Macro) → front ≡ old ++ codes
 unfolding macro_line
 line old front middle text m e f g = g ∙ ap (λ t. t ++ newline) (f ∙ ap (λ t. t ++ m.value) e) ∙ regroup old (codes "#define ") m.name (codes " ") m.value newline
 
-pub line_added : (old : Lines) (m : Macro) (front middle text : List ℕ) (names : List Stretch) → front ≡ old.text ++ codes "#define " ++ m.name ++ codes " " → middle ≡ front ++ m.value → text ≡ middle ++ newline → names ≡ old.names ++ name_at (length old.text) m.name ∷ []
-    → record { text = text; names = names } ≡ added old (m ∷ [])
+pub line_added : (old : Lines) (m : Macro) (front middle text : List ℕ) (names : List Stretch) → front ≡ old.text ++ codes "#define " ++ m.name ++ codes " " → middle ≡ front ++ m.value → text ≡ middle ++ newline → names ≡ old.names ++ noted old.are_noted (name_at (length old.text) m.name ∷ [])
+    → record { text = text; are_noted = old.are_noted; names = names } ≡ added old (m ∷ [])
 unfolding added
-line_added old m front middle text names e f g h = λ i. record { text = line old.text front middle text m e f g i; names = h i }
+line_added old m front middle text names e f g h = λ i. record { text = line old.text front middle text m e f g i; are_noted = old.are_noted; names = h i }
 
 -- ---- Macros behind macros.
 
@@ -32,19 +32,28 @@ names-append place (x ∷ xs) ys =
 more-text : (text : List ℕ) (xs ys : List Macro) → (text ++ flat_map macro_line xs) ++ flat_map macro_line ys ≡ text ++ flat_map macro_line (xs ++ ys)
 more-text text xs ys = append_assoc text (flat_map macro_line xs) (flat_map macro_line ys) ∙ ap (λ t. text ++ t) (sym (flat_map-append macro_line xs ys))
 
-more-names : (text : List ℕ) (names : List Stretch) (xs ys : List Macro) → (names ++ names_at (length text) xs) ++ names_at (length (text ++ flat_map macro_line xs)) ys ≡ names ++ names_at (length text) (xs ++ ys)
-more-names text names xs ys =
-    append_assoc names (names_at (length text) xs) (names_at (length (text ++ flat_map macro_line xs)) ys)
-    ∙ ap (λ p. names ++ (names_at (length text) xs ++ names_at p ys)) (length-append text (flat_map macro_line xs))
-    ∙ ap (λ t. names ++ t) (sym (names-append (length text) xs ys))
+noted-append : (b : Bool) (xs ys : List Stretch) → noted b xs ++ noted b ys ≡ noted b (xs ++ ys)
+noted-append true xs ys = refl
+noted-append false xs ys = refl
+
+none-noted : (b : Bool) → noted b [] ≡ []
+none-noted true = refl
+none-noted false = refl
+
+more-names : (b : Bool) (text : List ℕ) (names : List Stretch) (xs ys : List Macro) → (names ++ noted b (names_at (length text) xs)) ++ noted b (names_at (length (text ++ flat_map macro_line xs)) ys) ≡ names ++ noted b (names_at (length text) (xs ++ ys))
+more-names b text names xs ys =
+    append_assoc names (noted b (names_at (length text) xs)) (noted b (names_at (length (text ++ flat_map macro_line xs)) ys))
+    ∙ ap (λ t. names ++ t) (noted-append b (names_at (length text) xs) (names_at (length (text ++ flat_map macro_line xs)) ys))
+    ∙ ap (λ p. names ++ noted b (names_at (length text) xs ++ names_at p ys)) (length-append text (flat_map macro_line xs))
+    ∙ ap (λ t. names ++ noted b t) (sym (names-append (length text) xs ys))
 
 pub added_more : (lines : Lines) (xs ys : List Macro) → added (added lines xs) ys ≡ added lines (xs ++ ys)
 unfolding added
-added_more lines xs ys = λ i. record { text = more-text lines.text xs ys i; names = more-names lines.text lines.names xs ys i }
+added_more lines xs ys = λ i. record { text = more-text lines.text xs ys i; are_noted = lines.are_noted; names = more-names lines.are_noted lines.text lines.names xs ys i }
 
 pub none_added : (lines : Lines) → added lines [] ≡ lines
 unfolding added
-none_added lines = λ i. record { text = append-nil lines.text i; names = append-nil lines.names i }
+none_added lines = λ i. record { text = append-nil lines.text i; are_noted = lines.are_noted; names = (ap (λ t. lines.names ++ t) (none-noted lines.are_noted) ∙ append-nil lines.names) i }
 
 pub ruleset added_lines = (added_more, none_added)
 
@@ -64,20 +73,20 @@ name_is path first e =
     let end : length (first ++ path ++ codes "_H") ≡ 8 + length (path ++ codes "_H") = omega (arith, length-append first path, length-append (first ++ path) (codes "_H"), length-append path (codes "_H")) in
     λ i. record { start = start i; end = end i }
 
-pub guard_made : (path none first second third fourth text : List ℕ) (nothing names : List Stretch) → none ≡ [] → first ≡ none ++ codes "#ifndef " → second ≡ first ++ path ++ codes "_H" → third ≡ second ++ codes "\n#define " → fourth ≡ third ++ path → text ≡ fourth ++ codes "_H\n"
-    → nothing ≡ [] → names ≡ nothing ++ record { start = length first; end = length (first ++ path ++ codes "_H") } ∷ [] → record { text = text; names = names } ≡ guarded (record { name = path ++ codes "_H"; value = [] })
+pub guard_made : (b : Bool) (path none first second third fourth text : List ℕ) (nothing names : List Stretch) → none ≡ [] → first ≡ none ++ codes "#ifndef " → second ≡ first ++ path ++ codes "_H" → third ≡ second ++ codes "\n#define " → fourth ≡ third ++ path → text ≡ fourth ++ codes "_H\n"
+    → nothing ≡ [] → names ≡ nothing ++ noted b (record { start = length first; end = length (first ++ path ++ codes "_H") } ∷ []) → record { text = text; are_noted = b; names = names } ≡ guarded b (record { name = path ++ codes "_H"; value = [] })
 unfolding guarded
-guard_made path none first second third fourth text nothing names z a b d e f y g =
+guard_made b path none first second third fourth text nothing names z a s d e f y g =
     let one : first ≡ codes "#ifndef " = a ∙ ap (λ t. t ++ codes "#ifndef ") z in
-    let lines : text ≡ guard_lines (record { name = path ++ codes "_H"; value = [] }) = guard_is path second third fourth text (b ∙ ap (λ t. t ++ path ++ codes "_H") one) d e f in
-    let name : names ≡ name_at 0 (path ++ codes "_H") ∷ [] = g ∙ ap (λ ns. ns ++ record { start = length first; end = length (first ++ path ++ codes "_H") } ∷ []) y ∙ ap (λ n. n ∷ []) (name_is path first one) in
-    λ i. record { text = lines i; names = name i }
+    let lines : text ≡ guard_lines (record { name = path ++ codes "_H"; value = [] }) = guard_is path second third fourth text (s ∙ ap (λ t. t ++ path ++ codes "_H") one) d e f in
+    let name : names ≡ noted b (name_at 0 (path ++ codes "_H") ∷ []) = g ∙ ap (λ ns. ns ++ noted b (record { start = length first; end = length (first ++ path ++ codes "_H") } ∷ [])) y ∙ ap (λ n. noted b (n ∷ [])) (name_is path first one) in
+    λ i. record { text = lines i; are_noted = b; names = name i }
 
-pub end_made : (lines : Lines) (text : List ℕ) → text ≡ lines.text ++ codes "#endif\n" → record { text = text; names = lines.names } ≡ ended lines
+pub end_made : (lines : Lines) (text : List ℕ) → text ≡ lines.text ++ codes "#endif\n" → record { text = text; are_noted = lines.are_noted; names = lines.names } ≡ ended lines
 unfolding ended
-end_made lines text e = λ i. record { text = (e ∙ sym (append_assoc lines.text (codes "#endif") newline)) i; names = lines.names }
+end_made lines text e = λ i. record { text = (e ∙ sym (append_assoc lines.text (codes "#endif") newline)) i; are_noted = lines.are_noted; names = lines.names }
 
-pub header_lines-text : (ms : List Macro) → (header_lines ms).text ≡ header_text ms
+pub header_lines-text : (b : Bool) (ms : List Macro) → (header_lines b ms).text ≡ header_text ms
 unfolding guarded added ended
-header_lines-text [] = refl
-header_lines-text (m ∷ ms) = refl
+header_lines-text b [] = refl
+header_lines-text b (m ∷ ms) = refl

@@ -1,5 +1,5 @@
 -- The names stand in the text where the lines say, and clash as those of the macros do.
-use Rattle.std.proofs.Common.{◌≡◌, ◌<◌, ◌+◌, ◌-◌, ℕ, List, [], ◌∷◌, ◌++◌, length, get_or, map, take, drop, codes, Some, None, Ok, Err, refl, ap, subst, sym, ◌∙◌, append_assoc, length-append, arith}
+use Rattle.std.proofs.Common.{◌≡◌, true, false, ◌<◌, ◌+◌, ◌-◌, ℕ, List, [], ◌∷◌, ◌++◌, length, get_or, map, take, drop, codes, Some, None, Ok, Err, refl, ap, subst, sym, ◌∙◌, append_assoc, length-append, arith}
 use Rattle.std.proofs.lemmas.List.{get_or_at, take_at, drop_at, map_push}
 use Rattle.std.proofs.lemmas.List.Elements.{All-nil, All-cons}
 use Rattle.std.proofs.lemmas.Str.{IsCharBoundary-before_ascii, IsCharBoundary-after_ascii}
@@ -87,9 +87,9 @@ module _ (text tail : List ℕ) (utf8 : IsUtf8 text) where
 
 -- ---- The names of a whole header.
 
-module _ (m : Macro) (ms : List Macro) (utf8 : IsUtf8 (header_lines (m ∷ ms)).text) where
+module _ (m : Macro) (ms : List Macro) (utf8 : IsUtf8 (header_lines true (m ∷ ms)).text) where
   abbrev text : List ℕ
-  text = (header_lines (m ∷ ms)).text
+  text = (header_lines true (m ∷ ms)).text
 
   guard_first : text ≡ codes "#ifndef" ++ 32 ∷ (m.name ++ 10 ∷ (codes "#define " ++ m.name ++ newline ++ flat_map macro_line ms ++ codes "#endif" ++ newline))
   unfolding guarded added ended guard_lines
@@ -102,7 +102,7 @@ module _ (m : Macro) (ms : List Macro) (utf8 : IsUtf8 (header_lines (m ∷ ms)).
   abbrev names : List Stretch
   names = name_at 0 m.name ∷ names_at (length (guard_lines m)) ms
 
-  names-are : (header_lines (m ∷ ms)).names ≡ names
+  names-are : (header_lines true (m ∷ ms)).names ≡ names
   unfolding guarded added ended
   names-are = refl
 
@@ -117,13 +117,13 @@ module _ (m : Macro) (ms : List Macro) (utf8 : IsUtf8 (header_lines (m ∷ ms)).
       ap (λ name. bare name ∷ named text (names_at (length (guard_lines m)) ms)) (part text (codes "#ifndef") m.name _ 32 10 utf8 guard_first (omega arith) (omega arith) 8 refl)
       ∙ ap (λ rest. nameless m ∷ rest) (all_named text (codes "#endif" ++ newline) utf8 (guard_lines m) (length (guard_lines m)) ms refl others_behind)
 
-pub header_names-cut : (ms : List Macro) → IsUtf8 (header_lines ms).text → All (IsCut (header_lines ms).text) (header_lines ms).names
+pub header_names-cut : (ms : List Macro) → IsUtf8 (header_lines true ms).text → All (IsCut (header_lines true ms).text) (header_lines true ms).names
 header_names-cut [] utf8 = All-nil (IsCut [])
-header_names-cut (m ∷ ms) utf8 = subst (All (IsCut (header_lines (m ∷ ms)).text)) (sym (names-are m ms utf8)) (names_cut m ms utf8)
+header_names-cut (m ∷ ms) utf8 = subst (All (IsCut (header_lines true (m ∷ ms)).text)) (sym (names-are m ms utf8)) (names_cut m ms utf8)
 
-header_named : (ms : List Macro) → IsUtf8 (header_lines ms).text → named (header_lines ms).text (header_lines ms).names ≡ map nameless ms
+header_named : (ms : List Macro) → IsUtf8 (header_lines true ms).text → named (header_lines true ms).text (header_lines true ms).names ≡ map nameless ms
 header_named [] utf8 = refl
-header_named (m ∷ ms) utf8 = ap (named (header_lines (m ∷ ms)).text) (names-are m ms utf8) ∙ names_named m ms utf8
+header_named (m ∷ ms) utf8 = ap (named (header_lines true (m ∷ ms)).text) (names-are m ms utf8) ∙ names_named m ms utf8
 
 -- ---- The clash.
 
@@ -138,27 +138,27 @@ clash_alike before (m ∷ ms) =
     ∙ ap (λ ns. if is_defined m.name before then Some m.name else clash_behind ns (map nameless ms)) (sym (map_push nameless before m))
     ∙ ap (λ rest. if is_defined m.name before then Some m.name else rest) (clash_alike (before ++ m ∷ []) ms)
 
-pub header_clash : (ms : List Macro) → IsUtf8 (header_lines ms).text → first_clash (named (header_lines ms).text (header_lines ms).names) ≡ first_clash ms
+pub header_clash : (ms : List Macro) → IsUtf8 (header_lines true ms).text → first_clash (named (header_lines true ms).text (header_lines true ms).names) ≡ first_clash ms
 header_clash ms utf8 = ap first_clash (header_named ms utf8) ∙ clash_alike [] ms
 
 -- ---- What is answered of them.
 
-module _ (rows : List Row) (lines : Lines) (text : List ℕ) (names : List Stretch) (made : lines ≡ header_lines (macros rows)) (t : text ≡ lines.text) (n : names ≡ lines.names) (utf8 : IsUtf8 text) where
-  text-is : text ≡ (header_lines (macros rows)).text
+module _ (rows : List Row) (lines : Lines) (text : List ℕ) (names : List Stretch) (made : lines ≡ header_lines true (macros rows)) (t : text ≡ lines.text) (n : names ≡ lines.names) (utf8 : IsUtf8 text) where
+  text-is : text ≡ (header_lines true (macros rows)).text
   text-is = t ∙ ap (λ x. x.text) made
 
-  names-is : names ≡ (header_lines (macros rows)).names
+  names-is : names ≡ (header_lines true (macros rows)).names
   names-is = n ∙ ap (λ x. x.names) made
 
-  utf8-is : IsUtf8 (header_lines (macros rows)).text
+  utf8-is : IsUtf8 (header_lines true (macros rows)).text
   utf8-is = subst IsUtf8 text-is utf8
 
   pub whole_names : All (IsCut text) names
   whole_names =
-      subst (λ x. All (IsCut x) names) (sym text-is) (subst (All (IsCut (header_lines (macros rows)).text)) (sym names-is) (header_names-cut (macros rows) utf8-is))
+      subst (λ x. All (IsCut x) names) (sym text-is) (subst (All (IsCut (header_lines true (macros rows)).text)) (sym names-is) (header_names-cut (macros rows) utf8-is))
 
   same_clash : first_clash (named text names) ≡ first_clash (macros rows)
-  same_clash = ap (λ x. first_clash (named x names)) text-is ∙ ap (λ x. first_clash (named (header_lines (macros rows)).text x)) names-is ∙ header_clash (macros rows) utf8-is
+  same_clash = ap (λ x. first_clash (named x names)) text-is ∙ ap (λ x. first_clash (named (header_lines true (macros rows)).text x)) names-is ∙ header_clash (macros rows) utf8-is
 
   pub clash_answered : (name : List ℕ) → Some name ≡ first_clash (named text names) → header_of rows ≡ Err name
   clash_answered name e = ap (λ clash. text_unless clash (header_text (macros rows))) (sym same_clash ∙ sym e)
@@ -166,10 +166,10 @@ module _ (rows : List Row) (lines : Lines) (text : List ℕ) (names : List Stret
   pub text_answered : (answer : List ℕ) → None ≡ first_clash (named text names) → answer ≡ lines.text → header_of rows ≡ Ok answer
   text_answered answer e a =
       ap (λ clash. text_unless clash (header_text (macros rows))) (sym same_clash ∙ sym e)
-      ∙ ap Ok (sym (a ∙ ap (λ x. x.text) made ∙ header_lines-text (macros rows)))
+      ∙ ap Ok (sym (a ∙ ap (λ x. x.text) made ∙ header_lines-text true (macros rows)))
 
 -- the text where nothing is known to clash
-pub text_apart : (rows : List Row) (lines : Lines) (answer : List ℕ) → lines ≡ header_lines (macros rows) → first_clash (macros rows) ≡ None → answer ≡ lines.text → header_of rows ≡ Ok answer
+pub text_apart : (rows : List Row) (lines : Lines) (answer : List ℕ) → lines ≡ header_lines false (macros rows) → first_clash (macros rows) ≡ None → answer ≡ lines.text → header_of rows ≡ Ok answer
 text_apart rows lines answer made none a =
     ap (λ clash. text_unless clash (header_text (macros rows))) none
-    ∙ ap Ok (sym (a ∙ ap (λ x. x.text) made ∙ header_lines-text (macros rows)))
+    ∙ ap Ok (sym (a ∙ ap (λ x. x.text) made ∙ header_lines-text false (macros rows)))

@@ -1,14 +1,15 @@
--- The lines of macros as they are made, one behind the other, and where their names stand in them. Own.
-use Rattle.std.specs.Prelude.{ℕ, ◌+◌, ◌≤◌, List, [], ◌∷◌, ◌++◌, length, map, codes, slice_range}
+-- The lines of macros as they are made, one behind the other, and, if it is noted, where their names stand in them. Own.
+use Rattle.std.specs.Prelude.{ℕ, Bool, true, false, ◌+◌, ◌≤◌, List, [], ◌∷◌, ◌++◌, length, map, codes, slice_range}
 use Rattle.std.specs.List.{flat_map}
 use Rattle.std.specs.Str.{IsCharBoundary}
 use Rattle.rdl_write.specs.Texts.{newline}
 use Rattle.rdl_header.specs.declared.stretch.Stretch.{Stretch}
 use Rattle.rdl_header.specs.HeaderText.{Macro, macro_line, guard_lines}
 
--- a text, and where the names of its macros stand
+-- a text, whether the places of its macros' names are noted, and these places
 pub record Lines : Type 0 where
   pub text : List ℕ
+  pub are_noted : Bool
   pub names : List Stretch
 
 -- the name behind the eight bytes `#define ` or `#ifndef ` of a line that begins at a place
@@ -20,25 +21,30 @@ abbrev pub names_at : (place : ℕ) → List Macro → List Stretch
 names_at place [] = []
 names_at place (m ∷ ms) = name_at place m.name ∷ names_at (place + length (macro_line m)) ms
 
+-- places, if they are noted
+abbrev pub noted : Bool → List Stretch → List Stretch
+noted true names = names
+noted false names = []
+
 -- the lines with those of macros behind them
 unfoldable pub added : Lines → List Macro → Lines
-added lines ms = record { text = lines.text ++ flat_map macro_line ms; names = lines.names ++ names_at (length lines.text) ms }
+added lines ms = record { text = lines.text ++ flat_map macro_line ms; are_noted = lines.are_noted; names = lines.names ++ noted lines.are_noted (names_at (length lines.text) ms) }
 
-abbrev pub no_lines : Lines
-no_lines = record { text = []; names = [] }
+abbrev pub no_lines : (are_noted : Bool) → Lines
+no_lines are_noted = record { text = []; are_noted = are_noted; names = [] }
 
 -- the lines of a guard
-unfoldable pub guarded : Macro → Lines
-guarded m = record { text = guard_lines m; names = name_at 0 m.name ∷ [] }
+unfoldable pub guarded : (are_noted : Bool) → Macro → Lines
+guarded are_noted m = record { text = guard_lines m; are_noted = are_noted; names = noted are_noted (name_at 0 m.name ∷ []) }
 
 -- the lines with the end of what is guarded behind them
 unfoldable pub ended : Lines → Lines
-ended lines = record { text = lines.text ++ codes "#endif" ++ newline; names = lines.names }
+ended lines = record { text = lines.text ++ codes "#endif" ++ newline; are_noted = lines.are_noted; names = lines.names }
 
 -- those of a header; the first macro is the guard
-abbrev pub header_lines : List Macro → Lines
-header_lines [] = no_lines
-header_lines (m ∷ ms) = ended (added (guarded m) ms)
+abbrev pub header_lines : (are_noted : Bool) → List Macro → Lines
+header_lines are_noted [] = no_lines are_noted
+header_lines are_noted (m ∷ ms) = ended (added (guarded are_noted m) ms)
 
 -- ---- The names.
 

@@ -6,7 +6,7 @@ ghost use Rattle.rdl_header.specs.Lines.{guarded, added, header_lines};
 ghost use Rattle.std.specs.Fmt.{decimal};
 
 use crate::bits::{mask, width};
-use crate::lines::{Lines, Room};
+use crate::lines::Lines;
 use rdl_elab::layout::Span;
 use rdl_elab::row::{Extent, Place, Row, RowPath};
 use rdl_scope::shells::product;
@@ -220,37 +220,36 @@ fn bytes(path: &RowPath, count: usize) -> usize {
     name.saturating_add(32).saturating_mul(count)
 }
 
-/// As much as the lines of the rows mostly need.
-fn room(rows: &[Row]) -> Room {
-    let mut room = Room {
-        bytes: 64,
-        names: 1,
-    };
+/// How many bytes the lines of the rows mostly need.
+fn room(rows: &[Row]) -> usize {
+    let mut room = 64usize;
     'rows: for row in rows {
-        let count = count(&row.place);
-        room.names = room.names.saturating_add(count);
-        room.bytes = room.bytes.saturating_add(bytes(&row.names, count));
+        room = room.saturating_add(bytes(&row.names, count(&row.place)));
     }
     room
 }
 
 /// The lines of the guard: the macro that is defined wherever the header of this top has been read.
-fn guard(alloc: Global, room: Room, top: &Row) -> Result<Lines, AllocError>
-    ensures { IfOk result (λ lines. lines ≡ guarded (guard top.now)) }
+fn guard(alloc: Global, room: usize, are_noted: bool, top: &Row) -> Result<Lines, AllocError>
+    ensures { IfOk result (λ lines. lines ≡ guarded are_noted (guard top.now)) }
 {
     let mut path = String::new(alloc);
     push_path(&mut path, &top.names)?;
-    Lines::guarded(alloc, room, path.as_str())
+    Lines::guarded(alloc, room, are_noted, path.as_str())
 }
 
 /// The lines of the guard, of the macros of the rows below the top, and of the guard's end.
-pub(crate) fn header_lines(alloc: Global, rows: &[Row]) -> Result<Lines, AllocError>
-    ensures { IfOk result (λ lines. lines ≡ header_lines (macros rows.now)) }
+pub(crate) fn header_lines(
+    alloc: Global,
+    are_noted: bool,
+    rows: &[Row],
+) -> Result<Lines, AllocError>
+    ensures { IfOk result (λ lines. lines ≡ header_lines are_noted (macros rows.now)) }
 {
     let [top, below @ ..] = rows else {
-        return Ok(Lines::new(alloc));
+        return Ok(Lines::new(alloc, are_noted));
     };
-    let mut lines = guard(alloc, room(rows), top)?;
+    let mut lines = guard(alloc, room(rows), are_noted, top)?;
     add_rows(alloc, &mut lines, below)?;
     lines.end()?;
     Ok(lines)

@@ -46,11 +46,10 @@ pub fn header(alloc: Global, rows: &[Row]) -> Result<String, HeaderFault>
     ensures ok { IfOk result (λ text. header_of rows.now ≡ Ok (string_bytes text)) }
     ensures err { IfErr result (IsFault rows.now) }
 {
-    let differ = paths_differ(alloc, rows)?;
-    let Parts { text, names } = header_lines(alloc, rows)?.into_parts();
-    if differ {
-        return Ok(text);
+    if paths_differ(alloc, rows)? {
+        return Ok(header_lines(alloc, false, rows)?.into_text());
     }
+    let Parts { text, names } = header_lines(alloc, true, rows)?.into_parts();
     if let Some(name) = first_clash(alloc, text.as_str(), names.as_slice())? {
         return Err(HeaderFault::Clash(String::from_str(alloc, name)?));
     }
