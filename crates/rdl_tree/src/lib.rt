@@ -9,6 +9,7 @@ pub mod depth;
 pub mod description;
 pub mod dims;
 pub mod edit;
+mod exchanges;
 pub mod fault;
 pub mod find;
 pub mod fits;
