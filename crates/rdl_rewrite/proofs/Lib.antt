@@ -17,3 +17,4 @@ pub mod Places
 pub mod Reached
 pub mod Reaching
 pub mod Renamed
+pub mod Staying

@@ -1,7 +1,7 @@
 -- What a walk keeps of the instances before an item in its body: of the first of each name the number, and whether its
 -- component is the one in which the item on the way stands.
 -- own: no part of what a target passes; `passes` (Target of rdl_scope) says that by a search through whole bodies.
-use Rattle.std.specs.Prelude.{◌≡◌, ℕ, Bool, false, ◌&&◌, List, [], ◌∷◌, ◌++◌, Option, option_map, option_and_then}
+use Rattle.std.specs.Prelude.{◌≡◌, ℕ, Bool, true, false, ◌&&◌, List, [], ◌∷◌, ◌++◌, Option, option_map, option_and_then}
 use Rattle.rdl_tree.specs.Items.{Items}
 use Rattle.rdl_tree.specs.Address.{body_at}
 use Rattle.rdl_tree.specs.declared.description.Item.{Item}
@@ -24,6 +24,14 @@ first_at d place b k = (k, leads_to place (component_of d (b ++ k ∷ [])))
 -- these are the first among the first n items of the body at b, for a taken item in the component at this place
 pub record AreFirsts (d : Items) (place b : List ℕ) (n : ℕ) (firsts : Firsts) : Type 0 where
   pub found : (q : List ℕ) → first_under firsts q ≡ option_map (first_at d place b) (option_and_then (instance_before q n) (body_at b d))
+
+-- only an assignment to what is inside an instance asks for them
+abbrev pub is_dynamic : Item → Bool
+is_dynamic (Dynamic t p v) = true
+is_dynamic (Define n c) = false
+is_dynamic (Instance s o) = false
+is_dynamic (Own p v) = false
+is_dynamic (Default p v) = false
 
 -- the component of the item at this address is the one at the place, which the holder holds; led says whether a reference
 -- to the holder's name leads to that from here

@@ -8,6 +8,7 @@ ghost use Rattle.rdl_rewrite.specs.Refuses.{Refuses};
 
 use crate::edit::PatchRefusal;
 use crate::patch::one;
+use rdl_scope::apart::begin_apart;
 use rdl_text::name::Name;
 use rdl_tree::address::Address;
 use rdl_tree::description::{Body, Item};
@@ -22,7 +23,9 @@ fn assigns_to(target: &Target, property: &Name, item: &Item) -> bool
 {
     match item {
         Item::Dynamic(names, assigned, _) => {
-            names.names() == target.names() && assigned == property
+            !begin_apart(names.names(), target.names())
+                && assigned == property
+                && names.names() == target.names()
         }
         _ => false,
     }

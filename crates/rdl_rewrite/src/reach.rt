@@ -1,23 +1,27 @@
 //! The patches of an edit that reaches every body.
-ghost use Rattle.std.specs.Prelude.{◌≡◌, ◌≤◌, ◌<◌, ◌++◌, ◌∷◌, [], length, reverse, Some, IfOk, option_copied};
+ghost use Rattle.std.specs.Prelude.{◌≡◌, ◌≤◌, ◌<◌, ◌++◌, ◌∷◌, [], ℕ, List, true, false, length, reverse, Some, None, IfOk, OnOk, option_copied, if◌then◌else◌};
+ghost use Rattle.std.specs.List.{list_any};
+ghost use Rattle.std.specs.Option.{option_or};
 ghost use Rattle.rdl_tree.specs.ItemAt.{item_at};
 ghost use Rattle.rdl_tree.specs.Items.{no_items};
-ghost use Rattle.rdl_tree.specs.View.{add};
+ghost use Rattle.rdl_tree.specs.View.{add, list_of};
 ghost use Rattle.rdl_tree.specs.Address.{body_at, holder_of, number_of};
 ghost use Rattle.rdl_tree.specs.Depth.{depth};
 ghost use Rattle.rdl_scope.specs.Types.{items_in};
-ghost use Rattle.rdl_rewrite.specs.Firsts.{AreFirsts};
+ghost use Rattle.rdl_scope.specs.Walk.{is_instance};
+ghost use Rattle.rdl_rewrite.specs.Addresses.{same};
+ghost use Rattle.rdl_rewrite.specs.Firsts.{AreFirsts, first_under, is_inside, is_dynamic};
 ghost use Rattle.rdl_rewrite.specs.Led.{IsLed};
 ghost use Rattle.rdl_rewrite.specs.Reach.{Knows};
 ghost use Rattle.rdl_rewrite.specs.Fates.{fate, fate_patches};
 
 use crate::fate::Fate;
 use crate::firsts::Firsts;
-use crate::leads::{is_inside, led_behind};
+use crate::leads::{is_inside, leads_to, led_behind};
 use crate::{removal, renaming};
 use rdl_text::name::Name;
 use rdl_tree::address::Address;
-use rdl_tree::description::{Body, Description, Item};
+use rdl_tree::description::{Body, Description, Item, Of};
 use rdl_tree::find::item_at;
 use rdl_tree::patch::Patch;
 use std::alloc::{AllocError, Global};
@@ -37,6 +41,15 @@ pub(crate) struct Reach<'a> {
     pub siblings: usize,
     /// None where the item is taken out.
     pub name: Option<&'a Name>,
+}
+
+/// Whether an assignment to what is inside an instance is among the items of the body themselves.
+fn has_dynamic(body: &Body) -> bool
+    ensures { result ≡ list_any is_dynamic (list_of body.now) }
+{
+    body.as_slice()
+        .iter()
+        .any(|item| matches!(item, Item::Dynamic(..)))
 }
 
 /// The address of the body in which the item on the way stands.
@@ -96,12 +109,60 @@ impl<'a> Reach<'a> {
         requires known { Knows self.now }
         requires here { item_at at.now self.now.whole.now.items ≡ Some found.now }
         requires led { IsLed self.now.whole.now.items self.now.way.now at.now led }
-        requires firsts { AreFirsts self.now.whole.now.items (holder_of self.now.way.now) (holder_of at.now) (number_of at.now) firsts.now }
+        requires firsts { is_dynamic found.now ≡ true → AreFirsts self.now.whole.now.items (holder_of self.now.way.now) (holder_of at.now) (number_of at.now) firsts.now }
         ensures { IfOk result (λ new. new ≡ fate self.now.whole.now.items self.now.way.now (option_copied self.now.name) at.now found.now) }
     {
         match self.name {
             Some(name) => renaming::fate(alloc, self, name, at, found, led, firsts),
             None => removal::fate(alloc, self, at, found, firsts),
+        }
+    }
+
+    /// Notes the item of this number in the body at the address, if that assigns anything to what is inside its instances.
+    /// `inside_led` says whether a reference to the holder's name leads to the holder here.
+    fn note(
+        &self,
+        assigns: bool,
+        at: &Address,
+        number: usize,
+        found: &'a Item,
+        inside_led: bool,
+        firsts: &mut Firsts<'a>,
+    ) -> Result<(), AllocError>
+        requires { length at.now < 17 }
+        ensures { OnOk result (assigns ≡ true → (q : List ℕ) → first_under firsts.new q ≡ option_or (first_under firsts.old q) (if is_instance q (Some found.now) then Some (number, is_inside self.now.place (option_copied self.now.holder) (at.now ++ number ∷ []) inside_led found.now) else None)) }
+    {
+        if !assigns {
+            return Ok(());
+        }
+        let inside = is_inside(&self.place, self.holder, inside_led, at, number, found);
+        firsts.note(found, number, inside)
+    }
+
+    /// Whether the item of this number in any body is known not to be the one on the way.
+    fn is_apart(&self, number: usize) -> bool
+        ensures { result ≡ true → (at : List ℕ) → same (at ++ number ∷ []) self.now.way.now ≡ false }
+    {
+        !self.way.is_empty() && self.way.number() != number
+    }
+
+    /// Whether it is known at once that there are no patches for the item of this number in the body at the address, nor for
+    /// any inside it. `led` says whether a reference to the taken item's name leads to it here.
+    fn stays(&self, _at: &Address, number: usize, found: &Item, led: bool) -> bool
+        requires known { Knows self.now }
+        requires here { item_at (_at.now ++ number ∷ []) self.now.whole.now.items ≡ Some found.now }
+        requires led { IsLed self.now.whole.now.items self.now.way.now (_at.now ++ number ∷ []) led }
+        ensures { result ≡ true → fate_patches (fate self.now.whole.now.items self.now.way.now (option_copied self.now.name)) _at.now number (add found.now no_items) ≡ [] }
+    {
+        match found {
+            Item::Own(..) => self.is_apart(number),
+            Item::Default(..) => self.is_apart(number),
+            Item::Instance(_, of) => match of {
+                Of::Named(_) => self.is_apart(number) && !leads_to(self.taken, led, found),
+                Of::Anonymous(_) => false,
+            },
+            Item::Define(..) => false,
+            Item::Dynamic(..) => false,
         }
     }
 
@@ -125,11 +186,11 @@ impl<'a> Reach<'a> {
         requires inside_led { IsLed self.now.whole.now.items (holder_of self.now.way.now) at.now inside_led }
         ensures { IfOk result (λ _. reverse patches.new.items ≡ fate_patches (fate self.now.whole.now.items self.now.way.now (option_copied self.now.name)) at.now 0 body.now ++ reverse patches.old.items) }
     {
-        let mut firsts = Firsts::with_room(alloc, body.len())?;
+        let assigns = has_dynamic(body);
+        let mut firsts = Firsts::with_room(alloc, if assigns { body.len() } else { 0 })?;
         'items: for (number, found) in body.as_slice().iter().enumerate() {
             self.push_item(alloc, at, number, found, led, inside_led, &firsts, patches)?;
-            let inside = is_inside(&self.place, self.holder, inside_led, at, number, found);
-            firsts.note(found, number, inside)?;
+            self.note(assigns, at, number, found, inside_led, &mut firsts)?;
             led = led_behind(self.way, self.taken, led, at, number, found);
             inside_led = led_behind(&self.place, self.holder, inside_led, at, number, found);
         }
@@ -157,9 +218,12 @@ impl<'a> Reach<'a> {
         requires here { item_at (at.now ++ number ∷ []) self.now.whole.now.items ≡ Some found.now }
         requires led { IsLed self.now.whole.now.items self.now.way.now (at.now ++ number ∷ []) led }
         requires inside_led { IsLed self.now.whole.now.items (holder_of self.now.way.now) (at.now ++ number ∷ []) inside_led }
-        requires firsts { AreFirsts self.now.whole.now.items (holder_of self.now.way.now) at.now number firsts.now }
+        requires firsts { is_dynamic found.now ≡ true → AreFirsts self.now.whole.now.items (holder_of self.now.way.now) at.now number firsts.now }
         ensures { IfOk result (λ _. reverse patches.new.items ≡ fate_patches (fate self.now.whole.now.items self.now.way.now (option_copied self.now.name)) at.now number (add found.now no_items) ++ reverse patches.old.items) }
     {
+        if self.stays(at, number, found, led) {
+            return Ok(());
+        }
         let address = at.inside(number);
         let fate = self.fate(alloc, &address, found, led, firsts)?;
         let goes = fate.is_dropped();

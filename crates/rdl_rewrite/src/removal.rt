@@ -9,7 +9,7 @@ ghost use Rattle.rdl_tree.specs.Depth.{depth};
 ghost use Rattle.rdl_scope.specs.Types.{type_of};
 ghost use Rattle.rdl_rewrite.specs.Addresses.{leads_to, addresses};
 ghost use Rattle.rdl_rewrite.specs.Led.{IsLed};
-ghost use Rattle.rdl_rewrite.specs.Firsts.{AreFirsts};
+ghost use Rattle.rdl_rewrite.specs.Firsts.{AreFirsts, is_dynamic};
 ghost use Rattle.rdl_rewrite.specs.Reach.{Knows};
 ghost use Rattle.rdl_rewrite.specs.Fates.{fate_in_removal, fate, fate_patches};
 ghost use Rattle.rdl_rewrite.specs.Removal.{is_in_use, goes, removed};
@@ -89,7 +89,7 @@ fn goes<'a>(
     requires nesting { depth reach.now.whole.now.items ≤ 16 }
     requires known { Knows reach.now }
     requires here { item_at at.now reach.now.whole.now.items ≡ Some found.now }
-    requires firsts { AreFirsts reach.now.whole.now.items (holder_of reach.now.way.now) (holder_of at.now) (number_of at.now) firsts.now }
+    requires firsts { is_dynamic found.now ≡ true → AreFirsts reach.now.whole.now.items (holder_of reach.now.way.now) (holder_of at.now) (number_of at.now) firsts.now }
     ensures { IfOk result (λ answer. answer ≡ goes reach.now.whole.now.items reach.now.way.now at.now) }
 {
     if at == reach.way {
@@ -115,7 +115,7 @@ pub(crate) fn fate<'a>(
     requires nesting { depth reach.now.whole.now.items ≤ 16 }
     requires known { Knows reach.now }
     requires here { item_at at.now reach.now.whole.now.items ≡ Some found.now }
-    requires firsts { AreFirsts reach.now.whole.now.items (holder_of reach.now.way.now) (holder_of at.now) (number_of at.now) firsts.now }
+    requires firsts { is_dynamic found.now ≡ true → AreFirsts reach.now.whole.now.items (holder_of reach.now.way.now) (holder_of at.now) (number_of at.now) firsts.now }
     ensures { IfOk result (λ fate. fate ≡ fate_in_removal reach.now.whole.now.items reach.now.way.now at.now) }
 {
     if goes(alloc, reach, at, found, firsts)? {

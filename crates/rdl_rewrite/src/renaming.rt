@@ -4,7 +4,7 @@ ghost use Rattle.rdl_tree.specs.ItemAt.{item_at};
 ghost use Rattle.rdl_tree.specs.Address.{holder_of, number_of};
 ghost use Rattle.rdl_tree.specs.Depth.{depth};
 ghost use Rattle.rdl_scope.specs.Target.{passes};
-ghost use Rattle.rdl_rewrite.specs.Firsts.{AreFirsts};
+ghost use Rattle.rdl_rewrite.specs.Firsts.{AreFirsts, is_dynamic};
 ghost use Rattle.rdl_rewrite.specs.Passed.{if_passed};
 ghost use Rattle.rdl_rewrite.specs.Led.{IsLed};
 ghost use Rattle.rdl_rewrite.specs.Reach.{Knows};
@@ -128,7 +128,7 @@ pub(crate) fn fate<'a>(
     requires known { Knows reach.now }
     requires here { item_at at.now reach.now.whole.now.items ≡ Some found.now }
     requires led { IsLed reach.now.whole.now.items reach.now.way.now at.now led }
-    requires firsts { AreFirsts reach.now.whole.now.items (holder_of reach.now.way.now) (holder_of at.now) (number_of at.now) firsts.now }
+    requires firsts { is_dynamic found.now ≡ true → AreFirsts reach.now.whole.now.items (holder_of reach.now.way.now) (holder_of at.now) (number_of at.now) firsts.now }
     ensures { IfOk result (λ fate. fate ≡ fate_in_renaming reach.now.whole.now.items reach.now.way.now name.now at.now found.now) }
 {
     match found {

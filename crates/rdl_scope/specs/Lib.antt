@@ -1,3 +1,4 @@
+pub mod Apart
 pub mod ByName
 pub mod Closed
 pub mod Front

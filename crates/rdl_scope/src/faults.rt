@@ -348,7 +348,9 @@ pub(crate) fn is_too_large(description: &Description) -> bool
     ensures { result ≡ is_too_large description.now.items }
 {
     let size = body_size(&description.items);
-    size.depth > 16 || size.count > 65_536 || size.weight > 8_388_608
+    size.depth > 16
+        || size.count > 65_536
+        || size.weight > 8_388_608 && description.weight() > 8_388_608
 }
 
 fn judge(alloc: Global, description: &Description) -> Result<Option<Fault>, AllocError>

@@ -2,6 +2,7 @@
 //! the first fault of the items.
 #![tactic(auto)]
 
+pub mod apart;
 mod assignments;
 pub mod by_name;
 mod entry;

@@ -11,6 +11,7 @@ ghost use Rattle.rdl_scope.specs.Keys.{has_key, key_before};
 ghost use Rattle.rdl_scope.specs.ItemFaults.{reached_before, is_excluded, excluded_by, own_fault, item_fault, fault_of, out_of_memory};
 ghost use Rattle.rdl_scope.specs.OneItem.{fault_of_item, NoOtherFault};
 
+use crate::apart::begin_apart;
 use crate::assignments::{default_fault, dynamic_fault, own_fault, rivals};
 use crate::faults::{check, instance_kind, is_set, is_too_large, kind_at, names_kind};
 use crate::kinds::define_fault;
@@ -41,7 +42,11 @@ fn repeats(item: &Item, target: &[Name], name: &Name) -> bool
     ensures { result ≡ has_key (name.now ∷ target.now) item.now }
 {
     match item {
-        Item::Dynamic(names, property, _) => { property == name && are_same(names.names(), target) }
+        Item::Dynamic(names, property, _) => {
+            !begin_apart(names.names(), target)
+                && property == name
+                && are_same(names.names(), target)
+        }
         _ => false,
     }
 }

@@ -2,6 +2,7 @@ pub mod Backs
 pub mod Changes
 pub mod Components
 pub mod Edits
+pub mod Exchanging
 pub mod Fills
 pub mod Gaps
 pub mod Held

@@ -5,6 +5,7 @@ pub mod Codes
 pub mod Component
 pub mod Depth
 pub mod Edit
+pub mod Exchanges
 pub mod Falls
 pub mod Fault
 pub mod Find

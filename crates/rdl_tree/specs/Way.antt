@@ -4,10 +4,13 @@ use Rattle.std.specs.Prelude.{ℕ, max, Bool, true, false, ◌&&◌, nat_le, nat
 use Rattle.rdl_tree.specs.Items.{Items}
 use Rattle.rdl_tree.specs.Address.{holder_of, number_of, body_at}
 use Rattle.rdl_tree.specs.Patch.{patched, fits, has_place, length_of}
+use Rattle.rdl_tree.specs.Exchanges.{are_exchanges}
 use Rattle.rdl_tree.specs.declared.patch.Patch.{Patch}
 use Rattle.rdl_tree.specs.declared.patch.Patch.TheVariants.{Insert, Delete, Shift, Exchange}
 use Rattle.rdl_tree.specs.declared.way.Step.{Step}
+use Rattle.rdl_tree.specs.declared.way.StepsBack.{StepsBack}
 use Rattle.rdl_tree.specs.declared.way.WayBack.{WayBack}
+use Rattle.rdl_tree.specs.declared.way.WayBack.TheVariants.{Steps, Exchanges}
 
 -- the patch fits, at whatever level the item is that it puts in
 abbrev pub is_placed : Patch → Items → Bool
@@ -80,14 +83,24 @@ abbrev pub backs : List Step → List Patch
 backs [] = []
 backs (s ∷ ss) = s.back ∷ backs ss
 
--- the patches of the way, the last step's first
-abbrev pub patches_back : WayBack → List Patch
-patches_back way = backs (reverse way.steps.items)
+-- the patches of the steps, the last step's first
+abbrev pub step_patches : StepsBack → List Patch
+step_patches way = backs (reverse way.steps.items)
 
 -- there is room for a patch of each step
-abbrev pub has_rooms : WayBack → Bool
+abbrev pub has_rooms : StepsBack → Bool
 has_rooms way = nat_eq (length way.room.items) 0 && nat_le (length way.steps.items) (vec_capacity way.room)
 
 -- each step can be taken, the last one first
+abbrev pub are_sound_steps : Items → StepsBack → Bool
+are_sound_steps t way = are_ready (reverse way.steps.items) t && has_rooms way
+
+-- the patches of the way, in the order in which they lead back
+abbrev pub patches_back : WayBack → List Patch
+patches_back (Steps way) = step_patches way
+patches_back (Exchanges patches) = patches.items
+
+-- the whole way back can be gone
 abbrev pub is_sound : Items → WayBack → Bool
-is_sound t way = are_ready (reverse way.steps.items) t && has_rooms way
+is_sound t (Steps way) = are_sound_steps t way
+is_sound t (Exchanges patches) = are_exchanges patches.items t

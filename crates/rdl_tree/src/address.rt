@@ -83,12 +83,10 @@ impl Address {
         requires { 0 < length self.now }
         ensures { result ≡ holder_of self.now }
     {
-        let mut holder = Address::new();
-        let numbers = self.as_slice();
-        'numbers: for number in &numbers[..numbers.len() - 1] {
-            holder.push(*number);
+        Address {
+            numbers: self.numbers,
+            len: self.len - 1,
         }
-        holder
     }
 
     /// The number, in that body, of the item at this address.

@@ -10,6 +10,7 @@ mod descent;
 pub mod description;
 pub mod dims;
 pub mod edit;
+mod exchanges;
 pub mod fault;
 pub mod find;
 mod fits;

@@ -9,6 +9,7 @@ ghost use Rattle.rdl_tree.specs.Step.{IsStep};
 use crate::address::Address;
 use crate::back::fill;
 use crate::description::{Description, Item};
+use crate::exchanges::swap_part;
 use crate::part::Part;
 use crate::patch::Patch;
 use crate::way::Step;
@@ -186,9 +187,7 @@ fn exchange(description: &mut Description, address: Address, part: Part) -> Patc
     ensures changed { description.new.items ≡ patched (Patch.Exchange address part) description.old.items }
     ensures inverse { inverse (Patch.Exchange address part) description.old.items ≡ result ∷ [] }
 {
-    let old = match description.body_mut(&address.holder()) {
-        Some(body) => body.exchange(address.number(), part),
-        None => unreachable!(),
-    };
-    Patch::Exchange(address, old)
+    let mut part = part;
+    swap_part(description, &address, &mut part);
+    Patch::Exchange(address, part)
 }

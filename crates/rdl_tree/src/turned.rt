@@ -5,7 +5,7 @@ ghost use Rattle.rdl_tree.specs.Patch.{image, inverses, AllFit};
 
 use crate::description::Description;
 use crate::patch::Patch;
-use crate::walk::{patches_back, steps_back, walk};
+use crate::walk::{go_back, patches_back, walk};
 use crate::way::{Way, WayBack};
 use std::alloc::Global;
 use std::mem;
@@ -69,7 +69,7 @@ impl Turned<'_, WayBack> {
         ensures patches { result.items ≡ kept self.entry }
     {
         let Turned { description, way } = self;
-        patches_back(way)
+        patches_back(way, description)
     }
 
     /// Brings the description back, and gives the patches that lead on. Then there is no way back any more. This takes
@@ -80,10 +80,8 @@ impl Turned<'_, WayBack> {
         ensures patches { result.items ≡ inverses (kept self.old) (turned_items self.old) }
         ensures none { kept self.new ≡ [] }
     {
-        let none = Vec::new(*self.way.room.allocator());
-        let mut room = mem::replace(&mut self.way.room, none);
-        steps_back(self.description, &mut self.way.steps, &mut room);
-        room.reverse();
-        room
+        let none = self.way.none();
+        let way = mem::replace(&mut self.way, none);
+        go_back(self.description, way)
     }
 }

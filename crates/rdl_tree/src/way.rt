@@ -33,9 +33,35 @@ pub trait Way {
 
 /// The steps back, of which the last is taken first, and room for a patch of each.
 #[derive(Drop)]
-pub struct WayBack {
+pub struct StepsBack {
     pub(crate) steps: Vec<Step>,
     pub(crate) room: Vec<Patch>,
+}
+
+/// The way back from where patches have led.
+#[derive(Drop)]
+pub enum WayBack {
+    /// Of patches of all sorts.
+    Steps(StepsBack),
+    /// Of patches that exchange parts: those that lead back, the first one first.
+    Exchanges(Vec<Patch>),
+}
+
+impl WayBack {
+    ghost use Rattle.std.specs.Prelude.{[], IsTrue};
+    ghost use Rattle.rdl_tree.specs.Way.{patches_back, is_sound};
+
+    /// No way at all.
+    pub(crate) fn none(&self) -> WayBack
+        ensures none { patches_back result ≡ [] }
+        ensures sound { (t : Items) → IsTrue (is_sound t result) }
+    {
+        let alloc = match self {
+            WayBack::Steps(way) => *way.room.allocator(),
+            WayBack::Exchanges(patches) => *patches.allocator(),
+        };
+        WayBack::Exchanges(Vec::new(alloc))
+    }
 }
 
 impl Way for WayBack {

@@ -1,4 +1,4 @@
-use Rattle.std.proofs.Common.{◌≡◌, take, sum_by, ◌*◌, ◌+◌}
+use Rattle.std.proofs.Common.{◌≡◌, ◌≤◌, take, sum_by, ◌*◌, ◌+◌}
 use Rattle.rdl_tree.specs.Items.{count}
 use Rattle.rdl_tree.specs.View.{items_of}
 use Rattle.rdl_tree.specs.Weight.{capped}
@@ -17,5 +17,5 @@ abbrev pub invariant-body_size-loop-item : goal.invariant-body_size-loop-item
 invariant-body_size-loop-item l = record {
   deepest : l.deepest ≡ capped (depth (items_of (take l.item-index l.item-items)));
   count : l.count ≡ capped (sum_by item_count (take l.item-index l.item-items));
-  weight : l.weight ≡ capped (sum_by item_weight (take l.item-index l.item-items));
+  weight : capped (sum_by item_weight (take l.item-index l.item-items)) ≤ l.weight;
 }

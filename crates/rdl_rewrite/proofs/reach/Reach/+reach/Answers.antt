@@ -1,6 +1,7 @@
 use Rattle.std.proofs.Common.{◌*◌, ◌+◌, ◌<◌, ◌++◌, ◌∷◌, [], length, reverse, option_copied, refl, ap, sym, ◌∙◌, arith}
 use Rattle.rdl_tree.specs.Address.{body_at, holder_of, number_of}
 use Rattle.rdl_tree.specs.Items.{count}
+use Rattle.rdl_tree.specs.View.{list_of}
 use Rattle.rdl_tree.proofs.Sizes.{item_count}
 use Rattle.rdl_scope.proofs.Depths.{depth-body_at}
 use Rattle.rdl_scope.proofs.Levelled.{item_got}
@@ -10,6 +11,7 @@ use Rattle.rdl_rewrite.proofs.FirstInstances.{firsts_none, firsts_next, firsts_h
 use Rattle.rdl_rewrite.proofs.Leading.{holder-inside, number-inside}
 use Rattle.rdl_rewrite.proofs.Led.{led_first, led_next, led_here, led_same}
 use Rattle.rdl_rewrite.proofs.Located.{body_at-item, item_met, count-own}
+use Rattle.rdl_rewrite.proofs.Staying.{dynamic_among}
 use Rattle.rdl_rewrite.proofs.Reached.{reached_first, reached_more}
 use Rattle.rdl_rewrite.proofs.reach.Reach.+reach.Goals as goal
 
@@ -23,13 +25,14 @@ push_body-push_item-requires t c =
     let h = count-item xs c.items.number x body c.items-test.true c.found-item.is c.as_slice-found-items.ensures in
     let less : 2 * item_count x < t = omega (arith, h, c.decreases) in
     let room : length at < 17 = omega (arith, depth-body_at at d body c.requires.here, c.requires.nesting) in
-    (less, (c.requires.nesting, (c.requires.known, (room, (item_met at c.items.number d body xs x c.requires.here c.as_slice-found-items.ensures c.items-test.true c.found-item.is, (c.items.invariant.led, (c.items.invariant.inside_led, c.items.invariant.firsts)))))))
+    let got = item_got body c.items.number xs x c.as_slice-found-items.ensures c.items-test.true c.found-item.is in
+    (less, (c.requires.nesting, (c.requires.known, (room, (item_met at c.items.number d body xs x c.requires.here c.as_slice-found-items.ensures c.items-test.true c.found-item.is, (c.items.invariant.led, (c.items.invariant.inside_led, λ h. c.items.invariant.firsts (c.has_dynamic-assigns.ensures ∙ dynamic_among (list_of body) c.items.number x got h))))))))
 
 pub push_body-led_behind-led-requires : goal.push_body-led_behind-led-requires
 push_body-led_behind-led-requires t c = omega (arith, depth-body_at c.args.at.now c.args.self.now.whole.now.items c.args.body.now c.requires.here, c.requires.nesting)
 
-pub push_body-is_inside-inside-requires : goal.push_body-is_inside-inside-requires
-push_body-is_inside-inside-requires t c = omega (arith, depth-body_at c.args.at.now c.args.self.now.whole.now.items c.args.body.now c.requires.here, c.requires.nesting)
+pub push_body-note-requires : goal.push_body-note-requires
+push_body-note-requires t c = omega (arith, depth-body_at c.args.at.now c.args.self.now.whole.now.items c.args.body.now c.requires.here, c.requires.nesting)
 
 pub push_body-led_behind-inside_led-requires : goal.push_body-led_behind-inside_led-requires
 push_body-led_behind-inside_led-requires t c = omega (arith, depth-body_at c.args.at.now c.args.self.now.whole.now.items c.args.body.now c.requires.here, c.requires.nesting)
@@ -40,7 +43,7 @@ push_body-items-init t c = record {
       (reverse c.args.patches.now.items) c.as_slice-found-items.ensures;
   led = led_first c.args.self.now.whole.now.items c.args.self.now.way.now c.args.at.now c.args.body.now c.args.led c.requires.here c.requires.led;
   inside_led = led_first c.args.self.now.whole.now.items (holder_of c.args.self.now.way.now) c.args.at.now c.args.body.now c.args.inside_led c.requires.here c.requires.inside_led;
-  firsts = firsts_none c.args.self.now.whole.now.items (holder_of c.args.self.now.way.now) c.args.at.now c.args.body.now c.in_ok-firsts.firsts c.requires.here c.in_ok-firsts.ensures;
+  firsts = λ _. firsts_none c.args.self.now.whole.now.items (holder_of c.args.self.now.way.now) c.args.at.now c.args.body.now c.in_ok-firsts.firsts c.requires.here c.in_ok-firsts.ensures;
 }
 
 pub push_body-items-preserved : goal.push_body-items-preserved
@@ -59,8 +62,8 @@ push_body-items-preserved t c =
           (led_same _ _ _ _ here x c.items.led _ c.led_behind-led.ensures refl c.requires.known.taken);
       inside_led = led_next d place c.args.at.now c.items.number c.args.body.now x c.items.inside_led c.led_behind-inside_led.result c.requires.here got c.items.invariant.inside_led
           (led_same _ _ _ _ here x c.items.inside_led _ c.led_behind-inside_led.ensures c.requires.known.place c.requires.known.holder);
-      firsts = firsts_next d place c.args.at.now c.items.number c.args.body.now x c.items.firsts c.note.new.self c.is_inside-inside.result c.requires.here got c.items.invariant.firsts
-          (inside_same d _ _ _ here x c.items.inside_led _ met c.items.invariant.inside_led c.is_inside-inside.ensures c.requires.known.place c.requires.known.holder) c.in_ok-note.ensures;
+      firsts = λ h. firsts_next d place c.args.at.now c.items.number c.args.body.now x c.items.firsts c.note.new.firsts _ c.requires.here got (c.items.invariant.firsts h)
+          (inside_same d _ _ _ here x c.items.inside_led _ met c.items.invariant.inside_led refl c.requires.known.place c.requires.known.holder) (c.in_ok-note.ensures h);
     }
 
 pub push_item-fate-requires-clause-led : goal.push_item-fate-requires-clause-led
@@ -70,7 +73,7 @@ pub push_item-fate-requires-clause-firsts : goal.push_item-fate-requires-clause-
 push_item-fate-requires-clause-firsts t c =
     let at = c.args.at.now in
     let n = c.args.number in
-    firsts_here _ _ _ _ _ _ _ (ap holder_of c.inside-address.ensures ∙ holder-inside at n) (ap number_of c.inside-address.ensures ∙ number-inside at n) c.requires.firsts
+    λ h. firsts_here _ _ _ _ _ _ _ (ap holder_of c.inside-address.ensures ∙ holder-inside at n) (ap number_of c.inside-address.ensures ∙ number-inside at n) (c.requires.firsts h)
 
 pub push_item-push_body-requires : goal.push_item-push_body-requires
 push_item-push_body-requires t c =

@@ -1,4 +1,4 @@
-use Rattle.std.proofs.Common.{◌≡◌, ◌+◌, ◌*◌, ◌++◌, ◌∷◌, [], drop, reverse, option_copied}
+use Rattle.std.proofs.Common.{◌≡◌, ◌+◌, ◌*◌, ◌++◌, ◌∷◌, [], drop, true, reverse, option_copied}
 use Rattle.rdl_tree.specs.Address.{holder_of}
 use Rattle.rdl_tree.specs.Items.{count}
 use Rattle.rdl_tree.specs.View.{items_of}
@@ -20,5 +20,5 @@ invariant-push_body-items l = record {
       ≡ fate_patches (fate l.self.whole.now.items l.self.way.now (option_copied l.self.name)) l.at l.number (items_of (drop l.number l.found-items)) ++ reverse l.patches.items;
   led : IsLed l.self.whole.now.items l.self.way.now (l.at ++ l.number ∷ []) l.led;
   inside_led : IsLed l.self.whole.now.items (holder_of l.self.way.now) (l.at ++ l.number ∷ []) l.inside_led;
-  firsts : AreFirsts l.self.whole.now.items (holder_of l.self.way.now) l.at l.number l.firsts;
+  firsts : l.assigns ≡ true → AreFirsts l.self.whole.now.items (holder_of l.self.way.now) l.at l.number l.firsts;
 }

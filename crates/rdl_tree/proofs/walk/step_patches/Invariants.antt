@@ -1,7 +1,7 @@
 use Rattle.std.proofs.Common.{◌≡◌, ◌++◌, ◌+◌, ◌≤◌, length}
 use Rattle.std.specs.Prelude.{reverse, vec_capacity}
 use Rattle.rdl_tree.specs.Way.{backs}
-use Rattle.rdl_tree.proofs.walk.patches_back.Given as goal
+use Rattle.rdl_tree.proofs.walk.step_patches.Given as goal
 
 abbrev pub invariant-steps : goal.invariant-steps
 invariant-steps l = record {
