@@ -91,6 +91,13 @@ impl Name {
         Ok(Name { text })
     }
 
+    /// What each name is. It does nothing when it runs.
+    pub fn is_name(&self)
+        ensures { IsName self.now }
+    {
+        let _text = &self.text;
+    }
+
     pub fn as_str(&self) -> &str
         ensures { result.now ≡ self.now }
     {
