@@ -1,6 +1,6 @@
 -- Rows whose paths have marks that all differ have no two macros of one name: a name begins with the path of its row, and ends with
 -- an ending, which has one underscore, in front.
-use Rattle.std.proofs.Common.{◌≡◌, ◌≤◌, ◌<◌, ◌+◌, ℕ, zero, suc, Bool, true, false, List, [], ◌∷◌, ◌++◌, Some, None, map, codes, refl, ap, subst, sym, ◌∙◌, arith}
+use Rattle.std.proofs.Common.{◌≡◌, ◌≤◌, ◌+◌, ℕ, zero, suc, Bool, true, false, List, [], ◌∷◌, ◌++◌, Some, None, map, codes, refl, ap, subst, sym, ◌∙◌, arith}
 use Rattle.std.proofs.lemmas.Cmp.{eq_by_cmp_equiv, nat_cmp_total}
 use Rattle.std.proofs.lemmas.Fmt.{decimal_digit}
 use Rattle.std.proofs.lemmas.List.{map-append}
@@ -19,8 +19,8 @@ use Rattle.rdl_elab.specs.declared.row.Extent.{Extent}
 use Rattle.rdl_elab.specs.declared.row.Place.{Place}
 use Rattle.rdl_elab.specs.declared.row.Place.TheVariants.{Bytes, Bits}
 use Rattle.rdl_elab.specs.declared.row.Row.{Row}
-use Rattle.rdl_header.specs.HeaderText.{Macro, path_text, hexadecimal_macro, word_macros, array_macros, bytes_macros, mask, mask_macros, reset_macros, width, width_macros, bits_macros, macros_at, macros_of, register_behind, macros_below, guard, macros, is_defined, clash_behind, first_clash}
-use Rattle.rdl_header.specs.Marks.{mark, is_narrow, row_marks, path_marks}
+use Rattle.rdl_header.specs.HeaderText.{Macro, path_text, hexadecimal_macro, word_macros, bytes_macros, mask, mask_macros, reset_macros, width, width_macros, bits_macros, macros_at, macros_of, register_behind, macros_below, macros, is_defined, clash_behind, first_clash}
+use Rattle.rdl_header.specs.Marks.{mark, is_narrow, path_marks}
 
 -- ---- Marks.
 
