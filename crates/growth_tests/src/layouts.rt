@@ -1,11 +1,11 @@
 //! Layouts that are kept, laid out again. Where memory is wanted, the rows and the count of placements are as before, and the
 //! same call then succeeds.
-ghost use Rattle.rdl_elab.specs.AllKept.{AreOf};
+ghost use Rattle.rdl_kept.specs.AllKept.{AreOf};
 
 use crate::calls::{description, fault_answer};
 use crate::examples::{FOUR_WRITTEN, THREE};
 use crate::{Answer, assert_answered, is_same};
-use rdl_elab::kept::Kept;
+use rdl_kept::kept::Kept;
 use rdl_list::list_text;
 use rdl_tree::description::Description;
 use std::alloc::{AllocError, Global};

@@ -6,7 +6,7 @@ use crate::parse::description;
 use crate::tree::address;
 use journal_core::journal::Journal;
 use rdl_edit::map::Map;
-use rdl_elab::kept::Kept;
+use rdl_kept::kept::Kept;
 use rdl_elab::layout::Mode;
 use std::alloc::{AllocError, Global};
 use std::process::Abort;

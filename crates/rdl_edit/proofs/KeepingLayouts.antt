@@ -30,7 +30,7 @@ use Rattle.rdl_rewrite.specs.declared.edit.Edit.TheVariants.{Add, Remove, Rename
 use Rattle.rdl_rewrite.specs.declared.edit.PatchRefusal.TheVariants.{NotAnInstance}
 use Rattle.rdl_rewrite.specs.declared.fate.Fate.{Fate}
 use Rattle.rdl_rewrite.specs.declared.fate.Fate.TheVariants.{Kept, Dropped, Given}
-use Rattle.rdl_elab.specs.Skeleton.{skeleton}
+use Rattle.rdl_kept.specs.Skeleton.{skeleton}
 use Rattle.rdl_edit.specs.Still.{is_shift, moves_any, is_still_edit, keeps_layouts}
 use Rattle.rdl_edit.proofs.NewNames.{renaming-same}
 use Rattle.rdl_edit.proofs.StillEdits.{still-edit}

@@ -29,10 +29,10 @@ use Rattle.rdl_rewrite.specs.Addresses.{same, leads_to}
 use Rattle.rdl_rewrite.specs.Names.{holder_names, defined_names, has_name}
 use Rattle.rdl_rewrite.specs.declared.edit.PatchRefusal.TheVariants.{NameTaken, Reserved}
 use Rattle.rdl_rewrite.specs.Renaming.{renamed_shell, renamed_items, is_taken, is_reserved, renamed}
-use Rattle.rdl_elab.specs.Skeleton.{lays_out, skeleton_shell, number_in, skeleton_type, skeleton_in, skeleton}
+use Rattle.rdl_kept.specs.Skeleton.{lays_out, skeleton_shell, number_in, skeleton_type, skeleton_in, skeleton}
 use Rattle.rdl_elab.proofs.PartsFound.{item-here}
-use Rattle.rdl_elab.proofs.Skeletons.{names}
-use Rattle.rdl_elab.proofs.StandingIn.{body-inside}
+use Rattle.rdl_kept.proofs.Skeletons.{names}
+use Rattle.rdl_kept.proofs.StandingIn.{body-inside}
 
 -- ---- A component has a body.
 

@@ -22,8 +22,8 @@ use Rattle.rdl_tree.proofs.Places.{item_at-place, stands, the_item}
 use Rattle.rdl_tree.proofs.Rounds.{list_of-add}
 use Rattle.rdl_tree.proofs.Undone.{part_in}
 use Rattle.rdl_elab.specs.StandIns.{has_name}
-use Rattle.rdl_elab.specs.Tracked.{Tracked, nothing, comes, goes, named_stays, own_stays, default_stays, dynamic_stays, define_stays, anonymous_stays, old_of, new_of, untouched}
-use Rattle.rdl_elab.specs.EditedBodies.{StaysNamed, StaysCalled, NamesStay, is_peopled_anew}
+use Rattle.rdl_kept.specs.Tracked.{Tracked, nothing, comes, goes, named_stays, own_stays, default_stays, dynamic_stays, define_stays, anonymous_stays, old_of, new_of, untouched}
+use Rattle.rdl_kept.specs.EditedBodies.{StaysNamed, StaysCalled, NamesStay, is_peopled_anew}
 use Rattle.rdl_edit.specs.Tracking.{brought, taken, brought_back, shifted, exchanged, with_body, at_item, at_body, tracked, tracked_along, KeepsNameIfThere, SetNoName, HasNoName, BringNone, TakeNone}
 use Rattle.rdl_edit.proofs.TrackedPatches.{new-tracked}
 

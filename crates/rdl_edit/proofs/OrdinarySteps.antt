@@ -15,8 +15,8 @@ use Rattle.rdl_tree.specs.declared.patch.Patch.{Patch}
 use Rattle.rdl_tree.specs.declared.patch.Patch.TheVariants.{Insert, Delete, Shift, Exchange}
 use Rattle.rdl_tree.proofs.Places.{stands, the_item}
 use Rattle.rdl_elab.specs.StandIns.{has_name, goes_by_name}
-use Rattle.rdl_elab.specs.Tracked.{Tracked, nothing, comes, goes, named_stays, own_stays, default_stays, dynamic_stays, define_stays, anonymous_stays, old_of, new_of, untouched, staying}
-use Rattle.rdl_elab.specs.EditedBodies.{NamesStay, is_peopled_anew, tracked_at, GoByName}
+use Rattle.rdl_kept.specs.Tracked.{Tracked, nothing, comes, goes, named_stays, own_stays, default_stays, dynamic_stays, define_stays, anonymous_stays, old_of, new_of, untouched, staying}
+use Rattle.rdl_kept.specs.EditedBodies.{NamesStay, is_peopled_anew, tracked_at, GoByName}
 use Rattle.rdl_edit.specs.Placing.{reordered}
 use Rattle.rdl_edit.specs.Tracking.{brought, taken, brought_back, shifted, at_item, at_body, tracked_step, SetNoName, BringNone, TakeNone, MoveOne, GoesOneWay, moves, brings, takes, IsOrdinary}
 use Rattle.rdl_edit.proofs.OneWaySteps.{Follows, names-stay, untouched-follows, name-with-body, none-comes, none-goes, shift-follows, one_if, count-people, more, fewer}

@@ -10,10 +10,11 @@ use Rattle.rdl_scope.specs.ItemFaults.{fault_of, out_of_memory}
 use Rattle.rdl_rewrite.specs.Patches.{patches}
 use Rattle.rdl_rewrite.specs.Rewritten.{rewritten}
 use Rattle.rdl_rewrite.specs.declared.edit.Edit.{Edit}
-use Rattle.rdl_elab.specs.AllKept.{KeptLayouts, AreOf, instances_at}
+use Rattle.rdl_kept.specs.AllKept.{KeptLayouts, AreOf}
+use Rattle.rdl_elab.specs.Anew.{instances_at}
 use Rattle.rdl_elab.specs.Faults.{unless_fault, elaborated}
-use Rattle.rdl_elab.specs.Reach.{in_reach, AreUnchangedBut}
-use Rattle.rdl_elab.specs.Skeleton.{skeleton}
+use Rattle.rdl_kept.specs.Reach.{in_reach, AreUnchangedBut}
+use Rattle.rdl_kept.specs.Skeleton.{skeleton}
 use Rattle.rdl_elab.specs.declared.row.Row.{Row}
 use Rattle.rdl_edit.specs.Keeping.{Keeps}
 use Rattle.rdl_edit.specs.Placing.{IsFew, KeepsLayouts, reordered}

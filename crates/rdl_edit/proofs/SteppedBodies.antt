@@ -8,14 +8,14 @@ use Rattle.rdl_scope.specs.ItemFaults.{fault_of}
 use Rattle.rdl_rewrite.specs.Patches.{patches}
 use Rattle.rdl_rewrite.specs.declared.edit.Edit.{Edit}
 use Rattle.rdl_rewrite.specs.declared.edit.Edit.TheVariants.{Rename}
-use Rattle.rdl_elab.specs.AllKept.{instances_at}
-use Rattle.rdl_elab.specs.EditedBodies.{edits, is_changed_at}
-use Rattle.rdl_elab.specs.Reach.{in_reach, AreUnchangedBut}
-use Rattle.rdl_elab.specs.Tracked.{Tracked, old_of, new_of, untouched}
-use Rattle.rdl_elab.proofs.TrackedChanges.{rest-unchanged}
-use Rattle.rdl_elab.proofs.TrackedRest.{rest-unedited}
-use Rattle.rdl_elab.proofs.TrackedStandIns.{stands-by-names}
-use Rattle.rdl_elab.proofs.TrackedUnchanged.{stands-unchanged}
+use Rattle.rdl_elab.specs.Anew.{instances_at}
+use Rattle.rdl_kept.specs.EditedBodies.{edits, is_changed_at}
+use Rattle.rdl_kept.specs.Reach.{in_reach, AreUnchangedBut}
+use Rattle.rdl_kept.specs.Tracked.{Tracked, old_of, new_of, untouched}
+use Rattle.rdl_kept.proofs.TrackedChanges.{rest-unchanged}
+use Rattle.rdl_kept.proofs.TrackedRest.{rest-unedited}
+use Rattle.rdl_kept.proofs.TrackedStandIns.{stands-by-names}
+use Rattle.rdl_kept.proofs.TrackedUnchanged.{stands-unchanged}
 use Rattle.rdl_edit.specs.Placing.{IsFew, reordered}
 use Rattle.rdl_edit.specs.Still.{keeps_layouts}
 use Rattle.rdl_edit.specs.Tracking.{tracked_step, steps_edit, steps_change, IsOrdinary, is_rename}

@@ -14,12 +14,12 @@ use Rattle.rdl_tree.specs.declared.description.Of.{Of}
 use Rattle.rdl_scope.specs.ItemFaults.{fault_of}
 use Rattle.rdl_scope.specs.OneItem.{NoOtherFault}
 use Rattle.rdl_scope.proofs.OneChange.{new_shell, new_value, last_dynamic}
-use Rattle.rdl_elab.specs.HarmlessPlaces.{IsLast}
-use Rattle.rdl_elab.specs.Skeleton.{skeleton}
-use Rattle.rdl_elab.specs.Harmless.{IsHarmless}
-use Rattle.rdl_elab.proofs.HarmlessPatches.{keeps_rows}
-use Rattle.rdl_elab.proofs.Renamings as renamings
-use Rattle.rdl_elab.specs.Renaming.{IsRenamingPatch}
+use Rattle.rdl_kept.specs.HarmlessPlaces.{IsLast}
+use Rattle.rdl_kept.specs.Skeleton.{skeleton}
+use Rattle.rdl_kept.specs.Harmless.{IsHarmless}
+use Rattle.rdl_kept.proofs.HarmlessPatches.{keeps_rows}
+use Rattle.rdl_kept.proofs.Renamings as renamings
+use Rattle.rdl_kept.specs.Renaming.{IsRenamingPatch}
 use Rattle.rdl_edit.specs.Still.{is_still, IsStillPart, IsStill}
 use Rattle.rdl_edit.specs.Touching.{IsStillShell, IsAlone, KeepsRows, is_dynamic}
 use Rattle.rdl_edit.proofs.Staying.{skeleton-stays}

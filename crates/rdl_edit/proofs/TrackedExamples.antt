@@ -12,8 +12,8 @@ use Rattle.rdl_tree.specs.declared.patch.Patch.{Patch}
 use Rattle.rdl_tree.specs.declared.patch.Patch.TheVariants.{Insert, Delete, Shift, Exchange}
 use Rattle.rdl_tree.specs.declared.shell.Kind.TheVariants.{Addrmap, Regfile, Reg, Field}
 use Rattle.rdl_tree.specs.declared.value.Value.TheVariants.{Number}
-use Rattle.rdl_elab.specs.AllKept.{instances_at}
-use Rattle.rdl_elab.specs.Reach.{in_reach}
+use Rattle.rdl_elab.specs.Anew.{instances_at}
+use Rattle.rdl_kept.specs.Reach.{in_reach}
 use Rattle.rdl_edit.specs.Tracking.{steps_edit, steps_change}
 
 -- field {} f;

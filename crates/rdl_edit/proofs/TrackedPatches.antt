@@ -15,7 +15,7 @@ use Rattle.rdl_tree.specs.declared.part.Part.TheVariants.{OfShell, OfValue, OfTa
 use Rattle.rdl_tree.specs.declared.patch.Patch.{Patch}
 use Rattle.rdl_tree.specs.declared.patch.Patch.TheVariants.{Insert, Delete, Shift, Exchange}
 use Rattle.rdl_tree.proofs.Rounds.{list_of-add, list_of-items_of, items_of-list_of}
-use Rattle.rdl_elab.specs.Tracked.{Tracked, nothing, comes, goes, named_stays, own_stays, default_stays, dynamic_stays, define_stays, anonymous_stays, old_of, new_of, untouched}
+use Rattle.rdl_kept.specs.Tracked.{Tracked, nothing, comes, goes, named_stays, own_stays, default_stays, dynamic_stays, define_stays, anonymous_stays, old_of, new_of, untouched}
 use Rattle.rdl_edit.specs.Tracking.{brought, taken, brought_back, shifted, set_first, exchanged, with_body, at_item, at_body, tracked, tracked_along}
 
 -- ---- Before any step.

@@ -14,7 +14,7 @@ use Rattle.rdl_edit.specs.declared.resuming.Direction.TheVariants as way
 use Rattle.std.proofs.lemmas.Bool.Decides.{Decides-eqb}
 use Rattle.std.specs.List.{list_all}
 use Rattle.std.specs.Prelude.{◌&&◌, if◌then◌else◌}
-use Rattle.rdl_elab.specs.AllKept.{KeptLayouts}
+use Rattle.rdl_kept.specs.AllKept.{KeptLayouts}
 use Rattle.rdl_tree.specs.Items.{Items}
 use Rattle.rdl_tree.specs.Patch.{AllFit, patched, image}
 use Rattle.rdl_tree.specs.declared.patch.Patch.{Patch}

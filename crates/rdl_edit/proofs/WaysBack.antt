@@ -8,7 +8,7 @@ use Rattle.rdl_tree.specs.declared.patch.Patch.{Patch}
 use Rattle.rdl_tree.proofs.Patching.{image-inverses, length-inverses}
 use Rattle.rdl_tree.proofs.Nesting.{AllFit-inverses}
 use Rattle.rdl_tree.proofs.PatchWeights.{weight-inverses}
-use Rattle.rdl_elab.specs.AllKept.{KeptLayouts}
+use Rattle.rdl_kept.specs.AllKept.{KeptLayouts}
 use Rattle.rdl_elab.specs.Faults.{elaborated}
 use Rattle.rdl_edit.specs.Backs.{IsWayBack, IsCheap, Reversal, Fits}
 use Rattle.rdl_edit.specs.Keeping.{Keeps}

@@ -1,7 +1,8 @@
 -- What a map keeps beside its description: the layouts of its components.
 -- own: SystemRDL 2.0 has no edits.
 use Rattle.std.specs.Prelude.{◌≡◌, ◌≤◌, ◌*◌, ℕ}
-use Rattle.rdl_elab.specs.AllKept.{KeptLayouts, AreOf, all_instances}
+use Rattle.rdl_kept.specs.AllKept.{KeptLayouts, AreOf}
+use Rattle.rdl_elab.specs.Anew.{all_instances}
 use Rattle.rdl_edit.specs.Step.{State}
 
 -- they are those of this description with this top, so it has no fault

@@ -7,9 +7,9 @@ use Rattle.rdl_tree.specs.Items.{Items}
 use Rattle.rdl_tree.specs.Patch.{image}
 use Rattle.rdl_tree.specs.declared.patch.Patch.{Patch}
 use Rattle.rdl_tree.specs.declared.patch.Patch.TheVariants.{Insert, Delete, Shift, Exchange}
-use Rattle.rdl_elab.specs.AllKept.{instances_at}
-use Rattle.rdl_elab.specs.Reach.{in_reach, AreUnchangedBut}
-use Rattle.rdl_elab.specs.Skeleton.{skeleton}
+use Rattle.rdl_elab.specs.Anew.{instances_at}
+use Rattle.rdl_kept.specs.Reach.{in_reach, AreUnchangedBut}
+use Rattle.rdl_kept.specs.Skeleton.{skeleton}
 use Rattle.rdl_edit.specs.Still.{moves_any}
 
 -- a step that moves no item and leaves all on which layouts depend as it was

@@ -13,8 +13,8 @@ use Rattle.rdl_tree.specs.declared.patch.Patch.{Patch}
 use Rattle.rdl_tree.specs.declared.patch.Patch.TheVariants.{Insert, Delete, Shift, Exchange}
 use Rattle.rdl_rewrite.specs.declared.edit.Edit.{Edit}
 use Rattle.rdl_rewrite.specs.declared.edit.Edit.TheVariants.{Rename, SetReset, SetOwn, SetDefault, ClearOwn, ClearDefault, Assign, Unassign}
-use Rattle.rdl_elab.specs.Reach.{SaysTheSame}
-use Rattle.rdl_elab.specs.Skeleton.{lays_out}
+use Rattle.rdl_kept.specs.Reach.{SaysTheSame}
+use Rattle.rdl_kept.specs.Skeleton.{lays_out}
 
 -- an assignment to what stands inside an instance, or of a property on which no layout depends
 abbrev pub is_still : Item → Bool

@@ -11,11 +11,11 @@ use Rattle.rdl_tree.specs.declared.description.Item.TheVariants.{Instance, Dynam
 use Rattle.rdl_tree.specs.declared.shell.Shell.{Shell}
 use Rattle.rdl_scope.specs.ItemFaults.{fault_of}
 use Rattle.rdl_scope.specs.OneItem.{NoOtherFault}
-use Rattle.rdl_elab.specs.AllKept.{KeptLayouts}
+use Rattle.rdl_kept.specs.AllKept.{KeptLayouts}
 use Rattle.rdl_elab.specs.Known.{HasRows}
-use Rattle.rdl_elab.specs.SameSkeleton.{HasSameSkeleton}
-use Rattle.rdl_elab.specs.Reach.{SaysTheSame}
-use Rattle.rdl_elab.specs.Skeleton.{skeleton}
+use Rattle.rdl_kept.specs.SameSkeleton.{HasSameSkeleton}
+use Rattle.rdl_kept.specs.Reach.{SaysTheSame}
+use Rattle.rdl_kept.specs.Skeleton.{skeleton}
 use Rattle.rdl_edit.specs.declared.touched.Touched.{Touched}
 use Rattle.rdl_edit.specs.declared.touched.Touched.TheVariants.{Any, One, Still, Harmless, Renamed}
 

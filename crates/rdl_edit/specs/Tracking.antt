@@ -18,8 +18,8 @@ use Rattle.rdl_tree.specs.declared.patch.Patch.TheVariants.{Insert, Delete, Shif
 use Rattle.rdl_rewrite.specs.declared.edit.Edit.{Edit}
 use Rattle.rdl_rewrite.specs.declared.edit.Edit.TheVariants.{Rename}
 use Rattle.rdl_elab.specs.StandIns.{has_name}
-use Rattle.rdl_elab.specs.Tracked.{Tracked, nothing, comes, goes, named_stays, own_stays, default_stays, dynamic_stays, define_stays, anonymous_stays, old_of, new_of, untouched}
-use Rattle.rdl_elab.specs.EditedBodies.{edits, is_changed_at}
+use Rattle.rdl_kept.specs.Tracked.{Tracked, nothing, comes, goes, named_stays, own_stays, default_stays, dynamic_stays, define_stays, anonymous_stays, old_of, new_of, untouched}
+use Rattle.rdl_kept.specs.EditedBodies.{edits, is_changed_at}
 
 -- ---- In one body. Items have the numbers that they have after the step.
 

@@ -3,9 +3,9 @@ ghost use Rattle.std.specs.Prelude.{◌≡◌, ◌≤◌, ◌⊎◌, true, false
 ghost use Rattle.rdl_tree.specs.Items.{Items};
 ghost use Rattle.rdl_tree.specs.Patch.{AllFit, image, inverses};
 ghost use Rattle.rdl_tree.specs.declared.patch.Patch.{Patch};
-ghost use Rattle.rdl_elab.specs.EditedBodies.{NamesStay, GoByName};
-ghost use Rattle.rdl_elab.specs.Tracked.{Tracked, old_of, new_of, untouched};
-ghost use Rattle.rdl_elab.specs.Skeleton.{skeleton};
+ghost use Rattle.rdl_kept.specs.EditedBodies.{NamesStay, GoByName};
+ghost use Rattle.rdl_kept.specs.Tracked.{Tracked, old_of, new_of, untouched};
+ghost use Rattle.rdl_kept.specs.Skeleton.{skeleton};
 ghost use Rattle.rdl_edit.specs.Step.{State, HasRows, Leads};
 ghost use Rattle.rdl_edit.specs.Still.{AreStill, moves_any, is_still_edit, keeps_layouts};
 ghost use Rattle.rdl_edit.specs.Backs.{Reversal, Fits, prior};

@@ -18,7 +18,7 @@ use crate::back::Back;
 use crate::refusal::is_memory;
 use crate::touched::{Touched, touched_by};
 use crate::turning::lay_out;
-use rdl_elab::kept::Kept;
+use rdl_kept::kept::Kept;
 use rdl_tree::description::Description;
 use rdl_tree::fault::Fault;
 use rdl_tree::patch::Patch;

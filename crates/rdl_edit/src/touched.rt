@@ -4,11 +4,11 @@ ghost use Rattle.rdl_tree.specs.Depth.{depth};
 ghost use Rattle.rdl_tree.specs.Patch.{patched, image};
 ghost use Rattle.rdl_scope.specs.ItemFaults.{fault_of};
 ghost use Rattle.rdl_scope.specs.OneItem.{NoOtherFault};
-ghost use Rattle.rdl_elab.specs.Skeleton.{skeleton, lays_out};
+ghost use Rattle.rdl_kept.specs.Skeleton.{skeleton, lays_out};
 ghost use Rattle.rdl_edit.specs.Still.{is_still, IsStill, IsStillPart};
 ghost use Rattle.rdl_edit.specs.Touching.{IsTouched, IsStillShell, IsNamesake, IsValue, IsAlone, is_dynamic};
 
-use rdl_elab::harmless::{is_harmless, is_last, is_renaming, says_the_same};
+use rdl_kept::harmless::{is_harmless, is_last, is_renaming, says_the_same};
 use rdl_text::name::Name;
 use rdl_tree::address::Address;
 use rdl_tree::description::{Description, Item};

@@ -2,11 +2,12 @@
 ghost use Rattle.std.specs.Prelude.{◌≡◌, ◌⊎◌, ◌≤◌, ◌*◌, ℕ, Bool, List, Err, IfOk, IfErr, OnOk, OnErr, option_copied};
 ghost use Rattle.rdl_tree.specs.Items.{Items};
 ghost use Rattle.rdl_scope.specs.ItemFaults.{out_of_memory};
-ghost use Rattle.rdl_elab.specs.AllKept.{AreOf, all_instances, instances_at};
+ghost use Rattle.rdl_kept.specs.AllKept.{AreOf};
+ghost use Rattle.rdl_elab.specs.Anew.{all_instances, instances_at};
 ghost use Rattle.rdl_elab.specs.Faults.{elaborated};
 ghost use Rattle.rdl_elab.specs.Known.{HasRows as HasRowsWith};
-ghost use Rattle.rdl_elab.specs.Reach.{in_reach, AreUnchangedBut};
-ghost use Rattle.rdl_elab.specs.Skeleton.{skeleton};
+ghost use Rattle.rdl_kept.specs.Reach.{in_reach, AreUnchangedBut};
+ghost use Rattle.rdl_kept.specs.Skeleton.{skeleton};
 ghost use Rattle.rdl_tree.specs.Depth.{depth};
 ghost use Rattle.rdl_tree.specs.Patch.{AllFit, image, inverses};
 ghost use Rattle.rdl_edit.specs.Backs.{IsWayBack, IsCheap};
@@ -18,7 +19,7 @@ ghost use Rattle.rdl_edit.specs.Touching.{IsKnown, IfStill};
 
 use crate::refusal::{Refusal, is_memory};
 use crate::touched::{Touched, keeps_skeleton, touched_by};
-use rdl_elab::kept::Kept;
+use rdl_kept::kept::Kept;
 use rdl_tree::description::Description;
 use rdl_tree::fault::Fault;
 use rdl_tree::patch::Patch;

@@ -25,7 +25,7 @@ use Rattle.rdl_elab.specs.Words.{spelling, is_among}
 use Rattle.rdl_elab.specs.Kept.{Stored}
 use Rattle.rdl_elab.specs.Taken.{WasKept}
 use Rattle.rdl_elab.specs.Finishes.{IsLaidOut, AreLaidOut}
-use Rattle.rdl_elab.specs.AllKept.{how_many, AreKept, all_spans, new_spans}
+use Rattle.rdl_elab.specs.Anew.{how_many, AreKept, all_spans, new_spans}
 
 -- a layout has a span for each instance, and that of a field none
 spans-length : (around : Option ℕ) (m : Mode) (end : ℕ) (ps : List Placement) → length (spans_from around m end ps) ≡ length ps

@@ -17,7 +17,7 @@ use Rattle.rdl_elab.specs.declared.finished.Finished.{Finished}
 use Rattle.rdl_elab.specs.declared.layout.LayoutValues.{LayoutValues}
 use Rattle.rdl_elab.specs.declared.layout.Mode.{Mode}
 use Rattle.rdl_elab.specs.declared.layout.Mode.TheVariants.{Regalign}
-use Rattle.rdl_elab.specs.AllKept.{fault_in}
+use Rattle.rdl_elab.specs.Faults.{fault_in}
 use Rattle.rdl_elab.specs.declared.layout.Span.{Span}
 use Rattle.rdl_elab.specs.declared.row.PropertyValue.{PropertyValue}
 use Rattle.rdl_elab.specs.declared.row.Row.{Row}

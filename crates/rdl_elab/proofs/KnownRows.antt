@@ -10,7 +10,7 @@ use Rattle.rdl_tree.specs.declared.fault.Fault.{Fault}
 use Rattle.rdl_tree.specs.declared.fault.FaultKind.TheVariants.{DescriptionTooLarge}
 use Rattle.rdl_scope.specs.ItemFaults.{first_fault, is_too_large, fault_of}
 use Rattle.rdl_elab.specs.declared.row.Row.{Row}
-use Rattle.rdl_elab.specs.AllKept.{fault_in}
+use Rattle.rdl_elab.specs.Faults.{fault_in}
 use Rattle.rdl_elab.specs.Faults.{elaborated, top_from, unless_fault, with_top}
 use Rattle.rdl_elab.specs.Known.{HasRows}
 use Rattle.rdl_elab.proofs.KeptAnswers.{judged-top}

@@ -150,3 +150,8 @@ unless_fault d wanted (Some fault) = Err fault
 
 abbrev pub elaborated : Items → Option (List ℕ) → Result (List Row) Fault
 elaborated d wanted = unless_fault d wanted (fault_of d)
+
+-- what is wrong, if there is no answer
+abbrev pub fault_in : {X : Type 0} → Result X Fault → Option Fault
+fault_in (Ok x) = None
+fault_in (Err f) = Some f

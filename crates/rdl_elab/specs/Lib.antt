@@ -30,9 +30,6 @@ pub mod Stored
 pub mod Taken
 pub mod StandIns
 pub mod Finishes
-pub mod AllKept
-pub mod Reach
-pub mod Skeleton
 pub mod Numbers
 pub mod Stands
 pub mod TypeStacks
@@ -41,10 +38,5 @@ pub mod OwnValues
 pub mod Tops
 pub mod Known
 pub mod Found
-pub mod Tracked
-pub mod EditedBodies
 pub mod StatedValues
-pub mod SameSkeleton
-pub mod Harmless
-pub mod HarmlessPlaces
-pub mod Renaming
+pub mod Anew

@@ -1,6 +1,6 @@
 //! Components below which no row has a fault, each judged once for all its instances.
 ghost use Rattle.std.specs.Prelude.{◌≡◌, ◌++◌, ◌∷◌, [], List, true, Some, None, IfOk, option_and_then, slice_get};
-ghost use Rattle.rdl_elab.specs.AllKept.{fault_in};
+ghost use Rattle.rdl_elab.specs.Faults.{fault_in};
 ghost use Rattle.rdl_elab.specs.Clean.{AreClean, AreCleanIn, IsCleanIn, bits_inside, has_mode};
 ghost use Rattle.rdl_elab.specs.Finished.{under};
 ghost use Rattle.rdl_elab.specs.declared.finished.Finished.{Finished};

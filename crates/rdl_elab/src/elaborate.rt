@@ -55,7 +55,7 @@ fn fault_at(address: &Address, kind: FaultKind) -> Fault
 
 /// A definition of an address map among the items of the root. A contract sees its number and its name.
 #[derive(Drop)]
-pub(crate) struct Top<'a> {
+pub struct Top<'a> {
     pub number: usize,
     pub name: &'a Name,
 }
@@ -273,7 +273,7 @@ fn find_top<'a>(description: &'a Description, wanted: Option<&str>) -> Option<To
 }
 
 /// The top of a map that is known to have rows.
-pub(crate) fn known_top<'a>(description: &'a Description, wanted: Option<&str>) -> Top<'a>
+pub fn known_top<'a>(description: &'a Description, wanted: Option<&str>) -> Top<'a>
     requires { HasRows description.now.items (option_copied wanted) }
     ensures faultless { fault_of description.now.items ≡ None }
     ensures nesting { depth description.now.items ≤ 16 }
@@ -298,7 +298,7 @@ fn top_of<'a>(description: &'a Description, wanted: Option<&str>) -> Result<Top<
 }
 
 /// The top, if no item has a fault. Otherwise the first fault: those of `rdl_scope::faults::check`, and E13.
-pub(crate) fn checked_top<'a>(
+pub fn checked_top<'a>(
     alloc: Global,
     description: &'a Description,
     wanted: Option<&str>,
@@ -314,7 +314,7 @@ pub(crate) fn checked_top<'a>(
 
 /// The top of a description in which no item but the one at this address may have a fault, or the first fault of an item, or
 /// that there is no top.
-pub(crate) fn checked_top_but<'a>(
+pub fn checked_top_but<'a>(
     alloc: Global,
     description: &'a Description,
     wanted: Option<&str>,
@@ -331,7 +331,7 @@ pub(crate) fn checked_top_but<'a>(
 }
 
 /// The rows of a map that is known to have them. Its items aren't checked again.
-pub(crate) fn known_rows(
+pub fn known_rows(
     alloc: Global,
     description: &Description,
     wanted: Option<&str>,

@@ -109,7 +109,7 @@ pub(crate) struct ThreeLayouts {
 
 impl ThreeLayouts {
     ghost use Rattle.std.specs.Prelude.{◌≡◌, ◌≤◌};
-    ghost use Rattle.rdl_elab.specs.AllKept.{all_spans};
+    ghost use Rattle.rdl_elab.specs.Anew.{all_spans};
     ghost use Rattle.rdl_elab.specs.EachMode.{of_three};
     ghost use Rattle.rdl_elab.specs.Finished.{under};
 
@@ -158,7 +158,7 @@ impl Model for Layouts {
 
 impl Layouts {
     ghost use Rattle.std.specs.Prelude.{◌≡◌, ◌≤◌, true, IfOk};
-    ghost use Rattle.rdl_elab.specs.AllKept.{all_spans};
+    ghost use Rattle.rdl_elab.specs.Anew.{all_spans};
     ghost use Rattle.rdl_elab.specs.declared.layout.Mode.{Mode};
     ghost use Rattle.rdl_elab.specs.declared.layout.Mode.TheVariants.{Compact};
     ghost use Rattle.rdl_elab.specs.EachMode.{of_three};

@@ -32,7 +32,7 @@ impl Model for SharedLayouts {
 
 impl SharedLayouts {
     ghost use Rattle.std.specs.Prelude.{◌≡◌, ◌≤◌, true, IfOk};
-    ghost use Rattle.rdl_elab.specs.AllKept.{all_spans};
+    ghost use Rattle.rdl_elab.specs.Anew.{all_spans};
     ghost use Rattle.rdl_elab.specs.declared.layout.Mode.{Mode};
     ghost use Rattle.rdl_elab.specs.declared.layout.Mode.TheVariants.{Compact};
     ghost use Rattle.rdl_elab.specs.Finished.{under};

@@ -1,5 +1,5 @@
 //! What the definitions have in common. Each function here is a law: it does nothing when it runs.
-ghost use Rattle.std.specs.Prelude.{◌≡◌, ◌++◌, ◌∷◌, [], ℕ, Bool, List, map, Option, Some, None, true, false};
+ghost use Rattle.std.specs.Prelude.{◌≡◌, ◌++◌, ◌∷◌, [], ℕ, List, map, Option, Some, None, true};
 ghost use Rattle.rdl_tree.specs.ItemAt.{item_at};
 ghost use Rattle.rdl_tree.specs.Items.{Items};
 ghost use Rattle.rdl_tree.specs.declared.shell.Kind.{Kind};
@@ -8,10 +8,6 @@ ghost use Rattle.rdl_tree.specs.declared.property.Property.{Property};
 ghost use Rattle.rdl_tree.specs.declared.value.Value.{Value};
 ghost use Rattle.rdl_tree.specs.declared.description.Of.{Of};
 ghost use Rattle.rdl_tree.specs.declared.description.Item.TheVariants.{Instance};
-ghost use Rattle.rdl_tree.specs.declared.patch.Patch.{Patch};
-ghost use Rattle.rdl_tree.specs.declared.patch.Patch.TheVariants.{Exchange};
-ghost use Rattle.rdl_tree.specs.declared.part.Part.TheVariants.{OfShell};
-ghost use Rattle.rdl_tree.specs.Patch.{patched};
 ghost use Rattle.rdl_scope.specs.Closed.{Head, Parts, Made, component, instances};
 ghost use Rattle.rdl_scope.specs.Target.{body_of};
 ghost use Rattle.rdl_scope.specs.Value.{assigned, component_value};
@@ -29,16 +25,6 @@ ghost use Rattle.rdl_elab.specs.Shown.{shown_values};
 ghost use Rattle.rdl_elab.specs.Reaches.{reaches, reaches_at, behind, along, reached, values_along};
 ghost use Rattle.rdl_elab.specs.Found.{ArePartsFound};
 ghost use Rattle.rdl_elab.specs.Faults.{overlap, SharesANumber};
-ghost use Rattle.rdl_elab.specs.AllKept.{IsAsBeforeBut, instances_at};
-ghost use Rattle.rdl_elab.specs.Reach.{in_reach, IsInReach, AreUnchangedBut};
-ghost use Rattle.rdl_elab.specs.Written.{all_layouts};
-ghost use Rattle.rdl_elab.specs.Skeleton.{skeleton};
-ghost use Rattle.rdl_elab.specs.Tracked.{Tracked, old_of, new_of};
-ghost use Rattle.rdl_elab.specs.EditedBodies.{edits, is_changed_at, NamesStay, GoByName};
-ghost use Rattle.rdl_elab.specs.Known.{HasRows};
-ghost use Rattle.rdl_elab.specs.Harmless.{IsHarmless};
-ghost use Rattle.rdl_elab.specs.Renaming.{IsRenaming};
-ghost use Rattle.rdl_scope.specs.ItemFaults.{fault_of};
 
 /// An instance without `@` begins at the least number that is at least the end of the instance before it and a multiple
 /// of each of its alignments; and an array in fullalign is aligned by the least power of two that holds it.
@@ -93,53 +79,4 @@ pub fn values_are_along()
     ensures row { (d : Items) (path : List (List ℕ)) (at : List ℕ) (s : Shell) (o : Of) (h : Head) (inside : Parts) → item_at at d ≡ Some (Instance s o) → component d h.at ≡ Some (record { head = h; parts = inside }) → values_along h.kind s.reset (along d [] (path ++ at ∷ [])) (shown_values h) ≡ row_values d (path ++ at ∷ []) h }
     ensures alone { (h : Head) → values_along h.kind None [] (shown_values h) ≡ shown_values h }
     ensures top { (d : Items) (a : List ℕ) (c : Made) → component d a ≡ Some c → shown_values c.head ≡ row_values d [] c.head }
-{}
-
-/// Where nothing has changed, every component is as before, whichever bodies are named. So to lay out the same description
-/// again places nothing.
-pub fn unchanged_is_as_before()
-    ensures before { (d : Items) (bodies : List (List ℕ)) → IsAsBeforeBut (λ a. false) d bodies d }
-    ensures none { (d : Items) → instances_at (λ a. false) d ≡ 0 }
-{}
-
-/// Where every component is unchanged but for those whose bodies are edited, every component is as before but for those
-/// in reach of the edited bodies.
-pub fn out_of_reach_is_as_before()
-    ensures { (edited : List ℕ → Bool) (old : Items) (bodies : List (List ℕ)) (new : Items) → AreUnchangedBut edited old bodies new → IsAsBeforeBut (in_reach edited new) old bodies new }
-{}
-
-/// All layouts of a description are those of its skeleton.
-pub fn layouts_are_of_skeletons()
-    ensures { (d : Items) → all_layouts d ≡ all_layouts (skeleton d) }
-{}
-
-/// Where the skeleton has stayed and no body is named, every component is as before. So to lay such a description out
-/// places nothing.
-pub fn same_skeletons_are_as_before()
-    ensures { (old new : Items) → skeleton old ≡ skeleton new → IsAsBeforeBut (λ a. false) old [] new }
-{}
-
-/// A body that is in reach is edited, or holds an instance whose component's body is in reach, as the searches through
-/// whole bodies find it.
-pub fn reach_is_as_found()
-    ensures { (edited : List ℕ → Bool) (d : Items) (a : List ℕ) → in_reach edited d a ≡ true → IsInReach edited d a }
-{}
-
-/// A step leaves every component unchanged but for those whose bodies it edits, if names stay, and where definitions or
-/// instances come, go or move the items stand for those of their names. Whatever it does, it leaves every component
-/// unchanged but for those of the bodies that it changes, and of those inside them.
-pub fn steps_leave_the_rest_unchanged()
-    ensures edited { (t : Tracked) (bodies : List (List ℕ)) → fault_of (old_of t) ≡ None → NamesStay t → GoByName bodies t → AreUnchangedBut (edits t (old_of t) (new_of t)) (old_of t) bodies (new_of t) }
-    ensures changed { (t : Tracked) (bodies : List (List ℕ)) → fault_of (old_of t) ≡ None → AreUnchangedBut (λ a. is_changed_at a t) (old_of t) bodies (new_of t) }
-{}
-
-/// A map that has rows still has them after a harmless change that gives no item a fault. So nothing has to be elaborated
-/// again to know it.
-pub fn harmless_patches_keep_rows()
-    ensures { (p : Patch) (d : Items) (wanted : Option (List ℕ)) → HasRows d wanted → fault_of (patched p d) ≡ None → IsHarmless p d → HasRows (patched p d) wanted }
-{}
-
-/// A map that has rows still has them where an instance gets another name, if no item has a fault then.
-pub fn renamed_instances_keep_rows()
-    ensures { (at : List ℕ) (u : Shell) (d : Items) (wanted : Option (List ℕ)) → HasRows d wanted → fault_of (patched (Exchange at (OfShell u)) d) ≡ None → IsRenaming at u d → HasRows (patched (Exchange at (OfShell u)) d) wanted }
 {}

@@ -1,6 +1,7 @@
 //! Addresses and bits of a register map.
 #![tactic(auto)]
 
+pub mod all_layouts;
 mod bits;
 mod built_ins;
 mod clean;
@@ -9,13 +10,10 @@ mod defaults;
 mod each_member;
 pub mod elaborate;
 mod finished;
-pub mod harmless;
 mod instances;
-pub mod kept;
 mod laid_out;
 pub mod laws;
 pub mod layout;
-mod numbers;
 mod own_values;
 mod part_list;
 mod place;
@@ -25,8 +23,8 @@ pub mod row;
 pub mod row_values;
 mod rows;
 mod shared;
-mod siblings;
-mod stored;
+pub mod siblings;
+pub mod stored;
 mod targets;
 mod types;
 mod values;

@@ -202,7 +202,7 @@ fn is_write_only(access: Option<&Value>) -> bool
 
 /// Whether the number has more bits than this.
 #[tactic(auto, using(crate::proofs::WideNumbers::within_word))]
-pub(crate) fn is_wider(number: Number, width: u64) -> bool
+pub fn is_wider(number: Number, width: u64) -> bool
     ensures { result ≡ nat_le (2 ^ width) number }
 {
     if width >= 128 {

@@ -5,7 +5,7 @@ ghost use Rattle.slab.specs.Slab.{get, HasRoomFor};
 ghost use Rattle.rdl_elab.specs.declared.finished.Finished.{Finished};
 ghost use Rattle.rdl_elab.specs.declared.stored.Candidate.{Candidate};
 ghost use Rattle.rdl_elab.specs.declared.stored.Keyed.{Keyed};
-ghost use Rattle.rdl_elab.specs.AllKept.{AreKept};
+ghost use Rattle.rdl_elab.specs.Anew.{AreKept};
 ghost use Rattle.rdl_elab.specs.Kept.{Layouts};
 ghost use Rattle.rdl_elab.specs.Words.{is_among};
 ghost use Rattle.rdl_elab.specs.WordIndex.{words_in};
@@ -188,7 +188,7 @@ fn numbered<'a>(
 /// The layouts of all components of a description, found by the words of what they are made of, and how many instances
 /// were placed for them. A contract sees the record of specs/.
 #[derive(Debug, Drop)]
-pub(crate) struct Stored {
+pub struct Stored {
     /// Each under its key.
     layouts: Slab<SharedLayouts>,
     /// The keys of all components in their order.
@@ -214,14 +214,14 @@ impl Model for Stored {
 impl Stored {
     ghost use Rattle.std.specs.Prelude.{◌≡◌, [], map, length, is_some, slice_get, option_copied, option_map, IfSome, Some, OnOk, OnErr};
     ghost use Rattle.std.specs.List.{AllByRecursion};
-    ghost use Rattle.rdl_elab.specs.AllKept.{AreKept};
+    ghost use Rattle.rdl_elab.specs.Anew.{AreKept};
     ghost use Rattle.rdl_elab.specs.Finished.{under};
     ghost use Rattle.rdl_elab.specs.Stored.{under_key, all_under};
     ghost use Rattle.rdl_elab.specs.Taken.{WasKept};
     ghost use Rattle.rdl_elab.specs.Words.{AreMadeOf, is_among};
 
     /// Nothing is kept.
-    pub(crate) fn empty(alloc: Global) -> Stored {
+    pub fn empty(alloc: Global) -> Stored {
         Stored {
             layouts: Slab::new(alloc),
             keys: Vec::new(alloc),
@@ -231,28 +231,28 @@ impl Stored {
     }
 
     /// How many components there are.
-    pub(crate) fn len(&self) -> usize
+    pub fn len(&self) -> usize
         ensures { result ≡ length (all_under self.now.slots self.now.keys) }
     {
         self.keys.as_slice().len()
     }
 
     /// How many instances were placed for the layouts.
-    pub(crate) fn placed(&self) -> u64
+    pub fn placed(&self) -> u64
         ensures { result ≡ self.now.placed }
     {
         self.placed
     }
 
     /// Keeps all as it is, where no instance was placed.
-    pub(crate) fn stay(&mut self)
+    pub fn stay(&mut self)
         ensures { self.new ≡ record self.old { placed = 0 } }
     {
         self.placed = 0;
     }
 
     /// The layout of the component of this number.
-    pub(crate) fn layout(&self, number: usize, mode: Mode) -> Option<&Layout>
+    pub fn layout(&self, number: usize, mode: Mode) -> Option<&Layout>
         ensures { option_copied result ≡ option_map (under mode) (slice_get (all_under self.now.slots self.now.keys) number) }
     {
         match numbered(&self.layouts, self.keys.as_slice(), number) {

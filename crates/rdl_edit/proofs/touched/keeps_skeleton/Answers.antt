@@ -1,7 +1,7 @@
 use Rattle.std.proofs.Common.{◌≡◌, List, [], ◌∷◌, length, get_or, sym, subst, arith}
 use Rattle.rdl_tree.specs.Patch.{image}
 use Rattle.rdl_tree.specs.declared.patch.Patch.{Patch}
-use Rattle.rdl_elab.specs.Skeleton.{skeleton}
+use Rattle.rdl_kept.specs.Skeleton.{skeleton}
 use Rattle.rdl_edit.proofs.Touching.{one-still, only}
 use Rattle.rdl_edit.proofs.touched.keeps_skeleton.Goals as goal
 

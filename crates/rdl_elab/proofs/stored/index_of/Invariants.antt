@@ -1,6 +1,6 @@
 use Rattle.std.proofs.Common.{◌≡◌, ◌+◌, ◌++◌, map, length}
 use Rattle.rdl_elab.specs.declared.stored.Keyed.{Keyed}
-use Rattle.rdl_elab.specs.AllKept.{AreKept}
+use Rattle.rdl_elab.specs.Anew.{AreKept}
 use Rattle.rdl_elab.specs.WordIndex.{words_in}
 use Rattle.rdl_elab.specs.Stored.{Leads}
 use Rattle.rdl_elab.specs.Taken.{keyed}

@@ -1,0 +1,24 @@
+use Rattle.std.proofs.Common.{rules, ◌≡◌, None, option_copied, ap, sym, subst, ◌∙◌}
+use Rattle.std.specs.Prelude.{Some}
+use Rattle.rdl_kept.specs.AllKept.{KeptLayouts}
+use Rattle.rdl_elab.specs.Faults.{fault_in}
+use Rattle.rdl_elab.specs.Faults.{top_from, with_top}
+use Rattle.rdl_elab.specs.Kept.{Stored}
+use Rattle.rdl_elab.specs.contracts.kept.Kept.{the_view}
+use Rattle.rdl_kept.proofs.Stays.{stays-judged}
+use Rattle.rdl_elab.proofs.TopTypes.{top-type}
+use Rattle.rdl_kept.proofs.kept.Kept.stay_judged.Goals as goal
+
+pub fault_with_top-requires-clause-top : goal.fault_with_top-requires-clause-top
+fault_with_top-requires-clause-top c =
+    let top = c.in_ok-found.found in
+    top-type c.args.description.now.items (option_copied c.asked-top.result) top.0 top.1 c.in_ok-found.ensures.faultless c.in_ok-found.ensures.top
+
+pub returns-in-Ok-None-clause-layouts : goal.returns-in-Ok-None-clause-layouts
+returns-in-Ok-None-clause-layouts c =
+    let d = c.args.description.now.items in
+    let same : option_copied c.asked-top.result ≡ c.args.self.now.top = search rules in
+    let clean : fault_in (with_top d (Some c.in_ok-found.found)) ≡ None = sym c.in-Ok-None.ensures ∙ c.in-Ok-None.field-0-is in
+    stays-judged d c.args.self.now _ c.in_ok-found.found c.requires.skeleton c.in_ok-found.ensures.faultless
+    (ap (λ o. top_from o 0 d) (sym same) ∙ c.in_ok-found.ensures.top) clean
+    (ap (λ (s : Stored). the_view (record { stored = s; top = c.self.inside.top })) c.stay.ensures ∙ ap (λ (k : KeptLayouts). record k { placed = 0 }) c.self.view_is)

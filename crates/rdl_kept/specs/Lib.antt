@@ -1,0 +1,9 @@
+pub mod AllKept
+pub mod Reach
+pub mod Skeleton
+pub mod Tracked
+pub mod EditedBodies
+pub mod SameSkeleton
+pub mod Harmless
+pub mod HarmlessPlaces
+pub mod Renaming

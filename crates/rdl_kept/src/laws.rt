@@ -1,0 +1,70 @@
+//! What the definitions have in common. Each function here is a law: it does nothing when it runs.
+ghost use Rattle.std.specs.Prelude.{◌≡◌, [], ℕ, Bool, List, map, Option, None, true, false};
+ghost use Rattle.rdl_tree.specs.Items.{Items};
+ghost use Rattle.rdl_tree.specs.declared.shell.Shell.{Shell};
+ghost use Rattle.rdl_tree.specs.declared.patch.Patch.{Patch};
+ghost use Rattle.rdl_tree.specs.declared.patch.Patch.TheVariants.{Exchange};
+ghost use Rattle.rdl_tree.specs.declared.part.Part.TheVariants.{OfShell};
+ghost use Rattle.rdl_tree.specs.Patch.{patched};
+ghost use Rattle.rdl_scope.specs.Closed.{component, instances};
+ghost use Rattle.rdl_elab.specs.Layouts.{layouts};
+ghost use Rattle.rdl_kept.specs.AllKept.{IsAsBeforeBut};
+ghost use Rattle.rdl_elab.specs.Anew.{instances_at};
+ghost use Rattle.rdl_kept.specs.Reach.{in_reach, IsInReach, AreUnchangedBut};
+ghost use Rattle.rdl_elab.specs.Written.{all_layouts};
+ghost use Rattle.rdl_kept.specs.Skeleton.{skeleton};
+ghost use Rattle.rdl_kept.specs.Tracked.{Tracked, old_of, new_of};
+ghost use Rattle.rdl_kept.specs.EditedBodies.{edits, is_changed_at, NamesStay, GoByName};
+ghost use Rattle.rdl_elab.specs.Known.{HasRows};
+ghost use Rattle.rdl_kept.specs.Harmless.{IsHarmless};
+ghost use Rattle.rdl_kept.specs.Renaming.{IsRenaming};
+ghost use Rattle.rdl_scope.specs.ItemFaults.{fault_of};
+
+/// Where nothing has changed, every component is as before, whichever bodies are named. So to lay out the same description
+/// again places nothing.
+pub fn unchanged_is_as_before()
+    ensures before { (d : Items) (bodies : List (List ℕ)) → IsAsBeforeBut (λ a. false) d bodies d }
+    ensures none { (d : Items) → instances_at (λ a. false) d ≡ 0 }
+{}
+
+/// Where every component is unchanged but for those whose bodies are edited, every component is as before but for those
+/// in reach of the edited bodies.
+pub fn out_of_reach_is_as_before()
+    ensures { (edited : List ℕ → Bool) (old : Items) (bodies : List (List ℕ)) (new : Items) → AreUnchangedBut edited old bodies new → IsAsBeforeBut (in_reach edited new) old bodies new }
+{}
+
+/// All layouts of a description are those of its skeleton.
+pub fn layouts_are_of_skeletons()
+    ensures { (d : Items) → all_layouts d ≡ all_layouts (skeleton d) }
+{}
+
+/// Where the skeleton has stayed and no body is named, every component is as before. So to lay such a description out
+/// places nothing.
+pub fn same_skeletons_are_as_before()
+    ensures { (old new : Items) → skeleton old ≡ skeleton new → IsAsBeforeBut (λ a. false) old [] new }
+{}
+
+/// A body that is in reach is edited, or holds an instance whose component's body is in reach, as the searches through
+/// whole bodies find it.
+pub fn reach_is_as_found()
+    ensures { (edited : List ℕ → Bool) (d : Items) (a : List ℕ) → in_reach edited d a ≡ true → IsInReach edited d a }
+{}
+
+/// A step leaves every component unchanged but for those whose bodies it edits, if names stay, and where definitions or
+/// instances come, go or move the items stand for those of their names. Whatever it does, it leaves every component
+/// unchanged but for those of the bodies that it changes, and of those inside them.
+pub fn steps_leave_the_rest_unchanged()
+    ensures edited { (t : Tracked) (bodies : List (List ℕ)) → fault_of (old_of t) ≡ None → NamesStay t → GoByName bodies t → AreUnchangedBut (edits t (old_of t) (new_of t)) (old_of t) bodies (new_of t) }
+    ensures changed { (t : Tracked) (bodies : List (List ℕ)) → fault_of (old_of t) ≡ None → AreUnchangedBut (λ a. is_changed_at a t) (old_of t) bodies (new_of t) }
+{}
+
+/// A map that has rows still has them after a harmless change that gives no item a fault. So nothing has to be elaborated
+/// again to know it.
+pub fn harmless_patches_keep_rows()
+    ensures { (p : Patch) (d : Items) (wanted : Option (List ℕ)) → HasRows d wanted → fault_of (patched p d) ≡ None → IsHarmless p d → HasRows (patched p d) wanted }
+{}
+
+/// A map that has rows still has them where an instance gets another name, if no item has a fault then.
+pub fn renamed_instances_keep_rows()
+    ensures { (at : List ℕ) (u : Shell) (d : Items) (wanted : Option (List ℕ)) → HasRows d wanted → fault_of (patched (Exchange at (OfShell u)) d) ≡ None → IsRenaming at u d → HasRows (patched (Exchange at (OfShell u)) d) wanted }
+{}
