@@ -13,7 +13,7 @@ use Rattle.rdl_elab.specs.declared.layout.LayoutValues.{LayoutValues}
 use Rattle.rdl_elab.specs.declared.layout.Member.{Member}
 use Rattle.rdl_elab.specs.declared.layout.Placement.{Placement}
 use Rattle.rdl_elab.specs.declared.layout.FieldBits.{FieldBits}
-use Rattle.rdl_elab.specs.declared.finished.Finished.{Finished}
+use Rattle.rdl_elab.specs.declared.walk.finished.Finished.{Finished}
 use Rattle.rdl_elab.specs.Start.{start_of, spans_from}
 use Rattle.rdl_elab.specs.Size.{end_of}
 use Rattle.rdl_elab.specs.Bits.{bits_of, bits_from}

@@ -4,7 +4,7 @@ use Rattle.std.proofs.Math.Seq.{drop-append_seam, drop-cons, take-suc, take-suc-
 use Rattle.std.proofs.lemmas.List.{reverse-append, length-reverse, length-drop, take-append-drop, drop-map, map-append, length-map, length-set, take_all}
 use Rattle.std.proofs.lemmas.Option.{slice_get_within, get_or_from_slice_get}
 use Rattle.rdl_tree.specs.declared.value.Value.{Value}
-use Rattle.rdl_elab.specs.declared.defaults.Default.{Default}
+use Rattle.rdl_elab.specs.declared.walk.defaults.Default.{Default}
 use Rattle.rdl_elab.specs.DefaultStacks.{pairs, AreShared, AreStacked}
 
 -- the defaults among the first i, the last first

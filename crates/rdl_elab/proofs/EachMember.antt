@@ -7,7 +7,7 @@ use Rattle.rdl_scope.specs.ItemFaults.{product}
 use Rattle.rdl_elab.specs.declared.layout.Mode.{Mode}
 use Rattle.rdl_elab.specs.declared.layout.Mode.TheVariants.{Compact, Regalign, Fullalign}
 use Rattle.rdl_elab.specs.declared.layout.Layout.{Layout}
-use Rattle.rdl_elab.specs.declared.finished.Finished.{Finished}
+use Rattle.rdl_elab.specs.declared.walk.finished.Finished.{Finished}
 use Rattle.rdl_elab.specs.Kept.{Layouts, Part}
 use Rattle.rdl_elab.specs.Layouts.{is_array, width_of}
 use Rattle.rdl_elab.specs.Finished.{under}

@@ -13,7 +13,7 @@ use Rattle.rdl_elab.specs.declared.layout.Mode.{Mode}
 use Rattle.rdl_elab.specs.declared.layout.Mode.TheVariants.{Compact}
 use Rattle.rdl_elab.specs.declared.layout.Layout.{Layout}
 use Rattle.rdl_elab.specs.Kept.{Part}
-use Rattle.rdl_elab.specs.declared.finished.Finished.{Finished}
+use Rattle.rdl_elab.specs.declared.walk.finished.Finished.{Finished}
 use Rattle.rdl_elab.specs.Layouts.{layouts, layout}
 use Rattle.rdl_elab.specs.Capped.{capped_instance}
 use Rattle.rdl_elab.specs.Faults.{levels, count, is_empty, first_empty}

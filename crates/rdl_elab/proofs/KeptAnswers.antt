@@ -14,7 +14,7 @@ use Rattle.rdl_elab.specs.declared.layout.Mode.TheVariants.{Regalign}
 use Rattle.rdl_elab.specs.declared.layout.Layout.{Layout}
 use Rattle.rdl_elab.specs.declared.row.Place.TheVariants.{Bytes}
 use Rattle.rdl_elab.specs.declared.row.Row.{Row}
-use Rattle.rdl_elab.specs.declared.finished.Finished.{Finished}
+use Rattle.rdl_elab.specs.declared.walk.finished.Finished.{Finished}
 use Rattle.rdl_elab.specs.Layouts.{mode_inside}
 use Rattle.rdl_elab.specs.Capped.{capped}
 use Rattle.rdl_elab.specs.Rows.{around_top, rows_below, rows_of, top_layout, top_row}

@@ -24,7 +24,7 @@ use Rattle.rdl_scope.proofs.Accepted.{clear-inside}
 use Rattle.rdl_scope.proofs.Holds.{holds}
 use Rattle.rdl_elab.specs.Found.{ArePartsFound}
 use Rattle.rdl_elab.specs.Kept.{Part}
-use Rattle.rdl_elab.specs.declared.finished.Finished.{Finished}
+use Rattle.rdl_elab.specs.declared.walk.finished.Finished.{Finished}
 use Rattle.rdl_elab.specs.Finished.{AreParts}
 use Rattle.rdl_elab.specs.PartNames.{part_named}
 use Rattle.rdl_elab.specs.KeptTargets.{kept_passes, is_before, kept_target}

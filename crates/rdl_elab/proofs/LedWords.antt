@@ -15,7 +15,7 @@ use Rattle.std.proofs.lemmas.Cmp.{ranked, tied_itself, nat_cmp_total}
 use Rattle.std.proofs.lemmas.Map.Text.{is_eq-slice_cmp}
 use Rattle.std.proofs.lemmas.Option.{slice_get_past}
 use Rattle.std.proofs.lemmas.Slice.Eq.{bytes_eq-Decides}
-use Rattle.rdl_elab.specs.declared.word_index.Entry.{Entry}
+use Rattle.rdl_elab.specs.declared.stored.word_index.Entry.{Entry}
 use Rattle.rdl_elab.specs.WordIndex.{words_in, number_of, digest, own_pairs, other_pairs, if_own, own_at, own_number, AreTied}
 use Rattle.rdl_elab.specs.Words.{is_among}
 

@@ -10,7 +10,7 @@ use Rattle.rdl_elab.specs.declared.layout.Mode.{Mode}
 use Rattle.rdl_elab.specs.declared.layout.Mode.TheVariants.{Compact, Regalign, Fullalign}
 use Rattle.rdl_elab.specs.declared.layout.LayoutValues.{LayoutValues}
 use Rattle.rdl_elab.specs.declared.layout.Member.{Member}
-use Rattle.rdl_elab.specs.declared.finished.Finished.{Finished}
+use Rattle.rdl_elab.specs.declared.walk.finished.Finished.{Finished}
 use Rattle.rdl_elab.specs.Kept.{Part, EachMember}
 use Rattle.rdl_elab.specs.Layouts.{values_of, mode_inside, laid_out, layouts, layout, member}
 use Rattle.rdl_elab.specs.Capped.{capped_layout, capped_instance}

@@ -6,7 +6,7 @@ use Rattle.std.proofs.lemmas.List.Elements.{All-nil, All-cons, All-head, All-tai
 use Rattle.slab.specs.Slab.{Slab, get}
 use Rattle.rdl_elab.specs.Kept.{Layouts}
 use Rattle.rdl_elab.specs.declared.stored.Keyed.{Keyed}
-use Rattle.rdl_elab.specs.declared.finished.Finished.{Finished}
+use Rattle.rdl_elab.specs.declared.walk.finished.Finished.{Finished}
 use Rattle.rdl_elab.specs.Taken.{keyed, AreMarkedOf, AreAmong}
 
 pub taken-on : {X : Type 0} (xs : List X) (i : ℕ) (x : X) → i < length xs → x ≡ get_or xs i x → take (i + 1) xs ≡ take i xs ++ x ∷ []

@@ -11,7 +11,7 @@ use Rattle.std.specs.Global.{Vec}
 use Rattle.std.specs.Option.{option_or}
 use Rattle.rdl_tree.specs.Address.{number_of}
 use Rattle.rdl_elab.specs.Reaches.{Reach, passed, behind}
-use Rattle.rdl_elab.specs.declared.reaches.Onward.{Onward}
+use Rattle.rdl_elab.specs.declared.walk.reaches.Onward.{Onward}
 use Rattle.rdl_elab.specs.Onward.{list_or_none, going_to, IsOnward}
 use Rattle.rdl_elab.proofs.ValueLists.{behind-none}
 

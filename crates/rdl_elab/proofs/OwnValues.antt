@@ -8,7 +8,7 @@ use Rattle.rdl_tree.specs.Properties.{row, property_of}
 use Rattle.rdl_tree.specs.declared.shell.Kind.{Kind}
 use Rattle.rdl_tree.specs.declared.property.Property.{Property}
 use Rattle.rdl_tree.specs.declared.value.Value.{Value}
-use Rattle.rdl_elab.specs.declared.own_values.Assigned.{Assigned}
+use Rattle.rdl_elab.specs.declared.walk.own_values.Assigned.{Assigned}
 use Rattle.rdl_tree.specs.Items.{Items, no_items, plain, holder, named, own, default, dynamic, define, anonymous}
 use Rattle.rdl_tree.specs.View.{list_of}
 use Rattle.rdl_tree.specs.declared.description.Item.{Item}

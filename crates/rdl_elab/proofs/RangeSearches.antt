@@ -8,7 +8,7 @@ use Rattle.std.specs.BTreeMap.{BTreeMap, get}
 use Rattle.std.proofs.lemmas.Bool.{cases_Bool, cases_lt, both_ways, lt-ltb, le-ltb}
 use Rattle.std.proofs.lemmas.List.Folds.{list_any_none}
 use Rattle.rdl_elab.specs.declared.layout.Span.{Span}
-use Rattle.rdl_elab.specs.declared.siblings.Sibling.{Sibling}
+use Rattle.rdl_elab.specs.declared.rows.siblings.Sibling.{Sibling}
 use Rattle.rdl_elab.specs.Faults.{overlap, SharesANumber}
 use Rattle.rdl_elab.specs.FinishedRows.{overlaps_before}
 use Rattle.rdl_elab.specs.SiblingRanges.{HasRange, AreRanges}

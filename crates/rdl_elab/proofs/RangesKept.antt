@@ -10,7 +10,7 @@ use Rattle.std.proofs.lemmas.Cmp.{ranked}
 use Rattle.std.proofs.lemmas.List.Elements.{All-push}
 use Rattle.std.proofs.lemmas.List.Folds.{list_any-append}
 use Rattle.rdl_elab.specs.declared.layout.Span.{Span}
-use Rattle.rdl_elab.specs.declared.siblings.Sibling.{Sibling}
+use Rattle.rdl_elab.specs.declared.rows.siblings.Sibling.{Sibling}
 use Rattle.rdl_elab.specs.Faults.{overlap}
 use Rattle.rdl_elab.specs.FinishedRows.{overlaps_before}
 use Rattle.rdl_elab.specs.SiblingRanges.{HasRange, IsTaken, AreRanges}

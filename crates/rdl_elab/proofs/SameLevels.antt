@@ -22,7 +22,7 @@ use Rattle.rdl_elab.specs.declared.layout.Span.{Span}
 use Rattle.rdl_elab.specs.declared.layout.Layout.{Layout}
 use Rattle.rdl_elab.specs.declared.row.Row.{Row}
 use Rattle.rdl_elab.specs.Kept.{Part}
-use Rattle.rdl_elab.specs.declared.finished.Finished.{Finished}
+use Rattle.rdl_elab.specs.declared.walk.finished.Finished.{Finished}
 use Rattle.rdl_elab.specs.Layouts.{values_of, mode_inside, number_in, width_in, layout_of}
 use Rattle.rdl_elab.specs.Capped.{capped, capped_span}
 use Rattle.rdl_elab.specs.Shown.{shown_values}

@@ -17,7 +17,7 @@ use Rattle.rdl_scope.specs.ItemFaults.{first_of}
 use Rattle.rdl_scope.specs.Closed.{Head, Parts}
 use Rattle.rdl_elab.specs.declared.layout.Span.{Span}
 use Rattle.rdl_elab.specs.declared.layout.Layout.{Layout}
-use Rattle.rdl_elab.specs.declared.siblings.Sibling.{Sibling}
+use Rattle.rdl_elab.specs.declared.rows.siblings.Sibling.{Sibling}
 use Rattle.rdl_elab.specs.Layouts.{values_of, number_in, layout_of}
 use Rattle.rdl_elab.specs.Capped.{capped, capped_span}
 use Rattle.rdl_elab.specs.Rows.{row_value, row_values, place_of, base_of, Around, Judged, judged_row}

@@ -5,9 +5,9 @@ use Rattle.rdl_tree.specs.declared.shell.Kind.TheVariants.{Addrmap, Regfile, Reg
 use Rattle.rdl_elab.specs.declared.layout.Mode.{Mode}
 use Rattle.rdl_elab.specs.declared.layout.Mode.TheVariants.{Compact, Regalign, Fullalign}
 use Rattle.rdl_elab.specs.declared.layout.LayoutValues.{LayoutValues}
-use Rattle.rdl_elab.specs.declared.each_member.Said.{Said}
-use Rattle.rdl_elab.specs.declared.each_member.Extent.{Extent}
-use Rattle.rdl_elab.specs.declared.each_member.Extents.{Extents}
+use Rattle.rdl_elab.specs.declared.walk.each_member.Said.{Said}
+use Rattle.rdl_elab.specs.declared.walk.each_member.Extent.{Extent}
+use Rattle.rdl_elab.specs.declared.walk.each_member.Extents.{Extents}
 use Rattle.rdl_elab.specs.Kept.{Layouts, EachMember, MadeOf}
 use Rattle.rdl_elab.specs.MadeOf.{layouts_made}
 use Rattle.rdl_elab.specs.Words.{kind_word, mode_word, number_words, range_words, values_words, said_words, extent_words, extents_words, members_words, words, spelling, AreMadeOf}

@@ -14,7 +14,7 @@ use Rattle.rdl_tree.specs.declared.value.Value.{Value}
 use Rattle.rdl_scope.specs.Value.{shown}
 use Rattle.rdl_scope.specs.Closed.{Head, stated, head_value, lookup}
 use Rattle.rdl_elab.specs.declared.row.PropertyValue.{PropertyValue}
-use Rattle.rdl_elab.specs.declared.defaults.Default.{Default}
+use Rattle.rdl_elab.specs.declared.walk.defaults.Default.{Default}
 use Rattle.rdl_elab.specs.Shown.{valued, bare, shown_value, shown_values, built_in_values}
 use Rattle.rdl_elab.specs.Reaches.{value_under}
 use Rattle.rdl_elab.specs.StatedValues.{shown_on, if_named, stated_for, under_either, over}

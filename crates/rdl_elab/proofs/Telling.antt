@@ -9,8 +9,8 @@ use Rattle.rdl_tree.specs.declared.fault.Fault.{Fault}
 use Rattle.rdl_elab.specs.declared.layout.Span.{Span}
 use Rattle.rdl_elab.specs.declared.row.Row.{Row}
 use Rattle.rdl_elab.specs.Kept.{Part}
-use Rattle.rdl_elab.specs.declared.finished.Finished.{Finished}
-use Rattle.rdl_elab.specs.declared.siblings.Sibling.{Sibling}
+use Rattle.rdl_elab.specs.declared.walk.finished.Finished.{Finished}
+use Rattle.rdl_elab.specs.declared.rows.siblings.Sibling.{Sibling}
 use Rattle.rdl_elab.specs.Finished.{under}
 use Rattle.rdl_elab.specs.FinishedRows.{Surroundings, FinishedRow, Told, finished_row, seen, judged, surroundings_inside, with_below, level_rows, finished_rows, told_one, told, finished_top_row, finished_around_top, told_below, rows_unless}
 

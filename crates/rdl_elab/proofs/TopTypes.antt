@@ -11,7 +11,7 @@ use Rattle.rdl_tree.specs.declared.description.Item.{Item}
 use Rattle.rdl_tree.specs.declared.description.Item.TheVariants.{Define}
 use Rattle.rdl_scope.specs.Closed.{Made, Standing, lookup, nothing, parts, after_plain, after_holder, standing, component_in, component, root_type}
 use Rattle.rdl_scope.specs.ItemFaults.{fault_of}
-use Rattle.rdl_elab.specs.declared.finished.Finished.{Finished}
+use Rattle.rdl_elab.specs.declared.walk.finished.Finished.{Finished}
 use Rattle.rdl_elab.specs.Faults.{fault_in}
 use Rattle.rdl_elab.specs.declared.row.Row.{Row}
 use Rattle.rdl_tree.specs.declared.fault.Fault.{Fault}

@@ -6,8 +6,8 @@ use Rattle.std.proofs.lemmas.Slice.Eq.{bytes_eq-Decides}
 use Rattle.std.proofs.lemmas.List.{reverse-append}
 use Rattle.std.specs.declared.alloc.AllocError.{AllocError}
 use Rattle.rdl_scope.specs.Closed.{lookup}
-use Rattle.rdl_elab.specs.declared.types.TypeEntry.{TypeEntry}
-use Rattle.rdl_elab.specs.declared.types.TypeIndex.{TypeIndex}
+use Rattle.rdl_elab.specs.declared.walk.types.TypeEntry.{TypeEntry}
+use Rattle.rdl_elab.specs.declared.walk.types.TypeIndex.{TypeIndex}
 use Rattle.rdl_elab.specs.TypeStacks.{pairs, Hides, IsIndex, Uncovers, Lacks}
 
 -- without the nearest type a name means the one that this hides

@@ -5,7 +5,7 @@ use Rattle.std.specs.List.{All}
 use Rattle.std.proofs.lemmas.Bool.{le-ltb}
 use Rattle.std.proofs.lemmas.List.Folds.{list_any_none}
 use Rattle.rdl_elab.specs.declared.layout.Span.{Span}
-use Rattle.rdl_elab.specs.declared.siblings.Sibling.{Sibling}
+use Rattle.rdl_elab.specs.declared.rows.siblings.Sibling.{Sibling}
 use Rattle.rdl_elab.specs.Faults.{overlap}
 use Rattle.rdl_elab.specs.FinishedRows.{share, overlaps_before, clashes_before}
 

@@ -4,8 +4,8 @@ use Rattle.std.specs.Prelude.{◌≡◌, ℕ, List, [], ◌∷◌, map, IfSome}
 use Rattle.rdl_tree.specs.Items.{no_items}
 use Rattle.rdl_tree.specs.declared.shell.Kind.TheVariants.{Addrmap, Regfile, Reg, Field}
 use Rattle.rdl_tree.specs.declared.value.Value.{Value}
-use Rattle.rdl_elab.specs.declared.defaults.Default.{Default}
-use Rattle.rdl_elab.specs.declared.defaults.SharedValues.{SharedValues}
+use Rattle.rdl_elab.specs.declared.walk.defaults.Default.{Default}
+use Rattle.rdl_elab.specs.declared.walk.defaults.SharedValues.{SharedValues}
 use Rattle.rdl_elab.specs.Layouts.{values_of}
 use Rattle.rdl_elab.specs.Shown.{bare, shown_values}
 

@@ -7,9 +7,9 @@ use Rattle.rdl_elab.specs.declared.layout.Mode.{Mode}
 use Rattle.rdl_elab.specs.declared.layout.Mode.TheVariants.{Compact, Regalign, Fullalign}
 use Rattle.rdl_elab.specs.declared.layout.Layout.{Layout}
 use Rattle.rdl_elab.specs.declared.layout.Member.{Member}
-use Rattle.rdl_elab.specs.declared.each_member.Said.{Said}
-use Rattle.rdl_elab.specs.declared.each_member.Extent.{Extent}
-use Rattle.rdl_elab.specs.declared.each_member.Extents.{Extents}
+use Rattle.rdl_elab.specs.declared.walk.each_member.Said.{Said}
+use Rattle.rdl_elab.specs.declared.walk.each_member.Extent.{Extent}
+use Rattle.rdl_elab.specs.declared.walk.each_member.Extents.{Extents}
 use Rattle.rdl_elab.specs.Kept.{Layouts, EachMember}
 
 abbrev pub first_of : List ℕ → Option ℕ

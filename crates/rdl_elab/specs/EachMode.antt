@@ -1,8 +1,8 @@
 -- The three layouts of a component, as they are kept.
 -- own: SystemRDL 2.0 speaks of definitions and instances.
-use Rattle.rdl_elab.specs.declared.finished.ThreeLayouts.{ThreeLayouts}
-use Rattle.rdl_elab.specs.declared.finished.EachMode.{EachMode}
-use Rattle.rdl_elab.specs.declared.finished.EachMode.TheVariants.{Same, Own}
+use Rattle.rdl_elab.specs.declared.walk.finished.ThreeLayouts.{ThreeLayouts}
+use Rattle.rdl_elab.specs.declared.walk.finished.EachMode.{EachMode}
+use Rattle.rdl_elab.specs.declared.walk.finished.EachMode.TheVariants.{Same, Own}
 use Rattle.rdl_elab.specs.Kept.{Layouts}
 
 abbrev pub of_three : ThreeLayouts → Layouts

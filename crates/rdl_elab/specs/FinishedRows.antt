@@ -19,8 +19,8 @@ use Rattle.rdl_elab.specs.declared.row.PropertyValue.{PropertyValue}
 use Rattle.rdl_elab.specs.declared.row.Place.TheVariants.{Bytes}
 use Rattle.rdl_elab.specs.declared.row.Row.{Row}
 use Rattle.rdl_elab.specs.Kept.{Part}
-use Rattle.rdl_elab.specs.declared.finished.Finished.{Finished}
-use Rattle.rdl_elab.specs.declared.siblings.Sibling.{Sibling}
+use Rattle.rdl_elab.specs.declared.walk.finished.Finished.{Finished}
+use Rattle.rdl_elab.specs.declared.rows.siblings.Sibling.{Sibling}
 use Rattle.rdl_elab.specs.Layouts.{mode_inside, number_in}
 use Rattle.rdl_elab.specs.Rows.{place_of}
 use Rattle.rdl_elab.specs.Faults.{overlap, is_read_only, is_write_only, is_reset_too_wide}

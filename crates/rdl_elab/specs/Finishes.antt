@@ -3,7 +3,7 @@
 use Rattle.std.specs.Prelude.{◌≡◌, true, List, [], ◌∷◌, ◌++◌}
 use Rattle.std.specs.Option.{IsSome}
 use Rattle.rdl_scope.specs.Closed.{Made}
-use Rattle.rdl_elab.specs.declared.finished.Finished.{Finished}
+use Rattle.rdl_elab.specs.declared.walk.finished.Finished.{Finished}
 use Rattle.rdl_elab.specs.Kept.{Stored}
 use Rattle.rdl_elab.specs.Written.{layouts_kept}
 use Rattle.rdl_elab.specs.MadeOf.{made_of}

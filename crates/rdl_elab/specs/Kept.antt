@@ -5,8 +5,8 @@ use Rattle.rdl_tree.specs.declared.shell.Kind.{Kind}
 use Rattle.rdl_tree.specs.declared.shell.Shell.{Shell}
 use Rattle.rdl_elab.specs.declared.layout.LayoutValues.{LayoutValues}
 use Rattle.rdl_elab.specs.declared.layout.Layout.{Layout}
-use Rattle.rdl_elab.specs.declared.each_member.Said.{Said}
-use Rattle.rdl_elab.specs.declared.each_member.Extents.{Extents}
+use Rattle.rdl_elab.specs.declared.walk.each_member.Said.{Said}
+use Rattle.rdl_elab.specs.declared.walk.each_member.Extents.{Extents}
 
 -- an instance: its address, its shell, and the number of its component among the finished ones
 pub record Part : Type 0 where

@@ -5,7 +5,7 @@ use Rattle.std.specs.List.{filter_map}
 use Rattle.rdl_tree.specs.declared.shell.Shell.{Shell}
 use Rattle.rdl_elab.specs.declared.layout.Layout.{Layout}
 use Rattle.rdl_elab.specs.declared.layout.Member.{Member}
-use Rattle.rdl_elab.specs.declared.finished.Finished.{Finished}
+use Rattle.rdl_elab.specs.declared.walk.finished.Finished.{Finished}
 use Rattle.rdl_elab.specs.Kept.{Part, EachMember}
 use Rattle.rdl_elab.specs.Layouts.{field_bits}
 use Rattle.rdl_elab.specs.Inside.{shown_placement}

@@ -7,7 +7,7 @@ use Rattle.std.specs.Ordering.{nat_cmp}
 use Rattle.std.specs.Global.{Vec}
 use Rattle.rdl_tree.specs.Address.{number_of}
 use Rattle.rdl_elab.specs.Reaches.{Reach, behind}
-use Rattle.rdl_elab.specs.declared.reaches.Onward.{Onward}
+use Rattle.rdl_elab.specs.declared.walk.reaches.Onward.{Onward}
 
 abbrev pub list_or_none : Option (Vec Reach) → List Reach
 list_or_none None = []

@@ -10,7 +10,7 @@ use Rattle.rdl_tree.specs.Properties.{row}
 use Rattle.rdl_tree.specs.declared.property.Property.{Property}
 use Rattle.rdl_tree.specs.declared.value.Value.{Value}
 use Rattle.rdl_scope.specs.Value.{own_value}
-use Rattle.rdl_elab.specs.declared.own_values.Assigned.{Assigned}
+use Rattle.rdl_elab.specs.declared.walk.own_values.Assigned.{Assigned}
 
 -- the first value that is assigned to the property
 abbrev pub assigned_to : Property → List Assigned → Option Value

@@ -3,7 +3,7 @@
 use Rattle.std.specs.Prelude.{◌≡◌, ℕ, suc, List, [], ◌∷◌, Option, Some, None, option_map, bytes_eq, if◌then◌else◌}
 use Rattle.rdl_scope.specs.ByName.{value_under}
 use Rattle.rdl_elab.specs.Kept.{Part}
-use Rattle.rdl_elab.specs.declared.part_list.PartNames.{PartNames}
+use Rattle.rdl_elab.specs.declared.walk.part_list.PartNames.{PartNames}
 
 -- the first instance of a name
 abbrev pub part_named : List ℕ → List Part → Option Part

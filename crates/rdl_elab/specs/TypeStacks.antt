@@ -3,8 +3,8 @@
 use Rattle.std.specs.Prelude.{◌≡◌, ℕ, List, [], ◌∷◌, map, Option, None}
 use Rattle.rdl_scope.specs.ByName.{value_under}
 use Rattle.rdl_scope.specs.Closed.{lookup}
-use Rattle.rdl_elab.specs.declared.types.TypeEntry.{TypeEntry}
-use Rattle.rdl_elab.specs.declared.types.TypeIndex.{TypeIndex}
+use Rattle.rdl_elab.specs.declared.walk.types.TypeEntry.{TypeEntry}
+use Rattle.rdl_elab.specs.declared.walk.types.TypeIndex.{TypeIndex}
 
 -- the names with the numbers of their components
 abbrev pub pairs : List TypeEntry → List (List ℕ × ℕ)

@@ -6,7 +6,7 @@ use Rattle.std.specs.Map.{lookup}
 use Rattle.std.specs.BTreeMap.{BTreeMap, get_by}
 use Rattle.std.specs.Ordering.{nat_cmp}
 use Rattle.std.specs.Global.{Vec}
-use Rattle.rdl_elab.specs.declared.word_index.Entry.{Entry}
+use Rattle.rdl_elab.specs.declared.stored.word_index.Entry.{Entry}
 
 -- the words that lead to numbers
 abbrev pub words_in : List (List ℕ × ℕ) → List (List ℕ)

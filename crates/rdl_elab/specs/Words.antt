@@ -9,9 +9,9 @@ use Rattle.rdl_scope.specs.Closed.{Made, component}
 use Rattle.rdl_elab.specs.declared.layout.Mode.{Mode}
 use Rattle.rdl_elab.specs.declared.layout.Mode.TheVariants.{Compact, Regalign, Fullalign}
 use Rattle.rdl_elab.specs.declared.layout.LayoutValues.{LayoutValues}
-use Rattle.rdl_elab.specs.declared.each_member.Said.{Said}
-use Rattle.rdl_elab.specs.declared.each_member.Extent.{Extent}
-use Rattle.rdl_elab.specs.declared.each_member.Extents.{Extents}
+use Rattle.rdl_elab.specs.declared.walk.each_member.Said.{Said}
+use Rattle.rdl_elab.specs.declared.walk.each_member.Extent.{Extent}
+use Rattle.rdl_elab.specs.declared.walk.each_member.Extents.{Extents}
 use Rattle.rdl_elab.specs.Coded.{coded}
 use Rattle.rdl_elab.specs.Kept.{Layouts, EachMember, MadeOf}
 use Rattle.rdl_elab.specs.MadeOf.{made_of, layouts_made}

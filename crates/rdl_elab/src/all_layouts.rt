@@ -11,9 +11,9 @@ ghost use Rattle.rdl_elab.specs.FinishedRows.{finished_answer};
 ghost use Rattle.rdl_elab.specs.Faults.{fault_in};
 ghost use Rattle.rdl_elab.specs.Anew.{new_spans, all_instances, instances_at, AreFoundBut};
 
-use crate::clean::is_clean_map;
+use crate::rows::clean::is_clean_map;
 use crate::elaborate::{Top, rows_under};
-use crate::finished::Finished;
+use crate::walk::finished::Finished;
 use crate::row::Rows;
 use crate::stored::Stored;
 use crate::walk::lay_out_all;

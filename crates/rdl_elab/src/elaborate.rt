@@ -11,10 +11,10 @@ ghost use Rattle.rdl_elab.specs.Tops.{top_at};
 ghost use Rattle.rdl_tree.specs.View.{items_of};
 ghost use Rattle.rdl_elab.specs.FinishedRows.{finished_map_fault, finished_top_row, finished_around_top, told_below, rows_unless, finished_rows_or_fault, finished_answer};
 
-use crate::finished::Finished;
-use crate::instances::mode_inside;
+use crate::walk::finished::Finished;
+use crate::walk::instances::mode_inside;
 use crate::layout::Mode;
-use crate::reaches::with_own;
+use crate::walk::reaches::with_own;
 use crate::row::{Extent, NamesAround, Place, Row, RowPath, Rows};
 use crate::row_values::RowValues;
 use crate::rows::{Around, add_rows};

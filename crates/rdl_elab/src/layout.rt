@@ -1,5 +1,10 @@
 //! Layouts of components.
 
+pub(crate) mod bits;
+pub(crate) mod component;
+pub(crate) mod place;
+pub(crate) mod round;
+
 use rdl_text::token::Number;
 use std::marker::Model;
 

@@ -1,6 +1,6 @@
 //! The values of rows.
 use crate::row::PropertyValue;
-use crate::values::{under_either, value_under};
+use crate::walk::values::{under_either, value_under};
 use rdl_text::token::Number;
 use rdl_tree::property::Property;
 use rdl_tree::shell::Kind;

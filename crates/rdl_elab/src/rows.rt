@@ -11,14 +11,17 @@ ghost use Rattle.rdl_elab.specs.declared.row.PropertyValue.{PropertyValue};
 ghost use Rattle.rdl_elab.specs.Finished.{under};
 ghost use Rattle.rdl_elab.specs.FinishedRows.{finished_base, finished_values, finished_row, seen, finished_fault, field_fault, extent_fault, judged, surroundings_inside, level_rows, finished_rows, told_one, told};
 
-use crate::finished::{Finished, Part};
-use crate::instances::mode_inside;
+pub(crate) mod clean;
+pub mod siblings;
+
+use crate::walk::finished::{Finished, Part};
+use crate::walk::instances::mode_inside;
 use crate::layout::{Mode, Span};
-use crate::reaches::{Assignment, Onward, has_come, with_own};
+use crate::walk::reaches::{Assignment, Onward, has_come, with_own};
 use crate::row::{Extent, NamesAround, Place, Row, RowPath};
 use crate::row_values::{ComponentValues, RowValues};
-use crate::siblings::{Sibling, Siblings, as_sibling, is_reset_too_wide};
-use crate::values::row_values;
+use crate::rows::siblings::{Sibling, Siblings, as_sibling, is_reset_too_wide};
+use crate::walk::values::row_values;
 use rdl_text::token::Number;
 use rdl_tree::address::Address;
 use rdl_tree::fault::{Fault, FaultKind};

@@ -2,7 +2,7 @@
 ghost use Rattle.std.specs.Prelude.{◌≡◌, ◌⊎◌, ◌≤◌, ◌<◌, ◌+◌, ℕ, List, [], true, map, length, slice_get, option_map, option_and_then, Some, All, Contains, IfOk, IfSome, IsSome, OnOk};
 ghost use Rattle.std.specs.Vec.{vec_capacity, vec_len};
 ghost use Rattle.slab.specs.Slab.{get, HasRoomFor};
-ghost use Rattle.rdl_elab.specs.declared.finished.Finished.{Finished};
+ghost use Rattle.rdl_elab.specs.declared.walk.finished.Finished.{Finished};
 ghost use Rattle.rdl_elab.specs.declared.stored.Candidate.{Candidate};
 ghost use Rattle.rdl_elab.specs.declared.stored.Keyed.{Keyed};
 ghost use Rattle.rdl_elab.specs.Anew.{AreKept};
@@ -12,10 +12,12 @@ ghost use Rattle.rdl_elab.specs.WordIndex.{words_in};
 ghost use Rattle.rdl_elab.specs.Stored.{Leads};
 ghost use Rattle.rdl_elab.specs.Taken.{keyed, IsTaken, AreTaken, Stays, AreMarkedOf, AreAmong};
 
-use crate::finished::Finished;
-use crate::laid_out::{LaidOut, SharedLayouts};
+pub(crate) mod word_index;
+
+use crate::walk::finished::Finished;
+use crate::walk::laid_out::{LaidOut, SharedLayouts};
 use crate::layout::{Layout, Mode};
-use crate::word_index::WordIndex;
+use crate::stored::word_index::WordIndex;
 use slab::Slab;
 use std::alloc::{AllocError, Global};
 use std::marker::Model;

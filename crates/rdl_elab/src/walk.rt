@@ -13,19 +13,34 @@ ghost use Rattle.rdl_elab.specs.Taken.{WasKept};
 ghost use Rattle.rdl_elab.specs.Finishes.{AreLaidOut, Finishes};
 ghost use Rattle.rdl_elab.specs.Stands.{made_at, after_item, item_parts, in_list, placed, LeadsTo, IsType, Stands, Grows, IsBehind};
 
-use crate::built_ins::BuiltIns;
-use crate::defaults::Defaults;
-use crate::finished::{Finished, Part};
-use crate::instances::{first_empty, levels, rows};
-use crate::laid_out::take_layouts;
-use crate::own_values::OwnValues;
-use crate::part_list::PartList;
-use crate::reaches::assignments_if;
-use crate::shared::share;
+pub(crate) mod built_ins;
+pub(crate) mod defaults;
+pub(crate) mod each_member;
+pub(crate) mod finished;
+pub(crate) mod instances;
+pub(crate) mod laid_out;
+pub(crate) mod own_values;
+pub(crate) mod part_list;
+pub(crate) mod reaches;
+pub(crate) mod shared;
+pub(crate) mod targets;
+pub(crate) mod types;
+pub(crate) mod values;
+pub(crate) mod words;
+
+use crate::walk::built_ins::BuiltIns;
+use crate::walk::defaults::Defaults;
+use crate::walk::finished::{Finished, Part};
+use crate::walk::instances::{first_empty, levels, rows};
+use crate::walk::laid_out::take_layouts;
+use crate::walk::own_values::OwnValues;
+use crate::walk::part_list::PartList;
+use crate::walk::reaches::assignments_if;
+use crate::walk::shared::share;
 use crate::stored::Stored;
-use crate::targets::goes_further;
-use crate::types::Types;
-use crate::values::{layout_values, shown_values};
+use crate::walk::targets::goes_further;
+use crate::walk::types::Types;
+use crate::walk::values::{layout_values, shown_values};
 use rdl_scope::types::own_component;
 use rdl_text::name::Name;
 use rdl_tree::address::Address;
@@ -70,7 +85,7 @@ struct Found<'a> {
 }
 
 /// All that is kept of a component with these instances, which these defaults reach.
-fn finished<'a>(
+fn finished_component<'a>(
     alloc: Global,
     description: &'a Description,
     at: &Address,
@@ -145,7 +160,7 @@ fn finish<'a>(
     )?;
     walk.types.truncate(types)?;
     walk.defaults.truncate(defaults);
-    let finished = finished(alloc, description, at, component, parts, walk, before)?;
+    let finished = finished_component(alloc, description, at, component, parts, walk, before)?;
     let number = walk.components.len();
     walk.components.push(finished)?;
     Ok(number)

@@ -12,7 +12,7 @@ use Rattle.rdl_scope.specs.ItemFaults.{product as elements_of}
 use Rattle.rdl_scope.specs.Closed.{Parts, no_parts, part, Made, Standing, nothing, head_at, parts, after_plain, after_holder, component}
 use Rattle.rdl_elab.specs.declared.layout.Mode.{Mode}
 use Rattle.rdl_elab.specs.declared.layout.Mode.TheVariants.{Compact, Regalign, Fullalign}
-use Rattle.rdl_elab.specs.declared.each_member.Said.{Said}
+use Rattle.rdl_elab.specs.declared.walk.each_member.Said.{Said}
 use Rattle.rdl_elab.specs.Layouts.{layout}
 use Rattle.rdl_elab.specs.Capped.{capped_layout}
 use Rattle.rdl_elab.specs.EachMember.{first_of, extent_of}

@@ -5,7 +5,7 @@ use Rattle.rdl_tree.specs.Items.{Items}
 use Rattle.rdl_tree.specs.declared.fault.Fault.{Fault}
 use Rattle.rdl_scope.specs.Closed.{component, root_type}
 use Rattle.rdl_scope.specs.ItemFaults.{fault_of}
-use Rattle.rdl_elab.specs.declared.finished.Finished.{Finished}
+use Rattle.rdl_elab.specs.declared.walk.finished.Finished.{Finished}
 use Rattle.rdl_elab.specs.declared.row.Row.{Row}
 use Rattle.rdl_elab.specs.Faults.{with_top}
 use Rattle.rdl_elab.specs.FinishedRows.{finished_answer}

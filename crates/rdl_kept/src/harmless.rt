@@ -6,7 +6,7 @@ ghost use Rattle.rdl_kept.specs.HarmlessPlaces.{IsLast, FitsInstance, FitsEnd};
 ghost use Rattle.rdl_kept.specs.Renaming.{IsRenaming, IsRenamingPatch};
 ghost use Rattle.rdl_kept.specs.Harmless.{bits_said, FitsReset, IsHarmlessShell, IsHarmlessAssignment, IsHarmlessValue, IsHarmlessInsert, IsHarmless, end_of_target, is_judged};
 
-use rdl_elab::siblings::is_wider;
+use rdl_elab::rows::siblings::is_wider;
 use rdl_scope::targets::passes;
 use rdl_text::name::Name;
 use rdl_text::token::Number;

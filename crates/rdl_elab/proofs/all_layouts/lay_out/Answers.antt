@@ -1,6 +1,6 @@
 use Rattle.std.proofs.Common.{rules, ◌≡◌, None, ℕ, List, ap, sym, ◌∙◌, arith}
 use Rattle.std.specs.Prelude.{sum_by}
-use Rattle.rdl_elab.specs.declared.finished.Finished.{Finished}
+use Rattle.rdl_elab.specs.declared.walk.finished.Finished.{Finished}
 use Rattle.rdl_elab.specs.Anew.{new_spans}
 use Rattle.rdl_elab.specs.Written.{all_written}
 use Rattle.rdl_elab.proofs.AllTaken.{all-placed, few-placed, laid-layouts, laid-among, were-kept}

@@ -4,7 +4,7 @@ use Rattle.std.specs.Option.{is_some}
 use Rattle.rdl_scope.specs.Closed.{Made, component}
 use Rattle.rdl_elab.specs.Finished.{IsFinished}
 use Rattle.rdl_elab.specs.FinishedRows.{finished_answer}
-use Rattle.rdl_elab.specs.declared.finished.Finished.{Finished}
+use Rattle.rdl_elab.specs.declared.walk.finished.Finished.{Finished}
 use Rattle.rdl_elab.proofs.KeptAnswers.{answer-walked}
 use Rattle.rdl_elab.proofs.elaborate.under_top.Goals as goal
 

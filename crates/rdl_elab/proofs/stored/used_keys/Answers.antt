@@ -1,7 +1,7 @@
 use Rattle.std.proofs.Common.{◌≡◌, ◌<◌, ◌+◌, ◌∷◌, ◌++◌, ℕ, Bool, true, List, [], map, take, Option, Some, sym, subst, ◌∙◌}
 use Rattle.std.specs.Prelude.{slice_get, All, IfSome}
 use Rattle.std.proofs.lemmas.List.{map-append}
-use Rattle.rdl_elab.specs.declared.finished.Finished.{Finished}
+use Rattle.rdl_elab.specs.declared.walk.finished.Finished.{Finished}
 use Rattle.rdl_elab.specs.Taken.{AreMarkedOf}
 use Rattle.rdl_elab.proofs.OnlyKept.{taken-on, all-on, stays-on, marked-on}
 use Rattle.rdl_elab.proofs.stored.used_keys.Goals as goal

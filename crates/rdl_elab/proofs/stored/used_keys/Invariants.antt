@@ -1,6 +1,6 @@
 use Rattle.std.proofs.Common.{◌≡◌, ◌<◌, map, take, length}
 use Rattle.std.specs.Prelude.{Some, true, slice_get, All, IfSome}
-use Rattle.rdl_elab.specs.declared.finished.Finished.{Finished}
+use Rattle.rdl_elab.specs.declared.walk.finished.Finished.{Finished}
 use Rattle.rdl_elab.specs.Taken.{AreMarkedOf}
 use Rattle.rdl_elab.proofs.stored.used_keys.Given as goal
 

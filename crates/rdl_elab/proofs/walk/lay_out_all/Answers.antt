@@ -3,7 +3,7 @@ use Rattle.rdl_tree.specs.Depth.{depth}
 use Rattle.rdl_tree.specs.View.{items_of}
 use Rattle.rdl_tree.proofs.Rounds.{items_of-list_of}
 use Rattle.rdl_scope.specs.Closed.{nothing, standing, root_type}
-use Rattle.rdl_elab.specs.declared.finished.Finished.{Finished}
+use Rattle.rdl_elab.specs.declared.walk.finished.Finished.{Finished}
 use Rattle.rdl_elab.specs.Written.{written, all_written}
 use Rattle.rdl_elab.specs.Finishes.{AreLaidOut, Finishes}
 use Rattle.rdl_elab.specs.Stands.{Stands, IsType}

@@ -2,7 +2,7 @@ use Rattle.std.proofs.Common.{rules, ◌≡◌, inl, inr, Contains, Option, ℕ,
 use Rattle.std.specs.Prelude.{All, IfSome, IsSome, Some, true, slice_get, ◌<◌}
 use Rattle.std.specs.List.{AllByRecursion}
 use Rattle.slab.specs.Slab.{Slab, get, HasRoomFor}
-use Rattle.rdl_elab.specs.declared.finished.Finished.{Finished}
+use Rattle.rdl_elab.specs.declared.walk.finished.Finished.{Finished}
 use Rattle.rdl_elab.specs.declared.stored.Keyed.{Keyed}
 use Rattle.rdl_elab.specs.Kept.{Layouts, Stored}
 use Rattle.rdl_elab.specs.Stored.{under_key, AreUnder, Leads}

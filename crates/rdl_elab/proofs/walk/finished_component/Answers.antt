@@ -1,0 +1,54 @@
+use Rattle.std.proofs.Common.{◌≡◌, List, [], refl, ap, sym, subst, ◌∙◌}
+use Rattle.rdl_scope.specs.Closed.{Head, Made, head_at, head_value}
+use Rattle.rdl_elab.specs.declared.layout.LayoutValues.{LayoutValues}
+use Rattle.rdl_elab.specs.Kept.{Part}
+use Rattle.rdl_elab.specs.declared.walk.finished.Finished.{Finished}
+use Rattle.rdl_elab.specs.Capped.{IsAlignment}
+use Rattle.rdl_elab.specs.Finished.{under, AreParts}
+use Rattle.rdl_elab.specs.LaidOut.{kept_members}
+use Rattle.rdl_elab.specs.MadeOf.{made_of}
+use Rattle.rdl_elab.specs.Reaches.{reaches_by}
+use Rattle.rdl_elab.specs.Words.{spelling}
+use Rattle.rdl_elab.proofs.KeptTargets.{target-same}
+use Rattle.rdl_elab.proofs.Making.{layouts-made, under-kept, members-are}
+use Rattle.rdl_elab.proofs.Powers.{alignment-power}
+use Rattle.rdl_elab.proofs.Insides.{levels-kept, rows-kept, empty-kept}
+use Rattle.rdl_elab.proofs.walk.finished_component.Goals as goal
+
+pub take_layouts-requires : goal.take_layouts-requires
+take_layouts-requires c =
+    let h : Head = record { at = []; kind = c.args.component.now.kind; body = c.args.component.now.body; defaults = c.args.walk.now.defaults } in
+    subst (λ (v : LayoutValues). IsAlignment v.alignment) (sym (c.layout_values-values.ensures.values h (sym c.in_ok-own.ensures) refl)) (alignment-power (head_value h))
+
+pub returns-clause-words : goal.returns-clause-words
+returns-clause-words c = λ e inside n same are.
+    let d = c.args.description.now.items in
+    let fs = c.as_slice-components.result.now in
+    let ps = c.as_slice.result.now in
+    let h = head_at c.args.at.now c.args.component.now.kind c.args.component.now.body e in
+    let here = subst (λ (gs : List Finished). AreParts d gs n ps inside) (sym c.as_slice-components.ensures.value)
+    (subst (λ (qs : List Part). AreParts d c.args.walk.now.components.items n qs inside) (sym (c.as_slice.ensures ∙ c.in_ok-parts.ensures)) are) in
+    let values = c.layout_values-values.ensures.values h (sym c.in_ok-own.ensures) (sym same) in
+    let members = members-are d fs n ps inside (kept_members fs ps) here refl in
+    c.in_ok-taken.ensures.words ∙ (λ i. spelling (record { kind = c.args.component.now.kind; values = values i; members = members i }))
+
+pub returns-clause-kept : goal.returns-clause-kept
+returns-clause-kept c = λ e inside n same are.
+    let d = c.args.description.now.items in
+    let fs = c.as_slice-components.result.now in
+    let h = head_at c.args.at.now c.args.component.now.kind c.args.component.now.body e in
+    let made : Made = record { head = h; parts = inside } in
+    let moved = λ (ps : List Part) (g : ps ≡ c.args.parts.items).
+    subst (λ (gs : List Finished). AreParts d gs n ps inside) (sym c.as_slice-components.ensures.value) (subst (λ (qs : List Part). AreParts d c.args.walk.now.components.items n qs inside) (sym g) are) in
+    record {
+      kind = refl;
+      values = c.layout_values-values.ensures.values h (sym c.in_ok-own.ensures) (sym same);
+      shown = c.in_ok-shown.ensures.values h refl (sym c.in_ok-own.ensures) (sym same ∙ sym c.layout_values-values.ensures.stays);
+      assignments = λ none here.
+          c.in_ok-assignments.ensures
+          ∙ (λ i. reaches_by (λ k names. target-same d fs none c.args.at.now made n c.in_ok-parts.parts.items here (moved c.in_ok-parts.parts.items c.in_ok-parts.ensures) k names i) 0 c.args.component.now.body);
+      layouts = λ m. sym (ap (under m) (c.in_ok-layouts.ensures.made (made_of made) (sym (returns-clause-words c e inside n same are)))) ∙ ap (under m) (layouts-made made) ∙ under-kept m made;
+      levels = c.levels.ensures ∙ levels-kept d fs n c.as_slice-3.result.now inside (moved c.as_slice-3.result.now (c.as_slice-3.ensures ∙ c.in_ok-parts.ensures));
+      rows = c.rows.ensures ∙ rows-kept d fs n c.as_slice-4.result.now inside (moved c.as_slice-4.result.now (c.as_slice-4.ensures ∙ c.in_ok-parts.ensures));
+      first_empty = c.in_ok-first_empty.ensures ∙ empty-kept d fs n c.as_slice-2.result.now inside (moved c.as_slice-2.result.now (c.as_slice-2.ensures ∙ c.in_ok-parts.ensures));
+    }

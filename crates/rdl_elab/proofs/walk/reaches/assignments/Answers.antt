@@ -1,0 +1,18 @@
+use Rattle.std.proofs.Common.{ap, ◌∙◌}
+use Rattle.rdl_elab.specs.KeptTargets.{kept_target}
+use Rattle.rdl_elab.proofs.Assignments.{goes-some, goes-none}
+use Rattle.rdl_elab.proofs.walk.reaches.assignments.Goals as goal
+use Rattle.rdl_elab.proofs.walk.reaches.assignments.Goals.{in-Some+in_ok-push, in_default}
+
+pub items-preserved : goal.items-preserved
+items-preserved c =
+    let f = kept_target c.args.components.now c.args.parts.now.items in
+    let xs = c.as_slice-item-items.result.now in
+    elim c.match-branch-2.branch [
+      | in-Some+in_ok-push w ↦
+          goes-some f c.args.body.now xs c.items.i c.item-item.result c.as_slice-item-items.ensures c.items-test.true c.item-item.is c.in_ok-assignment.field-0 c.in_ok-assignment.ensures c.items.list.items c.items.invariant
+          w.in-Some.assignment c.match-branch-2.list.items w.in-Some.is (ap (λ v. v.items) w.list-is ∙ w.in_ok-push.ensures.items)
+      | in_default w ↦
+          goes-none f c.args.body.now xs c.items.i c.item-item.result c.as_slice-item-items.ensures c.items-test.true c.item-item.is c.in_ok-assignment.field-0 c.in_ok-assignment.ensures c.items.list.items c.items.invariant
+          c.match-branch-2.list.items w.in_default.is (ap (λ v. v.items) w.list-is)
+    ]

@@ -1,0 +1,43 @@
+use Rattle.std.proofs.Common.{ℕ, ◌++◌, ◌+◌, List, drop, ap, sym, ◌∙◌}
+use Rattle.rdl_elab.specs.Kept.{EachMember}
+use Rattle.rdl_elab.specs.Coded.{coded}
+use Rattle.rdl_elab.specs.EachMember.{shown_each}
+use Rattle.rdl_elab.specs.LaidOut.{kept_members}
+use Rattle.rdl_elab.specs.Words.{members_words, member_words, values_words}
+use Rattle.rdl_elab.proofs.Coding.{coded-none}
+use Rattle.rdl_elab.proofs.Goings.{append_nil}
+use Rattle.rdl_elab.proofs.Insides.{member-some, member-none, members-none}
+use Rattle.rdl_elab.proofs.walk.words.words.Goals as goal
+use Rattle.rdl_elab.proofs.walk.words.words.Goals.{in-Some+in_ok-put_member, in_default}
+
+pub loop-part-init : goal.loop-part-init
+loop-part-init c =
+    let rest = members_words (kept_members c.args.components.now (drop 0 c.args.parts.now)) in
+    c.in_ok-put_values.ensures rest ∙ ap (λ (xs : List ℕ). xs ++ coded (values_words c.args.kind c.args.values rest)) c.in_ok-bytes.ensures.items
+
+pub loop-part-preserved : goal.loop-part-preserved
+loop-part-preserved c =
+    let fs = c.args.components.now in
+    let ps = c.args.parts.now in
+    let i = c.loop-part.part-index in
+    let p = c.part-item.result in
+    let done = c.loop-part.bytes.items in
+    let rest = kept_members fs (drop (i + 1) ps) in
+    elim c.match-component.branch [
+      | in-Some+in_ok-put_member w ↦
+          let f = w.in-Some.finished.now in
+          ap (λ v. v.items ++ coded (members_words rest)) w.bytes-is ∙ w.in_ok-put_member.ensures (members_words rest)
+          ∙ ap (λ s. done ++ coded (member_words (shown_each s f.layouts) (members_words rest))) w.shell.ensures
+          ∙ sym (ap (λ (ms : List EachMember). done ++ coded (members_words ms)) (member-some fs i ps p c.loop-part-test.true c.part-item.is f (sym w.in-Some.ensures)))
+          ∙ c.loop-part.invariant
+      | in_default w ↦
+          ap (λ v. v.items ++ coded (members_words rest)) w.bytes-is
+          ∙ sym (ap (λ (ms : List EachMember). done ++ coded (members_words ms)) (member-none fs i ps p c.loop-part-test.true c.part-item.is (sym w.in_default.ensures)))
+          ∙ c.loop-part.invariant
+    ]
+
+pub returns : goal.returns
+returns c =
+    let none = members-none c.args.components.now c.loop-part.part-index c.args.parts.now c.loop-part-test.false in
+    let done = c.loop-part.bytes.items in
+    sym (append_nil done) ∙ ap (λ xs. done ++ xs) (sym coded-none) ∙ sym (ap (λ (ms : List EachMember). done ++ coded (members_words ms)) none) ∙ c.loop-part.invariant

@@ -1,0 +1,94 @@
+//! The layout of an address map or a register file, from the layouts of its instances' components.
+ghost use Rattle.std.specs.Prelude.{◌≡◌, ◌+◌, ◌^◌, ◌≤◌, IfOk};
+ghost use Rattle.rdl_elab.specs.Size.{end_of};
+ghost use Rattle.rdl_elab.specs.Start.{full_alignment, mode_alignment, start_of};
+ghost use Rattle.rdl_elab.specs.Layouts.{container};
+ghost use Rattle.rdl_elab.specs.Capped.{capped, capped_layout, IsAlignment};
+
+use crate::layout::{Layout, Mode, Placement, Span, Spans};
+use crate::layout::round::{LIMIT, capped, next_multiple};
+use rdl_text::token::Number;
+use std::alloc::{AllocError, Global};
+
+#[tactic(auto, using(crate::proofs::CappedNumbers::caps))]
+fn full_alignment(is_array: bool, elements: Number, size: u64) -> u64
+    ensures { result ≡ capped (full_alignment is_array elements size) }
+{
+    if is_array {
+        let whole = capped(Number::from(size).saturating_mul(elements));
+        whole.next_power_of_two().min(LIMIT)
+    } else {
+        size.min(LIMIT)
+    }
+}
+
+#[tactic(auto, using(crate::proofs::CappedNumbers::caps))]
+fn mode_alignment(mode: Mode, item: Placement) -> u64
+    ensures { result ≡ capped (mode_alignment mode item) }
+{
+    match mode {
+        Mode::Compact => item.access.min(LIMIT),
+        Mode::Regalign => item.size.min(LIMIT),
+        Mode::Fullalign => full_alignment(item.is_array, item.elements, item.size),
+    }
+}
+
+/// The start of an instance, in a component with this `alignment`, where the instance before it ends here.
+#[tactic(auto, using(crate::proofs::CappedNumbers::caps))]
+fn start_of(alignment: Option<Number>, mode: Mode, end: u64, item: Placement) -> u64
+    requires alignment { IsAlignment alignment }
+    requires end { end ≤ 2 ^ 40 + 1 }
+    ensures { result ≡ capped (start_of alignment mode end item) }
+{
+    match item.address {
+        Some(address) => capped(address),
+        None => match item.align {
+            Some(align) => next_multiple(end, capped(align.max(1)), 1),
+            None => {
+                let around = alignment.unwrap_or(1);
+                next_multiple(end, mode_alignment(mode, item).max(1), around)
+            }
+        },
+    }
+}
+
+#[tactic(auto, using(crate::proofs::CappedNumbers::caps))]
+fn end_of(start: u64, item: Placement) -> u64
+    ensures { result ≡ capped (end_of start item) }
+{
+    let size = Number::from(item.size);
+    let stride = item.stride.unwrap_or(size);
+    let before = item.elements.saturating_sub(1).saturating_mul(stride);
+    let last = Number::from(start).saturating_add(before);
+    capped(last.saturating_add(size))
+}
+
+/// An address map or a register file with these instances in it, one after the other. Numbers over 2^40 are kept as
+/// 2^40 + 1.
+#[tactic(auto, using(crate::proofs::Placing::placings))]
+pub fn place(
+    alloc: Global,
+    alignment: Option<Number>,
+    mode: Mode,
+    items: &[Placement],
+) -> Result<Layout, AllocError>
+    requires { IsAlignment alignment }
+    ensures { IfOk result (λ l. l ≡ capped_layout (container alignment mode items.now)) }
+{
+    let mut spans = Vec::new(alloc);
+    let mut end = 0u64;
+    let mut size = 0u64;
+    let mut access = 0u64;
+    for item in items {
+        let start = start_of(alignment, mode, end, *item);
+        end = end_of(start, *item);
+        spans.push(Span { start, end })?;
+        size = size.max(end);
+        access = access.max(item.access);
+    }
+    Ok(Layout {
+        size,
+        access,
+        spans: Spans::from_vec(spans),
+    })
+}

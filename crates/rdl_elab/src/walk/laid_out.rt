@@ -1,0 +1,173 @@
+//! The layouts of a component, found again by what they were made of.
+ghost use Rattle.std.specs.Prelude.{◌≡◌, true, Some, IfOk, IfSome};
+ghost use Rattle.std.specs.Option.{IsSome};
+ghost use Rattle.rdl_elab.specs.Capped.{IsAlignment};
+ghost use Rattle.rdl_elab.specs.LaidOut.{kept_members};
+ghost use Rattle.rdl_elab.specs.Stored.{under_key};
+ghost use Rattle.rdl_elab.specs.Words.{spelling, is_among};
+
+use crate::walk::finished::{Finished, Layouts, Part};
+use crate::walk::instances::layouts;
+use crate::layout::{Layout, LayoutValues, Mode};
+use crate::stored::Stored;
+use crate::walk::words::words;
+use rdl_tree::shell::Kind;
+use std::alloc::{AllocError, Global};
+use std::marker::Model;
+use std::rc::Rc;
+
+/// Layouts that several share. A contract sees the layouts.
+#[derive(Debug, Drop)]
+pub(crate) struct SharedLayouts {
+    layouts: Rc<Layouts>,
+}
+
+impl Model for SharedLayouts {
+    ghost use Rattle.rdl_elab.specs.Kept.{Layouts};
+
+    ghost Value = { Layouts };
+
+    ghost view = { λ s. s.layouts.value };
+}
+
+impl SharedLayouts {
+    ghost use Rattle.std.specs.Prelude.{◌≡◌, ◌≤◌, true, IfOk};
+    ghost use Rattle.rdl_elab.specs.Anew.{all_spans};
+    ghost use Rattle.rdl_elab.specs.declared.layout.Mode.{Mode};
+    ghost use Rattle.rdl_elab.specs.declared.layout.Mode.TheVariants.{Compact};
+    ghost use Rattle.rdl_elab.specs.Finished.{under};
+
+    fn new(alloc: Global, layouts: Layouts) -> Result<SharedLayouts, AllocError>
+        ensures { IfOk result (λ shared. shared ≡ layouts) }
+    {
+        Ok(SharedLayouts {
+            layouts: Rc::new(alloc, layouts)?,
+        })
+    }
+
+    /// The same layouts, for one more.
+    fn share(&self) -> Result<SharedLayouts, AllocError>
+        ensures { IfOk result (λ shared. shared ≡ self.now) }
+    {
+        Ok(SharedLayouts {
+            layouts: self.layouts.clone()?,
+        })
+    }
+
+    pub(crate) fn under(&self, mode: Mode) -> &Layout
+        ensures { result.now ≡ under mode self.now }
+    {
+        self.layouts.as_ref().under(mode)
+    }
+
+    /// How many instances were placed for them.
+    pub(crate) fn placed(&self) -> u64
+        ensures { result ≤ all_spans self.now }
+    {
+        self.layouts.as_ref().placed()
+    }
+
+    /// Whether it is known that the mode makes no difference.
+    pub(crate) fn is_same(&self) -> bool
+        ensures { result ≡ true → (m : Mode) → under m self.now ≡ under Compact self.now }
+    {
+        self.layouts.as_ref().is_same()
+    }
+}
+
+/// The layouts of a component, with the words of what they are made of, as bytes. A contract sees the record of specs/.
+#[derive(Debug, Drop)]
+pub(crate) struct LaidOut {
+    words: Vec<u8>,
+    layouts: SharedLayouts,
+}
+
+impl Model for LaidOut {
+    ghost use Rattle.rdl_elab.specs.Kept.{LaidOut};
+
+    ghost Value = { LaidOut };
+
+    ghost use Rattle.rdl_elab.specs.Words.{AreMadeOf};
+
+    ghost view = { λ l. record { words = l.words.items; layouts = l.layouts } };
+
+    ghost invariant = { λ l. AreMadeOf l.words.items l.layouts };
+}
+
+impl LaidOut {
+    ghost use Rattle.std.specs.Prelude.{◌≡◌, IfOk};
+    ghost use Rattle.rdl_elab.specs.Words.{AreMadeOf};
+
+    /// Its layouts, for one more.
+    pub(crate) fn layouts(&self) -> Result<SharedLayouts, AllocError>
+        ensures made { IfOk result (AreMadeOf self.now.words) }
+        ensures same { IfOk result (λ layouts. self.now.layouts ≡ layouts) }
+    {
+        self.layouts.share()
+    }
+
+    /// The words and the layouts.
+    pub(crate) fn into_parts(self) -> (Vec<u8>, SharedLayouts)
+        ensures words { result.0.items ≡ self.words }
+        ensures layouts { result.1 ≡ self.layouts }
+        ensures made { AreMadeOf self.words self.layouts }
+    {
+        (self.words, self.layouts)
+    }
+}
+
+/// The layouts of a component, and their key if they were kept before.
+#[derive(Debug, Drop)]
+pub(crate) struct Taken {
+    pub laid_out: LaidOut,
+    pub key: Option<usize>,
+}
+
+/// New layouts of a component of this kind with these values and these instances.
+fn new_layouts(
+    alloc: Global,
+    kind: Kind,
+    values: LayoutValues,
+    spelled: Vec<u8>,
+    parts: &[Part],
+    components: &[Finished],
+) -> Result<LaidOut, AllocError>
+    requires alignment { IsAlignment values.alignment }
+    requires spelled { spelled.items ≡ spelling (record { kind = kind; values = values; members = kept_members components.now parts.now }) }
+    ensures { IfOk result (λ new. new.words ≡ spelled.items) }
+{
+    let layouts = layouts(alloc, kind, values, parts, components)?;
+    Ok(LaidOut {
+        words: spelled,
+        layouts: SharedLayouts::new(alloc, layouts)?,
+    })
+}
+
+/// The layouts of a component of this kind with these values and these instances: those that are kept of what was made
+/// of the same, if there are any, and new ones otherwise.
+pub(crate) fn take_layouts(
+    alloc: Global,
+    kind: Kind,
+    values: LayoutValues,
+    parts: &[Part],
+    components: &[Finished],
+    before: &Stored,
+) -> Result<Taken, AllocError>
+    requires { IsAlignment values.alignment }
+    ensures words { IfOk result (λ t. t.laid_out.words ≡ spelling (record { kind = kind; values = values; members = kept_members components.now parts.now })) }
+    ensures kept { IfOk result (λ t. IfSome t.key (λ k. under_key before.now.slots k ≡ Some t.laid_out.layouts)) }
+    ensures taken { IfOk result (λ t. is_among t.laid_out.words before.now.words ≡ true → IsSome t.key) }
+{
+    let words = words(alloc, kind, values, parts, components)?;
+    if let Some(kept) = before.found(words.as_slice()) {
+        let layouts = kept.layouts.share()?;
+        return Ok(Taken {
+            laid_out: LaidOut { words, layouts },
+            key: Some(kept.key),
+        });
+    }
+    Ok(Taken {
+        laid_out: new_layouts(alloc, kind, values, words, parts, components)?,
+        key: None,
+    })
+}

@@ -1,0 +1,151 @@
+//! The assignments in the body of a component.
+ghost use Rattle.std.specs.Prelude.{◌≡◌, ◌||◌, true, Some, None, IfOk, OnOk, option_copied};
+ghost use Rattle.std.specs.Option.{option_or};
+ghost use Rattle.rdl_tree.specs.Properties.{row};
+ghost use Rattle.rdl_tree.specs.declared.property.Property.{Property};
+ghost use Rattle.rdl_scope.specs.Value.{own_value};
+ghost use Rattle.rdl_scope.specs.Walk.{owned_by};
+ghost use Rattle.rdl_elab.specs.OwnValues.{assigned_to, dynamic_there, any_dynamic};
+ghost use Rattle.rdl_elab.specs.Reaches.{value_under};
+ghost use Rattle.rdl_elab.specs.StatedValues.{shown_on, if_named};
+
+use crate::row::PropertyValue;
+use crate::walk::values::{add_stated, same_property};
+use rdl_tree::description::{Body, Item};
+use rdl_tree::properties::property;
+use rdl_tree::property::Property;
+use rdl_tree::shell::Kind;
+use rdl_tree::value::Value;
+use std::alloc::{AllocError, Global};
+use std::marker::Model;
+
+/// A property and the value that is assigned to it.
+#[derive(Drop)]
+pub(crate) struct Assigned<'a> {
+    property: Property,
+    value: &'a Value,
+}
+
+/// The own assignments in a body, each with its property, and whether it has dynamic ones. A contract sees the body.
+#[derive(Drop)]
+pub(crate) struct OwnValues<'a> {
+    body: &'a Body,
+    items: Vec<Assigned<'a>>,
+    has_dynamic: bool,
+}
+
+impl<'a> Model for OwnValues<'a> {
+    ghost use Rattle.rdl_tree.specs.Codes.{coded_items};
+    ghost use Rattle.rdl_tree.specs.Items.{Items};
+    ghost use Rattle.std.specs.Prelude.{◌≡◌};
+    ghost use Rattle.rdl_elab.specs.OwnValues.{AreOwn, any_dynamic};
+
+    ghost Value = { Items };
+
+    ghost coded = { coded_items };
+
+    ghost view = { λ own. own.body.now };
+
+    ghost invariant = { λ own. AreOwn own.items.items own.body.now × (own.has_dynamic ≡ any_dynamic own.body.now) };
+}
+
+/// The first value that is assigned to the property.
+fn assigned_to<'a>(property: Property, items: &[Assigned<'a>]) -> Option<&'a Value>
+    ensures { option_copied result ≡ assigned_to property items.now }
+{
+    for assigned in items {
+        if same_property(assigned.property, property) {
+            return Some(assigned.value);
+        }
+    }
+    None
+}
+
+/// Adds an assignment to the property of this name, if there is one.
+fn add_named<'a>(
+    items: &mut Vec<Assigned<'a>>,
+    name: &str,
+    value: &'a Value,
+) -> Result<(), AllocError>
+    ensures { OnOk result ((p : Property) → assigned_to p items.new.items ≡ option_or (assigned_to p items.old.items) (if_named name.now (Some value.now) p)) }
+{
+    match property(name) {
+        Some(property) => {
+            items.push(Assigned { property, value })?;
+            Ok(())
+        }
+        None => Ok(()),
+    }
+}
+
+fn add_own<'a>(items: &mut Vec<Assigned<'a>>, item: Option<&'a Item>) -> Result<(), AllocError>
+    ensures { OnOk result ((p : Property) → assigned_to p items.new.items ≡ option_or (assigned_to p items.old.items) (owned_by (row p).name (option_copied item.entry))) }
+{
+    match item {
+        Some(Item::Own(name, value)) => add_named(items, name.as_str(), value),
+        _ => Ok(()),
+    }
+}
+
+/// Whether this is a dynamic assignment, or one was met before.
+fn meets_dynamic(before: bool, item: Option<&Item>) -> bool
+    ensures { result ≡ (before || dynamic_there (option_copied item.entry)) }
+{
+    before || matches!(item, Some(Item::Dynamic(_, _, _)))
+}
+
+impl<'a> OwnValues<'a> {
+    /// Those of a body.
+    pub(crate) fn of(alloc: Global, body: &'a Body) -> Result<OwnValues<'a>, AllocError>
+        ensures { IfOk result (λ own. own ≡ body.now) }
+    {
+        let mut items = Vec::new(alloc);
+        let mut has_dynamic = false;
+        for i in 0..body.len() {
+            let item = body.item(i);
+            add_own(&mut items, item)?;
+            has_dynamic = meets_dynamic(has_dynamic, item);
+        }
+        Ok(OwnValues {
+            body,
+            items,
+            has_dynamic,
+        })
+    }
+
+    /// Whether the body has dynamic assignments.
+    pub(crate) fn has_dynamic(&self) -> bool
+        ensures { result ≡ any_dynamic self.now }
+    {
+        self.has_dynamic
+    }
+
+    /// Whether nothing is assigned to a property.
+    pub(crate) fn is_empty(&self) -> bool
+        ensures { result ≡ true → (p : Property) → own_value (row p).name self.now ≡ None }
+    {
+        self.items.is_empty()
+    }
+
+    /// The own assignment of the property.
+    pub(crate) fn get(&self, property: Property) -> Option<&'a Value>
+        ensures { option_copied result ≡ own_value (row property).name self.now }
+    {
+        assigned_to(property, self.items.as_slice())
+    }
+
+    /// Adds what these assignments state for a component of this kind, unless a value before states it.
+    pub(crate) fn add_to(
+        &self,
+        alloc: Global,
+        kind: Kind,
+        items: &mut Vec<PropertyValue>,
+    ) -> Result<(), AllocError>
+        ensures { OnOk result ((p : Property) → value_under p items.new.items ≡ option_or (value_under p items.old.items) (shown_on kind p (own_value (row p).name self.now))) }
+    {
+        for assigned in &self.items {
+            add_stated(alloc, kind, items, assigned.property, assigned.value)?;
+        }
+        Ok(())
+    }
+}

@@ -1,0 +1,125 @@
+//! The instances of a component, in their order and by their names.
+ghost use Rattle.std.specs.Prelude.{◌≡◌, option_and_then, option_copied, slice_get};
+ghost use Rattle.rdl_elab.specs.PartNames.{part_named};
+
+use crate::walk::finished::Part;
+use rdl_scope::by_name::ByName;
+use rdl_text::name::Name;
+use std::alloc::{AllocError, Global};
+use std::marker::Model;
+
+/// How few instances are looked through for a name.
+const FEW: usize = 8;
+
+/// The number of the first instance of each name.
+#[derive(Drop)]
+pub(crate) struct PartNames<'a> {
+    places: ByName<'a, usize>,
+}
+
+/// The instances of a component. A contract sees their list.
+#[derive(Drop)]
+pub(crate) struct PartList<'a> {
+    items: Vec<Part<'a>>,
+    /// Only where targets look them up, and there are many.
+    names: Option<PartNames<'a>>,
+}
+
+impl<'a> PartNames<'a> {
+    ghost use Rattle.std.specs.Prelude.{◌≡◌, ℕ, List, Some, IfOk, OnOk, bytes_eq, if◌then◌else◌};
+    ghost use Rattle.rdl_elab.specs.PartNames.{AreNamed, place_under};
+
+    fn put(&mut self, name: &'a str, place: usize) -> Result<(), AllocError>
+        ensures { OnOk result ((q : List ℕ) → place_under self.new q ≡ (if bytes_eq name.now q then Some place else place_under self.old q)) }
+    {
+        self.places.put(name, place)?;
+        Ok(())
+    }
+
+    fn of(alloc: Global, parts: &[Part<'a>]) -> Result<PartNames<'a>, AllocError>
+        ensures { IfOk result (λ names. AreNamed names parts.now) }
+    {
+        let mut names = PartNames {
+            places: ByName::with_room(alloc, parts.len())?,
+        };
+        for i in (0..parts.len()).rev() {
+            names.put(parts[i].shell().name.as_str(), i)?;
+        }
+        Ok(names)
+    }
+
+    fn get(&self, name: &'a str) -> Option<usize>
+        ensures { result ≡ place_under self.now name.now }
+    {
+        self.places.get(name)
+    }
+}
+
+impl<'a> Model for PartList<'a> {
+    ghost use Rattle.std.specs.Prelude.{IfSome};
+    ghost use Rattle.rdl_elab.specs.Kept.{PartList};
+
+    ghost Value = { PartList };
+
+    ghost use Rattle.rdl_elab.specs.PartNames.{AreNamed};
+
+    ghost view = { λ p. record { items = p.items.items } };
+
+    ghost invariant = { λ p. IfSome p.names (λ names. AreNamed names p.items.items) };
+}
+
+#[tactic(auto, using(crate::proofs::PartPlaces::naming))]
+fn first_named<'p, 'a>(parts: &'p [Part<'a>], name: &Name) -> Option<&'p Part<'a>>
+    ensures { option_copied result ≡ part_named name.now parts.now }
+{
+    for part in parts {
+        if &part.shell().name == name {
+            return Some(part);
+        }
+    }
+    None
+}
+
+fn part_at<'p, 'a>(parts: &'p [Part<'a>], place: Option<usize>) -> Option<&'p Part<'a>>
+    ensures { option_copied result ≡ option_and_then (slice_get parts.now) place }
+{
+    parts.get(place?)
+}
+
+impl<'a> PartList<'a> {
+    ghost use Rattle.std.specs.Prelude.{◌≡◌, IfOk, option_copied};
+    ghost use Rattle.rdl_elab.specs.PartNames.{part_named};
+
+    /// These instances. If targets look them up, the names of many are put in order.
+    pub(crate) fn of(
+        alloc: Global,
+        items: Vec<Part<'a>>,
+        by_name: bool,
+    ) -> Result<PartList<'a>, AllocError>
+        ensures { IfOk result (λ parts. parts.items ≡ items.entry.items) }
+    {
+        let names = if by_name && items.len() > FEW {
+            Some(PartNames::of(alloc, items.as_slice())?)
+        } else {
+            None
+        };
+        Ok(PartList { items, names })
+    }
+
+    pub(crate) fn as_slice(&self) -> &[Part<'a>]
+        ensures { result.now ≡ self.now.items }
+    {
+        self.items.as_slice()
+    }
+
+    /// The first instance of this name.
+    pub(crate) fn named(&self, name: &'a Name) -> Option<&Part<'a>>
+        ensures { option_copied result ≡ part_named name.now self.now.items }
+    {
+        let parts = self.items.as_slice();
+        match &self.names {
+            Some(names) => part_at(parts, names.get(name.as_str())),
+            None => first_named(parts, name),
+        }
+    }
+}

@@ -1,0 +1,327 @@
+//! The dynamic assignments that reach an instance.
+ghost use Rattle.std.specs.Prelude.{◌≡◌, ℕ, ◌++◌, ◌∷◌, List, [], true, IfOk, OnOk, option_copied};
+ghost use Rattle.std.specs.Option.{option_or};
+ghost use Rattle.rdl_tree.specs.Properties.{row};
+ghost use Rattle.rdl_tree.specs.declared.property.Property.{Property};
+ghost use Rattle.rdl_elab.specs.KeptTargets.{kept_target};
+ghost use Rattle.std.specs.List.{list_any};
+ghost use Rattle.rdl_elab.specs.OwnValues.{any_dynamic};
+ghost use Rattle.rdl_elab.specs.Reaches.{Reach, reaches_by, behind, reached, reach_by, has_ended, value_under};
+ghost use Rattle.rdl_elab.specs.StatedValues.{shown_on};
+
+use crate::walk::finished::{Finished, Part};
+use crate::walk::part_list::PartList;
+use crate::row::PropertyValue;
+use crate::walk::shared::InstanceAddress;
+use crate::walk::targets::target_path;
+use crate::walk::values::add_assigned;
+use rdl_text::name::Name;
+use rdl_tree::description::{Body, Item};
+use rdl_tree::properties::property;
+use rdl_tree::property::Property;
+use rdl_tree::shell::Kind;
+use rdl_tree::value::Value;
+use std::alloc::{AllocError, Global};
+use std::collections::BTreeMap;
+use std::marker::Model;
+use std::rc::Rc;
+
+/// A dynamic assignment, and the instances that its target has yet to pass.
+#[derive(Drop)]
+pub(crate) struct Assignment<'a> {
+    /// The instances that its target passes.
+    path: Rc<Vec<InstanceAddress>>,
+    /// How many of them it has passed.
+    passed: usize,
+    property: &'a Name,
+    value: &'a Value,
+}
+
+impl<'a> Model for Assignment<'a> {
+    ghost use Rattle.std.specs.Prelude.{drop};
+    ghost use Rattle.rdl_elab.specs.Reaches.{Reach};
+
+    ghost Value = { Reach };
+
+    ghost view = { λ a. record { path = drop a.passed a.path.value.items; property = a.property.now; value = a.value.now } };
+}
+
+impl<'a> Assignment<'a> {
+    ghost use Rattle.std.specs.Prelude.{◌≡◌, IfOk, option_copied, slice_get};
+    ghost use Rattle.rdl_elab.specs.Reaches.{passed, has_ended};
+
+    /// The same assignment, for one more.
+    fn share(&self) -> Result<Assignment<'a>, AllocError>
+        ensures { IfOk result (λ shared. shared ≡ self.now) }
+    {
+        Ok(Assignment {
+            path: self.path.clone()?,
+            passed: self.passed,
+            property: self.property,
+            value: self.value,
+        })
+    }
+
+    /// The next instance that its target has to pass.
+    fn next(&self) -> Option<&InstanceAddress>
+        ensures { option_copied result ≡ slice_get self.now.path 0 }
+    {
+        self.path.as_slice().get(self.passed)
+    }
+
+    /// The assignment behind an instance, if its target passes that.
+    #[tactic(auto, using(crate::proofs::Onward::passing))]
+    fn passed(&self, instance: &InstanceAddress) -> Result<Option<Assignment<'a>>, AllocError>
+        ensures { IfOk result (λ behind. behind ≡ passed instance.now self.now self.now.path) }
+    {
+        match self.path.as_slice().get(self.passed) {
+            Some(next) if next.is(instance) => Ok(Some(Assignment {
+                path: self.path.clone()?,
+                passed: self.passed + 1,
+                property: self.property,
+                value: self.value,
+            })),
+            _ => Ok(None),
+        }
+    }
+
+    fn has_ended(&self) -> bool
+        ensures { result ≡ has_ended self.now.path }
+    {
+        self.next().is_none()
+    }
+}
+
+/// What item `n` of a body with these instances assigns, if its target is there.
+fn dynamic_assignment<'a>(
+    alloc: Global,
+    components: &[Finished<'a>],
+    parts: &PartList<'a>,
+    n: usize,
+    item: &'a Item,
+) -> Result<Option<Assignment<'a>>, AllocError>
+    ensures { IfOk result (λ a. a ≡ reach_by (kept_target components.now parts.now.items n) item.now) }
+{
+    match item {
+        Item::Dynamic(target, property, value) => {
+            match target_path(alloc, components, parts, n, target.names())? {
+                Some(path) => Ok(Some(Assignment {
+                    path: Rc::new(alloc, path)?,
+                    passed: 0,
+                    property,
+                    value,
+                })),
+                None => Ok(None),
+            }
+        }
+        _ => Ok(None),
+    }
+}
+
+/// The dynamic assignments of a body with these instances whose targets are there.
+#[tactic(auto, using(crate::proofs::Assignments::steps))]
+fn assignments<'a>(
+    alloc: Global,
+    components: &[Finished<'a>],
+    parts: &PartList<'a>,
+    body: &'a Body,
+) -> Result<Vec<Assignment<'a>>, AllocError>
+    ensures { IfOk result (λ list. list.items ≡ reaches_by (kept_target components.now parts.now.items) 0 body.now) }
+{
+    let mut list = Vec::new(alloc);
+    'items: for (i, item) in body.as_slice().iter().enumerate() {
+        if let Some(assignment) = dynamic_assignment(alloc, components, parts, i, item)? {
+            list.push(assignment)?;
+        }
+    }
+    Ok(list)
+}
+
+/// The dynamic assignments of a body with these instances whose targets are there, where it is known whether it has any.
+pub(crate) fn assignments_if<'a>(
+    alloc: Global,
+    has_any: bool,
+    components: &[Finished<'a>],
+    parts: &PartList<'a>,
+    body: &'a Body,
+) -> Result<Vec<Assignment<'a>>, AllocError>
+    requires { has_any ≡ any_dynamic body.now }
+    ensures { IfOk result (λ list. list.items ≡ reaches_by (kept_target components.now parts.now.items) 0 body.now) }
+{
+    if has_any {
+        assignments(alloc, components, parts, body)
+    } else {
+        Ok(Vec::new(alloc))
+    }
+}
+
+/// The assignments that have come this far and those of the component that stands here.
+pub(crate) fn with_own<'a>(
+    alloc: Global,
+    reaching: &[Assignment<'a>],
+    own: &[Assignment<'a>],
+) -> Result<Vec<Assignment<'a>>, AllocError>
+    ensures { IfOk result (λ list. list.items ≡ reaching.now ++ own.now) }
+{
+    let mut list = Vec::with_capacity(alloc, reaching.len().saturating_add(own.len()))?;
+    add_all(&mut list, reaching)?;
+    add_all(&mut list, own)?;
+    Ok(list)
+}
+
+fn add_all<'a>(list: &mut Vec<Assignment<'a>>, more: &[Assignment<'a>]) -> Result<(), AllocError>
+    ensures { OnOk result (list.new.items ≡ list.old.items ++ more.now) }
+{
+    for assignment in more {
+        list.push(assignment.share()?)?;
+    }
+    Ok(())
+}
+
+/// Whether each of them has passed all its instances.
+#[tactic(auto, using(crate::proofs::ValueLists::steps))]
+pub(crate) fn have_ended(reaching: &[Assignment]) -> bool
+    ensures { result ≡ true → (a : List ℕ) → behind a reaching.now ≡ [] }
+{
+    for assignment in reaching {
+        if !assignment.has_ended() {
+            return false;
+        }
+    }
+    true
+}
+
+/// Whether one of them has passed all its instances.
+pub(crate) fn has_come(reaching: &[Assignment]) -> bool
+    ensures { result ≡ list_any (λ (a : Reach). has_ended a.path) reaching.now }
+{
+    reaching.iter().any(|assignment| assignment.has_ended())
+}
+
+/// Those whose targets pass this instance.
+#[tactic(auto, using(crate::proofs::ValueLists::steps))]
+fn behind<'a>(
+    alloc: Global,
+    instance: &InstanceAddress,
+    reaching: &[Assignment<'a>],
+) -> Result<Vec<Assignment<'a>>, AllocError>
+    ensures { IfOk result (λ list. list.items ≡ behind instance.now reaching.now) }
+{
+    let mut list = Vec::new(alloc);
+    for assignment in reaching {
+        if let Some(passed) = assignment.passed(instance)? {
+            list.push(passed)?;
+        }
+    }
+    Ok(list)
+}
+
+/// The assignments that go on from a level, under the number that the next instance of each has in its body.
+#[derive(Drop)]
+pub(crate) struct Onward<'a> {
+    /// Those under small numbers.
+    lists: Vec<Vec<Assignment<'a>>>,
+    others: BTreeMap<usize, Vec<Assignment<'a>>>,
+}
+
+impl<'a> Onward<'a> {
+    ghost use Rattle.std.specs.Prelude.{◌≡◌, ◌≢◌, ℕ, ◌++◌, ◌∷◌, [], List, IfOk, OnOk, option_copied};
+    ghost use Rattle.rdl_elab.specs.Onward.{IsOnward, going_to, list_or_none};
+    ghost use Rattle.rdl_elab.specs.Reaches.{Reach, behind};
+
+    /// None under any number. So many numbers are small.
+    fn with_room(alloc: Global, small: usize) -> Result<Onward<'a>, AllocError>
+        ensures { IfOk result (λ onward. (k : ℕ) → going_to onward k ≡ []) }
+    {
+        let mut lists = Vec::with_capacity(alloc, small)?;
+        for _ in 0..small {
+            lists.push(Vec::new(alloc))?;
+        }
+        Ok(Onward {
+            lists,
+            others: BTreeMap::new(alloc),
+        })
+    }
+
+    /// Puts one more behind those under this number.
+    fn put(&mut self, number: usize, assignment: Assignment<'a>) -> Result<(), AllocError>
+        ensures there { OnOk result (going_to self.new number ≡ going_to self.old number ++ assignment.entry ∷ []) }
+        ensures others { OnOk result ((k : ℕ) → k ≢ number → going_to self.new k ≡ going_to self.old k) }
+    {
+        match self.lists.get_mut(number) {
+            Some(list) => list.push(assignment)?,
+            None => self.others.entry(number)?.or_default().push(assignment)?,
+        }
+        Ok(())
+    }
+
+    /// Those under this number.
+    fn get(&self, number: usize) -> Option<&Vec<Assignment<'a>>>
+        ensures { list_or_none (option_copied result) ≡ going_to self.now number }
+    {
+        match self.lists.get(number) {
+            Some(list) => Some(list),
+            None => self.others.get(&number),
+        }
+    }
+
+    /// Those of these that go on.
+    pub(crate) fn of(alloc: Global, reaching: &[Assignment<'a>]) -> Result<Onward<'a>, AllocError>
+        ensures { IfOk result (λ onward. IsOnward onward reaching.now) }
+    {
+        let mut onward = Onward::with_room(alloc, reaching.len())?;
+        for assignment in reaching {
+            if let Some(next) = assignment.next() {
+                onward.put(next.number(), assignment.share()?)?;
+            }
+        }
+        Ok(onward)
+    }
+
+    /// Those whose targets pass this instance.
+    pub(crate) fn behind(
+        &self,
+        alloc: Global,
+        part: &Part,
+    ) -> Result<Vec<Assignment<'a>>, AllocError>
+        ensures { IfOk result (λ list. (reaching : List Reach) → IsOnward self.now reaching → list.items ≡ behind part.now.at reaching) }
+    {
+        match self.get(part.place()) {
+            Some(list) => behind(alloc, &part.instance()?, list.as_slice()),
+            None => Ok(Vec::new(alloc)),
+        }
+    }
+}
+
+/// Adds the value that this assigns to a component of this kind, if it has passed all its instances and no value before
+/// is of the same property.
+fn add_come(
+    alloc: Global,
+    kind: Kind,
+    assignment: &Assignment,
+    items: &mut Vec<PropertyValue>,
+) -> Result<(), AllocError>
+    ensures { OnOk result ((p : Property) → value_under p items.new.items ≡ option_or (value_under p items.old.items) (shown_on kind p (reached (row p).name (assignment.now ∷ [])))) }
+{
+    if !assignment.has_ended() {
+        return Ok(());
+    }
+    let property = property(assignment.property.as_str());
+    add_assigned(alloc, kind, items, property, assignment.value)
+}
+
+/// Adds the values that those assign to a component of this kind which have passed all their instances, the first of each
+/// property, unless a value before is of that property.
+pub(crate) fn add_reached(
+    alloc: Global,
+    kind: Kind,
+    reaching: &[Assignment],
+    items: &mut Vec<PropertyValue>,
+) -> Result<(), AllocError>
+    ensures { OnOk result ((p : Property) → value_under p items.new.items ≡ option_or (value_under p items.old.items) (shown_on kind p (reached (row p).name reaching.now))) }
+{
+    for assignment in reaching {
+        add_come(alloc, kind, assignment, items)?;
+    }
+    Ok(())
+}

@@ -1,0 +1,196 @@
+//! The words of what layouts are made of, as bytes, by which they are found again.
+ghost use Rattle.std.specs.Prelude.{◌≡◌, ◌<◌, ◌∷◌, ◌++◌, ℕ, List, true, IfOk, OnOk};
+ghost use Rattle.std.specs.List.{AllByRecursion};
+ghost use Rattle.rdl_elab.specs.EachMember.{shown_each};
+ghost use Rattle.rdl_elab.specs.LaidOut.{kept_members};
+ghost use Rattle.rdl_elab.specs.Words.{kind_word, mode_word, number_words, range_words, values_words, said_words, extent_words, extents_words, member_words, spelling, Puts};
+
+use crate::walk::each_member::{Extent, Extents, Said};
+use crate::walk::finished::{Finished, Part};
+use crate::walk::laid_out::SharedLayouts;
+use crate::layout::{LayoutValues, Mode};
+use rdl_text::token::Number;
+use rdl_tree::shell::{Kind, Shell};
+use std::alloc::{AllocError, Global};
+
+fn kind_word(kind: Kind) -> Number
+    ensures { result ≡ kind_word kind }
+{
+    match kind {
+        Kind::Addrmap => 0,
+        Kind::Regfile => 1,
+        Kind::Reg => 2,
+        Kind::Field => 3,
+    }
+}
+
+fn mode_word(mode: Mode) -> Number
+    ensures { result ≡ mode_word mode }
+{
+    match mode {
+        Mode::Compact => 0,
+        Mode::Regalign => 1,
+        Mode::Fullalign => 2,
+    }
+}
+
+/// Puts a word: one below 255 as one byte, any other as 255 and its sixteen bytes, lowest first.
+fn put_word(bytes: &mut Vec<u8>, word: Number) -> Result<(), AllocError>
+    ensures { OnOk result (Puts (λ rest. word ∷ rest) bytes.old.items bytes.new.items) }
+{
+    let is_small = word < 255;
+    if is_small {
+        bytes.push(word as u8)?;
+    } else {
+        bytes.push(255)?;
+        bytes.extend_from_slice(&word.to_le_bytes())?;
+    }
+    Ok(())
+}
+
+/// Puts words that are one byte each.
+fn put_small(bytes: &mut Vec<u8>, words: &[u8]) -> Result<(), AllocError>
+    requires { AllByRecursion (λ word. word < 255) words.now }
+    ensures { OnOk result (Puts (λ rest. words.now ++ rest) bytes.old.items bytes.new.items) }
+{
+    bytes.extend_from_slice(words)?;
+    Ok(())
+}
+
+fn put_number(bytes: &mut Vec<u8>, number: Option<Number>) -> Result<(), AllocError>
+    ensures { OnOk result (Puts (number_words number) bytes.old.items bytes.new.items) }
+{
+    match number {
+        None => put_word(bytes, 0)?,
+        Some(number) => {
+            put_word(bytes, 1)?;
+            put_word(bytes, number)?;
+        }
+    }
+    Ok(())
+}
+
+fn put_range(bytes: &mut Vec<u8>, range: Option<(Number, Number)>) -> Result<(), AllocError>
+    ensures { OnOk result (Puts (range_words range) bytes.old.items bytes.new.items) }
+{
+    match range {
+        None => put_word(bytes, 0)?,
+        Some(range) => {
+            put_word(bytes, 1)?;
+            put_word(bytes, range.0)?;
+            put_word(bytes, range.1)?;
+        }
+    }
+    Ok(())
+}
+
+/// Puts the words of the kind and the values of a component.
+fn put_values(bytes: &mut Vec<u8>, kind: Kind, values: LayoutValues) -> Result<(), AllocError>
+    ensures { OnOk result (Puts (values_words kind values) bytes.old.items bytes.new.items) }
+{
+    put_word(bytes, kind_word(kind))?;
+    put_word(bytes, mode_word(values.addressing))?;
+    put_number(bytes, values.alignment)?;
+    put_word(bytes, Number::from(values.regwidth))?;
+    put_word(bytes, Number::from(values.accesswidth))?;
+    put_word(bytes, values.fieldwidth)?;
+    Ok(())
+}
+
+/// Whether an instance says nothing of its place, and has few elements.
+fn is_bare(said: Said) -> bool
+    ensures few { result ≡ true → said.elements < 255 }
+    ensures bare { result ≡ true → (rest : List ℕ) → said_words said rest ≡ said.elements ∷ 0 ∷ 0 ∷ 0 ∷ 0 ∷ 0 ∷ rest }
+{
+    said.elements < 255
+        && said.size.is_none()
+        && said.address.is_none()
+        && said.stride.is_none()
+        && said.align.is_none()
+        && said.range.is_none()
+}
+
+fn put_said(bytes: &mut Vec<u8>, said: Said) -> Result<(), AllocError>
+    ensures { OnOk result (Puts (said_words said) bytes.old.items bytes.new.items) }
+{
+    if is_bare(said) {
+        return put_small(bytes, &[said.elements as u8, 0, 0, 0, 0, 0]);
+    }
+    put_word(bytes, said.elements)?;
+    put_number(bytes, said.size)?;
+    put_number(bytes, said.address)?;
+    put_number(bytes, said.stride)?;
+    put_number(bytes, said.align)?;
+    put_range(bytes, said.range)?;
+    Ok(())
+}
+
+fn put_extent(bytes: &mut Vec<u8>, extent: Extent) -> Result<(), AllocError>
+    ensures { OnOk result (Puts (extent_words extent) bytes.old.items bytes.new.items) }
+{
+    put_word(bytes, Number::from(extent.size))?;
+    put_word(bytes, Number::from(extent.access))?;
+    Ok(())
+}
+
+fn is_small(extent: Extent) -> bool
+    ensures size { result ≡ true → extent.size < 255 }
+    ensures access { result ≡ true → extent.access < 255 }
+{
+    extent.size < 255 && extent.access < 255
+}
+
+fn put_extents(bytes: &mut Vec<u8>, extents: Extents) -> Result<(), AllocError>
+    ensures { OnOk result (Puts (extents_words extents) bytes.old.items bytes.new.items) }
+{
+    let Extents {
+        compact,
+        regalign,
+        fullalign,
+    } = extents;
+    if is_small(compact) && is_small(regalign) && is_small(fullalign) {
+        let words = [
+            compact.size as u8,
+            compact.access as u8,
+            regalign.size as u8,
+            regalign.access as u8,
+            fullalign.size as u8,
+            fullalign.access as u8,
+        ];
+        return put_small(bytes, &words);
+    }
+    put_extent(bytes, extents.compact)?;
+    put_extent(bytes, extents.regalign)?;
+    put_extent(bytes, extents.fullalign)?;
+    Ok(())
+}
+
+/// Puts the words of what is taken of an instance with this shell, whose component has these layouts.
+fn put_member(bytes: &mut Vec<u8>, shell: &Shell, layouts: &SharedLayouts) -> Result<(), AllocError>
+    ensures { OnOk result (Puts (member_words (shown_each shell.now layouts.now)) bytes.old.items bytes.new.items) }
+{
+    put_said(bytes, Said::of(shell))?;
+    put_extents(bytes, Extents::of(layouts))?;
+    Ok(())
+}
+
+/// The words, as bytes, of what the layouts of a component of this kind with these values and these instances are made of.
+pub(crate) fn words(
+    alloc: Global,
+    kind: Kind,
+    values: LayoutValues,
+    parts: &[Part],
+    components: &[Finished],
+) -> Result<Vec<u8>, AllocError>
+    ensures { IfOk result (λ bytes. bytes.items ≡ spelling (record { kind = kind; values = values; members = kept_members components.now parts.now })) }
+{
+    let room = parts.len().saturating_mul(14).saturating_add(8);
+    let mut bytes = Vec::with_capacity(alloc, room)?;
+    put_values(&mut bytes, kind, values)?;
+    for part in parts {
+        if let Some(finished) = part.component(components) {
+            put_member(&mut bytes, part.shell(), &finished.layouts)?;
+        }
+    }
+    Ok(bytes)
+}
