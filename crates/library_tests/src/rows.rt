@@ -1,5 +1,5 @@
 //! Rows made by hand.
-use rdl_elab::row::{Extent, NamesAround, Place, Row, RowPath};
+use rdl_elab::row::{Extent, NamesAround, Location, Row, RowPath};
 use rdl_elab::row_values::RowValues;
 use rdl_text::name::Name;
 use rdl_text::token::Number;
@@ -40,7 +40,7 @@ fn placed(
         names,
         kind,
         base,
-        place: Place::Bytes(extent),
+        location: Location::Bytes(extent),
         values,
     })
 }

@@ -10,8 +10,8 @@ use Rattle.rdl_tree.specs.declared.shell.Kind.TheVariants.{Addrmap, Regfile, Reg
 use Rattle.rdl_tree.specs.declared.value.Value.{Value}
 use Rattle.rdl_tree.specs.declared.value.Value.TheVariants as given
 use Rattle.rdl_elab.specs.declared.layout.Span.{Span}
-use Rattle.rdl_elab.specs.declared.row.Place.{Place}
-use Rattle.rdl_elab.specs.declared.row.Place.TheVariants.{Bytes, Bits}
+use Rattle.rdl_elab.specs.declared.row.Location.{Location}
+use Rattle.rdl_elab.specs.declared.row.Location.TheVariants.{Bytes, Bits}
 use Rattle.rdl_elab.specs.declared.row.Row.{Row}
 use Rattle.rdl_elab.specs.Reaches.{value_under}
 use Rattle.rdl_list.specs.ListText.{span_text}
@@ -30,15 +30,15 @@ pub data Told : Type 0 where
 -- ---- What a row tells.
 
 -- a field has bits, and any other row bytes
-abbrev pub offset_at : Place → Option ℕ
+abbrev pub offset_at : Location → Option ℕ
 offset_at (Bytes e) = Some e.offset
 offset_at (Bits s) = None
 
-abbrev pub size_at : Place → Option ℕ
+abbrev pub size_at : Location → Option ℕ
 size_at (Bytes e) = Some e.size
 size_at (Bits s) = None
 
-abbrev pub dims_at : Place → List ℕ
+abbrev pub dims_at : Location → List ℕ
 dims_at (Bytes e) = e.dims
 dims_at (Bits s) = []
 
@@ -47,22 +47,22 @@ abbrev pub stride_of : (dims : List ℕ) → (stride : ℕ) → Option ℕ
 stride_of [] stride = None
 stride_of (dim ∷ dims) stride = Some stride
 
-abbrev pub stride_at : Place → Option ℕ
+abbrev pub stride_at : Location → Option ℕ
 stride_at (Bytes e) = stride_of e.dims e.stride
 stride_at (Bits s) = None
 
-abbrev pub bits_at : Place → Option Span
+abbrev pub bits_at : Location → Option Span
 bits_at (Bytes e) = None
 bits_at (Bits s) = Some s
 
 abbrev pub told : What → Row → Told
 told what.Kind r = kind r.kind
 told what.Base r = number (Some r.base)
-told what.Offset r = number (offset_at r.place)
-told what.Size r = number (size_at r.place)
-told what.Dims r = sizes (dims_at r.place)
-told what.Stride r = number (stride_at r.place)
-told what.Bits r = bits (bits_at r.place)
+told what.Offset r = number (offset_at r.location)
+told what.Size r = number (size_at r.location)
+told what.Dims r = sizes (dims_at r.location)
+told what.Stride r = number (stride_at r.location)
+told what.Bits r = bits (bits_at r.location)
 told (what.Value p) r = value (value_under p r.values)
 
 -- all that it tells, in order

@@ -6,7 +6,7 @@ mod change;
 mod diff;
 pub mod laws;
 mod line;
-mod place;
+mod location;
 pub mod status;
 mod told;
 pub mod what;

@@ -6,7 +6,7 @@ ghost use Rattle.rdl_write.specs.Texts.{hexadecimal};
 ghost use Rattle.rdl_diff.specs.Told.{told, told_text, told_value_text, same, same_kind, same_span, same_value, or_none, sizes_text};
 ghost use Rattle.rdl_diff.specs.Seen.{seen};
 
-use crate::place::{bits_at, dims_at, offset_at, size_at, stride_at};
+use crate::location::{bits_at, dims_at, offset_at, size_at, stride_at};
 use crate::what::What;
 use rdl_elab::layout::Span;
 use rdl_elab::row::Row;
@@ -34,11 +34,11 @@ pub(crate) fn told_by(row: &Row, what: What) -> Told<'_>
     match what {
         What::Kind => Told::Kind(row.kind),
         What::Base => Told::Number(Some(Number::from(row.base))),
-        What::Offset => Told::Number(offset_at(&row.place)),
-        What::Size => Told::Number(size_at(&row.place)),
-        What::Dims => Told::Sizes(dims_at(&row.place)),
-        What::Stride => Told::Number(stride_at(&row.place)),
-        What::Bits => Told::Bits(bits_at(&row.place)),
+        What::Offset => Told::Number(offset_at(&row.location)),
+        What::Size => Told::Number(size_at(&row.location)),
+        What::Dims => Told::Sizes(dims_at(&row.location)),
+        What::Stride => Told::Number(stride_at(&row.location)),
+        What::Bits => Told::Bits(bits_at(&row.location)),
         What::Value(property) => Told::Value(row.values.get(property)),
     }
 }

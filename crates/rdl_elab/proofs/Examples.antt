@@ -23,8 +23,8 @@ use Rattle.rdl_elab.specs.declared.layout.Span.{Span}
 use Rattle.rdl_elab.specs.declared.layout.Layout.{Layout}
 use Rattle.rdl_elab.specs.Layouts.{layout}
 use Rattle.rdl_elab.specs.declared.row.PropertyValue.{PropertyValue}
-use Rattle.rdl_elab.specs.declared.row.Place.{Place}
-use Rattle.rdl_elab.specs.declared.row.Place.TheVariants.{Bytes, Bits}
+use Rattle.rdl_elab.specs.declared.row.Location.{Location}
+use Rattle.rdl_elab.specs.declared.row.Location.TheVariants.{Bytes, Bits}
 use Rattle.rdl_elab.specs.declared.row.Row.{Row}
 use Rattle.rdl_elab.specs.Rows.{rows_of}
 use Rattle.rdl_elab.specs.Shown.{valued}
@@ -131,13 +131,13 @@ abbrev ranged : List ℕ → ℕ → ℕ → Items → Items → Items
 ranged name high low body rest = holder (anonymous (record (bare_shell name) { range = Some (high, low) }) Field) body rest
 
 -- one instance of this size, at the start of the component around it
-abbrev pub alone : ℕ → Place
+abbrev pub alone : ℕ → Location
 alone size = Bytes (record { offset = 0; size = size; dims = []; stride = size })
 
-abbrev places : Items → Option (List Place)
-places d = option_map (λ c. map (λ (r : Row). r.place) (rows_of d (codes "top") c)) (root_type d (codes "top"))
+abbrev locations : Items → Option (List Location)
+locations d = option_map (λ c. map (λ (r : Row). r.location) (rows_of d (codes "top") c)) (root_type d (codes "top"))
 
-pub g-follows-f : places (one_reg (ranged (codes "f") 7 4 no_items (held (codes "g") Field no_items no_items)))
+pub g-follows-f : locations (one_reg (ranged (codes "f") 7 4 no_items (held (codes "g") Field no_items no_items)))
     ≡ Some (alone 4 ∷ alone 4 ∷ Bits (up 4 8) ∷ Bits (up 8 9) ∷ [])
 g-follows-f = refl
 
@@ -189,7 +189,7 @@ no-top = refl
 
 -- addrmap top {};
 pub one-row : elaborated (top no_items) None
-    ≡ Ok (record { names = codes "top" ∷ []; kind = Addrmap; base = 0; place = alone 0; values = valued Addressing (Worded word.Regalign) ∷ valued Lsb0 (Boolean true) ∷ [] } ∷ [])
+    ≡ Ok (record { names = codes "top" ∷ []; kind = Addrmap; base = 0; location = alone 0; values = valued Addressing (Worded word.Regalign) ∷ valued Lsb0 (Boolean true) ∷ [] } ∷ [])
 unfolding item_fault define_fault
 one-row = refl
 

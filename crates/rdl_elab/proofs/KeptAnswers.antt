@@ -12,7 +12,7 @@ use Rattle.rdl_scope.specs.ItemFaults.{first_of, fault_at, fault_of}
 use Rattle.rdl_scope.specs.Closed.{Made, component}
 use Rattle.rdl_elab.specs.declared.layout.Mode.TheVariants.{Regalign}
 use Rattle.rdl_elab.specs.declared.layout.Layout.{Layout}
-use Rattle.rdl_elab.specs.declared.row.Place.TheVariants.{Bytes}
+use Rattle.rdl_elab.specs.declared.row.Location.TheVariants.{Bytes}
 use Rattle.rdl_elab.specs.declared.row.Row.{Row}
 use Rattle.rdl_elab.specs.declared.walk.finished.Finished.{Finished}
 use Rattle.rdl_elab.specs.Layouts.{mode_inside}
@@ -122,7 +122,7 @@ module _ (d : Items) (n : ℕ) (name : List ℕ) (c : Made) (fs : List Finished)
           names = name ∷ [];
           kind = q.kept.kind i;
           base = 0;
-          place = Bytes (record { offset = 0; size = size-exact i; dims = []; stride = size-exact i });
+          location = Bytes (record { offset = 0; size = size-exact i; dims = []; stride = size-exact i });
           values = (q.kept.shown ∙ values-top d at c made) i;
         }
 

@@ -26,7 +26,7 @@ use Rattle.rdl_elab.specs.declared.walk.finished.Finished.{Finished}
 use Rattle.rdl_elab.specs.Layouts.{values_of, mode_inside, number_in, width_in, layout_of}
 use Rattle.rdl_elab.specs.Capped.{capped, capped_span}
 use Rattle.rdl_elab.specs.Shown.{shown_values}
-use Rattle.rdl_elab.specs.Rows.{place_of, base_of, Around, Judged, judged_row, inside, rows_in}
+use Rattle.rdl_elab.specs.Rows.{location_of, base_of, Around, Judged, judged_row, inside, rows_in}
 use Rattle.rdl_elab.specs.Faults.{levels, kind_fault, row_fault, first_row_fault}
 use Rattle.rdl_elab.specs.Found.{IsPartFound, ArePartsFound}
 use Rattle.rdl_elab.specs.Finished.{under, IsKept, IsPart, AreParts}
@@ -36,7 +36,7 @@ use Rattle.rdl_elab.proofs.Along.{along-further}
 use Rattle.rdl_elab.proofs.RowsAlong.{values-row, values-alone, reaches-body}
 use Rattle.rdl_elab.proofs.Telling.{told_after, told-append, one-component}
 use Rattle.rdl_elab.proofs.Fitting.{FieldsIn, BytesFit, OneFits, Fit, fits-inside}
-use Rattle.rdl_elab.proofs.SameRows.{sibling_of, seen-same, fault-same, span-exact, place-same, base-same}
+use Rattle.rdl_elab.proofs.SameRows.{sibling_of, seen-same, fault-same, span-exact, location-same, base-same}
 
 -- the rows up to the first that has a fault, and that fault
 abbrev pub told_judged : Items → List Row → List Judged → Told
@@ -168,7 +168,7 @@ module _ (d : Items) (fs : List Finished) (faultless : fault_of d ≡ None) wher
           names = a.names ++ ((ap (λ (x : Shell). x.name) shell) i) ∷ [];
           kind = k.kind i;
           base = ((λ j. finished_base (k.kind j) a.base (capped_span span)) ∙ base-same d a before span at s h within e fits.bytes) i;
-          place = ((λ j. place_of (k.kind j) (shell j) (capped_span span) (size-is j)) ∙ place-same d a before span at s h within e fits.bytes) i;
+          location = ((λ j. location_of (k.kind j) (shell j) (capped_span span) (size-is j)) ∙ location-same d a before span at s h within e fits.bytes) i;
           values = values-is i;
         }
 

@@ -20,7 +20,7 @@ use Rattle.rdl_elab.specs.declared.layout.Layout.{Layout}
 use Rattle.rdl_elab.specs.declared.rows.siblings.Sibling.{Sibling}
 use Rattle.rdl_elab.specs.Layouts.{values_of, number_in, layout_of}
 use Rattle.rdl_elab.specs.Capped.{capped, capped_span}
-use Rattle.rdl_elab.specs.Rows.{row_value, row_values, place_of, base_of, Around, Judged, judged_row}
+use Rattle.rdl_elab.specs.Rows.{row_value, row_values, location_of, base_of, Around, Judged, judged_row}
 use Rattle.rdl_elab.specs.Faults.{overlap, overlaps_one, is_read_only, is_write_only, may_share, clashes, is_reset_too_wide, reset_of, kind_fault}
 use Rattle.rdl_elab.specs.FinishedRows.{finished_base, seen, share, overlaps_before, clashes_before, extent_fault, finished_fault}
 use Rattle.rdl_elab.specs.Reaches.{value_under}
@@ -149,9 +149,9 @@ module _ (d : Items) where
         by_kind (inr g) = (bytes-exact g).0
 
     -- where the span is exact, so is the row's place
-    pub place-same : capped_span span ≡ span → ((h.kind ≡ Field) ⊎ BytesFit a.mode a.base span h within) → place_of h.kind s (capped_span span) (capped l.size) ≡ place_of h.kind s span l.size
-    place-same e (inl f) = ap (λ k. place_of k s (capped_span span) (capped l.size)) f ∙ ap (λ sp. place_of Field s sp l.size) e ∙ ap (λ k. place_of k s span l.size) (sym f)
-    place-same e (inr g) = λ i. place_of h.kind s (e i) ((bytes-exact g).1 i)
+    pub location-same : capped_span span ≡ span → ((h.kind ≡ Field) ⊎ BytesFit a.mode a.base span h within) → location_of h.kind s (capped_span span) (capped l.size) ≡ location_of h.kind s span l.size
+    location-same e (inl f) = ap (λ k. location_of k s (capped_span span) (capped l.size)) f ∙ ap (λ sp. location_of Field s sp l.size) e ∙ ap (λ k. location_of k s span l.size) (sym f)
+    location-same e (inr g) = λ i. location_of h.kind s (e i) ((bytes-exact g).1 i)
 
     base-kind : (k : Kind) → BytesFit a.mode a.base span h within → finished_base k a.base span ≡ base_of k a.base span
     base-kind Field g = refl

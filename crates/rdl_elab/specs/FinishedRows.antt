@@ -16,13 +16,13 @@ use Rattle.rdl_elab.specs.declared.layout.Mode.TheVariants.{Regalign}
 use Rattle.rdl_elab.specs.declared.layout.Span.{Span}
 use Rattle.rdl_elab.specs.declared.layout.LayoutValues.{LayoutValues}
 use Rattle.rdl_elab.specs.declared.row.PropertyValue.{PropertyValue}
-use Rattle.rdl_elab.specs.declared.row.Place.TheVariants.{Bytes}
+use Rattle.rdl_elab.specs.declared.row.Location.TheVariants.{Bytes}
 use Rattle.rdl_elab.specs.declared.row.Row.{Row}
 use Rattle.rdl_elab.specs.Kept.{Part}
 use Rattle.rdl_elab.specs.declared.walk.finished.Finished.{Finished}
 use Rattle.rdl_elab.specs.declared.rows.siblings.Sibling.{Sibling}
 use Rattle.rdl_elab.specs.Layouts.{mode_inside, number_in}
-use Rattle.rdl_elab.specs.Rows.{place_of}
+use Rattle.rdl_elab.specs.Rows.{location_of}
 use Rattle.rdl_elab.specs.Faults.{overlap, is_read_only, is_write_only, is_reset_too_wide}
 use Rattle.rdl_elab.specs.Reaches.{Reach, behind, value_under, values_along}
 use Rattle.rdl_elab.specs.Finished.{under}
@@ -58,7 +58,7 @@ finished_row o span p f =
       names = o.names ++ p.shell.name ∷ [];
       kind = f.kind;
       base = finished_base f.kind o.base span;
-      place = place_of f.kind p.shell span (under o.mode f.layouts).size;
+      location = location_of f.kind p.shell span (under o.mode f.layouts).size;
       values = finished_values f.kind p.shell.reset (behind p.at o.reaching) f.shown;
     }
 
@@ -156,7 +156,7 @@ finished_map_fault at f =
 abbrev pub finished_top_row : List ℕ → Finished → Row
 finished_top_row name f =
     let size = f.layouts.regalign.size in
-    record { names = name ∷ []; kind = f.kind; base = 0; place = Bytes (record { offset = 0; size = size; dims = []; stride = size }); values = f.shown }
+    record { names = name ∷ []; kind = f.kind; base = 0; location = Bytes (record { offset = 0; size = size; dims = []; stride = size }); values = f.shown }
 
 abbrev pub finished_around_top : List ℕ → Finished → Surroundings
 finished_around_top name f = record { mode = mode_inside f.kind f.values Regalign; names = name ∷ []; base = 0; bits = 0; reaching = f.assignments.items }

@@ -18,15 +18,15 @@ use Rattle.rdl_elab.specs.declared.layout.Mode.TheVariants.{Regalign}
 use Rattle.rdl_elab.specs.declared.layout.Span.{Span}
 use Rattle.rdl_elab.specs.declared.layout.Layout.{Layout}
 use Rattle.rdl_elab.specs.declared.row.PropertyValue.{PropertyValue}
-use Rattle.rdl_elab.specs.declared.row.Place.{Place}
-use Rattle.rdl_elab.specs.declared.row.Place.TheVariants.{Bytes, Bits}
+use Rattle.rdl_elab.specs.declared.row.Location.{Location}
+use Rattle.rdl_elab.specs.declared.row.Location.TheVariants.{Bytes, Bits}
 use Rattle.rdl_elab.specs.declared.row.Row.{Row}
 use Rattle.rdl_elab.specs.Layouts.{values_of, mode_inside, layout_of}
 use Rattle.rdl_elab.specs.Shown.{valued}
 
--- A row has the names from the top, the kind, the absolute address of the first element (a field's is that of its register), the place,
+-- A row has the names from the top, the kind, the absolute address of the first element (a field's is that of its register), the location,
 -- and the value of each property of the kind that has one, in the order of the table of properties.
--- Its place is the bytes of an instance in the component around it, from its first element on; or the bits of a field in its register.
+-- Its location is the bytes of an instance in the component around it, from its first element on; or the bits of a field in its register.
 -- the value of a property of the path of these instance items, which ends at this component
 abbrev pub row_value : Items → List (List ℕ) → Head → Property → Option Value
 row_value d path h p = if on p h.kind then option_map (shown (row p).form) (path_value d path h.at p) else None
@@ -36,9 +36,9 @@ abbrev pub row_values : Items → List (List ℕ) → Head → List PropertyValu
 row_values d path h = filter_map (λ p. option_map (valued p) (row_value d path h p)) properties
 
 -- a field has bits, and any other row bytes
-abbrev pub place_of : Kind → Shell → Span → ℕ → Place
-place_of Field s span size = Bits span
-place_of kind s span size = Bytes (record { offset = span.start; size = size; dims = s.dims; stride = unwrap_or s.stride size })
+abbrev pub location_of : Kind → Shell → Span → ℕ → Location
+location_of Field s span size = Bits span
+location_of kind s span size = Bytes (record { offset = span.start; size = size; dims = s.dims; stride = unwrap_or s.stride size })
 
 -- the address of an instance of a component at this base
 abbrev pub base_of : Kind → ℕ → Span → ℕ
@@ -71,7 +71,7 @@ pub record Judged : Type 0 where
 abbrev pub judged_row : Items → Around → List (Span × Option Value) → Span → List ℕ → Shell → Head → Layout → Judged
 judged_row d o before span at s h l =
     record {
-      row = record { names = o.names ++ s.name ∷ []; kind = h.kind; base = base_of h.kind o.base span; place = place_of h.kind s span l.size; values = row_values d (o.path ++ at ∷ []) h };
+      row = record { names = o.names ++ s.name ∷ []; kind = h.kind; base = base_of h.kind o.base span; location = location_of h.kind s span l.size; values = row_values d (o.path ++ at ∷ []) h };
       at = at;
       path = o.path ++ at ∷ [];
       shell = s;
@@ -117,7 +117,7 @@ rows_below d name c = rows_in d (around_top name c) [] (top_layout c).spans c.pa
 abbrev pub top_row : Items → List ℕ → Made → Row
 top_row d name c =
     let size = (top_layout c).size in
-    record { names = name ∷ []; kind = c.head.kind; base = 0; place = Bytes (record { offset = 0; size = size; dims = []; stride = size }); values = row_values d [] c.head }
+    record { names = name ∷ []; kind = c.head.kind; base = 0; location = Bytes (record { offset = 0; size = size; dims = []; stride = size }); values = row_values d [] c.head }
 
 -- all rows of a map with this top
 abbrev pub rows_of : Items → List ℕ → Made → List Row

@@ -15,7 +15,7 @@ use crate::walk::finished::Finished;
 use crate::walk::instances::mode_inside;
 use crate::layout::Mode;
 use crate::walk::reaches::with_own;
-use crate::row::{Extent, NamesAround, Place, Row, RowPath, Rows};
+use crate::row::{Extent, NamesAround, Location, Row, RowPath, Rows};
 use crate::row_values::RowValues;
 use crate::rows::{Around, add_rows};
 use crate::walk::lay_out_item;
@@ -140,7 +140,7 @@ fn top_row(alloc: Global, name: &Name, top: &Finished) -> Result<Row, AllocError
         names: RowPath::new(around, name.try_copy(alloc)?),
         kind: top.kind,
         base: 0,
-        place: Place::Bytes(Extent {
+        location: Location::Bytes(Extent {
             offset: 0,
             size,
             dims: Dims::new(alloc),

@@ -168,7 +168,7 @@ pub struct Extent {
 
 /// Where a row lies.
 #[derive(Debug, Drop)]
-pub enum Place {
+pub enum Location {
     Bytes(Extent),
     /// The bits of a field in its register.
     Bits(Span),
@@ -181,7 +181,7 @@ pub struct Row {
     pub kind: Kind,
     /// The absolute address of the first element, in bytes; a field's is that of its register.
     pub base: u64,
-    pub place: Place,
+    pub location: Location,
     pub values: RowValues,
 }
 

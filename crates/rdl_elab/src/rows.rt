@@ -2,7 +2,7 @@
 ghost use Rattle.std.specs.Prelude.{◌≡◌, ℕ, ◌+◌, ◌^◌, ◌-◌, ◌++◌, ◌∷◌, [], List, min, map, nat_lt, unwrap_or, zero, suc, true, false, Some, None, IfOk, OnOk, option_copied, slice_get};
 ghost use Rattle.rdl_scope.specs.ItemFaults.{fault_at};
 ghost use Rattle.rdl_elab.specs.Layouts.{number_in};
-ghost use Rattle.rdl_elab.specs.Rows.{place_of};
+ghost use Rattle.rdl_elab.specs.Rows.{location_of};
 ghost use Rattle.rdl_elab.specs.Onward.{IsOnward};
 ghost use Rattle.rdl_elab.specs.Reaches.{Reach, behind, value_under, values_along};
 ghost use Rattle.rdl_tree.specs.declared.property.Property.TheVariants.{Sw, Reset};
@@ -18,7 +18,7 @@ use crate::walk::finished::{Finished, Part};
 use crate::walk::instances::mode_inside;
 use crate::layout::{Mode, Span};
 use crate::walk::reaches::{Assignment, Onward, has_come, with_own};
-use crate::row::{Extent, NamesAround, Place, Row, RowPath};
+use crate::row::{Extent, NamesAround, Location, Row, RowPath};
 use crate::row_values::{ComponentValues, RowValues};
 use crate::rows::siblings::{Sibling, Siblings, as_sibling, is_reset_too_wide};
 use crate::walk::values::row_values;
@@ -74,18 +74,18 @@ fn extent(alloc: Global, shell: &Shell, span: Span, size: u64) -> Result<Extent,
     })
 }
 
-fn place(
+fn location(
     alloc: Global,
     kind: Kind,
     shell: &Shell,
     span: Span,
     size: u64,
-) -> Result<Place, AllocError>
-    ensures { IfOk result (λ place. place ≡ place_of kind shell.now span size) }
+) -> Result<Location, AllocError>
+    ensures { IfOk result (λ location. location ≡ location_of kind shell.now span size) }
 {
     match kind {
-        Kind::Field => Ok(Place::Bits(span)),
-        _ => Ok(Place::Bytes(extent(alloc, shell, span, size)?)),
+        Kind::Field => Ok(Location::Bits(span)),
+        _ => Ok(Location::Bytes(extent(alloc, shell, span, size)?)),
     }
 }
 
@@ -162,7 +162,7 @@ fn row(
         names: RowPath::new(around.names.clone()?, shell.name.try_copy(alloc)?),
         kind: component.kind,
         base: base(component.kind, around.base, span),
-        place: place(alloc, component.kind, shell, span, size)?,
+        location: location(alloc, component.kind, shell, span, size)?,
         values: values(
             alloc,
             component.kind,

@@ -16,8 +16,8 @@ use Rattle.std.specs.Ordering.{nat_cmp, eq_by_cmp}
 use Rattle.std.specs.Prelude.{Option, ◌||◌, ◌&&◌, not, nat_eq, nat_lt, bytes_eq, if◌then◌else◌}
 use Rattle.rdl_elab.specs.declared.layout.Span.{Span}
 use Rattle.rdl_elab.specs.declared.row.Extent.{Extent}
-use Rattle.rdl_elab.specs.declared.row.Place.{Place}
-use Rattle.rdl_elab.specs.declared.row.Place.TheVariants.{Bytes, Bits}
+use Rattle.rdl_elab.specs.declared.row.Location.{Location}
+use Rattle.rdl_elab.specs.declared.row.Location.TheVariants.{Bytes, Bits}
 use Rattle.rdl_elab.specs.declared.row.Row.{Row}
 use Rattle.rdl_header.specs.HeaderText.{Macro, path_text, hexadecimal_macro, word_macros, bytes_macros, mask, mask_macros, reset_macros, width, width_macros, bits_macros, macros_at, macros_of, register_behind, macros_below, macros, is_defined, clash_behind, first_clash}
 use Rattle.rdl_header.specs.Marks.{mark, is_narrow, path_marks}
@@ -235,7 +235,7 @@ field_named path register span reset h = record {
       ∙ sym (map-append (λ e. path ++ e) (mask_endings (nat_lt 8 register)) (codes "_bp" ∷ codes "_bw" ∷ reset_endings (nat_lt 64 (width span)) (div_ceil (width span) 32) reset));
 }
 
-place_named : (register : ℕ) (row : Row) (place : Place) → is_narrow place ≡ true → AreNamed (path_text row.names) (names_of (macros_at register row place))
+place_named : (register : ℕ) (row : Row) (place : Location) → is_narrow place ≡ true → AreNamed (path_text row.names) (names_of (macros_at register row place))
 unfolding bytes_macros
 place_named register row (Bytes extent) h = bytes_named (path_text row.names) row.base extent extent.dims
 place_named register row (Bits span) h = field_named (path_text row.names) register span _ h
@@ -243,7 +243,7 @@ place_named register row (Bits span) h = field_named (path_text row.names) regis
 -- ---- The names of rows.
 
 abbrev AreNarrow : List Row → Type 0
-AreNarrow rows = AllByRecursion (λ (row : Row). is_narrow row.place ≡ true) rows
+AreNarrow rows = AllByRecursion (λ (row : Row). is_narrow row.location ≡ true) rows
 
 abbrev plain_marks : List Row → List ℕ
 plain_marks rows = map (λ (row : Row). mark (path_text row.names)) rows
@@ -257,7 +257,7 @@ all_narrow : (rows : List Row) → AreApart (path_marks rows) → AreNarrow rows
 all_narrow [] h = (tt, refl)
 all_narrow (row ∷ rows) h =
     let m : ℕ = mark (path_text row.names) in
-    let narrow : is_narrow row.place ≡ true = narrow_by (is_narrow row.place) m (path_marks rows) h in
+    let narrow : is_narrow row.location ≡ true = narrow_by (is_narrow row.location) m (path_marks rows) h in
     let one : path_marks (row ∷ rows) ≡ m ∷ path_marks rows = ap (λ b. (m ∷ (if b then [] else m ∷ [])) ++ path_marks rows) narrow in
     let rest = all_narrow rows (IsDistinct-tail same m (path_marks rows) (subst AreApart one h)) in
     ((narrow, rest.0), one ∙ ap (λ ms. m ∷ ms) rest.1)
@@ -279,20 +279,20 @@ none_named p e q (f ∷ es) he hes h =
 abbrev names_below : ℕ → List Row → List (List ℕ)
 names_below register rows = names_of (macros_below register rows)
 
-first_row : (register : ℕ) (row : Row) (rows : List Row) (n : is_narrow row.place ≡ true) → names_below register (row ∷ rows) ≡ named (path_text row.names) (place_named register row row.place n).endings ++ names_below (register_behind register row.place) rows
+first_row : (register : ℕ) (row : Row) (rows : List Row) (n : is_narrow row.location ≡ true) → names_below register (row ∷ rows) ≡ named (path_text row.names) (place_named register row row.location n).endings ++ names_below (register_behind register row.location) rows
 first_row register row rows n =
-    map-append (λ (m : Macro). m.name) (macros_of register row) (macros_below (register_behind register row.place) rows)
-    ∙ ap (λ names. names ++ names_below (register_behind register row.place) rows) (place_named register row row.place n).is
+    map-append (λ (m : Macro). m.name) (macros_of register row) (macros_below (register_behind register row.location) rows)
+    ∙ ap (λ names. names ++ names_below (register_behind register row.location) rows) (place_named register row row.location n).is
 
 none_below : (p e : List ℕ) → is_ending e ≡ true → (register : ℕ) (rows : List Row) → AreNarrow rows → AllByRecursion (λ y. same (mark p) y ≡ false) (plain_marks rows) → IsNone (p ++ e) (names_below register rows)
 none_below p e he register [] n h = tt
 none_below p e he register (row ∷ rows) n h =
     let q : List ℕ = path_text row.names in
-    let r = place_named register row row.place n.0 in
+    let r = place_named register row row.location n.0 in
     subst (IsNone (p ++ e)) (sym (first_row register row rows n.0))
-    (all-append (λ y. bytes_eq (p ++ e) y ≡ false) (named q r.endings) (names_below (register_behind register row.place) rows)
+    (all-append (λ y. bytes_eq (p ++ e) y ≡ false) (named q r.endings) (names_below (register_behind register row.location) rows)
     (none_named p e q r.endings he r.good (differ p q h.0))
-    (none_below p e he (register_behind register row.place) rows n.1 h.1))
+    (none_below p e he (register_behind register row.location) rows n.1 h.1))
 
 distinct-append : (xs ys : List (List ℕ)) → IsDistinct bytes_eq xs → IsDistinct bytes_eq ys → AllByRecursion (λ x. IsNone x ys) xs → IsDistinct bytes_eq (xs ++ ys)
 unfolding IsDistinct
@@ -310,8 +310,8 @@ unfolding IsDistinct
 below_distinct register [] n h = tt
 below_distinct register (row ∷ rows) n h =
     let p : List ℕ = path_text row.names in
-    let r = place_named register row row.place n.0 in
-    let behind : ℕ = register_behind register row.place in
+    let r = place_named register row row.location n.0 in
+    let behind : ℕ = register_behind register row.location in
     subst (IsDistinct bytes_eq) (sym (first_row register row rows n.0))
     (distinct-append (named p r.endings) (names_below behind rows) (named_apart p r.endings r.good) (below_distinct behind rows n.1 h.1) (none_of_row p r.endings behind rows r.good n.1 h.0))
 

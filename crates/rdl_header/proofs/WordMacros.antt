@@ -38,24 +38,24 @@ word_added path ending name n i rest before now new e f so_far more =
 -- the register in which the fields behind these rows stand
 abbrev pub register_after : ℕ → List Row → ℕ
 register_after register [] = register
-register_after register (row ∷ rows) = register_after (register_behind register row.place) rows
+register_after register (row ∷ rows) = register_after (register_behind register row.location) rows
 
 below-append : (register : ℕ) (xs ys : List Row) → macros_below register (xs ++ ys) ≡ macros_below register xs ++ macros_below (register_after register xs) ys
 below-append register [] ys = refl
 below-append register (x ∷ xs) ys =
-    ap (λ ms. macros_of register x ++ ms) (below-append (register_behind register x.place) xs ys)
-    ∙ sym (append_assoc (macros_of register x) (macros_below (register_behind register x.place) xs) (macros_below (register_after (register_behind register x.place) xs) ys))
+    ap (λ ms. macros_of register x ++ ms) (below-append (register_behind register x.location) xs ys)
+    ∙ sym (append_assoc (macros_of register x) (macros_below (register_behind register x.location) xs) (macros_below (register_after (register_behind register x.location) xs) ys))
 
 after-append : (register : ℕ) (xs : List Row) (y : Row) → register_after register (xs ++ y ∷ []) ≡ register_behind (register_after register xs) y.place
 after-append register [] y = refl
-after-append register (x ∷ xs) y = after-append (register_behind register x.place) xs y
+after-append register (x ∷ xs) y = after-append (register_behind register x.location) xs y
 
 module _ (i : ℕ) (rows : List Row) (row : Row) (register : ℕ) (h : i < length rows) (item : row ≡ get_or rows i row) (inside : register ≡ register_after 0 (take i rows)) where
   one-more : take (i + 1) rows ≡ take i rows ++ row ∷ []
   one-more = take_more rows i row h ∙ ap (λ x. take i rows ++ x ∷ []) (sym item)
 
-  pub row_behind : register_behind register row.place ≡ register_after 0 (take (i + 1) rows)
-  row_behind = ap (λ r. register_behind r row.place) inside ∙ sym (after-append 0 (take i rows) row) ∙ ap (register_after 0) (sym one-more)
+  pub row_behind : register_behind register row.location ≡ register_after 0 (take (i + 1) rows)
+  row_behind = ap (λ r. register_behind r row.location) inside ∙ sym (after-append 0 (take i rows) row) ∙ ap (register_after 0) (sym one-more)
 
   taken : macros_below 0 (take (i + 1) rows) ≡ macros_below 0 (take i rows) ++ macros_of register row
   taken =

@@ -8,8 +8,8 @@ use Rattle.rdl_tree.specs.declared.property.Property.TheVariants.{Reset}
 use Rattle.rdl_scope.specs.ItemFaults.{product}
 use Rattle.rdl_elab.specs.declared.layout.Span.{Span}
 use Rattle.rdl_elab.specs.declared.row.Extent.{Extent}
-use Rattle.rdl_elab.specs.declared.row.Place.{Place}
-use Rattle.rdl_elab.specs.declared.row.Place.TheVariants.{Bytes, Bits}
+use Rattle.rdl_elab.specs.declared.row.Location.{Location}
+use Rattle.rdl_elab.specs.declared.row.Location.TheVariants.{Bytes, Bits}
 use Rattle.rdl_elab.specs.declared.row.Row.{Row}
 use Rattle.rdl_elab.specs.Layouts.{number_in}
 use Rattle.rdl_elab.specs.Reaches.{value_under}
@@ -94,22 +94,22 @@ abbrev pub bits_macros : (path : List ℕ) → (register : ℕ) → Span → (re
 bits_macros path register span reset = mask_macros path register span ++ width_macros path span reset
 
 -- those of a row; a field stands in a register of so many bytes
-abbrev pub macros_at : (register : ℕ) → Row → Place → List Macro
+abbrev pub macros_at : (register : ℕ) → Row → Location → List Macro
 macros_at register row (Bytes extent) = bytes_macros (path_text row.names) row.base extent
 macros_at register row (Bits span) = bits_macros (path_text row.names) register span (number_in (value_under Reset row.values))
 
 abbrev pub macros_of : (register : ℕ) → Row → List Macro
-macros_of register row = macros_at register row row.place
+macros_of register row = macros_at register row row.location
 
 -- the bytes of the register in which the fields behind a row stand, if there are any: fields stand behind their register
-abbrev pub register_behind : (register : ℕ) → Place → ℕ
+abbrev pub register_behind : (register : ℕ) → Location → ℕ
 register_behind register (Bytes extent) = extent.size
 register_behind register (Bits span) = register
 
 -- those of rows, one after the other
 abbrev pub macros_below : (register : ℕ) → List Row → List Macro
 macros_below register [] = []
-macros_below register (row ∷ rows) = macros_of register row ++ macros_below (register_behind register row.place) rows
+macros_below register (row ∷ rows) = macros_of register row ++ macros_below (register_behind register row.location) rows
 
 -- the macro that is defined wherever the header has been read, of the first row, which is the top
 abbrev pub guard : Row → Macro

@@ -8,7 +8,7 @@ ghost use Rattle.std.specs.Fmt.{decimal};
 use crate::bits::{mask, width};
 use crate::lines::Lines;
 use rdl_elab::layout::Span;
-use rdl_elab::row::{Extent, Place, Row, RowPath};
+use rdl_elab::row::{Extent, Location, Row, RowPath};
 use rdl_scope::shells::product;
 use rdl_text::token::Number;
 use rdl_tree::property::Property;
@@ -171,9 +171,9 @@ fn add_row(
     path.clear();
     push_path(path, &row.names)?;
     let path = path.as_str();
-    match &row.place {
-        Place::Bytes(extent) => add_bytes(lines, path, row.base, extent),
-        Place::Bits(span) => {
+    match &row.location {
+        Location::Bytes(extent) => add_bytes(lines, path, row.base, extent),
+        Location::Bits(span) => {
             let reset = row.values.number(Property::Reset);
             add_bits(alloc, lines, path, register, span, reset)
         }
@@ -181,12 +181,12 @@ fn add_row(
 }
 
 /// The bytes of the register in which the fields behind a row stand.
-fn register_behind(register: u64, place: &Place) -> u64
-    ensures { result ≡ register_behind register place.now }
+fn register_behind(register: u64, location: &Location) -> u64
+    ensures { result ≡ register_behind register location.now }
 {
-    match place {
-        Place::Bytes(extent) => extent.size,
-        Place::Bits(_) => register,
+    match location {
+        Location::Bytes(extent) => extent.size,
+        Location::Bits(_) => register,
     }
 }
 
@@ -199,17 +199,17 @@ fn add_rows(alloc: Global, lines: &mut Lines, rows: &[Row]) -> Result<(), AllocE
     let mut register = 0u64;
     'rows: for row in rows {
         add_row(alloc, lines, &mut path, register, row)?;
-        register = register_behind(register, &row.place);
+        register = register_behind(register, &row.location);
     }
     Ok(())
 }
 
 /// How many lines a row has, where no number takes several words.
-fn count(place: &Place) -> usize {
-    match place {
-        Place::Bytes(extent) if extent.dims.as_slice().is_empty() => 3,
-        Place::Bytes(_) => 5,
-        Place::Bits(_) => 4,
+fn count(location: &Location) -> usize {
+    match location {
+        Location::Bytes(extent) if extent.dims.as_slice().is_empty() => 3,
+        Location::Bytes(_) => 5,
+        Location::Bits(_) => 4,
     }
 }
 
@@ -224,7 +224,7 @@ fn bytes(path: &RowPath, count: usize) -> usize {
 fn room(rows: &[Row]) -> usize {
     let mut room = 64usize;
     'rows: for row in rows {
-        room = room.saturating_add(bytes(&row.names, count(&row.place)));
+        room = room.saturating_add(bytes(&row.names, count(&row.location)));
     }
     room
 }

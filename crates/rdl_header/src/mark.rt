@@ -7,7 +7,7 @@ ghost use Rattle.rdl_header.specs.HeaderText.{path_text, macros, first_clash};
 ghost use Rattle.rdl_header.specs.Marks.{mark_on, mark, is_narrow, row_marks, path_marks};
 
 use crate::bits::width;
-use rdl_elab::row::{Place, Row, RowPath};
+use rdl_elab::row::{Location, Row, RowPath};
 use std::alloc::{AllocError, Global};
 
 /// The mark of what this mark is of, with the bytes of a text behind it.
@@ -30,12 +30,12 @@ fn path_mark(path: &RowPath) -> u64
 }
 
 /// Whether the row has no number of more than four words.
-fn is_narrow(place: &Place) -> bool
-    ensures { result ≡ is_narrow place.now }
+fn is_narrow(location: &Location) -> bool
+    ensures { result ≡ is_narrow location.now }
 {
-    match place {
-        Place::Bytes(_) => true,
-        Place::Bits(span) => width(span) <= 128,
+    match location {
+        Location::Bytes(_) => true,
+        Location::Bits(span) => width(span) <= 128,
     }
 }
 
@@ -45,7 +45,7 @@ fn push_marks(marks: &mut Vec<u64>, row: &Row) -> Result<(), AllocError>
 {
     let mark = path_mark(&row.names);
     marks.push(mark)?;
-    if !is_narrow(&row.place) {
+    if !is_narrow(&row.location) {
         marks.push(mark)?;
     }
     Ok(())

@@ -5,8 +5,8 @@ use Rattle.std.specs.List.{flat_map}
 use Rattle.rdl_tree.specs.declared.property.Property.TheVariants.{Reset}
 use Rattle.rdl_elab.specs.declared.layout.Span.{Span}
 use Rattle.rdl_elab.specs.declared.row.Extent.{Extent}
-use Rattle.rdl_elab.specs.declared.row.Place.{Place}
-use Rattle.rdl_elab.specs.declared.row.Place.TheVariants.{Bytes, Bits}
+use Rattle.rdl_elab.specs.declared.row.Location.{Location}
+use Rattle.rdl_elab.specs.declared.row.Location.TheVariants.{Bytes, Bits}
 use Rattle.rdl_elab.specs.declared.row.Row.{Row}
 use Rattle.rdl_elab.specs.Layouts.{number_in}
 use Rattle.rdl_elab.specs.Reaches.{value_under}
@@ -54,12 +54,12 @@ unfoldable pub bits_line : (path : List ℕ) → Row → Span → List ℕ
 bits_line path row span =
     span_text span ++ codes " field " ++ path ++ reset_text (number_in (value_under Reset row.values)) ++ newline
 
-abbrev pub line_at : (path : List ℕ) → Row → Place → List ℕ
+abbrev pub line_at : (path : List ℕ) → Row → Location → List ℕ
 line_at path row (Bytes extent) = bytes_line path row extent
 line_at path row (Bits span) = bits_line path row span
 
 abbrev pub line_of : (path : List ℕ) → Row → List ℕ
-line_of path row = line_at path row row.place
+line_of path row = line_at path row row.location
 
 -- ---- The lines of `list`, whose PATH is the names from the top.
 

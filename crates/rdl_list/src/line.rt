@@ -3,7 +3,7 @@ ghost use Rattle.std.specs.Prelude.{◌≡◌, ◌++◌, ◌∷◌, [], drop, ma
 ghost use Rattle.rdl_list.specs.ListText.{path_text, part_text, stride_text, reset_text, head_text, extent_text, bytes_line, span_text, bits_line, line_of};
 
 use rdl_elab::layout::Span;
-use rdl_elab::row::{Extent, Place, Row, RowPath};
+use rdl_elab::row::{Extent, Location, Row, RowPath};
 use rdl_text::name::Name;
 use rdl_text::token::Number;
 use rdl_tree::dims::Dims;
@@ -115,8 +115,8 @@ fn push_bits(text: &mut String, row: &Row, span: &Span, left_out: usize) -> Resu
 pub fn push_row(text: &mut String, row: &Row, left_out: usize) -> Result<(), AllocError>
     ensures { OnOk result (string_bytes text.new ≡ string_bytes text.old ++ line_of (path_text (drop left_out row.now.names)) row.now) }
 {
-    match &row.place {
-        Place::Bytes(extent) => push_bytes(text, row, extent, left_out),
-        Place::Bits(span) => push_bits(text, row, span, left_out),
+    match &row.location {
+        Location::Bytes(extent) => push_bytes(text, row, extent, left_out),
+        Location::Bits(span) => push_bits(text, row, span, left_out),
     }
 }

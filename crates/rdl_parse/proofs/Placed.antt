@@ -16,7 +16,7 @@ use Rattle.rdl_tree.specs.declared.description.Of.{Of}
 use Rattle.rdl_tree.specs.declared.description.Of.TheVariants.{Named, Anonymous}
 use Rattle.rdl_parse.specs.declared.found.Spot.{Spot}
 use Rattle.rdl_parse.specs.Finds.{spot}
-use Rattle.rdl_parse.specs.declared.places.Place.{Place}
+use Rattle.rdl_parse.specs.declared.places.ItemPlace.{ItemPlace}
 use Rattle.rdl_text.specs.Word.{Word}
 use Rattle.rdl_parse.specs.Places.{place_of, from_item, inside_first, from_address, first_start, start_at}
 use Rattle.rdl_parse.specs.Symbol.{Symbol, mark, symbols}
@@ -31,7 +31,7 @@ Lies {A} inside (holder h body rest) ss = (s : A) × (inner : List A) × (others
 abbrev spot_inside : Spot → ℕ
 spot_inside s = s.inside
 
-abbrev place_inside : Place → ℕ
+abbrev place_inside : ItemPlace → ℕ
 place_inside p = p.inside
 
 abbrev pub Fits : Items → List Spot → Type 0
@@ -90,7 +90,7 @@ mutual
 
 -- ---- The walk.
 
-abbrev At : Items → List Place → Type 0
+abbrev At : Items → List ItemPlace → Type 0
 At d ss = Lies place_inside d ss
 
 -- the items of a body from the i-th on
@@ -101,11 +101,11 @@ items_from zero (holder h body rest) = holder h body rest
 items_from (suc i) (plain p rest) = items_from i rest
 items_from (suc i) (holder h body rest) = items_from i rest
 
-from-zero : (ss : List Place) → from_item 0 ss ≡ ss
+from-zero : (ss : List ItemPlace) → from_item 0 ss ≡ ss
 from-zero [] = refl
 from-zero (s ∷ ss) = refl
 
-fits-from : (i : ℕ) (d : Items) (ss : List Place) → At d ss → At (items_from i d) (from_item i ss)
+fits-from : (i : ℕ) (d : Items) (ss : List ItemPlace) → At d ss → At (items_from i d) (from_item i ss)
 fits-from i no_items ss h = ap (from_item i) h
 fits-from zero (plain p rest) ss h = subst (At (plain p rest)) (sym (from-zero ss)) h
 fits-from zero (holder k body rest) ss h = subst (At (holder k body rest)) (sym (from-zero ss)) h
@@ -134,7 +134,7 @@ some-from zero (holder h body rest) = refl
 some-from (suc i) (plain p rest) = some-from i rest
 some-from (suc i) (holder h body rest) = some-from i rest
 
-fits-more : (d : Items) (ss : List Place) → At d ss → is_some (first_start ss) ≡ is_more d
+fits-more : (d : Items) (ss : List ItemPlace) → At d ss → is_some (first_start ss) ≡ is_more d
 fits-more no_items ss h = ap (λ us. is_some (first_start us)) h
 fits-more (plain p rest) ss h = ap (λ us. is_some (first_start us)) h.2
 fits-more (holder k body rest) ss h = ap (λ us. is_some (first_start us)) h.3
@@ -143,7 +143,7 @@ abbrev or_empty : Option Items → Items
 or_empty None = no_items
 or_empty (Some b) = b
 
-fits-inside : (d : Items) (ss : List Place) → At d ss → At (or_empty (inner 0 d)) (inside_first ss)
+fits-inside : (d : Items) (ss : List ItemPlace) → At d ss → At (or_empty (inner 0 d)) (inside_first ss)
 fits-inside no_items ss h = ap inside_first h
 fits-inside (plain p rest) ss h = ap inside_first h.2 ∙ ap (λ n. take n h.1) h.3
 fits-inside (holder k body rest) ss h = subst (At body) (sym (ap inside_first h.3 ∙ ap (λ n. take n (h.1 ++ h.2)) h.4 ∙ take-append_seam h.1 h.2)) h.5
@@ -157,14 +157,14 @@ through : (j : ℕ) (path : List ℕ) (o : Option Items) → is_some (item_at (j
 through j path None = item-none j path
 through j path (Some b) = refl
 
-walk-finds : (i : ℕ) (path : List ℕ) (d : Items) (ss : List Place) → At d ss → is_some (first_start (from_address i path ss)) ≡ is_some (item_at (i ∷ path) d)
+walk-finds : (i : ℕ) (path : List ℕ) (d : Items) (ss : List ItemPlace) → At d ss → is_some (first_start (from_address i path ss)) ≡ is_some (item_at (i ∷ path) d)
 walk-finds i [] d ss h = fits-more (items_from i d) (from_item i ss) (fits-from i d ss h) ∙ sym (some-from i d)
 walk-finds i (j ∷ path) d ss h =
     walk-finds j path (or_empty (inner 0 (items_from i d))) (inside_first (from_item i ss)) (fits-inside (items_from i d) (from_item i ss) (fits-from i d ss h))
     ∙ ap (λ o. is_some (item_at (j ∷ path) (or_empty o))) (sym (inner-from i d))
     ∙ through j path (inner i d)
 
-pub fits-found : (path : List ℕ) (d : Items) (ss : List Place) → At d ss → is_some (start_at path ss) ≡ is_some (item_at path d)
+pub fits-found : (path : List ℕ) (d : Items) (ss : List ItemPlace) → At d ss → is_some (start_at path ss) ≡ is_some (item_at path d)
 fits-found [] d ss h = refl
 fits-found (i ∷ path) d ss h = walk-finds i path d ss h
 

@@ -5,19 +5,19 @@ use Rattle.std.specs.Option.{option_map, option_map_or}
 use Rattle.rdl_text.specs.Word.{Word}
 use Rattle.rdl_text.specs.Place.{line, column}
 use Rattle.rdl_parse.specs.declared.found.Spot.{Spot}
-use Rattle.rdl_parse.specs.declared.places.Place.{Place}
+use Rattle.rdl_parse.specs.declared.places.ItemPlace.{ItemPlace}
 
 -- the byte at which the word begins from which on so many words are left
 abbrev pub start_of : List Word → (left : ℕ) → ℕ
 start_of ws left = option_map_or (λ w. w.start) (slice_get ws (length ws - left)) 0
 
-abbrev pub place_of : List Word → Spot → Place
+abbrev pub place_of : List Word → Spot → ItemPlace
 place_of ws s = record { start = start_of ws s.left; inside = s.inside }
 
 -- a text, and the places of items whose words stand in it
 pub record Located : Type 0 where
   pub text : List ℕ
-  pub places : List Place
+  pub places : List ItemPlace
 
 abbrev pub located : List ℕ → List Word → List Spot → Located
 located text ws at = record { text = text; places = map (place_of ws) at }
@@ -25,27 +25,27 @@ located text ws at = record { text = text; places = map (place_of ws) at }
 -- ---- The place of the item at an address: past what is inside the items before it.
 
 -- these places from the i-th item of a body on
-abbrev pub from_item : ℕ → List Place → List Place
+abbrev pub from_item : ℕ → List ItemPlace → List ItemPlace
 from_item i [] = []
 from_item zero (p ∷ ps) = p ∷ ps
 from_item (suc i) (p ∷ ps) = from_item i (drop p.inside ps)
 
 -- the places inside the first item
-abbrev pub inside_first : List Place → List Place
+abbrev pub inside_first : List ItemPlace → List ItemPlace
 inside_first [] = []
 inside_first (p ∷ ps) = take p.inside ps
 
 -- the places from the item at an address on, where i is its first number and the path the others
-abbrev pub from_address : ℕ → List ℕ → List Place → List Place
+abbrev pub from_address : ℕ → List ℕ → List ItemPlace → List ItemPlace
 from_address i [] ps = from_item i ps
 from_address i (j ∷ path) ps = from_address j path (inside_first (from_item i ps))
 
-abbrev pub first_start : List Place → Option ℕ
+abbrev pub first_start : List ItemPlace → Option ℕ
 first_start [] = None
 first_start (p ∷ ps) = Some p.start
 
 -- the byte at which the word of the item begins, if there is an item
-abbrev pub start_at : List ℕ → List Place → Option ℕ
+abbrev pub start_at : List ℕ → List ItemPlace → Option ℕ
 start_at [] ps = None
 start_at (i ∷ path) ps = first_start (from_address i path ps)
 

@@ -12,7 +12,7 @@ use std::marker::Model;
 
 /// The byte at which the word of an item begins, and how many items are inside the item.
 #[derive(Clone, Copy, Debug, PartialEq, Eq)]
-pub struct Place {
+pub struct ItemPlace {
     pub start: usize,
     pub inside: usize,
 }
@@ -21,7 +21,7 @@ pub struct Place {
 #[derive(Debug, Drop)]
 pub struct Places<'a> {
     text: &'a str,
-    places: Vec<Place>,
+    places: Vec<ItemPlace>,
 }
 
 impl<'a> Model for Places<'a> {
@@ -42,7 +42,7 @@ pub(crate) fn start_of(words: &Tokens<'_>, left: usize) -> usize
     }
 }
 
-fn past(places: &[Place], count: usize) -> &[Place]
+fn past(places: &[ItemPlace], count: usize) -> &[ItemPlace]
     ensures { result.now ≡ drop count places.now }
 {
     if count <= places.len() {
@@ -52,7 +52,7 @@ fn past(places: &[Place], count: usize) -> &[Place]
     }
 }
 
-fn front(places: &[Place], count: usize) -> &[Place]
+fn front(places: &[ItemPlace], count: usize) -> &[ItemPlace]
     ensures { result.now ≡ take count places.now }
 {
     if count <= places.len() {
@@ -63,7 +63,7 @@ fn front(places: &[Place], count: usize) -> &[Place]
 }
 
 /// These places from the item of this number on. It goes past no more items than there are.
-fn from_item(places: &[Place], number: usize) -> &[Place]
+fn from_item(places: &[ItemPlace], number: usize) -> &[ItemPlace]
     ensures { result.now ≡ spec.from_item number places.now }
 {
     let mut rest = places;
@@ -76,7 +76,7 @@ fn from_item(places: &[Place], number: usize) -> &[Place]
     rest
 }
 
-fn inside_first(places: &[Place]) -> &[Place]
+fn inside_first(places: &[ItemPlace]) -> &[ItemPlace]
     ensures { result.now ≡ spec.inside_first places.now }
 {
     match places {
@@ -85,7 +85,7 @@ fn inside_first(places: &[Place]) -> &[Place]
     }
 }
 
-fn from_address<'p>(places: &'p [Place], number: usize, path: &[usize]) -> &'p [Place]
+fn from_address<'p>(places: &'p [ItemPlace], number: usize, path: &[usize]) -> &'p [ItemPlace]
     ensures { result.now ≡ spec.from_address number path.now places.now }
 {
     match path {
@@ -96,7 +96,7 @@ fn from_address<'p>(places: &'p [Place], number: usize, path: &[usize]) -> &'p [
     }
 }
 
-fn start_at(places: &[Place], path: &[usize]) -> Option<usize>
+fn start_at(places: &[ItemPlace], path: &[usize]) -> Option<usize>
     ensures { result ≡ spec.start_at path.now places.now }
 {
     let [number, others @ ..] = path else {
@@ -120,7 +120,7 @@ impl<'a> Places<'a> {
     {
         let mut places = Vec::with_capacity(alloc, spots.len())?;
         'spots: for spot in spots {
-            places.push(Place {
+            places.push(ItemPlace {
                 start: start_of(words, spot.left),
                 inside: spot.inside,
             })?;

@@ -9,7 +9,7 @@ pub mod Names
 pub mod Passed
 pub mod Patches
 pub mod Place
-pub mod Reach
+pub mod Sweep
 pub mod Refuses
 pub mod Removal
 pub mod Renaming

@@ -12,7 +12,7 @@ mod names;
 mod passed;
 mod patch;
 pub mod place;
-mod reach;
+mod sweep;
 mod removal;
 mod renaming;
 pub mod rewrite;

@@ -7,11 +7,11 @@ ghost use Rattle.rdl_scope.specs.Types.{component_of};
 ghost use Rattle.rdl_rewrite.specs.Addresses.{leads_to};
 ghost use Rattle.rdl_rewrite.specs.Firsts.{AreFirsts};
 ghost use Rattle.rdl_rewrite.specs.Passed.{may_hold, may_pass, passes_from, if_passed};
-ghost use Rattle.rdl_rewrite.specs.Reach.{Knows};
+ghost use Rattle.rdl_rewrite.specs.Sweep.{Knows};
 
 use crate::firsts::Firsts;
 use crate::leads::is_on;
-use crate::reach::Reach;
+use crate::sweep::Sweep;
 use rdl_scope::targets::{is_instance, passes};
 use rdl_text::name::Name;
 use rdl_tree::address::Address;
@@ -68,19 +68,19 @@ fn if_passed(way: &Address, path: Option<Vec<Address>>) -> Option<Vec<Address>>
 /// taken item stands.
 fn path_inside(
     alloc: Global,
-    reach: &Reach,
+    sweep: &Sweep,
     instance: Address,
     names: &[Name],
 ) -> Result<Option<Vec<Address>>, AllocError>
-    requires nesting { depth reach.now.whole.now.items ≤ 16 }
-    requires known { Knows reach.now }
-    requires inside { 0 < length names.now → component_of reach.now.whole.now.items instance ≡ Some (holder_of reach.now.way.now) }
-    ensures { IfOk result (λ path. option_map (λ v. v.items) path ≡ passes_from reach.now.whole.now.items instance names.now) }
+    requires nesting { depth sweep.now.whole.now.items ≤ 16 }
+    requires known { Knows sweep.now }
+    requires inside { 0 < length names.now → component_of sweep.now.whole.now.items instance ≡ Some (holder_of sweep.now.way.now) }
+    ensures { IfOk result (λ path. option_map (λ v. v.items) path ≡ passes_from sweep.now.whole.now.items instance names.now) }
 {
     if names.is_empty() {
         return Ok(Some(vec![in alloc; instance]?));
     }
-    match passes(alloc, reach.whole, &reach.place, reach.siblings, names)? {
+    match passes(alloc, sweep.whole, &sweep.place, sweep.siblings, names)? {
         Some(mut path) => {
             path.insert(0, instance)?;
             Ok(Some(path))
@@ -93,41 +93,41 @@ fn path_inside(
 /// `is_inside` says whether the instance's component is the one in which the taken item stands.
 fn path(
     alloc: Global,
-    reach: &Reach,
+    sweep: &Sweep,
     at: &Address,
     names: &[Name],
     instance: Address,
     is_inside: bool,
     rest: &[Name],
 ) -> Result<Option<Vec<Address>>, AllocError>
-    requires nesting { depth reach.now.whole.now.items ≤ 16 }
-    requires known { Knows reach.now }
+    requires nesting { depth sweep.now.whole.now.items ≤ 16 }
+    requires known { Knows sweep.now }
     requires stands { 0 < length at.now }
-    requires first { passes reach.now.whole.now.items (holder_of at.now) (number_of at.now) names.now ≡ passes_from reach.now.whole.now.items instance rest.now }
-    requires inside { is_inside ≡ leads_to (holder_of reach.now.way.now) (component_of reach.now.whole.now.items instance) }
-    ensures { IfOk result (λ path. option_map (λ v. v.items) path ≡ passes reach.now.whole.now.items (holder_of at.now) (number_of at.now) names.now) }
+    requires first { passes sweep.now.whole.now.items (holder_of at.now) (number_of at.now) names.now ≡ passes_from sweep.now.whole.now.items instance rest.now }
+    requires inside { is_inside ≡ leads_to (holder_of sweep.now.way.now) (component_of sweep.now.whole.now.items instance) }
+    ensures { IfOk result (λ path. option_map (λ v. v.items) path ≡ passes sweep.now.whole.now.items (holder_of at.now) (number_of at.now) names.now) }
 {
     if is_inside || rest.is_empty() {
-        return path_inside(alloc, reach, instance, rest);
+        return path_inside(alloc, sweep, instance, rest);
     }
-    passes(alloc, reach.whole, &at.holder(), at.number(), names)
+    passes(alloc, sweep.whole, &at.holder(), at.number(), names)
 }
 
 /// The instances that the names pass, if the taken item is one of them, for the assignment at this address, which stands
 /// behind these instances. Bodies are searched only where the names say that this may be so.
 pub(crate) fn passed<'a>(
     alloc: Global,
-    reach: &Reach<'a>,
+    sweep: &Sweep<'a>,
     at: &Address,
     names: &'a [Name],
     firsts: &Firsts<'a>,
 ) -> Result<Option<Vec<Address>>, AllocError>
-    requires nesting { depth reach.now.whole.now.items ≤ 16 }
-    requires known { Knows reach.now }
+    requires nesting { depth sweep.now.whole.now.items ≤ 16 }
+    requires known { Knows sweep.now }
     requires stands { 0 < length at.now }
     requires room { length at.now ≤ 17 }
-    requires firsts { AreFirsts reach.now.whole.now.items (holder_of reach.now.way.now) (holder_of at.now) (number_of at.now) firsts.now }
-    ensures { IfOk result (λ path. option_map (λ v. v.items) path ≡ if_passed reach.now.way.now (passes reach.now.whole.now.items (holder_of at.now) (number_of at.now) names.now)) }
+    requires firsts { AreFirsts sweep.now.whole.now.items (holder_of sweep.now.way.now) (holder_of at.now) (number_of at.now) firsts.now }
+    ensures { IfOk result (λ path. option_map (λ v. v.items) path ≡ if_passed sweep.now.way.now (passes sweep.now.whole.now.items (holder_of at.now) (number_of at.now) names.now)) }
 {
     let Some((name, rest)) = names.split_first() else {
         return Ok(None);
@@ -136,9 +136,9 @@ pub(crate) fn passed<'a>(
         return Ok(None);
     };
     let instance = at.holder().inside(number);
-    if &instance != reach.way && !may_pass(reach.taken, reach.holder, is_inside, rest) {
+    if &instance != sweep.way && !may_pass(sweep.taken, sweep.holder, is_inside, rest) {
         return Ok(None);
     }
-    let path = path(alloc, reach, at, names, instance, is_inside, rest)?;
-    Ok(if_passed(reach.way, path))
+    let path = path(alloc, sweep, at, names, instance, is_inside, rest)?;
+    Ok(if_passed(sweep.way, path))
 }

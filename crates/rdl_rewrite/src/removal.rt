@@ -10,7 +10,7 @@ ghost use Rattle.rdl_scope.specs.Types.{type_of};
 ghost use Rattle.rdl_rewrite.specs.Addresses.{leads_to, addresses};
 ghost use Rattle.rdl_rewrite.specs.Led.{IsLed};
 ghost use Rattle.rdl_rewrite.specs.Firsts.{AreFirsts, is_dynamic};
-ghost use Rattle.rdl_rewrite.specs.Reach.{Knows};
+ghost use Rattle.rdl_rewrite.specs.Sweep.{Knows};
 ghost use Rattle.rdl_rewrite.specs.Fates.{fate_in_removal, fate, fate_patches};
 ghost use Rattle.rdl_rewrite.specs.Removal.{is_in_use, goes, removed};
 ghost use Rattle.rdl_rewrite.specs.Refuses.{RefusesEdit};
@@ -21,7 +21,7 @@ use crate::fate::Fate;
 use crate::firsts::Firsts;
 use crate::leads::{leads_to, led_behind};
 use crate::passed::passed;
-use crate::reach::Reach;
+use crate::sweep::Sweep;
 use rdl_tree::address::Address;
 use rdl_tree::description::{Body, Description, Item};
 use rdl_tree::patch::Patch;
@@ -30,18 +30,18 @@ use std::alloc::{AllocError, Global};
 /// Whether the type of an instance in this body, at its address, is the taken item. `led` says whether a reference to its
 /// name leads to it where the body begins.
 #[cycle(used)]
-fn is_used(reach: &Reach, at: &Address, body: &Body, mut led: bool) -> bool
-    requires nesting { depth reach.now.whole.now.items ≤ 16 }
-    requires known { Knows reach.now }
-    requires here { body_at at.now reach.now.whole.now.items ≡ Some body.now }
-    requires led { IsLed reach.now.whole.now.items reach.now.way.now at.now led }
-    ensures { result ≡ list_any (λ a. leads_to reach.now.way.now (type_of reach.now.whole.now.items a)) (addresses at.now 0 body.now) }
+fn is_used(sweep: &Sweep, at: &Address, body: &Body, mut led: bool) -> bool
+    requires nesting { depth sweep.now.whole.now.items ≤ 16 }
+    requires known { Knows sweep.now }
+    requires here { body_at at.now sweep.now.whole.now.items ≡ Some body.now }
+    requires led { IsLed sweep.now.whole.now.items sweep.now.way.now at.now led }
+    ensures { result ≡ list_any (λ a. leads_to sweep.now.way.now (type_of sweep.now.whole.now.items a)) (addresses at.now 0 body.now) }
 {
     'items: for (number, found) in body.as_slice().iter().enumerate() {
-        if is_used_by(reach, at, number, found, led) {
+        if is_used_by(sweep, at, number, found, led) {
             return true;
         }
-        led = led_behind(reach.way, reach.taken, led, at, number, found);
+        led = led_behind(sweep.way, sweep.taken, led, at, number, found);
     }
     false
 }
@@ -49,31 +49,31 @@ fn is_used(reach: &Reach, at: &Address, body: &Body, mut led: bool) -> bool
 /// Whether the type of this item, of this number in the body at the address, or of an instance inside it, is the taken
 /// one. `led` says whether a reference to its name leads to it here.
 #[cycle(used)]
-fn is_used_by(reach: &Reach, at: &Address, number: usize, found: &Item, led: bool) -> bool
-    requires nesting { depth reach.now.whole.now.items ≤ 16 }
-    requires known { Knows reach.now }
+fn is_used_by(sweep: &Sweep, at: &Address, number: usize, found: &Item, led: bool) -> bool
+    requires nesting { depth sweep.now.whole.now.items ≤ 16 }
+    requires known { Knows sweep.now }
     requires room { length at.now < 17 }
-    requires here { item_at (at.now ++ number ∷ []) reach.now.whole.now.items ≡ Some found.now }
-    requires led { IsLed reach.now.whole.now.items reach.now.way.now (at.now ++ number ∷ []) led }
-    ensures { result ≡ list_any (λ a. leads_to reach.now.way.now (type_of reach.now.whole.now.items a)) (addresses at.now number (add found.now no_items)) }
+    requires here { item_at (at.now ++ number ∷ []) sweep.now.whole.now.items ≡ Some found.now }
+    requires led { IsLed sweep.now.whole.now.items sweep.now.way.now (at.now ++ number ∷ []) led }
+    ensures { result ≡ list_any (λ a. leads_to sweep.now.way.now (type_of sweep.now.whole.now.items a)) (addresses at.now number (add found.now no_items)) }
 {
     match found.own_body() {
-        Some(body) => is_used(reach, &at.inside(number), body, led),
-        None => leads_to(reach.taken, led, found),
+        Some(body) => is_used(sweep, &at.inside(number), body, led),
+        None => leads_to(sweep.taken, led, found),
     }
 }
 
 /// Whether the type of an instance is the taken item. Only a definition can be.
-fn is_in_use(reach: &Reach) -> bool
-    requires nesting { depth reach.now.whole.now.items ≤ 16 }
-    requires known { Knows reach.now }
-    ensures { result ≡ is_in_use reach.now.whole.now.items reach.now.way.now }
+fn is_in_use(sweep: &Sweep) -> bool
+    requires nesting { depth sweep.now.whole.now.items ≤ 16 }
+    requires known { Knows sweep.now }
+    ensures { result ≡ is_in_use sweep.now.whole.now.items sweep.now.way.now }
 {
-    let Some(found) = reach.taken else {
+    let Some(found) = sweep.taken else {
         return false;
     };
     match found {
-        Item::Define(..) => is_used(reach, &Address::new(), &reach.whole.items, false),
+        Item::Define(..) => is_used(sweep, &Address::new(), &sweep.whole.items, false),
         _ => false,
     }
 }
@@ -81,23 +81,23 @@ fn is_in_use(reach: &Reach) -> bool
 /// Whether this item, at its address, is the taken one, or an assignment behind these instances whose target passes that.
 fn goes<'a>(
     alloc: Global,
-    reach: &Reach<'a>,
+    sweep: &Sweep<'a>,
     at: &Address,
     found: &'a Item,
     firsts: &Firsts<'a>,
 ) -> Result<bool, AllocError>
-    requires nesting { depth reach.now.whole.now.items ≤ 16 }
-    requires known { Knows reach.now }
-    requires here { item_at at.now reach.now.whole.now.items ≡ Some found.now }
-    requires firsts { is_dynamic found.now ≡ true → AreFirsts reach.now.whole.now.items (holder_of reach.now.way.now) (holder_of at.now) (number_of at.now) firsts.now }
-    ensures { IfOk result (λ answer. answer ≡ goes reach.now.whole.now.items reach.now.way.now at.now) }
+    requires nesting { depth sweep.now.whole.now.items ≤ 16 }
+    requires known { Knows sweep.now }
+    requires here { item_at at.now sweep.now.whole.now.items ≡ Some found.now }
+    requires firsts { is_dynamic found.now ≡ true → AreFirsts sweep.now.whole.now.items (holder_of sweep.now.way.now) (holder_of at.now) (number_of at.now) firsts.now }
+    ensures { IfOk result (λ answer. answer ≡ goes sweep.now.whole.now.items sweep.now.way.now at.now) }
 {
-    if at == reach.way {
+    if at == sweep.way {
         return Ok(true);
     }
     match found {
         Item::Dynamic(target, ..) => {
-            let path = passed(alloc, reach, at, target.names(), firsts)?;
+            let path = passed(alloc, sweep, at, target.names(), firsts)?;
             Ok(path.is_some())
         }
         _ => Ok(false),
@@ -107,18 +107,18 @@ fn goes<'a>(
 /// What becomes of this item, at its address behind these instances, where the one on the way is taken out.
 pub(crate) fn fate<'a>(
     alloc: Global,
-    reach: &Reach<'a>,
+    sweep: &Sweep<'a>,
     at: &Address,
     found: &'a Item,
     firsts: &Firsts<'a>,
 ) -> Result<Fate, AllocError>
-    requires nesting { depth reach.now.whole.now.items ≤ 16 }
-    requires known { Knows reach.now }
-    requires here { item_at at.now reach.now.whole.now.items ≡ Some found.now }
-    requires firsts { is_dynamic found.now ≡ true → AreFirsts reach.now.whole.now.items (holder_of reach.now.way.now) (holder_of at.now) (number_of at.now) firsts.now }
-    ensures { IfOk result (λ fate. fate ≡ fate_in_removal reach.now.whole.now.items reach.now.way.now at.now) }
+    requires nesting { depth sweep.now.whole.now.items ≤ 16 }
+    requires known { Knows sweep.now }
+    requires here { item_at at.now sweep.now.whole.now.items ≡ Some found.now }
+    requires firsts { is_dynamic found.now ≡ true → AreFirsts sweep.now.whole.now.items (holder_of sweep.now.way.now) (holder_of at.now) (number_of at.now) firsts.now }
+    ensures { IfOk result (λ fate. fate ≡ fate_in_removal sweep.now.whole.now.items sweep.now.way.now at.now) }
 {
-    if goes(alloc, reach, at, found, firsts)? {
+    if goes(alloc, sweep, at, found, firsts)? {
         Ok(Fate::Dropped)
     } else {
         Ok(Fate::Kept)
@@ -141,9 +141,9 @@ pub fn remove<'a>(
     if whole.depth() > 16 {
         return Err(PatchRefusal::TooDeep);
     }
-    let reach = Reach::new(whole, way, None);
+    let sweep = Sweep::new(whole, way, None);
     if is_in_use(&reach) {
         return Err(PatchRefusal::InUse);
     }
-    Ok(reach.patches(alloc)?)
+    Ok(sweep.patches(alloc)?)
 }

@@ -7,7 +7,7 @@ ghost use Rattle.rdl_scope.specs.Target.{passes};
 ghost use Rattle.rdl_rewrite.specs.Firsts.{AreFirsts, is_dynamic};
 ghost use Rattle.rdl_rewrite.specs.Passed.{if_passed};
 ghost use Rattle.rdl_rewrite.specs.Led.{IsLed};
-ghost use Rattle.rdl_rewrite.specs.Reach.{Knows};
+ghost use Rattle.rdl_rewrite.specs.Sweep.{Knows};
 ghost use Rattle.rdl_rewrite.specs.Fates.{given_if, fate_of_target, fate_in_renaming, fate, fate_patches};
 ghost use Rattle.rdl_rewrite.specs.Names.{has_name};
 ghost use Rattle.rdl_rewrite.specs.Renaming.{renamed_names, is_reserved, names_in, is_taken, renamed};
@@ -20,7 +20,7 @@ use crate::firsts::Firsts;
 use crate::leads::{is_at, leads_to};
 use crate::names::{is_defined, is_instantiated};
 use crate::passed::passed;
-use crate::reach::Reach;
+use crate::sweep::Sweep;
 use rdl_parse::class::Class;
 use rdl_text::name::Name;
 use rdl_tree::address::Address;
@@ -91,22 +91,22 @@ fn shell_fate(alloc: Global, name: &Name, shell: &Shell) -> Result<Fate, AllocEr
 /// way.
 fn target_fate<'a>(
     alloc: Global,
-    reach: &Reach<'a>,
+    sweep: &Sweep<'a>,
     name: &Name,
     at: &Address,
     target: &'a Target,
     firsts: &Firsts<'a>,
 ) -> Result<Fate, AllocError>
-    requires nesting { depth reach.now.whole.now.items ≤ 16 }
-    requires known { Knows reach.now }
+    requires nesting { depth sweep.now.whole.now.items ≤ 16 }
+    requires known { Knows sweep.now }
     requires stands { 0 < length at.now }
     requires room { length at.now ≤ 17 }
-    requires firsts { AreFirsts reach.now.whole.now.items (holder_of reach.now.way.now) (holder_of at.now) (number_of at.now) firsts.now }
-    ensures { IfOk result (λ fate. fate ≡ fate_of_target reach.now.way.now name.now target.now (if_passed reach.now.way.now (passes reach.now.whole.now.items (holder_of at.now) (number_of at.now) target.now))) }
+    requires firsts { AreFirsts sweep.now.whole.now.items (holder_of sweep.now.way.now) (holder_of at.now) (number_of at.now) firsts.now }
+    ensures { IfOk result (λ fate. fate ≡ fate_of_target sweep.now.way.now name.now target.now (if_passed sweep.now.way.now (passes sweep.now.whole.now.items (holder_of at.now) (number_of at.now) target.now))) }
 {
-    match passed(alloc, reach, at, target.names(), firsts)? {
+    match passed(alloc, sweep, at, target.names(), firsts)? {
         Some(path) => {
-            let names = renamed_names(alloc, reach.way, name, path.as_slice(), target.names())?;
+            let names = renamed_names(alloc, sweep.way, name, path.as_slice(), target.names())?;
             Ok(Fate::Given(Part::OfTarget(Target::from_vec(names))))
         }
         None => Ok(Fate::Kept),
@@ -117,32 +117,32 @@ fn target_fate<'a>(
 /// whether a reference to the old name leads to that here.
 pub(crate) fn fate<'a>(
     alloc: Global,
-    reach: &Reach<'a>,
+    sweep: &Sweep<'a>,
     name: &Name,
     at: &Address,
     found: &'a Item,
     led: bool,
     firsts: &Firsts<'a>,
 ) -> Result<Fate, AllocError>
-    requires nesting { depth reach.now.whole.now.items ≤ 16 }
-    requires known { Knows reach.now }
-    requires here { item_at at.now reach.now.whole.now.items ≡ Some found.now }
-    requires led { IsLed reach.now.whole.now.items reach.now.way.now at.now led }
-    requires firsts { is_dynamic found.now ≡ true → AreFirsts reach.now.whole.now.items (holder_of reach.now.way.now) (holder_of at.now) (number_of at.now) firsts.now }
-    ensures { IfOk result (λ fate. fate ≡ fate_in_renaming reach.now.whole.now.items reach.now.way.now name.now at.now found.now) }
+    requires nesting { depth sweep.now.whole.now.items ≤ 16 }
+    requires known { Knows sweep.now }
+    requires here { item_at at.now sweep.now.whole.now.items ≡ Some found.now }
+    requires led { IsLed sweep.now.whole.now.items sweep.now.way.now at.now led }
+    requires firsts { is_dynamic found.now ≡ true → AreFirsts sweep.now.whole.now.items (holder_of sweep.now.way.now) (holder_of at.now) (number_of at.now) firsts.now }
+    ensures { IfOk result (λ fate. fate ≡ fate_in_renaming sweep.now.whole.now.items sweep.now.way.now name.now at.now found.now) }
 {
     match found {
-        Item::Define(..) => definition_fate(alloc, at == reach.way, name),
+        Item::Define(..) => definition_fate(alloc, at == sweep.way, name),
         Item::Instance(shell, of) => {
-            if at == reach.way {
+            if at == sweep.way {
                 return shell_fate(alloc, name, shell);
             }
             match of {
-                Of::Named(_) => type_fate(alloc, leads_to(reach.taken, led, found), name),
+                Of::Named(_) => type_fate(alloc, leads_to(sweep.taken, led, found), name),
                 Of::Anonymous(_) => Ok(Fate::Kept),
             }
         }
-        Item::Dynamic(target, ..) => target_fate(alloc, reach, name, at, target, firsts),
+        Item::Dynamic(target, ..) => target_fate(alloc, sweep, name, at, target, firsts),
         Item::Own(..) => Ok(Fate::Kept),
         Item::Default(..) => Ok(Fate::Kept),
     }
@@ -204,5 +204,5 @@ pub fn rename<'a>(
     if is_reserved(name) {
         return Err(PatchRefusal::Reserved);
     }
-    Ok(Reach::new(whole, way, Some(name)).patches(alloc)?)
+    Ok(Sweep::new(whole, way, Some(name)).patches(alloc)?)
 }

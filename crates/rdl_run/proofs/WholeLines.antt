@@ -4,8 +4,8 @@ use Rattle.std.specs.Fmt.{decimal}
 use Rattle.rdl_elab.specs.Layouts.{number_in}
 use Rattle.rdl_elab.specs.Reaches.{value_under}
 use Rattle.rdl_elab.specs.declared.layout.Span.{Span}
-use Rattle.rdl_elab.specs.declared.row.Place.{Place}
-use Rattle.rdl_elab.specs.declared.row.Place.TheVariants.{Bytes, Bits}
+use Rattle.rdl_elab.specs.declared.row.Location.{Location}
+use Rattle.rdl_elab.specs.declared.row.Location.TheVariants.{Bytes, Bits}
 use Rattle.rdl_elab.specs.declared.row.Row.{Row}
 use Rattle.rdl_list.specs.ListText.{path_text, reset_text, head_text, extent_text, span_text, bits_line, line_at, list_lines}
 use Rattle.rdl_script.specs.Commands.{Command, nothing, undo, redo, list, edit, add, refused, command_of}
@@ -34,13 +34,13 @@ bits-ends : (path : List ℕ) (row : Row) (span : Span) → EndsLine (bits_line 
 unfolding bits_line
 bits-ends path row span = ended (span_text span ++ codes " field " ++ path ++ reset_text (number_in (value_under Reset row.values)))
 
-line-ends : (path : List ℕ) (row : Row) (place : Place) → EndsLine (line_at path row place)
+line-ends : (path : List ℕ) (row : Row) (place : Location) → EndsLine (line_at path row place)
 line-ends path row (Bytes extent) = ended (head_text path row ++ extent_text extent)
 line-ends path row (Bits span) = bits-ends path row span
 
 rows-whole : (rows : List Row) → IsWholeLines (list_lines rows)
 rows-whole [] = inl refl
-rows-whole (row ∷ rows) = whole-append (line_at (path_text row.names) row row.place) (list_lines rows) (inr (line-ends (path_text row.names) row row.place)) (rows-whole rows)
+rows-whole (row ∷ rows) = whole-append (line_at (path_text row.names) row row.location) (list_lines rows) (inr (line-ends (path_text row.names) row row.location)) (rows-whole rows)
 
 -- ---- Replies.
 

@@ -25,7 +25,7 @@ use Rattle.rdl_scope.specs.ItemFaults.{kind_at, instance_kind, instance_fault}
 use Rattle.rdl_scope.specs.Keys.{Holds, has_key, key_before, texts}
 use Rattle.rdl_scope.specs.declared.keys.Keys.{Keys}
 use Rattle.rdl_scope.specs.declared.names.Names.{Names}
-use Rattle.rdl_scope.specs.declared.places.Place.{Place}
+use Rattle.rdl_scope.specs.declared.places.VisibleItem.{VisibleItem}
 use Rattle.rdl_scope.specs.declared.places.Places.{Places}
 use Rattle.rdl_scope.specs.declared.passed.Passed.{Passed}
 use Rattle.rdl_scope.specs.Scopes.{number_under, place_under, along_place, place_put, place_held, kind_held, Knows}
@@ -152,29 +152,29 @@ place-component d b n s (Anonymous c) f e scope =
     let all : length b ≤ length b = omega arith in
     ap (λ xs. Some (xs ++ n ∷ [])) (take_all (length b) b all) ∙ sym (component-anonymous d (b ++ n ∷ []) s c e)
 
-at-place : (d : Items) (b : List ℕ) (p : Option Place) → option_and_then (λ p. kind_at d (along_place b p)) p ≡ option_and_then (kind_at d) (option_map (along_place b) p)
+at-place : (d : Items) (b : List ℕ) (p : Option VisibleItem) → option_and_then (λ p. kind_at d (along_place b p)) p ≡ option_and_then (kind_at d) (option_map (along_place b) p)
 at-place d b None = refl
 at-place d b (Some p) = refl
 
 -- and its kind
-pub held-kind : (d : Items) (b : List ℕ) (n : ℕ) (s : Shell) (o : Of) (p : Option Place) → item_at (b ++ n ∷ []) d ≡ Some (Instance s o) → option_map (along_place b) p ≡ component_of d (b ++ n ∷ [])
+pub held-kind : (d : Items) (b : List ℕ) (n : ℕ) (s : Shell) (o : Of) (p : Option VisibleItem) → item_at (b ++ n ∷ []) d ≡ Some (Instance s o) → option_map (along_place b) p ≡ component_of d (b ++ n ∷ [])
     → kind_held d b o p ≡ instance_kind d (b ++ n ∷ [])
 held-kind d b n s (Named t) p e h = at-place d b p ∙ ap (option_and_then (kind_at d)) h
 held-kind d b n s (Anonymous c) p e h =
     sym (ap (option_and_then (kind_at d)) (component-anonymous d (b ++ n ∷ []) s c e) ∙ ap (λ x. option_map (λ (k : Component). k.kind) (option_and_then own_component x)) e)
 
 -- and its fault
-pub met-instance : (d : Items) (around : Option Kind) (b : List ℕ) (body : Items) (n : ℕ) (p : Passed) (s : Shell) (o : Of) (held : Option Place) (kind : Option Kind) (twice : Bool) → item_at (b ++ n ∷ []) d ≡ Some (Instance s o)
+pub met-instance : (d : Items) (around : Option Kind) (b : List ℕ) (body : Items) (n : ℕ) (p : Passed) (s : Shell) (o : Of) (held : Option VisibleItem) (kind : Option Kind) (twice : Bool) → item_at (b ++ n ∷ []) d ≡ Some (Instance s o)
     → option_map (along_place b) held ≡ component_of d (b ++ n ∷ []) → kind ≡ kind_held d b o held → twice ≡ is_some (place_under p.places s.name) → Knows d b body n p
     → instance_fault around twice s kind ≡ instance_fault around (is_some (instance_before s.name n body)) s (instance_kind d (b ++ n ∷ []))
 met-instance d around b body n p s o held kind twice e leads of before k =
     ap (λ t. instance_fault around t s kind) (before ∙ k.instances s.name) ∙ ap (instance_fault around (is_some (instance_before s.name n body)) s) (of ∙ held-kind d b n s o held e leads)
 
-put-some : (q name : List ℕ) (p : Place) (b : List ℕ) (old : Option Place) → option_map (along_place b) (place_put name q (Some p) old) ≡ cond (bytes_eq name q) (Some (along_place b p)) (option_map (along_place b) old)
+put-some : (q name : List ℕ) (p : VisibleItem) (b : List ℕ) (old : Option VisibleItem) → option_map (along_place b) (place_put name q (Some p) old) ≡ cond (bytes_eq name q) (Some (along_place b p)) (option_map (along_place b) old)
 put-some q name p b old =
     elim (bytes_eq name q) as (λ t. option_map (along_place b) (cond t (Some p) old) ≡ cond t (Some (along_place b p)) (option_map (along_place b) old)) [ true ↦ refl | false ↦ refl ]
 
-pub know-instance : (d : Items) (around : Option Kind) (b : List ℕ) (body : Items) (n : ℕ) (p : Passed) (s : Shell) (o : Of) (held : Option Place) (places : Places) → body_at b d ≡ Some body → slice_get (list_of body) n ≡ Some (Instance s o)
+pub know-instance : (d : Items) (around : Option Kind) (b : List ℕ) (body : Items) (n : ℕ) (p : Passed) (s : Shell) (o : Of) (held : Option VisibleItem) (places : Places) → body_at b d ≡ Some body → slice_get (list_of body) n ≡ Some (Instance s o)
     → option_map (along_place b) held ≡ component_of d (b ++ n ∷ [])
     → instance_fault around (is_some (instance_before s.name n body)) s (instance_kind d (b ++ n ∷ [])) ≡ None
     → ((q : List ℕ) → place_under places q ≡ place_put s.name q held (place_under p.places q)) → Knows d b body n p → Knows d b body (n + 1) (record p { places = places })

@@ -14,7 +14,7 @@ use Rattle.rdl_scope.specs.ItemFaults.{kind_at, target_kind}
 use Rattle.rdl_scope.specs.ByName.{value_under}
 use Rattle.rdl_scope.specs.Keys.{Holds, key_before}
 use Rattle.rdl_scope.specs.declared.names.Names.{Names}
-use Rattle.rdl_scope.specs.declared.places.Place.{Place}
+use Rattle.rdl_scope.specs.declared.places.VisibleItem.{VisibleItem}
 use Rattle.rdl_scope.specs.declared.places.Places.{Places}
 use Rattle.rdl_scope.specs.declared.passed.Passed.{Passed}
 
@@ -32,11 +32,11 @@ abbrev pub scope_found : List Names → Names → List ℕ → Option (ℕ × �
 scope_found levels m q = option_or (option_map (λ k. (length levels, k)) (number_under m q)) (level_found 0 levels q)
 
 -- the place under a name
-abbrev pub place_under : Places → List ℕ → Option Place
+abbrev pub place_under : Places → List ℕ → Option VisibleItem
 place_under m q = value_under m.places q
 
 -- the address of a place along the address of a body
-abbrev pub along_place : List ℕ → Place → List ℕ
+abbrev pub along_place : List ℕ → VisibleItem → List ℕ
 along_place b p = take p.depth b ++ p.number ∷ []
 
 -- where the component of the instance of a name stands, for the body at b
@@ -44,17 +44,17 @@ abbrev pub address_under : List ℕ → Places → List ℕ → Option (List ℕ
 address_under b m q = option_map (along_place b) (place_under m q)
 
 -- what is under q after an instance of this name with this component
-abbrev pub place_put : List ℕ → List ℕ → (held old : Option Place) → Option Place
+abbrev pub place_put : List ℕ → List ℕ → (held old : Option VisibleItem) → Option VisibleItem
 place_put name q None old = old
 place_put name q (Some p) old = if bytes_eq name q then Some p else old
 
 -- the place of the component of item n of the body at b, an instance of this, where the definitions are found so
-abbrev pub place_held : List ℕ → ℕ → Of → (List ℕ → Option (ℕ × ℕ)) → Option Place
+abbrev pub place_held : List ℕ → ℕ → Of → (List ℕ → Option (ℕ × ℕ)) → Option VisibleItem
 place_held b n (Named t) f = option_map (λ p. record { depth = p.0; number = p.1 }) (f t)
 place_held b n (Anonymous c) f = Some (record { depth = length b; number = n })
 
 -- the kind of the component at this place, that of an instance of this
-abbrev pub kind_held : Items → List ℕ → Of → Option Place → Option Kind
+abbrev pub kind_held : Items → List ℕ → Of → Option VisibleItem → Option Kind
 kind_held d b (Named t) p = option_and_then (λ p. kind_at d (along_place b p)) p
 kind_held d b (Anonymous c) p = Some c.kind
 

@@ -13,9 +13,9 @@ use rdl_tree::description::{Body, Description, Item, Of};
 use rdl_tree::shell::Kind;
 use std::alloc::{AllocError, Global};
 
-/// The place of an item as a body at some address sees it: its number in the body that is so deep along the address.
+/// An item as a body at some address sees it: its number in the body that is so deep along the address.
 #[derive(Clone, Copy)]
-pub(crate) struct Place {
+pub(crate) struct VisibleItem {
     pub(crate) depth: usize,
     pub(crate) number: usize,
 }
@@ -23,7 +23,7 @@ pub(crate) struct Place {
 /// The places of the components of instances, under the instances' names.
 #[derive(Drop)]
 pub(crate) struct Places<'a> {
-    places: ByName<'a, Place>,
+    places: ByName<'a, VisibleItem>,
 }
 
 impl<'a> Places<'a> {
@@ -40,14 +40,14 @@ impl<'a> Places<'a> {
         })
     }
 
-    pub(crate) fn get(&self, name: &'a str) -> Option<Place>
+    pub(crate) fn get(&self, name: &'a str) -> Option<VisibleItem>
         ensures { result ≡ place_under self.now name.now }
     {
         self.places.get(name)
     }
 
     /// Puts the place, if there is one, under the name, and answers whether one was there.
-    pub(crate) fn note(&mut self, name: &'a str, place: Option<Place>) -> Result<bool, AllocError>
+    pub(crate) fn note(&mut self, name: &'a str, place: Option<VisibleItem>) -> Result<bool, AllocError>
         ensures twice { IfOk result (λ twice. twice ≡ is_some (place_under self.old name.now)) }
         ensures noted { OnOk result ((q : List ℕ) → place_under self.new q ≡ place_put name.now q place (place_under self.old q)) }
     {
@@ -59,7 +59,7 @@ impl<'a> Places<'a> {
 }
 
 /// The address of a place along the address of a body.
-pub(crate) fn address_of(at: &Address, place: Place) -> Address
+pub(crate) fn address_of(at: &Address, place: VisibleItem) -> Address
     requires { length at.now < 17 }
     ensures { result ≡ along_place at.now place }
 {
@@ -78,7 +78,7 @@ fn item_along<'a>(body: &'a Body, path: &[usize], depth: usize, number: usize) -
     }
 }
 
-fn kind_at(description: &Description, at: &Address, place: Place) -> Option<Kind>
+fn kind_at(description: &Description, at: &Address, place: VisibleItem) -> Option<Kind>
     ensures { result ≡ kind_at description.now.items (along_place at.now place) }
 {
     let item = item_along(&description.items, at.as_slice(), place.depth, place.number)?;
@@ -92,15 +92,15 @@ pub(crate) fn place_of<'a>(
     of: &'a Of,
     levels: &[Names<'a>],
     definitions: &Names<'a>,
-) -> Option<Place>
+) -> Option<VisibleItem>
     ensures { result ≡ place_held at.now n of.now (scope_found levels.now definitions.now) }
 {
     match of {
         Of::Named(name) => {
             let (depth, number) = scope_found(levels, definitions, name.as_str())?;
-            Some(Place { depth, number })
+            Some(VisibleItem { depth, number })
         }
-        Of::Anonymous(_) => Some(Place {
+        Of::Anonymous(_) => Some(VisibleItem {
             depth: at.len(),
             number: n,
         }),
@@ -112,7 +112,7 @@ pub(crate) fn kind_of(
     description: &Description,
     at: &Address,
     of: &Of,
-    place: Option<Place>,
+    place: Option<VisibleItem>,
 ) -> Option<Kind>
     ensures { result ≡ kind_held description.now.items at.now of.now place }
 {

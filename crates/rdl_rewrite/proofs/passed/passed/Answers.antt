@@ -16,9 +16,9 @@ inside-instance-requires c = omega (arith, ap length c.holder.ensures, length-ta
 
 pub returns-then-not-may_pass : goal.returns-then-not-may_pass
 returns-then-not-may_pass c =
-    let reach = c.args.reach.now in
-    let d = reach.whole.now.items in
-    let way = reach.way.now in
+    let sweep = c.args.sweep.now in
+    let d = sweep.whole.now.items in
+    let way = sweep.way.now in
     let place = holder_of way in
     let b = holder_of c.args.at.now in
     let n = number_of c.args.at.now in
@@ -31,7 +31,7 @@ returns-then-not-may_pass c =
     let here = c.inside-instance.ensures ∙ ap (λ p. p ++ k ∷ []) c.holder.ensures in
     let apart : same (b ++ k ∷ []) way ≡ false = ap (λ a. same a way) (sym here) ∙ not-true (same c.inside-instance.result way) (sym c.ne.ensures ∙ c.if-ne.true) in
     let may : may_pass (item_at way d) (item_at place d) inside rest ≡ false =
-    ap (λ o. may_pass o (item_at place d) inside rest) (sym c.requires.known.taken) ∙ ap (λ o. may_pass (option_copied reach.taken) o inside rest) (sym c.requires.known.holder)
+    ap (λ o. may_pass o (item_at place d) inside rest) (sym c.requires.known.taken) ∙ ap (λ o. may_pass (option_copied sweep.taken) o inside rest) (sym c.requires.known.holder)
     ∙ sym c.may_pass.ensures ∙ c.if-not-may_pass.true in
     let path : passes d b n c.args.names.now ≡ passes_from d (b ++ k ∷ []) rest =
     ap (passes d b n) c.in-Some.ensures.cases.0 ∙ passes-first d b n name rest ∙ ap (option_and_then (λ a. passes_from d a rest)) first.0 in

@@ -15,12 +15,12 @@ use Rattle.rdl_rewrite.proofs.removal.+used.Goals as goal
 pub is_used-items-init : goal.is_used-items-init
 is_used-items-init t c = record {
   unmet = any_first _ c.args.at.now c.args.body.now c.as_slice-found-items.result.now c.as_slice-found-items.ensures;
-  led = led_first c.args.reach.now.whole.now.items c.args.reach.now.way.now c.args.at.now c.args.body.now c.args.led c.requires.here c.requires.led;
+  led = led_first c.args.sweep.now.whole.now.items c.args.sweep.now.way.now c.args.at.now c.args.body.now c.args.led c.requires.here c.requires.led;
 }
 
 pub is_used-is_used_by-requires : goal.is_used-is_used_by-requires
 is_used-is_used_by-requires t c =
-    let d = c.args.reach.now.whole.now.items in
+    let d = c.args.sweep.now.whole.now.items in
     let h = count-item c.as_slice-found-items.result.now c.items.number c.found-item.result c.args.body.now c.items-test.true c.found-item.is c.as_slice-found-items.ensures in
     let less : 2 * item_count c.found-item.result < t = omega (arith, h, c.decreases) in
     let room : length c.args.at.now < 17 = omega (arith, depth-body_at c.args.at.now d c.args.body.now c.requires.here, c.requires.nesting) in
@@ -28,12 +28,12 @@ is_used-is_used_by-requires t c =
     (less, (c.requires.nesting, (c.requires.known, (room, (here, c.items.invariant.led)))))
 
 pub is_used-led_behind-led-requires : goal.is_used-led_behind-led-requires
-is_used-led_behind-led-requires t c = omega (arith, depth-body_at c.args.at.now c.args.reach.now.whole.now.items c.args.body.now c.requires.here, c.requires.nesting)
+is_used-led_behind-led-requires t c = omega (arith, depth-body_at c.args.at.now c.args.sweep.now.whole.now.items c.args.body.now c.requires.here, c.requires.nesting)
 
 pub is_used-items-preserved : goal.is_used-items-preserved
 is_used-items-preserved t c =
-    let d = c.args.reach.now.whole.now.items in
-    let way = c.args.reach.now.way.now in
+    let d = c.args.sweep.now.whole.now.items in
+    let way = c.args.sweep.now.way.now in
     let got = item_got c.args.body.now c.items.number c.as_slice-found-items.result.now c.found-item.result c.as_slice-found-items.ensures c.items-test.true c.found-item.is in
     record {
       unmet = any_unmet _ c.args.at.now c.items.number c.as_slice-found-items.result.now c.found-item.result c.is_used_by.result _ c.items-test.true c.found-item.is c.is_used_by.ensures c.if-is_used_by.false c.items.invariant.unmet;
@@ -47,12 +47,12 @@ is_used_by-is_used-requires t c =
     let h = count-own c.args.found.now c.in-Some.body.now held in
     let less : 2 * count c.in-Some.body.now + 1 < t = omega (arith, h, c.decreases) in
     let at = c.inside.ensures in
-    (less, (c.requires.nesting, (c.requires.known, (ap (λ a. body_at a c.args.reach.now.whole.now.items) at ∙ body_at-item _ c.args.reach.now.whole.now.items c.args.found.now c.requires.here ∙ held, led_here _ _ _ _ _ at c.requires.led))))
+    (less, (c.requires.nesting, (c.requires.known, (ap (λ a. body_at a c.args.sweep.now.whole.now.items) at ∙ body_at-item _ c.args.sweep.now.whole.now.items c.args.found.now c.requires.here ∙ held, led_here _ _ _ _ _ at c.requires.led))))
 
 pub is_used_by-returns-in-None : goal.is_used_by-returns-in-None
 is_used_by-returns-in-None t c =
-    let d = c.args.reach.now.whole.now.items in
-    let way = c.args.reach.now.way.now in
+    let d = c.args.sweep.now.whole.now.items in
+    let way = c.args.sweep.now.way.now in
     let at = c.args.at.now ++ c.args.number ∷ [] in
     any_itself (λ a. leads_to way (type_of d a)) c.args.at.now c.args.number c.args.found.now _ (sym c.in-None.ensures)
     (c.leads_to.ensures ∙ ap (λ o. c.args.led && refers_to o c.args.found.now) c.requires.known.taken ∙ led_type d way at c.args.found.now c.args.led c.requires.here c.requires.led)

@@ -16,7 +16,7 @@ decreases-is_used_by l = 2 * item_count l.found.now
 
 abbrev pub invariant-is_used-items : goal.invariant-is_used-items
 invariant-is_used-items l = record {
-  unmet : list_any (λ a. leads_to l.reach.way.now (type_of l.reach.whole.now.items a)) (addresses l.at 0 l.body)
-      ≡ list_any (λ a. leads_to l.reach.way.now (type_of l.reach.whole.now.items a)) (addresses l.at l.number (items_of (drop l.number l.found-items)));
-  led : IsLed l.reach.whole.now.items l.reach.way.now (l.at ++ l.number ∷ []) l.led;
+  unmet : list_any (λ a. leads_to l.sweep.way.now (type_of l.sweep.whole.now.items a)) (addresses l.at 0 l.body)
+      ≡ list_any (λ a. leads_to l.sweep.way.now (type_of l.sweep.whole.now.items a)) (addresses l.at l.number (items_of (drop l.number l.found-items)));
+  led : IsLed l.sweep.whole.now.items l.sweep.way.now (l.at ++ l.number ∷ []) l.led;
 }

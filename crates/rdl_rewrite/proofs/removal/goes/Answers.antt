@@ -8,12 +8,12 @@ use Rattle.rdl_rewrite.proofs.Located.{item-short}
 use Rattle.rdl_rewrite.proofs.removal.goes.Goals as goal
 
 pub passed-requires-clause-room : goal.passed-requires-clause-room
-passed-requires-clause-room c = item-short c.args.at.now c.args.reach.now.whole.now.items c.args.found.now c.requires.here c.requires.nesting
+passed-requires-clause-room c = item-short c.args.at.now c.args.sweep.now.whole.now.items c.args.found.now c.requires.here c.requires.nesting
 
 pub returns-in_ok-path-in-Dynamic : goal.returns-in_ok-path-in-Dynamic
 returns-in_ok-path-in-Dynamic c =
-    let d = c.args.reach.now.whole.now.items in
-    let way = c.args.reach.now.way.now in
+    let d = c.args.sweep.now.whole.now.items in
+    let way = c.args.sweep.now.way.now in
     let at = c.args.at.now in
     let path = passes d (holder_of at) (number_of at) in
     c.is_some.ensures ∙ sym (some-map (λ v. v.items) c.in_ok-path-in-Dynamic.path) ∙ ap is_some c.in_ok-path-in-Dynamic.ensures ∙ some_passed way (path c.names.result.now)

@@ -16,8 +16,8 @@ use Rattle.rdl_rewrite.proofs.renaming.fate.Goals as goal
 
 pub returns-in-Named : goal.returns-in-Named
 returns-in-Named c =
-    let d = c.args.reach.now.whole.now.items in
-    let way = c.args.reach.now.way.now in
+    let d = c.args.sweep.now.whole.now.items in
+    let way = c.args.sweep.now.way.now in
     let name = c.args.name.now in
     let at = c.args.at.now in
     let x = c.args.found.now in
@@ -26,12 +26,12 @@ returns-in-Named c =
     IfOk-weaker c.type_fate.result (λ fate. fate ≡ given_if c.leads_to.result (OfType name)) (λ fate. fate ≡ fate_in_renaming d way name at x) (λ _ is. is ∙ named) c.type_fate.ensures
 
 pub target_fate-requires-clause-room : goal.target_fate-requires-clause-room
-target_fate-requires-clause-room c = item-short c.args.at.now c.args.reach.now.whole.now.items c.args.found.now c.requires.here c.requires.nesting
+target_fate-requires-clause-room c = item-short c.args.at.now c.args.sweep.now.whole.now.items c.args.found.now c.requires.here c.requires.nesting
 
 pub returns-in-Dynamic : goal.returns-in-Dynamic
 returns-in-Dynamic c =
-    let d = c.args.reach.now.whole.now.items in
-    let way = c.args.reach.now.way.now in
+    let d = c.args.sweep.now.whole.now.items in
+    let way = c.args.sweep.now.way.now in
     let name = c.args.name.now in
     let at = c.args.at.now in
     let x = c.args.found.now in

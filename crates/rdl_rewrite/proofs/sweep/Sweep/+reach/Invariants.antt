@@ -6,7 +6,7 @@ use Rattle.rdl_tree.proofs.Sizes.{item_count}
 use Rattle.rdl_rewrite.specs.Fates.{fate, fate_patches}
 use Rattle.rdl_rewrite.specs.Firsts.{AreFirsts}
 use Rattle.rdl_rewrite.specs.Led.{IsLed}
-use Rattle.rdl_rewrite.proofs.reach.Reach.+reach.Given as goal
+use Rattle.rdl_rewrite.proofs.sweep.Sweep.+reach.Given as goal
 
 abbrev pub decreases-push_body : goal.decreases-push_body
 decreases-push_body l = 2 * count l.body.now + 1

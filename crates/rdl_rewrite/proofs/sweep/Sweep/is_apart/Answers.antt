@@ -1,7 +1,7 @@
 use Rattle.std.proofs.Common.{rules, ◌≢◌}
 use Rattle.rdl_tree.specs.Address.{number_of}
 use Rattle.rdl_rewrite.proofs.Staying.{apart}
-use Rattle.rdl_rewrite.proofs.reach.Reach.is_apart.Goals as goal
+use Rattle.rdl_rewrite.proofs.sweep.Sweep.is_apart.Goals as goal
 
 pub returns-then-not-is_empty : goal.returns-then-not-is_empty
 returns-then-not-is_empty c = λ h at.

@@ -13,7 +13,7 @@ use Rattle.rdl_rewrite.proofs.Led.{led_first, led_next, led_here, led_same}
 use Rattle.rdl_rewrite.proofs.Located.{body_at-item, item_met, count-own}
 use Rattle.rdl_rewrite.proofs.Staying.{dynamic_among}
 use Rattle.rdl_rewrite.proofs.Reached.{reached_first, reached_more}
-use Rattle.rdl_rewrite.proofs.reach.Reach.+reach.Goals as goal
+use Rattle.rdl_rewrite.proofs.sweep.Sweep.+reach.Goals as goal
 
 pub push_body-push_item-requires : goal.push_body-push_item-requires
 push_body-push_item-requires t c =

@@ -3,7 +3,7 @@ use Rattle.std.proofs.lemmas.Bool.{not-true}
 use Rattle.rdl_rewrite.specs.Led.{refers_to}
 use Rattle.rdl_rewrite.proofs.Led.{led_type}
 use Rattle.rdl_rewrite.proofs.Staying.{nothing_named}
-use Rattle.rdl_rewrite.proofs.reach.Reach.stays.Goals as goal
+use Rattle.rdl_rewrite.proofs.sweep.Sweep.stays.Goals as goal
 
 pub returns-then-is_apart : goal.returns-then-is_apart
 returns-then-is_apart c = λ h.

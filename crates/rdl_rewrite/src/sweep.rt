@@ -12,7 +12,7 @@ ghost use Rattle.rdl_scope.specs.Walk.{is_instance};
 ghost use Rattle.rdl_rewrite.specs.Addresses.{same};
 ghost use Rattle.rdl_rewrite.specs.Firsts.{AreFirsts, first_under, is_inside, is_dynamic};
 ghost use Rattle.rdl_rewrite.specs.Led.{IsLed};
-ghost use Rattle.rdl_rewrite.specs.Reach.{Knows};
+ghost use Rattle.rdl_rewrite.specs.Sweep.{Knows};
 ghost use Rattle.rdl_rewrite.specs.Fates.{fate, fate_patches};
 
 use crate::fate::Fate;
@@ -28,7 +28,7 @@ use std::alloc::{AllocError, Global};
 
 /// An edit that reaches every body: the item on the way gets the name, or is taken out.
 #[derive(Drop)]
-pub(crate) struct Reach<'a> {
+pub(crate) struct Sweep<'a> {
     pub whole: &'a Description,
     pub way: &'a Address,
     /// The item on the way.
@@ -73,8 +73,8 @@ fn items_in(whole: &Description, place: &Address) -> usize
     }
 }
 
-impl<'a> Reach<'a> {
-    pub(crate) fn new(whole: &'a Description, way: &'a Address, name: Option<&'a Name>) -> Reach<'a>
+impl<'a> Sweep<'a> {
+    pub(crate) fn new(whole: &'a Description, way: &'a Address, name: Option<&'a Name>) -> Sweep<'a>
         ensures whole { result.whole.now ≡ whole.now }
         ensures way { result.way.now ≡ way.now }
         ensures known { Knows result }
@@ -84,7 +84,7 @@ impl<'a> Reach<'a> {
         let place = place_of(way);
         let holder = item_at(&whole.items, place.as_slice());
         let siblings = items_in(whole, &place);
-        Reach {
+        Sweep {
             whole,
             way,
             taken,

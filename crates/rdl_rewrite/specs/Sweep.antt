@@ -4,9 +4,9 @@ use Rattle.std.specs.Prelude.{◌≡◌, option_copied}
 use Rattle.rdl_tree.specs.ItemAt.{item_at}
 use Rattle.rdl_tree.specs.Address.{holder_of}
 use Rattle.rdl_scope.specs.Types.{items_in}
-use Rattle.rdl_rewrite.specs.declared.reach.Reach.{Reach}
+use Rattle.rdl_rewrite.specs.declared.sweep.Sweep.{Sweep}
 
-pub record Knows (r : Reach) : Type 0 where
+pub record Knows (r : Sweep) : Type 0 where
   pub taken : option_copied r.taken ≡ item_at r.way.now r.whole.now.items
   pub place : r.place ≡ holder_of r.way.now
   pub holder : option_copied r.holder ≡ item_at (holder_of r.way.now) r.whole.now.items
