@@ -142,7 +142,7 @@ pub fn remove<'a>(
         return Err(PatchRefusal::TooDeep);
     }
     let sweep = Sweep::new(whole, way, None);
-    if is_in_use(&reach) {
+    if is_in_use(&sweep) {
         return Err(PatchRefusal::InUse);
     }
     Ok(sweep.patches(alloc)?)
