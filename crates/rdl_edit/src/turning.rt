@@ -3,10 +3,10 @@ ghost use Rattle.std.specs.Prelude.{◌≡◌, ◌⊎◌, ◌≤◌, ◌*◌, �
 ghost use Rattle.rdl_tree.specs.Items.{Items};
 ghost use Rattle.rdl_scope.specs.ItemFaults.{out_of_memory};
 ghost use Rattle.rdl_kept.specs.AllKept.{AreOf};
-ghost use Rattle.rdl_elab.specs.Anew.{all_instances, instances_at};
+ghost use Rattle.rdl_elab.specs.Anew.{all_instances};
 ghost use Rattle.rdl_elab.specs.Faults.{elaborated};
 ghost use Rattle.rdl_elab.specs.Known.{HasRows as HasRowsWith};
-ghost use Rattle.rdl_kept.specs.Reach.{in_reach, AreUnchangedBut};
+ghost use Rattle.rdl_kept.specs.FewPlaced.{PlacesWhatIsInReach};
 ghost use Rattle.rdl_kept.specs.Skeleton.{skeleton};
 ghost use Rattle.rdl_tree.specs.Depth.{depth};
 ghost use Rattle.rdl_tree.specs.Patch.{AllFit, image, inverses};
@@ -50,7 +50,7 @@ pub(crate) fn lay_out(
     ensures layouts { OnOk result (AreOf description.now.items kept.new) }
     ensures top { OnOk result (kept.new.top ≡ option_copied name.entry) }
     ensures placed { OnOk result (kept.new.placed ≤ 3 * all_instances description.now.items) }
-    ensures reached { OnOk result ((old : Items) (bodies : List (List ℕ)) (edited : List ℕ → Bool) → AreOf old kept.old → AreUnchangedBut edited old bodies description.now.items → kept.new.placed ≤ 3 * instances_at (in_reach edited description.now.items) description.now.items) }
+    ensures reached { OnOk result (PlacesWhatIsInReach kept.old description.now.items kept.new) }
     ensures still { OnOk result ((old : Items) → AreOf old kept.old → skeleton old ≡ skeleton description.now.items → kept.new.placed ≡ 0) }
     ensures refused { IfErr result (λ fault. (elaborated description.now.items (option_copied name.entry) ≡ Err fault) ⊎ (fault ≡ out_of_memory)) }
     ensures err { OnErr result (kept.new ≡ kept.old) }
@@ -77,7 +77,7 @@ fn lay_out_known(
     requires top { kept.old.top ≡ option_copied name }
     ensures layouts { OnOk result (AreOf description.now.items kept.new) }
     ensures top { OnOk result (kept.new.top ≡ option_copied name.entry) }
-    ensures reached { OnOk result ((old : Items) (bodies : List (List ℕ)) (edited : List ℕ → Bool) → AreOf old kept.old → AreUnchangedBut edited old bodies description.now.items → kept.new.placed ≤ 3 * instances_at (in_reach edited description.now.items) description.now.items) }
+    ensures reached { OnOk result (PlacesWhatIsInReach kept.old description.now.items kept.new) }
     ensures still { OnOk result ((old : Items) → AreOf old kept.old → skeleton old ≡ skeleton description.now.items → kept.new.placed ≡ 0) }
     ensures err { OnErr result (kept.new ≡ kept.old) }
 {

@@ -7,3 +7,4 @@ pub mod SameSkeleton
 pub mod Harmless
 pub mod HarmlessPlaces
 pub mod Renaming
+pub mod FewPlaced

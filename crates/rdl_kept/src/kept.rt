@@ -7,7 +7,6 @@ ghost use Rattle.rdl_scope.specs.Types.{component_at};
 ghost use Rattle.rdl_elab.specs.Faults.{elaborated};
 ghost use Rattle.std.specs.String.{string_bytes};
 ghost use Rattle.rdl_elab.specs.Stored.{all_under};
-ghost use Rattle.rdl_elab.specs.Anew.{all_instances, instances_at};
 ghost use Rattle.rdl_kept.specs.AllKept.{has_layout};
 
 use rdl_elab::all_layouts::{Judgement, fault_with_top, lay_out, lay_out_rows};
@@ -86,9 +85,9 @@ impl Kept {
     ghost use Rattle.rdl_scope.specs.OneItem.{NoOtherFault};
     ghost use Rattle.rdl_elab.specs.Known.{HasRows};
     ghost use Rattle.rdl_kept.specs.SameSkeleton.{HasSameSkeleton};
-    ghost use Rattle.rdl_kept.specs.AllKept.{AreOf, IsAsBeforeBut, layout_at};
-    ghost use Rattle.rdl_elab.specs.Anew.{all_instances, instances_at};
-    ghost use Rattle.rdl_kept.specs.Reach.{in_reach, AreUnchangedBut};
+    ghost use Rattle.rdl_kept.specs.AllKept.{AreOf, layout_at};
+    ghost use Rattle.rdl_elab.specs.Anew.{all_instances};
+    ghost use Rattle.rdl_kept.specs.FewPlaced.{PlacesWhatChanged, PlacesWhatIsInReach};
     ghost use Rattle.rdl_kept.specs.Skeleton.{skeleton};
 
     /// Nothing is kept.
@@ -116,7 +115,7 @@ impl Kept {
         ensures layouts { IfOk result (λ answer. OnOk answer (AreOf description.now.items self.new)) }
         ensures top { IfOk result (λ answer. OnOk answer (self.new.top ≡ option_copied wanted.entry)) }
         ensures placed { IfOk result (λ answer. OnOk answer (self.new.placed ≤ 3 * all_instances description.now.items)) }
-        ensures few { IfOk result (λ answer. OnOk answer ((old : Items) (bodies : List (List ℕ)) (marked : List ℕ → Bool) → AreOf old self.old → IsAsBeforeBut marked old bodies description.now.items → self.new.placed ≤ 3 * instances_at marked description.now.items)) }
+        ensures few { IfOk result (λ answer. OnOk answer (PlacesWhatChanged self.old description.now.items self.new)) }
         ensures refused { IfOk result (λ answer. IfErr answer (λ fault. elaborated description.now.items (option_copied wanted.entry) ≡ Err fault)) }
         ensures unchanged { IfOk result (λ answer. OnErr answer (self.new ≡ self.old)) }
         ensures err { OnErr result (self.new ≡ self.old) }
@@ -208,8 +207,8 @@ impl Kept {
         ensures layouts { OnOk result (AreOf description.now.items self.new) }
         ensures top { OnOk result (self.new.top ≡ option_copied top.entry) }
         ensures placed { OnOk result (self.new.placed ≤ 3 * all_instances description.now.items) }
-        ensures few { OnOk result ((old : Items) (bodies : List (List ℕ)) (marked : List ℕ → Bool) → AreOf old self.old → IsAsBeforeBut marked old bodies description.now.items → self.new.placed ≤ 3 * instances_at marked description.now.items) }
-        ensures reached { OnOk result ((old : Items) (bodies : List (List ℕ)) (edited : List ℕ → Bool) → AreOf old self.old → AreUnchangedBut edited old bodies description.now.items → self.new.placed ≤ 3 * instances_at (in_reach edited description.now.items) description.now.items) }
+        ensures few { OnOk result (PlacesWhatChanged self.old description.now.items self.new) }
+        ensures reached { OnOk result (PlacesWhatIsInReach self.old description.now.items self.new) }
         ensures still { OnOk result ((old : Items) → AreOf old self.old → skeleton old ≡ skeleton description.now.items → self.new.placed ≡ 0) }
         ensures refused { IfErr result (λ fault. (elaborated description.now.items (option_copied top.entry) ≡ Err fault) ⊎ (fault ≡ out_of_memory)) }
         ensures err { OnErr result (self.new ≡ self.old) }
@@ -234,8 +233,8 @@ impl Kept {
         ensures layouts { OnOk result (AreOf description.now.items self.new) }
         ensures top { OnOk result (self.new.top ≡ option_copied top.entry) }
         ensures placed { OnOk result (self.new.placed ≤ 3 * all_instances description.now.items) }
-        ensures few { OnOk result ((old : Items) (bodies : List (List ℕ)) (marked : List ℕ → Bool) → AreOf old self.old → IsAsBeforeBut marked old bodies description.now.items → self.new.placed ≤ 3 * instances_at marked description.now.items) }
-        ensures reached { OnOk result ((old : Items) (bodies : List (List ℕ)) (edited : List ℕ → Bool) → AreOf old self.old → AreUnchangedBut edited old bodies description.now.items → self.new.placed ≤ 3 * instances_at (in_reach edited description.now.items) description.now.items) }
+        ensures few { OnOk result (PlacesWhatChanged self.old description.now.items self.new) }
+        ensures reached { OnOk result (PlacesWhatIsInReach self.old description.now.items self.new) }
         ensures still { OnOk result ((old : Items) → AreOf old self.old → skeleton old ≡ skeleton description.now.items → self.new.placed ≡ 0) }
         ensures refused { IfErr result (λ fault. (elaborated description.now.items (option_copied top.entry) ≡ Err fault) ⊎ (fault ≡ out_of_memory)) }
         ensures err { OnErr result (self.new ≡ self.old) }
@@ -260,8 +259,8 @@ impl Kept {
         ensures layouts { OnOk result (AreOf description.now.items self.new) }
         ensures top { OnOk result (self.new.top ≡ option_copied top.entry) }
         ensures placed { OnOk result (self.new.placed ≤ 3 * all_instances description.now.items) }
-        ensures few { OnOk result ((old : Items) (bodies : List (List ℕ)) (marked : List ℕ → Bool) → AreOf old self.old → IsAsBeforeBut marked old bodies description.now.items → self.new.placed ≤ 3 * instances_at marked description.now.items) }
-        ensures reached { OnOk result ((old : Items) (bodies : List (List ℕ)) (edited : List ℕ → Bool) → AreOf old self.old → AreUnchangedBut edited old bodies description.now.items → self.new.placed ≤ 3 * instances_at (in_reach edited description.now.items) description.now.items) }
+        ensures few { OnOk result (PlacesWhatChanged self.old description.now.items self.new) }
+        ensures reached { OnOk result (PlacesWhatIsInReach self.old description.now.items self.new) }
         ensures still { OnOk result ((old : Items) → AreOf old self.old → skeleton old ≡ skeleton description.now.items → self.new.placed ≡ 0) }
         ensures err { OnErr result (self.new ≡ self.old) }
     {

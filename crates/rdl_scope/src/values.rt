@@ -392,7 +392,7 @@ fn is_define(item: Option<&Item>) -> bool
 
 /// The value of the property of this name of the instance to which the names lead below the definition at `top`, as a
 /// row holds it. It is `None` where there is no such instance, where its kind has no such property, and where it has
-/// no value.
+/// no value. An editor has these values from its rows: this call is for who wants one value and no rows.
 pub fn value(
     alloc: Global,
     description: &Description,
