@@ -1,6 +1,6 @@
 -- Components below which no row has a fault, once for all their instances.
 -- own: SystemRDL 2.0 has no rows. `FinishedRows` says which row has a fault; that needs neither names nor a base.
-use Rattle.std.specs.Prelude.{◌≡◌, ℕ, ◌≤◌, ◌&&◌, List, [], ◌∷◌, Bool, true, Some, slice_get}
+use Rattle.std.specs.Prelude.{◌≡◌, ℕ, ◌≤◌, ◌&&◌, List, [], ◌∷◌, ◌++◌, Bool, true, Some, slice_get}
 use Rattle.std.specs.Option.{is_none}
 use Rattle.rdl_tree.specs.declared.shell.Kind.{Kind}
 use Rattle.rdl_tree.specs.declared.shell.Kind.TheVariants.{Addrmap, Regfile, Reg, Field}
@@ -29,6 +29,10 @@ pub record IsAround (m : Mode) (least : ℕ) (rs : List Reach) (o : Surroundings
 -- in such surroundings no row of these instances has a fault, and none below them, so many levels as one likes
 abbrev pub AreClean : List Finished → Mode → ℕ → List Reach → List Span → List Part → Type 0
 AreClean fs m least rs spans ps = (n : ℕ) (o : Surroundings) → IsAround m least rs o → are_faultless (finished_rows n fs o spans ps) ≡ true
+
+-- nor have those below an instance of a component in this mode, which all this reaches from outside
+abbrev pub IsCleanUnder : List Finished → Mode → List Reach → Finished → Type 0
+IsCleanUnder fs m reaching f = AreClean fs (mode_inside f.kind f.values m) f.values.regwidth (reaching ++ f.assignments.items) (under m f.layouts).spans f.parts.items
 
 -- the bits that the fields of a component have; only a register has fields
 abbrev pub bits_inside : Kind → ℕ → ℕ

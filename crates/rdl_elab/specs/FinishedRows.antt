@@ -133,6 +133,10 @@ abbrev pub finished_rows : ℕ → List Finished → Surroundings → List Span 
 finished_rows zero fs o spans ps = []
 finished_rows (suc n) fs o spans ps = level_rows fs (λ inside ss qs. finished_rows n fs inside ss qs) o [] spans ps
 
+-- those below an instance, so many levels
+abbrev pub finished_rows_below : ℕ → List Finished → Surroundings → Span → Part → Finished → List FinishedRow
+finished_rows_below n fs o span p f = finished_rows n fs (surroundings_inside o p f (finished_row o span p f)) (under o.mode f.layouts).spans f.parts.items
+
 -- the rows up to the first that has a fault, and that fault
 pub record Told : Type 0 where
   pub fault : Option Fault

@@ -9,7 +9,7 @@ ghost use Rattle.rdl_tree.specs.declared.property.Property.TheVariants.{Sw, Rese
 ghost use Rattle.rdl_tree.specs.declared.shell.Kind.{Kind};
 ghost use Rattle.rdl_elab.specs.declared.row.PropertyValue.{PropertyValue};
 ghost use Rattle.rdl_elab.specs.Finished.{under};
-ghost use Rattle.rdl_elab.specs.FinishedRows.{finished_base, finished_values, finished_row, seen, finished_fault, field_fault, extent_fault, judged, surroundings_inside, level_rows, finished_rows, told_one, told};
+ghost use Rattle.rdl_elab.specs.FinishedRows.{finished_base, finished_values, finished_row, seen, finished_fault, field_fault, extent_fault, judged, surroundings_inside, level_rows, finished_rows, finished_rows_below, told_one, told};
 
 pub(crate) mod clean;
 pub mod siblings;
@@ -318,7 +318,7 @@ fn add_below<'a>(
     rows: &mut Vec<Row>,
 ) -> Result<Option<Fault>, AllocError>
     requires { reaching.now ≡ behind part.now.at around.now.reaching }
-    ensures { IfOk result (λ fault. record { fault = fault; rows = rows.new.items } ≡ told rows.old.items (finished_rows levels components.now (surroundings_inside around.now part.now component.now (finished_row around.now span part.now component.now)) (under around.now.mode component.now.layouts).spans component.now.parts.items)) }
+    ensures { IfOk result (λ fault. record { fault = fault; rows = rows.new.items } ≡ told rows.old.items (finished_rows_below levels components.now around.now span part.now component.now)) }
 {
     let parts = component.parts.as_slice();
     if parts.is_empty() {

@@ -11,7 +11,7 @@ ghost use Rattle.rdl_elab.specs.MadeOf.{made_of};
 ghost use Rattle.rdl_elab.specs.Words.{spelling, is_among};
 ghost use Rattle.rdl_elab.specs.Taken.{WasKept};
 ghost use Rattle.rdl_elab.specs.Finishes.{AreLaidOut, Finishes};
-ghost use Rattle.rdl_elab.specs.Stands.{made_at, after_item, item_parts, in_list, placed, LeadsTo, IsType, Stands, Grows, IsBehind};
+ghost use Rattle.rdl_elab.specs.Stands.{made_at, after_item, item_parts, in_list, placed, LeadsTo, IsType, Stands, Grows, IsBehind, BringsPart, FinishesAll, HoldsAt};
 
 pub(crate) mod built_ins;
 pub(crate) mod defaults;
@@ -95,9 +95,9 @@ fn finished_component<'a>(
     before: &Stored,
 ) -> Result<Finished<'a>, AllocError>
     requires { depth description.now.items ≤ 16 }
-    ensures kept { IfOk result (λ f. (e : Standing) (inside : Parts) (n : ℕ) → walk.old.defaults ≡ e.defaults → AreParts description.now.items walk.old.components.items n parts.entry.items inside → IsKept description.now.items f (record { head = head_at at.now component.now.kind component.now.body e; parts = inside })) }
+    ensures kept { IfOk result (λ f. HoldsAt description.now.items walk.old at.now component.now parts.entry.items (IsKept description.now.items f)) }
     ensures parts { IfOk result (λ f. f.parts.items ≡ parts.entry.items) }
-    ensures words { IfOk result (λ f. (e : Standing) (inside : Parts) (n : ℕ) → walk.old.defaults ≡ e.defaults → AreParts description.now.items walk.old.components.items n parts.entry.items inside → f.laid_out.words ≡ spelling (made_of (record { head = head_at at.now component.now.kind component.now.body e; parts = inside }))) }
+    ensures words { IfOk result (λ f. HoldsAt description.now.items walk.old at.now component.now parts.entry.items (λ made. f.laid_out.words ≡ spelling (made_of made))) }
     ensures same { IfOk result (λ f. f.laid_out.layouts ≡ f.layouts) }
     ensures stood { IfOk result (λ f. WasKept before.now.slots f) }
     ensures taken { IfOk result (λ f. is_among f.laid_out.words before.now.words ≡ true → IsSome f.key) }
@@ -146,7 +146,7 @@ fn finish<'a>(
     ensures types { IfOk result (λ k. walk.new.types ≡ walk.old.types) }
     ensures defaults { IfOk result (λ k. walk.new.defaults ≡ walk.old.defaults) }
     ensures components { IfOk result (λ k. Grows walk.old.components.items walk.new.components.items) }
-    ensures finishes { IfOk result (λ k. (e : Standing) → Stands description.now.items walk.old e → Finishes before.now walk.old.components.items walk.new.components.items (written e at.now 0 component.now.body ++ made_at e at.now component.now ∷ [])) }
+    ensures finishes { IfOk result (λ k. FinishesAll description.now.items before.now walk.old walk.new (λ e. written e at.now 0 component.now.body ++ made_at e at.now component.now ∷ [])) }
 {
     let types = walk.types.len();
     let defaults = walk.defaults.len();
@@ -190,10 +190,10 @@ fn walk_instance<'a>(
 ) -> Result<Option<Found<'a>>, AllocError>
     requires nesting { depth description.now.items ≤ 16 }
     requires room { length at.now + depth (items_of (Instance shell.now of.now ∷ [])) ≤ 16 }
-    ensures part { IfOk result (λ f. (e : Standing) → Stands description.now.items walk.old e → AreParts description.now.items walk.new.components.items (length walk.new.components.items) (in_list (placed (at.now ++ number ∷ []) f)) (item_parts e (at.now ++ number ∷ []) (Instance shell.now of.now))) }
+    ensures part { IfOk result (λ f. BringsPart description.now.items walk.old walk.new (at.now ++ number ∷ []) (Instance shell.now of.now) f) }
     ensures stands { IfOk result (λ f. (e : Standing) → Stands description.now.items walk.old e → Stands description.now.items walk.new e) }
     ensures behind { IfOk result (λ f. IsBehind walk.old walk.new) }
-    ensures finishes { IfOk result (λ f. (e : Standing) → Stands description.now.items walk.old e → Finishes before.now walk.old.components.items walk.new.components.items (item_written e (at.now ++ number ∷ []) (Instance shell.now of.now))) }
+    ensures finishes { IfOk result (λ f. FinishesAll description.now.items before.now walk.old walk.new (λ e. item_written e (at.now ++ number ∷ []) (Instance shell.now of.now))) }
 {
     match of {
         Of::Anonymous(component) => {
@@ -225,10 +225,10 @@ fn walk_item<'a>(
 ) -> Result<Option<Found<'a>>, AllocError>
     requires nesting { depth description.now.items ≤ 16 }
     requires room { length at.now + depth (items_of (item.now ∷ [])) ≤ 16 }
-    ensures part { IfOk result (λ f. (e : Standing) → Stands description.now.items walk.old e → AreParts description.now.items walk.new.components.items (length walk.new.components.items) (in_list (placed (at.now ++ number ∷ []) f)) (item_parts e (at.now ++ number ∷ []) item.now)) }
+    ensures part { IfOk result (λ f. BringsPart description.now.items walk.old walk.new (at.now ++ number ∷ []) item.now f) }
     ensures stands { IfOk result (λ f. (e : Standing) → Stands description.now.items walk.old e → Stands description.now.items walk.new (after_item (at.now ++ number ∷ []) item.now e)) }
     ensures behind { IfOk result (λ f. IsBehind walk.old walk.new) }
-    ensures finishes { IfOk result (λ f. (e : Standing) → Stands description.now.items walk.old e → Finishes before.now walk.old.components.items walk.new.components.items (item_written e (at.now ++ number ∷ []) item.now)) }
+    ensures finishes { IfOk result (λ f. FinishesAll description.now.items before.now walk.old walk.new (λ e. item_written e (at.now ++ number ∷ []) item.now)) }
 {
     match item {
         Item::Define(name, component) => {
@@ -271,7 +271,7 @@ fn walk_items<'a>(
     ensures parts { IfOk result (λ ps. (e : Standing) → Stands description.now.items walk.old e → AreParts description.now.items walk.new.components.items (length walk.new.components.items) ps.items (parts e at.now 0 (items_of items.now))) }
     ensures stands { IfOk result (λ ps. (e : Standing) → Stands description.now.items walk.old e → Stands description.now.items walk.new (standing e at.now 0 (items_of items.now))) }
     ensures behind { IfOk result (λ ps. IsBehind walk.old walk.new) }
-    ensures finishes { IfOk result (λ ps. (e : Standing) → Stands description.now.items walk.old e → Finishes before.now walk.old.components.items walk.new.components.items (written e at.now 0 (items_of items.now))) }
+    ensures finishes { IfOk result (λ ps. FinishesAll description.now.items before.now walk.old walk.new (λ e. written e at.now 0 (items_of items.now))) }
 {
     let mut parts = Vec::with_capacity(alloc, items.len())?;
     let mut shared = None;

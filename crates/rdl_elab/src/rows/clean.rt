@@ -1,7 +1,7 @@
 //! Components below which no row has a fault, each judged once for all its instances.
 ghost use Rattle.std.specs.Prelude.{◌≡◌, ◌++◌, ◌∷◌, [], List, true, Some, None, IfOk, option_and_then, slice_get};
 ghost use Rattle.rdl_elab.specs.Faults.{fault_in};
-ghost use Rattle.rdl_elab.specs.Clean.{AreClean, AreCleanIn, IsCleanIn, bits_inside, has_mode};
+ghost use Rattle.rdl_elab.specs.Clean.{AreClean, AreCleanIn, IsCleanIn, IsCleanUnder, bits_inside, has_mode};
 ghost use Rattle.rdl_elab.specs.Finished.{under};
 ghost use Rattle.rdl_elab.specs.declared.walk.finished.Finished.{Finished};
 ghost use Rattle.rdl_elab.specs.FinishedRows.{finished_answer};
@@ -105,7 +105,7 @@ fn is_clean_below<'a>(
 ) -> Result<bool, AllocError>
     requires clean { AreCleanIn components.now clean.now }
     requires component { slice_get components.now part.now.component ≡ Some component.now }
-    ensures { IfOk result (λ answer. answer ≡ true → AreClean components.now (mode_inside component.now.kind component.now.values mode) component.now.values.regwidth (reaching.now ++ component.now.assignments.items) (under mode component.now.layouts).spans component.now.parts.items) }
+    ensures { IfOk result (λ answer. answer ≡ true → IsCleanUnder components.now mode reaching.now component.now) }
 {
     let parts = component.parts.as_slice();
     if parts.is_empty() {
