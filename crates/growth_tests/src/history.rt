@@ -6,7 +6,7 @@ use crate::examples::{
     RENAMED_WRITTEN, SHARED, SHARED_LINES, SHARED_WRITTEN, THREE, THREE_LINES, THREE_WRITTEN,
     TWO_FILES, UNASSIGNED_LINES, UNASSIGNED_WRITTEN, two_large_files,
 };
-use crate::sessions::session_fault_answer;
+use crate::sessions::write_fault_answer;
 use crate::{Answer, assert_answered, is_same};
 use journal_core::fault::{EditFault, StepFault};
 use journal_core::journal::Journal;
@@ -143,7 +143,7 @@ fn session_answer(alloc: Global, journal: &Journal<Map>) -> Answer {
     let map = journal.map().description();
     match session(alloc, map, undo.as_slice(), redo.as_slice()) {
         Ok(text) => Ok(text),
-        Err(fault) => session_fault_answer(alloc, fault),
+        Err(fault) => write_fault_answer(alloc, fault),
     }
 }
 

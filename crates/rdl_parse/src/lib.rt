@@ -13,6 +13,7 @@ pub mod places;
 mod reader;
 mod room;
 pub mod session;
+pub mod session_fault;
 mod session_lines;
 mod session_meaning;
 mod session_parts;

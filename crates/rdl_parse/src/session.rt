@@ -2,16 +2,16 @@
 ghost use Rattle.std.specs.Prelude.{◌≡◌, ◌⊎◌, List, map, option_map, IfOk, IfErr, MatchResult};
 ghost use Rattle.rdl_tree.specs.Items.{Items};
 ghost use Rattle.rdl_tree.specs.declared.patch.Patch.{Patch};
-ghost use Rattle.rdl_tree.specs.declared.session.SessionFault.TheVariants.{NotASession, Memory};
+ghost use Rattle.rdl_parse.specs.declared.session_fault.SessionReadFault.TheVariants.{NotASession, Memory};
 ghost use Rattle.rdl_parse.specs.Session.{SpellsSession};
 ghost use Rattle.rdl_parse.specs.SessionMeaning as spec;
 ghost use Rattle.rdl_parse.specs.SessionSeen.{IsSession, seen_session};
 
+use crate::session_fault::SessionReadFault;
 use crate::session_lines::lines_of;
 use crate::session_meaning::{map_of, steps_of};
 use rdl_tree::description::Description;
 use rdl_tree::patch::Patch;
-use rdl_tree::session::SessionFault;
 use std::alloc::{AllocError, Global};
 
 /// The most bytes that a session may have.
@@ -48,7 +48,7 @@ fn session_of(alloc: Global, bytes: &[u8]) -> Result<Option<Session>, AllocError
 /// The session that the text is.
 ///
 /// Its texts of the map and of items may have any spelling. Whether the steps fit the map isn't looked at.
-pub fn parse_session(alloc: Global, text: &str) -> Result<Session, SessionFault>
+pub fn parse_session(alloc: Global, text: &str) -> Result<Session, SessionReadFault>
     // What is answered is the text's session.
     ensures found { IfOk result (λ s. SpellsSession text.now s.map.items (map (λ step. step.items) s.undo.items) (map (λ step. step.items) s.redo.items)) }
     // The session that the text is is answered, unless memory runs out.
@@ -57,11 +57,11 @@ pub fn parse_session(alloc: Global, text: &str) -> Result<Session, SessionFault>
     ensures refused { IfErr result (λ f. (f ≡ Memory) ⊎ ((f ≡ NotASession) × ((d : Items) (undo redo : List (List Patch)) → SpellsSession text.now d undo redo → ⊥))) }
 {
     if text.len() > MAX_LEN {
-        return Err(SessionFault::NotASession);
+        return Err(SessionReadFault::NotASession);
     }
     match session_of(alloc, text.as_bytes()) {
         Ok(Some(session)) => Ok(session),
-        Ok(None) => Err(SessionFault::NotASession),
-        Err(_) => Err(SessionFault::Memory),
+        Ok(None) => Err(SessionReadFault::NotASession),
+        Err(_) => Err(SessionReadFault::Memory),
     }
 }

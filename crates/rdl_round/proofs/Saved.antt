@@ -157,8 +157,3 @@ pub text-spells : (s : List ℕ) (d : Items) (undo redo : List (List Patch)) →
 text-spells s d undo redo e utf8 short h u r =
     let t : IsText s = record { utf8 = utf8; short = short } in
     subst (λ (x : List ℕ). SpellsSession x d undo redo) (sym e) (session-spells d undo redo h u r (subst IsText e t))
-
--- more faults than those that come
-pub or-faults : {A F : Type 0} (P : A → Type 0) (Q R : F → Type 0) (r : Result A F) → MatchResult r P Q → MatchResult r P (λ f. Q f ⊎ R f)
-or-faults P Q R (Ok x) h = h
-or-faults P Q R (Err f) h = inl h

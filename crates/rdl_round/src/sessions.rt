@@ -1,5 +1,5 @@
 //! Laws of written sessions: they are read back.
-ghost use Rattle.std.specs.Prelude.{◌≡◌, ◌<◌, ◌≤◌, ◌∷◌, ◌⊎◌, [], ℕ, List, Ok, length, map, All, IsUtf8, MatchResult};
+ghost use Rattle.std.specs.Prelude.{◌≡◌, ◌≤◌, ◌∷◌, [], ℕ, List, Ok, length, map, All, IsUtf8, MatchResult};
 ghost use Rattle.rdl_tree.specs.Items.{Items};
 ghost use Rattle.rdl_tree.specs.Limits.{IsWithinLimits};
 ghost use Rattle.rdl_tree.specs.Patch.{image, inverses};
@@ -7,23 +7,23 @@ ghost use Rattle.rdl_tree.specs.SessionText.{session_text, max_session};
 ghost use Rattle.rdl_tree.specs.View.{items_of};
 ghost use Rattle.rdl_tree.specs.declared.description.Item.{Item};
 ghost use Rattle.rdl_tree.specs.declared.patch.Patch.{Patch};
-ghost use Rattle.rdl_tree.specs.declared.session.SessionFault.TheVariants.{TooLong, Memory};
 ghost use Rattle.rdl_parse.specs.Faults.{max_text};
 ghost use Rattle.rdl_parse.specs.Parsing.{SpellsItemText};
 ghost use Rattle.rdl_parse.specs.Session.{SpellsSession};
 ghost use Rattle.rdl_parse.specs.SessionSeen.{IsSession};
+ghost use Rattle.rdl_parse.specs.declared.session_fault.SessionReadFault.{SessionReadFault};
 ghost use Rattle.rdl_write.specs.ItemText.{item_text};
-ghost use Rattle.rdl_write.specs.SessionLines.{session_lines};
+ghost use Rattle.rdl_write.specs.SessionLines.{session_lines, Stops};
 ghost use Rattle.rdl_round.specs.Writable.{IsWritable};
 ghost use Rattle.rdl_round.specs.OfWords.{IsOfWords};
 ghost use Rattle.rdl_round.specs.Sessions.{IsWritablePatch, AreWritable, AreDropsWithin, IsSpelledMap, AreSpelled};
 ghost use Rattle.rdl_round.specs.Spellable.{IsSpellable};
 
 use rdl_parse::session::{Session, parse_session};
+use rdl_parse::session_fault::SessionReadFault;
 use rdl_tree::description::Description;
 use rdl_tree::patch::Patch;
-use rdl_tree::session::SessionFault;
-use rdl_write::session;
+use rdl_write::{SessionWriteFault, session};
 use std::alloc::Global;
 
 /// The text of an item without an indent is exactly one statement, which stands for that item, where the item is made of
@@ -64,21 +64,21 @@ pub fn inverses_are_writable()
     ensures place { (patches : List Patch) (d : Items) → IsWritable d → All IsWritablePatch patches → IsWithinLimits (image patches d) → IsWritable (image patches d) }
 {}
 
-/// What `parse_session` answers for the text that `session` wrote: the same map and the same steps, but for want of memory
-/// and for a text that is too long.
+/// What `parse_session` answers for the text that `session` wrote: the same map and the same steps, but for want of memory.
+/// There is no such text where it would be too long, or for want of memory.
 pub fn written_sessions_are_parsed(
     alloc: Global,
     description: &Description,
     undo: &[&[Patch]],
     redo: &[&[Patch]],
-) -> Result<Session, SessionFault>
+) -> Result<Result<Session, SessionReadFault>, SessionWriteFault>
     ensures { let d = description.now.items in let back = map (λ step. step.now) undo.entry.now in let on = map (λ step. step.now) redo.entry.now in
         IsWritable d → AreWritable back → AreWritable on
-        → MatchResult result (λ s. IsSession s d back on)
-        (λ f. (f ≡ Memory) ⊎ ((f ≡ TooLong) × (max_session < length (session_text (session_lines d back on))))) }
+        → MatchResult result (λ read. MatchResult read (λ s. IsSession s d back on) (λ f. f ≡ SessionReadFault.Memory))
+        (λ f. Stops f (session_text (session_lines d back on))) }
 {
     match session(alloc, description, undo, redo) {
-        Ok(text) => parse_session(alloc, text.as_str()),
+        Ok(text) => Ok(parse_session(alloc, text.as_str())),
         Err(fault) => Err(fault),
     }
 }

@@ -8,8 +8,8 @@ use Rattle.std.proofs.lemmas.List.Folds.{flat_map-map, length-flat_map-take}
 use Rattle.rdl_tree.specs.Items.{Items}
 use Rattle.rdl_tree.specs.SessionText.{PatchLines, line_feed, count_line, counted, patch_text, step_text, steps_text, session_text, max_session}
 use Rattle.rdl_tree.specs.declared.patch.Patch.{Patch}
-use Rattle.rdl_tree.specs.declared.session.SessionFault.{SessionFault}
-use Rattle.rdl_tree.specs.declared.session.SessionFault.TheVariants.{NotASession, PatchMisfits, MapFaulty, TooLong, Memory}
+use Rattle.rdl_write.specs.declared.session_fault.SessionWriteFault.{SessionWriteFault}
+use Rattle.rdl_write.specs.declared.session_fault.SessionWriteFault.TheVariants.{TooLong, Memory}
 use Rattle.rdl_write.specs.MapText.{map_text}
 use Rattle.rdl_write.specs.SessionLines.{written, session_lines, Stops}
 
@@ -25,10 +25,7 @@ steps-is : (word : List ℕ) (steps : List (List PatchLines)) → steps_text wor
 unfolding steps_text
 steps-is word steps = refl
 
-pub stops_longer : (fault : SessionFault) (a b : List ℕ) → length a ≤ length b → Stops fault a → Stops fault b
-stops_longer NotASession a b h s = s
-stops_longer (PatchMisfits place) a b h s = s
-stops_longer (MapFaulty place fault) a b h s = s
+pub stops_longer : (fault : SessionWriteFault) (a b : List ℕ) → length a ≤ length b → Stops fault a → Stops fault b
 stops_longer TooLong a b h s = omega (arith, h, s)
 stops_longer Memory a b h s = tt
 
@@ -60,7 +57,7 @@ module _ {X : Type 0} (g : X → List PatchLines) (word old mid new : List ℕ) 
   pub steps_done : length xs ≤ i → new ≡ old ++ steps_text word (map g xs)
   steps_done h = list_done step_text g word old mid new xs i begun so_far h ∙ ap (λ (t : List ℕ). old ++ t) (sym (steps-is word (map g xs)))
 
-  pub steps_stop : (x : X) → i < length xs → x ≡ get_or xs i x → (fault : SessionFault) → Stops fault (new ++ step_text (g x)) → Stops fault (old ++ steps_text word (map g xs))
+  pub steps_stop : (x : X) → i < length xs → x ≡ get_or xs i x → (fault : SessionWriteFault) → Stops fault (new ++ step_text (g x)) → Stops fault (old ++ steps_text word (map g xs))
   steps_stop x h is fault s =
       stops_longer fault (new ++ step_text (g x)) (old ++ steps_text word (map g xs))
       (omega (arith, list_longer step_text g word old mid new xs i begun so_far x h, ap (λ (y : X). length (new ++ step_text (g y))) is, ap (λ (t : List ℕ). length (old ++ t)) (steps-is word (map g xs))))
@@ -98,9 +95,9 @@ module _ (d : Items) (undo redo : List (Bor (List Patch))) where
       ap length session-is
       ∙ omega (arith, length-append (session_head d) undo_of, length-append (session_head d ++ undo_of) redo_of, length-append (session_head d ++ undo_of ++ redo_of) (codes "end"), length-append (session_head d ++ undo_of ++ redo_of ++ codes "end") line_feed)
 
-  pub stops_back : (head : List ℕ) → head ≡ session_head d → (fault : SessionFault) → Stops fault (head ++ undo_of) → Stops fault session_of
+  pub stops_back : (head : List ℕ) → head ≡ session_head d → (fault : SessionWriteFault) → Stops fault (head ++ undo_of) → Stops fault session_of
   stops_back head h fault s = stops_longer fault (head ++ undo_of) session_of (omega (arith, length-session, ap length h, length-append head undo_of)) s
 
-  pub stops_on : (head back : List ℕ) → head ≡ session_head d → back ≡ head ++ undo_of → (fault : SessionFault) → Stops fault (back ++ redo_of) → Stops fault session_of
+  pub stops_on : (head back : List ℕ) → head ≡ session_head d → back ≡ head ++ undo_of → (fault : SessionWriteFault) → Stops fault (back ++ redo_of) → Stops fault session_of
   stops_on head back h u fault s =
       stops_longer fault (back ++ redo_of) session_of (omega (arith, length-session, ap length h, ap length u, length-append head undo_of, length-append back redo_of)) s

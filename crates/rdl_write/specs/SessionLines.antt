@@ -6,8 +6,8 @@ use Rattle.rdl_tree.specs.SessionText.{PatchLines, SessionLines, insert, delete,
 use Rattle.rdl_tree.specs.declared.part.Part.TheVariants.{OfShell, OfValue, OfTarget, OfType, OfDefine}
 use Rattle.rdl_tree.specs.declared.patch.Patch.{Patch}
 use Rattle.rdl_tree.specs.declared.patch.Patch.TheVariants.{Insert, Delete, Shift, Exchange}
-use Rattle.rdl_tree.specs.declared.session.SessionFault.{SessionFault}
-use Rattle.rdl_tree.specs.declared.session.SessionFault.TheVariants.{TooLong, Memory}
+use Rattle.rdl_write.specs.declared.session_fault.SessionWriteFault.{SessionWriteFault}
+use Rattle.rdl_write.specs.declared.session_fault.SessionWriteFault.TheVariants.{TooLong, Memory}
 use Rattle.rdl_write.specs.ItemText.{item_text}
 use Rattle.rdl_write.specs.MapText.{map_text}
 
@@ -26,7 +26,6 @@ abbrev pub session_lines : Items → (undo redo : List (List Patch)) → Session
 session_lines d undo redo = record { map = map_text d; undo = map (map written) undo; redo = map (map written) redo }
 
 -- why a text isn't written: it is too long, or memory is wanted
-abbrev pub Stops : SessionFault → List ℕ → Type 0
+abbrev pub Stops : SessionWriteFault → List ℕ → Type 0
 Stops TooLong text = max_session < length text
 Stops Memory text = Unit {0}
-Stops fault text = ⊥

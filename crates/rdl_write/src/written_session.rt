@@ -21,12 +21,12 @@ ghost use Rattle.rdl_write.specs.SessionLines.{written, session_lines, Stops};
 
 use crate::map::{push_dynamic, push_item, push_named, push_own, rdl};
 use crate::number::push_decimal;
+use crate::session_fault::SessionWriteFault;
 use rdl_text::token::Number;
 use rdl_tree::address::Address;
 use rdl_tree::description::{Description, Item};
 use rdl_tree::part::Part;
 use rdl_tree::patch::Patch;
-use rdl_tree::session::SessionFault;
 use rdl_tree::shell::Shell;
 use rdl_tree::target::Target;
 use rdl_tree::value::Value;
@@ -143,14 +143,14 @@ fn push_patch(alloc: Global, text: &mut String, patch: &Patch) -> Result<(), All
 }
 
 /// Appends a step. It stops where the text is too long, however many patches are left.
-fn push_step(alloc: Global, text: &mut String, patches: &[Patch]) -> Result<(), SessionFault>
+fn push_step(alloc: Global, text: &mut String, patches: &[Patch]) -> Result<(), SessionWriteFault>
     ensures ok { OnOk result (string_bytes text.new ≡ string_bytes text.old ++ step_text (map written patches.now)) }
     ensures err { IfErr result (λ fault. Stops fault (string_bytes text.old ++ step_text (map written patches.now))) }
 {
     push_count(text, "back", patches.len())?;
     'patches: for patch in patches {
         if text.len() > MAX_LEN {
-            return Err(SessionFault::TooLong);
+            return Err(SessionWriteFault::TooLong);
         }
         push_patch(alloc, text, patch)?;
     }
@@ -163,7 +163,7 @@ fn push_steps(
     text: &mut String,
     word: &str,
     steps: &[&[Patch]],
-) -> Result<(), SessionFault>
+) -> Result<(), SessionWriteFault>
     ensures ok { OnOk result (string_bytes text.new ≡ string_bytes text.old ++ steps_text word.now (map (λ step. map written step.now) steps.entry.now)) }
     ensures err { IfErr result (λ fault. Stops fault (string_bytes text.old ++ steps_text word.now (map (λ step. map written step.now) steps.entry.now))) }
 {
@@ -193,7 +193,7 @@ pub fn session(
     description: &Description,
     undo: &[&[Patch]],
     redo: &[&[Patch]],
-) -> Result<String, SessionFault>
+) -> Result<String, SessionWriteFault>
     ensures ok { IfOk result (λ text. string_bytes text ≡ session_text (session_lines description.now.items (map (λ step. step.now) undo.entry.now) (map (λ step. step.now) redo.entry.now))) }
     ensures short { IfOk result (λ text. string_len text ≤ max_session) }
     ensures err { IfErr result (λ fault. Stops fault (session_text (session_lines description.now.items (map (λ step. step.now) undo.entry.now) (map (λ step. step.now) redo.entry.now)))) }
@@ -203,7 +203,7 @@ pub fn session(
     push_steps(alloc, &mut text, "redo", redo)?;
     text.push_str("end\n")?;
     if text.len() > MAX_LEN {
-        return Err(SessionFault::TooLong);
+        return Err(SessionWriteFault::TooLong);
     }
     Ok(text)
 }
