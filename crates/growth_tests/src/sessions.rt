@@ -12,10 +12,12 @@ use journal_core::journal::Journal;
 use rdl_edit::back::Back;
 use rdl_edit::map::{Map, Resumed};
 use rdl_edit::resume_fault::{ResumeFault, Where};
-use rdl_parse::session::{Session, parse_session};
-use rdl_parse::session_fault::SessionReadFault;
+use rdl_session::fault::SessionReadFault;
+use rdl_session::fault::SessionWriteFault;
+use rdl_session::parse::{Session, parse_session};
+use rdl_session::write::session;
 use rdl_tree::patch::Patch;
-use rdl_write::{SessionWriteFault, rdl, session};
+use rdl_write::rdl;
 use std::alloc::{AllocError, Global};
 use std::process::Abort;
 

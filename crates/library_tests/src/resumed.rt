@@ -8,7 +8,7 @@ use crate::{assert_holds, assert_same};
 use journal_core::journal::Journal;
 use rdl_edit::back::Back;
 use rdl_edit::map::{Map, Resumed};
-use rdl_parse::session::parse_session;
+use rdl_session::parse::parse_session;
 use std::alloc::{AllocError, Global};
 use std::process::Abort;
 use std::test::Fail;

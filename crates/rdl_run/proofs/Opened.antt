@@ -16,9 +16,9 @@ use Rattle.rdl_edit.specs.Step.{State, HasRows}
 use Rattle.rdl_parse.specs.Places.{Located}
 use Rattle.rdl_tree.specs.Items.{Items}
 use Rattle.rdl_tree.specs.declared.patch.Patch.{Patch}
-use Rattle.rdl_parse.specs.Session.{SpellsSession}
-use Rattle.rdl_parse.specs.declared.session_fault.SessionReadFault.{SessionReadFault}
-use Rattle.rdl_parse.specs.declared.session_fault.SessionReadFault.TheVariants as reading
+use Rattle.rdl_session.specs.Spelling.{SpellsSession}
+use Rattle.rdl_session.specs.declared.fault.SessionReadFault.{SessionReadFault}
+use Rattle.rdl_session.specs.declared.fault.SessionReadFault.TheVariants as reading
 use Rattle.rdl_run.specs.Answers.{History'}
 use Rattle.rdl_run.specs.Messages.{session_line, unread_text, unresumed_text}
 use Rattle.rdl_run.specs.Opening.{Opens, OpensHistory, EachElaborates, one_map}
@@ -81,6 +81,9 @@ module _ (option : Option (List ℕ)) (bytes : List ℕ) where
   refused_named opens.Memory named h = tt
 
 -- ---- A session that is gone on with.
+
+pub reads : (bytes text : List ℕ) (d : Items) (undo redo : List (List Patch)) → IsUtf8 bytes → text ≡ bytes → SpellsSession text d undo redo → ReadsSession bytes d undo redo
+reads bytes text d undo redo utf8 same spelled = record { text = utf8; spelled = subst (λ t. SpellsSession t d undo redo) same spelled }
 
 -- what opens as a session elaborates at each place
 pub all-elaborate : {X E : Type 0} (option : Option (List ℕ)) (limit : ℕ) (bytes : List ℕ) (r : Result X E) (seen : X → History') → IfOk r (λ j. OpensSession option limit bytes (seen j))

@@ -16,7 +16,7 @@ use Rattle.rdl_parse.specs.declared.fault.ParseFault.{ParseFault}
 use Rattle.rdl_parse.specs.declared.fault.ParseFaultKind.{ParseFaultKind}
 use Rattle.rdl_parse.specs.declared.fault.ParseFaultKind.TheVariants.{Words, UnexpectedWord, UnexpectedEnd, TooDeep, TooLarge, TooLong}
 use Rattle.rdl_parse.proofs.Exact.{one-spelled, one-statement}
-use Rattle.rdl_parse.proofs.SessionMeant.{one-session}
+use Rattle.rdl_session.proofs.Meant.{one-session}
 use Rattle.rdl_elab.specs.Faults.{elaborated}
 use Rattle.rdl_edit.specs.Resuming.{session_fault}
 use Rattle.rdl_edit.specs.Step.{State}

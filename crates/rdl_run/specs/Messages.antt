@@ -13,14 +13,14 @@ use Rattle.rdl_edit.specs.declared.resume_fault.Where.TheVariants as where_
 use Rattle.rdl_parse.specs.declared.fault.ParseFault.{ParseFault}
 use Rattle.rdl_parse.specs.declared.fault.ParseFaultKind.{ParseFaultKind}
 use Rattle.rdl_parse.specs.declared.fault.ParseFaultKind.TheVariants as texts
-use Rattle.rdl_parse.specs.declared.session_fault.SessionReadFault.{SessionReadFault}
-use Rattle.rdl_parse.specs.declared.session_fault.SessionReadFault.TheVariants as reads
+use Rattle.rdl_session.specs.declared.fault.SessionReadFault.{SessionReadFault}
+use Rattle.rdl_session.specs.declared.fault.SessionReadFault.TheVariants as reads
 use Rattle.rdl_tree.specs.AddressText.{address_text}
 use Rattle.rdl_tree.specs.declared.fault.FaultKind.{FaultKind}
 use Rattle.rdl_tree.specs.declared.fault.FaultKind.TheVariants as kinds
 use Rattle.rdl_write.specs.Texts.{newline}
-use Rattle.rdl_write.specs.declared.session_fault.SessionWriteFault.{SessionWriteFault}
-use Rattle.rdl_write.specs.declared.session_fault.SessionWriteFault.TheVariants as writes
+use Rattle.rdl_session.specs.declared.fault.SessionWriteFault.{SessionWriteFault}
+use Rattle.rdl_session.specs.declared.fault.SessionWriteFault.TheVariants as writes
 use Rattle.rdl_run.specs.Replies.{Said, done, listed, not_done}
 use Rattle.rdl_run.specs.declared.reply.LineRefusal.{LineRefusal}
 use Rattle.rdl_run.specs.declared.reply.LineRefusal.TheVariants as lines

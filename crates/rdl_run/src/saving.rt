@@ -10,8 +10,9 @@ use crate::session_message::unwritten_line;
 use crate::status::RunFault;
 use journal_core::journal::Journal;
 use rdl_edit::map::Map;
+use rdl_session::fault::SessionWriteFault;
+use rdl_session::write::session;
 use rdl_tree::patch::Patch;
-use rdl_write::{SessionWriteFault, session};
 use std::alloc::{AllocError, Global};
 
 /// The steps that lead back, the next one first.
