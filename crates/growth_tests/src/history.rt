@@ -6,7 +6,7 @@ use crate::examples::{
     RENAMED_WRITTEN, SHARED, SHARED_LINES, SHARED_WRITTEN, THREE, THREE_LINES, THREE_WRITTEN,
     TWO_FILES, UNASSIGNED_LINES, UNASSIGNED_WRITTEN, two_large_files,
 };
-use crate::sessions::session_fault_answer;
+use crate::sessions::write_fault_answer;
 use crate::{Answer, assert_answered, is_same};
 use journal_core::fault::{EditFault, StepFault};
 use journal_core::journal::Journal;
@@ -17,10 +17,11 @@ use rdl_edit::place::Place;
 use rdl_edit::refusal::Refusal;
 use rdl_parse::parse::parse_item;
 use rdl_script::request::{Request, request_of};
+use rdl_session::write::session;
 use rdl_tree::description::Body;
 use rdl_tree::patch::Patch;
 use rdl_tree::path::Path;
-use rdl_write::{rdl, session};
+use rdl_write::rdl;
 use std::alloc::{AllocError, Global};
 use std::process::Abort;
 use std::{mem, str};
@@ -143,7 +144,7 @@ fn session_answer(alloc: Global, journal: &Journal<Map>) -> Answer {
     let map = journal.map().description();
     match session(alloc, map, undo.as_slice(), redo.as_slice()) {
         Ok(text) => Ok(text),
-        Err(fault) => session_fault_answer(alloc, fault),
+        Err(fault) => write_fault_answer(alloc, fault),
     }
 }
 

@@ -11,10 +11,13 @@ use crate::{Answer, assert_answered};
 use journal_core::journal::Journal;
 use rdl_edit::back::Back;
 use rdl_edit::map::{Map, Resumed};
-use rdl_parse::session::{Session, parse_session};
+use rdl_edit::resume_fault::{ResumeFault, Where};
+use rdl_session::fault::SessionReadFault;
+use rdl_session::fault::SessionWriteFault;
+use rdl_session::parse::{Session, parse_session};
+use rdl_session::write::session;
 use rdl_tree::patch::Patch;
-use rdl_tree::session::{SessionFault, Where};
-use rdl_write::{rdl, session};
+use rdl_write::rdl;
 use std::alloc::{AllocError, Global};
 use std::process::Abort;
 
@@ -26,20 +29,35 @@ fn place_answer(alloc: Global, place: Where) -> Answer {
     }
 }
 
-/// Why there is no session; Z5 is want of memory.
-pub(crate) fn session_fault_answer(alloc: Global, fault: SessionFault) -> Answer {
+/// Why a text isn't read; Z5 is want of memory.
+fn read_fault_answer(alloc: Global, fault: SessionReadFault) -> Answer {
     match fault {
-        SessionFault::PatchMisfits(place) => {
+        SessionReadFault::Memory => Err(AllocError),
+        other => format!(in alloc; "Z{}", other.number()),
+    }
+}
+
+/// Why a session isn't written; Z5 is want of memory.
+pub(crate) fn write_fault_answer(alloc: Global, fault: SessionWriteFault) -> Answer {
+    match fault {
+        SessionWriteFault::Memory => Err(AllocError),
+        other => format!(in alloc; "Z{}", other.number()),
+    }
+}
+
+/// Why a session isn't gone on with; Z5 is want of memory.
+fn resume_fault_answer(alloc: Global, fault: ResumeFault) -> Answer {
+    match fault {
+        ResumeFault::PatchMisfits(place) => {
             let place = place_answer(alloc, place)?;
             format!(in alloc; "Z2 at {place}")
         }
-        SessionFault::MapFaulty(place, fault) => {
+        ResumeFault::MapFaulty(place, fault) => {
             let place = place_answer(alloc, place)?;
             let number = fault.kind.number();
             format!(in alloc; "Z3 at {place}: E{number} at {}", fault.address)
         }
-        SessionFault::Memory => Err(AllocError),
-        other => format!(in alloc; "Z{}", other.number()),
+        ResumeFault::Memory => Err(AllocError),
     }
 }
 
@@ -84,13 +102,13 @@ fn write_answer(alloc: Global, read: &Session) -> Answer {
     let redo = slices(alloc, read.redo.as_slice())?;
     match session(alloc, &read.map, undo.as_slice(), redo.as_slice()) {
         Ok(text) => Ok(text),
-        Err(fault) => session_fault_answer(alloc, fault),
+        Err(fault) => write_fault_answer(alloc, fault),
     }
 }
 
 // ---- Going on.
 
-fn resumed(alloc: Global, session: Session) -> Result<Resumed, SessionFault>
+fn resumed(alloc: Global, session: Session) -> Result<Resumed, ResumeFault>
     ensures undo { IfOk result (λ r. FitInTurn prior Fits r.map.state r.undo.items) }
     ensures redo { IfOk result (λ r. FitInTurn prior Fits r.map.state r.redo.items) }
 {
@@ -118,7 +136,7 @@ fn resumed_text(alloc: Global, resumed: &Resumed) -> Answer {
 fn resume_answer(alloc: Global, session: Session) -> Answer {
     match resumed(alloc, session) {
         Ok(resumed) => resumed_text(alloc, &resumed),
-        Err(fault) => session_fault_answer(alloc, fault),
+        Err(fault) => resume_fault_answer(alloc, fault),
     }
 }
 
@@ -131,7 +149,7 @@ fn answer(alloc: Global, call: Call, text: &str) -> Answer {
             Call::Write => write_answer(alloc, &session),
             Call::Resume => resume_answer(alloc, session),
         },
-        Err(fault) => session_fault_answer(alloc, fault),
+        Err(fault) => read_fault_answer(alloc, fault),
     }
 }
 

@@ -8,27 +8,28 @@ use crate::{assert_holds, assert_same};
 use journal_core::journal::Journal;
 use rdl_edit::back::Back;
 use rdl_edit::map::{Map, Resumed};
-use rdl_parse::session::parse_session;
-use rdl_tree::session::SessionFault;
+use rdl_session::parse::parse_session;
 use std::alloc::{AllocError, Global};
 use std::process::Abort;
 use std::test::Fail;
 
-fn resumed(alloc: Global, text: &str) -> Result<Resumed, SessionFault>
+fn resumed(alloc: Global, text: &str) -> Result<Resumed, Fail>
     ensures undo { IfOk result (λ r. FitInTurn prior Fits r.map.state r.undo.items) }
     ensures redo { IfOk result (λ r. FitInTurn prior Fits r.map.state r.redo.items) }
 {
-    let session = match parse_session(alloc, text) {
-        Ok(session) => session,
-        Err(fault) => return Err(fault),
+    let Ok(session) = parse_session(alloc, text) else {
+        return Err(Fail::new("is no session"));
     };
-    Map::resume(alloc, session.map, None, session.undo, session.redo)
+    match Map::resume(alloc, session.map, None, session.undo, session.redo) {
+        Ok(resumed) => Ok(resumed),
+        Err(_) => Err(Fail::new("isn't gone on with")),
+    }
 }
 
 fn history(alloc: Global, text: &str, limit: u32) -> Result<Journal<Map>, Fail> {
     match resumed(alloc, text) {
         Ok(resumed) => Ok(Journal::resume(resumed.map, limit, resumed.undo, resumed.redo)),
-        Err(_) => Err(Fail::new("is no session")),
+        Err(fail) => Err(fail),
     }
 }
 

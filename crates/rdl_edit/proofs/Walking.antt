@@ -18,11 +18,11 @@ use Rattle.rdl_kept.specs.AllKept.{KeptLayouts}
 use Rattle.rdl_tree.specs.Items.{Items}
 use Rattle.rdl_tree.specs.Patch.{AllFit, patched, image}
 use Rattle.rdl_tree.specs.declared.patch.Patch.{Patch}
-use Rattle.rdl_tree.specs.declared.session.SessionFault.{SessionFault}
-use Rattle.rdl_tree.specs.declared.session.SessionFault.TheVariants.{PatchMisfits, Memory}
-use Rattle.rdl_tree.specs.declared.session.Where.TheVariants as where_
+use Rattle.rdl_edit.specs.declared.resume_fault.ResumeFault.{ResumeFault}
+use Rattle.rdl_edit.specs.declared.resume_fault.ResumeFault.TheVariants.{PatchMisfits, Memory}
+use Rattle.rdl_edit.specs.declared.resume_fault.Where.TheVariants as where_
 use Rattle.std.specs.Option.{option_or}
-use Rattle.rdl_tree.specs.declared.session.Where.{Where}
+use Rattle.rdl_edit.specs.declared.resume_fault.Where.{Where}
 use Rattle.rdl_edit.specs.Resuming.{all_fit, place_fault, step_fault, steps_fault, session_fault, place_after}
 
 pub all-fit : (ps : List Patch) (t : Items) → AllFit ps t → all_fit ps t ≡ true
@@ -136,7 +136,7 @@ module _ (name option : Option (List ℕ)) (d now : Items) (undo redo us rs : Li
       ∙ ap (λ o. option_or o (option_or (steps_fault where_.Undo option 1 d undo) (steps_fault where_.Redo option 1 d redo))) opened
       ∙ ap (λ ss. option_or (steps_fault where_.Undo option 1 d ss) (steps_fault where_.Redo option 1 d redo)) (sym u)
 
-  pub undo-refused : (f : SessionFault) → (steps_fault (place_of way.Undo) option 1 d us ≡ Some f) ⊎ (f ≡ Memory) → (session_fault name d undo redo ≡ Some f) ⊎ (f ≡ Memory)
+  pub undo-refused : (f : ResumeFault) → (steps_fault (place_of way.Undo) option 1 d us ≡ Some f) ⊎ (f ≡ Memory) → (session_fault name d undo redo ≡ Some f) ⊎ (f ≡ Memory)
   undo-refused f (inl e) = inl (whole ∙ ap (λ o. option_or o (steps_fault where_.Redo option 1 d redo)) e)
   undo-refused f (inr e) = inr e
 
@@ -146,7 +146,7 @@ module _ (name option : Option (List ℕ)) (d now : Items) (undo redo us rs : Li
         whole ∙ ap (λ o. option_or o (steps_fault where_.Redo option 1 d redo)) done
         ∙ (λ i. steps_fault (place_of way.Redo) option 1 (sym home i) (sym r i))
 
-    pub redo-refused : (f : SessionFault) → (steps_fault (place_of way.Redo) option 1 now rs ≡ Some f) ⊎ (f ≡ Memory) → (session_fault name d undo redo ≡ Some f) ⊎ (f ≡ Memory)
+    pub redo-refused : (f : ResumeFault) → (steps_fault (place_of way.Redo) option 1 now rs ≡ Some f) ⊎ (f ≡ Memory) → (session_fault name d undo redo ≡ Some f) ⊎ (f ≡ Memory)
     redo-refused f (inl e) = inl (rest ∙ e)
     redo-refused f (inr e) = inr e
 

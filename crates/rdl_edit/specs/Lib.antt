@@ -3,6 +3,7 @@ pub mod Faults
 pub mod Keeping
 pub mod OfEdits
 pub mod Placing
+pub mod ResumeFault
 pub mod Resuming
 pub mod Step
 pub mod Still

@@ -3,14 +3,14 @@
 use Rattle.std.specs.Prelude.{◌≡◌, ◌==◌, ℕ, Bool, false, List, [], ◌∷◌, length, if◌then◌else◌}
 use Rattle.rdl_tree.specs.Items.{Items}
 use Rattle.rdl_tree.specs.Patch.{AllFit, image, inverses}
-use Rattle.rdl_tree.specs.declared.session.Where.TheVariants as where_
+use Rattle.rdl_edit.specs.declared.resume_fault.Where.TheVariants as where_
 use Rattle.rdl_edit.specs.Backs.{Reversal}
 use Rattle.rdl_edit.specs.declared.resuming.Direction.{Direction}
 use Rattle.rdl_edit.specs.declared.resuming.Direction.TheVariants as way
 use Rattle.rdl_tree.specs.declared.fault.Fault.{Fault}
-use Rattle.rdl_tree.specs.declared.session.SessionFault.{SessionFault}
-use Rattle.rdl_tree.specs.declared.session.SessionFault.TheVariants.{PatchMisfits, MapFaulty, Memory}
-use Rattle.rdl_tree.specs.declared.session.Where.{Where}
+use Rattle.rdl_edit.specs.declared.resume_fault.ResumeFault.{ResumeFault}
+use Rattle.rdl_edit.specs.declared.resume_fault.ResumeFault.TheVariants.{PatchMisfits, MapFaulty, Memory}
+use Rattle.rdl_edit.specs.declared.resume_fault.Where.{Where}
 use Rattle.rdl_edit.specs.declared.resuming.Stop.{Stop}
 use Rattle.rdl_edit.specs.declared.resuming.Stop.TheVariants as stop
 use Rattle.rdl_edit.specs.Faults.{is_memory}
@@ -20,12 +20,12 @@ abbrev pub IsMisfit : (fit : Bool) → Stop → Type 0
 IsMisfit fit stop.Misfit = fit ≡ false
 IsMisfit fit stop.Memory = Unit {0}
 
-abbrev pub stop_at : Where → Stop → SessionFault
+abbrev pub stop_at : Where → Stop → ResumeFault
 stop_at at stop.Misfit = PatchMisfits at
 stop_at at stop.Memory = Memory
 
 -- a map that has this fault at a place is refused, where memory wasn't wanted
-abbrev pub refused : Where → Fault → SessionFault
+abbrev pub refused : Where → Fault → ResumeFault
 refused at fault = if is_memory fault.kind then Memory else MapFaulty at fault
 
 -- ---- Steps, one after another.

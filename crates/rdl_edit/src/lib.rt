@@ -5,6 +5,7 @@ pub mod back;
 pub mod laws;
 pub mod map;
 pub mod refusal;
+pub mod resume_fault;
 mod resuming;
 mod touched;
 mod turning;

@@ -8,7 +8,7 @@ ghost use Rattle.rdl_kept.specs.Reach.{in_reach};
 ghost use Rattle.rdl_tree.specs.Patch.{inverses};
 ghost use Rattle.rdl_edit.specs.Step.{HasRows, Leads, Refuses};
 ghost use Rattle.journal_core.specs.Along.{FitInTurn};
-ghost use Rattle.rdl_tree.specs.declared.session.SessionFault.{SessionFault};
+ghost use Rattle.rdl_edit.specs.declared.resume_fault.ResumeFault.{ResumeFault};
 ghost use Rattle.rdl_edit.specs.Placing.{IsFew, KeepsLayouts};
 ghost use Rattle.rdl_edit.specs.Still.{keeps_layouts};
 ghost use Rattle.rdl_edit.specs.Tracking.{steps_edit, steps_change, IsOrdinary, is_rename};
@@ -19,6 +19,7 @@ ghost use Rattle.rdl_rewrite.specs.Patches.{patches};
 
 use crate::back::Back;
 use crate::refusal::Refusal;
+use crate::resume_fault::ResumeFault;
 use crate::resuming::{Direction, backs, opened, visit};
 use crate::turning::{again, turn};
 use journal_core::invertible::Invertible;
@@ -30,7 +31,6 @@ use rdl_text::name::Name;
 use rdl_tree::description::Description;
 use rdl_tree::fault::Fault;
 use rdl_tree::patch::Patch;
-use rdl_tree::session::SessionFault;
 use std::alloc::{AllocError, Global};
 use std::marker::Model;
 
@@ -141,7 +141,7 @@ impl Map {
         name: Option<Name>,
         undo: Vec<Vec<Patch>>,
         redo: Vec<Vec<Patch>>,
-    ) -> Result<Resumed, SessionFault>
+    ) -> Result<Resumed, ResumeFault>
         ensures map { IfOk result (λ r. r.map.state ≡ record { description = description.items; option = name }) }
         ensures placed { IfOk result (λ r. r.map.placed ≤ 3 * all_instances description.items) }
         ensures undo { IfOk result (λ r. r.undo.items ≡ map (λ step. read_back step.items) undo.items) }
@@ -149,7 +149,7 @@ impl Map {
         ensures undo_fits { IfOk result (λ r. FitInTurn prior Fits r.map.state r.undo.items) }
         ensures redo_fits { IfOk result (λ r. FitInTurn prior Fits r.map.state r.redo.items) }
         ensures accepted { IfOk result (λ _. session_fault name description.items (map (λ step. step.items) undo.items) (map (λ step. step.items) redo.items) ≡ None) }
-        ensures refused { IfErr result (λ f. (session_fault name description.items (map (λ step. step.items) undo.items) (map (λ step. step.items) redo.items) ≡ Some f) ⊎ (f ≡ SessionFault.Memory)) }
+        ensures refused { IfErr result (λ f. (session_fault name description.items (map (λ step. step.items) undo.items) (map (λ step. step.items) redo.items) ≡ Some f) ⊎ (f ≡ ResumeFault.Memory)) }
     {
         let mut description = description;
         let top = top_text(name.as_ref());

@@ -4,11 +4,11 @@ ghost use Rattle.std.specs.List.{list_all};
 ghost use mathlib.Core.List.{reverse};
 ghost use Rattle.rdl_tree.specs.Depth.{depth};
 ghost use Rattle.rdl_tree.specs.Patch.{fits, AllFit, patched, image, inverse, inverses};
-ghost use Rattle.rdl_tree.specs.declared.session.SessionFault.TheVariants.{Memory};
+ghost use Rattle.rdl_edit.specs.declared.resume_fault.ResumeFault.TheVariants.{Memory};
 ghost use Rattle.journal_core.specs.Along.{FitInTurn};
 ghost use Rattle.rdl_edit.specs.Backs.{read_back, prior, Fits};
 ghost use Rattle.rdl_edit.specs.Resuming.{all_fit, place_fault, step_fault, steps_fault, place_after};
-ghost use Rattle.rdl_tree.specs.declared.session.Where.TheVariants as where_;
+ghost use Rattle.rdl_edit.specs.declared.resume_fault.Where.TheVariants as where_;
 ghost use Rattle.rdl_edit.specs.Keeping.{IsLaidOut};
 ghost use Rattle.rdl_edit.specs.Step.{HasRows};
 ghost use Rattle.rdl_edit.specs.Touching.{IsKnown};
@@ -16,13 +16,13 @@ ghost use Rattle.rdl_edit.specs.Ways.{IsMisfit, stop_at, refused, place_of, way_
 
 use crate::back::Back;
 use crate::refusal::is_memory;
+use crate::resume_fault::{ResumeFault, Where};
 use crate::touched::{Touched, touched_by};
 use crate::turning::lay_out;
 use rdl_kept::kept::Kept;
 use rdl_tree::description::Description;
 use rdl_tree::fault::Fault;
 use rdl_tree::patch::Patch;
-use rdl_tree::session::{SessionFault, Where};
 use std::alloc::{AllocError, Global};
 
 /// Why patches aren't applied.
@@ -112,13 +112,13 @@ fn turn_all(
     Ok(reversed(back))
 }
 
-fn faulty(place: Where, fault: Fault) -> SessionFault
+fn faulty(place: Where, fault: Fault) -> ResumeFault
     ensures { result ≡ refused place fault }
 {
     if is_memory(fault.kind) {
-        SessionFault::Memory
+        ResumeFault::Memory
     } else {
-        SessionFault::MapFaulty(place, fault)
+        ResumeFault::MapFaulty(place, fault)
     }
 }
 
@@ -130,7 +130,7 @@ fn judge(
     name: Option<&str>,
     touched: &Touched,
     place: Where,
-) -> Result<(), SessionFault>
+) -> Result<(), ResumeFault>
     requires known { IsKnown touched.now description.now.items kept.old }
     requires top { kept.old.top ≡ option_copied name }
     ensures laid_out { OnOk result (IsLaidOut (record { description = description.now.items; option = option_copied name.entry }) kept.new) }
@@ -144,12 +144,12 @@ fn judge(
     }
 }
 
-fn stopped(place: Where, stop: Stop) -> SessionFault
+fn stopped(place: Where, stop: Stop) -> ResumeFault
     ensures { result ≡ stop_at place stop }
 {
     match stop {
-        Stop::Misfit => SessionFault::PatchMisfits(place),
-        Stop::Memory => SessionFault::Memory,
+        Stop::Misfit => ResumeFault::PatchMisfits(place),
+        Stop::Memory => ResumeFault::Memory,
     }
 }
 
@@ -163,7 +163,7 @@ fn take_step(
     name: Option<&str>,
     step: Back,
     place: Where,
-) -> Result<Back, SessionFault>
+) -> Result<Back, ResumeFault>
     requires { IsLaidOut (record { description = description.old.items; option = option_copied name }) kept.old }
     ensures fits { OnOk result (Fits (record { description = description.old.items; option = option_copied name.entry }) step) }
     ensures made { OnOk result (description.new.items ≡ image step.patches description.old.items) }
@@ -212,7 +212,7 @@ fn go(
     name: Option<&str>,
     steps: Vec<Back>,
     direction: Direction,
-) -> Result<Vec<Back>, SessionFault>
+) -> Result<Vec<Back>, ResumeFault>
     requires { IsLaidOut (record { description = description.old.items; option = option_copied name }) kept.old }
     ensures fits { OnOk result (FitInTurn prior Fits (record { description = description.old.items; option = option_copied name.entry }) steps.items) }
     ensures there { OnOk result (description.new.items ≡ place_after description.old.items steps.items) }
@@ -222,7 +222,7 @@ fn go(
     ensures refused { IfErr result (λ f. (steps_fault (place_of direction) (option_copied name.entry) 1 description.old.items (map (λ step. step.patches) steps.items) ≡ Some f) ⊎ (f ≡ Memory)) }
 {
     let Ok(mut ways) = Vec::with_capacity(alloc, steps.len()) else {
-        return Err(SessionFault::Memory);
+        return Err(ResumeFault::Memory);
     };
     for step in steps {
         let place = place_of(direction, ways.len().saturating_add(1));
@@ -231,7 +231,7 @@ fn go(
             Err(fault) => return Err(fault),
         };
         if ways.push(way).is_err() {
-            return Err(SessionFault::Memory);
+            return Err(ResumeFault::Memory);
         }
     }
     Ok(reversed(ways))
@@ -273,7 +273,7 @@ pub(crate) fn visit(
     name: Option<&str>,
     steps: Vec<Back>,
     direction: Direction,
-) -> Result<Vec<Back>, SessionFault>
+) -> Result<Vec<Back>, ResumeFault>
     requires nesting { depth description.old.items ≤ 16 }
     requires laid_out { IsLaidOut (record { description = description.old.items; option = option_copied name }) kept.old }
     ensures fits { OnOk result (FitInTurn prior Fits (record { description = description.old.items; option = option_copied name.entry }) steps.items) }
@@ -290,28 +290,28 @@ pub(crate) fn visit(
     let stays = are_empty(ways.as_slice());
     let steps = match come_back(alloc, description, ways) {
         Ok(steps) => steps,
-        Err(_) => return Err(SessionFault::Memory),
+        Err(_) => return Err(ResumeFault::Memory),
     };
     if stays {
         return Ok(steps);
     }
     match kept.relay_known(alloc, description, name, &[]) {
         Ok(()) => Ok(steps),
-        Err(_) => Err(SessionFault::Memory),
+        Err(_) => Err(ResumeFault::Memory),
     }
 }
 
 /// The steps of a session as what takes a map back.
-pub(crate) fn backs(alloc: Global, steps: Vec<Vec<Patch>>) -> Result<Vec<Back>, SessionFault>
+pub(crate) fn backs(alloc: Global, steps: Vec<Vec<Patch>>) -> Result<Vec<Back>, ResumeFault>
     ensures backs { IfOk result (λ backs. backs.items ≡ map (λ step. read_back step.items) steps.items) }
     ensures refused { IfErr result (λ f. f ≡ Memory) }
 {
     let Ok(mut backs) = Vec::with_capacity(alloc, steps.len()) else {
-        return Err(SessionFault::Memory);
+        return Err(ResumeFault::Memory);
     };
     for step in steps {
         if backs.push(Back::new(step, true)).is_err() {
-            return Err(SessionFault::Memory);
+            return Err(ResumeFault::Memory);
         }
     }
     Ok(backs)
@@ -322,7 +322,7 @@ pub(crate) fn opened(
     alloc: Global,
     description: &Description,
     name: Option<&str>,
-) -> Result<Kept, SessionFault>
+) -> Result<Kept, ResumeFault>
     ensures laid_out { IfOk result (IsLaidOut (record { description = description.now.items; option = option_copied name.entry })) }
     ensures faultless { OnOk result (place_fault where_.Map (option_copied name.entry) description.now.items ≡ None) }
     ensures refused { IfErr result (λ f. (place_fault where_.Map (option_copied name.entry) description.now.items ≡ Some f) ⊎ (f ≡ Memory)) }

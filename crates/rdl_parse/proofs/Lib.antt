@@ -14,8 +14,3 @@ pub mod Bodies
 pub mod Classes
 pub mod Placed
 pub mod Answered
-pub mod SessionForm
-pub mod SessionCuts
-pub mod SessionRuns
-pub mod SessionAgain
-pub mod SessionMeant

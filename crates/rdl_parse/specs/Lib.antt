@@ -10,7 +10,3 @@ pub mod Places
 pub mod Faults
 pub mod Parsing
 pub mod FirstFault
-pub mod SessionReading
-pub mod SessionSeen
-pub mod Session
-pub mod SessionMeaning

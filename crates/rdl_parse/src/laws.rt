@@ -5,8 +5,6 @@ ghost use Rattle.rdl_text.specs.Word.{Word};
 ghost use Rattle.rdl_tree.specs.Items.{Items};
 ghost use Rattle.rdl_tree.specs.ItemAt.{item_at};
 ghost use Rattle.rdl_tree.specs.declared.description.Item.{Item};
-ghost use Rattle.rdl_tree.specs.declared.patch.Patch.{Patch};
-ghost use Rattle.rdl_parse.specs.Session.{SpellsSession};
 ghost use Rattle.rdl_parse.specs.Symbol.{Symbol, symbols};
 ghost use Rattle.rdl_parse.specs.declared.found.Spot.{Spot};
 ghost use Rattle.rdl_parse.specs.Places.{place_of, start_at};
@@ -25,9 +23,4 @@ pub fn one_statement()
 /// There is a place for an address exactly where the description that the words spell has an item.
 pub fn each_item_has_a_place()
     ensures { (ws : List Word) (d : Items) (at : List Spot) → Spells (symbols ws) d at → (address : List ℕ) → is_some (start_at address (map (place_of ws) at)) ≡ is_some (item_at address d) }
-{}
-
-/// No text spells two sessions.
-pub fn one_session()
-    ensures { (text : List ℕ) (d e : Items) (undo redo others ahead : List (List Patch)) → SpellsSession text d undo redo → SpellsSession text e others ahead → (d ≡ e) × (undo ≡ others) × (redo ≡ ahead) }
 {}

@@ -16,9 +16,3 @@ pub mod TextSizes
 pub mod FewSizes
 pub mod Back
 pub mod Parsed
-pub mod Endings
-pub mod Utf8
-pub mod Strings
-pub mod Saved
-pub mod SpelledSessions
-pub mod Inverted

@@ -2,4 +2,3 @@ pub mod WrittenWords
 pub mod Spellable
 pub mod OfWords
 pub mod Writable
-pub mod Sessions

@@ -1,6 +1,4 @@
-//! Laws of reading what was written: a map, and a session. Nothing here does anything when it runs, but for one call that
-//! writes a session and reads it.
+//! Laws of reading a map that was written. Nothing here does anything when it runs.
 #![tactic(auto)]
 
 pub mod laws;
-pub mod sessions;

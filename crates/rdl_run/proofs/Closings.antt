@@ -6,13 +6,13 @@ use Rattle.rdl_edit.specs.Step.{State, HasRows}
 use Rattle.rdl_elab.specs.Faults.{elaborated}
 use Rattle.rdl_elab.specs.declared.row.Row.{Row}
 use Rattle.rdl_header.specs.HeaderText.{header_of}
-use Rattle.rdl_tree.specs.SessionText.{session_text, max_session}
-use Rattle.rdl_tree.specs.declared.session.SessionFault.TheVariants.{TooLong}
+use Rattle.rdl_session.specs.Text.{session_text, max_session}
 use Rattle.rdl_write.specs.MapText.{map_text}
-use Rattle.rdl_write.specs.SessionLines.{session_lines}
+use Rattle.rdl_session.specs.Written.{session_lines}
+use Rattle.rdl_session.specs.declared.fault.SessionWriteFault.TheVariants.{TooLong}
 use Rattle.rdl_run.specs.Answers.{History'}
 use Rattle.rdl_run.specs.Closing.{IsHeaded, Heads, Closes, status_of}
-use Rattle.rdl_run.specs.Messages.{clash_line, session_line}
+use Rattle.rdl_run.specs.Messages.{clash_line, session_line, unwritten_text}
 use Rattle.rdl_run.specs.Opening.{EachElaborates}
 use Rattle.rdl_run.specs.Sessions.{IsSaved, Saves, SavesIf}
 use Rattle.rdl_run.specs.declared.status.Status.{Status}
@@ -65,7 +65,8 @@ module _ (h : History') (g : EachElaborates h) where
 
   by-length : (b : Bool) → nat_lt max_session (length its-text) ≡ b → Saved true h
   by-length true e =
-      record { message = session_line TooLong; session = []; left_out = true; saves = with-text (session_line TooLong) [] true (ltb-true max_session (length its-text) e, refl, refl) }
+      let said = session_line (unwritten_text TooLong) in
+      record { message = said; session = []; left_out = true; saves = with-text said [] true (ltb-true max_session (length its-text) e, refl, refl) }
   by-length false e = record { message = []; session = its-text; left_out = false; saves = with-text [] its-text false (ltb-false max_session (length its-text) e, refl, refl) }
 
   saved : (asked : Bool) → Saved asked h

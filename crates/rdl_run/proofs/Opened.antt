@@ -1,5 +1,5 @@
 -- A map or a session that is opened, and a session that is refused.
-use Rattle.std.proofs.Common.{◌≡◌, true, false, length, ◌⊎◌, inl, inr, ℕ, List, Option, [], ◌∷◌, Result, Ok, Err, IfOk, None, IsUtf8, refl, sym, ap, ◌∙◌, subst}
+use Rattle.std.proofs.Common.{◌≡◌, ◌≢◌, true, false, length, ◌⊎◌, inl, inr, ℕ, List, Option, [], ◌∷◌, Result, Ok, Err, IfOk, Some, None, IsUtf8, refl, sym, ap, ◌∙◌, subst}
 use Rattle.std.specs.Prelude.{map}
 use mathlib.Core.List.{reverse}
 use Rattle.std.proofs.lemmas.List.{length-reverse}
@@ -10,19 +10,25 @@ use Rattle.rdl_edit.specs.Backs.{Reversal, prior, read_back, Fits}
 use Rattle.rdl_edit.specs.OfEdits.{IsOwn}
 use Rattle.rdl_edit.specs.Resuming.{session_fault}
 use Rattle.rdl_edit.specs.declared.map.Resumed.{Resumed}
+use Rattle.rdl_edit.specs.declared.resume_fault.ResumeFault.{ResumeFault}
+use Rattle.rdl_edit.specs.declared.resume_fault.ResumeFault.TheVariants as resuming
 use Rattle.rdl_edit.specs.Step.{State, HasRows}
 use Rattle.rdl_parse.specs.Places.{Located}
 use Rattle.rdl_tree.specs.Items.{Items}
 use Rattle.rdl_tree.specs.declared.patch.Patch.{Patch}
-use Rattle.rdl_tree.specs.declared.session.SessionFault.{SessionFault}
-use Rattle.rdl_tree.specs.declared.session.SessionFault.TheVariants.{NotASession, Memory}
-use Rattle.rdl_parse.specs.Session.{SpellsSession}
+use Rattle.rdl_session.specs.Spelling.{SpellsSession}
+use Rattle.rdl_session.specs.declared.fault.SessionReadFault.{SessionReadFault}
+use Rattle.rdl_session.specs.declared.fault.SessionReadFault.TheVariants as reading
 use Rattle.rdl_run.specs.Answers.{History'}
+use Rattle.rdl_run.specs.Messages.{session_line, unread_text, unresumed_text}
 use Rattle.rdl_run.specs.Opening.{Opens, OpensHistory, EachElaborates, one_map}
+use Rattle.rdl_run.specs.OpeningFaults.{IfRefusedToOpen}
 use Rattle.rdl_run.specs.OwnSteps.{OpensKept}
 use Rattle.rdl_run.specs.Readings.{ReadsMap}
 use Rattle.rdl_run.specs.Resumed.{ResumesFrom}
-use Rattle.rdl_run.specs.Sessions.{IsNoSession, ReadsSession, FaultySession, OpensSession, is_session}
+use Rattle.rdl_run.specs.Sessions.{IsNoSession, ReadsSession, FaultySession, OpensSession, RefusedSession, is_session}
+use Rattle.rdl_run.specs.declared.open.OpenFault.{OpenFault}
+use Rattle.rdl_run.specs.declared.open.OpenFault.TheVariants as opens
 use Rattle.rdl_run.proofs.Openings.{opened-elaborates}
 
 pub opened : (option name : Option (List ℕ)) (bytes : List ℕ) (d : Items) (places : Located) (m : State) → ReadsMap bytes d places → m ≡ record { description = d; option = name } → HasRows (record { description = d; option = name }) → name ≡ option → Opens option bytes m
@@ -34,13 +40,50 @@ opened option name bytes d places m read is whole same =
       same_option = same;
     })
 
+-- ---- A session that is refused.
+
+-- bytes that are no text
+pub no_text : (bytes : List ℕ) (r : OpenFault) → (IsUtf8 bytes → ⊥) → IfRefusedToOpen r (λ t. (t ≡ session_line (unread_text reading.NotASession)) × (reading.NotASession ≢ reading.Memory))
+    → IfRefusedToOpen r (IsNoSession bytes)
+no_text bytes (opens.Refused message) no k = record { none = λ d undo redo read. no read.text; is = k.0 }
+no_text bytes opens.Memory no k = tt
+
 -- a text that spells no session
-pub refused_session : (option : Option (List ℕ)) (bytes text : List ℕ) (fault : SessionFault) → text ≡ bytes
-    → (fault ≡ Memory) ⊎ ((fault ≡ NotASession) × ((d : Items) (undo redo : List (List Patch)) → SpellsSession text d undo redo → ⊥))
-    → (fault ≡ Memory) ⊎ (IsNoSession bytes fault ⊎ FaultySession option bytes fault)
-refused_session option bytes text fault same (inl m) = inl m
-refused_session option bytes text fault same (inr r) =
-    inr (inl (record { none = λ d undo redo read. r.1 d undo redo (subst (λ t. SpellsSession t d undo redo) (sym same) read.spelled); fault_is = r.0 }))
+pub unread_session : (bytes text : List ℕ) (fault : SessionReadFault) (r : OpenFault) → text ≡ bytes
+    → (fault ≡ reading.Memory) ⊎ ((fault ≡ reading.NotASession) × ((d : Items) (undo redo : List (List Patch)) → SpellsSession text d undo redo → ⊥))
+    → IfRefusedToOpen r (λ t. (t ≡ session_line (unread_text fault)) × (fault ≢ reading.Memory)) → IfRefusedToOpen r (IsNoSession bytes)
+unread_session bytes text fault (opens.Refused message) same (inl m) k = absurd (k.1 m)
+unread_session bytes text fault (opens.Refused message) same (inr n) k = record {
+  none = λ d undo redo read. n.1 d undo redo (subst (λ t. SpellsSession t d undo redo) (sym same) read.spelled);
+  is = k.0 ∙ ap (λ f. session_line (unread_text f)) n.0;
+}
+unread_session bytes text fault opens.Memory same h k = tt
+
+module _ (option : Option (List ℕ)) (bytes : List ℕ) where
+  abbrev pub Refuses : List ℕ → Type 0
+  Refuses message = IsNoSession bytes message ⊎ FaultySession option bytes message
+
+  pub not-read : (r : OpenFault) → IfRefusedToOpen r (IsNoSession bytes) → IfRefusedToOpen r Refuses
+  not-read (opens.Refused message) h = inl h
+  not-read opens.Memory h = tt
+
+  -- one of which a step or a place has a fault
+  pub unresumed_session : (name : Option (List ℕ)) (d : Items) (undo redo : List (List Patch)) (fault : ResumeFault) (r : OpenFault) → ReadsSession bytes d undo redo → name ≡ option
+      → (session_fault name d undo redo ≡ Some fault) ⊎ (fault ≡ resuming.Memory)
+      → IfRefusedToOpen r (λ t. (t ≡ session_line (unresumed_text fault)) × (fault ≢ resuming.Memory)) → IfRefusedToOpen r Refuses
+  unresumed_session name d undo redo fault (opens.Refused message) read named (inl f) k =
+      inr (record { description = d; undo = undo; redo = redo; read = read; fault = fault; first = ap (λ o. session_fault o d undo redo) (sym named) ∙ f; is = k.0 })
+  unresumed_session name d undo redo fault (opens.Refused message) read named (inr m) k = absurd (k.1 m)
+  unresumed_session name d undo redo fault opens.Memory read named h k = tt
+
+  pub refused_named : (r : OpenFault) → is_session bytes ≡ true → IfRefusedToOpen r Refuses → IfRefusedToOpen r (RefusedSession option bytes)
+  refused_named (opens.Refused message) named h = record { named = named; refused = h }
+  refused_named opens.Memory named h = tt
+
+-- ---- A session that is gone on with.
+
+pub reads : (bytes text : List ℕ) (d : Items) (undo redo : List (List Patch)) → IsUtf8 bytes → text ≡ bytes → SpellsSession text d undo redo → ReadsSession bytes d undo redo
+reads bytes text d undo redo utf8 same spelled = record { text = utf8; spelled = subst (λ t. SpellsSession t d undo redo) same spelled }
 
 -- what opens as a session elaborates at each place
 pub all-elaborate : {X E : Type 0} (option : Option (List ℕ)) (limit : ℕ) (bytes : List ℕ) (r : Result X E) (seen : X → History') → IfOk r (λ j. OpensSession option limit bytes (seen j))
@@ -53,16 +96,16 @@ pub read-each : {X : Type 0} (f : X → List Patch) (xs : List X) → map (λ x.
 read-each f [] = refl
 read-each f (x ∷ xs) = ap (λ (ys : List Reversal). read_back (f x) ∷ ys) (read-each f xs)
 
-module _ (option name : Option (List ℕ)) (bytes text : List ℕ) (d : Items) (undo redo : List (List Patch)) (r : Resumed) where
-  pub resumes : IsUtf8 bytes → text ≡ bytes → SpellsSession text d undo redo → name ≡ option → r.map.state ≡ record { description = d; option = name } → session_fault name d undo redo ≡ None
+module _ (option name : Option (List ℕ)) (bytes : List ℕ) (d : Items) (undo redo : List (List Patch)) (r : Resumed) where
+  pub resumes : ReadsSession bytes d undo redo → name ≡ option → r.map.state ≡ record { description = d; option = name } → session_fault name d undo redo ≡ None
       → r.undo.items ≡ map read_back undo → r.redo.items ≡ map read_back redo → FitInTurn prior Fits r.map.state r.undo.items → FitInTurn prior Fits r.map.state r.redo.items → ResumesFrom option bytes r
-  resumes u same spelled named is faultless undo_is redo_is undo_fits redo_fits = record {
+  resumes read named is faultless undo_is redo_is undo_fits redo_fits = record {
     undo = undo;
     redo = redo;
     undo_is = undo_is;
     redo_is = redo_is;
     same_option = ap (λ (m : State). m.option) is ∙ named;
-    read = subst (λ (m : State). ReadsSession bytes m.description undo redo) (sym is) (record { text = u; spelled = subst (λ t. SpellsSession t d undo redo) same spelled });
+    read = subst (λ (m : State). ReadsSession bytes m.description undo redo) (sym is) read;
     faultless = ap (λ (m : State). session_fault option m.description undo redo) is ∙ ap (λ o. session_fault o d undo redo) (sym named) ∙ faultless;
     undo_fits = undo_fits;
     redo_fits = redo_fits;

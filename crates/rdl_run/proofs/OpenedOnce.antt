@@ -8,7 +8,6 @@ use Rattle.rdl_tree.specs.Limits.{IsWithinLimits}
 use Rattle.rdl_tree.specs.View.{items_of}
 use Rattle.rdl_tree.specs.declared.description.Item.{Item}
 use Rattle.rdl_tree.specs.declared.patch.Patch.{Patch}
-use Rattle.rdl_tree.specs.declared.session.SessionFault.{SessionFault}
 use Rattle.rdl_parse.specs.Parsing.{HasWords, HasStatementFault, RefusesBy, SpellsSomewhere}
 use Rattle.rdl_parse.specs.Places.{Located}
 use Rattle.rdl_parse.specs.Spelling.{Spells, SpellsItems}
@@ -17,7 +16,7 @@ use Rattle.rdl_parse.specs.declared.fault.ParseFault.{ParseFault}
 use Rattle.rdl_parse.specs.declared.fault.ParseFaultKind.{ParseFaultKind}
 use Rattle.rdl_parse.specs.declared.fault.ParseFaultKind.TheVariants.{Words, UnexpectedWord, UnexpectedEnd, TooDeep, TooLarge, TooLong}
 use Rattle.rdl_parse.proofs.Exact.{one-spelled, one-statement}
-use Rattle.rdl_parse.proofs.SessionMeant.{one-session}
+use Rattle.rdl_session.proofs.Meant.{one-session}
 use Rattle.rdl_elab.specs.Faults.{elaborated}
 use Rattle.rdl_edit.specs.Resuming.{session_fault}
 use Rattle.rdl_edit.specs.Step.{State}
@@ -117,15 +116,15 @@ module _ (option : Option (List ℕ)) (limit : ℕ) (bytes : List ℕ) where
       ok-or-err (elaborated r.d option) rows.rows r.fault
       (subst (λ d. elaborated d option ≡ Ok rows.rows) same (subst (λ name. elaborated o.first.description name ≡ Ok rows.rows) o.opens.same_option rows.are)) r.first
 
-  session-or-not : (h : History') (fault : SessionFault) → OpensSession option limit bytes h → IsNoSession bytes fault ⊎ FaultySession option bytes fault → ⊥
-  session-or-not h fault o (inl n) = n.none o.description o.undo o.redo o.read
-  session-or-not h fault o (inr f) =
+  session-or-not : (h : History') (message : List ℕ) → OpensSession option limit bytes h → IsNoSession bytes message ⊎ FaultySession option bytes message → ⊥
+  session-or-not h message o (inl n) = n.none o.description o.undo o.redo o.read
+  session-or-not h message o (inr f) =
       let same = session-once o.description f.description o.undo o.redo f.undo f.redo o.read f.read in
-      none-some fault (sym o.faultless ∙ (λ i. session_fault option (same.0 i) (same.1 i) (same.2 i)) ∙ f.first)
+      none-some f.fault (sym o.faultless ∙ (λ i. session_fault option (same.0 i) (same.1 i) (same.2 i)) ∙ f.first)
 
   -- and aren't refused
   pub opened-or-not : (h : History') (message : List ℕ) → OpensHistory option limit bytes h → RefusesToOpen option bytes message → ⊥
   opened-or-not h message (inl o) (inl r) = map-or-not h message o r.refused
   opened-or-not h message (inl o) (inr r) = true-or-false (is_session bytes) r.named o.unnamed
   opened-or-not h message (inr o) (inl r) = true-or-false (is_session bytes) o.named r.unnamed
-  opened-or-not h message (inr o) (inr r) = session-or-not h r.fault o r.refused
+  opened-or-not h message (inr o) (inr r) = session-or-not h message o r.refused

@@ -7,17 +7,17 @@ use Rattle.std.proofs.lemmas.Str.{IsUtf8-from_is_utf8, is_utf8-from_IsUtf8}
 use Rattle.rdl_elab.specs.Faults.{elaborated}
 use Rattle.rdl_elab.specs.declared.row.Row.{Row}
 use Rattle.rdl_tree.specs.Items.{Items}
-use Rattle.rdl_tree.specs.SessionText.{max_session}
+use Rattle.rdl_session.specs.Text.{max_session}
 use Rattle.rdl_tree.specs.declared.fault.Fault.{Fault}
 use Rattle.rdl_tree.specs.declared.patch.Patch.{Patch}
-use Rattle.rdl_tree.specs.declared.session.SessionFault.{SessionFault}
-use Rattle.rdl_tree.specs.declared.session.SessionFault.TheVariants.{NotASession}
-use Rattle.rdl_parse.specs.SessionMeaning.{Session, session_of}
-use Rattle.rdl_parse.proofs.SessionMeant.{session-found, session-refused}
+use Rattle.rdl_session.specs.Meaning.{Session, session_of}
+use Rattle.rdl_session.specs.declared.fault.SessionReadFault.TheVariants.{NotASession}
+use Rattle.rdl_session.proofs.Meant.{session-found, session-refused}
 use Rattle.rdl_edit.specs.Resuming.{session_fault}
 use Rattle.rdl_edit.specs.Step.{State}
+use Rattle.rdl_edit.specs.declared.resume_fault.ResumeFault.{ResumeFault}
 use Rattle.rdl_run.specs.Answers.{History'}
-use Rattle.rdl_run.specs.Messages.{session_line}
+use Rattle.rdl_run.specs.Messages.{session_line, unread_text, unresumed_text}
 use Rattle.rdl_run.specs.Opening.{EachElaborates, OpensMap, OpensHistory, RefusedText, RefusedMap, RefusesToOpen, one_map, text_line, fault_line}
 use Rattle.rdl_run.specs.Sessions.{ReadsSession, history_of, is_session}
 use Rattle.rdl_run.proofs.SessionPlaces.{session-elaborates}
@@ -70,19 +70,19 @@ module _ (option : Option (List ℕ)) (limit : ℕ) (bytes : List ℕ) where
   module _ (named : is_session bytes ≡ true) where
     no-session : ((d : Items) (undo redo : List (List Patch)) → ReadsSession bytes d undo redo → ⊥) → OpenedHistory option limit bytes ⊎ NotOpened option bytes
     no-session none = inr (record {
-      message = session_line NotASession;
-      refused = inr (record { named = named; fault = NotASession; refused = inl (record { none = none; fault_is = refl }); is = refl });
+      message = session_line (unread_text NotASession);
+      refused = inr (record { named = named; refused = inl (record { none = none; is = refl }) });
     })
 
-    read-session : (d : Items) (undo redo : List (List Patch)) → ReadsSession bytes d undo redo → (f : Option SessionFault) → session_fault option d undo redo ≡ f
+    read-session : (d : Items) (undo redo : List (List Patch)) → ReadsSession bytes d undo redo → (f : Option ResumeFault) → session_fault option d undo redo ≡ f
         → OpenedHistory option limit bytes ⊎ NotOpened option bytes
     read-session d undo redo r None e = inl (record {
       first = history_of limit (record { description = d; option = option }) undo redo;
       opens = inr (record { named = named; description = d; undo = undo; redo = redo; read = r; faultless = e; opened = refl });
     })
     read-session d undo redo r (Some fault) e = inr (record {
-      message = session_line fault;
-      refused = inr (record { named = named; fault = fault; refused = inr (record { description = d; undo = undo; redo = redo; read = r; first = e }); is = refl });
+      message = session_line (unresumed_text fault);
+      refused = inr (record { named = named; refused = inr (record { description = d; undo = undo; redo = redo; read = r; fault = fault; first = e; is = refl }) });
     })
 
     meant : IsUtf8 bytes → length bytes ≤ max_session → (s : Option Session) → session_of bytes ≡ s → OpenedHistory option limit bytes ⊎ NotOpened option bytes

@@ -13,17 +13,17 @@ use Rattle.rdl_tree.specs.Items.{Items}
 use Rattle.rdl_tree.specs.Patch.{image}
 use Rattle.rdl_tree.specs.declared.fault.Fault.{Fault}
 use Rattle.rdl_tree.specs.declared.patch.Patch.{Patch}
-use Rattle.rdl_tree.specs.declared.session.SessionFault.{SessionFault}
-use Rattle.rdl_tree.specs.declared.session.SessionFault.TheVariants.{PatchMisfits}
-use Rattle.rdl_tree.specs.declared.session.Where.{Where}
-use Rattle.rdl_tree.specs.declared.session.Where.TheVariants as where_
 use Rattle.rdl_edit.specs.Backs.{prior, read_back}
 use Rattle.rdl_edit.specs.Resuming.{all_fit, judged, place_fault, step_fault, steps_fault, session_fault}
 use Rattle.rdl_edit.specs.Step.{State, HasRows}
+use Rattle.rdl_edit.specs.declared.resume_fault.ResumeFault.{ResumeFault}
+use Rattle.rdl_edit.specs.declared.resume_fault.ResumeFault.TheVariants.{PatchMisfits}
+use Rattle.rdl_edit.specs.declared.resume_fault.Where.{Where}
+use Rattle.rdl_edit.specs.declared.resume_fault.Where.TheVariants as where_
 use Rattle.rdl_run.specs.Opening.{AllHaveRows, EachElaborates}
 use Rattle.rdl_run.specs.Sessions.{history_of}
 
-neither : (a b : Option SessionFault) → option_or a b ≡ None → (a ≡ None) × (b ≡ None)
+neither : (a b : Option ResumeFault) → option_or a b ≡ None → (a ≡ None) × (b ≡ None)
 neither None b e = (refl, e)
 neither (Some f) b e = absurd (none-some f (sym e))
 

@@ -6,17 +6,21 @@ use Rattle.rdl_text.specs.declared.fault.WordFault.{WordFault}
 use Rattle.rdl_text.specs.declared.fault.WordFault.TheVariants as words
 use Rattle.rdl_edit.specs.declared.refusal.Refusal.{Refusal}
 use Rattle.rdl_edit.specs.declared.refusal.Refusal.TheVariants as refusals
+use Rattle.rdl_edit.specs.declared.resume_fault.ResumeFault.{ResumeFault}
+use Rattle.rdl_edit.specs.declared.resume_fault.ResumeFault.TheVariants as resumes
+use Rattle.rdl_edit.specs.declared.resume_fault.Where.{Where}
+use Rattle.rdl_edit.specs.declared.resume_fault.Where.TheVariants as where_
 use Rattle.rdl_parse.specs.declared.fault.ParseFault.{ParseFault}
 use Rattle.rdl_parse.specs.declared.fault.ParseFaultKind.{ParseFaultKind}
 use Rattle.rdl_parse.specs.declared.fault.ParseFaultKind.TheVariants as texts
+use Rattle.rdl_session.specs.declared.fault.SessionReadFault.{SessionReadFault}
+use Rattle.rdl_session.specs.declared.fault.SessionReadFault.TheVariants as reads
 use Rattle.rdl_tree.specs.AddressText.{address_text}
 use Rattle.rdl_tree.specs.declared.fault.FaultKind.{FaultKind}
 use Rattle.rdl_tree.specs.declared.fault.FaultKind.TheVariants as kinds
-use Rattle.rdl_tree.specs.declared.session.SessionFault.{SessionFault}
-use Rattle.rdl_tree.specs.declared.session.SessionFault.TheVariants as sessions
-use Rattle.rdl_tree.specs.declared.session.Where.{Where}
-use Rattle.rdl_tree.specs.declared.session.Where.TheVariants as where_
 use Rattle.rdl_write.specs.Texts.{newline}
+use Rattle.rdl_session.specs.declared.fault.SessionWriteFault.{SessionWriteFault}
+use Rattle.rdl_session.specs.declared.fault.SessionWriteFault.TheVariants as writes
 use Rattle.rdl_run.specs.Replies.{Said, done, listed, not_done}
 use Rattle.rdl_run.specs.declared.reply.LineRefusal.{LineRefusal}
 use Rattle.rdl_run.specs.declared.reply.LineRefusal.TheVariants as lines
@@ -132,15 +136,21 @@ where_text where_.Map = codes "map"
 where_text (where_.Undo number) = codes "undo " ++ decimal number
 where_text (where_.Redo number) = codes "redo " ++ decimal number
 
--- want of memory ends the run, and has no message
-unfoldable pub session_fault_text : SessionFault → List ℕ
-session_fault_text sessions.NotASession = codes "Z1 not a session"
-session_fault_text (sessions.PatchMisfits place) = codes "Z2 a patch does not fit at " ++ where_text place
-session_fault_text (sessions.MapFaulty place fault) =
-    codes "Z3 a place does not elaborate at " ++ where_text place ++ codes ": " ++ fault_text fault.kind ++ codes " at item " ++ address_text fault.address
-session_fault_text sessions.TooLong = codes "Z4 session too long"
-session_fault_text sessions.Memory = []
+-- why a session isn't read, gone on with, or written; want of memory ends the run, and has no message
+unfoldable pub unread_text : SessionReadFault → List ℕ
+unread_text reads.NotASession = codes "Z1 not a session"
+unread_text reads.Memory = []
 
--- the message of a session that is refused, or that can't be written
-unfoldable pub session_line : SessionFault → List ℕ
-session_line fault = codes "session: " ++ session_fault_text fault ++ newline
+unfoldable pub unresumed_text : ResumeFault → List ℕ
+unresumed_text (resumes.PatchMisfits place) = codes "Z2 a patch does not fit at " ++ where_text place
+unresumed_text (resumes.MapFaulty place fault) =
+    codes "Z3 a place does not elaborate at " ++ where_text place ++ codes ": " ++ fault_text fault.kind ++ codes " at item " ++ address_text fault.address
+unresumed_text resumes.Memory = []
+
+unfoldable pub unwritten_text : SessionWriteFault → List ℕ
+unwritten_text writes.TooLong = codes "Z4 session too long"
+unwritten_text writes.Memory = []
+
+-- the message of a session
+unfoldable pub session_line : List ℕ → List ℕ
+session_line what = codes "session: " ++ what ++ newline

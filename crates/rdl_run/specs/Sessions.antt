@@ -4,19 +4,20 @@ use Rattle.journal_core.specs.Along.{led_through}
 use Rattle.journal_core.specs.History.{IsAt, resumed}
 use Rattle.rdl_tree.specs.Items.{Items}
 use Rattle.rdl_tree.specs.Patch.{AllFit, image}
-use Rattle.rdl_tree.specs.SessionText.{session_text, max_session}
+use Rattle.rdl_session.specs.Text.{session_text, max_session}
 use Rattle.rdl_tree.specs.declared.patch.Patch.{Patch}
-use Rattle.rdl_tree.specs.declared.session.SessionFault.{SessionFault}
-use Rattle.rdl_tree.specs.declared.session.SessionFault.TheVariants.{NotASession, TooLong}
-use Rattle.rdl_parse.specs.Session.{SpellsSession}
+use Rattle.rdl_session.specs.Spelling.{SpellsSession}
+use Rattle.rdl_session.specs.declared.fault.SessionReadFault.TheVariants.{NotASession}
 use Rattle.rdl_edit.specs.Backs.{prior, read_back}
 use Rattle.rdl_edit.specs.OfEdits.{IsOfEdit}
 use Rattle.rdl_edit.specs.Resuming.{session_fault}
 use Rattle.rdl_edit.specs.Step.{State}
-use Rattle.rdl_write.specs.SessionLines.{session_lines}
+use Rattle.rdl_edit.specs.declared.resume_fault.ResumeFault.{ResumeFault}
+use Rattle.rdl_session.specs.Written.{session_lines}
 use Rattle.rdl_write.specs.Texts.{newline}
+use Rattle.rdl_session.specs.declared.fault.SessionWriteFault.TheVariants.{TooLong}
 use Rattle.rdl_run.specs.Answers.{History'}
-use Rattle.rdl_run.specs.Messages.{session_line}
+use Rattle.rdl_run.specs.Messages.{session_line, unread_text, unresumed_text, unwritten_text}
 
 -- ---- Which bytes are taken for a session.
 
@@ -49,23 +50,23 @@ pub record OpensSession (option : Option (List ℕ)) (limit : ℕ) (bytes : List
   pub opened : h ≡ history_of limit (record { description = description; option = option }) undo redo
 
 -- they spell one of which a step or a place has a fault
-pub record FaultySession (option : Option (List ℕ)) (bytes : List ℕ) (fault : SessionFault) : Type 0 where
+pub record FaultySession (option : Option (List ℕ)) (bytes : List ℕ) (message : List ℕ) : Type 0 where
   pub description : Items
   pub undo : List (List Patch)
   pub redo : List (List Patch)
   pub read : ReadsSession bytes description undo redo
+  pub fault : ResumeFault
   pub first : session_fault option description undo redo ≡ Some fault
+  pub is : message ≡ session_line (unresumed_text fault)
 
 -- they spell none
-pub record IsNoSession (bytes : List ℕ) (fault : SessionFault) : Type 0 where
+pub record IsNoSession (bytes : List ℕ) (message : List ℕ) : Type 0 where
   pub none : (d : Items) (undo redo : List (List Patch)) → ReadsSession bytes d undo redo → ⊥
-  pub fault_is : fault ≡ NotASession
+  pub is : message ≡ session_line (unread_text NotASession)
 
 pub record RefusedSession (option : Option (List ℕ)) (bytes : List ℕ) (message : List ℕ) : Type 0 where
   pub named : is_session bytes ≡ true
-  pub fault : SessionFault
-  pub refused : IsNoSession bytes fault ⊎ FaultySession option bytes fault
-  pub is : message ≡ session_line fault
+  pub refused : IsNoSession bytes message ⊎ FaultySession option bytes message
 
 -- ---- The session of a history.
 
@@ -93,7 +94,7 @@ pub record LeadOn (h : History') (steps : List (List Patch)) : Type 0 where
 -- the text, or what is said in its place where it is too long, and no session
 abbrev pub IsSaved : (text message session : List ℕ) → (left_out : Bool) → Type 0
 IsSaved text message session false = (length text ≤ max_session) × (message ≡ []) × (session ≡ text)
-IsSaved text message session true = (max_session < length text) × (message ≡ session_line TooLong) × (session ≡ [])
+IsSaved text message session true = (max_session < length text) × (message ≡ session_line (unwritten_text TooLong)) × (session ≡ [])
 
 -- the session of the map at the place, with steps that lead back from it and on
 pub record Saves (h : History') (message session : List ℕ) (left_out : Bool) : Type 0 where

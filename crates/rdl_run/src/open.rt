@@ -1,33 +1,35 @@
 //! Opening a map or a session.
-ghost use Rattle.std.specs.Prelude.{◌≡◌, ◌≢◌, ◌⊎◌, true, Some, None, Err, string_bytes, IfOk, IfErr};
+ghost use Rattle.std.specs.Prelude.{◌≡◌, ◌≢◌, ◌⊎◌, true, Some, None, Err, map, string_bytes, IfOk, IfErr};
 ghost use Rattle.rdl_edit.specs.Step.{HasRows};
 ghost use Rattle.rdl_elab.specs.Faults.{elaborated};
 ghost use Rattle.rdl_scope.specs.ItemFaults.{out_of_memory};
 ghost use Rattle.rdl_run.specs.Shown.{AreAt, AreOf};
 ghost use Rattle.std.specs.Option.{option_copied};
-ghost use Rattle.rdl_tree.specs.declared.session.SessionFault.TheVariants.{Memory};
-ghost use Rattle.rdl_run.specs.Messages.{session_line};
+ghost use Rattle.rdl_edit.specs.declared.resume_fault.ResumeFault.TheVariants as resuming;
+ghost use Rattle.rdl_session.specs.declared.fault.SessionReadFault.TheVariants as reading;
+ghost use Rattle.rdl_run.specs.Messages.{session_line, unread_text, unresumed_text};
 ghost use Rattle.rdl_run.specs.Opening.{text_line, fault_line, Opens, OpensHistory, EachElaborates, RefusedText, RefusedMap, RefusesToOpen};
 ghost use Rattle.rdl_run.specs.OwnSteps.{OpensKept};
 ghost use Rattle.rdl_run.specs.Resumed.{ResumesFrom};
-ghost use Rattle.rdl_run.specs.Sessions.{is_session, IsNoSession, FaultySession, OpensSession, RefusedSession};
+ghost use Rattle.rdl_run.specs.Sessions.{is_session, ReadsSession, IsNoSession, FaultySession, OpensSession, RefusedSession};
 ghost use Rattle.rdl_run.specs.OpeningFaults.{IfRefusedToOpen};
 
 use crate::reading::{ReadingFault, map_of};
 use crate::reply::{fault_text, map_line, parse_fault_text};
-use crate::session_message::session_line;
+use crate::session_message::{unread_line, unresumed_line};
 use journal_core::journal::Journal;
 use rdl_edit::map::{Map, Resumed};
 use rdl_edit::refusal::is_memory;
+use rdl_edit::resume_fault::ResumeFault;
 use rdl_elab::row::Rows;
 use rdl_parse::fault::ParseFault;
 use rdl_parse::places::Places;
-use rdl_parse::session::parse_session;
+use rdl_session::fault::SessionReadFault;
+use rdl_session::parse::{Session, parse_session};
 use rdl_text::byte_place;
 use rdl_text::name::Name;
 use rdl_tree::description::Description;
 use rdl_tree::fault::Fault;
-use rdl_tree::session::SessionFault;
 use std::alloc::{AllocError, Global};
 use std::str;
 
@@ -125,36 +127,59 @@ fn open_map(
     }
 }
 
-/// The session of the bytes, gone on with at its map.
-fn resumed(alloc: Global, bytes: &[u8], name: Option<&Name>) -> Result<Resumed, SessionFault>
-    ensures resumed { IfOk result (ResumesFrom (option_copied name.entry) bytes.now) }
-    ensures refused { IfErr result (λ fault. (fault ≡ Memory) ⊎ (IsNoSession bytes.now fault ⊎ FaultySession (option_copied name.entry) bytes.now fault)) }
+fn unread(alloc: Global, fault: SessionReadFault) -> OpenFault
+    ensures { IfRefusedToOpen result (λ text. (text ≡ session_line (unread_text fault)) × (fault ≢ reading.Memory)) }
+{
+    if let SessionReadFault::Memory = fault {
+        return OpenFault::Memory;
+    }
+    match unread_line(alloc, &fault) {
+        Ok(message) => OpenFault::Refused(message),
+        Err(_) => OpenFault::Memory,
+    }
+}
+
+/// The session of the bytes.
+fn read_session(alloc: Global, bytes: &[u8]) -> Result<Session, OpenFault>
+    ensures read { IfOk result (λ s. ReadsSession bytes.now s.map.items (map (λ step. step.items) s.undo.items) (map (λ step. step.items) s.redo.items)) }
+    ensures refused { IfErr result (λ fault. IfRefusedToOpen fault (IsNoSession bytes.now)) }
 {
     let Ok(text) = str::from_utf8(bytes) else {
-        return Err(SessionFault::NotASession);
+        return Err(unread(alloc, SessionReadFault::NotASession));
     };
-    let session = match parse_session(alloc, text) {
+    match parse_session(alloc, text) {
+        Ok(session) => Ok(session),
+        Err(fault) => Err(unread(alloc, fault)),
+    }
+}
+
+fn unresumed(alloc: Global, fault: ResumeFault) -> OpenFault
+    ensures { IfRefusedToOpen result (λ text. (text ≡ session_line (unresumed_text fault)) × (fault ≢ resuming.Memory)) }
+{
+    if let ResumeFault::Memory = fault {
+        return OpenFault::Memory;
+    }
+    match unresumed_line(alloc, &fault) {
+        Ok(message) => OpenFault::Refused(message),
+        Err(_) => OpenFault::Memory,
+    }
+}
+
+/// The session of the bytes, gone on with at its map.
+fn resumed(alloc: Global, bytes: &[u8], name: Option<&Name>) -> Result<Resumed, OpenFault>
+    ensures resumed { IfOk result (ResumesFrom (option_copied name.entry) bytes.now) }
+    ensures refused { IfErr result (λ fault. IfRefusedToOpen fault (λ text. IsNoSession bytes.now text ⊎ FaultySession (option_copied name.entry) bytes.now text)) }
+{
+    let session = match read_session(alloc, bytes) {
         Ok(session) => session,
         Err(fault) => return Err(fault),
     };
     let Ok(name) = copied(alloc, name) else {
-        return Err(SessionFault::Memory);
+        return Err(OpenFault::Memory);
     };
     match Map::resume(alloc, session.map, name, session.undo, session.redo) {
         Ok(resumed) => Ok(resumed),
-        Err(fault) => Err(fault),
-    }
-}
-
-fn refused_session(alloc: Global, fault: SessionFault) -> OpenFault
-    ensures { IfRefusedToOpen result (λ text. (text ≡ session_line fault) × (fault ≢ Memory)) }
-{
-    if let SessionFault::Memory = fault {
-        return OpenFault::Memory;
-    }
-    match session_line(alloc, &fault) {
-        Ok(message) => OpenFault::Refused(message),
-        Err(_) => OpenFault::Memory,
+        Err(fault) => Err(unresumed(alloc, fault)),
     }
 }
 
@@ -172,7 +197,7 @@ fn open_session(
 {
     match resumed(alloc, bytes, name) {
         Ok(Resumed { map, undo, redo }) => Ok(Journal::resume(map, limit, undo, redo)),
-        Err(fault) => Err(refused_session(alloc, fault)),
+        Err(fault) => Err(fault),
     }
 }
 

@@ -6,13 +6,13 @@ ghost use Rattle.rdl_run.specs.Sessions.{LeadBack, LeadOn, SavesIf, Saves};
 ghost use Rattle.rdl_run.specs.declared.status.RunFault.{RunFault};
 
 use crate::part::Part;
-use crate::session_message::session_line;
+use crate::session_message::unwritten_line;
 use crate::status::RunFault;
 use journal_core::journal::Journal;
 use rdl_edit::map::Map;
+use rdl_session::fault::SessionWriteFault;
+use rdl_session::write::session;
 use rdl_tree::patch::Patch;
-use rdl_tree::session::SessionFault;
-use rdl_write::session;
 use std::alloc::{AllocError, Global};
 
 /// The steps that lead back, the next one first.
@@ -50,11 +50,11 @@ fn saved(alloc: Global, journal: &Journal<Map>) -> Result<Part, RunFault>
     let description = journal.map().description();
     match session(alloc, description, undo.as_slice(), redo.as_slice()) {
         Ok(text) => Ok(Part::made(alloc, text)),
-        Err(SessionFault::TooLong) => {
-            let message = session_line(alloc, &SessionFault::TooLong)?;
+        Err(SessionWriteFault::TooLong) => {
+            let message = unwritten_line(alloc, &SessionWriteFault::TooLong)?;
             Ok(Part::left_out(alloc, message))
         }
-        Err(_) => Err(RunFault::Memory),
+        Err(SessionWriteFault::Memory) => Err(RunFault::Memory),
     }
 }
 

@@ -1,11 +1,11 @@
 //! What is said of a session.
 ghost use Rattle.std.specs.Prelude.{◌≡◌, ◌++◌, string_bytes, IfOk, OnOk};
-ghost use Rattle.rdl_run.specs.Messages.{session_fault_text, session_line, where_text};
+ghost use Rattle.rdl_run.specs.Messages.{session_line, unread_text, unresumed_text, unwritten_text, where_text};
 
 use crate::reply::fault_text;
-use rdl_text::token::Number;
-use rdl_tree::session::{SessionFault, Where};
-use rdl_write::push_decimal;
+use rdl_edit::resume_fault::{ResumeFault, Where};
+use rdl_session::fault::SessionReadFault;
+use rdl_session::fault::SessionWriteFault;
 use std::alloc::{AllocError, Global};
 
 /// Which map of a session is meant.
@@ -19,18 +19,17 @@ fn push_where(text: &mut String, place: Where) -> Result<(), AllocError>
     }
 }
 
-#[tactic(auto, unfolding(crate::specs::Messages::session_fault_text))]
-fn push_session_fault(text: &mut String, fault: &SessionFault) -> Result<(), AllocError>
-    ensures { OnOk result (string_bytes text.new ≡ string_bytes text.old ++ session_fault_text fault.now) }
+#[tactic(auto, unfolding(crate::specs::Messages::unresumed_text))]
+fn push_unresumed(text: &mut String, fault: &ResumeFault) -> Result<(), AllocError>
+    ensures { OnOk result (string_bytes text.new ≡ string_bytes text.old ++ unresumed_text fault.now) }
 {
     match fault {
-        SessionFault::NotASession => text.push_str("Z1 not a session"),
-        SessionFault::PatchMisfits(place) => {
+        ResumeFault::PatchMisfits(place) => {
             text.push_str("Z2 a patch does not fit at ")?;
             push_where(text, *place)?;
             Ok(())
         }
-        SessionFault::MapFaulty(place, fault) => {
+        ResumeFault::MapFaulty(place, fault) => {
             text.push_str("Z3 a place does not elaborate at ")?;
             push_where(text, *place)?;
             write!(
@@ -40,18 +39,61 @@ fn push_session_fault(text: &mut String, fault: &SessionFault) -> Result<(), All
                 fault.address
             )
         }
-        SessionFault::TooLong => text.push_str("Z4 session too long"),
-        SessionFault::Memory => Ok(()),
+        ResumeFault::Memory => Ok(()),
     }
 }
 
-/// The message of a session that is refused, or that can't be written.
+/// The message of a session that isn't gone on with.
 #[tactic(auto, unfolding(crate::specs::Messages::session_line))]
-pub fn session_line(alloc: Global, fault: &SessionFault) -> Result<String, AllocError>
-    ensures { IfOk result (λ text. string_bytes text ≡ session_line fault.now) }
+pub(crate) fn unresumed_line(alloc: Global, fault: &ResumeFault) -> Result<String, AllocError>
+    ensures { IfOk result (λ text. string_bytes text ≡ session_line (unresumed_text fault.now)) }
 {
     let mut text = String::from_str(alloc, "session: ")?;
-    push_session_fault(&mut text, fault)?;
+    push_unresumed(&mut text, fault)?;
     text.push_str("\n")?;
     Ok(text)
+}
+
+#[tactic(auto, unfolding(crate::specs::Messages::session_line))]
+fn session_line(alloc: Global, what: &str) -> Result<String, AllocError>
+    ensures { IfOk result (λ text. string_bytes text ≡ session_line what.now) }
+{
+    let mut text = String::from_str(alloc, "session: ")?;
+    text.push_str(what)?;
+    text.push_str("\n")?;
+    Ok(text)
+}
+
+#[tactic(auto, unfolding(crate::specs::Messages::unread_text))]
+fn unread_text(fault: &SessionReadFault) -> &'static str
+    ensures { result.now ≡ unread_text fault.now }
+{
+    match fault {
+        SessionReadFault::NotASession => "Z1 not a session",
+        SessionReadFault::Memory => "",
+    }
+}
+
+/// The message of a text that isn't read as a session.
+pub(crate) fn unread_line(alloc: Global, fault: &SessionReadFault) -> Result<String, AllocError>
+    ensures { IfOk result (λ text. string_bytes text ≡ session_line (unread_text fault.now)) }
+{
+    session_line(alloc, unread_text(fault))
+}
+
+#[tactic(auto, unfolding(crate::specs::Messages::unwritten_text))]
+fn unwritten_text(fault: &SessionWriteFault) -> &'static str
+    ensures { result.now ≡ unwritten_text fault.now }
+{
+    match fault {
+        SessionWriteFault::TooLong => "Z4 session too long",
+        SessionWriteFault::Memory => "",
+    }
+}
+
+/// The message of a session that isn't written.
+pub(crate) fn unwritten_line(alloc: Global, fault: &SessionWriteFault) -> Result<String, AllocError>
+    ensures { IfOk result (λ text. string_bytes text ≡ session_line (unwritten_text fault.now)) }
+{
+    session_line(alloc, unwritten_text(fault))
 }

@@ -19,8 +19,6 @@ pub mod Patch
 pub mod PatchWeight
 pub mod Properties
 pub mod Room
-pub mod SessionFault
-pub mod SessionText
 pub mod Shell
 pub mod Stated
 pub mod Step

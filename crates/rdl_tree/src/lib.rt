@@ -22,7 +22,6 @@ pub mod path;
 pub mod properties;
 pub mod property;
 mod run;
-pub mod session;
 pub mod shell;
 pub mod stated;
 mod step;

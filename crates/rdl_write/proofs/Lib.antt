@@ -1,4 +1,3 @@
 pub mod BodyText
 pub mod Counts
 pub mod Hexadecimals
-pub mod SessionParts

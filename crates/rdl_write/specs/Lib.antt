@@ -1,4 +1,3 @@
 pub mod Texts
 pub mod MapText
 pub mod ItemText
-pub mod SessionLines

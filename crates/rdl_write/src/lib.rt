@@ -5,10 +5,8 @@ mod assignment;
 mod instance;
 mod map;
 mod number;
-mod written_session;
 
 pub use assignment::{push_names, push_value};
 pub use instance::{kind_text, push_dims};
-pub use map::rdl;
+pub use map::{push_dynamic, push_item, push_named, push_own, rdl};
 pub use number::{push_decimal, push_hexadecimal};
-pub use written_session::session;

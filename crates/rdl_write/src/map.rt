@@ -22,6 +22,7 @@ fn deeper(alloc: Global, indent: &str) -> Result<String, AllocError>
     Ok(text)
 }
 
+/// Appends the line of an instance of a type with a name.
 #[tactic(auto, unfolding(crate::specs::MapText::statement_line))]
 pub fn push_named(
     text: &mut String,
@@ -37,6 +38,7 @@ pub fn push_named(
     Ok(())
 }
 
+/// Appends the line of an assignment to a property.
 #[tactic(auto, unfolding(crate::specs::MapText::statement_line))]
 pub fn push_own(
     text: &mut String,
@@ -67,6 +69,7 @@ fn push_default(
     Ok(())
 }
 
+/// Appends the line of an assignment to a property of what a target names.
 #[tactic(auto, unfolding(crate::specs::MapText::statement_line))]
 pub fn push_dynamic(
     text: &mut String,
@@ -139,6 +142,7 @@ fn push_inner(alloc: Global, text: &mut String, indent: &str, body: &Body) -> Re
     push_body(alloc, text, indent.as_str(), body)
 }
 
+/// Appends the lines of an item.
 #[cycle(write)]
 pub fn push_item(
     alloc: Global,

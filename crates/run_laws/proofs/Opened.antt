@@ -13,9 +13,9 @@ use Rattle.rdl_run.specs.Opening.{OpensHistory, AllHaveRows}
 use Rattle.rdl_run.specs.Sessions.{history_of, OpensSession}
 use Rattle.rdl_run.proofs.Openings.{opened-elaborates}
 use Rattle.rdl_round.specs.Writable.{IsWritable}
-use Rattle.rdl_round.specs.Sessions.{IsWritablePatch, AreWritable}
-use Rattle.rdl_round.proofs.Inverted.{IsGood, map-good, of-words, spellable, image-good}
-use Rattle.rdl_round.proofs.SpelledSessions.{map-writable, steps-writable, all-spelled}
+use Rattle.rdl_session.specs.Writable.{IsWritablePatch, AreWritable}
+use Rattle.rdl_session.proofs.Inverted.{IsGood, map-good, of-words, spellable, image-good}
+use Rattle.rdl_session.proofs.SpelledSessions.{map-writable, steps-writable, all-spelled}
 use Rattle.run_laws.proofs.WithRows.{without-fault}
 use Rattle.run_laws.proofs.Stepped.{IsSound, rows-within, begun-writable}
 

@@ -9,17 +9,17 @@ use Rattle.journal_core.specs.Along.{FitInTurn, led_through}
 use Rattle.journal_core.specs.History.{History, IsAt}
 use Rattle.journal_core.proofs.Ways.{get-reverse, from-the-end}
 use Rattle.rdl_tree.specs.Patch.{AllFit, image}
-use Rattle.rdl_tree.specs.SessionText.{SessionLines, session_text}
+use Rattle.rdl_session.specs.Text.{SessionLines, session_text}
 use Rattle.rdl_tree.specs.declared.patch.Patch.{Patch}
-use Rattle.rdl_tree.specs.declared.session.SessionFault.{SessionFault}
-use Rattle.rdl_tree.specs.declared.session.Where.{Where}
-use Rattle.rdl_tree.specs.declared.session.Where.TheVariants as where_
+use Rattle.rdl_edit.specs.declared.resume_fault.ResumeFault.{ResumeFault}
+use Rattle.rdl_edit.specs.declared.resume_fault.Where.{Where}
+use Rattle.rdl_edit.specs.declared.resume_fault.Where.TheVariants as where_
 use Rattle.rdl_edit.specs.Backs.{prior, read_back}
 use Rattle.rdl_edit.specs.OfEdits.{IsOfEdit, IsOwn}
 use Rattle.rdl_edit.specs.Resuming.{judged, place_fault, steps_fault}
 use Rattle.rdl_edit.specs.Step.{State, HasRows}
 use Rattle.rdl_edit.proofs.Walking.{step-judged}
-use Rattle.rdl_parse.proofs.SessionMeant.{one-session}
+use Rattle.rdl_session.proofs.Meant.{one-session}
 use Rattle.rdl_run.specs.Opening.{OpensHistory, AllHaveRows, EachElaborates}
 use Rattle.rdl_run.specs.OwnSteps.{OpensOwn, owned}
 use Rattle.rdl_run.specs.Sessions.{LeadBack, LeadOn, LeadsAlong, history_of, is_session}
@@ -92,7 +92,7 @@ first-leads option s next step steps states first rest =
           ap (λ (t : State). t ∷ led_through prior t (map read_back steps)) (sym led)
           ∙ ap (λ (ts : List State). next ∷ ts) rest.through;
       faultless = λ at n.
-          ap (λ (o : Option SessionFault). option_or o (steps_fault at option (suc n) (image step s.description) steps))
+          ap (λ (o : Option ResumeFault). option_or o (steps_fault at option (suc n) (image step s.description) steps))
           (step-judged (at n) option step s.description next.description fit made
           ∙ ap (λ (t : State). place_fault (at n) option t.description) there ∙ first.faultless (at n))
           ∙ ap (λ d. steps_fault at option (suc n) d steps) (sym made)
@@ -182,8 +182,8 @@ begins : (lines : SessionLines) → is_session (session_text lines) ≡ true
 unfolding session_text
 begins lines = refl
 
-none-of : (a b c : Option SessionFault) → a ≡ None → b ≡ None → c ≡ None → option_or a (option_or b c) ≡ None
-none-of a b c p q r = ap (λ (o : Option SessionFault). option_or o (option_or b c)) p ∙ ap (λ (o : Option SessionFault). option_or o c) q ∙ r
+none-of : (a b c : Option ResumeFault) → a ≡ None → b ≡ None → c ≡ None → option_or a (option_or b c) ≡ None
+none-of a b c p q r = ap (λ (o : Option ResumeFault). option_or o (option_or b c)) p ∙ ap (λ (o : Option ResumeFault). option_or o c) q ∙ r
 
 -- what was led through is the list again
 same-history : (limit : ℕ) (h : History State) (now : State) (undo redo : List (List Patch)) (p : Parted h.states h.place now)

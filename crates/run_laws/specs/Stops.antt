@@ -3,7 +3,7 @@
 use Rattle.std.specs.Prelude.{◌≡◌, ◌≢◌, ℕ, List, [], ◌∷◌, ◌++◌}
 use Rattle.journal_core.specs.History.{History}
 use Rattle.rdl_tree.specs.declared.patch.Patch.{Patch}
-use Rattle.rdl_parse.specs.Session.{SpellsSession}
+use Rattle.rdl_session.specs.Spelling.{SpellsSession}
 use Rattle.rdl_edit.specs.Step.{State}
 use Rattle.rdl_run.specs.Output.{Output, Wrote}
 use Rattle.rdl_run.specs.Sessions.{LeadBack, LeadOn}

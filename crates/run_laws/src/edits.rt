@@ -18,7 +18,7 @@ ghost use Rattle.rdl_round.specs.Writable.{ReadsBack, IsWritable};
 ghost use Rattle.run_laws.specs.Histories.{Action, Follows, BringWords, begun};
 ghost use Rattle.run_laws.specs.NewParts.{IsEditOfWords, IsEditSpellable};
 ghost use Rattle.rdl_round.specs.OfWords.{IsOfWords};
-ghost use Rattle.rdl_round.specs.Sessions.{IsWritablePatch};
+ghost use Rattle.rdl_session.specs.Writable.{IsWritablePatch};
 ghost use Rattle.rdl_round.specs.Spellable.{IsSpellable};
 
 /// A map that has rows is within the limits.

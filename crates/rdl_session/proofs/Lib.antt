@@ -1,0 +1,12 @@
+pub mod Form
+pub mod Cuts
+pub mod Runs
+pub mod Again
+pub mod Meant
+pub mod WrittenParts
+pub mod Endings
+pub mod Utf8
+pub mod Strings
+pub mod Saved
+pub mod SpelledSessions
+pub mod Inverted

@@ -1,0 +1,14 @@
+use Rattle.std.proofs.Common.{◌≡◌, length}
+use Rattle.std.specs.Prelude.{map}
+use Rattle.rdl_session.specs.Meaning.{all_of, patch_of}
+use Rattle.rdl_session.specs.Seen.{seen}
+use Rattle.rdl_session.proofs.Cuts.{ahead}
+use Rattle.rdl_session.proofs.meaning.steps_of.Given as goal
+
+abbrev pub invariant-lines : goal.invariant-lines
+invariant-lines l =
+    ahead (map (λ step. step.items) l.steps.items) (all_of (all_of patch_of) (map (λ step. map seen step.items) l.rest))
+    ≡ all_of (all_of patch_of) (map (λ step. map seen step.items) l.fn.lines)
+
+abbrev pub decreases-lines : goal.decreases-lines
+decreases-lines l = length l.rest

@@ -1,8 +1,0 @@
-use Rattle.std.proofs.Common.{◌≡◌, ◌++◌, take, string_bytes}
-use Rattle.std.specs.List.{flat_map}
-use Rattle.rdl_tree.specs.SessionText.{patch_text}
-use Rattle.rdl_write.specs.SessionLines.{written}
-use Rattle.rdl_write.proofs.written_session.push_step.Given as goal
-
-abbrev pub invariant-patches : goal.invariant-patches
-invariant-patches l = string_bytes l.text ≡ string_bytes l.initial.text ++ flat_map (λ p. patch_text (written p)) (take l.patch-index l.patches)
