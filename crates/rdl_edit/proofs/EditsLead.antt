@@ -2,7 +2,6 @@
 use Rattle.std.proofs.Common.{◌≡◌, ◌⊎◌, inl, inr, ℕ, ◌≤◌, ◌<◌, Bool, true, false, cond, ◌||◌, List, [], length, Option, Some, None, Result, Ok, Err, refl, sym, ap, ◌∙◌, subst, arith, is_ok}
 use Rattle.std.specs.Prelude.{nat_lt, ◌==◌}
 use Rattle.std.proofs.lemmas.Bool.{ltb-false, cases_lt}
-use Rattle.std.proofs.lemmas.Option.{none-some}
 use Rattle.rdl_tree.specs.Address.{holder_of, number_of, body_at}
 use Rattle.rdl_tree.specs.Depth.{depth}
 use Rattle.rdl_tree.specs.Find.{find}
@@ -10,9 +9,7 @@ use Rattle.rdl_tree.specs.Items.{Items, count}
 use Rattle.rdl_tree.specs.Patch.{AllFit, image}
 use Rattle.rdl_tree.specs.Weight.{weight}
 use Rattle.rdl_tree.specs.declared.fault.Fault.{Fault}
-use Rattle.rdl_tree.specs.declared.fault.FaultKind.TheVariants.{DescriptionTooLarge}
 use Rattle.rdl_tree.specs.declared.path.PathFault.{PathFault}
-use Rattle.rdl_scope.specs.ItemFaults.{first_fault, is_too_large, fault_of}
 use Rattle.rdl_elab.specs.Faults.{elaborated}
 use Rattle.rdl_elab.specs.declared.row.Row.{Row}
 use Rattle.rdl_rewrite.specs.Change.{edited_body}
@@ -25,20 +22,10 @@ use Rattle.rdl_rewrite.specs.declared.edit.PatchRefusal.{PatchRefusal}
 use Rattle.rdl_rewrite.specs.declared.edit.PatchRefusal.TheVariants.{NotAnInstance, TooDeep}
 use Rattle.rdl_rewrite.proofs.Made.{patches_made, patches_fit, too_deep}
 use Rattle.rdl_edit.specs.Step.{State, HasRows, judged, judged_anew, step}
+use Rattle.rdl_elab.proofs.KnownRows.{first-false, not-large}
 use Rattle.rdl_edit.proofs.Placings.{faultless}
 
 -- ---- A map that has rows nests at most 16 deep.
-
-first-false : (a b : Bool) → (a || b) ≡ false → a ≡ false
-first-false true b e = cc
-first-false false b e = refl
-
-not-large : (d : Items) → fault_of d ≡ None → is_too_large d ≡ false
-not-large d h = by (is_too_large d) h
-  where
-    by : (z : Bool) → ◌≡◌ {A = Option Fault} (elim z [ true ↦ Some (record { kind = DescriptionTooLarge; address = [] }) | false ↦ first_fault d None [] d 0 d ]) None → z ≡ false
-    by true e = absurd (none-some (record { kind = DescriptionTooLarge; address = [] }) (sym e))
-    by false e = refl
 
 pub rows-deep : (s : State) → HasRows s → depth s.description ≤ 16
 rows-deep s h =

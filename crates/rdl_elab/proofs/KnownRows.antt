@@ -18,11 +18,11 @@ use Rattle.rdl_elab.proofs.KeptAnswers.{judged-top}
 never-both : (answer : Result (List Row) Fault) (rows : List Row) (f : Fault) → answer ≡ Ok rows → answer ≡ Err f → ⊥
 never-both answer rows f good bad = let no : true ≡ false = ap is_ok (sym good ∙ bad) in cc
 
-first-false : (a b : Bool) → (a || b) ≡ false → a ≡ false
+pub first-false : (a b : Bool) → (a || b) ≡ false → a ≡ false
 first-false true b e = cc
 first-false false b e = refl
 
-not-large : (d : Items) → fault_of d ≡ None → is_too_large d ≡ false
+pub not-large : (d : Items) → fault_of d ≡ None → is_too_large d ≡ false
 not-large d h = by (is_too_large d) h
   where
     by : (z : Bool) → ◌≡◌ {A = Option Fault} (elim z [ true ↦ Some (record { kind = DescriptionTooLarge; address = [] }) | false ↦ first_fault d None [] d 0 d ]) None → z ≡ false

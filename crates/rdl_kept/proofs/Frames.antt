@@ -13,7 +13,7 @@ use Rattle.rdl_tree.specs.declared.property.Property.TheVariants.{Reset, Sw}
 use Rattle.rdl_scope.specs.Types.{defines, last_definition, type_at}
 use Rattle.rdl_scope.specs.Value.{own_value, last_default, defaulted, nearest_default, stated_value, component_value}
 use Rattle.rdl_scope.specs.Closed.{Head, Parts, no_parts, part, Made, Standing, nothing, lookup, with_type, with_default, with_made, head_at, parts, component_in, component}
-use Rattle.rdl_scope.proofs.Outlines.{gap}
+use Rattle.rdl_scope.proofs.Outlines.{gap, inner-gap-zero, inner-gap-suc}
 use Rattle.rdl_elab.specs.Faults.{may_be_top, top_from}
 
 -- ---- Frames.
@@ -59,16 +59,6 @@ default-gap p zero no_items = refl
 default-gap p (suc n) no_items = refl
 default-gap p n (plain q rest) = refl
 default-gap p n (holder h body rest) = refl
-
-inner-gap-zero : (t : Items) → inner 0 (gap t) ≡ None
-inner-gap-zero no_items = refl
-inner-gap-zero (plain p rest) = refl
-inner-gap-zero (holder h body rest) = refl
-
-inner-gap-suc : (i : ℕ) (t : Items) → inner (suc i) (gap t) ≡ inner i t
-inner-gap-suc i no_items = refl
-inner-gap-suc i (plain p rest) = refl
-inner-gap-suc i (holder h body rest) = refl
 
 top-gap : (w : Option (List ℕ)) (n : ℕ) (t : Items) → top_from w n (gap t) ≡ top_from w (suc n) t
 top-gap w n no_items = refl

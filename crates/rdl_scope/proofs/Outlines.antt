@@ -93,12 +93,12 @@ all-outline name (holder (anonymous s k) body rest) = ap (λ o. cond (holder_nam
 
 -- ---- Bodies and items.
 
-inner-gap-zero : (t : Items) → inner 0 (gap t) ≡ None
+pub inner-gap-zero : (t : Items) → inner 0 (gap t) ≡ None
 inner-gap-zero no_items = refl
 inner-gap-zero (plain p rest) = refl
 inner-gap-zero (holder h body rest) = refl
 
-inner-gap-suc : (i : ℕ) (t : Items) → inner (suc i) (gap t) ≡ inner i t
+pub inner-gap-suc : (i : ℕ) (t : Items) → inner (suc i) (gap t) ≡ inner i t
 inner-gap-suc i no_items = refl
 inner-gap-suc i (plain p rest) = refl
 inner-gap-suc i (holder h body rest) = refl

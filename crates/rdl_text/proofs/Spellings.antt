@@ -212,14 +212,14 @@ word_fits s first len None kind f e = absurd (go (nat_eq first 34) e)
     go true e = cc
     go false e = cc
 
-enclosed_gap : (o : Option ℕ) (kind : TokenKind) (len : ℕ) → enclosed o ≡ Ok (pieces.Word kind len) → ⊥
+pub enclosed_gap : (o : Option ℕ) (kind : TokenKind) (len : ℕ) → enclosed o ≡ Ok (pieces.Word kind len) → ⊥
 enclosed_gap None kind len e = cc
 enclosed_gap (Some n) kind len e = cc
 
-abbrev gap : ℕ → Result Piece WordFault
+abbrev pub gap : ℕ → Result Piece WordFault
 gap n = Ok (pieces.Gap n)
 
-gap_word : (n len : ℕ) (kind : TokenKind) → gap n ≡ Ok (pieces.Word kind len) → ⊥
+pub gap_word : (n len : ℕ) (kind : TokenKind) → gap n ≡ Ok (pieces.Word kind len) → ⊥
 gap_word n len kind e = cc
 
 pub piece_fits : (s : List ℕ) (kind : TokenKind) (len : ℕ) → piece s ≡ Ok (pieces.Word kind len) → IsSpelled kind (take len s)

@@ -29,7 +29,7 @@ use Rattle.rdl_text.specs.declared.token.TokenKind.TheVariants as kinds
 use Rattle.rdl_text.proofs.Cutting.{tail, next}
 use Rattle.rdl_text.proofs.Ends.{chosen}
 use Rattle.rdl_text.proofs.Longest.{longest_letter, longest_digit, longest_quote, longest_other, letter_no_mark, digit_no_mark, quote_no_mark}
-use Rattle.rdl_text.proofs.Spellings.{piece_fits}
+use Rattle.rdl_text.proofs.Spellings.{piece_fits, enclosed_gap, gap_word}
 
 abbrev some : Candidate → Option Candidate
 some x = Some x
@@ -60,16 +60,6 @@ word_found first len None kind e = absurd (go (nat_eq first 34) e)
     go : (t : Bool) → cond t (Err UnendedString) (Err BadCharacter) ≡ Ok (pieces.Word kind len) → ⊥
     go true e = cc
     go false e = cc
-
-enclosed_gap : (o : Option ℕ) (kind : TokenKind) (len : ℕ) → enclosed o ≡ Ok (pieces.Word kind len) → ⊥
-enclosed_gap None kind len e = cc
-enclosed_gap (Some n) kind len e = cc
-
-abbrev gap : ℕ → Result Piece WordFault
-gap n = Ok (pieces.Gap n)
-
-gap_word : (n len : ℕ) (kind : TokenKind) → gap n ≡ Ok (pieces.Word kind len) → ⊥
-gap_word n len kind e = cc
 
 pub longest_found : (s : List ℕ) (kind : TokenKind) (len : ℕ) → piece s ≡ Ok (pieces.Word kind len) → longest s ≡ Some (found kind len)
 unfolding piece
