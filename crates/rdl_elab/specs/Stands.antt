@@ -12,9 +12,7 @@ use Rattle.rdl_elab.specs.declared.walk.finished.Finished.{Finished}
 use Rattle.rdl_elab.specs.Kept.{Part}
 use Rattle.rdl_elab.specs.declared.walk.Walk.{Walk}
 use Rattle.rdl_elab.specs.declared.walk.Found.{Found}
-use Rattle.rdl_elab.specs.Kept.{Stored}
-use Rattle.rdl_elab.specs.Finished.{IsFinished, AreParts}
-use Rattle.rdl_elab.specs.Finishes.{Finishes}
+use Rattle.rdl_elab.specs.Finished.{IsFinished}
 
 -- the component written at an address
 abbrev pub made_at : Standing → List ℕ → Component → Made
@@ -87,15 +85,3 @@ pub record IsBehind (old new : Walk) : Type 0 where
   pub types : IsLonger old.types new.types
   pub defaults : IsLonger old.defaults new.defaults
   pub components : Grows old.components.items new.components.items
-
--- what is found at the item at an address is the instance that the item brings, by what is finished behind it
-abbrev pub BringsPart : Items → Walk → Walk → List ℕ → Item → Option Found → Type 0
-BringsPart d old new at item f = (e : Standing) → Stands d old e → AreParts d new.components.items (length new.components.items) (in_list (placed at f)) (item_parts e at item)
-
--- the components that are written where this stands are finished, and what was kept of them is taken over
-abbrev pub FinishesAll : Items → Stored → Walk → Walk → (Standing → List Made) → Type 0
-FinishesAll d before old new written = (e : Standing) → Stands d old e → Finishes before old.components.items new.components.items (written e)
-
--- something holds of the component at an address, whatever stands there, if these are its instances
-abbrev pub HoldsAt : Items → Walk → List ℕ → Component → List Part → (Made → Type 0) → Type 0
-HoldsAt d walk at c ps Holds = (e : Standing) (inside : Parts) (n : ℕ) → walk.defaults ≡ e.defaults → AreParts d walk.components.items n ps inside → Holds (record { head = head_at at c.kind c.body e; parts = inside })

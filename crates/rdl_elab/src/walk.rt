@@ -10,8 +10,8 @@ ghost use Rattle.rdl_elab.specs.Written.{written, item_written, all_written};
 ghost use Rattle.rdl_elab.specs.MadeOf.{made_of};
 ghost use Rattle.rdl_elab.specs.Words.{spelling, is_among};
 ghost use Rattle.rdl_elab.specs.Taken.{WasKept};
-ghost use Rattle.rdl_elab.specs.Finishes.{AreLaidOut, Finishes};
-ghost use Rattle.rdl_elab.specs.Stands.{made_at, after_item, item_parts, in_list, placed, LeadsTo, IsType, Stands, Grows, IsBehind, BringsPart, FinishesAll, HoldsAt};
+ghost use Rattle.rdl_elab.specs.Finishes.{AreLaidOut, BringsPart, FinishesAll, HoldsAt};
+ghost use Rattle.rdl_elab.specs.Stands.{made_at, after_item, item_parts, in_list, placed, LeadsTo, IsType, Stands, Grows, IsBehind};
 
 pub(crate) mod built_ins;
 pub(crate) mod defaults;
