@@ -59,3 +59,5 @@ pub mod AllTaken
 pub mod NamesAround
 pub mod Namesakes
 pub mod TopTypes
+pub mod FoundAgain
+pub mod ShownRows

@@ -8,13 +8,11 @@ pub mod FramedChanges
 pub mod FramedAssignments
 pub mod HarmlessPatches
 pub mod Renamings
-pub mod FoundAgain
 pub mod FoundLayouts
 pub mod StandingIn
 pub mod AsBefore
 pub mod Reaching
 pub mod InReach
-pub mod ShownRows
 pub mod Skeletons
 pub mod InOrder
 pub mod TrackedBodies

@@ -13,7 +13,7 @@ use Rattle.rdl_kept.specs.SameSkeleton.{HasSameSkeleton}
 use Rattle.rdl_kept.specs.Skeleton.{skeleton}
 use Rattle.rdl_elab.specs.Words.{spelling, is_among, AreFoundAgain}
 use Rattle.rdl_elab.specs.Written.{all_layouts, all_written}
-use Rattle.rdl_kept.proofs.FoundAgain.{found-again}
+use Rattle.rdl_elab.proofs.FoundAgain.{found-again}
 use Rattle.rdl_kept.proofs.FoundLayouts.{all-before}
 use Rattle.rdl_kept.proofs.InOrder.{nothing-differs}
 use Rattle.rdl_elab.proofs.KeptAnswers.{judged-top}

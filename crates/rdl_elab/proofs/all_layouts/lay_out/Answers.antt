@@ -4,7 +4,7 @@ use Rattle.rdl_elab.specs.declared.walk.finished.Finished.{Finished}
 use Rattle.rdl_elab.specs.Anew.{new_spans}
 use Rattle.rdl_elab.specs.Written.{all_written}
 use Rattle.rdl_elab.proofs.AllTaken.{all-placed, few-placed, laid-layouts, laid-among, were-kept}
-use Rattle.rdl_kept.proofs.FoundAgain.{found-again}
+use Rattle.rdl_elab.proofs.FoundAgain.{found-again}
 use Rattle.rdl_elab.proofs.TopTypes.{fault-walked}
 use Rattle.rdl_elab.proofs.all_layouts.lay_out.Goals as goal
 

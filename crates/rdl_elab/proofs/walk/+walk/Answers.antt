@@ -32,7 +32,7 @@ finish-returns-clause-made t c = λ e h.
     let long = c.walk_items.new.walk.defaults in
     let defaults = c.truncate-2.ensures ∙ ap (λ n. drop (length long - n) long) c.len-defaults.ensures ∙ behind.defaults.same ∙ h.defaults in
     let same = c.in_ok-finished.ensures.parts in
-    let stays : c.finished.new.walk.components.items ≡ mid = ap (λ (w : Walk). w.components.items) c.in_ok-finished.ensures.walk in
+    let stays : c.finished_component.new.walk.components.items ≡ mid = ap (λ (w : Walk). w.components.items) c.in_ok-finished.ensures.walk in
     let pushed = c.in_ok-push.ensures.items ∙ ap (λ fs. fs ++ c.in_ok-finished.finished ∷ []) stays in
     let number : c.len-number.result ≡ length mid = omega (arith, ap length stays) in
     made-last d c.args.at.now c.args.component.now e mid c.push.new.self.items c.len-number.result c.in_ok-finished.finished c.as_slice.result.now c.as_slice.ensures number pushed
@@ -42,7 +42,7 @@ finish-returns-clause-made t c = λ e h.
 pub finish-returns-clause-components : goal.finish-returns-clause-components
 finish-returns-clause-components t c =
     let mid = c.walk_items.new.walk.components.items in
-    let stays : c.finished.new.walk.components.items ≡ mid = ap (λ (w : Walk). w.components.items) c.in_ok-finished.ensures.walk in
+    let stays : c.finished_component.new.walk.components.items ≡ mid = ap (λ (w : Walk). w.components.items) c.in_ok-finished.ensures.walk in
     let pushed = c.in_ok-push.ensures.items ∙ ap (λ fs. fs ++ c.in_ok-finished.finished ∷ []) stays in
     grows-on c.args.walk.now.components.items mid c.push.new.self.items c.in_ok-parts.ensures.behind.components (grows-push mid c.push.new.self.items c.in_ok-finished.finished pushed)
 
@@ -144,7 +144,7 @@ finish-returns-clause-finishes t c = λ e h.
     let long = c.walk_items.new.walk.defaults in
     let defaults = c.truncate-2.ensures ∙ ap (λ n. drop (length long - n) long) c.len-defaults.ensures ∙ behind.defaults.same ∙ h.defaults in
     let are = subst (λ t. AreParts d mid (length mid) c.in_ok-parts.parts.items (parts e at 0 t)) (ap items_of c.as_slice.ensures ∙ items_of-list_of k.body) (c.in_ok-parts.ensures.parts e h) in
-    let stays : c.finished.new.walk.components.items ≡ mid = ap (λ (w : Walk). w.components.items) c.in_ok-finished.ensures.walk in
+    let stays : c.finished_component.new.walk.components.items ≡ mid = ap (λ (w : Walk). w.components.items) c.in_ok-finished.ensures.walk in
     let pushed = c.in_ok-push.ensures.items ∙ ap (λ fs. fs ++ f ∷ []) stays in
     finishes-made before c.args.walk.now.components.items mid c.push.new.self.items at k e xs f c.as_slice.ensures pushed (c.in_ok-parts.ensures.finishes e h)
     (laid-out before d f (made_at e at k) (c.in_ok-finished.ensures.kept e (parts e at 0 k.body) (length mid) defaults are) (c.in_ok-finished.ensures.words e (parts e at 0 k.body) (length mid) defaults are) c.in_ok-finished.ensures.same c.in_ok-finished.ensures.stood c.in_ok-finished.ensures.taken)
