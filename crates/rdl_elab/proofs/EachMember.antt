@@ -8,12 +8,17 @@ use Rattle.rdl_elab.specs.declared.layout.Mode.{Mode}
 use Rattle.rdl_elab.specs.declared.layout.Mode.TheVariants.{Compact, Regalign, Fullalign}
 use Rattle.rdl_elab.specs.declared.layout.Layout.{Layout}
 use Rattle.rdl_elab.specs.declared.walk.finished.Finished.{Finished}
+use Rattle.rdl_elab.specs.declared.walk.each_member.Said.{Said}
 use Rattle.rdl_elab.specs.Kept.{Layouts, Part}
 use Rattle.rdl_elab.specs.Layouts.{is_array, width_of}
 use Rattle.rdl_elab.specs.Finished.{under}
 use Rattle.rdl_elab.specs.Inside.{kept_parts}
 use Rattle.rdl_elab.specs.LaidOut.{shown_member, kept_members}
 use Rattle.rdl_elab.specs.EachMember.{first_of, said_of, extent_of, taken, member_under, shown_each}
+
+-- what an instance with these dims and numbers says of its place
+abbrev pub said-by : List ℕ → Option (ℕ × ℕ) → Option ℕ → Option ℕ → Option ℕ → Said
+said-by dims range address stride align = record { elements = min (product dims) (2 ^ 128 - 1); size = first_of dims; address = address; stride = stride; align = align; range = range }
 
 array-by-first : (ns : List ℕ) → is_some (first_of ns) ≡ is_array ns
 array-by-first [] = refl

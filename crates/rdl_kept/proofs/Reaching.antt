@@ -1,6 +1,6 @@
 -- Where each body that isn't edited is unchanged, every component out of reach of those that are edited is as before.
 use Rattle.std.proofs.Common.{◌≡◌, ℕ, suc, ◌+◌, ◌-◌, ◌≤◌, ◌<◌, Bool, true, false, ◌||◌, List, [], ◌∷◌, ◌++◌, length, Option, Some, None, refl, ap, sym, subst, ◌∙◌, arith, length-append, append_assoc, ◌⊎◌, inl, inr}
-use Rattle.std.specs.Prelude.{min, ◌^◌, slice_get, option_map, option_and_then}
+use Rattle.std.specs.Prelude.{slice_get, option_map, option_and_then}
 use Rattle.std.specs.List.{AllZip}
 use Rattle.std.proofs.lemmas.Bool.{cases_lt}
 use Rattle.rdl_tree.specs.Items.{Items, no_items, plain, holder, Plain, Holder}
@@ -8,14 +8,13 @@ use Rattle.rdl_tree.specs.View.{list_of, plain_item, holder_item}
 use Rattle.rdl_tree.specs.Address.{inner}
 use Rattle.rdl_tree.specs.Component.{holder_kind}
 use Rattle.rdl_tree.specs.declared.shell.Shell.{Shell}
-use Rattle.rdl_scope.specs.ItemFaults.{product as elements_of}
 use Rattle.rdl_scope.specs.Closed.{Parts, no_parts, part, Made, Standing, nothing, head_at, parts, after_plain, after_holder, component}
 use Rattle.rdl_elab.specs.declared.layout.Mode.{Mode}
 use Rattle.rdl_elab.specs.declared.layout.Mode.TheVariants.{Compact, Regalign, Fullalign}
-use Rattle.rdl_elab.specs.declared.walk.each_member.Said.{Said}
+use Rattle.rdl_elab.proofs.EachMember.{said-by}
 use Rattle.rdl_elab.specs.Layouts.{layout}
 use Rattle.rdl_elab.specs.Capped.{capped_layout}
-use Rattle.rdl_elab.specs.EachMember.{first_of, extent_of}
+use Rattle.rdl_elab.specs.EachMember.{extent_of}
 use Rattle.rdl_elab.specs.Found.{ArePartsFound}
 use Rattle.rdl_elab.specs.Written.{written, all_written}
 use Rattle.rdl_elab.specs.MadeOf.{each_member, members_of, made_of, layout_made}
@@ -156,9 +155,6 @@ zip-at R (x ∷ xs) [] e h = let no : ⊥ = omega (arith, e) in absurd no
 zip-at R (x ∷ xs) (y ∷ ys) e h = (h 0 x y refl refl, zip-at R xs ys (omega (arith, e)) (λ k. h (suc k)))
 
 -- ---- What is taken of an instance.
-
-abbrev said-by : List ℕ → Option (ℕ × ℕ) → Option ℕ → Option ℕ → Option ℕ → Said
-said-by dims range address stride align = record { elements = min (elements_of dims) (2 ^ 128 - 1); size = first_of dims; address = address; stride = stride; align = align; range = range }
 
 same-layout : (c k : Made) → made_of c ≡ made_of k → (m : Mode) → capped_layout (layout m c) ≡ capped_layout (layout m k)
 same-layout c k e m = sym (layout-made m c) ∙ ap (layout_made m) e ∙ layout-made m k

@@ -1,24 +1,22 @@
 -- What is kept of a description's layouts from one description to the next.
 -- own: SystemRDL 2.0 says how components are laid out, and nothing of edits.
-use Rattle.std.specs.Prelude.{◌≡◌, ℕ, ◌+◌, List, length, sum_by, Option, Some, None, Ok, option_and_then, option_map, Result, Err, Bool, true, false, if◌then◌else◌}
-use Rattle.std.specs.List.{AllZip, AllByRecursion}
+use Rattle.std.specs.Prelude.{◌≡◌, ℕ, List, Option, Some, None, Ok, option_and_then, option_map, Bool, true, false}
+use Rattle.std.specs.List.{AllZip}
 use Rattle.rdl_tree.specs.Items.{Items}
 use Rattle.rdl_tree.specs.declared.shell.Kind.{Kind}
 use Rattle.rdl_tree.specs.declared.shell.Kind.TheVariants.{Addrmap, Regfile, Reg, Field}
 use Rattle.rdl_tree.specs.declared.description.Component.{Component}
-use Rattle.rdl_tree.specs.declared.fault.Fault.{Fault}
-use Rattle.rdl_scope.specs.Closed.{Parts, no_parts, part, Made, component}
+use Rattle.rdl_scope.specs.Closed.{Made, component}
 use Rattle.rdl_elab.specs.declared.layout.Mode.{Mode}
 use Rattle.rdl_elab.specs.declared.layout.Layout.{Layout}
 use Rattle.rdl_elab.specs.declared.row.Row.{Row}
 use Rattle.rdl_elab.specs.Kept.{Layouts}
-use Rattle.rdl_elab.specs.declared.walk.finished.Finished.{Finished}
 use Rattle.rdl_elab.specs.Layouts.{layout}
 use Rattle.rdl_elab.specs.Capped.{capped_layout}
 use Rattle.rdl_elab.specs.Faults.{elaborated}
 use Rattle.rdl_elab.specs.Written.{all_written, all_layouts}
 use Rattle.rdl_elab.specs.MadeOf.{made_of}
-use Rattle.rdl_elab.specs.Words.{spelling, is_among, AreFoundAgain}
+use Rattle.rdl_elab.specs.Words.{AreFoundAgain}
 use Rattle.rdl_elab.specs.StandIns.{stand_ins}
 
 -- the layouts of all components, each behind those inside it; the words of what is kept, as bytes; the name that was asked of the top; and how
