@@ -1,11 +1,11 @@
 -- An assignment whose number none of a body's items has is new there, and one that is new behind all items repeats none.
-use Rattle.std.proofs.Common.{◌≡◌, ℕ, ◌+◌, ◌<◌, ◌≤◌, Bool, true, false, List, [], ◌∷◌, ◌++◌, length, map, take, drop, Some, None, refl, ap, sym, ◌∙◌, subst, arith, take_all, nat_eq}
+use Rattle.std.proofs.Common.{◌≡◌, ℕ, ◌<◌, ◌≤◌, Bool, true, false, List, [], ◌∷◌, ◌++◌, length, map, take, Some, refl, ap, sym, ◌∙◌, arith, nat_eq}
 use Rattle.std.proofs.lemmas.List.{map-append}
-use Rattle.std.specs.Prelude.{◌||◌, ◌&&◌, bytes_eq, insert, not, slice_get}
+use Rattle.std.specs.Prelude.{◌||◌, bytes_eq, insert, slice_get}
 use Rattle.std.specs.List.{list_any}
-use Rattle.std.specs.Cmp.Lexicographic.{pointwise, bytes_decides}
+use Rattle.std.specs.Cmp.Lexicographic.{pointwise}
 use Rattle.rdl_tree.specs.Items.{Items}
-use Rattle.rdl_tree.specs.View.{items_of, list_of}
+use Rattle.rdl_tree.specs.View.{list_of}
 use Rattle.rdl_tree.specs.Address.{holder_of, number_of, body_at}
 use Rattle.rdl_tree.specs.ItemAt.{item_at}
 use Rattle.rdl_tree.specs.Edit.{insert_item}
@@ -19,7 +19,7 @@ use Rattle.rdl_tree.proofs.Edits.{get-insert}
 use Rattle.rdl_tree.proofs.Places.{found_at, body_at-map}
 use Rattle.rdl_scope.specs.ItemFaults.{reached_before}
 use Rattle.rdl_scope.specs.Keys.{has_key}
-use Rattle.rdl_scope.specs.Noted.{AreFronts, assigned_front, item_front, IsNewItem, IsNewAt}
+use Rattle.rdl_scope.specs.Noted.{AreFronts, assigned_front, item_front, IsNewAt}
 use Rattle.rdl_scope.proofs.Repeats.{texts-same, dynamic-key}
 
 -- ---- By the numbers.
@@ -83,9 +83,9 @@ new-behind d b at t p v long held end new =
     rw here (rw got none)
 
 -- its number stands behind the others
-pub fronts-behind : (d b : Items) (at : List ℕ) (t : List (List ℕ)) (p : List ℕ) (v : Value) (fronts : List ℕ) → body_at (holder_of at) d ≡ Some b → number_of at ≡ length (list_of b) → AreFronts fronts b
+pub fronts-behind : (b : Items) (at : List ℕ) (t : List (List ℕ)) (p : List ℕ) (v : Value) (fronts : List ℕ) → number_of at ≡ length (list_of b) → AreFronts fronts b
     → AreFronts (fronts ++ assigned_front t p ∷ []) (insert_item (number_of at) (Dynamic t p v) b)
-fronts-behind d b at t p v fronts held end are =
+fronts-behind b at t p v fronts end are =
     let x : Item = Dynamic t p v in
     sym (ap (map item_front) (list_of-items_of (insert (list_of b) (number_of at) x) ∙ ap (λ k. insert (list_of b) k x) end ∙ put (list_of b) x)
     ∙ map-append item_front (list_of b) (x ∷ [])

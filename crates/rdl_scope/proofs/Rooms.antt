@@ -1,12 +1,12 @@
 -- What an assignment takes of the room below the limits.
-use Rattle.std.proofs.Common.{◌≡◌, ℕ, zero, suc, ◌+◌, ◌*◌, ◌<◌, ◌≤◌, Bool, false, List, [], ◌∷◌, length, Some, ap, ◌∙◌, arith}
-use Rattle.std.specs.Prelude.{nat_lt, ◌||◌, min, ◌^◌, ◌-◌, insert, IsTrue}
+use Rattle.std.proofs.Common.{◌≡◌, ℕ, zero, suc, ◌+◌, ◌≤◌, false, List, [], ◌∷◌, Some, ap, ◌∙◌, arith}
+use Rattle.std.specs.Prelude.{nat_lt, ◌||◌, insert, IsTrue}
 use Rattle.std.proofs.lemmas.List.Sums.{sum_by-insert}
 use Rattle.rdl_tree.specs.Items.{Items, no_items, plain, holder, count}
-use Rattle.rdl_tree.specs.View.{items_of, list_of}
+use Rattle.rdl_tree.specs.View.{list_of}
 use Rattle.rdl_tree.specs.Address.{holder_of, number_of, inner, map_inner, body_at, map_body}
 use Rattle.rdl_tree.specs.Depth.{depth}
-use Rattle.rdl_tree.specs.Weight.{weight, capped}
+use Rattle.rdl_tree.specs.Weight.{weight}
 use Rattle.rdl_tree.specs.ItemWeight.{item_weight}
 use Rattle.rdl_tree.specs.Edit.{insert_item}
 use Rattle.rdl_tree.specs.Patch.{patched, fits}

@@ -1,6 +1,6 @@
 -- What may be noted of a description, so that one more assignment is judged without a look at all items.
 -- own: no part of what a fault is.
-use Rattle.std.specs.Prelude.{◌≡◌, ◌≤◌, ℕ, ◌+◌, ◌*◌, ◌^◌, ◌%◌, false, List, Option, Some, None, map, option_and_then, IfSome}
+use Rattle.std.specs.Prelude.{◌≡◌, ◌≤◌, ℕ, ◌+◌, ◌*◌, ◌^◌, ◌%◌, false, List, map, IfSome}
 use Rattle.std.specs.List.{fold}
 use Rattle.rdl_tree.specs.Items.{Items, count}
 use Rattle.rdl_tree.specs.View.{list_of}
