@@ -2,6 +2,7 @@ pub mod EditsLead
 pub mod KeepingLayouts
 pub mod LightSteps
 pub mod NewNames
+pub mod Noting
 pub mod OneWaySteps
 pub mod OrdinaryBacks
 pub mod OrdinaryEdits

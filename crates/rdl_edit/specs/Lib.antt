@@ -1,6 +1,7 @@
 pub mod Backs
 pub mod Faults
 pub mod Keeping
+pub mod Noting
 pub mod OfEdits
 pub mod Placing
 pub mod ResumeFault

@@ -16,8 +16,9 @@ use Rattle.rdl_elab.specs.Known.{HasRows}
 use Rattle.rdl_kept.specs.SameSkeleton.{HasSameSkeleton}
 use Rattle.rdl_kept.specs.Reach.{SaysTheSame}
 use Rattle.rdl_kept.specs.Skeleton.{skeleton}
+use Rattle.rdl_edit.specs.Noting.{IsNewWithin}
 use Rattle.rdl_edit.specs.declared.touched.Touched.{Touched}
-use Rattle.rdl_edit.specs.declared.touched.Touched.TheVariants.{Any, One, Still, Harmless, Renamed}
+use Rattle.rdl_edit.specs.declared.touched.Touched.TheVariants.{Any, One, Still, Harmless, Light, Renamed}
 
 -- an instance says the same of its place with the shell that this part is
 abbrev pub IsStillShell : Part → Shell → Type 0
@@ -47,12 +48,14 @@ is_dynamic x = false
 abbrev pub KeepsRows : List Patch → Items → Type 0
 KeepsRows ps d = (wanted : Option (List ℕ)) → HasRows d wanted → fault_of (image ps d) ≡ None → HasRows (image ps d) wanted
 
--- behind the step no other item than this one may have a fault; the skeleton is as before; and then there are rows
+-- behind the step no other item than this one may have a fault; the skeleton is as before; then there are rows; and all is within the
+-- limits, and the item repeats none
 abbrev pub IsTouched : Touched → List Patch → Items → Type 0
 IsTouched Any ps d = Unit {0}
 IsTouched (One at) ps d = NoOtherFault (image ps d) at
 IsTouched (Still at) ps d = NoOtherFault (image ps d) at × (skeleton (image ps d) ≡ skeleton d)
 IsTouched (Harmless at) ps d = NoOtherFault (image ps d) at × (skeleton (image ps d) ≡ skeleton d) × KeepsRows ps d
+IsTouched (Light at) ps d = NoOtherFault (image ps d) at × (skeleton (image ps d) ≡ skeleton d) × KeepsRows ps d × IsNewWithin (image ps d) at
 IsTouched Renamed ps d = (skeleton (image ps d) ≡ skeleton d) × KeepsRows ps d
 
 -- the same of the description behind the step, where what is kept is of the one before it
@@ -61,6 +64,7 @@ IsKnown Any new k = Unit {0}
 IsKnown (One at) new k = NoOtherFault new at
 IsKnown (Still at) new k = NoOtherFault new at × HasSameSkeleton new k
 IsKnown (Harmless at) new k = NoOtherFault new at × HasSameSkeleton new k × (fault_of new ≡ None → HasRows new k.top)
+IsKnown (Light at) new k = NoOtherFault new at × HasSameSkeleton new k × (fault_of new ≡ None → HasRows new k.top) × IsNewWithin new at
 IsKnown Renamed new k = HasSameSkeleton new k × (fault_of new ≡ None → HasRows new k.top)
 
 -- where a step is known to keep the skeleton, what is kept is of a description with this one's

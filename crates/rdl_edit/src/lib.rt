@@ -4,6 +4,7 @@
 pub mod back;
 pub mod laws;
 pub mod map;
+mod notes;
 pub mod refusal;
 pub mod resume_fault;
 mod resuming;

@@ -18,6 +18,7 @@ ghost use Rattle.rdl_edit.specs.Resuming.{session_fault};
 ghost use Rattle.rdl_rewrite.specs.Patches.{patches};
 
 use crate::back::Back;
+use crate::notes::{Notes, assigned_in, foretold, is_foretold, notes_behind, outlook_of};
 use crate::refusal::Refusal;
 use crate::resume_fault::ResumeFault;
 use crate::resuming::{Direction, backs, opened, visit};
@@ -26,8 +27,9 @@ use journal_core::invertible::Invertible;
 use rdl_kept::kept::Kept;
 use rdl_elab::row::Rows;
 use rdl_rewrite::edit::Edit;
-use rdl_rewrite::rewrite::patches;
+use rdl_rewrite::rewrite::patches_known;
 use rdl_text::name::Name;
+use rdl_tree::address::Address;
 use rdl_tree::description::Description;
 use rdl_tree::fault::Fault;
 use rdl_tree::patch::Patch;
@@ -41,10 +43,14 @@ pub struct Map {
     description: Description,
     name: Option<Name>,
     kept: Kept,
+    notes: Option<Notes>,
+    /// The address of the body in which the last edit put an assignment, if it did.
+    last: Option<Address>,
 }
 
 impl Model for Map {
-    ghost use Rattle.rdl_edit.specs.Keeping.{Held, Keeps};
+    ghost use Rattle.rdl_edit.specs.Keeping.{Held};
+    ghost use Rattle.rdl_edit.specs.Noting.{IsHeld};
     ghost use Rattle.rdl_tree.specs.contracts.description.Body as body;
     ghost use Rattle.std.specs.Coded.{codes};
 
@@ -54,7 +60,7 @@ impl Model for Map {
 
     ghost view = { λ m. record { state = record { description = m.description.items; option = m.name }; placed = m.kept.placed } };
 
-    ghost invariant = { λ m. Keeps (record { description = m.description.items; option = m.name }) m.kept };
+    ghost invariant = { λ m. IsHeld (record { description = m.description.items; option = m.name }) m.kept m.notes };
 }
 
 /// What a contract knows of a map but for its layouts: its description, and the name that the option asks of its top. Code
@@ -108,6 +114,8 @@ impl Map {
                 description,
                 name,
                 kept,
+                notes: None,
+                last: None,
             }),
             Err(fault) => Err(fault),
         }
@@ -129,6 +137,8 @@ impl Map {
             description,
             name,
             kept,
+            notes: None,
+            last: None,
         };
         Ok((map, rows))
     }
@@ -185,6 +195,8 @@ impl Map {
             description,
             name,
             kept,
+            notes: None,
+            last: None,
         };
         Ok(Resumed { map, undo, redo })
     }
@@ -267,9 +279,24 @@ impl Invertible for Map {
         ensures refused { IfErr result (λ refusal. Refuses self.old.state edit.now refusal) }
         ensures err { OnErr result (self.new ≡ self.old) }
     {
-        let patches = patches(alloc, &self.description, edit)?;
+        let notes = foretold(&self.description, self.notes.take(), edit);
+        let is_new = is_foretold(&self.description, edit, notes.as_ref());
+        let patches = patches_known(alloc, &self.description, edit, is_new)?;
+        let outlook = outlook_of(&self.description, notes, edit, patches.as_slice());
+        let way = assigned_in(edit, patches.as_slice());
         let name = top_text(self.name.as_ref());
-        let back = turn(alloc, &mut self.description, &mut self.kept, name, patches)?;
+        let noted = outlook.as_ref();
+        let back = turn(
+            alloc,
+            &mut self.description,
+            &mut self.kept,
+            name,
+            patches,
+            noted,
+        )?;
+        let last = self.last.as_ref();
+        self.notes = notes_behind(alloc, &self.description, outlook, way.as_ref(), last);
+        self.last = way;
         Ok(Back::new(back, false))
     }
 
@@ -293,6 +320,7 @@ impl Invertible for Map {
         ensures handed { IfErr result (λ same. same ≡ back) }
         ensures err { OnErr result (self.new ≡ self.old) }
     {
+        self.notes = None;
         let name = top_text(self.name.as_ref());
         let read = back.read();
         let patches = back.into_vec();

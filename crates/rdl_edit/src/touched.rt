@@ -5,9 +5,11 @@ ghost use Rattle.rdl_tree.specs.Patch.{patched, image};
 ghost use Rattle.rdl_scope.specs.ItemFaults.{fault_of};
 ghost use Rattle.rdl_scope.specs.OneItem.{NoOtherFault};
 ghost use Rattle.rdl_kept.specs.Skeleton.{skeleton, lays_out};
+ghost use Rattle.rdl_edit.specs.Noting.{IsLight};
 ghost use Rattle.rdl_edit.specs.Still.{is_still, IsStill, IsStillPart};
 ghost use Rattle.rdl_edit.specs.Touching.{IsTouched, IsStillShell, IsNamesake, IsValue, IsAlone, is_dynamic};
 
+use crate::notes::Outlook;
 use rdl_kept::harmless::{is_harmless, is_last, is_renaming, says_the_same};
 use rdl_text::name::Name;
 use rdl_tree::address::Address;
@@ -29,6 +31,8 @@ pub(crate) enum Touched {
     Still(Address),
     /// Nor anything on which a fault of a row depends, but for what fits.
     Harmless(Address),
+    /// And all is within the limits, and the item an assignment that repeats none.
+    Light(Address),
     /// Any item may have a fault, but nothing else is changed than the name of an instance.
     Renamed,
 }
@@ -197,4 +201,37 @@ pub(crate) fn touched_by(alloc: Global, description: &Description, patches: &[Pa
         Some(at) => touched_at(alloc, description, patch, at),
         None => touched_anywhere(description, patch),
     }
+}
+
+/// What is known of a step of this patch alone, which puts in at this address an assignment that is new in its body.
+fn touched_lightly(alloc: Global, description: &Description, patch: &Patch, at: Address) -> Touched
+    requires nesting { depth description.now.items ≤ 16 }
+    requires light { IsLight (patch.now ∷ []) description.now.items at }
+    ensures { IsTouched result (patch.now ∷ []) description.now.items }
+{
+    match is_harmless(alloc, description, patch) {
+        Ok(true) => Touched::Light(at),
+        Ok(false) | Err(_) => Touched::Still(at),
+    }
+}
+
+/// What is known of the step, where something may be noted of the description behind it.
+pub(crate) fn touched_with(
+    alloc: Global,
+    description: &Description,
+    patches: &[Patch],
+    outlook: Option<&Outlook>,
+) -> Touched
+    requires nesting { depth description.now.items ≤ 16 }
+    requires faultless { fault_of description.now.items ≡ None }
+    requires light { IfSome outlook (λ outlook. IsLight patches.now description.now.items outlook.now.at) }
+    ensures { IsTouched result patches.now description.now.items }
+{
+    let Some(outlook) = outlook else {
+        return touched_by(alloc, description, patches);
+    };
+    let [patch] = patches else {
+        return Touched::Any;
+    };
+    touched_lightly(alloc, description, patch, outlook.at.copy())
 }

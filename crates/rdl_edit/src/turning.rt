@@ -1,12 +1,14 @@
 //! Patches applied to a description, and its layouts laid out after them, where the map that they make has rows.
-ghost use Rattle.std.specs.Prelude.{◌≡◌, ◌⊎◌, ◌≤◌, ◌*◌, ℕ, Bool, List, Err, IfOk, IfErr, OnOk, OnErr, option_copied};
+ghost use Rattle.std.specs.Prelude.{◌≡◌, ◌⊎◌, ◌≤◌, ◌*◌, ℕ, Bool, List, None, Err, IfOk, IfErr, IfSome, OnOk, OnErr, option_copied};
 ghost use Rattle.rdl_tree.specs.Items.{Items};
-ghost use Rattle.rdl_scope.specs.ItemFaults.{out_of_memory};
+ghost use Rattle.rdl_scope.specs.ItemFaults.{fault_of, out_of_memory};
+ghost use Rattle.rdl_scope.specs.OneItem.{NoOtherFault};
 ghost use Rattle.rdl_kept.specs.AllKept.{AreOf};
 ghost use Rattle.rdl_elab.specs.Anew.{all_instances};
 ghost use Rattle.rdl_elab.specs.Faults.{elaborated};
 ghost use Rattle.rdl_elab.specs.Known.{HasRows as HasRowsWith};
 ghost use Rattle.rdl_kept.specs.FewPlaced.{PlacesWhatIsInReach};
+ghost use Rattle.rdl_kept.specs.SameSkeleton.{HasSameSkeleton};
 ghost use Rattle.rdl_kept.specs.Skeleton.{skeleton};
 ghost use Rattle.rdl_tree.specs.Depth.{depth};
 ghost use Rattle.rdl_tree.specs.Patch.{AllFit, image, inverses};
@@ -14,12 +16,16 @@ ghost use Rattle.rdl_edit.specs.Backs.{IsWayBack, IsCheap};
 ghost use Rattle.rdl_edit.specs.Faults.{refused};
 ghost use Rattle.rdl_edit.specs.Step.{HasRows, IsJudged};
 ghost use Rattle.rdl_edit.specs.Keeping.{Keeps};
+ghost use Rattle.rdl_edit.specs.Noting.{IsLight, IsNewWithin};
 ghost use Rattle.rdl_edit.specs.Placing.{IsFew, KeepsLayouts};
 ghost use Rattle.rdl_edit.specs.Touching.{IsKnown, IfStill};
 
+use crate::notes::Outlook;
 use crate::refusal::{Refusal, is_memory};
-use crate::touched::{Touched, keeps_skeleton, touched_by};
+use crate::touched::{Touched, keeps_skeleton, touched_with};
 use rdl_kept::kept::Kept;
+use rdl_scope::one_item::check_new_item;
+use rdl_tree::address::Address;
 use rdl_tree::description::Description;
 use rdl_tree::fault::Fault;
 use rdl_tree::patch::Patch;
@@ -34,6 +40,30 @@ fn refused(fault: Fault) -> Refusal
     } else {
         Refusal::Faulty(fault)
     }
+}
+
+/// Keeps the layouts as they are for this description, which has the same skeleton and is known to have rows if no item has a
+/// fault. No item but the one at this address may have one, and that is an assignment that repeats none. Nothing changes if it
+/// has a fault.
+fn stay_new(
+    alloc: Global,
+    description: &Description,
+    kept: &mut Kept,
+    item: &Address,
+) -> Result<(), Fault>
+    requires skeleton { HasSameSkeleton description.now.items kept.old }
+    requires others { NoOtherFault description.now.items item.now }
+    requires rows { fault_of description.now.items ≡ None → HasRowsWith description.now.items kept.old.top }
+    requires within { IsNewWithin description.now.items item.now }
+    ensures layouts { OnOk result (AreOf description.now.items kept.new) }
+    ensures top { OnOk result (kept.new.top ≡ kept.old.top) }
+    ensures placed { OnOk result (kept.new.placed ≡ 0) }
+    ensures refused { IfErr result (λ fault. (elaborated description.now.items kept.old.top ≡ Err fault) ⊎ (fault ≡ out_of_memory)) }
+    ensures err { OnErr result (kept.new ≡ kept.old) }
+{
+    check_new_item(alloc, description, item)?;
+    kept.stay(description);
+    Ok(())
 }
 
 /// Lays out a description behind a step of which this is known, and judges no more than that leaves open. Nothing changes
@@ -60,6 +90,7 @@ pub(crate) fn lay_out(
         Touched::One(item) => kept.relay_item(alloc, description, name, item),
         Touched::Still(item) => kept.stay_judged(alloc, description, item),
         Touched::Harmless(item) => kept.stay_checked(alloc, description, item),
+        Touched::Light(item) => stay_new(alloc, description, kept, item),
         Touched::Renamed => kept.stay_if_faultless(alloc, description),
     }
 }
@@ -88,18 +119,20 @@ fn lay_out_known(
     kept.relay_known(alloc, description, name, &[])
 }
 
-/// Applies the patches, and answers what takes them back. Where the map that they make has a fault, the description and
-/// its layouts are as before.
+/// Applies the patches, and answers what takes them back. Something may be noted of the description that they make, by which
+/// less is judged. Where its map has a fault, the description and its layouts are as before.
 pub(crate) fn turn(
     alloc: Global,
     description: &mut Description,
     kept: &mut Kept,
     name: Option<&str>,
     patches: Vec<Patch>,
+    outlook: Option<&Outlook>,
 ) -> Result<Vec<Patch>, Refusal>
     requires nesting { depth description.old.items ≤ 16 }
     requires fit { AllFit patches.items description.old.items }
     requires kept { Keeps (record { description = description.old.items; option = option_copied name }) kept.old }
+    requires light { IfSome outlook (λ outlook. IsLight patches.items description.old.items outlook.now.at) }
     ensures made { OnOk result (description.new.items ≡ image patches.items description.old.items) }
     ensures keeps { OnOk result (Keeps (record { description = description.new.items; option = option_copied name.entry }) kept.new) }
     ensures few { OnOk result (AreOf description.old.items kept.old → IsFew description.old.items patches.items (image patches.items description.old.items) kept.new.placed) }
@@ -112,7 +145,7 @@ pub(crate) fn turn(
     ensures err { OnErr result (description.new.items ≡ description.old.items) }
     ensures unmoved { OnErr result (kept.new ≡ kept.old) }
 {
-    let touched = touched_by(alloc, description, patches.as_slice());
+    let touched = touched_with(alloc, description, patches.as_slice(), outlook);
     let Ok(mut turned) = description.turn(alloc, patches) else {
         return Err(Refusal::Memory);
     };

@@ -6,6 +6,7 @@ pub mod Fates
 pub mod Firsts
 pub mod Led
 pub mod Names
+pub mod NewAssignment
 pub mod Passed
 pub mod Patches
 pub mod Place

@@ -4,6 +4,7 @@ ghost use Rattle.rdl_tree.specs.Address.{body_at};
 ghost use Rattle.rdl_tree.specs.Weight.{capped};
 ghost use Rattle.rdl_tree.specs.Patch.{image, AllFit};
 ghost use Rattle.rdl_rewrite.specs.Change.{edited_body};
+ghost use Rattle.rdl_rewrite.specs.NewAssignment.{IsNew, IsNewOn};
 ghost use Rattle.rdl_rewrite.specs.Patches.{patches, patches_on, item_edit_patches, patches_in, level, level_on, item_edit_level, level_in};
 ghost use Rattle.rdl_rewrite.specs.Rewritten.{at_body, of_item, by_way, rewritten};
 ghost use Rattle.rdl_rewrite.specs.Refuses.{RefusesEdit};
@@ -33,8 +34,27 @@ pub fn patches(
     ensures too_deep { IsErrOf result PatchRefusal.TooDeep → 16 < level description.now.items edit.now }
     ensures refused { IfErr result (λ refusal. RefusesEdit description.now.items (rewritten description.now.items edit.now) refusal) }
 {
+    patches_known(alloc, description, edit, false)
+}
+
+/// The same patches, or the same refusal. It may be known that the edit assigns what no item of its body assigns: the body
+/// isn't searched then.
+pub fn patches_known(
+    alloc: Global,
+    description: &Description,
+    edit: &Edit,
+    is_new: bool,
+) -> Result<Vec<Patch>, PatchRefusal>
+    requires { is_new ≡ true → IsNew description.now.items edit.now }
+    ensures made { IfOk result (λ ps. rewritten description.now.items edit.now ≡ Ok (image ps.items description.now.items)) }
+    ensures fit { IfOk result (λ ps. AllFit ps.items description.now.items) }
+    ensures which { IfOk result (λ ps. ps.items ≡ patches description.now.items edit.now) }
+    ensures level { IfOk result (λ _. level description.now.items edit.now ≤ 16) }
+    ensures too_deep { IsErrOf result PatchRefusal.TooDeep → 16 < level description.now.items edit.now }
+    ensures refused { IfErr result (λ refusal. RefusesEdit description.now.items (rewritten description.now.items edit.now) refusal) }
+{
     let way = description.find(edit.path())?;
-    patches_on(alloc, description, &way, edit)
+    patches_on(alloc, description, &way, edit, is_new)
 }
 
 /// The patches, where the edit's path leads to this address.
@@ -43,7 +63,9 @@ fn patches_on(
     whole: &Description,
     way: &Address,
     edit: &Edit,
+    is_new: bool,
 ) -> Result<Vec<Patch>, PatchRefusal>
+    requires { is_new ≡ true → IsNewOn way.now whole.now.items edit.now }
     ensures which { IfOk result (λ ps. ps.items ≡ patches_on (Ok way.now) whole.now.items edit.now) }
     ensures accepted { IfOk result (λ _. is_ok (by_way (Ok way.now) whole.now.items edit.now) ≡ true) }
     ensures level { IfOk result (λ _. level_on (Ok way.now) whole.now.items edit.now ≤ 16) }
@@ -51,7 +73,7 @@ fn patches_on(
     ensures refused { IfErr result (λ refusal. RefusesEdit whole.now.items (by_way (Ok way.now) whole.now.items edit.now) refusal) }
 {
     if !edit.is_of_item() {
-        return patches_in(alloc, whole, way, 0, edit);
+        return patches_in(alloc, whole, way, 0, edit, is_new);
     }
     if way.is_empty() {
         return Err(PatchRefusal::NotAnInstance);
@@ -76,7 +98,7 @@ fn item_edit_patches(
     match edit {
         Edit::Remove(_) => remove(alloc, whole, way),
         Edit::Rename(_, name) => rename(alloc, whole, way, name),
-        _ => patches_in(alloc, whole, &way.holder(), way.number(), edit),
+        _ => patches_in(alloc, whole, &way.holder(), way.number(), edit, false),
     }
 }
 
@@ -87,7 +109,9 @@ fn patches_in(
     way: &Address,
     number: usize,
     edit: &Edit,
+    is_new: bool,
 ) -> Result<Vec<Patch>, PatchRefusal>
+    requires { is_new ≡ true → IsNewOn way.now whole.now.items edit.now }
     ensures which { IfOk result (λ ps. ps.items ≡ patches_in way.now number edit.now (body_at way.now whole.now.items)) }
     ensures accepted { IfOk result (λ _. is_ok (at_body way.now whole.now.items (edited_body whole.now.items number edit.now)) ≡ true) }
     ensures level { IfOk result (λ _. level_in way.now edit.now ≤ 16) }
@@ -100,7 +124,7 @@ fn patches_in(
     if way.len() > 16 {
         return Err(PatchRefusal::TooDeep);
     }
-    let patches = body_patches(alloc, &whole.items, way, number, edit, body)?;
+    let patches = body_patches(alloc, &whole.items, way, number, edit, body, is_new)?;
     if level_in(way, edit) > 16 {
         return Err(PatchRefusal::TooDeep);
     }

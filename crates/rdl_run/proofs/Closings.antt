@@ -6,8 +6,8 @@ use Rattle.rdl_edit.specs.Step.{State, HasRows}
 use Rattle.rdl_elab.specs.Faults.{elaborated}
 use Rattle.rdl_elab.specs.declared.row.Row.{Row}
 use Rattle.rdl_header.specs.HeaderText.{header_of}
-use Rattle.rdl_session.specs.Text.{session_text, max_session}
 use Rattle.rdl_write.specs.MapText.{map_text}
+use Rattle.rdl_session.specs.Text.{session_text, max_session}
 use Rattle.rdl_session.specs.Written.{session_lines}
 use Rattle.rdl_session.specs.declared.fault.SessionWriteFault.TheVariants.{TooLong}
 use Rattle.rdl_run.specs.Answers.{History'}

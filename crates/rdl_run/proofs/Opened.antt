@@ -42,12 +42,6 @@ opened option name bytes d places m read is whole same =
 
 -- ---- A session that is refused.
 
--- bytes that are no text
-pub no_text : (bytes : List ℕ) (r : OpenFault) → (IsUtf8 bytes → ⊥) → IfRefusedToOpen r (λ t. (t ≡ session_line (unread_text reading.NotASession)) × (reading.NotASession ≢ reading.Memory))
-    → IfRefusedToOpen r (IsNoSession bytes)
-no_text bytes (opens.Refused message) no k = record { none = λ d undo redo read. no read.text; is = k.0 }
-no_text bytes opens.Memory no k = tt
-
 -- a text that spells no session
 pub unread_session : (bytes text : List ℕ) (fault : SessionReadFault) (r : OpenFault) → text ≡ bytes
     → (fault ≡ reading.Memory) ⊎ ((fault ≡ reading.NotASession) × ((d : Items) (undo redo : List (List Patch)) → SpellsSession text d undo redo → ⊥))

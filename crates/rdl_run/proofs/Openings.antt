@@ -7,9 +7,9 @@ use Rattle.std.proofs.lemmas.Str.{IsUtf8-from_is_utf8, is_utf8-from_IsUtf8}
 use Rattle.rdl_elab.specs.Faults.{elaborated}
 use Rattle.rdl_elab.specs.declared.row.Row.{Row}
 use Rattle.rdl_tree.specs.Items.{Items}
-use Rattle.rdl_session.specs.Text.{max_session}
 use Rattle.rdl_tree.specs.declared.fault.Fault.{Fault}
 use Rattle.rdl_tree.specs.declared.patch.Patch.{Patch}
+use Rattle.rdl_session.specs.Text.{max_session}
 use Rattle.rdl_session.specs.Meaning.{Session, session_of}
 use Rattle.rdl_session.specs.declared.fault.SessionReadFault.TheVariants.{NotASession}
 use Rattle.rdl_session.proofs.Meant.{session-found, session-refused}

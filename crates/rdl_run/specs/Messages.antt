@@ -13,12 +13,12 @@ use Rattle.rdl_edit.specs.declared.resume_fault.Where.TheVariants as where_
 use Rattle.rdl_parse.specs.declared.fault.ParseFault.{ParseFault}
 use Rattle.rdl_parse.specs.declared.fault.ParseFaultKind.{ParseFaultKind}
 use Rattle.rdl_parse.specs.declared.fault.ParseFaultKind.TheVariants as texts
-use Rattle.rdl_session.specs.declared.fault.SessionReadFault.{SessionReadFault}
-use Rattle.rdl_session.specs.declared.fault.SessionReadFault.TheVariants as reads
 use Rattle.rdl_tree.specs.AddressText.{address_text}
 use Rattle.rdl_tree.specs.declared.fault.FaultKind.{FaultKind}
 use Rattle.rdl_tree.specs.declared.fault.FaultKind.TheVariants as kinds
 use Rattle.rdl_write.specs.Texts.{newline}
+use Rattle.rdl_session.specs.declared.fault.SessionReadFault.{SessionReadFault}
+use Rattle.rdl_session.specs.declared.fault.SessionReadFault.TheVariants as reads
 use Rattle.rdl_session.specs.declared.fault.SessionWriteFault.{SessionWriteFault}
 use Rattle.rdl_session.specs.declared.fault.SessionWriteFault.TheVariants as writes
 use Rattle.rdl_run.specs.Replies.{Said, done, listed, not_done}

@@ -3,12 +3,12 @@ use Rattle.std.specs.Prelude.{◌≡◌, ◌⊎◌, ℕ, true, List, [], map, Op
 use Rattle.std.proofs.Common.{inl, inr}
 use Rattle.journal_core.specs.Along.{FitInTurn}
 use Rattle.journal_core.specs.History.{AllAre, IsAt, Kept}
-use Rattle.rdl_session.specs.Text.{session_text}
 use Rattle.rdl_tree.specs.declared.patch.Patch.{Patch}
+use Rattle.rdl_session.specs.Text.{session_text}
+use Rattle.rdl_session.specs.Written.{session_lines}
 use Rattle.rdl_edit.specs.Backs.{Reversal, prior, read_back}
 use Rattle.rdl_edit.specs.OfEdits.{IsOwn}
 use Rattle.rdl_edit.specs.Step.{State}
-use Rattle.rdl_session.specs.Written.{session_lines}
 use Rattle.rdl_run.specs.Answers.{History'}
 use Rattle.rdl_run.specs.Opening.{OpensHistory}
 use Rattle.rdl_run.specs.Sessions.{LeadBack, LeadOn}

@@ -4,17 +4,17 @@ use Rattle.journal_core.specs.Along.{led_through}
 use Rattle.journal_core.specs.History.{IsAt, resumed}
 use Rattle.rdl_tree.specs.Items.{Items}
 use Rattle.rdl_tree.specs.Patch.{AllFit, image}
-use Rattle.rdl_session.specs.Text.{session_text, max_session}
 use Rattle.rdl_tree.specs.declared.patch.Patch.{Patch}
-use Rattle.rdl_session.specs.Spelling.{SpellsSession}
-use Rattle.rdl_session.specs.declared.fault.SessionReadFault.TheVariants.{NotASession}
 use Rattle.rdl_edit.specs.Backs.{prior, read_back}
 use Rattle.rdl_edit.specs.OfEdits.{IsOfEdit}
 use Rattle.rdl_edit.specs.Resuming.{session_fault}
 use Rattle.rdl_edit.specs.Step.{State}
 use Rattle.rdl_edit.specs.declared.resume_fault.ResumeFault.{ResumeFault}
-use Rattle.rdl_session.specs.Written.{session_lines}
 use Rattle.rdl_write.specs.Texts.{newline}
+use Rattle.rdl_session.specs.Text.{session_text, max_session}
+use Rattle.rdl_session.specs.Spelling.{SpellsSession}
+use Rattle.rdl_session.specs.Written.{session_lines}
+use Rattle.rdl_session.specs.declared.fault.SessionReadFault.TheVariants.{NotASession}
 use Rattle.rdl_session.specs.declared.fault.SessionWriteFault.TheVariants.{TooLong}
 use Rattle.rdl_run.specs.Answers.{History'}
 use Rattle.rdl_run.specs.Messages.{session_line, unread_text, unresumed_text, unwritten_text}

@@ -3,10 +3,10 @@ ghost use Rattle.std.specs.Prelude.{◌≡◌, ◌≢◌, ◌⊎◌, true, Some,
 ghost use Rattle.rdl_edit.specs.Step.{HasRows};
 ghost use Rattle.rdl_elab.specs.Faults.{elaborated};
 ghost use Rattle.rdl_scope.specs.ItemFaults.{out_of_memory};
+ghost use Rattle.rdl_session.specs.declared.fault.SessionReadFault.TheVariants as reading;
 ghost use Rattle.rdl_run.specs.Shown.{AreAt, AreOf};
 ghost use Rattle.std.specs.Option.{option_copied};
 ghost use Rattle.rdl_edit.specs.declared.resume_fault.ResumeFault.TheVariants as resuming;
-ghost use Rattle.rdl_session.specs.declared.fault.SessionReadFault.TheVariants as reading;
 ghost use Rattle.rdl_run.specs.Messages.{session_line, unread_text, unresumed_text};
 ghost use Rattle.rdl_run.specs.Opening.{text_line, fault_line, Opens, OpensHistory, EachElaborates, RefusedText, RefusedMap, RefusesToOpen};
 ghost use Rattle.rdl_run.specs.OwnSteps.{OpensKept};

@@ -4,8 +4,7 @@ ghost use Rattle.rdl_run.specs.Messages.{session_line, unread_text, unresumed_te
 
 use crate::reply::fault_text;
 use rdl_edit::resume_fault::{ResumeFault, Where};
-use rdl_session::fault::SessionReadFault;
-use rdl_session::fault::SessionWriteFault;
+use rdl_session::fault::{SessionReadFault, SessionWriteFault};
 use std::alloc::{AllocError, Global};
 
 /// Which map of a session is meant.

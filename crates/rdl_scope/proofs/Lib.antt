@@ -11,6 +11,7 @@ pub mod InstanceKinds
 pub mod Instances
 pub mod Known
 pub mod Levelled
+pub mod NewItems
 pub mod OneChange
 pub mod OuterAssignments
 pub mod Outlines
@@ -18,6 +19,7 @@ pub mod Passing
 pub mod Products
 pub mod Repeats
 pub mod Rivals
+pub mod Rooms
 pub mod Searches
 pub mod Sizes
 pub mod Spots

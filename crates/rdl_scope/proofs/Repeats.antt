@@ -40,7 +40,7 @@ slice_cmp-texts (a ∷ x) (b ∷ y) =
     ∙ ap (λ z. z && pointwise bytes_eq (map (λ s. s.now) x) (map (λ s. s.now) y)) (is_eq-slice_cmp a.now b.now)
 
 -- where the texts are equal, so are the fronts
-texts-same : (x y : List (List ℕ)) → pointwise bytes_eq x y ≡ true → x ≡ y
+pub texts-same : (x y : List (List ℕ)) → pointwise bytes_eq x y ≡ true → x ≡ y
 texts-same [] [] h = refl
 texts-same [] (b ∷ y) h = absurd cc
 texts-same (a ∷ x) [] h = absurd cc

@@ -4,6 +4,7 @@ pub mod Closed
 pub mod Front
 pub mod ItemFaults
 pub mod Keys
+pub mod Noted
 pub mod OneItem
 pub mod Scopes
 pub mod Spot

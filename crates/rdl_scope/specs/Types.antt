@@ -1,7 +1,7 @@
 -- The type of a reference, and the component of an instance: searches through whole bodies.
 -- SystemRDL 2.0, clause 5, defining and instantiating components: a definition stands before its use, and an inner one hides an outer one.
 -- own: of two definitions of a name in one body, which other faults refuse, the last before the reference counts.
-use Rattle.std.specs.Prelude.{ℕ, zero, suc, Bool, false, List, [], ◌∷◌, length, Option, Some, None, option_map, option_and_then, slice_get, bytes_eq, if◌then◌else◌}
+use Rattle.std.specs.Prelude.{ℕ, zero, suc, Bool, false, List, [], ◌∷◌, length, Option, Some, None, option_map, option_and_then, bytes_eq, if◌then◌else◌}
 use Rattle.std.specs.Option.{option_or}
 use Rattle.rdl_tree.specs.ItemAt.{item_at}
 use Rattle.rdl_tree.specs.Items.{Items, no_items, plain, holder, Holder, define, anonymous}

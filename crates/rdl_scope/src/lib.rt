@@ -3,6 +3,7 @@
 #![tactic(auto)]
 
 pub mod apart;
+pub mod assigned;
 mod assignments;
 pub mod by_name;
 mod entry;
@@ -16,6 +17,7 @@ mod names;
 pub mod one_item;
 mod passed;
 mod places;
+pub mod room;
 pub mod shells;
 mod size;
 pub mod targets;

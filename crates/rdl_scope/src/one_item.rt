@@ -1,5 +1,5 @@
 //! The fault of one item, where no other item can have one.
-ghost use Rattle.std.specs.Prelude.{◌≡◌, ◌∷◌, ℕ, true, ◌≤◌, ◌<◌, length, Option, Some, None, IfOk, IfErr, OnOk, ◌⊎◌, bytes_eq};
+ghost use Rattle.std.specs.Prelude.{◌≡◌, ◌∷◌, ℕ, true, false, ◌≤◌, ◌<◌, length, Option, Some, None, IfOk, IfErr, OnOk, ◌⊎◌, bytes_eq};
 ghost use Rattle.std.specs.Option.{is_some};
 ghost use Rattle.std.specs.Cmp.Lexicographic.{pointwise};
 ghost use Rattle.rdl_tree.specs.Depth.{depth};
@@ -8,7 +8,8 @@ ghost use Rattle.rdl_scope.specs.Types.{last_definition};
 ghost use Rattle.rdl_scope.specs.Target.{instance_before};
 ghost use Rattle.rdl_scope.specs.Value.{own_before, last_default};
 ghost use Rattle.rdl_scope.specs.Keys.{has_key, key_before};
-ghost use Rattle.rdl_scope.specs.ItemFaults.{reached_before, is_excluded, excluded_by, own_fault, item_fault, fault_of, out_of_memory};
+ghost use Rattle.rdl_scope.specs.ItemFaults.{reached_before, is_excluded, excluded_by, own_fault, item_fault, fault_of, out_of_memory, is_too_large};
+ghost use Rattle.rdl_scope.specs.Noted.{IsNewItem, IsNewAt};
 ghost use Rattle.rdl_scope.specs.OneItem.{fault_of_item, NoOtherFault};
 
 use crate::apart::begin_apart;
@@ -99,6 +100,25 @@ fn own_item_fault(
     own_fault(around, twice, excluded, property, value)
 }
 
+/// Whether an assignment may repeat one of its body, or is known to be new there.
+#[derive(Clone, Copy, Debug, PartialEq, Eq)]
+enum Novelty {
+    Unknown,
+    New,
+}
+
+/// Whether a dynamic assignment of this property to this target stands among the first `n` items, where it isn't known that
+/// there is none.
+fn is_twice(novelty: Novelty, body: &Body, n: usize, target: &[Name], name: &Name) -> bool
+    requires { novelty ≡ Novelty.New → reached_before target.now name.now n body.now ≡ false }
+    ensures { result ≡ reached_before target.now name.now n body.now }
+{
+    match novelty {
+        Novelty::Unknown => reached_before(body, n, target, name),
+        Novelty::New => false,
+    }
+}
+
 /// The fault of item `n` of the body at this address, which is that of a component of this kind, or the root.
 #[tactic(auto, unfolding(crate::specs::ItemFaults::item_fault))]
 fn item_fault(
@@ -109,9 +129,11 @@ fn item_fault(
     body: &Body,
     n: usize,
     item: &Item,
+    novelty: Novelty,
 ) -> Result<Option<FaultKind>, AllocError>
     requires nesting { depth description.now.items ≤ 16 }
     requires room { length at.now < 17 }
+    requires new { novelty ≡ Novelty.New → IsNewItem n body.now item.now }
     ensures { IfOk result (λ fault. fault ≡ item_fault description.now.items around at.now body.now n item.now) }
 {
     match item {
@@ -130,7 +152,7 @@ fn item_fault(
             Ok(default_fault(twice, property(name.as_str()), value))
         }
         Item::Dynamic(target, name, value) => {
-            let twice = reached_before(body, n, target.names(), name);
+            let twice = is_twice(novelty, body, n, target.names(), name);
             let kind = names_kind(alloc, description, at, n, target.names())?;
             Ok(dynamic_fault(twice, property(name.as_str()), value, kind))
         }
@@ -142,8 +164,10 @@ fn fault_of_item(
     alloc: Global,
     description: &Description,
     at: &Address,
+    novelty: Novelty,
 ) -> Result<Option<FaultKind>, AllocError>
-    requires { depth description.now.items ≤ 16 }
+    requires nesting { depth description.now.items ≤ 16 }
+    requires new { novelty ≡ Novelty.New → IsNewAt description.now.items at.now }
     ensures { IfOk result (λ fault. fault ≡ fault_of_item description.now.items at.now) }
 {
     let Some(item) = item_at(&description.items, at.as_slice()) else {
@@ -154,7 +178,8 @@ fn fault_of_item(
         return Ok(None);
     };
     let around = kind_at(description, &holder);
-    item_fault(alloc, description, around, &holder, body, at.number(), item)
+    let n = at.number();
+    item_fault(alloc, description, around, &holder, body, n, item, novelty)
 }
 
 /// Whether the description is within the limits, and the item at this address has no fault.
@@ -166,7 +191,7 @@ fn is_clear(alloc: Global, description: &Description, at: &Address) -> Result<bo
     if is_too_large(description) {
         return Ok(false);
     }
-    Ok(fault_of_item(alloc, description, at)?.is_none())
+    Ok(fault_of_item(alloc, description, at, Novelty::Unknown)?.is_none())
 }
 
 /// Does the same as `check`, where no item but the one at this address can have a fault: that one is judged alone, and
@@ -180,6 +205,27 @@ pub fn check_item(alloc: Global, description: &Description, at: &Address) -> Res
     match is_clear(alloc, description, at) {
         Ok(true) => Ok(()),
         Ok(false) => check(alloc, description),
+        Err(_) => Err(Fault {
+            kind: FaultKind::Memory,
+            address: Address::new(),
+        }),
+    }
+}
+
+/// Does the same as `check_item` where the description is known to be within the limits, and the item to be an assignment
+/// that repeats none. No other item is looked at for it.
+pub fn check_new_item(alloc: Global, description: &Description, at: &Address) -> Result<(), Fault>
+    requires others { NoOtherFault description.now.items at.now }
+    requires limits { is_too_large description.now.items ≡ false }
+    requires nesting { depth description.now.items ≤ 16 }
+    requires new { IsNewAt description.now.items at.now }
+    ensures ok { OnOk result (fault_of description.now.items ≡ None) }
+    ensures levels { OnOk result (depth description.now.items ≤ 16) }
+    ensures err { IfErr result (λ fault. (fault_of description.now.items ≡ Some fault) ⊎ (fault ≡ out_of_memory)) }
+{
+    match fault_of_item(alloc, description, at, Novelty::New) {
+        Ok(None) => Ok(()),
+        Ok(Some(_)) => check(alloc, description),
         Err(_) => Err(Fault {
             kind: FaultKind::Memory,
             address: Address::new(),

@@ -29,7 +29,6 @@ use Rattle.rdl_tree.proofs.Nesting.{body-depth}
 use Rattle.rdl_tree.proofs.Places.{body_at-map}
 use Rattle.rdl_tree.proofs.Rounds.{items_of-list_of}
 use Rattle.rdl_parse.specs.Class.{class}
-use Rattle.rdl_session.specs.Spelling.{IsItemAddress}
 use Rattle.rdl_scope.specs.Target.{through}
 use Rattle.rdl_scope.specs.Types.{type_of}
 use Rattle.rdl_rewrite.specs.Addresses.{same, leads_to, passes_by}
@@ -52,12 +51,13 @@ use Rattle.rdl_rewrite.proofs.OneBody.{place_within}
 use Rattle.rdl_round.specs.Writable.{IsWritable}
 use Rattle.run_laws.specs.NewParts.{IsEditOfWords, IsEditSpellable}
 use Rattle.rdl_round.specs.OfWords.{IsShellOfWords, IsOfWords}
-use Rattle.rdl_session.specs.Writable.{IsWritablePart, IsWritablePatch}
 use Rattle.rdl_round.specs.Spellable.{IsFree, AreFree, IsTarget, IsShell, IsSpellable}
 use Rattle.rdl_round.proofs.Each.{chosen, items-fit}
+use Rattle.rdl_session.specs.Spelling.{IsItemAddress}
+use Rattle.rdl_session.specs.Writable.{IsWritablePart, IsWritablePatch}
+use Rattle.rdl_session.proofs.Inverted.{IsGoodPlain, IsGoodHolder, IsGood, IsGoodItem, good, map-good, item-writable, name-some, shell-writable, target-writable}
 use Rattle.run_laws.proofs.EditPatches.{AreBothWritable, AtMostOne, AreDeletes, KeepItems, IsHeld, single, taken-out, brought, length-count, way-held}
 use Rattle.run_laws.proofs.KeptNames.{class-free}
-use Rattle.rdl_session.proofs.Inverted.{IsGoodPlain, IsGoodHolder, IsGood, IsGoodItem, good, map-good, item-writable, name-some, shell-writable, target-writable}
 use Rattle.run_laws.proofs.NewWords.{target-made}
 use Rattle.run_laws.proofs.Stepped.{step-writable}
 use Rattle.run_laws.proofs.Smaller.{IsPartOf, IsItemOf, IsBodyOf, through as part-through, within-part, body-part, between-part, each-part}

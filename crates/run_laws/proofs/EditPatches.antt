@@ -17,8 +17,8 @@ use Rattle.rdl_tree.specs.declared.patch.Patch.TheVariants.{Insert, Delete, Shif
 use Rattle.rdl_tree.proofs.Nesting.{body-depth}
 use Rattle.rdl_tree.proofs.Places.{place-whole, length-holder, stands, the_item, inner_some}
 use Rattle.rdl_tree.proofs.Undone.{place_in, item_in, part_in, undoes_by}
-use Rattle.rdl_session.specs.Spelling.{IsItemAddress}
 use Rattle.rdl_round.specs.Writable.{IsWritable}
+use Rattle.rdl_session.specs.Spelling.{IsItemAddress}
 use Rattle.rdl_session.specs.Writable.{IsWritablePatch, AreDropsWithin}
 use Rattle.rdl_session.proofs.Inverted.{IsGood, IsGoodItem, map-good, part-writable, from-good, found-good, insert-writable, one, beside}
 use Rattle.run_laws.proofs.Smaller.{IsItemOf, further, found-part, within-part, deleted-part}

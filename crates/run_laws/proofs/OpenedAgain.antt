@@ -9,8 +9,9 @@ use Rattle.journal_core.specs.Along.{FitInTurn, led_through}
 use Rattle.journal_core.specs.History.{History, IsAt}
 use Rattle.journal_core.proofs.Ways.{get-reverse, from-the-end}
 use Rattle.rdl_tree.specs.Patch.{AllFit, image}
-use Rattle.rdl_session.specs.Text.{SessionLines, session_text}
 use Rattle.rdl_tree.specs.declared.patch.Patch.{Patch}
+use Rattle.rdl_session.specs.Text.{SessionLines, session_text}
+use Rattle.rdl_session.proofs.Meant.{one-session}
 use Rattle.rdl_edit.specs.declared.resume_fault.ResumeFault.{ResumeFault}
 use Rattle.rdl_edit.specs.declared.resume_fault.Where.{Where}
 use Rattle.rdl_edit.specs.declared.resume_fault.Where.TheVariants as where_
@@ -19,7 +20,6 @@ use Rattle.rdl_edit.specs.OfEdits.{IsOfEdit, IsOwn}
 use Rattle.rdl_edit.specs.Resuming.{judged, place_fault, steps_fault}
 use Rattle.rdl_edit.specs.Step.{State, HasRows}
 use Rattle.rdl_edit.proofs.Walking.{step-judged}
-use Rattle.rdl_session.proofs.Meant.{one-session}
 use Rattle.rdl_run.specs.Opening.{OpensHistory, AllHaveRows, EachElaborates}
 use Rattle.rdl_run.specs.OwnSteps.{OpensOwn, owned}
 use Rattle.rdl_run.specs.Sessions.{LeadBack, LeadOn, LeadsAlong, history_of, is_session}

@@ -5,11 +5,8 @@ use Rattle.std.proofs.lemmas.List.Elements.{All-nil, All-cons}
 use Rattle.std.proofs.lemmas.Option.{same_Some}
 use Rattle.journal_core.specs.History.{History, IsAt}
 use Rattle.rdl_tree.specs.Patch.{image}
-use Rattle.rdl_session.specs.Text.{session_text, max_session}
 use Rattle.rdl_tree.specs.declared.patch.Patch.{Patch}
-use Rattle.rdl_session.specs.Spelling.{SpellsSession}
 use Rattle.rdl_script.specs.Commands.{lines_of}
-use Rattle.rdl_session.specs.Written.{session_lines}
 use Rattle.rdl_edit.specs.OfEdits.{IsOfEdit}
 use Rattle.rdl_edit.specs.Step.{State, HasRows}
 use Rattle.rdl_edit.proofs.EditsLead.{edit-leads}
@@ -22,12 +19,15 @@ use Rattle.rdl_run.specs.declared.run.Options.{Options}
 use Rattle.rdl_run.proofs.Continued.{good-run}
 use Rattle.rdl_run.proofs.Openings.{opened-elaborates}
 use Rattle.rdl_round.specs.Writable.{IsWritable}
+use Rattle.rdl_session.specs.Text.{session_text, max_session}
+use Rattle.rdl_session.specs.Spelling.{SpellsSession}
+use Rattle.rdl_session.specs.Written.{session_lines}
 use Rattle.rdl_session.specs.Writable.{IsWritablePatch, AreWritable}
+use Rattle.rdl_session.proofs.Saved.{session-spells}
 use Rattle.run_laws.specs.Stops.{SpellsHistory}
 use Rattle.run_laws.proofs.Opened.{opened-writable}
 use Rattle.run_laws.proofs.OpenedAgain.{rows-at, opened-again, back-by-any, on-by-any, opens-of-edits}
 use Rattle.run_laws.proofs.SameOption.{opened-options, served-options}
-use Rattle.rdl_session.proofs.Saved.{session-spells}
 use Rattle.run_laws.proofs.Scripted.{served, served-writable}
 use Rattle.run_laws.proofs.Standing.{step-patches-between}
 use Rattle.run_laws.proofs.Staying.{own-stays}

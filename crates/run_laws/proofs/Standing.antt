@@ -48,10 +48,10 @@ use Rattle.rdl_edit.proofs.EditsLead.{same-made, steps}
 use Rattle.rdl_round.specs.Writable.{IsWritable}
 use Rattle.run_laws.specs.NewParts.{IsEditOfWords, IsEditSpellable}
 use Rattle.rdl_round.specs.OfWords.{IsShellOfWords}
-use Rattle.rdl_session.specs.Writable.{IsWritablePatch}
 use Rattle.rdl_round.proofs.Each.{items-fit, each-of, body-each}
-use Rattle.run_laws.proofs.EditBrings.{step-patches}
+use Rattle.rdl_session.specs.Writable.{IsWritablePatch}
 use Rattle.rdl_session.proofs.Inverted.{IsGoodPlain, IsGoodHolder, IsGood, IsGoodItem, map-good, of-words, spellable}
+use Rattle.run_laws.proofs.EditBrings.{step-patches}
 
 -- ---- What holds of each element of a list holds of those that make it up.
 

@@ -3,12 +3,12 @@
 use Rattle.std.specs.Prelude.{◌≡◌, ◌≢◌, ℕ, List, [], ◌∷◌, ◌++◌}
 use Rattle.journal_core.specs.History.{History}
 use Rattle.rdl_tree.specs.declared.patch.Patch.{Patch}
-use Rattle.rdl_session.specs.Spelling.{SpellsSession}
 use Rattle.rdl_edit.specs.Step.{State}
 use Rattle.rdl_run.specs.Output.{Output, Wrote}
 use Rattle.rdl_run.specs.Sessions.{LeadBack, LeadOn}
 use Rattle.rdl_run.specs.declared.run.Options.{Options}
 use Rattle.rdl_write.specs.Texts.{newline}
+use Rattle.rdl_session.specs.Spelling.{SpellsSession}
 
 -- ---- The session of a history.
 

@@ -18,8 +18,8 @@ ghost use Rattle.rdl_round.specs.Writable.{ReadsBack, IsWritable};
 ghost use Rattle.run_laws.specs.Histories.{Action, Follows, BringWords, begun};
 ghost use Rattle.run_laws.specs.NewParts.{IsEditOfWords, IsEditSpellable};
 ghost use Rattle.rdl_round.specs.OfWords.{IsOfWords};
-ghost use Rattle.rdl_session.specs.Writable.{IsWritablePatch};
 ghost use Rattle.rdl_round.specs.Spellable.{IsSpellable};
+ghost use Rattle.rdl_session.specs.Writable.{IsWritablePatch};
 
 /// A map that has rows is within the limits.
 pub fn maps_with_rows_are_within_limits()

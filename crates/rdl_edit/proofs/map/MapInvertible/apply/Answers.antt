@@ -16,7 +16,7 @@ pub returns-clause-fits : goal.returns-clause-fits
 returns-clause-fits c =
     let new : State = record { description = c.turn.new.description.items; option = c.self.inside.name } in
     subst (Fits new) (sym c.new.ensures)
-    (fits-back _ _ c.self.inside.name c.self.inside.kept _ c.in_ok-back.ensures.back c.self.invariant)
+    (fits-back _ _ c.self.inside.name c.self.inside.kept _ c.in_ok-back.ensures.back c.self.invariant.keeps)
 
 pub returns-clause-few : goal.returns-clause-few
 returns-clause-few c =
@@ -24,14 +24,14 @@ returns-clause-few c =
     let same : d ≡ c.args.self.now.state.description = search rules in
     let which : c.in_ok-patches.patches.items ≡ patches d c.args.edit.now = search rules in
     let asked : c.in_ok-patches.patches.items ≡ patches c.args.self.now.state.description c.args.edit.now = which ∙ ap (λ t. patches t c.args.edit.now) same in
-    few-there d c.args.self.now.state.description c.turn.new.description.items (patches c.args.self.now.state.description c.args.edit.now) c.in_ok-patches.patches.items _ same asked c.in_ok-back.ensures.made (c.in_ok-back.ensures.few c.self.invariant.layouts)
+    few-there d c.args.self.now.state.description c.turn.new.description.items (patches c.args.self.now.state.description c.args.edit.now) c.in_ok-patches.patches.items _ same asked c.in_ok-back.ensures.made (c.in_ok-back.ensures.few c.self.invariant.keeps.layouts)
 
 pub returns-clause-none : goal.returns-clause-none
 returns-clause-none c = λ h.
     let s : State = record { description = c.self.inside.description.items; option = c.self.inside.name } in
     let made : rewritten s.description c.args.edit.now ≡ Ok (image c.in_ok-patches.patches.items s.description) = search rules in
     let which : c.in_ok-patches.patches.items ≡ patches s.description c.args.edit.now = search rules in
-    c.in_ok-back.ensures.none c.self.invariant.layouts (edit-keeps s c.self.inside.kept c.args.edit.now c.in_ok-patches.patches.items c.self.invariant made which h)
+    c.in_ok-back.ensures.none c.self.invariant.keeps.layouts (edit-keeps s c.self.inside.kept c.args.edit.now c.in_ok-patches.patches.items c.self.invariant.keeps made which h)
 
 pub returns-clause-back_keeps : goal.returns-clause-back_keeps
 returns-clause-back_keeps c = λ h.
@@ -40,7 +40,7 @@ returns-clause-back_keeps c = λ h.
     let which : c.in_ok-patches.patches.items ≡ patches s.description c.args.edit.now = search rules in
     let back : c.in_ok-back.back.items ≡ c.new.result.patches = search rules in
     subst (λ qs. KeepsLayouts qs c.turn.new.description.items) back
-    (c.in_ok-back.ensures.back_keeps (edit-keeps s c.self.inside.kept c.args.edit.now c.in_ok-patches.patches.items c.self.invariant made which h))
+    (c.in_ok-back.ensures.back_keeps (edit-keeps s c.self.inside.kept c.args.edit.now c.in_ok-patches.patches.items c.self.invariant.keeps made which h))
 
 pub returns-clause-edited : goal.returns-clause-edited
 returns-clause-edited c =
@@ -52,7 +52,7 @@ returns-clause-edited c =
     let made : c.turn.new.description.items ≡ image (patches d e) d =
     c.in_ok-back.ensures.made ∙ ap (λ ps. image ps c.self.inside.description.items) asked ∙ ap (image (patches d e)) same in
     let fit : AllFit (patches d e) d = subst (AllFit (patches d e)) same (subst (λ ps. AllFit ps c.self.inside.description.items) asked c.in_ok-patches.ensures.fit) in
-    let none : fault_of d ≡ None = ap fault_of (sym same) ∙ faultless c.self.inside.description.items c.self.inside.kept.top c.self.invariant.layouts.rows c.self.invariant.layouts.faultless in
+    let none : fault_of d ≡ None = ap fault_of (sym same) ∙ faultless c.self.inside.description.items c.self.inside.kept.top c.self.invariant.keeps.layouts.rows c.self.invariant.keeps.layouts.faultless in
     edits-placed d c.turn.new.description.items e _ made none fit (returns-clause-few c) (returns-clause-none c)
 
 pub returns-clause-back_ordinary : goal.returns-clause-back_ordinary
@@ -71,6 +71,6 @@ pub returns-clause-own : goal.returns-clause-own
 returns-clause-own c =
     let old = c.args.self.now.state in
     let same : record { description = c.self.inside.description.items; option = c.self.inside.name } ≡ old = search rules in
-    let rows : HasRows old = subst HasRows same (has-rows (record { description = c.self.inside.description.items; option = c.self.inside.name }) c.self.inside.kept c.self.invariant) in
+    let rows : HasRows old = subst HasRows same (has-rows (record { description = c.self.inside.description.items; option = c.self.inside.name }) c.self.inside.kept c.self.invariant.keeps) in
     let inverse : c.new.result.patches ≡ inverses (patches old.description c.args.edit.now) old.description = search rules in
     inr (record { edit = c.args.edit.now; old = old; has_rows = rows; led = search rules; are = inverse })

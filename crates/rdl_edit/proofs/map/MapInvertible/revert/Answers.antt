@@ -19,20 +19,20 @@ pub returns-clause-fits : goal.returns-clause-fits
 returns-clause-fits c =
     let new : State = record { description = c.again.new.description.items; option = c.self.inside.name } in
     subst (Fits new) (sym c.new-2.ensures)
-    (fits-back _ _ c.self.inside.name c.self.inside.kept _ c.in-Ok.ensures.back c.self.invariant)
+    (fits-back _ _ c.self.inside.name c.self.inside.kept _ c.in-Ok.ensures.back c.self.invariant.keeps)
 
 pub returns-clause-few : goal.returns-clause-few
 returns-clause-few c =
     let d = c.self.inside.description.items in
     let same : d ≡ c.args.self.now.state.description = search rules in
     let which : c.into_vec-patches.result.items ≡ c.args.back.patches = search rules in
-    few-there d c.args.self.now.state.description c.again.new.description.items c.args.back.patches c.into_vec-patches.result.items _ same which c.in-Ok.ensures.made (c.in-Ok.ensures.few c.self.invariant.layouts)
+    few-there d c.args.self.now.state.description c.again.new.description.items c.args.back.patches c.into_vec-patches.result.items _ same which c.in-Ok.ensures.made (c.in-Ok.ensures.few c.self.invariant.keeps.layouts)
 
 pub returns-clause-edited : goal.returns-clause-edited
 returns-clause-edited c = λ h.
     let d = c.args.self.now.state.description in
     let same : c.self.inside.description.items ≡ d = search rules in
-    let none : fault_of d ≡ None = ap fault_of (sym same) ∙ faultless c.self.inside.description.items c.self.inside.kept.top c.self.invariant.layouts.rows c.self.invariant.layouts.faultless in
+    let none : fault_of d ≡ None = ap fault_of (sym same) ∙ faultless c.self.inside.description.items c.self.inside.kept.top c.self.invariant.keeps.layouts.rows c.self.invariant.keeps.layouts.faultless in
     let made : c.again.new.description.items ≡ image c.args.back.patches d = search rules in
     edit-placed d c.again.new.description.items c.args.back.patches made none _ (returns-clause-few c) c.requires.applicable h
 
@@ -40,7 +40,7 @@ pub returns-clause-changed : goal.returns-clause-changed
 returns-clause-changed c =
     let d = c.args.self.now.state.description in
     let same : c.self.inside.description.items ≡ d = search rules in
-    let none : fault_of d ≡ None = ap fault_of (sym same) ∙ faultless c.self.inside.description.items c.self.inside.kept.top c.self.invariant.layouts.rows c.self.invariant.layouts.faultless in
+    let none : fault_of d ≡ None = ap fault_of (sym same) ∙ faultless c.self.inside.description.items c.self.inside.kept.top c.self.invariant.keeps.layouts.rows c.self.invariant.keeps.layouts.faultless in
     let made : c.again.new.description.items ≡ image c.args.back.patches d = search rules in
     change-placed d c.again.new.description.items c.args.back.patches made none _ (returns-clause-few c)
 
@@ -54,7 +54,7 @@ pub returns-clause-own : goal.returns-clause-own
 returns-clause-own c = λ h.
     let old = c.args.self.now.state in
     let same : record { description = c.self.inside.description.items; option = c.self.inside.name } ≡ old = search rules in
-    let rows : HasRows old = subst HasRows same (has-rows (record { description = c.self.inside.description.items; option = c.self.inside.name }) c.self.inside.kept c.self.invariant) in
+    let rows : HasRows old = subst HasRows same (has-rows (record { description = c.self.inside.description.items; option = c.self.inside.name }) c.self.inside.kept c.self.invariant.keeps) in
     let forward : c.new-2.result.patches ≡ inverses c.args.back.patches old.description = search rules in
     let there : record { description = image c.args.back.patches old.description; option = old.option } ≡ record { description = c.again.new.description.items; option = c.self.inside.name } = search rules in
     subst (λ qs. IsOfEdit (record { description = c.again.new.description.items; option = c.self.inside.name }) qs) (sym forward)

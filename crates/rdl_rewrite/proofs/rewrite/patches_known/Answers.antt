@@ -1,7 +1,7 @@
 use Rattle.std.proofs.Common.{ap, sym, ◌∙◌}
 use Rattle.rdl_tree.specs.Find.{find}
 use Rattle.rdl_rewrite.proofs.Made.{patches_made, patches_fit}
-use Rattle.rdl_rewrite.proofs.rewrite.patches.Goals as goal
+use Rattle.rdl_rewrite.proofs.rewrite.patches_known.Goals as goal
 
 pub returns-clause-made : goal.returns-clause-made
 returns-clause-made c =
