@@ -1,6 +1,6 @@
 -- Edits that assign what no item of their body assigns.
 -- own: no part of what an edit makes; where it is known, the body isn't searched.
-use Rattle.std.specs.Prelude.{◌≡◌, ℕ, List, Option, None, Result, IfOk, IfSome}
+use Rattle.std.specs.Prelude.{◌≡◌, ℕ, List, None, IfOk, IfSome}
 use Rattle.std.specs.List.{position}
 use Rattle.rdl_tree.specs.Items.{Items}
 use Rattle.rdl_tree.specs.View.{list_of}
