@@ -1,7 +1,7 @@
 use Rattle.std.proofs.Common.{ap, ◌∙◌}
 use Rattle.rdl_kept.specs.AllKept.{KeptLayouts}
 use Rattle.rdl_elab.specs.Kept.{Stored}
-use Rattle.rdl_elab.specs.contracts.kept.Kept.{the_view}
+use Rattle.rdl_kept.specs.contracts.kept.Kept.{the_view}
 use Rattle.rdl_kept.proofs.Stays.{stays}
 use Rattle.rdl_kept.proofs.kept.Kept.stay.Goals as goal
 

@@ -4,7 +4,7 @@ use Rattle.rdl_kept.specs.AllKept.{KeptLayouts}
 use Rattle.rdl_elab.specs.Faults.{fault_in}
 use Rattle.rdl_elab.specs.Faults.{top_from, with_top}
 use Rattle.rdl_elab.specs.Kept.{Stored}
-use Rattle.rdl_elab.specs.contracts.kept.Kept.{the_view}
+use Rattle.rdl_kept.specs.contracts.kept.Kept.{the_view}
 use Rattle.rdl_kept.proofs.Stays.{stays-judged}
 use Rattle.rdl_elab.proofs.TopTypes.{top-type}
 use Rattle.rdl_kept.proofs.kept.Kept.stay_judged.Goals as goal
