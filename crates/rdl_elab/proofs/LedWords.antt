@@ -76,7 +76,7 @@ stays-led es w n there q = by (bytes_eq w q) refl
     by true e = kept (number_of es q) (ap (λ v. is_none (number_of es v)) (sym (same w q e)) ∙ there)
     by false e = sym (or-none (number_of es q))
 
-pub first-there : (x y : Option ℕ) → is_none x ≡ false → is_none (option_or x y) ≡ false
+pub first-there : (x y : Option ℕ) → is_some x ≡ true → is_none (option_or x y) ≡ false
 first-there None y e = cc
 first-there (Some m) y e = refl
 
@@ -195,25 +195,25 @@ module _ (es : List Entry) (spots : BTreeMap ℕ ℕ) (os : List (Vec ℕ × ℕ
         by q false e = refl
 
     -- where the entry is put
-    module _ (one : Entry) (mine : d ≡ digest one.words.items) where
+    module _ (one : Entry) (mine : d ≡ digest one.words) where
       abbrev More : List Entry
       More = es ++ one ∷ []
 
       own-last : (q : List ℕ) → number_of (own_pairs More) q ≡ option_or (number_of (own_pairs es) q) (if_own q one)
       own-last q =
-          ap (λ ps. number_of ps q) (map-append (λ (e : Entry). (e.words.items, e.number)) es (one ∷ []))
-          ∙ number-append (own_pairs es) ((one.words.items, one.number) ∷ []) q
-          ∙ ap (λ b. option_or (number_of (own_pairs es) q) (cond b (Some one.number) None)) (turned q one.words.items)
+          ap (λ ps. number_of ps q) (map-append (λ (e : Entry). (e.words, e.number)) es (one ∷ []))
+          ∙ number-append (own_pairs es) ((one.words, one.number) ∷ []) q
+          ∙ ap (λ b. option_or (number_of (own_pairs es) q) (cond b (Some one.number) None)) (turned q one.words)
 
-      nowhere : (q : List ℕ) → bytes_eq one.words.items q ≡ true → get_by (nat_cmp (digest q)) spots ≡ None
-      nowhere q e = ap (λ c. get_by (nat_cmp c) spots) (sym (mine ∙ ap digest (same one.words.items q e))) ∙ free
+      nowhere : (q : List ℕ) → bytes_eq one.words q ≡ true → get_by (nat_cmp (digest q)) spots ≡ None
+      nowhere q e = ap (λ c. get_by (nat_cmp c) spots) (sym (mine ∙ ap digest (same one.words q e))) ∙ free
 
       pub tied-own : AreTied More new os
       tied-own = (λ q. own-last q ∙ ap (λ o. option_or o (if_own q one)) (tied.0 q) ∙ by q (is_at (nat_cmp d) (digest q)) refl ∙ ap (option_and_then (own_at More q)) (sym (after (digest q))), others-free)
         where
-          before : (q : List ℕ) (b : Bool) → bytes_eq one.words.items q ≡ b → is_at (nat_cmp d) (digest q) ≡ false → if_own q one ≡ None
+          before : (q : List ℕ) (b : Bool) → bytes_eq one.words q ≡ b → is_at (nat_cmp d) (digest q) ≡ false → if_own q one ≡ None
           before q true e f =
-              let there : is_at (nat_cmp d) (digest q) ≡ true = ap (is_at (nat_cmp d)) (sym (mine ∙ ap digest (same one.words.items q e))) ∙ nat-is d in
+              let there : is_at (nat_cmp d) (digest q) ≡ true = ap (is_at (nat_cmp d)) (sym (mine ∙ ap digest (same one.words q e))) ∙ nat-is d in
               cc
           before q false e f = ap (λ b. cond b (Some one.number) None) e
 
@@ -223,20 +223,20 @@ module _ (es : List Entry) (spots : BTreeMap ℕ ℕ) (os : List (Vec ℕ × ℕ
               ap (λ o. option_or (option_and_then (own_at es q) o) (if_own q one)) (digest-same (digest q) e)
               ∙ ap (option_and_then (if_own q)) (sym (last-in es one))
           by q false e =
-              let none : if_own q one ≡ None = before q (bytes_eq one.words.items q) refl e in
+              let none : if_own q one ≡ None = before q (bytes_eq one.words q) refl e in
               ap (option_or (own_number es spots q)) none ∙ or-none (own_number es spots q)
               ∙ over (get_by (nat_cmp (digest q)) spots)
             where
               over : (o : Option ℕ) → option_and_then (own_at es q) o ≡ option_and_then (own_at More q) o
               over None = refl
-              over (Some s) = one-more q one (before q (bytes_eq one.words.items q) refl e) es s
+              over (Some s) = one-more q one (before q (bytes_eq one.words q) refl e) es s
 
-      pub led-own : (q : List ℕ) → number_of (own_pairs More ++ other_pairs os) q ≡ option_or (number_of All q) (if_given one.words.items one.number q)
+      pub led-own : (q : List ℕ) → number_of (own_pairs More ++ other_pairs os) q ≡ option_or (number_of All q) (if_given one.words one.number q)
       led-own q =
           number-append (own_pairs More) (other_pairs os) q
           ∙ ap (λ o. option_or o (number_of (other_pairs os) q)) (own-last q)
-          ∙ crossed (bytes_eq one.words.items q) (number_of (own_pairs es) q) (number_of (other_pairs os) q) (λ e. tied.1 q (nowhere q e))
-          ∙ ap (λ o. option_or o (if_given one.words.items one.number q)) (sym (number-append (own_pairs es) (other_pairs os) q))
+          ∙ crossed (bytes_eq one.words q) (number_of (own_pairs es) q) (number_of (other_pairs os) q) (λ e. tied.1 q (nowhere q e))
+          ∙ ap (λ o. option_or o (if_given one.words one.number q)) (sym (number-append (own_pairs es) (other_pairs os) q))
         where
           crossed : (b : Bool) (x y : Option ℕ) → (b ≡ true → y ≡ None) → option_or (option_or x (cond b (Some one.number) None)) y ≡ option_or (option_or x y) (cond b (Some one.number) None)
           crossed b (Some m) y f = refl

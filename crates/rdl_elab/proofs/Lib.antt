@@ -25,6 +25,7 @@ pub mod Goings
 pub mod Writing
 pub mod Roots
 pub mod DefaultStacks
+pub mod Digests
 pub mod ValueLists
 pub mod OnlyKept
 pub mod Onward

@@ -1,7 +1,8 @@
 -- Words that lead to numbers: as a list of pairs, and how they are found by a digest.
 -- own: how kept layouts are found.
-use Rattle.std.specs.Prelude.{◌≡◌, ℕ, ◌+◌, ◌-◌, ◌*◌, ◌^◌, ◌%◌, List, map, length, drop, Option, None, Some, slice_get, option_and_then, bytes_eq, if◌then◌else◌}
+use Rattle.std.specs.Prelude.{◌≡◌, ℕ, zero, suc, ◌+◌, ◌-◌, ◌*◌, ◌^◌, ◌%◌, nat_lt, List, map, length, take, drop, Option, None, Some, slice_get, option_and_then, bytes_eq, if◌then◌else◌}
 use Rattle.std.specs.List.{fold}
+use Rattle.std.specs.Int.{w64, from_le_bytes}
 use Rattle.std.specs.Map.{lookup}
 use Rattle.std.specs.BTreeMap.{BTreeMap, get_by}
 use Rattle.std.specs.Ordering.{nat_cmp}
@@ -16,17 +17,22 @@ words_in es = map (λ (e : List ℕ × ℕ). e.0) es
 abbrev pub number_of : List (List ℕ × ℕ) → List ℕ → Option ℕ
 number_of es q = lookup (bytes_eq q) es
 
--- a digest with one more byte behind it
-abbrev pub with_byte : ℕ → ℕ → ℕ
-with_byte n byte = (((n * 257) % 2 ^ 64) + byte) % 2 ^ 64
+-- a digest with one more number behind it
+abbrev pub with_number : ℕ → ℕ → ℕ
+with_number n k = (((n * 0x9E3779B97F4A7C15) % 2 ^ 64) + k) % 2 ^ 64
 
--- a digest of words: their length, and behind it their last 64 bytes, as the digits of a number to the base 257, so far as a `u64` holds it
-abbrev pub digest : List ℕ → ℕ
-digest q = fold with_byte (length q) (drop (length q - 64) q)
+-- a digest with bytes behind it: up to so many times eight bytes as one number, the lowest first, and then each of the rest
+unfoldable pub with_eights : ℕ → ℕ → List ℕ → ℕ
+with_eights zero n bs = fold with_number n bs
+with_eights (suc k) n bs = if nat_lt (length bs) 8 then fold with_number n bs else with_eights k (with_number n (from_le_bytes w64 (take 8 bs))) (drop 8 bs)
+
+-- a digest of words: their length, and their last 64 bytes behind it
+unfoldable pub digest : List ℕ → ℕ
+digest q = with_eights 8 (length q) (drop (length q - 64) q)
 
 -- entries as pairs
 abbrev pub own_pairs : List Entry → List (List ℕ × ℕ)
-own_pairs es = map (λ (e : Entry). (e.words.items, e.number)) es
+own_pairs es = map (λ (e : Entry). (e.words, e.number)) es
 
 -- what stands in an ordered map as pairs
 abbrev pub other_pairs : List (Vec ℕ × ℕ) → List (List ℕ × ℕ)
@@ -34,7 +40,7 @@ other_pairs es = map (λ (e : Vec ℕ × ℕ). (e.0.items, e.1)) es
 
 -- the number of words if this entry is theirs
 abbrev pub if_own : List ℕ → Entry → Option ℕ
-if_own q e = if bytes_eq e.words.items q then Some e.number else None
+if_own q e = if bytes_eq e.words q then Some e.number else None
 
 -- the number of words if the entry at this place is theirs
 abbrev pub own_at : List Entry → List ℕ → ℕ → Option ℕ

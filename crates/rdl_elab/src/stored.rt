@@ -1,5 +1,5 @@
 //! Layouts under their keys, found again by the words of what they are made of.
-ghost use Rattle.std.specs.Prelude.{◌≡◌, ◌⊎◌, ◌≤◌, ◌<◌, ◌+◌, ℕ, List, [], true, map, length, slice_get, option_map, option_and_then, Some, All, Contains, IfOk, IfSome, IsSome, OnOk};
+ghost use Rattle.std.specs.Prelude.{◌≡◌, ◌⊎◌, ◌≤◌, ◌<◌, ◌+◌, ℕ, List, [], true, map, length, slice_get, option_copied, option_map, option_and_then, Some, All, Contains, IfOk, IfSome, IsSome, OnOk};
 ghost use Rattle.std.specs.Vec.{vec_capacity, vec_len};
 ghost use Rattle.slab.specs.Slab.{get, HasRoomFor};
 ghost use Rattle.rdl_elab.specs.declared.walk.finished.Finished.{Finished};
@@ -17,16 +17,18 @@ pub(crate) mod word_index;
 use crate::walk::finished::Finished;
 use crate::walk::laid_out::{LaidOut, SharedLayouts};
 use crate::layout::{Layout, Mode};
+use crate::walk::shared_words::SharedWords;
 use crate::stored::word_index::WordIndex;
 use slab::Slab;
 use std::alloc::{AllocError, Global};
 use std::marker::Model;
 
-/// Kept layouts, and their key.
+/// Kept layouts, their key, and the words of what they are made of, if these can be shared.
 #[derive(Clone, Copy)]
 pub(crate) struct Candidate<'a> {
     pub key: usize,
     pub layouts: &'a SharedLayouts,
+    pub words: Option<&'a SharedWords>,
 }
 
 /// Layouts that are to be kept, and their key if they were kept before.
@@ -72,6 +74,7 @@ fn used_keys(alloc: Global, len: usize, components: &[Finished]) -> Result<Vec<b
 
 /// Leads from the words to the number, and answers the layouts.
 fn lead(
+    alloc: Global,
     index: &mut WordIndex,
     number: usize,
     laid_out: LaidOut,
@@ -82,19 +85,24 @@ fn lead(
     ensures leads { OnOk result ((all : List Layouts) → slice_get all number ≡ Some laid_out.layouts → Leads all index.old → Leads all index.new) }
 {
     let (words, layouts) = laid_out.into_parts();
-    index.insert(words, number)?;
+    index.insert(alloc, &words, number)?;
     Ok(layouts)
 }
 
 /// Leads from the words of a finished component to its number, and answers what is to be kept of it.
-fn keep(index: &mut WordIndex, number: usize, finished: Finished) -> Result<Keyed, AllocError>
+fn keep(
+    alloc: Global,
+    index: &mut WordIndex,
+    number: usize,
+    finished: Finished,
+) -> Result<Keyed, AllocError>
     ensures keyed { IfOk result (λ k. k ≡ keyed finished.entry) }
     ensures there { OnOk result (is_among finished.entry.laid_out.words (words_in index.new) ≡ true) }
     ensures others { OnOk result ((words : List ℕ) → is_among words (words_in index.old) ≡ true → is_among words (words_in index.new) ≡ true) }
     ensures leads { OnOk result ((all : List Layouts) → slice_get all number ≡ Some finished.entry.laid_out.layouts → Leads all index.old → Leads all index.new) }
 {
     let key = finished.key;
-    let layouts = lead(index, number, finished.laid_out)?;
+    let layouts = lead(alloc, index, number, finished.laid_out)?;
     Ok(Keyed { layouts, key })
 }
 
@@ -108,7 +116,7 @@ fn index_of(alloc: Global, components: Vec<Finished>) -> Result<Indexed, AllocEr
     let mut index = WordIndex::new(alloc);
     for finished in components {
         let number = all.len();
-        all.push(keep(&mut index, number, finished)?)?;
+        all.push(keep(alloc, &mut index, number, finished)?)?;
     }
     Ok(Indexed { all, index })
 }
@@ -173,18 +181,24 @@ fn put_all(layouts: &mut Slab<SharedLayouts>, all: Vec<Keyed>, keys: &mut Vec<us
     }
 }
 
-/// The layouts of the component of this number, and their key.
+/// The layouts of the component of this number, their key, and these words.
 fn numbered<'a>(
     layouts: &'a Slab<SharedLayouts>,
     keys: &[usize],
     number: usize,
+    words: Option<&'a SharedWords>,
 ) -> Option<Candidate<'a>>
     ensures key { IfSome result (λ c. get layouts.now c.key ≡ Some c.layouts.now) }
+    ensures words { IfSome result (λ c. option_copied c.words ≡ option_copied words.entry) }
     ensures is { option_map (λ (c : Candidate). c.layouts.now) result ≡ option_and_then (get layouts.now) (slice_get keys.now number) }
 {
     let key = *keys.get(number)?;
     let layouts = layouts.get(key)?;
-    Some(Candidate { key, layouts })
+    Some(Candidate {
+        key,
+        layouts,
+        words,
+    })
 }
 
 /// The layouts of all components of a description, found by the words of what they are made of, and how many instances
@@ -257,7 +271,7 @@ impl Stored {
     pub fn layout(&self, number: usize, mode: Mode) -> Option<&Layout>
         ensures { option_copied result ≡ option_map (under mode) (slice_get (all_under self.now.slots self.now.keys) number) }
     {
-        match numbered(&self.layouts, self.keys.as_slice(), number) {
+        match numbered(&self.layouts, self.keys.as_slice(), number, None) {
             Some(found) => Some(found.layouts.under(mode)),
             None => None,
         }
@@ -268,9 +282,10 @@ impl Stored {
         ensures there { is_some result ≡ is_among words.now self.now.words }
         ensures key { IfSome result (λ c. under_key self.now.slots c.key ≡ Some c.layouts.now) }
         ensures made { IfSome result (λ c. AreMadeOf words.now c.layouts.now) }
+        ensures words { IfSome result (λ c. IfSome (option_copied c.words) (λ ws. ws ≡ words.now)) }
     {
         match self.index.get(words) {
-            Some(number) => numbered(&self.layouts, self.keys.as_slice(), number),
+            Some(led) => numbered(&self.layouts, self.keys.as_slice(), led.number, led.words),
             None => None,
         }
     }

@@ -23,6 +23,7 @@ pub(crate) mod own_values;
 pub(crate) mod part_list;
 pub(crate) mod reaches;
 pub(crate) mod shared;
+pub(crate) mod shared_words;
 pub(crate) mod targets;
 pub(crate) mod types;
 pub(crate) mod values;
@@ -111,7 +112,16 @@ fn finished_component<'a>(
     let components = walk.components.as_slice();
     let parts = PartList::of(alloc, parts, walk.by_name || own.has_dynamic())?;
     let assignments = assignments_if(alloc, own.has_dynamic(), components, &parts, body)?;
-    let taken = take_layouts(alloc, kind, values, parts.as_slice(), components, before)?;
+    let room = &mut walk.built_ins;
+    let taken = take_layouts(
+        alloc,
+        room,
+        kind,
+        values,
+        parts.as_slice(),
+        components,
+        before,
+    )?;
     let layouts = taken.laid_out.layouts()?;
     let first_empty = first_empty(alloc, parts.as_slice(), components)?;
     Ok(Finished {
@@ -254,6 +264,16 @@ fn walk_item<'a>(
     }
 }
 
+/// Takes room for so many parts where there are none yet.
+fn reserve_first(parts: &mut Vec<Part>, count: usize) -> Result<(), AllocError>
+    ensures { OnOk result (parts.new.items ≡ parts.old.items) }
+{
+    if parts.is_empty() {
+        parts.reserve_exact(count)?;
+    }
+    Ok(())
+}
+
 /// Lays out what these first items of the body at this address hold, and goes on behind them. The parts are those of
 /// the instances.
 #[cycle(walk)]
@@ -273,10 +293,11 @@ fn walk_items<'a>(
     ensures behind { IfOk result (λ ps. IsBehind walk.old walk.new) }
     ensures finishes { IfOk result (λ ps. FinishesAll description.now.items before.now walk.old walk.new (λ e. written e at.now 0 (items_of items.now))) }
 {
-    let mut parts = Vec::with_capacity(alloc, items.len())?;
+    let mut parts = Vec::new(alloc);
     let mut shared = None;
     for (i, item) in items.iter().enumerate() {
         if let Some(found) = walk_item(alloc, description, at, i, item, walk, before)? {
+            reserve_first(&mut parts, items.len() - i)?;
             let around = share(alloc, at, &mut shared)?;
             parts.push(Part::new(around, i, found.shell, found.component))?;
         }

@@ -1,10 +1,12 @@
 //! Words that lead to numbers, found by a digest of them.
-ghost use Rattle.std.specs.Prelude.{◌≡◌, ℕ, List, length, OnOk, OnErr, None, Some, bytes_eq, if◌then◌else◌};
+ghost use Rattle.std.specs.Prelude.{◌≡◌, ℕ, List, OnOk, OnErr, None, Some, IfSome, option_copied, option_map, is_some, bytes_eq, if◌then◌else◌};
 ghost use Rattle.std.specs.List.{fold};
 ghost use Rattle.std.specs.Option.{option_or};
 ghost use Rattle.rdl_elab.specs.declared.stored.word_index.Entry.{Entry};
-ghost use Rattle.rdl_elab.specs.WordIndex.{with_byte, digest, own_at, other_pairs, number_of};
+ghost use Rattle.rdl_elab.specs.declared.stored.word_index.Led.{Led};
+ghost use Rattle.rdl_elab.specs.WordIndex.{with_number, with_eights, digest, own_at, other_pairs, number_of};
 
+use crate::walk::shared_words::SharedWords;
 use std::alloc::{AllocError, Global};
 use std::collections::BTreeMap;
 use std::marker::Model;
@@ -12,55 +14,115 @@ use std::marker::Model;
 /// How many of the last bytes have a part in a digest.
 const LAST: usize = 64;
 
+/// How many times eight bytes these are.
+const EIGHTS: usize = 8;
+
+/// An odd number that spreads over all bits what goes into a digest.
+const FACTOR: u64 = 0x9E37_79B9_7F4A_7C15;
+
 /// Words, and the number to which they lead.
 #[derive(Debug, Drop)]
-struct Entry {
-    words: Vec<u8>,
+pub(crate) struct Entry {
+    words: SharedWords,
     number: usize,
 }
 
-/// The digest with these bytes behind it.
+/// The number to which words lead, and the words, if an entry has them.
+#[derive(Clone, Copy)]
+pub(crate) struct Led<'a> {
+    pub number: usize,
+    pub words: Option<&'a SharedWords>,
+}
+
+/// The digest with one more number behind it.
+fn with_number(digest: u64, number: u64) -> u64
+    ensures { result ≡ with_number digest number }
+{
+    digest.wrapping_mul(FACTOR).wrapping_add(number)
+}
+
+/// The digest with each of these bytes behind it.
 fn with_bytes(start: u64, bytes: &[u8]) -> u64
-    ensures { result ≡ fold with_byte start bytes.now }
+    ensures { result ≡ fold with_number start bytes.now }
 {
     let mut digest = start;
     for byte in bytes {
-        digest = digest.wrapping_mul(257).wrapping_add(u64::from(*byte));
+        digest = with_number(digest, u64::from(*byte));
     }
     digest
 }
 
+/// The digest with these bytes behind it, of which up to 64 are taken by eights.
+fn with_eights(start: u64, bytes: &[u8]) -> u64
+    ensures { result ≡ with_eights 8 start bytes.now }
+{
+    let mut digest = start;
+    let mut rest = bytes;
+    'eights: for _ in 0..EIGHTS {
+        let Some((eight, behind)) = rest.split_first_chunk::<8>() else {
+            return with_bytes(digest, rest);
+        };
+        digest = with_number(digest, u64::from_le_bytes(*eight));
+        rest = behind;
+    }
+    with_bytes(digest, rest)
+}
+
 /// A number that the length of the words and each of their last bytes have a part in. It takes no longer where they are many.
+#[tactic(auto, unfolding(crate::specs::WordIndex::digest))]
 fn digest(words: &[u8]) -> u64
     ensures { result ≡ digest words.now }
 {
     let start = words.len().saturating_sub(LAST);
-    with_bytes(words.len() as u64, &words[start..])
+    with_eights(words.len() as u64, &words[start..])
 }
 
-/// The number of the words, if the entry at this place is theirs.
-fn own_at(entries: &[Entry], words: &[u8], spot: usize) -> Option<usize>
-    ensures { result ≡ own_at entries.now words.now spot }
+/// The entry at this place, if it is that of the words.
+fn own_at<'a>(entries: &'a [Entry], words: &[u8], spot: usize) -> Option<&'a Entry>
+    ensures number { option_map (λ (e : Entry). e.number) (option_copied result) ≡ own_at entries.now words.now spot }
+    ensures words { IfSome (option_copied result) (λ (e : Entry). e.words ≡ words.now) }
 {
     let entry = entries.get(spot)?;
     if entry.words.as_slice() == words {
-        Some(entry.number)
+        Some(entry)
     } else {
         None
     }
 }
 
+/// Whether the entry at this place is that of the words.
+fn is_own(entries: &[Entry], words: &[u8], spot: usize) -> bool
+    ensures { result ≡ is_some (own_at entries.now words.now spot) }
+{
+    own_at(entries, words, spot).is_some()
+}
+
+/// The number of words that no entry has, if they lead anywhere.
+fn led_other<'a>(others: &BTreeMap<Vec<u8>, usize>, words: &[u8]) -> Option<Led<'a>>
+    ensures number { option_map (λ (l : Led). l.number) result ≡ number_of (other_pairs others.now.entries) words.now }
+    ensures words { IfSome result (λ l. option_copied l.words ≡ None) }
+{
+    match others.get(words) {
+        Some(number) => Some(Led {
+            number: *number,
+            words: None,
+        }),
+        None => None,
+    }
+}
+
 /// Leads from the words to the number, if they lead nowhere yet.
 fn add(
+    alloc: Global,
     others: &mut BTreeMap<Vec<u8>, usize>,
-    words: Vec<u8>,
+    words: &[u8],
     number: usize,
 ) -> Result<(), AllocError>
-    ensures after { OnOk result ((q : List ℕ) → number_of (other_pairs others.new.entries) q ≡ option_or (number_of (other_pairs others.old.entries) q) (if bytes_eq words.items q then Some number else None)) }
+    ensures after { OnOk result ((q : List ℕ) → number_of (other_pairs others.new.entries) q ≡ option_or (number_of (other_pairs others.old.entries) q) (if bytes_eq words.now q then Some number else None)) }
     ensures err { OnErr result (others.new.entries ≡ others.old.entries) }
 {
-    if others.get(words.as_slice()).is_none() {
-        others.insert(words, number)?;
+    if others.get(words).is_none() {
+        others.insert(words.to_vec(alloc)?, number)?;
     }
     Ok(())
 }
@@ -91,8 +153,9 @@ impl Model for WordIndex {
 }
 
 impl WordIndex {
-    ghost use Rattle.std.specs.Prelude.{◌≡◌, ℕ, List, [], OnOk, OnErr, None, Some, bytes_eq, if◌then◌else◌};
+    ghost use Rattle.std.specs.Prelude.{◌≡◌, ℕ, List, [], OnOk, OnErr, None, Some, IfSome, option_copied, option_map, bytes_eq, if◌then◌else◌};
     ghost use Rattle.std.specs.Option.{option_or};
+    ghost use Rattle.rdl_elab.specs.declared.stored.word_index.Led.{Led};
     ghost use Rattle.rdl_elab.specs.WordIndex.{number_of};
 
     /// No words lead anywhere.
@@ -107,30 +170,40 @@ impl WordIndex {
     }
 
     /// The number to which the words lead.
-    pub(crate) fn get(&self, words: &[u8]) -> Option<usize>
-        ensures { result ≡ number_of self.now words.now }
+    pub(crate) fn get(&self, words: &[u8]) -> Option<Led<'_>>
+        ensures number { option_map (λ (l : Led). l.number) result ≡ number_of self.now words.now }
+        ensures words { IfSome result (λ l. IfSome (option_copied l.words) (λ ws. ws ≡ words.now)) }
     {
         let spot = *self.spots.get(&digest(words))?;
         match own_at(self.entries.as_slice(), words, spot) {
-            Some(number) => Some(number),
-            None => self.others.get(words).copied(),
+            Some(entry) => Some(Led {
+                number: entry.number,
+                words: Some(&entry.words),
+            }),
+            None => led_other(&self.others, words),
         }
     }
 
     /// Leads from the words to the number, if they lead nowhere yet.
-    pub(crate) fn insert(&mut self, words: Vec<u8>, number: usize) -> Result<(), AllocError>
-        ensures after { OnOk result ((q : List ℕ) → number_of self.new q ≡ option_or (number_of self.old q) (if bytes_eq words.items q then Some number else None)) }
+    pub(crate) fn insert(
+        &mut self,
+        alloc: Global,
+        words: &SharedWords,
+        number: usize,
+    ) -> Result<(), AllocError>
+        ensures after { OnOk result ((q : List ℕ) → number_of self.new q ≡ option_or (number_of self.old q) (if bytes_eq words.now q then Some number else None)) }
         ensures err { OnErr result (self.new ≡ self.old) }
     {
         let digest = digest(words.as_slice());
         match self.spots.get(&digest).copied() {
             None => {
+                let words = words.share()?;
                 self.spots.insert(digest, self.entries.len())?;
                 self.entries.push(Entry { words, number })?;
             }
             Some(spot) => {
-                if own_at(self.entries.as_slice(), words.as_slice(), spot).is_none() {
-                    add(&mut self.others, words, number)?;
+                if !is_own(self.entries.as_slice(), words.as_slice(), spot) {
+                    add(alloc, &mut self.others, words.as_slice(), number)?;
                 }
             }
         }

@@ -3,6 +3,7 @@ ghost use Rattle.std.specs.Prelude.{◌≡◌, IfOk};
 ghost use Rattle.rdl_elab.specs.Shown.{built_in_values};
 
 use crate::row::PropertyValue;
+use crate::walk::shared_words::WordRoom;
 use crate::walk::values::built_in_values;
 use rdl_tree::shell::Kind;
 use std::alloc::{AllocError, Global};
@@ -10,13 +11,14 @@ use std::marker::Model;
 use std::rc::Rc;
 
 /// The values of components without assignments that no default reaches, for each kind once. All of them are the same,
-/// so a contract sees nothing of them.
+/// so a contract sees nothing of them, and nothing of the room for words that components lend to one another.
 #[derive(Drop)]
 pub(crate) struct BuiltIns {
     addrmap: Rc<Vec<PropertyValue>>,
     regfile: Rc<Vec<PropertyValue>>,
     reg: Rc<Vec<PropertyValue>>,
     field: Rc<Vec<PropertyValue>>,
+    pub words: WordRoom,
 }
 
 impl Model for BuiltIns {
@@ -46,6 +48,9 @@ impl BuiltIns {
             regfile: shared(alloc, Kind::Regfile)?,
             reg: shared(alloc, Kind::Reg)?,
             field: shared(alloc, Kind::Field)?,
+            words: WordRoom {
+                bytes: Vec::new(alloc),
+            },
         })
     }
 

@@ -1,16 +1,18 @@
 //! The layouts of a component, found again by what they were made of.
-ghost use Rattle.std.specs.Prelude.{◌≡◌, true, Some, IfOk, IfSome};
+ghost use Rattle.std.specs.Prelude.{◌≡◌, true, Some, IfOk, IfSome, option_copied};
 ghost use Rattle.std.specs.Option.{IsSome};
 ghost use Rattle.rdl_elab.specs.Capped.{IsAlignment};
 ghost use Rattle.rdl_elab.specs.LaidOut.{kept_members};
 ghost use Rattle.rdl_elab.specs.Stored.{under_key};
-ghost use Rattle.rdl_elab.specs.Words.{spelling, is_among};
+ghost use Rattle.rdl_elab.specs.Words.{spelling, is_among, AreMadeOf};
 
+use crate::walk::built_ins::BuiltIns;
 use crate::walk::finished::{Finished, Layouts, Part};
 use crate::walk::instances::layouts;
 use crate::layout::{Layout, LayoutValues, Mode};
-use crate::stored::Stored;
-use crate::walk::words::words;
+use crate::walk::shared_words::SharedWords;
+use crate::stored::{Candidate, Stored};
+use crate::walk::words::spell;
 use rdl_tree::shell::Kind;
 use std::alloc::{AllocError, Global};
 use std::marker::Model;
@@ -78,7 +80,7 @@ impl SharedLayouts {
 /// The layouts of a component, with the words of what they are made of, as bytes. A contract sees the record of specs/.
 #[derive(Debug, Drop)]
 pub(crate) struct LaidOut {
-    words: Vec<u8>,
+    words: SharedWords,
     layouts: SharedLayouts,
 }
 
@@ -89,9 +91,9 @@ impl Model for LaidOut {
 
     ghost use Rattle.rdl_elab.specs.Words.{AreMadeOf};
 
-    ghost view = { λ l. record { words = l.words.items; layouts = l.layouts } };
+    ghost view = { λ l. record { words = l.words; layouts = l.layouts } };
 
-    ghost invariant = { λ l. AreMadeOf l.words.items l.layouts };
+    ghost invariant = { λ l. AreMadeOf l.words l.layouts };
 }
 
 impl LaidOut {
@@ -107,8 +109,8 @@ impl LaidOut {
     }
 
     /// The words and the layouts.
-    pub(crate) fn into_parts(self) -> (Vec<u8>, SharedLayouts)
-        ensures words { result.0.items ≡ self.words }
+    pub(crate) fn into_parts(self) -> (SharedWords, SharedLayouts)
+        ensures words { result.0 ≡ self.words }
         ensures layouts { result.1 ≡ self.layouts }
         ensures made { AreMadeOf self.words self.layouts }
     {
@@ -123,30 +125,58 @@ pub(crate) struct Taken {
     pub key: Option<usize>,
 }
 
+/// Words of which nothing is kept yet, or what is kept of them.
+fn shared_words(
+    alloc: Global,
+    words: &[u8],
+    kept: Option<&SharedWords>,
+) -> Result<SharedWords, AllocError>
+    requires { IfSome (option_copied kept) (λ ws. ws ≡ words.now) }
+    ensures { IfOk result (λ shared. shared ≡ words.now) }
+{
+    match kept {
+        Some(kept) => kept.share(),
+        None => SharedWords::of(alloc, words),
+    }
+}
+
+/// Layouts that are kept of what has these words, for one more.
+fn kept_layouts(alloc: Global, words: &[u8], kept: Candidate<'_>) -> Result<LaidOut, AllocError>
+    requires words { IfSome (option_copied kept.words) (λ ws. ws ≡ words.now) }
+    requires made { AreMadeOf words.now kept.layouts.now }
+    ensures words { IfOk result (λ laid_out. laid_out.words ≡ words.now) }
+    ensures layouts { IfOk result (λ laid_out. laid_out.layouts ≡ kept.entry.layouts.now) }
+{
+    let words = shared_words(alloc, words, kept.words)?;
+    let layouts = kept.layouts.share()?;
+    Ok(LaidOut { words, layouts })
+}
+
 /// New layouts of a component of this kind with these values and these instances.
 fn new_layouts(
     alloc: Global,
     kind: Kind,
     values: LayoutValues,
-    spelled: Vec<u8>,
+    spelled: &[u8],
     parts: &[Part],
     components: &[Finished],
 ) -> Result<LaidOut, AllocError>
     requires alignment { IsAlignment values.alignment }
-    requires spelled { spelled.items ≡ spelling (record { kind = kind; values = values; members = kept_members components.now parts.now }) }
-    ensures { IfOk result (λ new. new.words ≡ spelled.items) }
+    requires spelled { spelled.now ≡ spelling (record { kind = kind; values = values; members = kept_members components.now parts.now }) }
+    ensures { IfOk result (λ new. new.words ≡ spelled.now) }
 {
     let layouts = layouts(alloc, kind, values, parts, components)?;
     Ok(LaidOut {
-        words: spelled,
+        words: SharedWords::of(alloc, spelled)?,
         layouts: SharedLayouts::new(alloc, layouts)?,
     })
 }
 
 /// The layouts of a component of this kind with these values and these instances: those that are kept of what was made
-/// of the same, if there are any, and new ones otherwise.
+/// of the same, if there are any, and new ones otherwise. The words are put where there is room for those of each component.
 pub(crate) fn take_layouts(
     alloc: Global,
+    room: &mut BuiltIns,
     kind: Kind,
     values: LayoutValues,
     parts: &[Part],
@@ -158,12 +188,14 @@ pub(crate) fn take_layouts(
     ensures kept { IfOk result (λ t. IfSome t.key (λ k. under_key before.now.slots k ≡ Some t.laid_out.layouts)) }
     ensures taken { IfOk result (λ t. is_among t.laid_out.words before.now.words ≡ true → IsSome t.key) }
 {
-    let words = words(alloc, kind, values, parts, components)?;
-    if let Some(kept) = before.found(words.as_slice()) {
-        let layouts = kept.layouts.share()?;
+    let bytes = &mut room.words.bytes;
+    spell(bytes, kind, values, parts, components)?;
+    let words = bytes.as_slice();
+    if let Some(kept) = before.found(words) {
+        let key = Some(kept.key);
         return Ok(Taken {
-            laid_out: LaidOut { words, layouts },
-            key: Some(kept.key),
+            laid_out: kept_layouts(alloc, words, kept)?,
+            key,
         });
     }
     Ok(Taken {

@@ -1,5 +1,5 @@
 //! The words of what layouts are made of, as bytes, by which they are found again.
-ghost use Rattle.std.specs.Prelude.{◌≡◌, ◌<◌, ◌∷◌, ◌++◌, ℕ, List, true, IfOk, OnOk};
+ghost use Rattle.std.specs.Prelude.{◌≡◌, ◌<◌, ◌∷◌, ◌++◌, ℕ, List, true, None, OnOk};
 ghost use Rattle.std.specs.List.{AllByRecursion};
 ghost use Rattle.rdl_elab.specs.EachMember.{shown_each};
 ghost use Rattle.rdl_elab.specs.LaidOut.{kept_members};
@@ -11,7 +11,7 @@ use crate::walk::laid_out::SharedLayouts;
 use crate::layout::{LayoutValues, Mode};
 use rdl_text::token::Number;
 use rdl_tree::shell::{Kind, Shell};
-use std::alloc::{AllocError, Global};
+use std::alloc::AllocError;
 
 fn kind_word(kind: Kind) -> Number
     ensures { result ≡ kind_word kind }
@@ -84,8 +84,21 @@ fn put_range(bytes: &mut Vec<u8>, range: Option<(Number, Number)>) -> Result<(),
     Ok(())
 }
 
-/// Puts the words of the kind and the values of a component.
-fn put_values(bytes: &mut Vec<u8>, kind: Kind, values: LayoutValues) -> Result<(), AllocError>
+/// Whether there is no alignment, and the words of the other values are one byte each.
+fn are_small(values: LayoutValues) -> bool
+    ensures alignment { result ≡ true → values.alignment ≡ None }
+    ensures regwidth { result ≡ true → values.regwidth < 255 }
+    ensures accesswidth { result ≡ true → values.accesswidth < 255 }
+    ensures fieldwidth { result ≡ true → values.fieldwidth < 255 }
+{
+    values.alignment.is_none()
+        && values.regwidth < 255
+        && values.accesswidth < 255
+        && values.fieldwidth < 255
+}
+
+/// Puts the words of the kind and the values of a component, one by one.
+fn put_each_value(bytes: &mut Vec<u8>, kind: Kind, values: LayoutValues) -> Result<(), AllocError>
     ensures { OnOk result (Puts (values_words kind values) bytes.old.items bytes.new.items) }
 {
     put_word(bytes, kind_word(kind))?;
@@ -97,24 +110,67 @@ fn put_values(bytes: &mut Vec<u8>, kind: Kind, values: LayoutValues) -> Result<(
     Ok(())
 }
 
-/// Whether an instance says nothing of its place, and has few elements.
+/// Puts the words of the kind and the values of a component.
+fn put_values(bytes: &mut Vec<u8>, kind: Kind, values: LayoutValues) -> Result<(), AllocError>
+    ensures { OnOk result (Puts (values_words kind values) bytes.old.items bytes.new.items) }
+{
+    let first = kind_word(kind);
+    let second = mode_word(values.addressing);
+    if first < 255 && second < 255 && are_small(values) {
+        let words = [
+            first as u8,
+            second as u8,
+            0,
+            values.regwidth as u8,
+            values.accesswidth as u8,
+            values.fieldwidth as u8,
+        ];
+        return put_small(bytes, &words);
+    }
+    put_each_value(bytes, kind, values)
+}
+
+/// Whether an instance says nothing of its place but which bits it has, and has few elements.
 fn is_bare(said: Said) -> bool
     ensures few { result ≡ true → said.elements < 255 }
-    ensures bare { result ≡ true → (rest : List ℕ) → said_words said rest ≡ said.elements ∷ 0 ∷ 0 ∷ 0 ∷ 0 ∷ 0 ∷ rest }
+    ensures bare { result ≡ true → (rest : List ℕ) → said_words said rest ≡ said.elements ∷ 0 ∷ 0 ∷ 0 ∷ 0 ∷ range_words said.range rest }
 {
     said.elements < 255
         && said.size.is_none()
         && said.address.is_none()
         && said.stride.is_none()
         && said.align.is_none()
-        && said.range.is_none()
+}
+
+/// Puts the words of an instance with few elements that says nothing of its place but these bits.
+fn put_bare(
+    bytes: &mut Vec<u8>,
+    elements: u8,
+    range: Option<(Number, Number)>,
+) -> Result<(), AllocError>
+    requires { elements < 255 }
+    ensures { OnOk result (Puts (λ rest. elements ∷ 0 ∷ 0 ∷ 0 ∷ 0 ∷ range_words range rest) bytes.old.items bytes.new.items) }
+{
+    match range {
+        None => put_small(bytes, &[elements, 0, 0, 0, 0, 0]),
+        Some(bits) if bits.0 < 255 && bits.1 < 255 => {
+            put_small(
+                bytes,
+                &[elements, 0, 0, 0, 0, 1, bits.0 as u8, bits.1 as u8],
+            )
+        }
+        Some(_) => {
+            put_small(bytes, &[elements, 0, 0, 0, 0])?;
+            put_range(bytes, range)
+        }
+    }
 }
 
 fn put_said(bytes: &mut Vec<u8>, said: Said) -> Result<(), AllocError>
     ensures { OnOk result (Puts (said_words said) bytes.old.items bytes.new.items) }
 {
     if is_bare(said) {
-        return put_small(bytes, &[said.elements as u8, 0, 0, 0, 0, 0]);
+        return put_bare(bytes, said.elements as u8, said.range);
     }
     put_word(bytes, said.elements)?;
     put_number(bytes, said.size)?;
@@ -174,23 +230,23 @@ fn put_member(bytes: &mut Vec<u8>, shell: &Shell, layouts: &SharedLayouts) -> Re
     Ok(())
 }
 
-/// The words, as bytes, of what the layouts of a component of this kind with these values and these instances are made of.
-pub(crate) fn words(
-    alloc: Global,
+/// Puts the words, as bytes, of what the layouts of a component of this kind with these values and these instances are made
+/// of, in the place of what was there.
+pub(crate) fn spell(
+    bytes: &mut Vec<u8>,
     kind: Kind,
     values: LayoutValues,
     parts: &[Part],
     components: &[Finished],
-) -> Result<Vec<u8>, AllocError>
-    ensures { IfOk result (λ bytes. bytes.items ≡ spelling (record { kind = kind; values = values; members = kept_members components.now parts.now })) }
+) -> Result<(), AllocError>
+    ensures { OnOk result (bytes.new.items ≡ spelling (record { kind = kind; values = values; members = kept_members components.now parts.now })) }
 {
-    let room = parts.len().saturating_mul(14).saturating_add(8);
-    let mut bytes = Vec::with_capacity(alloc, room)?;
-    put_values(&mut bytes, kind, values)?;
+    bytes.clear();
+    put_values(bytes, kind, values)?;
     for part in parts {
         if let Some(finished) = part.component(components) {
-            put_member(&mut bytes, part.shell(), &finished.layouts)?;
+            put_member(bytes, part.shell(), &finished.layouts)?;
         }
     }
-    Ok(bytes)
+    Ok(())
 }

@@ -14,7 +14,7 @@ use Rattle.rdl_elab.specs.Stands.{made_at, after_item, item_parts, in_list, plac
 use Rattle.rdl_elab.proofs.Goings.{append_nil, grows-on, grows-push, item-room, body-room, stands-grow, stands-define, finished-part, named-part, made-last, stands-next, parts-next, behind-on}
 use Rattle.rdl_elab.proofs.Writing.{finishes-next, finishes-made, laid-out}
 use Rattle.rdl_elab.proofs.walk.+walk.Goals as goal
-use Rattle.rdl_elab.proofs.walk.+walk.Goals.{walk_items-in-Some+in_ok-around+in_ok-push, walk_items-in_default}
+use Rattle.rdl_elab.proofs.walk.+walk.Goals.{walk_items-in-Some+in_ok-reserve_first+in_ok-around+in_ok-push, walk_items-in_default}
 
 abbrev part-at : ℕ → Shell → ℕ → List ℕ → Part
 part-at i s k b = record { at = b ++ i ∷ []; shell = s; component = k }
@@ -76,22 +76,22 @@ walk_items-loop-i-preserved t c =
     let i = c.loop-i.i in
     let at = b ++ i ∷ [] in
     let done = c.loop-i.parts.items in
-    let after : c.match-branch-3.parts.items ≡ done ++ in_list (placed at c.in_ok-found.field-0) =
-    elim c.match-branch-3.branch [
-      | walk_items-in-Some+in_ok-around+in_ok-push w ↦
-          ap (λ v. v.items) w.parts-is ∙ w.in_ok-push.ensures.items
+    let after : c.match-branch-2.parts.items ≡ done ++ in_list (placed at c.in_ok-found.field-0) =
+    elim c.match-branch-2.branch [
+      | walk_items-in-Some+in_ok-reserve_first+in_ok-around+in_ok-push w ↦
+          ap (λ v. v.items) w.parts-is ∙ w.in_ok-push.ensures.items ∙ ap (λ (ps : List Part). ps ++ w.new.result ∷ []) w.in_ok-reserve_first.ensures
           ∙ ap (λ (p : Part). done ++ p ∷ []) (w.new.ensures ∙ ap (part-at i w.in-Some.found.shell.now w.in-Some.found.component) w.in_ok-around.ensures.address)
           ∙ ap (λ o. done ++ in_list (placed at o)) (sym w.in-Some.is)
       | walk_items-in_default w ↦ ap (λ v. v.items) w.parts-is ∙ sym (append_nil done) ∙ ap (λ o. done ++ in_list (placed at o)) (sym w.in_default.is)
     ] in
-    let shared : IfSome c.match-branch-3.shared (λ a. a ≡ b) =
-    elim c.match-branch-3.branch [
-      | walk_items-in-Some+in_ok-around+in_ok-push w ↦ subst (λ o. IfSome o (λ a. a ≡ b)) (sym w.shared-is) w.share.ensures.shared
+    let shared : IfSome c.match-branch-2.shared (λ a. a ≡ b) =
+    elim c.match-branch-2.branch [
+      | walk_items-in-Some+in_ok-reserve_first+in_ok-around+in_ok-push w ↦ subst (λ o. IfSome o (λ a. a ≡ b)) (sym w.shared-is) w.share.ensures.shared
       | walk_items-in_default w ↦ subst (λ o. IfSome o (λ a. a ≡ b)) (sym w.shared-is) c.loop-i.invariant.shared
     ] in
     record {
       parts = λ e h.
-          parts-next d b at xs i c.index-items-i.result c.loop-i-test.true c.index-items-i.is refl e c.loop-i.walk.components.items new.components.items done c.match-branch-3.parts.items (placed at c.in_ok-found.field-0) all.behind.components
+          parts-next d b at xs i c.index-items-i.result c.loop-i-test.true c.index-items-i.is refl e c.loop-i.walk.components.items new.components.items done c.match-branch-2.parts.items (placed at c.in_ok-found.field-0) all.behind.components
           after (c.loop-i.invariant.parts e h) (all.part (standing e b 0 (items_of (take i xs))) (c.loop-i.invariant.stands e h));
       stands = λ e h.
           stands-next d b at xs i c.index-items-i.result c.loop-i-test.true c.index-items-i.is refl e new

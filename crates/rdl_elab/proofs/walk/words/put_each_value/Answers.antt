@@ -1,7 +1,7 @@
 use Rattle.std.proofs.Common.{◌++◌, ◌∷◌, ◌∙◌}
 use Rattle.rdl_elab.specs.Coded.{coded}
 use Rattle.rdl_elab.specs.Words.{number_words}
-use Rattle.rdl_elab.proofs.walk.words.put_values.Goals as goal
+use Rattle.rdl_elab.proofs.walk.words.put_each_value.Goals as goal
 
 pub returns : goal.returns
 returns c = λ rest.

@@ -2,7 +2,7 @@ use Rattle.std.proofs.Common.{◌≡◌, ◌++◌, drop}
 use Rattle.rdl_elab.specs.LaidOut.{kept_members}
 use Rattle.rdl_elab.specs.Coded.{coded}
 use Rattle.rdl_elab.specs.Words.{spelling, members_words}
-use Rattle.rdl_elab.proofs.walk.words.words.Given as goal
+use Rattle.rdl_elab.proofs.walk.words.spell.Given as goal
 
 abbrev pub invariant-loop-part : goal.invariant-loop-part
 invariant-loop-part l =

@@ -7,13 +7,13 @@ use Rattle.rdl_elab.specs.Words.{members_words, member_words, values_words}
 use Rattle.rdl_elab.proofs.Coding.{coded-none}
 use Rattle.rdl_elab.proofs.Goings.{append_nil}
 use Rattle.rdl_elab.proofs.Insides.{member-some, member-none, members-none}
-use Rattle.rdl_elab.proofs.walk.words.words.Goals as goal
-use Rattle.rdl_elab.proofs.walk.words.words.Goals.{in-Some+in_ok-put_member, in_default}
+use Rattle.rdl_elab.proofs.walk.words.spell.Goals as goal
+use Rattle.rdl_elab.proofs.walk.words.spell.Goals.{in-Some+in_ok-put_member, in_default}
 
 pub loop-part-init : goal.loop-part-init
 loop-part-init c =
     let rest = members_words (kept_members c.args.components.now (drop 0 c.args.parts.now)) in
-    c.in_ok-put_values.ensures rest ∙ ap (λ (xs : List ℕ). xs ++ coded (values_words c.args.kind c.args.values rest)) c.in_ok-bytes.ensures.items
+    c.in_ok-put_values.ensures rest ∙ ap (λ (xs : List ℕ). xs ++ coded (values_words c.args.kind c.args.values rest)) c.clear.ensures.items
 
 pub loop-part-preserved : goal.loop-part-preserved
 loop-part-preserved c =
