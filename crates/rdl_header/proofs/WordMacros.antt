@@ -46,7 +46,7 @@ below-append register (x ∷ xs) ys =
     ap (λ ms. macros_of register x ++ ms) (below-append (register_behind register x.location) xs ys)
     ∙ sym (append_assoc (macros_of register x) (macros_below (register_behind register x.location) xs) (macros_below (register_after (register_behind register x.location) xs) ys))
 
-after-append : (register : ℕ) (xs : List Row) (y : Row) → register_after register (xs ++ y ∷ []) ≡ register_behind (register_after register xs) y.place
+after-append : (register : ℕ) (xs : List Row) (y : Row) → register_after register (xs ++ y ∷ []) ≡ register_behind (register_after register xs) y.location
 after-append register [] y = refl
 after-append register (x ∷ xs) y = after-append (register_behind register x.location) xs y
 
