@@ -9,9 +9,9 @@ use crate::examples::{
 use crate::{Answer, assert_answered};
 use rdl_edit::map::Map;
 use rdl_elab::elaborate::elaborate;
-use rdl_kept::kept::Kept;
 use rdl_elab::row::Rows;
 use rdl_header::{HeaderFault, header};
+use rdl_kept::kept::Kept;
 use rdl_list::list_text;
 use rdl_parse::parse::{parse, parse_item};
 use rdl_scope::faults::check;

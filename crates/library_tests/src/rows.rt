@@ -1,5 +1,5 @@
 //! Rows made by hand.
-use rdl_elab::row::{Extent, NamesAround, Location, Row, RowPath};
+use rdl_elab::row::{Extent, Location, NamesAround, Row, RowPath};
 use rdl_elab::row_values::RowValues;
 use rdl_text::name::Name;
 use rdl_text::token::Number;

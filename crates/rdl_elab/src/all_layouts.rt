@@ -11,11 +11,11 @@ ghost use Rattle.rdl_elab.specs.FinishedRows.{finished_answer};
 ghost use Rattle.rdl_elab.specs.Faults.{fault_in};
 ghost use Rattle.rdl_elab.specs.Anew.{new_spans, all_instances, instances_at, AreFoundBut};
 
-use crate::rows::clean::is_clean_map;
 use crate::elaborate::{Top, rows_under};
-use crate::walk::finished::Finished;
 use crate::row::Rows;
+use crate::rows::clean::is_clean_map;
 use crate::stored::Stored;
+use crate::walk::finished::Finished;
 use crate::walk::lay_out_all;
 use rdl_tree::description::Description;
 use rdl_tree::fault::Fault;

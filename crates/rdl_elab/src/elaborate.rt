@@ -11,14 +11,14 @@ ghost use Rattle.rdl_elab.specs.Tops.{top_at};
 ghost use Rattle.rdl_tree.specs.View.{items_of};
 ghost use Rattle.rdl_elab.specs.FinishedRows.{finished_map_fault, finished_top_row, finished_around_top, told_below, rows_unless, finished_rows_or_fault, finished_answer};
 
-use crate::walk::finished::Finished;
-use crate::walk::instances::mode_inside;
 use crate::layout::Mode;
-use crate::walk::reaches::with_own;
-use crate::row::{Extent, NamesAround, Location, Row, RowPath, Rows};
+use crate::row::{Extent, Location, NamesAround, Row, RowPath, Rows};
 use crate::row_values::RowValues;
 use crate::rows::{Around, add_rows};
+use crate::walk::finished::Finished;
+use crate::walk::instances::mode_inside;
 use crate::walk::lay_out_item;
+use crate::walk::reaches::with_own;
 use rdl_scope::faults::check;
 use rdl_scope::one_item::check_item;
 use rdl_text::name::Name;

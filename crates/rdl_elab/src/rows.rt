@@ -14,13 +14,13 @@ ghost use Rattle.rdl_elab.specs.FinishedRows.{finished_base, finished_values, fi
 pub(crate) mod clean;
 pub mod siblings;
 
-use crate::walk::finished::{Finished, Part};
-use crate::walk::instances::mode_inside;
 use crate::layout::{Mode, Span};
-use crate::walk::reaches::{Assignment, Onward, has_come, with_own};
-use crate::row::{Extent, NamesAround, Location, Row, RowPath};
+use crate::row::{Extent, Location, NamesAround, Row, RowPath};
 use crate::row_values::{ComponentValues, RowValues};
 use crate::rows::siblings::{Sibling, Siblings, as_sibling, is_reset_too_wide};
+use crate::walk::finished::{Finished, Part};
+use crate::walk::instances::mode_inside;
+use crate::walk::reaches::{Assignment, Onward, has_come, with_own};
 use crate::walk::values::row_values;
 use rdl_text::token::Number;
 use rdl_tree::address::Address;

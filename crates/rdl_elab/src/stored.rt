@@ -14,11 +14,11 @@ ghost use Rattle.rdl_elab.specs.Taken.{keyed, IsTaken, AreTaken, Stays, AreMarke
 
 pub(crate) mod word_index;
 
+use crate::layout::{Layout, Mode};
+use crate::stored::word_index::WordIndex;
 use crate::walk::finished::Finished;
 use crate::walk::laid_out::{LaidOut, SharedLayouts};
-use crate::layout::{Layout, Mode};
 use crate::walk::shared_words::SharedWords;
-use crate::stored::word_index::WordIndex;
 use slab::Slab;
 use std::alloc::{AllocError, Global};
 use std::marker::Model;

@@ -29,6 +29,7 @@ pub(crate) mod types;
 pub(crate) mod values;
 pub(crate) mod words;
 
+use crate::stored::Stored;
 use crate::walk::built_ins::BuiltIns;
 use crate::walk::defaults::Defaults;
 use crate::walk::finished::{Finished, Part};
@@ -38,7 +39,6 @@ use crate::walk::own_values::OwnValues;
 use crate::walk::part_list::PartList;
 use crate::walk::reaches::assignments_if;
 use crate::walk::shared::share;
-use crate::stored::Stored;
 use crate::walk::targets::goes_further;
 use crate::walk::types::Types;
 use crate::walk::values::{layout_values, shown_values};

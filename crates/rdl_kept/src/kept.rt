@@ -9,10 +9,10 @@ ghost use Rattle.std.specs.String.{string_bytes};
 ghost use Rattle.rdl_elab.specs.Stored.{all_under};
 ghost use Rattle.rdl_kept.specs.AllKept.{has_layout};
 
+use crate::numbers::number;
 use rdl_elab::all_layouts::{Judgement, fault_with_top, lay_out, lay_out_rows};
 use rdl_elab::elaborate::{Top, checked_top, checked_top_but, known_rows, known_top};
 use rdl_elab::layout::{Layout, Mode};
-use crate::numbers::number;
 use rdl_elab::row::Rows;
 use rdl_elab::stored::Stored;
 use rdl_scope::faults::check;

@@ -47,7 +47,11 @@ impl<'a> Places<'a> {
     }
 
     /// Puts the place, if there is one, under the name, and answers whether one was there.
-    pub(crate) fn note(&mut self, name: &'a str, place: Option<VisibleItem>) -> Result<bool, AllocError>
+    pub(crate) fn note(
+        &mut self,
+        name: &'a str,
+        place: Option<VisibleItem>,
+    ) -> Result<bool, AllocError>
         ensures twice { IfOk result (λ twice. twice ≡ is_some (place_under self.old name.now)) }
         ensures noted { OnOk result ((q : List ℕ) → place_under self.new q ≡ place_put name.now q place (place_under self.old q)) }
     {

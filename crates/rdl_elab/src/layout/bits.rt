@@ -3,8 +3,8 @@ ghost use Rattle.std.specs.Prelude.{◌≡◌, map, IfOk};
 ghost use Rattle.rdl_elab.specs.Bits.{bits_of, bits_from};
 ghost use Rattle.rdl_elab.specs.Capped.{capped_span};
 
-use crate::layout::{FieldBits, Span, Spans};
 use crate::layout::round::{LIMIT, capped};
+use crate::layout::{FieldBits, Span, Spans};
 use rdl_text::token::Number;
 use std::alloc::{AllocError, Global};
 

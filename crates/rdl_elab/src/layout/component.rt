@@ -6,9 +6,9 @@ ghost use Rattle.rdl_elab.specs.Layouts.{laid_out};
 ghost use Rattle.rdl_elab.specs.Capped.{capped, capped_layout, IsAlignment};
 
 use crate::layout::bits::bits;
-use crate::layout::{FieldBits, Layout, LayoutValues, Member, Mode, Placement, Spans};
 use crate::layout::place::place;
 use crate::layout::round::{LIMIT, capped};
+use crate::layout::{FieldBits, Layout, LayoutValues, Member, Mode, Placement, Spans};
 use rdl_tree::shell::Kind;
 use std::alloc::{AllocError, Global};
 

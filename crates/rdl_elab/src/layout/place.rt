@@ -5,8 +5,8 @@ ghost use Rattle.rdl_elab.specs.Start.{full_alignment, mode_alignment, start_of}
 ghost use Rattle.rdl_elab.specs.Layouts.{container};
 ghost use Rattle.rdl_elab.specs.Capped.{capped, capped_layout, IsAlignment};
 
-use crate::layout::{Layout, Mode, Placement, Span, Spans};
 use crate::layout::round::{LIMIT, capped, next_multiple};
+use crate::layout::{Layout, Mode, Placement, Span, Spans};
 use rdl_text::token::Number;
 use std::alloc::{AllocError, Global};
 

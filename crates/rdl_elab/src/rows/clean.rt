@@ -8,12 +8,12 @@ ghost use Rattle.rdl_elab.specs.FinishedRows.{finished_answer};
 ghost use Rattle.rdl_elab.specs.Layouts.{mode_inside};
 
 use crate::elaborate::{Top, finished_at, map_fault};
+use crate::layout::{Mode, Span};
+use crate::rows::siblings::Siblings;
+use crate::rows::{behind_part, fault_kind, seen, span_at, values_judged};
 use crate::walk::finished::{Finished, Part};
 use crate::walk::instances::mode_inside;
-use crate::layout::{Mode, Span};
 use crate::walk::reaches::{Assignment, Onward, have_ended, with_own};
-use crate::rows::{behind_part, fault_kind, seen, span_at, values_judged};
-use crate::rows::siblings::Siblings;
 use rdl_tree::address::Address;
 use rdl_tree::shell::Kind;
 use std::alloc::{AllocError, Global};

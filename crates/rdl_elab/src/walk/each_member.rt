@@ -2,8 +2,8 @@
 ghost use Rattle.std.specs.Prelude.{◌≡◌};
 ghost use Rattle.rdl_elab.specs.EachMember.{said_of, extent_of, extents_of};
 
-use crate::walk::laid_out::SharedLayouts;
 use crate::layout::{Layout, Mode};
+use crate::walk::laid_out::SharedLayouts;
 use rdl_scope::shells::product;
 use rdl_text::token::Number;
 use rdl_tree::shell::Shell;

@@ -1,9 +1,9 @@
 //! Components that are laid out.
-use crate::walk::laid_out::{LaidOut, SharedLayouts};
 use crate::layout::{Layout, LayoutValues, Mode};
+use crate::row_values::ComponentValues;
+use crate::walk::laid_out::{LaidOut, SharedLayouts};
 use crate::walk::part_list::PartList;
 use crate::walk::reaches::Assignment;
-use crate::row_values::ComponentValues;
 use crate::walk::shared::{InstanceAddress, SharedAddress};
 use rdl_tree::address::Address;
 use rdl_tree::shell::{Kind, Shell};

@@ -11,9 +11,9 @@ ghost use Rattle.rdl_elab.specs.Inside.{counted, shown_placement, kept_parts, ke
 
 use crate::layout::bits::bits;
 use crate::layout::component::{field, register};
-use crate::walk::finished::{Finished, Layouts, Part, ThreeLayouts};
-use crate::layout::{FieldBits, Layout, LayoutValues, Mode, Placement};
 use crate::layout::place::place;
+use crate::layout::{FieldBits, Layout, LayoutValues, Mode, Placement};
+use crate::walk::finished::{Finished, Layouts, Part, ThreeLayouts};
 use crate::walk::shared::SharedAddress;
 use rdl_scope::shells::product;
 use rdl_text::token::Number;

@@ -6,12 +6,12 @@ ghost use Rattle.rdl_elab.specs.LaidOut.{kept_members};
 ghost use Rattle.rdl_elab.specs.Stored.{under_key};
 ghost use Rattle.rdl_elab.specs.Words.{spelling, is_among, AreMadeOf};
 
+use crate::layout::{Layout, LayoutValues, Mode};
+use crate::stored::{Candidate, Stored};
 use crate::walk::built_ins::BuiltIns;
 use crate::walk::finished::{Finished, Layouts, Part};
 use crate::walk::instances::layouts;
-use crate::layout::{Layout, LayoutValues, Mode};
 use crate::walk::shared_words::SharedWords;
-use crate::stored::{Candidate, Stored};
 use crate::walk::words::spell;
 use rdl_tree::shell::Kind;
 use std::alloc::{AllocError, Global};

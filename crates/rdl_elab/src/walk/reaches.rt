@@ -9,9 +9,9 @@ ghost use Rattle.rdl_elab.specs.OwnValues.{any_dynamic};
 ghost use Rattle.rdl_elab.specs.Reaches.{Reach, reaches_by, behind, reached, reach_by, has_ended, value_under};
 ghost use Rattle.rdl_elab.specs.StatedValues.{shown_on};
 
+use crate::row::PropertyValue;
 use crate::walk::finished::{Finished, Part};
 use crate::walk::part_list::PartList;
-use crate::row::PropertyValue;
 use crate::walk::shared::InstanceAddress;
 use crate::walk::targets::target_path;
 use crate::walk::values::add_assigned;

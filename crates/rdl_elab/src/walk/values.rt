@@ -15,13 +15,13 @@ ghost use Rattle.rdl_elab.specs.Shown.{valued};
 ghost use Rattle.rdl_elab.specs.Reaches.{reached, reset_value, value_under, values_along};
 ghost use Rattle.rdl_elab.specs.StatedValues.{shown_on, if_named, stated_for, under_either};
 
-use crate::walk::built_ins::BuiltIns;
-use crate::walk::defaults::Defaults;
 use crate::layout::{LayoutValues, Mode};
-use crate::walk::own_values::OwnValues;
-use crate::walk::reaches::{Assignment, add_reached};
 use crate::row::PropertyValue;
 use crate::row_values::{ComponentValues, RowValues};
+use crate::walk::built_ins::BuiltIns;
+use crate::walk::defaults::Defaults;
+use crate::walk::own_values::OwnValues;
+use crate::walk::reaches::{Assignment, add_reached};
 use rdl_scope::values::shown;
 use rdl_text::token::Number;
 use rdl_tree::description::Body;

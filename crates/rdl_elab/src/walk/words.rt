@@ -5,10 +5,10 @@ ghost use Rattle.rdl_elab.specs.EachMember.{shown_each};
 ghost use Rattle.rdl_elab.specs.LaidOut.{kept_members};
 ghost use Rattle.rdl_elab.specs.Words.{kind_word, mode_word, number_words, range_words, values_words, said_words, extent_words, extents_words, member_words, spelling, Puts};
 
+use crate::layout::{LayoutValues, Mode};
 use crate::walk::each_member::{Extent, Extents, Said};
 use crate::walk::finished::{Finished, Part};
 use crate::walk::laid_out::SharedLayouts;
-use crate::layout::{LayoutValues, Mode};
 use rdl_text::token::Number;
 use rdl_tree::shell::{Kind, Shell};
 use std::alloc::AllocError;
