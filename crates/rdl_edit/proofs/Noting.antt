@@ -1,5 +1,5 @@
 -- What is noted of a description behind a step that puts in an assignment which is new in its body.
-use Rattle.std.proofs.Common.{◌≡◌, ℕ, suc, ◌+◌, ◌<◌, ◌≤◌, Bool, true, false, cond, List, [], ◌∷◌, ◌++◌, length, Option, Some, None, Ok, Bor, refl, ap, sym, ◌∙◌, subst, arith, IfSome, IfOk, length-append}
+use Rattle.std.proofs.Common.{◌≡◌, ℕ, ◌+◌, ◌<◌, Bool, true, false, cond, List, [], ◌∷◌, ◌++◌, length, Option, Some, None, Ok, Bor, refl, ap, sym, ◌∙◌, subst, arith, IfSome, length-append}
 use Rattle.std.specs.Prelude.{◌||◌, ◌&&◌, bytes_eq, nat_lt, not, is_some}
 use Rattle.std.specs.List.{list_any, position, prefix_len}
 use Rattle.std.specs.Cmp.Lexicographic.{pointwise}
@@ -8,8 +8,7 @@ use Rattle.rdl_tree.specs.View.{list_of}
 use Rattle.rdl_tree.specs.Address.{holder_of, number_of, body_at}
 use Rattle.rdl_tree.specs.Edit.{insert_item}
 use Rattle.rdl_tree.specs.Find.{find}
-use Rattle.rdl_tree.specs.Patch.{patched, image, AllFit}
-use Rattle.rdl_tree.specs.declared.patch.Patch.{Patch}
+use Rattle.rdl_tree.specs.Patch.{patched, AllFit}
 use Rattle.rdl_tree.specs.declared.patch.Patch.TheVariants.{Insert}
 use Rattle.rdl_tree.specs.declared.value.Value.{Value}
 use Rattle.rdl_tree.specs.declared.path.Segment.{Segment}

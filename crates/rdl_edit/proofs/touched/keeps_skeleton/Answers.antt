@@ -1,4 +1,4 @@
-use Rattle.std.proofs.Common.{◌≡◌, List, [], ◌∷◌, length, get_or, sym, subst, arith}
+use Rattle.std.proofs.Common.{◌≡◌, List, length, sym, subst, arith}
 use Rattle.rdl_tree.specs.Patch.{image}
 use Rattle.rdl_tree.specs.declared.patch.Patch.{Patch}
 use Rattle.rdl_kept.specs.Skeleton.{skeleton}

@@ -1,4 +1,4 @@
-use Rattle.std.proofs.Common.{◌≡◌, ℕ, List, true, Some, ap, sym, subst, ◌∙◌, rules}
+use Rattle.std.proofs.Common.{◌≡◌, ℕ, List, true, Some, sym, subst, rules}
 use Rattle.rdl_tree.specs.ItemAt.{item_at}
 use Rattle.rdl_tree.specs.Patch.{patched}
 use Rattle.rdl_tree.specs.declared.patch.Patch.{Patch}
