@@ -1,5 +1,5 @@
-//! Laws of reading what was written, as contracts of functions that do nothing.
-ghost use Rattle.std.specs.Prelude.{◌≡◌, ◌≤◌, ℕ, List, ◌++◌, length, None, Ok};
+//! Laws of reading what was written, as contracts of functions that do nothing, but for one that writes and reads.
+ghost use Rattle.std.specs.Prelude.{◌≡◌, ◌≤◌, ℕ, List, ◌++◌, length, None, Ok, IfOk, MatchResult};
 ghost use Rattle.rdl_text.specs.Word.{Word};
 ghost use Rattle.rdl_text.specs.Words.{words};
 ghost use Rattle.rdl_tree.specs.Address.{map_body};
@@ -10,7 +10,7 @@ ghost use Rattle.rdl_tree.specs.declared.description.Item.{Item};
 ghost use Rattle.rdl_parse.specs.declared.found.Spot.{Spot};
 ghost use Rattle.rdl_parse.specs.Spelling.{Spells, SpellsItems};
 ghost use Rattle.rdl_parse.specs.Symbol.{symbols};
-ghost use Rattle.rdl_parse.specs.Faults.{max_text};
+ghost use Rattle.rdl_parse.specs.Faults.{max_text, out_of_memory};
 ghost use Rattle.rdl_parse.specs.FirstFault.{parse_reading};
 ghost use Rattle.rdl_parse.specs.Parsing.{SpellsText};
 ghost use Rattle.rdl_parse.specs.Places.{Located};
@@ -19,6 +19,12 @@ ghost use Rattle.rdl_write.specs.MapText.{map_text};
 ghost use Rattle.rdl_round.specs.OfWords.{IsOfWords};
 ghost use Rattle.rdl_round.specs.Spellable.{IsSpellable};
 ghost use Rattle.rdl_round.specs.WrittenWords.{map_words, HasSymbols};
+
+use rdl_parse::fault::ParseFault;
+use rdl_parse::parse::parse;
+use rdl_tree::description::Description;
+use rdl_write::rdl;
+use std::alloc::{AllocError, Global};
 
 /// Every description that the words of a text spell is spellable: its names aren't reserved, each of its properties is
 /// a name or a reserved word that is a property, and no instance has both sizes and a range.
@@ -80,6 +86,21 @@ pub fn read_maps_are_parsed_again()
     ensures faultless { (text : List ℕ) (d : Items) (p : Located) → SpellsText text d p → fault_of d ≡ None → (q : Located) × (parse_reading (map_text d) ≡ Ok (d, q)) }
     ensures short { (text : List ℕ) (d : Items) (p : Located) → SpellsText text d p → IsWithinLimits d → length (map_text d) ≤ max_text → (q : Located) × (parse_reading (map_text d) ≡ Ok (d, q)) }
 {}
+
+/// What `parse` answers for the text that `rdl` writes of a map without a fault: the same map, but for want of memory.
+pub fn written_map_is_parsed(
+    alloc: Global,
+    description: &Description,
+) -> Result<Result<Description, ParseFault>, AllocError>
+    ensures { let d = description.now.items in IsOfWords d → IsSpellable d → fault_of d ≡ None
+        → IfOk result (λ read. MatchResult read (λ x. x.items ≡ d) (λ f. f ≡ out_of_memory)) }
+{
+    let text = rdl(alloc, description)?;
+    match parse(alloc, text.as_str()) {
+        Ok((read, _places)) => Ok(Ok(read)),
+        Err(fault) => Ok(Err(fault)),
+    }
+}
 
 /// The items of a statement too are spellable and made of words.
 pub fn spelled_items_are_writable()

@@ -1,4 +1,4 @@
-//! Laws of reading a map that was written. Nothing here does anything when it runs.
+//! Laws of reading a map that was written.
 #![tactic(auto)]
 
 pub mod laws;
