@@ -2,10 +2,12 @@
 ghost use Rattle.std.specs.Prelude.{◌≤◌, IfOk};
 ghost use Rattle.rdl_tree.specs.Depth.{depth};
 
-use crate::assert_holds;
+use crate::{assert_holds, assert_same};
 use rdl_parse::parse::parse;
+use rdl_round::laws::written_map_is_parsed;
 use rdl_text::place;
 use rdl_tree::description::Description;
+use rdl_write::rdl;
 use std::alloc::{AllocError, Global};
 use std::process::Abort;
 use std::test::Fail;
@@ -93,5 +95,25 @@ fn assert_each_fault(
 #[test]
 fn sixteen_levels_and_65536_items_are_accepted(rt: HostRuntime) -> Result<(), Fail> {
     assert_each_fault(&rt, rt.alloc(), &AT_LIMITS)?;
+    Ok(())
+}
+
+/// The text of a map, once it is read, written, read and written again.
+fn written_twice(alloc: Global, text: &str) -> Result<String, &'static str> {
+    let first = description(alloc, text)?;
+    match written_map_is_parsed(alloc, &first) {
+        Ok(Ok(second)) => rdl(alloc, &second).map_err(|_| "no memory"),
+        _ => Err("isn't read again"),
+    }
+}
+
+const WRITTEN: &str =
+    "addrmap top {\n    reg {\n        field {\n        } f[8] = 0x5;\n    } a;\n    reg {\n        field {\n        } g;\n    } b;\n};\n";
+
+#[test]
+fn a_written_map_is_read_again(rt: HostRuntime) -> Result<(), Fail> {
+    let text = "addrmap top { reg { field {} f[8] = 5; } a; reg { field {} g; } b; };";
+    let written = written_twice(rt.alloc(), text)?;
+    assert_same(&rt, written.as_str(), WRITTEN, "what is written");
     Ok(())
 }
