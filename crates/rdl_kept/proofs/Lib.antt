@@ -25,3 +25,8 @@ pub mod StandInWalks
 pub mod TrackedFinds
 pub mod TrackedStandIns
 pub mod TrackedUnchanged
+pub mod SameBodies
+pub mod OutOfReach
+pub mod AlikeParts
+pub mod AlikeRows
+pub mod KeptAlike

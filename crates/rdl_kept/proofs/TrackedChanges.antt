@@ -90,7 +90,7 @@ same-number (anonymous_stays s None k body rest) (suc i) m e f = number-more (nu
 same-number t i m e f = cc
 
 -- each item holds what it held
-inner-same : (t : Tracked) (i : ℕ) → is_changed t ≡ false → (inner i (new_of t) ≡ option_map new_of (staying i t)) × (inner i (old_of t) ≡ option_map old_of (staying i t))
+pub inner-same : (t : Tracked) (i : ℕ) → is_changed t ≡ false → (inner i (new_of t) ≡ option_map new_of (staying i t)) × (inner i (old_of t) ≡ option_map old_of (staying i t))
 inner-same nothing i e = (refl, refl)
 inner-same (named_stays s None y None rest) zero e = (refl, refl)
 inner-same (named_stays s None y None rest) (suc i) e = inner-same rest i e
@@ -141,11 +141,11 @@ abbrev deeper : List ℕ → Option Tracked → Bool
 deeper a o = elim o [ None ↦ false | Some body ↦ is_changed_at a body ]
 
 -- the body around, and those inside
-first-same : (a : List ℕ) (t : Tracked) → is_changed_at a t ≡ false → is_changed t ≡ false
+pub first-same : (a : List ℕ) (t : Tracked) → is_changed_at a t ≡ false → is_changed t ≡ false
 first-same [] t e = e
 first-same (i ∷ a) t e = (neither (is_changed t) (deeper a (staying i t)) e).0
 
-inside-same : (i : ℕ) (a : List ℕ) (t body : Tracked) → staying i t ≡ Some body → is_changed_at (i ∷ a) t ≡ false → is_changed_at a body ≡ false
+pub inside-same : (i : ℕ) (a : List ℕ) (t body : Tracked) → staying i t ≡ Some body → is_changed_at (i ∷ a) t ≡ false → is_changed_at a body ≡ false
 inside-same i a t body f e = sym (ap (deeper a) f) ∙ (neither (is_changed t) (deeper a (staying i t)) e).1
 
 around-same : (i : ℕ) (a : List ℕ) (t : Tracked) (o : Option Tracked) → staying i t ≡ o → is_changed t ≡ false → deeper a o ≡ false → is_changed_at (i ∷ a) t ≡ false
@@ -167,7 +167,7 @@ unedited-at (i ∷ a) t e = by (staying i t) refl (unedited-at a)
     by (Some body) f ih = (λ j. first j || elim (f j) [ None ↦ false | Some body ↦ is_edited_at a body ]) ∙ ih body (inside-same i a t body f e)
 
 -- the body at such an address isn't changed
-body-same : (a : List ℕ) (t body : Tracked) → tracked_at a t ≡ Some body → is_changed_at a t ≡ false → is_changed body ≡ false
+pub body-same : (a : List ℕ) (t body : Tracked) → tracked_at a t ≡ Some body → is_changed_at a t ≡ false → is_changed body ≡ false
 body-same [] t body f e = let same : t ≡ body = cc in ap is_changed (sym same) ∙ e
 body-same (i ∷ a) t body f e = by (staying i t) refl f (body-same a)
   where
@@ -177,7 +177,7 @@ body-same (i ∷ a) t body f e = by (staying i t) refl f (body-same a)
     by (Some u) g f ih = ih u body f (inside-same i a t u g e)
 
 -- it stood at this address
-address-same : (a : List ℕ) (t : Tracked) (x : List ℕ) → is_changed_at a t ≡ false → address_before a t ≡ Some x → x ≡ a
+pub address-same : (a : List ℕ) (t : Tracked) (x : List ℕ) → is_changed_at a t ≡ false → address_before a t ≡ Some x → x ≡ a
 address-same [] t x e f = cc
 address-same (i ∷ []) t x e f = by (number_before i t) refl f
   where
@@ -210,7 +210,7 @@ pub record StandsIn (t : Tracked) (p : List ℕ) : Type 0 where
   pub free : is_changed_at around t ≡ false
 
 -- the item that holds such a body
-holder-stands : (i : ℕ) (a : List ℕ) (t : Tracked) → is_changed_at (i ∷ a) t ≡ false → StandsIn t (i ∷ a)
+pub holder-stands : (i : ℕ) (a : List ℕ) (t : Tracked) → is_changed_at (i ∷ a) t ≡ false → StandsIn t (i ∷ a)
 holder-stands i [] t e = record { around = []; number = i; is = refl; free = first-same (i ∷ []) t e }
 holder-stands i (j ∷ a) t e = by (staying i t) refl (holder-stands j a)
   where
@@ -247,7 +247,7 @@ held-both (i ∷ a) n t e = by (staying i t) refl (inner-same t i same).0 (inner
         ∙ sym (ap (λ o. is_some (option_and_then (body_at (a ++ n ∷ [])) o)) (g ∙ ap (option_map old_of) h))
 
 -- and so a component
-component-both : (t : Tracked) (a : List ℕ) (n : ℕ) → is_changed_at a t ≡ false → is_some (component (new_of t) (a ++ n ∷ [])) ≡ is_some (component (old_of t) (a ++ n ∷ []))
+pub component-both : (t : Tracked) (a : List ℕ) (n : ℕ) → is_changed_at a t ≡ false → is_some (component (new_of t) (a ++ n ∷ [])) ≡ is_some (component (old_of t) (a ++ n ∷ []))
 component-both t [] n e = holds (new_of t) n [] ∙ held-both [] n t e ∙ sym (holds (old_of t) n [])
 component-both t (i ∷ a) n e = holds (new_of t) i (a ++ n ∷ []) ∙ held-both (i ∷ a) n t e ∙ sym (holds (old_of t) i (a ++ n ∷ []))
 
@@ -276,7 +276,7 @@ module _ (i : ℕ) (path : List ℕ) (t : Tracked) (name p : List ℕ) (same : i
       inside-stands body f (type_at path (new_of body) name) (ih body f)
       (sym (ap (λ o. option_or (option_map (λ a. i ∷ a) (option_and_then (λ b. type_at path b name) o)) (option_map (λ k. k ∷ []) (last_definition name i (new_of t)))) (h ∙ ap (option_map new_of) f)) ∙ e)
 
-type-stands : (a : List ℕ) (n : ℕ) (t : Tracked) (name p : List ℕ) → is_changed_at a t ≡ false → type_at (a ++ n ∷ []) (new_of t) name ≡ Some p → StandsIn t p
+pub type-stands : (a : List ℕ) (n : ℕ) (t : Tracked) (name p : List ℕ) → is_changed_at a t ≡ false → type_at (a ++ n ∷ []) (new_of t) name ≡ Some p → StandsIn t p
 type-stands [] n t name p e f = step-stands n [] t name p e (staying n t) refl (inner-same t n e).0 (λ body g q h. let no : None ≡ Some q = h in cc) f
 type-stands (i ∷ a) n t name p e f =
     let same = first-same (i ∷ a) t e in
@@ -296,7 +296,7 @@ same-step i path t name same o f ih =
     by None f h g = ap (option_and_then (λ b. type_at path b name)) h ∙ sym (ap (option_and_then (λ b. type_at path b name)) g)
     by (Some body) f h g = ap (option_and_then (λ b. type_at path b name)) h ∙ ih body f ∙ sym (ap (option_and_then (λ b. type_at path b name)) g)
 
-type-same : (a : List ℕ) (n : ℕ) (t : Tracked) (name : List ℕ) → is_changed_at a t ≡ false → type_at (a ++ n ∷ []) (new_of t) name ≡ type_at (a ++ n ∷ []) (old_of t) name
+pub type-same : (a : List ℕ) (n : ℕ) (t : Tracked) (name : List ℕ) → is_changed_at a t ≡ false → type_at (a ++ n ∷ []) (new_of t) name ≡ type_at (a ++ n ∷ []) (old_of t) name
 type-same [] n t name e = same-step n [] t name e (staying n t) refl (λ body f. refl)
 type-same (i ∷ a) n t name e = same-step i (a ++ n ∷ []) t name (first-same (i ∷ a) t e) (staying i t) refl (λ body f. type-same a n body name (inside-same i a t body f e))
 

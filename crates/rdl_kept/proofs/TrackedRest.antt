@@ -25,7 +25,7 @@ use Rattle.rdl_kept.proofs.TrackedValues.{own-stays, values-alike}
 use Rattle.rdl_kept.proofs.TrackedInstances.{StandsAs, LeadAlike, instances-alike}
 
 -- an option that is some
-some-there : {X : Type 0} (o : Option X) → is_some o ≡ true → (x : X) × (o ≡ Some x)
+pub some-there : {X : Type 0} (o : Option X) → is_some o ≡ true → (x : X) × (o ≡ Some x)
 some-there None e = cc
 some-there (Some x) e = (x, refl)
 

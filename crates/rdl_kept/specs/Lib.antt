@@ -1,5 +1,6 @@
 pub mod AllKept
 pub mod Reach
+pub mod KeptAlike
 pub mod Skeleton
 pub mod Tracked
 pub mod EditedBodies

@@ -15,6 +15,7 @@ ghost use Rattle.rdl_elab.specs.Written.{all_layouts};
 ghost use Rattle.rdl_kept.specs.Skeleton.{skeleton};
 ghost use Rattle.rdl_kept.specs.Tracked.{Tracked, old_of, new_of};
 ghost use Rattle.rdl_kept.specs.EditedBodies.{edits, is_changed_at, NamesStay, GoByName};
+ghost use Rattle.rdl_kept.specs.KeptAlike.{AreKeptAlikeBut};
 ghost use Rattle.rdl_elab.specs.Known.{HasRows};
 ghost use Rattle.rdl_kept.specs.Harmless.{IsHarmless};
 ghost use Rattle.rdl_kept.specs.Renaming.{IsRenaming};
@@ -56,6 +57,14 @@ pub fn reach_is_as_found()
 pub fn steps_leave_the_rest_unchanged()
     ensures edited { (t : Tracked) (bodies : List (List ℕ)) → fault_of (old_of t) ≡ None → NamesStay t → GoByName bodies t → AreUnchangedBut (edits t (old_of t) (new_of t)) (old_of t) bodies (new_of t) }
     ensures changed { (t : Tracked) (bodies : List (List ℕ)) → fault_of (old_of t) ≡ None → AreUnchangedBut (λ a. is_changed_at a t) (old_of t) bodies (new_of t) }
+{}
+
+/// Whatever a step does, every component out of reach of the bodies that it changes, and of those inside them, stands for
+/// the kept one that stood at its address, and all that is kept of the two is the same: not only their layouts, but also
+/// what their rows show, where an instance is empty, the assignments that begin in them, and the rows below them with
+/// their faults, as long as nothing reaches these from outside. So what is kept of such a component needn't be made again.
+pub fn steps_keep_what_is_out_of_reach()
+    ensures { (t : Tracked) (bodies : List (List ℕ)) → fault_of (old_of t) ≡ None → AreKeptAlikeBut (in_reach (λ a. is_changed_at a t) (new_of t)) (old_of t) bodies (new_of t) }
 {}
 
 /// A map that has rows still has them after a harmless change that gives no item a fault. So nothing has to be elaborated
