@@ -64,6 +64,20 @@ led-among q (e ∷ es) = by (bytes_eq q e.0) (led-among q es)
     by true rest = refl
     by false rest = rest
 
+-- the words of an entry are among those that lead somewhere
+pub own_among : (es : List Entry) (os : List (Vec ℕ × ℕ)) (q : List ℕ) (spot : ℕ) → is_some (own_at es q spot) ≡ true → is_among q (words_in (own_pairs es ++ other_pairs os)) ≡ true
+own_among [] os q spot h = cc
+own_among (e ∷ es) os q zero h = by (bytes_eq e.words q) refl h
+  where
+    by : (b : Bool) → bytes_eq e.words q ≡ b → is_some (cond b (Some e.number) None) ≡ true → (bytes_eq q e.words || is_among q (words_in (own_pairs es ++ other_pairs os))) ≡ true
+    by true is there = ap (λ p. p || is_among q (words_in (own_pairs es ++ other_pairs os))) (turned q e.words ∙ is)
+    by false is there = cc
+own_among (e ∷ es) os q (suc k) h = by (bytes_eq q e.words) (own_among es os q k h)
+  where
+    by : (b : Bool) → is_among q (words_in (own_pairs es ++ other_pairs os)) ≡ true → (b || is_among q (words_in (own_pairs es ++ other_pairs os))) ≡ true
+    by true rest = refl
+    by false rest = rest
+
 -- words that lead somewhere go on to lead there
 pub stays-led : (es : List (List ℕ × ℕ)) (w : List ℕ) (n : ℕ) → is_none (number_of es w) ≡ false → (q : List ℕ) → number_of es q ≡ option_or (number_of es q) (if_given w n q)
 stays-led es w n there q = by (bytes_eq w q) refl

@@ -1,5 +1,5 @@
 //! Layouts under their keys, found again by the words of what they are made of.
-ghost use Rattle.std.specs.Prelude.{◌≡◌, ◌⊎◌, ◌≤◌, ◌<◌, ◌+◌, ℕ, List, [], true, map, length, slice_get, option_copied, option_map, option_and_then, Some, All, Contains, IfOk, IfSome, IsSome, OnOk};
+ghost use Rattle.std.specs.Prelude.{◌≡◌, ◌⊎◌, ◌≤◌, ◌<◌, ◌+◌, ℕ, List, [], true, map, length, slice_get, option_copied, option_map, option_and_then, Some, All, Contains, IfOk, IfSome, IsSome, IsSomeAnd, OnOk};
 ghost use Rattle.std.specs.Vec.{vec_capacity, vec_len};
 ghost use Rattle.slab.specs.Slab.{get, HasRoomFor};
 ghost use Rattle.rdl_elab.specs.declared.walk.finished.Finished.{Finished};
@@ -7,7 +7,7 @@ ghost use Rattle.rdl_elab.specs.declared.stored.Candidate.{Candidate};
 ghost use Rattle.rdl_elab.specs.declared.stored.Keyed.{Keyed};
 ghost use Rattle.rdl_elab.specs.Anew.{AreKept};
 ghost use Rattle.rdl_elab.specs.Kept.{Layouts};
-ghost use Rattle.rdl_elab.specs.Words.{is_among};
+ghost use Rattle.rdl_elab.specs.Words.{is_among, AreMadeOf};
 ghost use Rattle.rdl_elab.specs.WordIndex.{words_in};
 ghost use Rattle.rdl_elab.specs.Stored.{Leads};
 ghost use Rattle.rdl_elab.specs.Taken.{keyed, IsTaken, AreTaken, Stays, AreMarkedOf, AreAmong};
@@ -72,11 +72,57 @@ fn used_keys(alloc: Global, len: usize, components: &[Finished]) -> Result<Vec<b
     Ok(used)
 }
 
+/// Whether these words lead to a number already, by the entry to which the words of the same key led before.
+fn are_led(index: &WordIndex, spots: &[usize], key: Option<usize>, words: &[u8]) -> bool
+    ensures { result ≡ true → is_among words.now (words_in index.now) ≡ true }
+{
+    match key {
+        Some(key) => match spots.get(key) {
+            Some(spot) => index.has_at(words, *spot),
+            None => false,
+        },
+        None => false,
+    }
+}
+
+/// Notes the place of the last entry under the key, if there is one that is within.
+fn note_last(spots: &mut Vec<usize>, key: Option<usize>, index: &WordIndex) {
+    if let Some(key) = key {
+        if let Some(spot) = spots.get_mut(key) {
+            *spot = index.len().saturating_sub(1);
+        }
+    }
+}
+
+/// Leads from the words to the number, if they lead nowhere yet. Under each key stands the place of the entry of its words, so
+/// that those of the next component with this key need no search.
+fn lead_words(
+    alloc: Global,
+    index: &mut WordIndex,
+    spots: &mut Vec<usize>,
+    number: usize,
+    key: Option<usize>,
+    words: &SharedWords,
+) -> Result<(), AllocError>
+    ensures there { OnOk result (is_among words.now (words_in index.new) ≡ true) }
+    ensures others { OnOk result ((q : List ℕ) → is_among q (words_in index.old) ≡ true → is_among q (words_in index.new) ≡ true) }
+    ensures leads { OnOk result ((all : List Layouts) → IsSomeAnd (slice_get all number) (AreMadeOf words.now) → Leads all index.old → Leads all index.new) }
+{
+    if are_led(index, spots.as_slice(), key, words.as_slice()) {
+        return Ok(());
+    }
+    index.insert(alloc, words, number)?;
+    note_last(spots, key, index);
+    Ok(())
+}
+
 /// Leads from the words to the number, and answers the layouts.
 fn lead(
     alloc: Global,
     index: &mut WordIndex,
+    spots: &mut Vec<usize>,
     number: usize,
+    key: Option<usize>,
     laid_out: LaidOut,
 ) -> Result<SharedLayouts, AllocError>
     ensures layouts { IfOk result (λ layouts. layouts ≡ laid_out.layouts) }
@@ -85,7 +131,7 @@ fn lead(
     ensures leads { OnOk result ((all : List Layouts) → slice_get all number ≡ Some laid_out.layouts → Leads all index.old → Leads all index.new) }
 {
     let (words, layouts) = laid_out.into_parts();
-    index.insert(alloc, &words, number)?;
+    lead_words(alloc, index, spots, number, key, &words)?;
     Ok(layouts)
 }
 
@@ -93,6 +139,7 @@ fn lead(
 fn keep(
     alloc: Global,
     index: &mut WordIndex,
+    spots: &mut Vec<usize>,
     number: usize,
     finished: Finished,
 ) -> Result<Keyed, AllocError>
@@ -102,21 +149,27 @@ fn keep(
     ensures leads { OnOk result ((all : List Layouts) → slice_get all number ≡ Some finished.entry.laid_out.layouts → Leads all index.old → Leads all index.new) }
 {
     let key = finished.key;
-    let layouts = lead(alloc, index, number, finished.laid_out)?;
+    let layouts = lead(alloc, index, spots, number, key, finished.laid_out)?;
     Ok(Keyed { layouts, key })
 }
 
-/// The layouts of these components, and an index of them.
-fn index_of(alloc: Global, components: Vec<Finished>) -> Result<Indexed, AllocError>
+/// The layouts of these components, and an index of them. Their keys are mostly below this number.
+fn index_of(
+    alloc: Global,
+    len: usize,
+    components: Vec<Finished>,
+) -> Result<Indexed, AllocError>
     ensures all { IfOk result (λ i. i.all.items ≡ map keyed components.entry.items) }
     ensures kept { IfOk result (λ i. AreKept (words_in i.index) components.entry.items) }
     ensures leads { IfOk result (λ i. Leads (map (λ (k : Keyed). k.layouts) i.all.items) i.index) }
 {
     let mut all = Vec::with_capacity(alloc, components.len())?;
     let mut index = WordIndex::new(alloc);
+    let mut spots = Vec::with_capacity(alloc, len)?;
+    spots.resize(len, 0)?;
     for finished in components {
         let number = all.len();
-        all.push(keep(alloc, &mut index, number, finished)?)?;
+        all.push(keep(alloc, &mut index, &mut spots, number, finished)?)?;
     }
     Ok(Indexed { all, index })
 }
@@ -304,9 +357,10 @@ impl Stored {
         ensures placed { OnOk result (self.new.placed ≡ placed) }
         ensures err { OnErr result (self.new ≡ self.old) }
     {
-        let used = used_keys(alloc, self.layouts.capacity(), components.as_slice())?;
+        let len = self.layouts.capacity();
+        let used = used_keys(alloc, len, components.as_slice())?;
         let mut keys = Vec::with_capacity(alloc, components.len())?;
-        let Indexed { all, index } = index_of(alloc, components)?;
+        let Indexed { all, index } = index_of(alloc, len, components)?;
         self.layouts.reserve(all.len())?;
         remove_unused(&mut self.layouts, self.keys.as_slice(), used.as_slice());
         put_all(&mut self.layouts, all, &mut keys);

@@ -178,8 +178,8 @@ fn is_clean_level<'a>(
     Ok(true)
 }
 
-/// Whether this component is found to be clean in the mode, where it is asked for. Those of its instances have been
-/// judged.
+/// Whether this component is found to be clean in the mode, where it is asked for or has no instances. Those of its
+/// instances have been judged.
 fn is_clean_in<'a>(
     alloc: Global,
     components: &[Finished<'a>],
@@ -191,6 +191,10 @@ fn is_clean_in<'a>(
     requires { AreCleanIn components.now clean.now }
     ensures { IfOk result (λ answer. answer ≡ true → IsCleanIn components.now component.now mode) }
 {
+    let parts = component.parts.as_slice();
+    if parts.is_empty() {
+        return Ok(true);
+    }
     if !needed.has(mode) {
         return Ok(false);
     }
@@ -200,7 +204,6 @@ fn is_clean_in<'a>(
         reaching: with_own(alloc, &[], component.assignments.as_slice())?,
     };
     let spans = component.layouts.under(mode).spans.as_slice();
-    let parts = component.parts.as_slice();
     is_clean_level(alloc, components, clean, &level, spans, parts, LEVELS)
 }
 

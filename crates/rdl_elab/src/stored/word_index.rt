@@ -153,10 +153,11 @@ impl Model for WordIndex {
 }
 
 impl WordIndex {
-    ghost use Rattle.std.specs.Prelude.{◌≡◌, ℕ, List, [], OnOk, OnErr, None, Some, IfSome, option_copied, option_map, bytes_eq, if◌then◌else◌};
+    ghost use Rattle.std.specs.Prelude.{◌≡◌, ℕ, List, [], true, OnOk, OnErr, None, Some, IfSome, option_copied, option_map, bytes_eq, if◌then◌else◌};
     ghost use Rattle.std.specs.Option.{option_or};
     ghost use Rattle.rdl_elab.specs.declared.stored.word_index.Led.{Led};
-    ghost use Rattle.rdl_elab.specs.WordIndex.{number_of};
+    ghost use Rattle.rdl_elab.specs.WordIndex.{number_of, words_in};
+    ghost use Rattle.rdl_elab.specs.Words.{is_among};
 
     /// No words lead anywhere.
     pub(crate) fn new(alloc: Global) -> WordIndex
@@ -182,6 +183,19 @@ impl WordIndex {
             }),
             None => led_other(&self.others, words),
         }
+    }
+
+    /// How many words have an entry of their own.
+    pub(crate) fn len(&self) -> usize {
+        self.entries.len()
+    }
+
+    /// Whether the entry at this place is that of the words.
+    #[tactic(auto, using(crate::proofs::LedWords::own_among))]
+    pub(crate) fn has_at(&self, words: &[u8], spot: usize) -> bool
+        ensures { result ≡ true → is_among words.now (words_in self.now) ≡ true }
+    {
+        is_own(self.entries.as_slice(), words, spot)
     }
 
     /// Leads from the words to the number, if they lead nowhere yet.

@@ -22,14 +22,14 @@ pub put_all-requires-clause-kept : goal.put_all-requires-clause-kept
 put_all-requires-clause-kept c =
     let slots = c.self.inside.layouts.slots in
     let new = c.remove_unused.new.layouts in
-    let len = c.capacity.result in
+    let len = c.capacity-len.result in
     let used = c.in_ok-used.used.items in
     let fs = c.args.components.items in
     let kept : (k : ℕ) → slice_get used k ≡ Some true → get new k ≡ under_key slots k = λ k m.
     c.remove_unused.ensures.kept k (ap (λ (bs : List _). slice_get bs k) c.as_slice-3.ensures.value ∙ m) ∙ ap (λ (s : Slab Layouts). get s k) c.reserve.ensures.rest_kept in
     let marked = subst (λ (gs : List Finished). All (λ (f : Finished). IfSome f.key (λ k. k < len → slice_get used k ≡ Some true)) gs) c.as_slice.ensures.value c.in_ok-used.ensures.marked in
     let were = subst (λ (s : Stored). AllByRecursion (WasKept s.slots) fs) (sym c.self.view_is) c.requires in
-    subst (λ (ks : List Keyed). AreTaken new ks) (sym c.in_ok-all.ensures.all) (all-taken slots new len used c.capacity.ensures.slots kept fs marked were)
+    subst (λ (ks : List Keyed). AreTaken new ks) (sym c.in_ok-all.ensures.all) (all-taken slots new len used c.capacity-len.ensures.slots kept fs marked were)
 
 pub invariant_of-self-2 : goal.invariant_of-self-2
 invariant_of-self-2 c =
