@@ -154,11 +154,7 @@ fn keep(
 }
 
 /// The layouts of these components, and an index of them. Their keys are mostly below this number.
-fn index_of(
-    alloc: Global,
-    len: usize,
-    components: Vec<Finished>,
-) -> Result<Indexed, AllocError>
+fn index_of(alloc: Global, len: usize, components: Vec<Finished>) -> Result<Indexed, AllocError>
     ensures all { IfOk result (λ i. i.all.items ≡ map keyed components.entry.items) }
     ensures kept { IfOk result (λ i. AreKept (words_in i.index) components.entry.items) }
     ensures leads { IfOk result (λ i. Leads (map (λ (k : Keyed). k.layouts) i.all.items) i.index) }
