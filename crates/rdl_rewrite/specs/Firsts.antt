@@ -1,7 +1,8 @@
 -- What a walk keeps of the instances before an item in its body: of the first of each name the number, and whether its
 -- component is the one in which the item on the way stands.
 -- own: no part of what a target passes; `passes` (Target of rdl_scope) says that by a search through whole bodies.
-use Rattle.std.specs.Prelude.{◌≡◌, ℕ, Bool, true, false, ◌&&◌, List, [], ◌∷◌, ◌++◌, Option, option_map, option_and_then}
+use Rattle.std.specs.Prelude.{◌≡◌, ℕ, Bool, true, false, ◌&&◌, List, [], ◌∷◌, ◌++◌, Option, option_map, option_and_then, Some, None, if◌then◌else◌}
+use Rattle.std.specs.Option.{option_or}
 use Rattle.rdl_tree.specs.Items.{Items}
 use Rattle.rdl_tree.specs.Address.{body_at}
 use Rattle.rdl_tree.specs.declared.description.Item.{Item}
@@ -10,12 +11,16 @@ use Rattle.rdl_tree.specs.declared.description.Of.TheVariants.{Named, Anonymous}
 use Rattle.rdl_scope.specs.ByName.{value_under}
 use Rattle.rdl_scope.specs.Types.{component_of}
 use Rattle.rdl_scope.specs.Target.{instance_before}
-use Rattle.rdl_scope.specs.Walk.{is_definition}
+use Rattle.rdl_scope.specs.Walk.{is_definition, is_instance}
 use Rattle.rdl_rewrite.specs.Addresses.{same, leads_to}
 use Rattle.rdl_rewrite.specs.declared.firsts.Firsts.{Firsts}
 
 abbrev pub first_under : Firsts → List ℕ → Option (ℕ × Bool)
 first_under firsts q = value_under firsts.instances q
+
+-- the item of number k is noted with this mark, if it is the first instance of its name
+abbrev pub NotesItem : (old new : Firsts) → Item → ℕ → Bool → Type 0
+NotesItem old new x k mark = (q : List ℕ) → first_under new q ≡ option_or (first_under old q) (if is_instance q (Some x) then Some (k, mark) else None)
 
 -- of the instance of number k of the body at b
 abbrev pub first_at : Items → (place b : List ℕ) → ℕ → ℕ × Bool

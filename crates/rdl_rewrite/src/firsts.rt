@@ -12,8 +12,7 @@ pub(crate) struct Firsts<'a> {
 impl<'a> Firsts<'a> {
     ghost use Rattle.std.specs.Prelude.{◌≡◌, ℕ, List, Some, None, IfOk, OnOk, bytes_eq, if◌then◌else◌};
     ghost use Rattle.std.specs.Option.{option_or};
-    ghost use Rattle.rdl_scope.specs.Walk.{is_instance};
-    ghost use Rattle.rdl_rewrite.specs.Firsts.{first_under};
+    ghost use Rattle.rdl_rewrite.specs.Firsts.{first_under, NotesItem};
 
     /// No instances, where so many are awaited.
     pub(crate) fn with_room(alloc: Global, instances: usize) -> Result<Firsts<'a>, AllocError>
@@ -49,7 +48,7 @@ impl<'a> Firsts<'a> {
         number: usize,
         is_inside: bool,
     ) -> Result<(), AllocError>
-        ensures { OnOk result ((q : List ℕ) → first_under self.new q ≡ option_or (first_under self.old q) (if is_instance q (Some found.now) then Some (number, is_inside) else None)) }
+        ensures { OnOk result (NotesItem self.old self.new found.now number is_inside) }
     {
         match found {
             Item::Instance(shell, _) => self.put(shell.name.as_str(), number, is_inside),

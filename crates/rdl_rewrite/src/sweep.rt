@@ -1,16 +1,14 @@
 //! The patches of an edit that reaches every body.
-ghost use Rattle.std.specs.Prelude.{◌≡◌, ◌≤◌, ◌<◌, ◌++◌, ◌∷◌, [], ℕ, List, true, false, length, reverse, Some, None, IfOk, OnOk, option_copied, if◌then◌else◌};
+ghost use Rattle.std.specs.Prelude.{◌≡◌, ◌≤◌, ◌<◌, ◌++◌, ◌∷◌, [], ℕ, List, true, false, length, reverse, Some, IfOk, OnOk, option_copied};
 ghost use Rattle.std.specs.List.{list_any};
-ghost use Rattle.std.specs.Option.{option_or};
 ghost use Rattle.rdl_tree.specs.ItemAt.{item_at};
 ghost use Rattle.rdl_tree.specs.Items.{no_items};
 ghost use Rattle.rdl_tree.specs.View.{add, list_of};
 ghost use Rattle.rdl_tree.specs.Address.{body_at, holder_of, number_of};
 ghost use Rattle.rdl_tree.specs.Depth.{depth};
 ghost use Rattle.rdl_scope.specs.Types.{items_in};
-ghost use Rattle.rdl_scope.specs.Walk.{is_instance};
 ghost use Rattle.rdl_rewrite.specs.Addresses.{same};
-ghost use Rattle.rdl_rewrite.specs.Firsts.{AreFirsts, first_under, is_inside, is_dynamic};
+ghost use Rattle.rdl_rewrite.specs.Firsts.{AreFirsts, NotesItem, is_inside, is_dynamic};
 ghost use Rattle.rdl_rewrite.specs.Led.{IsLed};
 ghost use Rattle.rdl_rewrite.specs.Sweep.{Knows};
 ghost use Rattle.rdl_rewrite.specs.Fates.{fate, fate_patches};
@@ -130,7 +128,7 @@ impl<'a> Sweep<'a> {
         firsts: &mut Firsts<'a>,
     ) -> Result<(), AllocError>
         requires { length at.now < 17 }
-        ensures { OnOk result (assigns ≡ true → (q : List ℕ) → first_under firsts.new q ≡ option_or (first_under firsts.old q) (if is_instance q (Some found.now) then Some (number, is_inside self.now.place (option_copied self.now.holder) (at.now ++ number ∷ []) inside_led found.now) else None)) }
+        ensures { OnOk result (assigns ≡ true → NotesItem firsts.old firsts.new found.now number (is_inside self.now.place (option_copied self.now.holder) (at.now ++ number ∷ []) inside_led found.now)) }
     {
         if !assigns {
             return Ok(());

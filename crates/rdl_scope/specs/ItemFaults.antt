@@ -1,13 +1,13 @@
 -- The first fault of the items of a description.
 -- SystemRDL 2.0, clause 5: names, scopes, definitions, instances, property assignments and defaults; clauses 9 to 13: what a component may hold,
 -- and the numbers of its instances. own: the limits, which faults there are, and their order.
-use Rattle.std.specs.Prelude.{ℕ, zero, suc, ◌*◌, ◌^◌, ◌&&◌, ◌||◌, not, nat_lt, nat_le, Bool, true, false, List, [], ◌∷◌, ◌++◌, length, Option, Some, None, option_map, option_and_then, bytes_eq}
+use Rattle.std.specs.Prelude.{ℕ, zero, suc, ◌*◌, ◌^◌, ◌&&◌, ◌||◌, not, nat_lt, nat_le, Bool, true, false, List, [], ◌∷◌, ◌++◌, length, Option, Some, None, option_map, option_and_then, bytes_eq, ◌≡◌, slice_get}
 use Rattle.std.specs.Option.{option_or, is_some, is_none}
 use Rattle.std.specs.List.{list_any, list_all}
 use Rattle.std.specs.Int.{is_power_of_two}
 use Rattle.std.specs.Cmp.Lexicographic.{pointwise}
 use Rattle.rdl_tree.specs.Items.{Items, no_items, plain, holder, Plain, named, own, default, dynamic, count}
-use Rattle.rdl_tree.specs.View.{plain_item, holder_item}
+use Rattle.rdl_tree.specs.View.{list_of, plain_item, holder_item}
 use Rattle.rdl_tree.specs.Component.{holder_kind}
 use Rattle.rdl_tree.specs.Weight.{weight}
 use Rattle.rdl_tree.specs.Depth.{depth}
@@ -26,6 +26,7 @@ use Rattle.rdl_tree.specs.declared.fault.Fault.{Fault}
 use Rattle.rdl_tree.specs.declared.description.Component.{Component}
 use Rattle.rdl_tree.specs.declared.description.Item.{Item}
 use Rattle.rdl_tree.specs.declared.description.Item.TheVariants.{Define, Instance, Own, Default, Dynamic}
+use Rattle.rdl_tree.specs.declared.description.Of.{Of}
 use Rattle.rdl_scope.specs.Types.{last_definition, component_of, component_at}
 use Rattle.rdl_scope.specs.Target.{instance_before, passes}
 use Rattle.rdl_scope.specs.Value.{own_before, last_default, is_false}
@@ -141,6 +142,12 @@ kind_at d c = option_map (λ (k : Component). k.kind) (component_at d c)
 
 abbrev pub instance_kind : Items → List ℕ → Option Kind
 instance_kind d a = option_and_then (kind_at d) (component_of d a)
+
+-- each instance in a component is of a kind that the component may hold
+abbrev pub AreKindsAllowed : Items → Type 0
+AreKindsAllowed d =
+    (a : List ℕ) (c : Component) (n : ℕ) (s : Shell) (o : Of) (k : Kind) → component_at d a ≡ Some c → slice_get (list_of c.body) n ≡ Some (Instance s o)
+    → instance_kind d (a ++ n ∷ []) ≡ Some k → may_instantiate (Some c.kind) k ≡ true
 
 abbrev pub last_of : List (List ℕ) → Option (List ℕ)
 last_of [] = None

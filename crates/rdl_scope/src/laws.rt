@@ -1,23 +1,22 @@
 //! What the definitions have in common.
-ghost use Rattle.std.specs.Prelude.{◌≡◌, ℕ, ◌<◌, true, length, List, [], ◌∷◌, ◌++◌, Some, None, slice_get};
+ghost use Rattle.std.specs.Prelude.{◌≡◌, ℕ, List, [], ◌∷◌, Some, None, slice_get};
 ghost use Rattle.std.specs.Option.{is_some};
 ghost use Rattle.rdl_tree.specs.ItemAt.{item_at};
 ghost use Rattle.rdl_tree.specs.Items.{Items};
-ghost use Rattle.rdl_tree.specs.Address.{holder_of, number_of, body_at};
+ghost use Rattle.rdl_tree.specs.Address.{body_at};
 ghost use Rattle.rdl_tree.specs.View.{list_of};
 ghost use Rattle.rdl_tree.specs.Patch.{patched};
 ghost use Rattle.rdl_tree.specs.declared.patch.Patch.TheVariants.{Insert, Exchange};
 ghost use Rattle.rdl_tree.specs.declared.part.Part.TheVariants.{OfShell, OfValue};
 ghost use Rattle.rdl_tree.specs.declared.value.Value.{Value};
-ghost use Rattle.rdl_tree.specs.declared.shell.Kind.{Kind};
 ghost use Rattle.rdl_tree.specs.declared.shell.Shell.{Shell};
 ghost use Rattle.rdl_tree.specs.declared.description.Component.{Component};
 ghost use Rattle.rdl_tree.specs.declared.description.Item.{Item};
 ghost use Rattle.rdl_tree.specs.declared.description.Item.TheVariants.{Instance, Dynamic};
 ghost use Rattle.rdl_tree.specs.declared.description.Of.{Of};
 ghost use Rattle.rdl_scope.specs.Types.{component_at};
-ghost use Rattle.rdl_scope.specs.ItemFaults.{may_instantiate, instance_kind, item_fault, fault_of};
-ghost use Rattle.rdl_scope.specs.OneItem.{NoOtherFault};
+ghost use Rattle.rdl_scope.specs.ItemFaults.{AreKindsAllowed, item_fault, fault_of};
+ghost use Rattle.rdl_scope.specs.OneItem.{IsLast, NoOtherFault};
 ghost use Rattle.rdl_scope.specs.Value.{component_value};
 ghost use Rattle.rdl_scope.specs.Closed.{Made, component, head_value, IsAsFound};
 
@@ -36,8 +35,7 @@ pub fn accepted_items_have_no_fault()
     ensures root { (d : Items) (n : ℕ) (x : Item) → fault_of d ≡ None → slice_get (list_of d) n ≡ Some x → item_fault d None [] d n x ≡ None }
     ensures inside { (d : Items) (a : List ℕ) (c : Component) (n : ℕ) (x : Item) → fault_of d ≡ None → component_at d a ≡ Some c
         → slice_get (list_of c.body) n ≡ Some x → item_fault d (Some c.kind) a c.body n x ≡ None }
-    ensures kinds { (d : Items) (a : List ℕ) (c : Component) (n : ℕ) (s : Shell) (o : Of) (k : Kind) → fault_of d ≡ None → component_at d a ≡ Some c
-        → slice_get (list_of c.body) n ≡ Some (Instance s o) → instance_kind d (a ++ n ∷ []) ≡ Some k → may_instantiate (Some c.kind) k ≡ true }
+    ensures kinds { (d : Items) → fault_of d ≡ None → AreKindsAllowed d }
 {}
 
 /// In a description without a fault, another shell of an instance that keeps its name, another value of a dynamic
@@ -48,6 +46,6 @@ pub fn other_items_keep_no_fault()
         → NoOtherFault (patched (Exchange at (OfShell new)) d) at }
     ensures value { (d : Items) (at : List ℕ) (t : List (List ℕ)) (p : List ℕ) (v w : Value) → fault_of d ≡ None → item_at at d ≡ Some (Dynamic t p v)
         → NoOtherFault (patched (Exchange at (OfValue w)) d) at }
-    ensures put { (d b : Items) (at : List ℕ) (t : List (List ℕ)) (p : List ℕ) (v : Value) → fault_of d ≡ None → 0 < length at
-        → body_at (holder_of at) d ≡ Some b → number_of at ≡ length (list_of b) → NoOtherFault (patched (Insert at (Dynamic t p v)) d) at }
+    ensures put { (d : Items) (at : List ℕ) (t : List (List ℕ)) (p : List ℕ) (v : Value) → fault_of d ≡ None → IsLast at d
+        → NoOtherFault (patched (Insert at (Dynamic t p v)) d) at }
 {}

@@ -4,9 +4,10 @@ use Rattle.std.specs.Prelude.{◌≡◌, ℕ, Bool, false, not, ◌&&◌, ◌==�
 use Rattle.rdl_tree.specs.Items.{Items}
 use Rattle.rdl_tree.specs.View.{items_of}
 use Rattle.rdl_tree.specs.Address.{body_at, map_body, holder_of, number_of}
+use Rattle.rdl_tree.specs.Edit.{insert_item}
 use Rattle.rdl_tree.specs.Patch.{fits, patched, inverse}
 use Rattle.rdl_tree.specs.Step.{IsStep}
-use Rattle.rdl_tree.specs.Way.{Held, none_held, are_ready, are_ready_in, backs}
+use Rattle.rdl_tree.specs.Way.{Held, none_held, held_at, are_ready, are_ready_in, backs}
 use Rattle.rdl_tree.specs.Walk.{IsUnderWay, IsOnWay}
 use Rattle.rdl_tree.specs.declared.description.Item.{Item}
 use Rattle.rdl_tree.specs.declared.patch.Patch.{Patch}
@@ -61,3 +62,15 @@ ComesBackWithin path held now steps less room more old new =
 -- a walk back has gone on from one description to the other
 abbrev pub ComesBack : Held → List Step → List Step → List Patch → List Patch → Items → Items → Type 0
 ComesBack held steps less room more old new = (start : Items) (all : List Patch) → IsOnWay held steps old start room all → IsOnWay none_held less new start more all
+
+-- as the body at the path, held open with so much room, became the other one, a walk back has gone on, and none is held open behind it
+abbrev pub ComesBackHolding : (path : List ℕ) → (wide : ℕ) → (steps less : List Step) → (room more : List Patch) → (old new : Items) → Type 0
+ComesBackHolding path wide steps less room more old new = ComesBackWithin path (held_at path wide) none_held steps less room more old new
+
+-- the item was put into the body, held open with so much room, and a walk back has gone on in it
+abbrev pub PutsBackWithin : (at : List ℕ) → Item → (wide : ℕ) → (steps less : List Step) → (room more : List Patch) → (old new : Items) → Type 0
+PutsBackWithin at x wide steps less room more old new = ComesBackHolding (holder_of at) wide steps less (room ++ Delete at ∷ []) more (insert_item (number_of at) x old) new
+
+-- the same of the whole description
+abbrev pub PutsBack : (at : List ℕ) → Item → (wide : ℕ) → (steps less : List Step) → (room more : List Patch) → (old new : Items) → Type 0
+PutsBack at x wide steps less room more old new = ComesBack (held_at (holder_of at) wide) steps less (room ++ Delete at ∷ []) more (patched (Insert at x) old) new

@@ -1,12 +1,10 @@
 //! Steps that put items into one body, taken back one after another while the body is held open.
-ghost use Rattle.std.specs.Prelude.{◌≡◌, [], ◌∷◌, ◌+◌, ◌<◌, ◌≤◌, ◌++◌, IsTrue, IsFalse, IfOk, IfErr, OnOk, OnErr, length, reverse, vec_capacity};
+ghost use Rattle.std.specs.Prelude.{◌≡◌, [], ◌+◌, ◌<◌, ◌≤◌, ◌++◌, IsTrue, IsFalse, IfOk, IfErr, OnOk, OnErr, length, reverse, vec_capacity};
 ghost use Rattle.rdl_tree.specs.Items.{Items};
 ghost use Rattle.rdl_tree.specs.View.{items_of, list_of};
-ghost use Rattle.rdl_tree.specs.Address.{holder_of, number_of};
+ghost use Rattle.rdl_tree.specs.Address.{number_of};
 ghost use Rattle.rdl_tree.specs.Edit.{insert_item};
-ghost use Rattle.rdl_tree.specs.Way.{none_held, held_at};
-ghost use Rattle.rdl_tree.specs.Gap.{around, goes_in, is_into, IsBackWithin, ComesBackWithin};
-ghost use Rattle.rdl_tree.specs.declared.patch.Patch.{Patch};
+ghost use Rattle.rdl_tree.specs.Gap.{around, goes_in, is_into, IsBackWithin, ComesBackHolding, PutsBackWithin};
 
 use crate::address::Address;
 use crate::description::{Body, Item};
@@ -31,7 +29,7 @@ pub(crate) fn fill(
     requires empty { length room.items ≡ 0 }
     requires room { length (list_of body.old) < vec_capacity room }
     requires patches { length patches.old.items + length steps.old.items < vec_capacity patches.old }
-    ensures way { ComesBackWithin (holder_of address) (held_at (holder_of address) (vec_capacity room)) none_held steps.old.items steps.new.items (patches.old.items ++ Patch.Delete address ∷ []) patches.new.items (insert_item (number_of address) item body.old) body.new }
+    ensures way { PutsBackWithin address item (vec_capacity room) steps.old.items steps.new.items patches.old.items patches.new.items body.old body.new }
     ensures less { length steps.new.items ≤ length steps.old.items }
     ensures patches { length patches.new.items + length steps.new.items ≤ vec_capacity patches.new }
 {
@@ -75,7 +73,7 @@ fn go_on(
 )
     requires room { length front.old.items + length behind.old.items ≤ vec_capacity front.old }
     requires patches { length patches.old.items + length steps.old.items ≤ vec_capacity patches.old }
-    ensures way { ComesBackWithin holder.now (held_at holder.now (vec_capacity front.old)) none_held steps.old.items steps.new.items patches.old.items patches.new.items (around front.old.items behind.old.items) (around front.new.items behind.new.items) }
+    ensures way { ComesBackHolding holder.now (vec_capacity front.old) steps.old.items steps.new.items patches.old.items patches.new.items (around front.old.items behind.old.items) (around front.new.items behind.new.items) }
     ensures room { length front.new.items + length behind.new.items ≤ vec_capacity front.new }
     ensures less { length steps.new.items ≤ length steps.old.items }
     ensures patches { length patches.new.items + length steps.new.items ≤ vec_capacity patches.new }

@@ -2,8 +2,8 @@
 ghost use Rattle.std.specs.Prelude.{◌≡◌, [], ◌∷◌, ◌++◌, ◌+◌, ◌<◌, ◌≤◌, IsTrue, IfOk, IfErr, OnOk, OnErr, Some, length, vec_capacity};
 ghost use Rattle.rdl_tree.specs.Address.{body_at, holder_of};
 ghost use Rattle.rdl_tree.specs.Patch.{patched, fits, inverse, length_of};
-ghost use Rattle.rdl_tree.specs.Way.{none_held, held_at, is_placed, has_room, is_ready};
-ghost use Rattle.rdl_tree.specs.Gap.{ComesBack};
+ghost use Rattle.rdl_tree.specs.Way.{none_held, is_placed, has_room, is_ready};
+ghost use Rattle.rdl_tree.specs.Gap.{ComesBack, PutsBack};
 ghost use Rattle.rdl_tree.specs.Step.{IsStep};
 
 use crate::address::Address;
@@ -143,7 +143,7 @@ fn put_in(
     requires room { IsTrue (has_room (Patch.Insert address item) (vec_capacity room) description.old.items) }
     requires empty { length room.items ≡ 0 }
     requires patches { length patches.old.items + length steps.old.items < vec_capacity patches.old }
-    ensures way { ComesBack (held_at (holder_of address) (vec_capacity room)) steps.old.items steps.new.items (patches.old.items ++ Patch.Delete address ∷ []) patches.new.items (patched (Patch.Insert address item) description.old.items) description.new.items }
+    ensures way { PutsBack address item (vec_capacity room) steps.old.items steps.new.items patches.old.items patches.new.items description.old.items description.new.items }
     ensures less { length steps.new.items ≤ length steps.old.items }
     ensures patches { length patches.new.items + length steps.new.items ≤ vec_capacity patches.new }
 {

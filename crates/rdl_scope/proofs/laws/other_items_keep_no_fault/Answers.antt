@@ -5,5 +5,5 @@ pub returns : goal.returns
 returns c = record {
   shell = new_shell;
   value = new_value;
-  put = last_dynamic;
+  put = λ d at t p v none end. last_dynamic d end.body at t p v none end.inside end.held end.last;
 }
