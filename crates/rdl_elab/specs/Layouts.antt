@@ -3,6 +3,7 @@
 -- own: the instances of a register file are placed in the mode of the nearest address map around the register file's instance.
 use Rattle.std.specs.Prelude.{ℕ, Bool, true, false, List, [], ◌∷◌, map, Option, Some, None, unwrap_or, if◌then◌else◌}
 use Rattle.std.specs.Int.{is_power_of_two}
+use Rattle.rdl_tree.specs.Items.{Items}
 use Rattle.rdl_tree.specs.declared.shell.Kind.{Kind}
 use Rattle.rdl_tree.specs.declared.shell.Kind.TheVariants.{Addrmap, Regfile, Reg, Field}
 use Rattle.rdl_tree.specs.declared.shell.Shell.{Shell}
@@ -14,8 +15,9 @@ use Rattle.rdl_tree.specs.Properties.{has_form}
 use Rattle.rdl_tree.specs.declared.property.Form.TheVariants.{Widths}
 use Rattle.rdl_tree.specs.declared.property.Property.{Property}
 use Rattle.rdl_tree.specs.declared.property.Property.TheVariants.{Addressing, Alignment, Regwidth, Accesswidth, Fieldwidth}
-use Rattle.rdl_scope.specs.Closed.{Head, Parts, no_parts, part, Made, head_value}
+use Rattle.rdl_scope.specs.Closed.{Head, Parts, no_parts, part, Made, head_value, instances}
 use Rattle.rdl_scope.specs.ItemFaults.{product}
+use Rattle.rdl_scope.specs.Value.{component_value}
 use Rattle.rdl_elab.specs.declared.layout.Mode.{Mode}
 use Rattle.rdl_elab.specs.declared.layout.Mode.TheVariants.{Compact, Regalign, Fullalign}
 use Rattle.rdl_elab.specs.declared.layout.Placement.{Placement}
@@ -122,6 +124,13 @@ layout_of m h inside =
 
 abbrev pub layout : Mode → Made → Layout
 layout m c = layout_of m c.head c.parts
+
+-- a component at an address, by the values and the instances that the searches through whole bodies find
+abbrev pub layout_as_found : Items → List ℕ → Mode → Head → Layout
+layout_as_found d a m h =
+    let v = layout_values (component_value d a) in
+    let n = mode_inside h.kind v m in
+    laid_out h.kind v n (map member (layouts n (instances d a 0 h.body)))
 
 -- its instances under that mode, each with the layout of its component
 abbrev pub instances_under : Mode → Made → List (Shell × Layout)

@@ -1,7 +1,7 @@
 -- The rows of a map: one for each instance path from the top, in pre-order, the top first; an array is one row.
 -- SystemRDL 2.0: hierarchy of instances and their addresses (clause 5, clause 13). own: what a row shows, and that a base is the sum of
 -- the starts along the path.
-use Rattle.std.specs.Prelude.{ℕ, ◌+◌, List, [], ◌∷◌, ◌++◌, map, Option, None, option_map, unwrap_or, if◌then◌else◌}
+use Rattle.std.specs.Prelude.{◌≡◌, ℕ, ◌+◌, List, [], ◌∷◌, ◌++◌, map, Option, None, option_map, unwrap_or, if◌then◌else◌}
 use Rattle.std.specs.List.{filter_map}
 use Rattle.rdl_tree.specs.Items.{Items}
 use Rattle.rdl_tree.specs.Properties.{row, on, properties}
@@ -22,7 +22,8 @@ use Rattle.rdl_elab.specs.declared.row.Location.{Location}
 use Rattle.rdl_elab.specs.declared.row.Location.TheVariants.{Bytes, Bits}
 use Rattle.rdl_elab.specs.declared.row.Row.{Row}
 use Rattle.rdl_elab.specs.Layouts.{values_of, mode_inside, layout_of}
-use Rattle.rdl_elab.specs.Shown.{valued}
+use Rattle.rdl_elab.specs.Reaches.{along, values_along}
+use Rattle.rdl_elab.specs.Shown.{valued, shown_values}
 
 -- A row has the names from the top, the kind, the absolute address of the first element (a field's is that of its register), the location,
 -- and the value of each property of the kind that has one, in the order of the table of properties.
@@ -34,6 +35,10 @@ row_value d path h p = if on p h.kind then option_map (shown (row p).form) (path
 -- those that there are, in the order of the table
 abbrev pub row_values : Items → List (List ℕ) → Head → List PropertyValue
 row_values d path h = filter_map (λ p. option_map (valued p) (row_value d path h p)) properties
+
+-- those of an instance with this shell are made of the values that its component has by itself, of its reset, and of what comes along the path
+abbrev pub AreValuesAlong : Items → List (List ℕ) → Shell → Head → Type 0
+AreValuesAlong d path s h = values_along h.kind s.reset (along d [] path) (shown_values h) ≡ row_values d path h
 
 -- a field has bits, and any other row bytes
 abbrev pub location_of : Kind → Shell → Span → ℕ → Location

@@ -8,9 +8,9 @@ ghost use Rattle.rdl_tree.specs.declared.property.Property.{Property};
 ghost use Rattle.rdl_tree.specs.declared.value.Value.{Value};
 ghost use Rattle.rdl_tree.specs.declared.description.Of.{Of};
 ghost use Rattle.rdl_tree.specs.declared.description.Item.TheVariants.{Instance};
-ghost use Rattle.rdl_scope.specs.Closed.{Head, Parts, Made, component, instances};
+ghost use Rattle.rdl_scope.specs.Closed.{Head, Made, component};
 ghost use Rattle.rdl_scope.specs.Target.{body_of};
-ghost use Rattle.rdl_scope.specs.Value.{assigned, component_value};
+ghost use Rattle.rdl_scope.specs.Value.{assigned};
 ghost use Rattle.rdl_elab.specs.declared.layout.Mode.{Mode};
 ghost use Rattle.rdl_elab.specs.declared.layout.Placement.{Placement};
 ghost use Rattle.rdl_elab.specs.declared.layout.Layout.{Layout};
@@ -18,9 +18,9 @@ ghost use Rattle.rdl_elab.specs.declared.layout.LayoutValues.{LayoutValues};
 ghost use Rattle.rdl_elab.specs.declared.layout.Span.{Span};
 ghost use Rattle.rdl_elab.specs.Rounding.{power_up, IsLeastPower};
 ghost use Rattle.rdl_elab.specs.Start.{start_of, alignments, IsLeast};
-ghost use Rattle.rdl_elab.specs.Layouts.{values_of, layout_values, mode_inside, laid_out, layouts, layout, instances_under, member};
+ghost use Rattle.rdl_elab.specs.Layouts.{values_of, layout_values, laid_out, layout, layout_as_found, instances_under, member};
 ghost use Rattle.rdl_elab.specs.Capped.{capped_layout, capped_instance, IsAlignment};
-ghost use Rattle.rdl_elab.specs.Rows.{row_values};
+ghost use Rattle.rdl_elab.specs.Rows.{row_values, AreValuesAlong};
 ghost use Rattle.rdl_elab.specs.Shown.{shown_values};
 ghost use Rattle.rdl_elab.specs.Reaches.{reaches, reaches_at, behind, along, reached, values_along};
 ghost use Rattle.rdl_elab.specs.Found.{ArePartsFound};
@@ -57,7 +57,7 @@ pub fn overlaps_share_a_number()
 
 /// The layout of a component is that of the values and of the instances that the searches through whole bodies find.
 pub fn layouts_are_as_found()
-    ensures { (d : Items) (a : List ℕ) (c : Made) (m : Mode) → component d a ≡ Some c → let v = layout_values (component_value d a) in let n = mode_inside c.head.kind v m in layout m c ≡ laid_out c.head.kind v n (map member (layouts n (instances d a 0 c.head.body))) }
+    ensures { (d : Items) (a : List ℕ) (c : Made) (m : Mode) → component d a ≡ Some c → layout m c ≡ layout_as_found d a m c.head }
 {}
 
 /// The instances of a component are as the searches through whole bodies find them, all the way down; and its body has
@@ -76,7 +76,8 @@ pub fn assignments_come_along()
 /// The values of a row are made of those that its component has by itself, of the reset of its instance, and of the
 /// assignments that come along its path. Where there is neither, and for the top, they are those of the component.
 pub fn values_are_along()
-    ensures row { (d : Items) (path : List (List ℕ)) (at : List ℕ) (s : Shell) (o : Of) (h : Head) (inside : Parts) → item_at at d ≡ Some (Instance s o) → component d h.at ≡ Some (record { head = h; parts = inside }) → values_along h.kind s.reset (along d [] (path ++ at ∷ [])) (shown_values h) ≡ row_values d (path ++ at ∷ []) h }
+    ensures row { (d : Items) (path : List (List ℕ)) (at : List ℕ) (s : Shell) (o : Of) (c : Made) → item_at at d ≡ Some (Instance s o) → component d c.head.at ≡ Some c
+        → AreValuesAlong d (path ++ at ∷ []) s c.head }
     ensures alone { (h : Head) → values_along h.kind None [] (shown_values h) ≡ shown_values h }
     ensures top { (d : Items) (a : List ℕ) (c : Made) → component d a ≡ Some c → shown_values c.head ≡ row_values d [] c.head }
 {}

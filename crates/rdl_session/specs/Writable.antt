@@ -1,19 +1,26 @@
 -- Which maps and patches a written session gives back.
 -- own: SystemRDL 2.0 has no sessions.
-use Rattle.std.specs.Prelude.{ℕ, ◌<◌, ◌^◌, List, [], ◌∷◌, IfSome, All}
+use Rattle.std.specs.Prelude.{ℕ, ◌<◌, ◌≤◌, ◌^◌, List, [], ◌∷◌, length, IfSome, All}
 use Rattle.rdl_tree.specs.ItemAt.{item_at}
 use Rattle.rdl_tree.specs.Items.{Items}
 use Rattle.rdl_tree.specs.Limits.{IsWithinLimits}
 use Rattle.rdl_tree.specs.Patch.{patched}
-use Rattle.rdl_session.specs.Text.{PatchLines, shell_item, value_item, target_item}
+use Rattle.rdl_session.specs.Text.{PatchLines, shell_item, value_item, target_item, max_session}
 use Rattle.rdl_tree.specs.View.{items_of}
 use Rattle.rdl_tree.specs.declared.description.Item.{Item}
 use Rattle.rdl_tree.specs.declared.part.Part.{Part}
 use Rattle.rdl_tree.specs.declared.part.Part.TheVariants.{OfShell, OfValue, OfTarget, OfType, OfDefine}
 use Rattle.rdl_tree.specs.declared.patch.Patch.{Patch}
 use Rattle.rdl_tree.specs.declared.patch.Patch.TheVariants.{Insert, Delete, Shift, Exchange}
-use Rattle.rdl_session.specs.Spelling.{IsItemAddress, IsFreeName, SpellsPatch, SpellsMap}
+use Rattle.rdl_session.specs.Spelling.{IsItemAddress, IsFreeName, SpellsPatch, SpellsMap, SpellsSession}
+use Rattle.rdl_session.specs.Written.{written_session}
 use Rattle.rdl_round.specs.Writable.{IsWritable}
+
+-- ---- What is read back.
+
+-- the text of the written session spells the map and the steps that were written, where it isn't too long
+abbrev pub SessionReadsBack : Items → (undo redo : List (List Patch)) → Type 0
+SessionReadsBack d undo redo = length (written_session d undo redo) ≤ max_session → SpellsSession (written_session d undo redo) d undo redo
 
 -- ---- What can be written.
 

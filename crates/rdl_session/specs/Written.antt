@@ -2,7 +2,7 @@
 -- are those of the written map, without an indent. Own.
 use Rattle.std.specs.Prelude.{ℕ, ◌<◌, List, [], length, map}
 use Rattle.rdl_tree.specs.Items.{Items}
-use Rattle.rdl_session.specs.Text.{PatchLines, SessionLines, insert, delete, shift, shell, value, target, type, name, shell_item, value_item, target_item, max_session}
+use Rattle.rdl_session.specs.Text.{PatchLines, SessionLines, insert, delete, shift, shell, value, target, type, name, shell_item, value_item, target_item, session_text, max_session}
 use Rattle.rdl_tree.specs.declared.part.Part.TheVariants.{OfShell, OfValue, OfTarget, OfType, OfDefine}
 use Rattle.rdl_tree.specs.declared.patch.Patch.{Patch}
 use Rattle.rdl_tree.specs.declared.patch.Patch.TheVariants.{Insert, Delete, Shift, Exchange}
@@ -24,6 +24,10 @@ written (Exchange at (OfDefine n)) = name at n
 
 abbrev pub session_lines : Items → (undo redo : List (List Patch)) → SessionLines
 session_lines d undo redo = record { map = map_text d; undo = map (map written) undo; redo = map (map written) redo }
+
+-- its text
+abbrev pub written_session : Items → (undo redo : List (List Patch)) → List ℕ
+written_session d undo redo = session_text (session_lines d undo redo)
 
 -- why a text isn't written: it is too long, or memory is wanted
 abbrev pub Stops : SessionWriteFault → List ℕ → Type 0

@@ -1,23 +1,21 @@
 //! Laws of sessions: a text is one session at most, and what was written is read back. All but the last are contracts of
 //! functions that do nothing.
-ghost use Rattle.std.specs.Prelude.{◌≡◌, ◌≤◌, ◌∷◌, [], ℕ, List, Ok, length, map, All, IsUtf8, MatchResult};
+ghost use Rattle.std.specs.Prelude.{◌≡◌, ◌≤◌, ◌∷◌, [], ℕ, List, Ok, length, map, All, IsUtf8};
 ghost use Rattle.rdl_tree.specs.Items.{Items};
 ghost use Rattle.rdl_tree.specs.Limits.{IsWithinLimits};
 ghost use Rattle.rdl_tree.specs.Patch.{image, inverses};
-ghost use Rattle.rdl_session.specs.Text.{session_text, max_session};
 ghost use Rattle.rdl_tree.specs.View.{items_of};
 ghost use Rattle.rdl_tree.specs.declared.description.Item.{Item};
 ghost use Rattle.rdl_tree.specs.declared.patch.Patch.{Patch};
 ghost use Rattle.rdl_parse.specs.Faults.{max_text};
 ghost use Rattle.rdl_parse.specs.Parsing.{SpellsItemText};
 ghost use Rattle.rdl_session.specs.Spelling.{SpellsSession};
-ghost use Rattle.rdl_session.specs.Seen.{IsSession};
-ghost use Rattle.rdl_session.specs.declared.fault.SessionReadFault.{SessionReadFault};
+ghost use Rattle.rdl_session.specs.Seen.{IsReadAgain};
 ghost use Rattle.rdl_write.specs.ItemText.{item_text};
-ghost use Rattle.rdl_session.specs.Written.{session_lines, Stops};
+ghost use Rattle.rdl_session.specs.Written.{written_session};
 ghost use Rattle.rdl_round.specs.Writable.{IsWritable};
 ghost use Rattle.rdl_round.specs.OfWords.{IsOfWords};
-ghost use Rattle.rdl_session.specs.Writable.{IsWritablePatch, AreWritable, AreDropsWithin, IsSpelledMap, AreSpelled};
+ghost use Rattle.rdl_session.specs.Writable.{SessionReadsBack, IsWritablePatch, AreWritable, AreDropsWithin, IsSpelledMap, AreSpelled};
 ghost use Rattle.rdl_round.specs.Spellable.{IsSpellable};
 
 use crate::fault::{SessionReadFault, SessionWriteFault};
@@ -41,20 +39,18 @@ pub fn written_items_read_back()
 /// The text of a written session spells the map and the steps that were written, where these can be written and the text
 /// isn't too long. That it is UTF-8 is so of every text that is a `String`.
 pub fn written_sessions_read_back()
-    ensures { (d : Items) (undo redo : List (List Patch)) → IsWritable d → AreWritable undo → AreWritable redo → IsUtf8 (session_text (session_lines d undo redo))
-        → length (session_text (session_lines d undo redo)) ≤ max_session → SpellsSession (session_text (session_lines d undo redo)) d undo redo }
+    ensures { (d : Items) (undo redo : List (List Patch)) → IsWritable d → AreWritable undo → AreWritable redo → IsUtf8 (written_session d undo redo)
+        → SessionReadsBack d undo redo }
 {}
 
 /// So do the map and the steps that texts spell: no premise is left on them, nor on what is written.
 pub fn spelled_sessions_read_back()
-    ensures { (d : Items) (undo redo : List (List Patch)) → IsSpelledMap d → AreSpelled undo → AreSpelled redo
-        → length (session_text (session_lines d undo redo)) ≤ max_session → SpellsSession (session_text (session_lines d undo redo)) d undo redo }
+    ensures { (d : Items) (undo redo : List (List Patch)) → IsSpelledMap d → AreSpelled undo → AreSpelled redo → SessionReadsBack d undo redo }
 {}
 
 /// And so the session that is written of one that was read is read as the same one, however the texts in it were spelled.
 pub fn read_sessions_read_back()
-    ensures { (text : List ℕ) (d : Items) (undo redo : List (List Patch)) → SpellsSession text d undo redo
-        → length (session_text (session_lines d undo redo)) ≤ max_session → SpellsSession (session_text (session_lines d undo redo)) d undo redo }
+    ensures { (text : List ℕ) (d : Items) (undo redo : List (List Patch)) → SpellsSession text d undo redo → SessionReadsBack d undo redo }
 {}
 
 /// What texts spell can be written.
@@ -78,10 +74,8 @@ pub fn written_sessions_are_parsed(
     undo: &[&[Patch]],
     redo: &[&[Patch]],
 ) -> Result<Result<Session, SessionReadFault>, SessionWriteFault>
-    ensures { let d = description.now.items in let back = map (λ step. step.now) undo.entry.now in let on = map (λ step. step.now) redo.entry.now in
-        IsWritable d → AreWritable back → AreWritable on
-        → MatchResult result (λ read. MatchResult read (λ s. IsSession s d back on) (λ f. f ≡ SessionReadFault.Memory))
-        (λ f. Stops f (session_text (session_lines d back on))) }
+    ensures { let back = map (λ step. step.now) undo.entry.now in let on = map (λ step. step.now) redo.entry.now in
+        IsWritable description.now.items → AreWritable back → AreWritable on → IsReadAgain result description.now.items back on }
 {
     match session(alloc, description, undo, redo) {
         Ok(text) => Ok(parse_session(alloc, text.as_str())),

@@ -1,11 +1,11 @@
 //! Reading a session: a map, with the steps that lead back from it and those that lead on.
-ghost use Rattle.std.specs.Prelude.{◌≡◌, ◌⊎◌, List, map, option_map, IfOk, IfErr, MatchResult};
+ghost use Rattle.std.specs.Prelude.{◌≡◌, ◌⊎◌, List, map, option_map, IfOk, IfErr};
 ghost use Rattle.rdl_tree.specs.Items.{Items};
 ghost use Rattle.rdl_tree.specs.declared.patch.Patch.{Patch};
 ghost use Rattle.rdl_session.specs.declared.fault.SessionReadFault.TheVariants.{NotASession, Memory};
 ghost use Rattle.rdl_session.specs.Spelling.{SpellsSession};
 ghost use Rattle.rdl_session.specs.Meaning as spec;
-ghost use Rattle.rdl_session.specs.Seen.{IsSession, seen_session};
+ghost use Rattle.rdl_session.specs.Seen.{IsReadAs, seen_session};
 
 use crate::MAX_LEN;
 use crate::fault::SessionReadFault;
@@ -50,7 +50,7 @@ pub fn parse_session(alloc: Global, text: &str) -> Result<Session, SessionReadFa
     // What is answered is the text's session.
     ensures found { IfOk result (λ s. SpellsSession text.now s.map.items (map (λ step. step.items) s.undo.items) (map (λ step. step.items) s.redo.items)) }
     // The session that the text is is answered, unless memory runs out.
-    ensures only { (d : Items) (undo redo : List (List Patch)) → SpellsSession text.now d undo redo → MatchResult result (λ s. IsSession s d undo redo) (λ f. f ≡ Memory) }
+    ensures only { (d : Items) (undo redo : List (List Patch)) → SpellsSession text.now d undo redo → IsReadAs result d undo redo }
     // A fault other than want of memory comes only where the text is no session.
     ensures refused { IfErr result (λ f. (f ≡ Memory) ⊎ ((f ≡ NotASession) × ((d : Items) (undo redo : List (List Patch)) → SpellsSession text.now d undo redo → ⊥))) }
 {

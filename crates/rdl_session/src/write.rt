@@ -8,7 +8,6 @@ ghost use Rattle.rdl_session.specs.Text.{
   patch_text,
   step_text,
   steps_text,
-  session_text,
   max_session,
   shell_item,
   value_item,
@@ -17,7 +16,7 @@ ghost use Rattle.rdl_session.specs.Text.{
 ghost use Rattle.rdl_tree.specs.declared.patch.Patch.TheVariants.{Exchange};
 ghost use Rattle.rdl_write.specs.ItemText.{item_text};
 ghost use Rattle.rdl_write.specs.MapText.{map_text};
-ghost use Rattle.rdl_session.specs.Written.{written, session_lines, Stops};
+ghost use Rattle.rdl_session.specs.Written.{written, written_session, Stops};
 
 use crate::MAX_LEN;
 use crate::fault::SessionWriteFault;
@@ -192,9 +191,9 @@ pub fn session(
     undo: &[&[Patch]],
     redo: &[&[Patch]],
 ) -> Result<String, SessionWriteFault>
-    ensures ok { IfOk result (λ text. string_bytes text ≡ session_text (session_lines description.now.items (map (λ step. step.now) undo.entry.now) (map (λ step. step.now) redo.entry.now))) }
+    ensures ok { IfOk result (λ text. string_bytes text ≡ written_session description.now.items (map (λ step. step.now) undo.entry.now) (map (λ step. step.now) redo.entry.now)) }
     ensures short { IfOk result (λ text. string_len text ≤ max_session) }
-    ensures err { IfErr result (λ fault. Stops fault (session_text (session_lines description.now.items (map (λ step. step.now) undo.entry.now) (map (λ step. step.now) redo.entry.now)))) }
+    ensures err { IfErr result (λ fault. Stops fault (written_session description.now.items (map (λ step. step.now) undo.entry.now) (map (λ step. step.now) redo.entry.now))) }
 {
     let mut text = head(alloc, description)?;
     push_steps(alloc, &mut text, "undo", undo)?;
