@@ -1,6 +1,8 @@
 -- A comparison of two maps or sessions: from their bytes to the text that is written, and the status. Own.
-use Rattle.std.specs.Prelude.{◌≡◌, ◌⊎◌, ℕ, List, Option, codes}
+use Rattle.std.specs.Prelude.{◌≡◌, ◌⊎◌, ℕ, List, [], Option, Ok, codes}
 use Rattle.std.specs.Io.KnownBytes.{Appends}
+use Rattle.rdl_edit.specs.Step.{State}
+use Rattle.rdl_elab.specs.Faults.{elaborated}
 use Rattle.rdl_elab.specs.declared.row.Row.{Row}
 use Rattle.rdl_diff.specs.DiffText.{diff_text}
 use Rattle.rdl_run.specs.Known.{Gives, AppendsFront}
@@ -47,6 +49,12 @@ pub record RefusesNew (top : Option (List ℕ)) (old new : List ℕ) (out : Outp
 
 abbrev pub IsOutput : (top : Option (List ℕ)) → (old new : List ℕ) → Output → Type 0
 IsOutput top old new out = RefusesOld top old new out ⊎ (RefusesNew top old new out ⊎ Compares top old new out)
+
+-- nothing is said of the two maps, where both elaborate
+abbrev pub HaveNoLines : (old new : State) → Type 0
+HaveNoLines old new =
+    (old_rows new_rows : List Row) → elaborated old.description old.option ≡ Ok old_rows → elaborated new.description new.option ≡ Ok new_rows
+    → diff_text old_rows new_rows ≡ []
 
 -- ---- What a comparison leaves in its output.
 

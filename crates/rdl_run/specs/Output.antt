@@ -48,6 +48,10 @@ pub record RunsScript (options : Options) (map script : List ℕ) (out : Output)
 abbrev pub IsOutput : Options → List ℕ → List ℕ → Output → Type 0
 IsOutput options map script out = RefusesMapOf options.top map out ⊎ RunsScript options map script out
 
+-- the same map and the same header
+abbrev pub SameFiles : Output → Output → Type 0
+SameFiles out other = (out.rdl ≡ other.rdl) × (out.header ≡ other.header)
+
 -- ---- What a run leaves in its outputs.
 
 -- what is known of the four outputs
@@ -59,6 +63,16 @@ pub record Outputs : Type 0 where
 
 abbrev pub outputs : (messages rdl header session : Option (List ℕ)) → Outputs
 outputs messages rdl header session = record { messages = messages; rdl = rdl; header = header; session = session }
+
+-- what is known of the bytes of such writers
+abbrev pub Contents : Type 0 → Type 0
+Contents W = W → Option (List ℕ)
+
+-- this is so of what is known of these four outputs before and after: messages, map, header and session
+abbrev pub AtOutputs : {E R H Z A : Type 0} → Contents E → Contents R → Contents H → Contents Z → (Outputs → Outputs → A → Type 0) → E → R → H → Z → E → R → H → Z → A → Type 0
+AtOutputs of_messages of_rdl of_header of_session IsSo messages rdl header session messages' rdl' header' session' =
+    IsSo (outputs (of_messages messages) (of_rdl rdl) (of_header header) (of_session session))
+    (outputs (of_messages messages') (of_rdl rdl') (of_header header') (of_session session'))
 
 -- all of an output was written, and nothing else
 pub record Holds (old new : Outputs) (status : Status) (out : Output) : Type 0 where

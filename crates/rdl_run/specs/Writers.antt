@@ -16,6 +16,10 @@ known of_rdl of_header of_session of_messages o =
 abbrev pub counts_of : {R H Z E : Type 0} → Writers R H Z E → Tallies
 counts_of o = tallies o.messages.counts o.rdl.counts o.header.counts o.session.counts
 
+-- this is so of what is known of these outputs, and of how they were asked, before and after
+abbrev pub AtWriters : {R H Z E A : Type 0} → (Writers R H Z E → Outputs) → (Outputs → Outputs → Tallies → Tallies → A → Type 0) → (old new : Writers R H Z E) → A → Type 0
+AtWriters held IsSo old new = IsSo (held old) (held new) (counts_of old) (counts_of new)
+
 -- they write where they wrote
 pub record SameWriters {R H Z E : Type 0} (old new : Writers R H Z E) : Type 0 where
   pub messages : new.messages.writer.ghost_name ≡ old.messages.writer.ghost_name

@@ -4,11 +4,11 @@ ghost use Rattle.rdl_run.specs.Opening.{EachElaborates};
 ghost use Rattle.rdl_run.specs.Faulted.{Faulted, FaultedFrom, Leaves};
 ghost use Rattle.rdl_run.specs.ClosingTexts.{texts_of};
 ghost use Rattle.rdl_run.specs.OwnSteps.{AllOwn};
-ghost use Rattle.rdl_run.specs.Output.{HaveTaken, Holds, Ran, RanCounted, RanFrom, outputs};
+ghost use Rattle.rdl_run.specs.Output.{AtOutputs, HaveTaken, Holds, Ran, RanCounted, RanFrom};
 ghost use Rattle.rdl_run.specs.Known.{IsOver, IsWithin};
 ghost use Rattle.rdl_run.specs.Shown.{AreAt};
 ghost use Rattle.rdl_run.specs.Turns.{AreFew, AreOpen, AreUnwritten, GivesUp, HasEnded, IsInterrupted, unread};
-ghost use Rattle.rdl_run.specs.Writers.{SameWriters, counts_of, known};
+ghost use Rattle.rdl_run.specs.Writers.{AtWriters, SameWriters, counts_of, known};
 ghost use Rattle.rdl_run.specs.declared.status.RunFault.{RunFault};
 
 use crate::closing::Closing;
@@ -79,7 +79,7 @@ fn run_script<R: Write, H: Write, Z: Write, E: Write>(
     requires kept { AreAt journal.old.history kept }
     requires asked { AreOpen (counts_of outputs.old) }
     ensures ran { let held = known R.contents H.contents Z.contents E.contents in
-        IfOk result (RanFrom (AllOwn journal.old) has_session journal.old.history script.now (held outputs.old) (held outputs.new) (counts_of outputs.old) (counts_of outputs.new)) }
+        IfOk result (AtWriters held (RanFrom (AllOwn journal.old) has_session journal.old.history script.now) outputs.old outputs.new) }
     ensures faulted { let held = known R.contents H.contents Z.contents E.contents in
         EachElaborates journal.old.history → IfErr result (FaultedFrom has_session journal.old.history script.now (held outputs.old) (held outputs.new)) }
     ensures write_ended { IsErrOf result RunFault.Write → GivesUp (counts_of outputs.new) }
@@ -114,7 +114,7 @@ fn run_counted<M: Read, S: Read, R: Write, H: Write, Z: Write, E: Write>(
     requires script_fresh { script.old.counts ≡ unread }
     requires fresh { AreUnwritten (counts_of outputs.old) }
     ensures ran { let held = known R.contents H.contents Z.contents E.contents in
-        IfOk result (RanCounted options.now (M.remaining map.old.reader.now) (S.remaining script.old.reader.now) (held outputs.old) (held outputs.new) (counts_of outputs.old) (counts_of outputs.new)) }
+        IfOk result (AtWriters held (RanCounted options.now (M.remaining map.old.reader.now) (S.remaining script.old.reader.now)) outputs.old outputs.new) }
     ensures faulted { let held = known R.contents H.contents Z.contents E.contents in
         IfErr result (Faulted options.now (M.remaining map.old.reader.now) (S.remaining script.old.reader.now) (held outputs.old) (held outputs.new)) }
     ensures write_ended { IsErrOf result RunFault.Write → GivesUp (counts_of outputs.new) }
@@ -170,12 +170,10 @@ pub fn run<M: Read, S: Read, R: Write, H: Write, Z: Write, E: Write>(
     session: &mut Z,
     messages: &mut E,
 ) -> Result<Status, RunFault>
-    ensures ran { IfOk result (Ran options.now (M.remaining map.old) (S.remaining script.old)
-        (outputs (E.contents messages.old) (R.contents rdl.old) (H.contents header.old) (Z.contents session.old))
-        (outputs (E.contents messages.new) (R.contents rdl.new) (H.contents header.new) (Z.contents session.new))) }
-    ensures faulted { IfErr result (Faulted options.now (M.remaining map.old) (S.remaining script.old)
-        (outputs (E.contents messages.old) (R.contents rdl.old) (H.contents header.old) (Z.contents session.old))
-        (outputs (E.contents messages.new) (R.contents rdl.new) (H.contents header.new) (Z.contents session.new))) }
+    ensures ran { IfOk result (AtOutputs E.contents R.contents H.contents Z.contents (Ran options.now (M.remaining map.old) (S.remaining script.old))
+        messages.old rdl.old header.old session.old messages.new rdl.new header.new session.new) }
+    ensures faulted { IfErr result (AtOutputs E.contents R.contents H.contents Z.contents (Faulted options.now (M.remaining map.old) (S.remaining script.old))
+        messages.old rdl.old header.old session.old messages.new rdl.new header.new session.new) }
 
     // Where a reader tells its bytes, it stops for too many only if there are more than 67,108,864.
     ensures too_long { IsErrOf result RunFault.TooLong → IsOver (M.remaining map.old) ⊎ IsOver (S.remaining script.old) }
