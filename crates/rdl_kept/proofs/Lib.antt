@@ -30,3 +30,7 @@ pub mod OutOfReach
 pub mod AlikeParts
 pub mod AlikeRows
 pub mod KeptAlike
+pub mod SameFaults
+pub mod SameTargets
+pub mod OtherItems
+pub mod AskedFaults

@@ -119,7 +119,7 @@ out-inside t b n p m h leads there =
 -- ---- Targets.
 
 -- no names pass instances where there is no body
-no-passes : (d : Items) (b : List ℕ) (n : ℕ) (names : List (List ℕ)) → body_at b d ≡ None → passes d b n names ≡ None
+pub no-passes : (d : Items) (b : List ℕ) (n : ℕ) (names : List (List ℕ)) → body_at b d ≡ None → passes d b n names ≡ None
 no-passes d b n [] e = refl
 no-passes d b n (name ∷ []) e = ap (λ o. option_map (λ a. a ∷ []) (option_map (λ k. b ++ k ∷ []) (option_and_then (instance_before name n) o))) e
 no-passes d b n (name ∷ next ∷ names) e =
@@ -137,7 +137,7 @@ module _ (t : Tracked) where
   old = old_of t
 
   -- where there is no component, there was none
-  neither-body : (p : List ℕ) → StandsIn t p → component new p ≡ None → (body_at p new ≡ None) × (body_at p old ≡ None)
+  pub neither-body : (p : List ℕ) → StandsIn t p → component new p ≡ None → (body_at p new ≡ None) × (body_at p old ≡ None)
   neither-body p s e =
       let at = s.around ++ s.number ∷ [] in
       let none : is_some (component new at) ≡ false = ap (λ q. is_some (component new q)) (sym s.is) ∙ ap is_some e in
@@ -166,7 +166,7 @@ module _ (t : Tracked) where
       by None e = refl
       by (Some p) e = there p e (component new p) refl
 
-  passes-same : (names : List (List ℕ)) → PassAlike names
+  pub passes-same : (names : List (List ℕ)) → PassAlike names
   passes-same [] b n h = refl
   passes-same (name ∷ []) b n h = ap (option_map (λ a. a ∷ [])) (instance-same t b (out-body t b h) n name)
   passes-same (name ∷ next ∷ names) b n h = by (passes-same (next ∷ names)) (option_and_then (instance_before name n) (body_at b new)) ∙ ap (option_and_then go-old) (instance-same t b (out-body t b h) n name)

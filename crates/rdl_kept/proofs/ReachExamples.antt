@@ -1,17 +1,20 @@
--- What edits and a step reach in two register files of one map, and its skeleton, by computing.
-use Rattle.std.proofs.Common.{◌≡◌, ℕ, Bool, true, false, List, [], ◌∷◌, map, Some, None, refl}
+-- What edits and steps reach in two register files of one map, which items are asked again, and its skeleton, by computing.
+use Rattle.std.proofs.Common.{◌≡◌, ℕ, Bool, true, false, List, [], ◌∷◌, map, Option, Some, None, refl}
 use Rattle.std.specs.Prelude.{bytes_eq, codes}
 use Rattle.rdl_tree.specs.Items.{Items, no_items, plain, holder, named, dynamic, define, anonymous}
 use Rattle.rdl_tree.specs.Shell.{bare_shell}
+use Rattle.rdl_tree.specs.declared.shell.Kind.{Kind}
 use Rattle.rdl_tree.specs.declared.shell.Kind.TheVariants.{Addrmap, Regfile, Reg, Field}
 use Rattle.rdl_tree.specs.declared.shell.Shell.{Shell}
 use Rattle.rdl_tree.specs.declared.value.Value.TheVariants.{Number, Text}
-use Rattle.rdl_tree.specs.declared.description.Item.TheVariants.{Own}
+use Rattle.rdl_tree.specs.declared.description.Item.TheVariants.{Instance, Own}
+use Rattle.rdl_tree.specs.declared.description.Of.TheVariants.{Anonymous}
+use Rattle.rdl_scope.specs.ItemFaults.{target_kind}
 use Rattle.rdl_elab.specs.Anew.{instances_at}
 use Rattle.rdl_kept.specs.Reach.{in_reach}
 use Rattle.rdl_kept.specs.Skeleton.{skeleton}
-use Rattle.rdl_kept.specs.Tracked.{Tracked, nothing, comes, define_stays, old_of, new_of, untouched}
-use Rattle.rdl_kept.specs.EditedBodies.{is_changed_at}
+use Rattle.rdl_kept.specs.Tracked.{Tracked, nothing, comes, goes, define_stays, old_of, new_of, untouched}
+use Rattle.rdl_kept.specs.StillFaultless.{is_reached, is_asked_again}
 
 -- reg { field {} f; } with this shell
 abbrev full : Shell → Items → Items
@@ -58,22 +61,47 @@ new_names = refl
 
 -- ---- A step that assigns in the body of B.
 
-abbrev assigning : Tracked
-assigning =
+-- A, B and the top, which has these items behind its instances; of B this body
+abbrev in_B : Tracked → Items → Tracked
+in_B body behind =
     define_stays (codes "A") None Regfile (untouched (full (bare_shell (codes "u")) (full (bare_shell (codes "v")) no_items)))
-    (define_stays (codes "B") None Regfile (comes (Own (codes "desc") (Text (codes "x"))) (untouched (full (bare_shell (codes "x")) no_items)))
-    (define_stays (codes "top") None Addrmap (untouched (plain (named (bare_shell (codes "a")) (codes "A")) (plain (named (bare_shell (codes "b")) (codes "B")) no_items))) nothing))
+    (define_stays (codes "B") None Regfile body
+    (define_stays (codes "top") None Addrmap (untouched (plain (named (bare_shell (codes "a")) (codes "A")) (plain (named (bare_shell (codes "b")) (codes "B")) behind))) nothing))
+
+abbrev assigning : Items → Tracked
+assigning = in_B (comes (Own (codes "desc") (Text (codes "x"))) (untouched (full (bare_shell (codes "x")) no_items)))
 
 -- before it they are the two register files
-before_assigning : old_of assigning ≡ small
+before_assigning : old_of (assigning no_items) ≡ small
 before_assigning = refl
 
 -- A and what stands inside it are out of reach of what the step changes; B, what stands inside it, and the top are in reach
-abbrev is_reached : List ℕ → Bool
-is_reached = in_reach (λ a. is_changed_at a assigning) (new_of assigning)
-
-out_of_reach : map is_reached ((0 ∷ []) ∷ (0 ∷ 0 ∷ []) ∷ (0 ∷ 1 ∷ 0 ∷ []) ∷ []) ≡ false ∷ false ∷ false ∷ []
+out_of_reach : map (is_reached (assigning no_items)) ((0 ∷ []) ∷ (0 ∷ 0 ∷ []) ∷ (0 ∷ 1 ∷ 0 ∷ []) ∷ []) ≡ false ∷ false ∷ false ∷ []
 out_of_reach = refl
 
-reached : map is_reached ((1 ∷ []) ∷ (1 ∷ 1 ∷ []) ∷ (2 ∷ []) ∷ []) ≡ true ∷ true ∷ true ∷ []
+reached : map (is_reached (assigning no_items)) ((1 ∷ []) ∷ (1 ∷ 1 ∷ []) ∷ (2 ∷ []) ∷ []) ≡ true ∷ true ∷ true ∷ []
 reached = refl
+
+-- ---- The items that are asked again.
+
+-- b.x -> desc = "y";
+abbrev to_x : Items
+to_x = plain (dynamic (codes "b" ∷ codes "x" ∷ []) (codes "desc") (Text (codes "y"))) no_items
+
+-- the definitions of the root, the items of A and the instances of the top aren't
+not_asked : map (is_asked_again (assigning to_x)) ((0 ∷ []) ∷ (1 ∷ []) ∷ (0 ∷ 0 ∷ []) ∷ (0 ∷ 0 ∷ 0 ∷ []) ∷ (2 ∷ 0 ∷ []) ∷ (2 ∷ 1 ∷ []) ∷ []) ≡ false ∷ false ∷ false ∷ false ∷ false ∷ false ∷ []
+not_asked = refl
+
+-- the items of B and those inside it are, and so is the assignment of the top
+asked : map (is_asked_again (assigning to_x)) ((1 ∷ 0 ∷ []) ∷ (1 ∷ 1 ∷ []) ∷ (1 ∷ 1 ∷ 0 ∷ []) ∷ (2 ∷ 2 ∷ []) ∷ []) ≡ true ∷ true ∷ true ∷ true ∷ []
+asked = refl
+
+-- where x goes, the target of that assignment leads nowhere, though its body isn't changed
+abbrev removing : Tracked
+removing = in_B (goes (Instance (bare_shell (codes "x")) (Anonymous (record { kind = Reg; body = no_items }))) nothing) to_x
+
+abbrev target_in : Items → Option Kind
+target_in d = target_kind d (2 ∷ []) 2 (codes "b" ∷ codes "x" ∷ [])
+
+without_target : (target_in (old_of removing) ≡ Some Reg) × (target_in (new_of removing) ≡ None) × (is_asked_again removing (2 ∷ 2 ∷ []) ≡ true)
+without_target = (refl, refl, refl)

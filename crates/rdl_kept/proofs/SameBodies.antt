@@ -35,7 +35,7 @@ own-same p (define_stays n None k body rest) e = own-same p rest e
 own-same p (anonymous_stays s None k body rest) e = own-same p rest e
 own-same p t e = cc
 
-default-same : (p : List ℕ) (t : Tracked) (i : ℕ) → is_changed t ≡ false → last_default p i (new_of t) ≡ last_default p i (old_of t)
+pub default-same : (p : List ℕ) (t : Tracked) (i : ℕ) → is_changed t ≡ false → last_default p i (new_of t) ≡ last_default p i (old_of t)
 default-same p t zero e = refl
 default-same p nothing (suc i) e = refl
 default-same p (named_stays s None y None rest) (suc i) e = ap (λ o. option_or o None) (default-same p rest i e)
@@ -58,7 +58,7 @@ length-same (anonymous_stays s None k body rest) e = ap suc (length-same rest e)
 length-same t e = cc
 
 -- the instance of a name
-name-same : (name : List ℕ) (t : Tracked) (i : ℕ) → is_changed t ≡ false → instance_before name i (new_of t) ≡ instance_before name i (old_of t)
+pub name-same : (name : List ℕ) (t : Tracked) (i : ℕ) → is_changed t ≡ false → instance_before name i (new_of t) ≡ instance_before name i (old_of t)
 name-same name t zero e = refl
 name-same name nothing (suc i) e = refl
 name-same name (named_stays s None y None rest) (suc i) e = ap (λ o. if bytes_eq s.name name then Some 0 else option_map suc o) (name-same name rest i e)
@@ -107,7 +107,7 @@ held-same a new old types t i e = cc
 -- ---- Such a body, at an address.
 
 -- the tracked body at an address is the one there after the step and before it
-bodies-are : (a : List ℕ) (t : Tracked) → is_changed_at a t ≡ false → (body_at a (new_of t) ≡ option_map new_of (tracked_at a t)) × (body_at a (old_of t) ≡ option_map old_of (tracked_at a t))
+pub bodies-are : (a : List ℕ) (t : Tracked) → is_changed_at a t ≡ false → (body_at a (new_of t) ≡ option_map new_of (tracked_at a t)) × (body_at a (old_of t) ≡ option_map old_of (tracked_at a t))
 bodies-are [] t e = (refl, refl)
 bodies-are (i ∷ a) t e = by (staying i t) refl (inner-same t i (first-same (i ∷ a) t e)) (bodies-are a)
   where

@@ -107,7 +107,7 @@ inner-same (anonymous_stays s None k body rest) (suc i) e = inner-same rest i e
 inner-same t i e = cc
 
 -- a name has the definition that it had
-definition-same : (name : List ℕ) (t : Tracked) (i : ℕ) → is_changed t ≡ false → last_definition name i (new_of t) ≡ last_definition name i (old_of t)
+pub definition-same : (name : List ℕ) (t : Tracked) (i : ℕ) → is_changed t ≡ false → last_definition name i (new_of t) ≡ last_definition name i (old_of t)
 definition-same name t zero e = refl
 definition-same name nothing (suc i) e = refl
 definition-same name (named_stays s None y None rest) (suc i) e = ap (option_map suc) (definition-same name rest i e)

@@ -9,3 +9,4 @@ pub mod Harmless
 pub mod HarmlessPlaces
 pub mod Renaming
 pub mod FewPlaced
+pub mod StillFaultless

@@ -16,10 +16,12 @@ ghost use Rattle.rdl_kept.specs.Skeleton.{skeleton};
 ghost use Rattle.rdl_kept.specs.Tracked.{Tracked, old_of, new_of};
 ghost use Rattle.rdl_kept.specs.EditedBodies.{edits, is_changed_at, NamesStay, GoByName};
 ghost use Rattle.rdl_kept.specs.KeptAlike.{AreKeptAlikeBut};
+ghost use Rattle.rdl_kept.specs.StillFaultless.{is_asked_again, AskedAgainHaveNone, fault_of_asked};
 ghost use Rattle.rdl_elab.specs.Known.{HasRows};
 ghost use Rattle.rdl_kept.specs.Harmless.{IsHarmless};
 ghost use Rattle.rdl_kept.specs.Renaming.{IsRenaming};
-ghost use Rattle.rdl_scope.specs.ItemFaults.{fault_of};
+ghost use Rattle.rdl_scope.specs.ItemFaults.{is_too_large, fault_of};
+ghost use Rattle.rdl_scope.specs.OneItem.{fault_of_item};
 
 /// Where nothing has changed, every component is as before, whichever bodies are named. So to lay out the same description
 /// again places nothing.
@@ -65,6 +67,16 @@ pub fn steps_leave_the_rest_unchanged()
 /// their faults, as long as nothing reaches these from outside. So what is kept of such a component needn't be made again.
 pub fn steps_keep_what_is_out_of_reach()
     ensures { (t : Tracked) (bodies : List (List ℕ)) → fault_of (old_of t) ≡ None → AreKeptAlikeBut (in_reach (λ a. is_changed_at a t) (new_of t)) (old_of t) bodies (new_of t) }
+{}
+
+/// Whatever a step does, where no item had a fault before it, none has one after it but for those that are asked again:
+/// those that stand in the bodies which the step changes, or inside them, and dynamic assignments in bodies in reach of
+/// these. So the fault of the description is the first of theirs, if it isn't too large, and where none of them has one,
+/// it has none.
+pub fn steps_keep_other_items_faultless()
+    ensures others { (t : Tracked) (at : List ℕ) → fault_of (old_of t) ≡ None → is_asked_again t at ≡ false → fault_of_item (new_of t) at ≡ None }
+    ensures first { (t : Tracked) → fault_of (old_of t) ≡ None → fault_of (new_of t) ≡ fault_of_asked (is_asked_again t) (new_of t) }
+    ensures whole { (t : Tracked) → fault_of (old_of t) ≡ None → is_too_large (new_of t) ≡ false → AskedAgainHaveNone t → fault_of (new_of t) ≡ None }
 {}
 
 /// A map that has rows still has them after a harmless change that gives no item a fault. So nothing has to be elaborated
