@@ -1,9 +1,15 @@
 -- What accepted edits, undos and redos make of a history, one after another.
 -- own: SystemRDL 2.0 has no edits.
-use Rattle.std.specs.Prelude.{◌≡◌, ℕ, true, List, [], ◌∷◌}
+use Rattle.std.specs.Prelude.{◌≡◌, ℕ, Bool, true, List, [], ◌∷◌, Option, All}
 use Rattle.journal_core.specs.History.{History, Edits, after_undo, after_redo}
 use Rattle.rdl_rewrite.specs.declared.edit.Edit.{Edit}
-use Rattle.rdl_edit.specs.Step.{State, Leads}
+use Rattle.rdl_parse.specs.Parsing.{SpellsText}
+use Rattle.rdl_parse.specs.Places.{Located}
+use Rattle.rdl_edit.specs.Step.{State, HasRows, Leads}
+use Rattle.rdl_script.specs.Commands.{lines_of}
+use Rattle.rdl_run.specs.Answers.{Serves}
+use Rattle.rdl_run.specs.Opening.{OpensHistory}
+use Rattle.rdl_round.specs.Writable.{ReadsBack, IsWritable}
 use Rattle.run_laws.specs.NewParts.{IsEditOfWords, IsEditSpellable}
 
 pub data Action : Type 0 where
@@ -32,3 +38,35 @@ BringWords (redo ∷ actions) = BringWords actions
 -- a history that begins with this state
 abbrev pub begun : ℕ → State → History State
 begun limit s = record { limit = limit; states = s ∷ []; place = 0; own = true }
+
+-- edits that bring only words, undos and redos made this history of a map with rows that the text spells
+pub record BeganWith (text : List ℕ) (limit : ℕ) (h : History State) : Type 0 where
+  pub start : State
+  pub places : Located
+  pub spelled : SpellsText text start.description places
+  pub whole : HasRows start
+  pub actions : List Action
+  pub bring : BringWords actions
+  pub follows : Follows (begun limit start) actions h
+
+-- the lines of the script lead to this history from the one that the map or session opens
+pub record ScriptLeads (option : Option (List ℕ)) (limit : ℕ) (bytes script : List ℕ) (last : History State) : Type 0 where
+  pub first : History State
+  pub opens : OpensHistory option limit bytes first
+  pub replies : List ℕ
+  pub refuses : Bool
+  pub serves : Serves first (lines_of script) replies refuses last
+
+-- ---- The maps of a history.
+
+-- each reads back
+abbrev pub AllReadBack : History State → Type 0
+AllReadBack h = All (λ s. ReadsBack s.description) h.states
+
+-- each can be written and read back
+abbrev pub AllWritable : History State → Type 0
+AllWritable h = All (λ s. IsWritable s.description) h.states
+
+-- each has this option
+abbrev pub AllHaveOption : Option (List ℕ) → History State → Type 0
+AllHaveOption option h = All (λ s. s.option ≡ option) h.states

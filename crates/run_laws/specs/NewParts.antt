@@ -26,3 +26,7 @@ IsEditOfWords e = Unit {0}
 abbrev pub IsEditSpellable : Edit → Type 0
 IsEditSpellable (Add path place new) = IsSpellable new
 IsEditSpellable e = Unit {0}
+
+-- what it brings is made of words, and a text can spell the items that it adds
+abbrev pub BringsWords : Edit → Type 0
+BringsWords e = IsEditOfWords e × IsEditSpellable e

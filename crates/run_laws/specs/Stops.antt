@@ -1,11 +1,13 @@
 -- Which history a session spells, and runs that stop and go on.
 -- own: SystemRDL 2.0 has no sessions.
-use Rattle.std.specs.Prelude.{◌≡◌, ◌≢◌, ℕ, List, [], ◌∷◌, ◌++◌}
+use Rattle.std.specs.Prelude.{◌≡◌, ◌≢◌, ℕ, true, false, List, [], ◌∷◌, ◌++◌, Option, IsUtf8}
+use Rattle.std.proofs.Common.{inr}
 use Rattle.journal_core.specs.History.{History}
 use Rattle.rdl_tree.specs.declared.patch.Patch.{Patch}
 use Rattle.rdl_edit.specs.Step.{State}
-use Rattle.rdl_run.specs.Output.{Output, Wrote}
-use Rattle.rdl_run.specs.Sessions.{LeadBack, LeadOn}
+use Rattle.rdl_run.specs.Opening.{OpensHistory}
+use Rattle.rdl_run.specs.Output.{Output, RunsScript, IsOutput, SameFiles, Wrote}
+use Rattle.rdl_run.specs.Sessions.{LeadBack, LeadOn, is_session}
 use Rattle.rdl_run.specs.declared.run.Options.{Options}
 use Rattle.rdl_write.specs.Texts.{newline}
 use Rattle.rdl_session.specs.Spelling.{SpellsSession}
@@ -19,6 +21,18 @@ pub record SpellsHistory (bytes : List ℕ) (now : State) (h : History State) : 
   pub back : LeadBack h undo
   pub on : LeadOn h redo
   pub spelled : SpellsSession bytes now.description undo redo
+
+-- the bytes open the same list of maps at the same place, whatever limit they are opened with
+abbrev pub OpensAgain : Option (List ℕ) → List ℕ → History State → Type 0
+OpensAgain option bytes h = (limit : ℕ) → OpensHistory option limit bytes (record { limit = limit; states = h.states; place = h.place; own = false })
+
+-- a run of a map left its session: it is asked for, isn't too long, and is UTF-8
+pub record SavesSession (options : Options) (map script : List ℕ) (out : Output) : Type 0 where
+  pub ran : RunsScript options map script out
+  pub unnamed : is_session map ≡ false
+  pub asked : options.session ≡ true
+  pub kept : ran.runs.closes.no_session ≡ false
+  pub utf8 : IsUtf8 out.session
 
 -- ---- Runs that stop and go on.
 
@@ -39,3 +53,26 @@ GoesOnFrom options map (script ∷ scripts) bytes = (before : List ℕ) × GoesO
 abbrev pub joined : (scripts : List (List ℕ)) → (more : List ℕ) → List ℕ
 joined [] more = more
 joined (script ∷ scripts) more = joined scripts (script ++ newline ++ more)
+
+-- the same where the first run was of a map
+pub record GoesOnFromMap (options : Options) (map : List ℕ) (scripts : List (List ℕ)) (bytes : List ℕ) : Type 0 where
+  pub unnamed : is_session map ≡ false
+  pub from : GoesOnFrom options map scripts bytes
+
+-- a run that went on after any number of stops left a session
+pub record SavesAfterStops (options : Options) (map : List ℕ) (scripts : List (List ℕ)) (bytes script : List ℕ) (out : Output) : Type 0 where
+  pub from : GoesOnFromMap options map scripts bytes
+  pub wrote : Wrote options bytes script out
+  pub ran : RunsScript options bytes script out
+  pub is_run : wrote.is_output ≡ inr ran
+  pub some : out.session ≢ []
+
+-- the run that goes on has the same top and the same history
+pub record GoesOnAlike (options again : Options) : Type 0 where
+  pub top : again.top ≡ options.top
+  pub history : again.history ≡ options.history
+
+-- a run of these bytes and of this script leaves the map and the header that a run of the map and of the whole script leaves
+abbrev pub LeavesSameFiles : Options → (bytes script map whole : List ℕ) → Type 0
+LeavesSameFiles options bytes script map whole =
+    (out other : Output) → IsOutput options bytes script out → IsOutput options map whole other → SameFiles out other

@@ -13,10 +13,10 @@ ghost use Rattle.rdl_elab.specs.Faults.{elaborated};
 ghost use Rattle.rdl_elab.specs.declared.row.Row.{Row};
 ghost use Rattle.rdl_rewrite.specs.Patches.{patches};
 ghost use Rattle.rdl_rewrite.specs.declared.edit.Edit.{Edit};
-ghost use Rattle.rdl_edit.specs.Step.{State, HasRows, step};
+ghost use Rattle.rdl_edit.specs.Step.{State, step};
 ghost use Rattle.rdl_round.specs.Writable.{ReadsBack, IsWritable};
-ghost use Rattle.run_laws.specs.Histories.{Action, Follows, BringWords, begun};
-ghost use Rattle.run_laws.specs.NewParts.{IsEditOfWords, IsEditSpellable};
+ghost use Rattle.run_laws.specs.Histories.{Action, Follows, BringWords, BeganWith, AllReadBack, AllWritable};
+ghost use Rattle.run_laws.specs.NewParts.{IsEditOfWords, IsEditSpellable, BringsWords};
 ghost use Rattle.rdl_round.specs.OfWords.{IsOfWords};
 ghost use Rattle.rdl_round.specs.Spellable.{IsSpellable};
 ghost use Rattle.rdl_session.specs.Writable.{IsWritablePatch};
@@ -53,17 +53,14 @@ pub fn edited_maps_read_back()
 
 /// A history of maps that can be written and read back stays one, whatever is done, undone and done again.
 pub fn histories_stay_writable()
-    ensures { (old new : History State) (actions : List Action) → All (λ s. IsWritable s.description) old.states → BringWords actions → Follows old actions new
-        → All (λ s. IsWritable s.description) new.states }
+    ensures { (old new : History State) (actions : List Action) → AllWritable old → BringWords actions → Follows old actions new → AllWritable new }
 {}
 
 /// So each map of a history that began with a map that was read reads back: that at the place, and those before
 /// and after it.
 pub fn histories_read_back()
-    ensures all { (text : List ℕ) (start : State) (p : Located) (limit : ℕ) (actions : List Action) (h : History State) → SpellsText text start.description p
-        → HasRows start → BringWords actions → Follows (begun limit start) actions h → All (λ s. ReadsBack s.description) h.states }
-    ensures current { (text : List ℕ) (start : State) (p : Located) (limit : ℕ) (actions : List Action) (h : History State) (now : State) → SpellsText text start.description p
-        → HasRows start → BringWords actions → Follows (begun limit start) actions h → IsAt h now → ReadsBack now.description }
+    ensures all { (text : List ℕ) (limit : ℕ) (h : History State) → BeganWith text limit h → AllReadBack h }
+    ensures current { (text : List ℕ) (limit : ℕ) (h : History State) (now : State) → BeganWith text limit h → IsAt h now → ReadsBack now.description }
 {}
 
 /// The patches of an accepted edit can be written, where the map can and what the edit brings, and so can those that take
@@ -76,7 +73,7 @@ pub fn patches_of_edits_are_writable()
 
 /// What an accepted edit brings stands in the new map: where that can be written, so can what the edit brings.
 pub fn edits_to_writable_maps_bring_words()
-    ensures { (old : State) (e : Edit) (new : State) → step old e ≡ Ok new → IsWritable new.description → IsEditOfWords e × IsEditSpellable e }
+    ensures { (old : State) (e : Edit) (new : State) → step old e ≡ Ok new → IsWritable new.description → BringsWords e }
 {}
 
 /// So the patches of an accepted edit between maps that can be written can be written, and so can those that take them back.

@@ -2,10 +2,10 @@ use Rattle.run_laws.proofs.Scripted.{run-reads-back, place-of-run-reads-back, ou
 use Rattle.run_laws.proofs.scripts.runs_read_back.Goals as goal
 
 pub returns-clause-all : goal.returns-clause-all
-returns-clause-all c = run-reads-back
+returns-clause-all c = λ option limit bytes script last l. run-reads-back option limit bytes l.first script l.replies l.refuses last l.opens l.serves
 
 pub returns-clause-current : goal.returns-clause-current
-returns-clause-current c = place-of-run-reads-back
+returns-clause-current c = λ option limit bytes script last now l at. place-of-run-reads-back option limit bytes l.first script l.replies l.refuses last now l.opens l.serves at
 
 pub returns-clause-written : goal.returns-clause-written
 returns-clause-written c = output-reads-back
