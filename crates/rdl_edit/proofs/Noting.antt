@@ -15,13 +15,13 @@ use Rattle.rdl_tree.specs.declared.path.Segment.{Segment}
 use Rattle.rdl_tree.specs.declared.description.Item.{Item}
 use Rattle.rdl_tree.specs.declared.description.Item.TheVariants.{Define, Instance, Own, Default, Dynamic}
 use Rattle.rdl_tree.proofs.Places.{holder-place, number-place, body_at-map}
+use Rattle.rdl_scope.specs.OneItem.{IsLast}
 use Rattle.rdl_scope.specs.ItemFaults.{fault_of}
 use Rattle.rdl_scope.specs.Keys.{has_key}
 use Rattle.rdl_scope.specs.Noted.{HasRoom, AreFronts, assigned_front}
 use Rattle.rdl_scope.specs.declared.room.Room.{Room}
 use Rattle.rdl_scope.proofs.NewItems.{new-behind, fronts-behind}
 use Rattle.rdl_scope.proofs.Rooms.{room-left, small}
-use Rattle.rdl_kept.specs.HarmlessPlaces.{IsLast}
 use Rattle.rdl_rewrite.specs.Dynamics.{assigns_to}
 use Rattle.rdl_rewrite.specs.NewAssignment.{IsNew}
 use Rattle.rdl_rewrite.specs.Patches.{patches, patches_on, patches_in, set_or_insert}

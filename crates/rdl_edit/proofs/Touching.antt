@@ -12,9 +12,8 @@ use Rattle.rdl_tree.specs.declared.description.Item.TheVariants.{Define, Instanc
 use Rattle.rdl_tree.specs.declared.shell.Shell.{Shell}
 use Rattle.rdl_tree.specs.declared.description.Of.{Of}
 use Rattle.rdl_scope.specs.ItemFaults.{fault_of}
-use Rattle.rdl_scope.specs.OneItem.{NoOtherFault}
+use Rattle.rdl_scope.specs.OneItem.{IsLast, NoOtherFault}
 use Rattle.rdl_scope.proofs.OneChange.{new_shell, new_value, last_dynamic}
-use Rattle.rdl_kept.specs.HarmlessPlaces.{IsLast}
 use Rattle.rdl_kept.specs.Skeleton.{skeleton}
 use Rattle.rdl_kept.specs.Harmless.{IsHarmless}
 use Rattle.rdl_kept.proofs.HarmlessPatches.{keeps_rows}

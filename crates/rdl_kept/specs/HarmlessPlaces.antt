@@ -1,21 +1,12 @@
 -- What the code of `is_harmless` asks at one place.
 -- own: no part of what a harmless change is.
-use Rattle.std.specs.Prelude.{◌≡◌, ℕ, ◌^◌, ◌<◌, List, length, Some}
+use Rattle.std.specs.Prelude.{◌≡◌, ℕ, ◌^◌, ◌<◌, List, Some}
 use Rattle.rdl_tree.specs.Items.{Items}
-use Rattle.rdl_tree.specs.Address.{holder_of, number_of, body_at}
 use Rattle.rdl_tree.specs.ItemAt.{item_at}
-use Rattle.rdl_tree.specs.View.{list_of}
 use Rattle.rdl_tree.specs.declared.shell.Shell.{Shell}
 use Rattle.rdl_tree.specs.declared.description.Item.TheVariants.{Instance}
 use Rattle.rdl_tree.specs.declared.description.Of.{Of}
 use Rattle.rdl_kept.specs.Harmless.{bits_said, end_of_target}
-
--- behind the last item of a body
-pub record IsLast (at : List ℕ) (d : Items) : Type 0 where
-  pub inside : 0 < length at
-  pub body : Items
-  pub held : body_at (holder_of at) d ≡ Some body
-  pub last : number_of at ≡ length (list_of body)
 
 -- the instance at an address has more bits than the number
 pub record FitsInstance (d : Items) (at : List ℕ) (number : ℕ) : Type 0 where

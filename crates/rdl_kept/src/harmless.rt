@@ -2,7 +2,8 @@
 ghost use Rattle.std.specs.Prelude.{◌≡◌, ◌≤◌, ◌<◌, ◌^◌, true, IfOk};
 ghost use Rattle.rdl_tree.specs.Depth.{depth};
 ghost use Rattle.rdl_kept.specs.Reach.{SaysTheSame};
-ghost use Rattle.rdl_kept.specs.HarmlessPlaces.{IsLast, FitsInstance, FitsEnd};
+ghost use Rattle.rdl_scope.specs.OneItem.{IsLast};
+ghost use Rattle.rdl_kept.specs.HarmlessPlaces.{FitsInstance, FitsEnd};
 ghost use Rattle.rdl_kept.specs.Renaming.{IsRenaming, IsRenamingPatch};
 ghost use Rattle.rdl_kept.specs.Harmless.{bits_said, FitsReset, IsHarmlessShell, IsHarmlessAssignment, IsHarmlessValue, IsHarmlessInsert, IsHarmless, end_of_target, is_judged};
 

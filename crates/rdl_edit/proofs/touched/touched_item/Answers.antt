@@ -3,8 +3,7 @@ use Rattle.rdl_tree.specs.ItemAt.{item_at}
 use Rattle.rdl_tree.specs.Patch.{patched}
 use Rattle.rdl_tree.specs.declared.patch.Patch.{Patch}
 use Rattle.rdl_tree.specs.declared.patch.Patch.TheVariants.{Insert, Exchange}
-use Rattle.rdl_scope.specs.OneItem.{NoOtherFault}
-use Rattle.rdl_kept.specs.HarmlessPlaces.{IsLast}
+use Rattle.rdl_scope.specs.OneItem.{IsLast, NoOtherFault}
 use Rattle.rdl_edit.specs.Touching.{is_dynamic}
 use Rattle.rdl_edit.proofs.Touching.{one-alone, put-alone}
 use Rattle.rdl_edit.proofs.touched.touched_item.Goals as goal
