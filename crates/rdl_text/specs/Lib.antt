@@ -3,6 +3,7 @@ pub mod Fault
 pub mod Front
 pub mod Joined
 pub mod Name
+pub mod NameText
 pub mod Number
 pub mod Piece
 pub mod Place

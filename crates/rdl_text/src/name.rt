@@ -4,26 +4,79 @@ ghost use Rattle.std.specs.List.{list_all};
 ghost use Rattle.rdl_text.specs.Name.{IsName, is_letter, is_rest, is_identifier};
 ghost use Rattle.rdl_text.specs.declared.name.NameFault.{NameFault};
 
+use arrayvec::ArrayString;
 use std::alloc::{AllocError, Global};
 use std::fmt;
 use std::marker::Model;
 
+/// How many bytes a name has at most that takes no memory of its own.
+const SHORT: usize = 16;
+
+/// The bytes of a name, which most names are short enough to hold in themselves.
+#[derive(Clone, Debug, Drop)]
+enum Text {
+    Short(ArrayString<SHORT>),
+    Long(String),
+}
+
+impl Text {
+    ghost use Rattle.std.specs.Prelude.{◌≡◌, length, IfOk};
+    ghost use Rattle.rdl_text.specs.NameText.{text_bytes};
+
+    fn new(alloc: Global, text: &str) -> Result<Text, AllocError>
+        ensures { IfOk result (λ t. text_bytes t ≡ text.now) }
+    {
+        match ArrayString::from(text) {
+            Ok(short) => Ok(Text::Short(short)),
+            Err(_) => Ok(Text::Long(String::from_str(alloc, text)?)),
+        }
+    }
+
+    fn as_str(&self) -> &str
+        ensures { result.now ≡ text_bytes self.now }
+    {
+        match self {
+            Text::Short(text) => text.as_str(),
+            Text::Long(text) => text.as_str(),
+        }
+    }
+
+    fn len(&self) -> usize
+        ensures { result ≡ length (text_bytes self.now) }
+    {
+        match self {
+            Text::Short(text) => text.len(),
+            Text::Long(text) => text.len(),
+        }
+    }
+
+    fn try_copy(&self, alloc: Global) -> Result<Text, AllocError>
+        ensures { IfOk result (λ t. text_bytes t ≡ text_bytes self.now) }
+    {
+        match self {
+            Text::Short(text) => Ok(Text::Short(*text)),
+            Text::Long(text) => Ok(Text::Long(String::from_str(alloc, text.as_str())?)),
+        }
+    }
+}
+
 /// An identifier of 1 to 255 bytes. A contract sees its bytes.
 #[derive(Clone, Debug, Drop)]
 pub struct Name {
-    text: String,
+    text: Text,
 }
 
 impl Model for Name {
-    ghost use Rattle.std.specs.Prelude.{ℕ, List, string_bytes};
+    ghost use Rattle.std.specs.Prelude.{ℕ, List};
+    ghost use Rattle.rdl_text.specs.NameText.{text_bytes};
 
     ghost Value = { List ℕ };
 
-    ghost view = { λ n. string_bytes n.text };
+    ghost view = { λ n. text_bytes n.text };
 
     ghost use Rattle.rdl_text.specs.Name.{IsName};
 
-    ghost invariant = { λ n. IsName (string_bytes n.text) };
+    ghost invariant = { λ n. IsName (text_bytes n.text) };
 }
 
 /// Why a text is no `Name` or no `Raw`.
@@ -87,7 +140,7 @@ impl Name {
         if text.len() > Name::MAX_LEN || !is_identifier(text.as_bytes()) {
             return Err(NameFault::NotSuch);
         }
-        let text = String::from_str(alloc, text)?;
+        let text = Text::new(alloc, text)?;
         Ok(Name { text })
     }
 
@@ -113,7 +166,7 @@ impl Name {
     pub fn try_copy(&self, alloc: Global) -> Result<Name, AllocError>
         ensures { IfOk result (λ n. n ≡ self.now) }
     {
-        let text = String::from_str(alloc, self.text.as_str())?;
+        let text = self.text.try_copy(alloc)?;
         Ok(Name { text })
     }
 }
