@@ -18,3 +18,4 @@ pub mod Reached
 pub mod Reaching
 pub mod Renamed
 pub mod Staying
+pub mod Untouched

@@ -41,7 +41,7 @@ dynamic_among (y ∷ xs) (suc i) x e h = ap (λ b. is_dynamic y || b) (dynamic_a
     or-true false = refl
 
 -- an item that is not on the way, and no target, isn't taken out
-not_out : (d : Items) (way at : List ℕ) (x : Item) → item_at at d ≡ Some x → same at way ≡ false → through_of d at x ≡ None → fate d way None at x ≡ Kept
+pub not_out : (d : Items) (way at : List ℕ) (x : Item) → item_at at d ≡ Some x → same at way ≡ false → through_of d at x ≡ None → fate d way None at x ≡ Kept
 not_out d way at x here off none =
     ap (λ b. cond (b || passes_by way (option_and_then (through_of d at) (item_at at d))) Dropped Kept) off
     ∙ ap (λ o. cond (passes_by way (option_and_then (through_of d at) o)) Dropped Kept) here ∙ ap (λ o. cond (passes_by way o) Dropped Kept) none

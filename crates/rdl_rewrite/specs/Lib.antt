@@ -1,4 +1,5 @@
 pub mod Addresses
+pub mod Assigning
 pub mod Assignment
 pub mod Change
 pub mod Dynamics

@@ -16,4 +16,5 @@ mod removal;
 mod renaming;
 pub mod rewrite;
 mod shell;
+mod spared;
 mod sweep;

@@ -7,7 +7,9 @@ ghost use Rattle.rdl_tree.specs.View.{add, list_of};
 ghost use Rattle.rdl_tree.specs.Address.{body_at, holder_of, number_of};
 ghost use Rattle.rdl_tree.specs.Depth.{depth};
 ghost use Rattle.rdl_scope.specs.Types.{items_in};
-ghost use Rattle.rdl_rewrite.specs.Addresses.{same};
+ghost use Rattle.rdl_scope.specs.Walk.{is_definition};
+ghost use Rattle.rdl_rewrite.specs.Addresses.{same, addresses};
+ghost use Rattle.rdl_rewrite.specs.Assigning.{assigns_at};
 ghost use Rattle.rdl_rewrite.specs.Firsts.{AreFirsts, NotesItem, is_inside, is_dynamic};
 ghost use Rattle.rdl_rewrite.specs.Led.{IsLed};
 ghost use Rattle.rdl_rewrite.specs.Sweep.{Knows};
@@ -16,6 +18,7 @@ ghost use Rattle.rdl_rewrite.specs.Fates.{fate, fate_patches};
 use crate::fate::Fate;
 use crate::firsts::Firsts;
 use crate::leads::{is_inside, leads_to, led_behind};
+use crate::spared::{assigns, is_no_type, may_lead_into};
 use crate::{removal, renaming};
 use rdl_text::name::Name;
 use rdl_tree::address::Address;
@@ -144,22 +147,39 @@ impl<'a> Sweep<'a> {
         !self.way.is_empty() && self.way.number() != number
     }
 
+    /// Whether this is the body of the item of this number in the one at the address, and it is known that there are no patches
+    /// for what stands in it: no type is looked for, the way leads elsewhere, and nothing is assigned from there.
+    fn spares(&self, at: &Address, number: usize, body: &Body) -> bool
+        requires nesting { depth self.now.whole.now.items ≤ 16 }
+        requires room { length at.now < 17 }
+        requires here { body_at (at.now ++ number ∷ []) self.now.whole.now.items ≡ Some body.now }
+        ensures untyped { result ≡ true → (name : List ℕ) → is_definition name (option_copied self.now.taken) ≡ false }
+        ensures apart { result ≡ true → (rest : List ℕ) → same (at.now ++ number ∷ rest) self.now.way.now ≡ false }
+        ensures unassigned { result ≡ true → list_any (assigns_at self.now.whole.now.items) (addresses (at.now ++ number ∷ []) 0 body.now) ≡ false }
+    {
+        is_no_type(self.taken)
+            && !may_lead_into(self.way, at, number)
+            && !assigns(self.whole, &at.inside(number), body)
+    }
+
     /// Whether it is known at once that there are no patches for the item of this number in the body at the address, nor for
     /// any inside it. `led` says whether a reference to the taken item's name leads to it here.
-    fn stays(&self, _at: &Address, number: usize, found: &Item, led: bool) -> bool
+    fn stays(&self, at: &Address, number: usize, found: &Item, led: bool) -> bool
+        requires nesting { depth self.now.whole.now.items ≤ 16 }
         requires known { Knows self.now }
-        requires here { item_at (_at.now ++ number ∷ []) self.now.whole.now.items ≡ Some found.now }
-        requires led { IsLed self.now.whole.now.items self.now.way.now (_at.now ++ number ∷ []) led }
-        ensures { result ≡ true → fate_patches (fate self.now.whole.now.items self.now.way.now (option_copied self.now.name)) _at.now number (add found.now no_items) ≡ [] }
+        requires room { length at.now < 17 }
+        requires here { item_at (at.now ++ number ∷ []) self.now.whole.now.items ≡ Some found.now }
+        requires led { IsLed self.now.whole.now.items self.now.way.now (at.now ++ number ∷ []) led }
+        ensures { result ≡ true → fate_patches (fate self.now.whole.now.items self.now.way.now (option_copied self.now.name)) at.now number (add found.now no_items) ≡ [] }
     {
         match found {
             Item::Own(..) => self.is_apart(number),
             Item::Default(..) => self.is_apart(number),
             Item::Instance(_, of) => match of {
                 Of::Named(_) => self.is_apart(number) && !leads_to(self.taken, led, found),
-                Of::Anonymous(_) => false,
+                Of::Anonymous(component) => self.spares(at, number, &component.body),
             },
-            Item::Define(..) => false,
+            Item::Define(_, component) => self.spares(at, number, &component.body),
             Item::Dynamic(..) => false,
         }
     }

@@ -1,17 +1,49 @@
-use Rattle.std.proofs.Common.{◌++◌, ◌∷◌, [], ◌&&◌, option_copied, ap, sym, ◌∙◌}
+use Rattle.std.proofs.Common.{◌≡◌, ℕ, List, false, ◌++◌, ◌∷◌, [], ◌&&◌, option_copied, ap, sym, ◌∙◌}
 use Rattle.std.proofs.lemmas.Bool.{not-true}
+use Rattle.rdl_tree.specs.ItemAt.{item_at}
+use Rattle.rdl_tree.specs.View.{own_body}
+use Rattle.rdl_tree.specs.declared.description.Item.TheVariants.{Instance}
+use Rattle.rdl_tree.specs.declared.description.Of.TheVariants.{Anonymous}
+use Rattle.rdl_scope.specs.Walk.{is_definition}
 use Rattle.rdl_rewrite.specs.Led.{refers_to}
 use Rattle.rdl_rewrite.proofs.Led.{led_type}
+use Rattle.rdl_rewrite.proofs.Located.{body_at-item}
 use Rattle.rdl_rewrite.proofs.Staying.{nothing_named}
+use Rattle.rdl_rewrite.proofs.Untouched.{nothing_inside}
 use Rattle.rdl_rewrite.proofs.sweep.Sweep.stays.Goals as goal
 
 pub returns-then-is_apart : goal.returns-then-is_apart
 returns-then-is_apart c = λ h.
     let d = c.args.self.now.whole.now.items in
     let way = c.args.self.now.way.now in
-    let b = c.args._at.now in
+    let b = c.args.at.now in
     let n = c.args.number in
     let x = c.args.found.now in
     let leads = c.leads_to.ensures ∙ ap (λ o. c.args.led && refers_to o x) c.requires.known.taken ∙ led_type d way (b ++ n ∷ []) x c.args.led c.requires.here c.requires.led in
     nothing_named d way (option_copied c.args.self.now.name) b n x c.in-Instance.field-0 c.in-Instance.of c.in-Named.field-0 c.in-Instance.is c.in-Named.is c.requires.here
     (c.is_apart-in-Named.ensures c.if-is_apart.true b) (sym leads ∙ not-true c.leads_to.result h)
+
+pub returns-in-Define : goal.returns-in-Define
+returns-in-Define c = λ h.
+    let d = c.args.self.now.whole.now.items in
+    let way = c.args.self.now.way.now in
+    let x = c.args.found.now in
+    let untyped : (q : List ℕ) → is_definition q (item_at way d) ≡ false = λ q. ap (is_definition q) (sym c.requires.known.taken) ∙ c.spares-in-Define.ensures.untyped h q in
+    nothing_inside d way (option_copied c.args.self.now.name) c.args.at.now c.args.number x c.in-Define.component.body c.requires.here (ap own_body c.in-Define.is) untyped (c.spares-in-Define.ensures.apart h) (c.spares-in-Define.ensures.unassigned h)
+
+pub returns-in-Anonymous : goal.returns-in-Anonymous
+returns-in-Anonymous c = λ h.
+    let d = c.args.self.now.whole.now.items in
+    let way = c.args.self.now.way.now in
+    let x = c.args.found.now in
+    let untyped : (q : List ℕ) → is_definition q (item_at way d) ≡ false = λ q. ap (is_definition q) (sym c.requires.known.taken) ∙ c.spares.ensures.untyped h q in
+    let is : x ≡ Instance c.in-Instance.field-0 (Anonymous c.in-Anonymous.component) = c.in-Instance.is ∙ ap (Instance c.in-Instance.field-0) c.in-Anonymous.is in
+    nothing_inside d way (option_copied c.args.self.now.name) c.args.at.now c.args.number x c.in-Anonymous.component.body c.requires.here (ap own_body is) untyped (c.spares.ensures.apart h) (c.spares.ensures.unassigned h)
+
+pub spares-requires-clause-here : goal.spares-requires-clause-here
+spares-requires-clause-here c =
+    let is : c.args.found.now ≡ Instance c.in-Instance.field-0 (Anonymous c.in-Anonymous.component) = c.in-Instance.is ∙ ap (Instance c.in-Instance.field-0) c.in-Anonymous.is in
+    body_at-item _ c.args.self.now.whole.now.items c.args.found.now c.requires.here ∙ ap own_body is
+
+pub spares-requires-in-Define-clause-here : goal.spares-requires-in-Define-clause-here
+spares-requires-in-Define-clause-here c = body_at-item _ c.args.self.now.whole.now.items c.args.found.now c.requires.here ∙ ap own_body c.in-Define.is

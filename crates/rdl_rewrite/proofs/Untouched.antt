@@ -1,0 +1,130 @@
+-- Bodies whose items stay as they are.
+use Rattle.std.proofs.Common.{◌≡◌, ℕ, suc, Bool, true, false, cond, List, [], ◌∷◌, ◌++◌, length, Some, None, Option, refl, ap, sym, ◌∙◌, append_assoc, nat_eq, eq-eqb, true≢false}
+use Rattle.std.proofs.lemmas.List.Folds.{list_any-append}
+use Rattle.std.proofs.lemmas.Slice.Eq.{bytes_eq-Decides}
+use Rattle.std.specs.Prelude.{slice_get, option_and_then}
+use Rattle.std.specs.List.{list_any}
+use Rattle.rdl_tree.specs.ItemAt.{item_at}
+use Rattle.rdl_tree.specs.Items.{Items, no_items, plain, holder, Plain, Holder, named, own, default, dynamic, define, anonymous}
+use Rattle.rdl_tree.specs.View.{add, list_of, plain_item, holder_item, own_body}
+use Rattle.rdl_tree.specs.Address.{body_at}
+use Rattle.rdl_tree.specs.declared.description.Item.{Item}
+use Rattle.rdl_tree.specs.declared.description.Item.TheVariants.{Define, Instance, Own, Default, Dynamic}
+use Rattle.rdl_tree.specs.declared.description.Of.TheVariants.{Named, Anonymous}
+use Rattle.rdl_scope.specs.Types.{type_from, type_of}
+use Rattle.rdl_scope.specs.Walk.{is_definition}
+use Rattle.rdl_scope.proofs.Levelled.{item-deeper}
+use Rattle.rdl_rewrite.specs.Addresses.{same, leads_to, addresses}
+use Rattle.rdl_rewrite.specs.Assigning.{assigns_at, is_assigning}
+use Rattle.rdl_rewrite.specs.Fates.{fate, given_if, item_patches, fate_patches}
+use Rattle.rdl_rewrite.specs.Firsts.{is_dynamic}
+use Rattle.rdl_rewrite.specs.declared.fate.Fate.TheVariants.{Kept, Given}
+use Rattle.rdl_tree.specs.declared.part.Part.TheVariants.{OfShell, OfType, OfDefine}
+use Rattle.rdl_rewrite.proofs.Found.{or-false, unled-name}
+use Rattle.rdl_rewrite.proofs.Located.{body_at-item}
+use Rattle.rdl_rewrite.proofs.Staying.{not_out}
+
+-- an item of a plain kind that assigns nothing from outside, where no reference leads to the item on the way
+plain_kept : (d : Items) (way : List ℕ) (name : Option (List ℕ)) (at : List ℕ) (p : Plain) → item_at at d ≡ Some (plain_item p) → same at way ≡ false → ((q : List ℕ) → is_definition q (item_at way d) ≡ false)
+    → is_dynamic (plain_item p) ≡ false → fate d way name at (plain_item p) ≡ Kept
+plain_kept d way None at (named s t) here off untyped quiet = not_out d way at _ here off refl
+plain_kept d way None at (own p v) here off untyped quiet = not_out d way at _ here off refl
+plain_kept d way None at (default p v) here off untyped quiet = not_out d way at _ here off refl
+plain_kept d way None at (dynamic t p v) here off untyped quiet = cc
+plain_kept d way (Some m) at (named s t) here off untyped quiet =
+    ap (λ c. cond c (Given (OfShell (record s { name = m }))) (given_if (leads_to way (type_of d at)) (OfType m))) off
+    ∙ ap (λ c. given_if c (OfType m)) (ap (λ o. leads_to way (option_and_then (type_from d at) o)) here ∙ unled-name d way at t (untyped t))
+plain_kept d way (Some m) at (own p v) here off untyped quiet = refl
+plain_kept d way (Some m) at (default p v) here off untyped quiet = refl
+plain_kept d way (Some m) at (dynamic t p v) here off untyped quiet = cc
+
+-- an item with a body of its own
+holder_kept : (d : Items) (way : List ℕ) (name : Option (List ℕ)) (at : List ℕ) (h : Holder) (body : Items) → item_at at d ≡ Some (holder_item h body) → same at way ≡ false → fate d way name at (holder_item h body) ≡ Kept
+holder_kept d way None at (define n k) body here off = not_out d way at _ here off refl
+holder_kept d way None at (anonymous s k) body here off = not_out d way at _ here off refl
+holder_kept d way (Some m) at (define n k) body here off = ap (λ c. given_if c (OfDefine m)) off
+holder_kept d way (Some m) at (anonymous s k) body here off = ap (λ c. cond c (Given (OfShell (record s { name = m }))) Kept) off
+
+own-holder : (h : Holder) (body : Items) → own_body (holder_item h body) ≡ Some body
+own-holder (define n k) body = refl
+own-holder (anonymous s k) body = refl
+
+at-end : (front : List Item) (x : Item) (rest : List Item) → slice_get (front ++ x ∷ rest) (length front) ≡ Some x
+at-end [] x rest = refl
+at-end (y ∷ ys) x rest = at-end ys x rest
+
+one-longer : (front : List Item) (x : Item) → suc (length front) ≡ length (front ++ x ∷ [])
+one-longer [] x = refl
+one-longer (y ∷ ys) x = ap suc (one-longer ys x)
+
+located : (b : List ℕ) (d all : Items) (front : List Item) (n : ℕ) (x : Item) (rest : List Item) → body_at b d ≡ Some all → n ≡ length front → list_of all ≡ front ++ x ∷ rest → item_at (b ++ n ∷ []) d ≡ Some x
+located b d all front n x rest here len is = item-deeper b n d all here ∙ ap (λ xs. slice_get xs n) is ∙ ap (λ k. slice_get (front ++ x ∷ rest) k) len ∙ at-end front x rest
+
+-- the items behind these first ones of the body at b
+quiet : (d : Items) (way : List ℕ) (name : Option (List ℕ)) (b : List ℕ) (all : Items) (front : List Item) (n : ℕ) (t : Items) → body_at b d ≡ Some all → n ≡ length front → list_of all ≡ front ++ list_of t
+    → ((q : List ℕ) → is_definition q (item_at way d) ≡ false) → ((rest : List ℕ) → same (b ++ rest) way ≡ false) → list_any (assigns_at d) (addresses b n t) ≡ false → fate_patches (fate d way name) b n t ≡ []
+quiet d way name b all front n no_items here len is untyped off none = refl
+quiet d way name b all front n (plain p rest) here len is untyped off none =
+    let at : List ℕ = b ++ n ∷ [] in
+    let met : item_at at d ≡ Some (plain_item p) = located b d all front n (plain_item p) (list_of rest) here len is in
+    let parts = or-false (assigns_at d at) (list_any (assigns_at d) (addresses b (suc n) rest)) none in
+    let silent : is_dynamic (plain_item p) ≡ false = sym (ap is_assigning met) ∙ parts.0 in
+    let more : list_of all ≡ (front ++ plain_item p ∷ []) ++ list_of rest = is ∙ sym (append_assoc front (plain_item p ∷ []) (list_of rest)) in
+    ap (λ ps. ps ++ item_patches at (fate d way name at (plain_item p)) []) (quiet d way name b all (front ++ plain_item p ∷ []) (suc n) rest here (ap suc len ∙ one-longer front (plain_item p)) more untyped off parts.1)
+    ∙ ap (λ f. item_patches at f []) (plain_kept d way name at p met (off (n ∷ [])) untyped silent)
+quiet d way name b all front n (holder h body rest) here len is untyped off none =
+    let at : List ℕ = b ++ n ∷ [] in
+    let met : item_at at d ≡ Some (holder_item h body) = located b d all front n (holder_item h body) (list_of rest) here len is in
+    let held : body_at at d ≡ Some body = body_at-item at d (holder_item h body) met ∙ own-holder h body in
+    let parts = or-false (assigns_at d at) (list_any (assigns_at d) (addresses at 0 body ++ addresses b (suc n) rest)) none in
+    let both = or-false (list_any (assigns_at d) (addresses at 0 body)) (list_any (assigns_at d) (addresses b (suc n) rest)) (sym (list_any-append (assigns_at d) (addresses at 0 body) (addresses b (suc n) rest)) ∙ parts.1) in
+    let more : list_of all ≡ (front ++ holder_item h body ∷ []) ++ list_of rest = is ∙ sym (append_assoc front (holder_item h body ∷ []) (list_of rest)) in
+    let inside = fate_patches (fate d way name) at 0 body in
+    let deeper : (r : List ℕ) → same (at ++ r) way ≡ false = λ r. ap (λ a. same a way) (append_assoc b (n ∷ []) r) ∙ off (n ∷ r) in
+    ap (λ ps. ps ++ item_patches at (fate d way name at (holder_item h body)) inside) (quiet d way name b all (front ++ holder_item h body ∷ []) (suc n) rest here (ap suc len ∙ one-longer front (holder_item h body)) more untyped off both.1)
+    ∙ ap (λ f. item_patches at f inside) (holder_kept d way name at h body met (off (n ∷ [])))
+    ∙ quiet d way name at body [] 0 body held refl refl untyped deeper both.0
+
+-- an item with a body in which nothing is on the way and nothing is assigned from, where no reference leads to the item on the way
+pub nothing_inside : (d : Items) (way : List ℕ) (name : Option (List ℕ)) (b : List ℕ) (n : ℕ) (x : Item) (body : Items) → item_at (b ++ n ∷ []) d ≡ Some x → own_body x ≡ Some body → ((q : List ℕ) → is_definition q (item_at way d) ≡ false)
+    → ((rest : List ℕ) → same (b ++ n ∷ rest) way ≡ false) → list_any (assigns_at d) (addresses (b ++ n ∷ []) 0 body) ≡ false → fate_patches (fate d way name) b n (add x no_items) ≡ []
+nothing_inside d way name b n x body here has untyped off none = by_holder x here has
+  where
+    at : List ℕ
+    at = b ++ n ∷ []
+
+    deeper : (r : List ℕ) → same (at ++ r) way ≡ false
+    deeper r = ap (λ a. same a way) (append_assoc b (n ∷ []) r) ∙ off r
+
+    held : body_at at d ≡ Some body
+    held = body_at-item at d x here ∙ has
+
+    inside : fate_patches (fate d way name) at 0 body ≡ []
+    inside = quiet d way name at body [] 0 body held refl refl untyped deeper none
+
+    of_holder : (h : Holder) (t : Items) → t ≡ body → item_at at d ≡ Some (holder_item h t) → fate_patches (fate d way name) b n (holder h t no_items) ≡ []
+    of_holder h t e met = ap (λ f. item_patches at f (fate_patches (fate d way name) at 0 t)) (holder_kept d way name at h t met (off [])) ∙ ap (λ u. fate_patches (fate d way name) at 0 u) e ∙ inside
+
+    by_holder : (y : Item) → item_at at d ≡ Some y → own_body y ≡ Some body → fate_patches (fate d way name) b n (add y no_items) ≡ []
+    by_holder (Define m c) met h = let same_body : c.body ≡ body = cc in of_holder (define m c.kind) c.body same_body met
+    by_holder (Instance s (Anonymous c)) met h = let same_body : c.body ≡ body = cc in of_holder (anonymous s c.kind) c.body same_body met
+    by_holder (Instance s (Named t)) met h = cc
+    by_holder (Own p v) met h = cc
+    by_holder (Default p v) met h = cc
+    by_holder (Dynamic t p v) met h = cc
+
+-- what stands behind a way that goes on otherwise
+next-is : (at : List ℕ) (n : ℕ) (rest : List ℕ) → slice_get (at ++ n ∷ rest) (length at) ≡ Some n
+next-is [] n rest = refl
+next-is (k ∷ at) n rest = next-is at n rest
+
+leads_elsewhere : (at way : List ℕ) (n : ℕ) → (slice_get way (length at) ≡ Some n → ⊥) → (rest : List ℕ) → same (at ++ n ∷ rest) way ≡ false
+leads_elsewhere at way n h rest = by_case (same (at ++ n ∷ rest) way) refl
+  where
+    by_case : (b : Bool) → same (at ++ n ∷ rest) way ≡ b → b ≡ false
+    by_case false e = refl
+    by_case true e = absurd (h (ap (λ a. slice_get a (length at)) (sym ((bytes_eq-Decides (at ++ n ∷ rest) way).0 e)) ∙ next-is at n rest))
+
+-- the way goes on by another number
+pub elsewhere : (at way : List ℕ) (n k : ℕ) → slice_get way (length at) ≡ Some k → nat_eq k n ≡ false → (rest : List ℕ) → same (at ++ n ∷ rest) way ≡ false
+elsewhere at way n k there other = leads_elsewhere at way n (λ e. let one : k ≡ n = cc in true≢false (sym (eq-eqb k n one) ∙ other))
