@@ -1,5 +1,5 @@
 //! Rows made by hand.
-use rdl_elab::row::{Extent, Location, NamesAround, Row, RowPath};
+use rdl_elab::row::{Extent, LeadingNames, Location, NamesAround, Row, RowPath};
 use rdl_elab::row_values::RowValues;
 use rdl_text::name::Name;
 use rdl_text::token::Number;
@@ -15,7 +15,8 @@ fn path(alloc: Global, names: &[&str]) -> Result<RowPath, Fail> {
     for name in before {
         around = around.inside(alloc, &Name::new(alloc, name)?)?;
     }
-    Ok(RowPath::new(Rc::new(alloc, around)?, Name::new(alloc, last)?))
+    let leading = LeadingNames::new(Rc::new(alloc, around)?);
+    Ok(RowPath::new(leading, Name::new(alloc, last)?))
 }
 
 fn extent(alloc: Global, sizes: &[Number]) -> Result<Extent, AllocError> {

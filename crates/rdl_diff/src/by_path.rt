@@ -1,10 +1,40 @@
 //! The rows of a map under their paths.
-ghost use Rattle.std.specs.Prelude.{◌≡◌, drop, IfOk, OnOk};
+ghost use Rattle.std.specs.Prelude.{◌≡◌, [], ◌∷◌, ◌++◌, drop, option_copied, IfOk, OnOk};
+ghost use Rattle.std.specs.Option.{option_to_list};
 ghost use Rattle.rdl_diff.specs.ByPath.{texts};
 
 use indexmap::IndexMap;
 use rdl_elab::row::{Row, RowPath};
+use rdl_text::name::Name;
 use std::alloc::{AllocError, Global};
+
+/// Appends the name of a register, if there is one, and that of what stands in it.
+fn push_ends<'a>(
+    names: &mut Vec<&'a str>,
+    register: Option<&'a Name>,
+    last: &'a Name,
+) -> Result<(), AllocError>
+    ensures { OnOk result (texts names.new.items ≡ texts names.old.items ++ option_to_list (option_copied register) ++ last.now ∷ []) }
+{
+    if let Some(register) = register {
+        names.push(register.as_str())?;
+    }
+    names.push(last.as_str())
+}
+
+/// Appends the name of what stands in a register that is the top, if there is one.
+fn push_end_below<'a>(
+    names: &mut Vec<&'a str>,
+    register: Option<&Name>,
+    last: &'a Name,
+) -> Result<(), AllocError>
+    ensures { OnOk result (texts names.new.items ≡ texts names.old.items ++ drop 1 (option_to_list (option_copied register) ++ last.now ∷ [])) }
+{
+    match register {
+        Some(_) => names.push(last.as_str()),
+        None => Ok(()),
+    }
+}
 
 /// Makes the list that of the names below the top.
 pub(crate) fn put_names_below<'a>(
@@ -14,15 +44,14 @@ pub(crate) fn put_names_below<'a>(
     ensures { OnOk result (texts names.new.items ≡ drop 1 path.now) }
 {
     names.clear();
-    let (last, around) = path.split_last();
-    match around.as_slice() {
-        [] => Ok(()),
+    let parts = path.parts();
+    match parts.around.as_slice() {
+        [] => push_end_below(names, parts.register, parts.last),
         [_, between @ ..] => {
             'names: for name in between {
                 names.push(name.as_str())?;
             }
-            names.push(last.as_str())?;
-            Ok(())
+            push_ends(names, parts.register, parts.last)
         }
     }
 }
@@ -31,8 +60,8 @@ pub(crate) fn put_names_below<'a>(
 fn names_below(alloc: Global, path: &RowPath) -> Result<Vec<&str>, AllocError>
     ensures { IfOk result (λ names. texts names.items ≡ drop 1 path.now) }
 {
-    let (_, around) = path.split_last();
-    let mut names = Vec::with_capacity(alloc, around.as_slice().len())?;
+    let around = path.parts().around.as_slice();
+    let mut names = Vec::with_capacity(alloc, around.len().saturating_add(1))?;
     put_names_below(&mut names, path)?;
     Ok(names)
 }

@@ -12,7 +12,7 @@ ghost use Rattle.rdl_tree.specs.View.{items_of};
 ghost use Rattle.rdl_elab.specs.FinishedRows.{finished_map_fault, finished_top_row, finished_around_top, told_below, rows_unless, finished_rows_or_fault, finished_answer};
 
 use crate::layout::Mode;
-use crate::row::{Extent, Location, NamesAround, Row, RowPath, Rows};
+use crate::row::{Extent, LeadingNames, Location, NamesAround, Row, RowPath, Rows};
 use crate::row_values::RowValues;
 use crate::rows::{Around, add_rows};
 use crate::walk::finished::Finished;
@@ -137,7 +137,7 @@ fn top_row(alloc: Global, name: &Name, top: &Finished) -> Result<Row, AllocError
     let size = top.layouts.under(Mode::Regalign).size;
     let around = Rc::new(alloc, NamesAround::none(alloc))?;
     Ok(Row {
-        names: RowPath::new(around, name.try_copy(alloc)?),
+        names: RowPath::new(LeadingNames::new(around), name.try_copy(alloc)?),
         kind: top.kind,
         base: 0,
         location: Location::Bytes(Extent {
@@ -161,9 +161,10 @@ fn top_rows(alloc: Global, name: &Name, top: &Finished) -> Result<Vec<Row>, Allo
 fn around_top<'a>(alloc: Global, name: &Name, top: &Finished<'a>) -> Result<Around<'a>, AllocError>
     ensures { IfOk result (λ around. around ≡ finished_around_top name.now top.now) }
 {
+    let names = Rc::new(alloc, NamesAround::none(alloc).inside(alloc, name)?)?;
     Ok(Around {
         mode: mode_inside(top.kind, top.values, Mode::Regalign),
-        names: Rc::new(alloc, NamesAround::none(alloc).inside(alloc, name)?)?,
+        names: LeadingNames::new(names),
         base: 0,
         bits: 0,
         reaching: with_own(alloc, &[], top.assignments.as_slice())?,

@@ -1,5 +1,6 @@
 //! Rows of a map.
-ghost use Rattle.std.specs.Prelude.{◌≡◌, [], ◌∷◌, ◌++◌, IfOk, codes, length, map, slice_get, option_copied, string_bytes};
+ghost use Rattle.std.specs.Prelude.{◌≡◌, [], ◌∷◌, ◌++◌, IfOk, codes, length, map, slice_get, option_copied, option_map, string_bytes};
+ghost use Rattle.std.specs.Option.{option_to_list};
 
 use crate::layout::Span;
 use crate::row_values::RowValues;
@@ -101,10 +102,106 @@ fn joined_with(alloc: Global, joined: &str, name: &Name) -> Result<String, Alloc
     Ok(text)
 }
 
+/// The names that lead to a row, from the top down. That of a register stands apart from those around it, so that the
+/// paths of its fields share the list in which the register stands. A contract sees the list of the names' bytes.
+#[derive(Debug, Drop)]
+pub struct LeadingNames {
+    around: Rc<NamesAround>,
+    register: Option<Rc<Name>>,
+}
+
+impl Model for LeadingNames {
+    ghost use Rattle.std.specs.Prelude.{ℕ, List, ◌++◌, option_map};
+    ghost use Rattle.std.specs.Option.{option_to_list};
+
+    ghost Value = { List (List ℕ) };
+
+    ghost view = { λ names. names.around.value ++ option_to_list (option_map (λ name. name.value) names.register) };
+}
+
+impl LeadingNames {
+    ghost use Rattle.std.specs.Prelude.{◌≡◌, [], ◌∷◌, ◌++◌, IfOk};
+
+    pub fn new(around: Rc<NamesAround>) -> LeadingNames
+        ensures { result ≡ around.value }
+    {
+        LeadingNames {
+            around,
+            register: None,
+        }
+    }
+
+    /// Those that lead to the fields of the register of this name.
+    fn to_fields(
+        alloc: Global,
+        around: Rc<NamesAround>,
+        name: &Name,
+    ) -> Result<LeadingNames, AllocError>
+        ensures { IfOk result (λ names. names ≡ around.value ++ name.now ∷ []) }
+    {
+        let register = Rc::new(alloc, name.try_copy(alloc)?)?;
+        Ok(LeadingNames {
+            around,
+            register: Some(register),
+        })
+    }
+
+    /// The same names once more, which costs no memory.
+    pub(crate) fn share(&self) -> Result<LeadingNames, AllocError>
+        ensures { IfOk result (λ names. names ≡ self.now) }
+    {
+        let register = match &self.register {
+            Some(register) => Some(register.clone()?),
+            None => None,
+        };
+        let around = self.around.clone()?;
+        Ok(LeadingNames { around, register })
+    }
+
+    /// All of them in one list.
+    fn in_one_list(&self, alloc: Global) -> Result<Rc<NamesAround>, AllocError>
+        ensures { IfOk result (λ around. around.value ≡ self.now) }
+    {
+        match &self.register {
+            Some(register) => Ok(Rc::new(alloc, self.around.inside(alloc, register)?)?),
+            None => self.around.clone(),
+        }
+    }
+
+    /// Those that lead to what stands in the component of this kind and name.
+    pub(crate) fn inside(
+        &self,
+        alloc: Global,
+        kind: Kind,
+        name: &Name,
+    ) -> Result<LeadingNames, AllocError>
+        ensures { IfOk result (λ inside. inside ≡ self.now ++ name.now ∷ []) }
+    {
+        let around = self.in_one_list(alloc)?;
+        match kind {
+            Kind::Reg => LeadingNames::to_fields(alloc, around, name),
+            _ => {
+                let around = Rc::new(alloc, around.inside(alloc, name)?)?;
+                Ok(LeadingNames::new(around))
+            }
+        }
+    }
+}
+
+/// The names of a path.
+#[derive(Debug, Drop)]
+pub struct PathParts<'a> {
+    /// From the top down, but for the last and the register around that.
+    pub around: &'a NamesAround,
+    /// The register around the last, if it stands apart.
+    pub register: Option<&'a Name>,
+    pub last: &'a Name,
+}
+
 /// The names from the top down to a row, the top's first. A contract sees the list of the names' bytes.
 #[derive(Debug, Drop)]
 pub struct RowPath {
-    around: Rc<NamesAround>,
+    leading: LeadingNames,
     last: Name,
 }
 
@@ -113,23 +210,31 @@ impl Model for RowPath {
 
     ghost Value = { List (List ℕ) };
 
-    ghost view = { λ path. path.around.value ++ path.last ∷ [] };
+    ghost view = { λ path. path.leading ++ path.last ∷ [] };
 }
 
 impl RowPath {
-    ghost use Rattle.std.specs.Prelude.{◌≡◌, [], ◌∷◌, ◌++◌};
+    ghost use Rattle.std.specs.Prelude.{◌≡◌, [], ◌∷◌, ◌++◌, option_copied};
+    ghost use Rattle.std.specs.Option.{option_to_list};
 
-    pub fn new(around: Rc<NamesAround>, last: Name) -> RowPath
-        ensures { result ≡ around.value ++ last ∷ [] }
+    pub fn new(leading: LeadingNames, last: Name) -> RowPath
+        ensures { result ≡ leading ++ last ∷ [] }
     {
-        RowPath { around, last }
+        RowPath { leading, last }
     }
 
-    /// The last name, and those before it.
-    pub fn split_last(&self) -> (&Name, &NamesAround)
-        ensures { self.now ≡ result.1.now ++ result.0.now ∷ [] }
+    /// The names around, the register's if it stands apart, and the last.
+    pub fn parts(&self) -> PathParts<'_>
+        ensures { self.now ≡ (result.around.now ++ option_to_list (option_copied result.register)) ++ result.last.now ∷ [] }
     {
-        (&self.last, &self.around)
+        PathParts {
+            around: &self.leading.around,
+            register: match &self.leading.register {
+                Some(register) => Some(register),
+                None => None,
+            },
+            last: &self.last,
+        }
     }
 }
 

@@ -15,7 +15,7 @@ pub(crate) mod clean;
 pub mod siblings;
 
 use crate::layout::{Mode, Span};
-use crate::row::{Extent, Location, NamesAround, Row, RowPath};
+use crate::row::{Extent, LeadingNames, Location, Row, RowPath};
 use crate::row_values::{ComponentValues, RowValues};
 use crate::rows::siblings::{Sibling, Siblings, as_sibling, is_reset_too_wide};
 use crate::walk::finished::{Finished, Part};
@@ -30,7 +30,6 @@ use rdl_tree::shell::{Kind, Shell};
 use rdl_tree::value::Value;
 use std::alloc::{AllocError, Global};
 use std::marker::Model;
-use std::rc::Rc;
 
 /// What stands around the instances of a component. A contract sees `Surroundings`.
 #[derive(Drop)]
@@ -38,7 +37,7 @@ pub(crate) struct Around<'a> {
     /// The mode in which the instances are placed.
     pub mode: Mode,
     /// From the top down to the component.
-    pub names: Rc<NamesAround>,
+    pub names: LeadingNames,
     /// The address of the component, in bytes.
     pub base: u64,
     /// How many bits it has if it is a register.
@@ -51,7 +50,7 @@ impl<'a> Model for Around<'a> {
 
     ghost Value = { Surroundings };
 
-    ghost view = { λ a. record { mode = a.mode; names = a.names.value; base = a.base; bits = a.bits; reaching = a.reaching.items } };
+    ghost view = { λ a. record { mode = a.mode; names = a.names; base = a.base; bits = a.bits; reaching = a.reaching.items } };
 }
 
 fn base(kind: Kind, around: u64, span: Span) -> u64
@@ -159,7 +158,7 @@ fn row(
     let shell = part.shell();
     let size = component.layouts.under(around.mode).size;
     Ok(Row {
-        names: RowPath::new(around.names.clone()?, shell.name.try_copy(alloc)?),
+        names: RowPath::new(around.names.share()?, shell.name.try_copy(alloc)?),
         kind: component.kind,
         base: base(component.kind, around.base, span),
         location: location(alloc, component.kind, shell, span, size)?,
@@ -290,7 +289,9 @@ fn inside<'a>(
 {
     Ok(Around {
         mode: mode_inside(component.kind, component.values, around.mode),
-        names: Rc::new(alloc, around.names.inside(alloc, &part.shell().name)?)?,
+        names: around
+            .names
+            .inside(alloc, component.kind, &part.shell().name)?,
         base: base(component.kind, around.base, span),
         bits: component.values.regwidth,
         reaching: with_own(alloc, reaching, component.assignments.as_slice())?,

@@ -1,5 +1,6 @@
 -- The names of a path with two underscores between them, the last one apart.
 use Rattle.std.proofs.Common.{◌≡◌, ℕ, List, [], ◌∷◌, ◌++◌, ap, ◌∙◌, sym, codes, append_assoc, append-nil}
+use Rattle.std.proofs.lemmas.List.Concat.{flat_map-append}
 use Rattle.std.proofs.lemmas.List.Sums.{fold-append}
 use Rattle.std.specs.List.{flat_map}
 use Rattle.rdl_header.specs.HeaderText.{path_text}
@@ -20,17 +21,25 @@ ends : (around : List (List ℕ)) (last : List ℕ) → path_text (around ++ las
 ends [] last = append-nil last
 ends (x ∷ xs) last = underscores x xs last
 
--- the text with the names before the last, and then with the last
-pub path_pushed : (old joined between new : List ℕ) (path around : List (List ℕ)) (last : List ℕ) → path ≡ around ++ last ∷ [] → joined ≡ flat_map (λ n. n ++ codes "__") around → between ≡ old ++ joined → new ≡ between ++ last → new ≡ old ++ path_text path
-path_pushed old joined between new path around last e j f g =
-    g
-    ∙ ap (λ t. t ++ last) (f ∙ ap (λ t. old ++ t) j)
-    ∙ append_assoc old (flat_map (λ n. n ++ codes "__") around) last
-    ∙ ap (λ t. old ++ t) (sym (ap path_text e ∙ ends around last))
+-- the text of the names around a register, and behind it that of the register
+joined-further : (joined : List ℕ) (around register : List (List ℕ)) → joined ≡ flat_map (λ n. n ++ codes "__") around → joined ++ flat_map (λ n. n ++ codes "__") register ≡ flat_map (λ n. n ++ codes "__") (around ++ register)
+joined-further joined around register j =
+    ap (λ t. t ++ flat_map (λ n. n ++ codes "__") register) j ∙ sym (flat_map-append (λ n. n ++ codes "__") around register)
 
--- the mark of the names before the last, and then of the last
-pub path_marked : (joined : List ℕ) (path around : List (List ℕ)) (last : List ℕ) → path ≡ around ++ last ∷ [] → joined ≡ flat_map (λ n. n ++ codes "__") around → mark_on (mark joined) last ≡ mark (path_text path)
-path_marked joined path around last e j =
-    sym (fold-append with_byte 0 joined last)
-    ∙ ap (λ t. mark (t ++ last)) j
-    ∙ sym (ap (λ p. mark (path_text p)) e ∙ ap mark (ends around last))
+-- the text with the names around the register, then with the register, and then with the last
+pub path_pushed : (old joined first second new : List ℕ) (path around register : List (List ℕ)) (last : List ℕ) → path ≡ (around ++ register) ++ last ∷ [] → joined ≡ flat_map (λ n. n ++ codes "__") around
+    → first ≡ old ++ joined → second ≡ first ++ flat_map (λ n. n ++ codes "__") register → new ≡ second ++ last → new ≡ old ++ path_text path
+path_pushed old joined first second new path around register last e j f g h =
+    h
+    ∙ ap (λ t. t ++ last) (g ∙ ap (λ t. t ++ flat_map (λ n. n ++ codes "__") register) f ∙ append_assoc old joined (flat_map (λ n. n ++ codes "__") register) ∙ ap (λ t. old ++ t) (joined-further joined around register j))
+    ∙ append_assoc old (flat_map (λ n. n ++ codes "__") (around ++ register)) last
+    ∙ ap (λ t. old ++ t) (sym (ap path_text e ∙ ends (around ++ register) last))
+
+-- the mark of the names around the register, then of the register, and then of the last
+pub path_marked : (joined : List ℕ) (path around register : List (List ℕ)) (last : List ℕ) → path ≡ (around ++ register) ++ last ∷ [] → joined ≡ flat_map (λ n. n ++ codes "__") around
+    → mark_on (mark_on (mark joined) (flat_map (λ n. n ++ codes "__") register)) last ≡ mark (path_text path)
+path_marked joined path around register last e j =
+    ap (λ m. mark_on m last) (sym (fold-append with_byte 0 joined (flat_map (λ n. n ++ codes "__") register)))
+    ∙ sym (fold-append with_byte 0 (joined ++ flat_map (λ n. n ++ codes "__") register) last)
+    ∙ ap (λ t. mark (t ++ last)) (joined-further joined around register j)
+    ∙ sym (ap (λ p. mark (path_text p)) e ∙ ap mark (ends (around ++ register) last))

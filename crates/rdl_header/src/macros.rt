@@ -1,6 +1,7 @@
 //! The macros of the rows.
-ghost use Rattle.std.specs.Prelude.{◌≡◌, ◌++◌, [], ◌∷◌, string_bytes, IfOk, OnOk};
+ghost use Rattle.std.specs.Prelude.{◌≡◌, ◌++◌, [], ◌∷◌, codes, option_copied, string_bytes, IfOk, OnOk};
 ghost use Rattle.std.specs.List.{flat_map};
+ghost use Rattle.std.specs.Option.{option_to_list};
 ghost use Rattle.rdl_header.specs.HeaderText.{path_text, array_macros, bytes_macros, word_macros, mask_macros, reset_macros, width_macros, bits_macros, macros_of, register_behind, macros_below, guard, macros};
 ghost use Rattle.rdl_header.specs.Lines.{guarded, added, header_lines};
 ghost use Rattle.std.specs.Fmt.{decimal};
@@ -10,6 +11,7 @@ use crate::lines::Lines;
 use rdl_elab::layout::Span;
 use rdl_elab::row::{Extent, Location, Row, RowPath};
 use rdl_scope::shells::product;
+use rdl_text::name::Name;
 use rdl_text::token::Number;
 use rdl_tree::property::Property;
 use rdl_write::push_decimal;
@@ -18,13 +20,27 @@ use std::alloc::{AllocError, Global};
 /// One more than the greatest word of a number that needs several.
 const WORD: Number = 1 << 32;
 
+/// Appends the name of a register, if there is one, and two underscores.
+fn push_register(text: &mut String, register: Option<&Name>) -> Result<(), AllocError>
+    ensures { OnOk result (string_bytes text.new ≡ string_bytes text.old ++ flat_map (λ name. name ++ codes "__") (option_to_list (option_copied register))) }
+{
+    match register {
+        Some(name) => {
+            text.push_str(name.as_str())?;
+            text.push_str("__")
+        }
+        None => Ok(()),
+    }
+}
+
 /// Appends the names from the top with two underscores between them.
 fn push_path(text: &mut String, path: &RowPath) -> Result<(), AllocError>
     ensures { OnOk result (string_bytes text.new ≡ string_bytes text.old ++ path_text path.now) }
 {
-    let (last, around) = path.split_last();
-    text.push_str(around.joined())?;
-    text.push_str(last.as_str())?;
+    let parts = path.parts();
+    text.push_str(parts.around.joined())?;
+    push_register(text, parts.register)?;
+    text.push_str(parts.last.as_str())?;
     Ok(())
 }
 
@@ -215,8 +231,13 @@ fn count(location: &Location) -> usize {
 
 /// How many bytes lines of so many macros mostly need, that begin with this path.
 fn bytes(path: &RowPath, count: usize) -> usize {
-    let (last, around) = path.split_last();
-    let name = around.joined().len().saturating_add(last.len());
+    let parts = path.parts();
+    let register = match parts.register {
+        Some(name) => name.len().saturating_add(2),
+        None => 0,
+    };
+    let around = parts.around.joined().len().saturating_add(register);
+    let name = around.saturating_add(parts.last.len());
     name.saturating_add(32).saturating_mul(count)
 }
 

@@ -1,13 +1,15 @@
 //! Marks: numbers by which names are mostly told apart.
-ghost use Rattle.std.specs.Prelude.{◌≡◌, ◌++◌, true, None, IfOk, OnOk};
-ghost use Rattle.std.specs.List.{IsDistinct};
+ghost use Rattle.std.specs.Prelude.{◌≡◌, ◌++◌, codes, option_copied, true, None, IfOk, OnOk};
+ghost use Rattle.std.specs.List.{IsDistinct, flat_map};
 ghost use Rattle.std.specs.List.Sorted.{IsStrictlyIncreasing};
+ghost use Rattle.std.specs.Option.{option_to_list};
 ghost use Rattle.std.specs.Ordering.{nat_cmp, eq_by_cmp};
 ghost use Rattle.rdl_header.specs.HeaderText.{path_text, macros, first_clash};
 ghost use Rattle.rdl_header.specs.Marks.{mark_on, mark, is_narrow, row_marks, path_marks};
 
 use crate::bits::width;
 use rdl_elab::row::{Location, Row, RowPath};
+use rdl_text::name::Name;
 use std::alloc::{AllocError, Global};
 
 /// The mark of what this mark is of, with the bytes of a text behind it.
@@ -21,12 +23,23 @@ fn mark_on(before: u64, text: &str) -> u64
     mark
 }
 
+/// The mark with the name of a register, if there is one, and two underscores behind.
+fn mark_on_register(before: u64, register: Option<&Name>) -> u64
+    ensures { result ≡ mark_on before (flat_map (λ name. name ++ codes "__") (option_to_list (option_copied register))) }
+{
+    match register {
+        Some(name) => mark_on(mark_on(before, name.as_str()), "__"),
+        None => before,
+    }
+}
+
 /// The mark of the names from the top with two underscores between them.
 fn path_mark(path: &RowPath) -> u64
     ensures { result ≡ mark (path_text path.now) }
 {
-    let (last, around) = path.split_last();
-    mark_on(mark_on(0, around.joined()), last.as_str())
+    let parts = path.parts();
+    let around = mark_on(0, parts.around.joined());
+    mark_on(mark_on_register(around, parts.register), parts.last.as_str())
 }
 
 /// Whether the row has no number of more than four words.

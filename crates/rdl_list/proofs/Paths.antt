@@ -1,6 +1,7 @@
 -- The names of a path with dots between them, the last one apart.
 use Rattle.std.proofs.Common.{◌≡◌, ℕ, List, [], ◌∷◌, ◌++◌, ap, ◌∙◌, sym, codes, append_assoc, append-nil, zero, suc, length, map, take, drop, refl, ◌≤◌, ◌-◌, arith}
 use Rattle.std.proofs.lemmas.List.{take_all, length-drop}
+use Rattle.std.proofs.lemmas.List.Concat.{flat_map-append}
 use Rattle.std.specs.List.{flat_map}
 use Rattle.rdl_list.specs.ListText.{path_text}
 
@@ -23,22 +24,33 @@ dots_behind : {A : Type 0} (name_of : A → List ℕ) (xs : List A) → flat_map
 dots_behind name_of [] = refl
 dots_behind name_of (x ∷ xs) = ap (λ t. (name_of x ++ codes ".") ++ t) (dots_behind name_of xs)
 
--- the text with the names before the last, and then with the last
-pub path-pushed : {A : Type 0} (name_of : A → List ℕ) (old between new : List ℕ) (around : List A) (last : List ℕ) (i : ℕ) → length around ≤ i → between ≡ old ++ flat_map (λ n. name_of n ++ codes ".") (take i around) → new ≡ between ++ last
-    → new ≡ old ++ path_text (map name_of around ++ last ∷ [])
-path-pushed name_of old between new around last i all f g =
-    g
-    ∙ ap (λ t. t ++ last) (f ∙ ap (λ ns. old ++ flat_map (λ n. name_of n ++ codes ".") ns) (take_all i around all) ∙ ap (λ t. old ++ t) (dots_behind name_of around))
-    ∙ append_assoc old (flat_map (λ n. n ++ codes ".") (map name_of around)) last
-    ∙ ap (λ t. old ++ t) (sym (ends (map name_of around) last))
+-- the text with the names around the register, then with the register, and then with the last
+pub path-pushed : {A : Type 0} (name_of : A → List ℕ) (old first second new : List ℕ) (around : List A) (register : List (List ℕ)) (last : List ℕ) (i : ℕ) → length around ≤ i → first ≡ old ++ flat_map (λ n. name_of n ++ codes ".") (take i around)
+    → second ≡ first ++ flat_map (λ n. n ++ codes ".") register → new ≡ second ++ last → new ≡ old ++ path_text ((map name_of around ++ register) ++ last ∷ [])
+path-pushed name_of old first second new around register last i all f g h =
+    let of = flat_map (λ n. n ++ codes ".") in
+    h
+    ∙ ap (λ t. t ++ last)
+      (g
+      ∙ ap (λ t. t ++ of register) (f ∙ ap (λ ns. old ++ flat_map (λ n. name_of n ++ codes ".") ns) (take_all i around all) ∙ ap (λ t. old ++ t) (dots_behind name_of around))
+      ∙ append_assoc old (of (map name_of around)) (of register)
+      ∙ ap (λ t. old ++ t) (sym (flat_map-append (λ n. n ++ codes ".") (map name_of around) register)))
+    ∙ append_assoc old (of (map name_of around ++ register)) last
+    ∙ ap (λ t. old ++ t) (sym (ends (map name_of around ++ register) last))
 
--- without so many of the first names, of which the last is none
-dropped : {A : Type 0} (name_of : A → List ℕ) (around : List A) (last : List ℕ) (n : ℕ) → n ≤ length around → map name_of (drop n around) ++ last ∷ [] ≡ drop n (map name_of around ++ last ∷ [])
-dropped name_of around last zero h = refl
-dropped name_of [] last (suc n) h = grind arith
-dropped name_of (x ∷ xs) last (suc n) h = dropped name_of xs last n (omega arith)
+-- without so many of the first names, which all stand before the others
+dropped : {A : Type 0} (name_of : A → List ℕ) (around : List A) (register : List (List ℕ)) (last : List ℕ) (n : ℕ) → n ≤ length around → (map name_of (drop n around) ++ register) ++ last ∷ [] ≡ drop n ((map name_of around ++ register) ++ last ∷ [])
+dropped name_of around register last zero h = refl
+dropped name_of [] register last (suc n) h = grind arith
+dropped name_of (x ∷ xs) register last (suc n) h = dropped name_of xs register last n (omega arith)
 
-pub left_out : {A : Type 0} (name_of : A → List ℕ) (around : List A) (last : List ℕ) (n : ℕ) → n ≤ length around → map name_of (take (length around - n) (drop n around)) ++ last ∷ [] ≡ drop n (map name_of around ++ last ∷ [])
-left_out name_of around last n h =
+pub left_out : {A : Type 0} (name_of : A → List ℕ) (around : List A) (register : List (List ℕ)) (last : List ℕ) (n : ℕ) → n ≤ length around → (map name_of (take (length around - n) (drop n around)) ++ register) ++ last ∷ [] ≡ drop n ((map name_of around ++ register) ++ last ∷ [])
+left_out name_of around register last n h =
     let all : length (drop n around) ≤ length around - n = omega (arith, length-drop n around) in
-    ap (λ xs. map name_of xs ++ last ∷ []) (take_all (length around - n) (drop n around) all) ∙ dropped name_of around last n h
+    ap (λ xs. (map name_of xs ++ register) ++ last ∷ []) (take_all (length around - n) (drop n around) all) ∙ dropped name_of around register last n h
+
+-- without so many of the first names, more than stand before the others
+pub all-left-out : (around register : List (List ℕ)) (last : List ℕ) (n : ℕ) → length around ≤ n → drop (n - length around) (register ++ last ∷ []) ≡ drop n ((around ++ register) ++ last ∷ [])
+all-left-out [] register last n h = refl
+all-left-out (x ∷ xs) register last zero h = grind arith
+all-left-out (x ∷ xs) register last (suc n) h = all-left-out xs register last n (omega arith)

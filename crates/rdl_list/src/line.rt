@@ -1,5 +1,7 @@
 //! The line of a row.
-ghost use Rattle.std.specs.Prelude.{◌≡◌, ◌++◌, ◌∷◌, [], drop, map, string_bytes, OnOk};
+ghost use Rattle.std.specs.Prelude.{◌≡◌, ◌<◌, ◌++◌, ◌∷◌, [], codes, drop, map, option_copied, string_bytes, OnOk};
+ghost use Rattle.std.specs.List.{flat_map};
+ghost use Rattle.std.specs.Option.{option_to_list};
 ghost use Rattle.rdl_list.specs.ListText.{path_text, part_text, stride_text, reset_text, head_text, extent_text, bytes_line, span_text, bits_line, line_of};
 
 use rdl_elab::layout::Span;
@@ -12,28 +14,63 @@ use rdl_write::{kind_text, push_dims, push_hexadecimal};
 use std::alloc::AllocError;
 use std::rc::Rc;
 
-/// Appends names with dots between them, the last one apart.
-fn push_names(text: &mut String, around: &[Rc<Name>], last: &Name) -> Result<(), AllocError>
-    ensures { OnOk result (string_bytes text.new ≡ string_bytes text.old ++ path_text (map (λ n. n.value) around.now ++ last.now ∷ [])) }
+/// Appends the name of a register, if there is one, and a dot.
+fn push_register(text: &mut String, register: Option<&Name>) -> Result<(), AllocError>
+    ensures { OnOk result (string_bytes text.new ≡ string_bytes text.old ++ flat_map (λ name. name ++ codes ".") (option_to_list (option_copied register))) }
+{
+    match register {
+        Some(name) => {
+            text.push_str(name.as_str())?;
+            text.push_str(".")
+        }
+        None => Ok(()),
+    }
+}
+
+/// Appends names with dots between them, the register's and the last one apart.
+fn push_names(
+    text: &mut String,
+    around: &[Rc<Name>],
+    register: Option<&Name>,
+    last: &Name,
+) -> Result<(), AllocError>
+    ensures { OnOk result (string_bytes text.new ≡ string_bytes text.old ++ path_text ((map (λ n. n.value) around.now ++ option_to_list (option_copied register)) ++ last.now ∷ [])) }
 {
     'names: for name in around {
         text.push_str(name.as_str())?;
         text.push_str(".")?;
     }
+    push_register(text, register)?;
     text.push_str(last.as_str())?;
     Ok(())
+}
+
+/// Appends the last name where no more than the name of the register before it is left out, or a dot.
+fn push_end(
+    text: &mut String,
+    register: Option<&Name>,
+    last: &Name,
+    left_out: usize,
+) -> Result<(), AllocError>
+    requires { 0 < left_out }
+    ensures { OnOk result (string_bytes text.new ≡ string_bytes text.old ++ path_text (drop left_out (option_to_list (option_copied register) ++ last.now ∷ []))) }
+{
+    match register {
+        Some(_) if left_out == 1 => text.push_str(last.as_str()),
+        _ => text.push_str("."),
+    }
 }
 
 /// Appends the names of a path with dots between them, but for so many of the first. Where none is left it appends a dot.
 pub fn push_path(text: &mut String, path: &RowPath, left_out: usize) -> Result<(), AllocError>
     ensures { OnOk result (string_bytes text.new ≡ string_bytes text.old ++ path_text (drop left_out path.now)) }
 {
-    let (last, around) = path.split_last();
-    let around = around.as_slice();
+    let parts = path.parts();
+    let around = parts.around.as_slice();
     if left_out > around.len() {
-        return text.push_str(".");
+        return push_end(text, parts.register, parts.last, left_out - around.len());
     }
-    push_names(text, &around[left_out..], last)
+    push_names(text, &around[left_out..], parts.register, parts.last)
 }
 
 fn push_part(text: &mut String, word: &str, number: Number) -> Result<(), AllocError>
