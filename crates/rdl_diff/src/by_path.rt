@@ -14,12 +14,13 @@ fn push_ends<'a>(
     register: Option<&'a Name>,
     last: &'a Name,
 ) -> Result<(), AllocError>
-    ensures { OnOk result (texts names.new.items ≡ texts names.old.items ++ option_to_list (option_copied register) ++ last.now ∷ []) }
+    ensures { OnOk result (texts names.new.items ≡ texts names.old.items ++ option_to_list (option_copied register.entry) ++ last.now ∷ []) }
 {
     if let Some(register) = register {
         names.push(register.as_str())?;
     }
-    names.push(last.as_str())
+    names.push(last.as_str())?;
+    Ok(())
 }
 
 /// Appends the name of what stands in a register that is the top, if there is one.
@@ -28,12 +29,12 @@ fn push_end_below<'a>(
     register: Option<&Name>,
     last: &'a Name,
 ) -> Result<(), AllocError>
-    ensures { OnOk result (texts names.new.items ≡ texts names.old.items ++ drop 1 (option_to_list (option_copied register) ++ last.now ∷ [])) }
+    ensures { OnOk result (texts names.new.items ≡ texts names.old.items ++ drop 1 (option_to_list (option_copied register.entry) ++ last.now ∷ [])) }
 {
-    match register {
-        Some(_) => names.push(last.as_str()),
-        None => Ok(()),
+    if register.is_some() {
+        names.push(last.as_str())?;
     }
+    Ok(())
 }
 
 /// Makes the list that of the names below the top.

@@ -22,7 +22,7 @@ const WORD: Number = 1 << 32;
 
 /// Appends the name of a register, if there is one, and two underscores.
 fn push_register(text: &mut String, register: Option<&Name>) -> Result<(), AllocError>
-    ensures { OnOk result (string_bytes text.new ≡ string_bytes text.old ++ flat_map (λ name. name ++ codes "__") (option_to_list (option_copied register))) }
+    ensures { OnOk result (string_bytes text.new ≡ string_bytes text.old ++ flat_map (λ name. name ++ codes "__") (option_to_list (option_copied register.entry))) }
 {
     match register {
         Some(name) => {

@@ -25,7 +25,7 @@ fn mark_on(before: u64, text: &str) -> u64
 
 /// The mark with the name of a register, if there is one, and two underscores behind.
 fn mark_on_register(before: u64, register: Option<&Name>) -> u64
-    ensures { result ≡ mark_on before (flat_map (λ name. name ++ codes "__") (option_to_list (option_copied register))) }
+    ensures { result ≡ mark_on before (flat_map (λ name. name ++ codes "__") (option_to_list (option_copied register.entry))) }
 {
     match register {
         Some(name) => mark_on(mark_on(before, name.as_str()), "__"),
@@ -39,7 +39,10 @@ fn path_mark(path: &RowPath) -> u64
 {
     let parts = path.parts();
     let around = mark_on(0, parts.around.joined());
-    mark_on(mark_on_register(around, parts.register), parts.last.as_str())
+    mark_on(
+        mark_on_register(around, parts.register),
+        parts.last.as_str(),
+    )
 }
 
 /// Whether the row has no number of more than four words.

@@ -31,10 +31,10 @@ path-pushed name_of old first second new around register last i all f g h =
     let of = flat_map (λ n. n ++ codes ".") in
     h
     ∙ ap (λ t. t ++ last)
-      (g
-      ∙ ap (λ t. t ++ of register) (f ∙ ap (λ ns. old ++ flat_map (λ n. name_of n ++ codes ".") ns) (take_all i around all) ∙ ap (λ t. old ++ t) (dots_behind name_of around))
-      ∙ append_assoc old (of (map name_of around)) (of register)
-      ∙ ap (λ t. old ++ t) (sym (flat_map-append (λ n. n ++ codes ".") (map name_of around) register)))
+    (g
+    ∙ ap (λ t. t ++ of register) (f ∙ ap (λ ns. old ++ flat_map (λ n. name_of n ++ codes ".") ns) (take_all i around all) ∙ ap (λ t. old ++ t) (dots_behind name_of around))
+    ∙ append_assoc old (of (map name_of around)) (of register)
+    ∙ ap (λ t. old ++ t) (sym (flat_map-append (λ n. n ++ codes ".") (map name_of around) register)))
     ∙ append_assoc old (of (map name_of around ++ register)) last
     ∙ ap (λ t. old ++ t) (sym (ends (map name_of around ++ register) last))
 
@@ -48,9 +48,3 @@ pub left_out : {A : Type 0} (name_of : A → List ℕ) (around : List A) (regist
 left_out name_of around register last n h =
     let all : length (drop n around) ≤ length around - n = omega (arith, length-drop n around) in
     ap (λ xs. (map name_of xs ++ register) ++ last ∷ []) (take_all (length around - n) (drop n around) all) ∙ dropped name_of around register last n h
-
--- without so many of the first names, more than stand before the others
-pub all-left-out : (around register : List (List ℕ)) (last : List ℕ) (n : ℕ) → length around ≤ n → drop (n - length around) (register ++ last ∷ []) ≡ drop n ((around ++ register) ++ last ∷ [])
-all-left-out [] register last n h = refl
-all-left-out (x ∷ xs) register last zero h = grind arith
-all-left-out (x ∷ xs) register last (suc n) h = all-left-out xs register last n (omega arith)

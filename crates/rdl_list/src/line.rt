@@ -16,7 +16,7 @@ use std::rc::Rc;
 
 /// Appends the name of a register, if there is one, and a dot.
 fn push_register(text: &mut String, register: Option<&Name>) -> Result<(), AllocError>
-    ensures { OnOk result (string_bytes text.new ≡ string_bytes text.old ++ flat_map (λ name. name ++ codes ".") (option_to_list (option_copied register))) }
+    ensures { OnOk result (string_bytes text.new ≡ string_bytes text.old ++ flat_map (λ name. name ++ codes ".") (option_to_list (option_copied register.entry))) }
 {
     match register {
         Some(name) => {
@@ -34,7 +34,7 @@ fn push_names(
     register: Option<&Name>,
     last: &Name,
 ) -> Result<(), AllocError>
-    ensures { OnOk result (string_bytes text.new ≡ string_bytes text.old ++ path_text ((map (λ n. n.value) around.now ++ option_to_list (option_copied register)) ++ last.now ∷ [])) }
+    ensures { OnOk result (string_bytes text.new ≡ string_bytes text.old ++ path_text ((map (λ n. n.value) around.now ++ option_to_list (option_copied register.entry)) ++ last.now ∷ [])) }
 {
     'names: for name in around {
         text.push_str(name.as_str())?;
@@ -53,7 +53,7 @@ fn push_end(
     left_out: usize,
 ) -> Result<(), AllocError>
     requires { 0 < left_out }
-    ensures { OnOk result (string_bytes text.new ≡ string_bytes text.old ++ path_text (drop left_out (option_to_list (option_copied register) ++ last.now ∷ []))) }
+    ensures { OnOk result (string_bytes text.new ≡ string_bytes text.old ++ path_text (drop left_out (option_to_list (option_copied register.entry) ++ last.now ∷ []))) }
 {
     match register {
         Some(_) if left_out == 1 => text.push_str(last.as_str()),
