@@ -1,19 +1,22 @@
 -- From the parts of a run to the whole.
-use Rattle.std.proofs.Common.{inl, inr, ℕ, Bool, List, [], ◌++◌, length, Option, Result, Ok, Err, IfOk, IsUtf8, refl}
-use Rattle.std.specs.Io.KnownBytes.{Appends}
+use Rattle.std.proofs.Common.{◌≡◌, inl, inr, ℕ, Bool, List, [], string_bytes, Option, Result, Ok, Err, IfOk, refl, sym, subst}
 use Rattle.std.proofs.KnownBytes.{Appends-nil, Appends-trans}
-use Rattle.std.proofs.lemmas.Str.{IsUtf8-nil}
+use Rattle.std.proofs.lemmas.Str.{IsUtf8-string_bytes}
 use Rattle.journal_core.specs.History.{Kept}
 use Rattle.rdl_edit.specs.Backs.{Reversal}
 use Rattle.rdl_edit.specs.Step.{State}
-use Rattle.rdl_run.specs.Answers.{History', Serves}
+use Rattle.rdl_run.specs.Answers.{History'}
 use Rattle.rdl_script.specs.Commands.{lines_of}
+use Rattle.rdl_run.specs.ClosedRuns.{ClosesRun, ClosesScript, behind}
 use Rattle.rdl_run.specs.Closing.{Closes}
+use Rattle.rdl_run.specs.ClosingTexts.{texts_of}
 use Rattle.rdl_run.specs.Known.{Gives}
 use Rattle.rdl_run.specs.Opening.{RefusesToOpen}
 use Rattle.rdl_run.specs.OwnSteps.{AllOwn, IsOwnSession, OpensKept}
-use Rattle.rdl_run.specs.Output.{Outputs, RanFrom, Ran, RanCounted, outputs}
-use Rattle.rdl_run.specs.Turns.{HasTaken, Tallies}
+use Rattle.rdl_run.specs.Output.{AreTexts, HaveTaken, Holds, Outputs, Ran, RanCounted, outputs}
+use Rattle.rdl_run.specs.Turns.{Tallies, tallies}
+use Rattle.rdl_run.specs.Writers.{ServesAll}
+use Rattle.rdl_run.specs.declared.closing.Closing.{Closing}
 use Rattle.rdl_run.specs.declared.counted.Counts.{Counts}
 use Rattle.rdl_run.specs.declared.run.Options.{Options}
 use Rattle.rdl_run.specs.declared.status.RunFault.{RunFault}
@@ -21,82 +24,114 @@ use Rattle.rdl_run.specs.declared.status.Status.{Status}
 use Rattle.rdl_run.specs.declared.status.Status.TheVariants.{MapRefused}
 use Rattle.rdl_run.proofs.Tallied.{taken-none, taken-both}
 
--- the script was run, and all was written that closes the run
-pub ran_from : (are_own : Type 0) (asked : Bool) (first : History') (script : List ℕ) (refuses : Bool) (status : Status) (last : History')
-    (message rdl header session : List ℕ) (m mid m' r r' h h' z z' : Option (List ℕ)) (a b : Tallies) (said_counts : Counts)
-    → (replies : List ℕ) × Serves first (lines_of script) replies refuses last × Appends m mid replies × HasTaken a.messages said_counts (length replies)
-    → Closes asked last refuses message rdl header session status → Appends mid m' message → Appends r r' rdl → Appends h h' header → Appends z z' session → IsUtf8 rdl → IsUtf8 header → IsUtf8 session → (are_own → IsOwnSession last session)
-    → HasTaken said_counts b.messages (length message) → HasTaken a.rdl b.rdl (length rdl) → HasTaken a.header b.header (length header) → HasTaken a.session b.session (length session)
-    → RanFrom are_own asked first script (outputs m r h z) (outputs m' r' h' z') a b status
-ran_from are_own asked first script refuses status last message rdl header session m mid m' r r' h h' z z' a b said_counts served closes said wrote_rdl wrote_header wrote_session rdl_utf8 header_utf8 session_utf8 own took_message took_rdl took_header took_session = record {
-  out = record { messages = served.0 ++ message; rdl = rdl; header = header; session = session; status = status };
+-- the texts of a closing are UTF-8
+are-texts : (replies : List ℕ) (closing : Closing) → AreTexts (behind replies (texts_of closing))
+are-texts replies closing = record { rdl = IsUtf8-string_bytes closing.rdl; header = IsUtf8-string_bytes closing.header; session = IsUtf8-string_bytes closing.session }
+
+-- the lines of the script were served, and this was made where they led
+closes-script : (are_own : Type 0) (asked : Bool) (first last : History') (script : List ℕ) (refuses : Bool) (m m' : Option (List ℕ)) (a b : Counts) (closing : Closing)
+    → ServesAll first last (lines_of script) m m' a b refuses
+    → Closes asked last refuses (string_bytes closing.message) (string_bytes closing.rdl) (string_bytes closing.header) (string_bytes closing.session) closing.status
+    → (are_own → IsOwnSession last (string_bytes closing.session)) → ClosesScript are_own asked first script m m' a b closing
+closes-script are_own asked first last script refuses m m' a b closing served closes own = record {
+  replies = served.0;
   runs = record {
     last = last;
     refuses = refuses;
     replies = served.0;
     serves = served.1;
-    message = message;
+    message = string_bytes closing.message;
     closes = closes;
     messages = refl;
   };
-  texts = record { rdl = rdl_utf8; header = header_utf8; session = session_utf8 };
+  texts = are-texts served.0 closing;
   own = own;
-  holds = record { messages = Appends-trans m mid m' served.0 message served.2 said; rdl = wrote_rdl; header = wrote_header; session = wrote_session; answer = refl };
-  took = record { messages = taken-both a.messages said_counts b.messages served.0 message served.3 took_message; rdl = took_rdl; header = took_header; session = took_session };
+  said = served.2;
+  took = served.3;
 }
 
+pub closes_script_if : (are_own : Type 0) (asked : Bool) (first last : History') (script : List ℕ) (refuses : Bool) (m m' : Option (List ℕ)) (a b : Counts) (r : Result Closing RunFault)
+    → ServesAll first last (lines_of script) m m' a b refuses
+    → IfOk r (λ c. Closes asked last refuses (string_bytes c.message) (string_bytes c.rdl) (string_bytes c.header) (string_bytes c.session) c.status)
+    → (are_own → IfOk r (λ c. IsOwnSession last (string_bytes c.session))) → IfOk r (ClosesScript are_own asked first script m m' a b)
+closes_script_if are_own asked first last script refuses m m' a b (Ok closing) served closes own = closes-script are_own asked first last script refuses m m' a b closing served closes own
+closes_script_if are_own asked first last script refuses m m' a b (Err fault) served closes own = tt
+
 -- the map was refused
-refused_only : (options : Options) (map script : Option (List ℕ)) (map_bytes script_bytes message : List ℕ) (m m' r h z : Option (List ℕ))
-    → Gives map map_bytes → Gives script script_bytes → RefusesToOpen options.top map_bytes message → Appends m m' message
-    → Ran options map script (outputs m r h z) (outputs m' r h z) MapRefused
-refused_only options map script map_bytes script_bytes message m m' r h z p q refused wrote = record {
+pub closes_refused : (options : Options) (map script : Option (List ℕ)) (map_bytes script_bytes message : List ℕ) (m : Option (List ℕ)) (a : Counts) (closing : Closing)
+    → Gives map map_bytes → Gives script script_bytes → RefusesToOpen options.top map_bytes message
+    → string_bytes closing.message ≡ message → string_bytes closing.rdl ≡ [] → string_bytes closing.header ≡ [] → string_bytes closing.session ≡ [] → closing.status ≡ MapRefused
+    → ClosesRun options map script m m a a closing
+closes_refused options map script map_bytes script_bytes message m a closing p q refused said no_rdl no_header no_session status = record {
   map_bytes = map_bytes;
   script_bytes = script_bytes;
   map_given = p;
   script_given = q;
-  out = record { messages = message; rdl = []; header = []; session = []; status = MapRefused };
+  replies = [];
   wrote = record {
-    is_output = inl (record { refused = refused; rdl = refl; header = refl; session = refl; status = refl });
-    texts = record { rdl = IsUtf8-nil; header = IsUtf8-nil; session = IsUtf8-nil };
+    is_output = inl (record { refused = subst (RefusesToOpen options.top map_bytes) (sym said) refused; rdl = no_rdl; header = no_header; session = no_session; status = status });
+    texts = are-texts [] closing;
     own = tt;
   };
-  holds = record { messages = wrote; rdl = Appends-nil r; header = Appends-nil h; session = Appends-nil z; answer = refl };
-}
-
-pub refused_run : (options : Options) (map script : Option (List ℕ)) (map_bytes script_bytes message : List ℕ) (m m' r h z : Option (List ℕ)) (a : Tallies) (counts : Counts)
-    → Gives map map_bytes → Gives script script_bytes → RefusesToOpen options.top map_bytes message → Appends m m' message → HasTaken a.messages counts (length message)
-    → RanCounted options map script (outputs m r h z) (outputs m' r h z) a (record a { messages = counts }) MapRefused
-unfolding refused_only
-refused_run options map script map_bytes script_bytes message m m' r h z a counts p q refused wrote took = record {
-  ran = refused_only options map script map_bytes script_bytes message m m' r h z p q refused wrote;
-  took = record { messages = took; rdl = taken-none a.rdl; header = taken-none a.header; session = taken-none a.session };
+  said = Appends-nil m;
+  took = taken-none a;
 }
 
 -- the script was run from what was opened
-ran_opened : (options : Options) (map script : Option (List ℕ)) (map_bytes script_bytes : List ℕ) (k : Kept State Reversal) (old new : Outputs) (a b : Tallies) (status : Status)
+closes-opened : (options : Options) (map script : Option (List ℕ)) (map_bytes script_bytes : List ℕ) (k : Kept State Reversal) (m m' : Option (List ℕ)) (a b : Counts) (closing : Closing)
     → Gives map map_bytes → Gives script script_bytes → OpensKept options.top options.history map_bytes k
-    → RanFrom (AllOwn k) options.session k.history script_bytes old new a b status → Ran options map script old new status
-ran_opened options map script map_bytes script_bytes k old new a b status p q o r = record {
+    → ClosesScript (AllOwn k) options.session k.history script_bytes m m' a b closing → ClosesRun options map script m m' a b closing
+closes-opened options map script map_bytes script_bytes k m m' a b closing p q o c = record {
   map_bytes = map_bytes;
   script_bytes = script_bytes;
   map_given = p;
   script_given = q;
-  out = r.out;
+  replies = c.replies;
   wrote = record {
-    is_output = inr (record { first = k.history; opens = o.opens; runs = r.runs });
-    texts = r.texts;
-    own = λ opened. r.own (o.own opened);
+    is_output = inr (record { first = k.history; opens = o.opens; runs = c.runs });
+    texts = c.texts;
+    own = λ opened. c.own (o.own opened);
   };
-  holds = r.holds;
+  said = c.said;
+  took = c.took;
 }
 
-pub ran_if : (options : Options) (map script : Option (List ℕ)) (map_bytes script_bytes : List ℕ) (k : Kept State Reversal) (old new : Outputs) (a b : Tallies) (r : Result Status RunFault)
+pub closes_if : (options : Options) (map script : Option (List ℕ)) (map_bytes script_bytes : List ℕ) (k : Kept State Reversal) (m m' : Option (List ℕ)) (a b : Counts) (r : Result Closing RunFault)
     → Gives map map_bytes → Gives script script_bytes → OpensKept options.top options.history map_bytes k
-    → IfOk r (RanFrom (AllOwn k) options.session k.history script_bytes old new a b) → IfOk r (RanCounted options map script old new a b)
-unfolding ran_opened
-ran_if options map script map_bytes script_bytes k old new a b (Ok status) p q o ran =
-    record { ran = ran_opened options map script map_bytes script_bytes k old new a b status p q o ran; took = ran.took }
-ran_if options map script map_bytes script_bytes k old new a b (Err fault) p q o ran = tt
+    → IfOk r (ClosesScript (AllOwn k) options.session k.history script_bytes m m' a b) → IfOk r (ClosesRun options map script m m' a b)
+closes_if options map script map_bytes script_bytes k m m' a b (Ok closing) p q o c = closes-opened options map script map_bytes script_bytes k m m' a b closing p q o c
+closes_if options map script map_bytes script_bytes k m m' a b (Err fault) p q o c = tt
+
+-- ---- What closes a run is written.
+
+module _ (options : Options) (map script m mid : Option (List ℕ)) (a b : Counts) (closing : Closing) (c : ClosesRun options map script m mid a b closing) where
+  pub ran_all : (m' r r' h h' z z' : Option (List ℕ)) (status : Status) → Holds (outputs mid r h z) (outputs m' r' h' z') status (texts_of closing)
+      → Ran options map script (outputs m r h z) (outputs m' r' h' z') status
+  ran_all m' r r' h h' z z' status w = record {
+    map_bytes = c.map_bytes;
+    script_bytes = c.script_bytes;
+    map_given = c.map_given;
+    script_given = c.script_given;
+    out = behind c.replies (texts_of closing);
+    wrote = c.wrote;
+    holds = record {
+      messages = Appends-trans m mid m' c.replies (string_bytes closing.message) c.said w.messages;
+      rdl = w.rdl;
+      header = w.header;
+      session = w.session;
+      answer = w.answer;
+    };
+  }
+
+  -- with what the outputs took
+  pub ran_counted : (m' r r' h h' z z' : Option (List ℕ)) (status : Status) (rdl header session : Counts) (counts : Tallies) → Holds (outputs mid r h z) (outputs m' r' h' z') status (texts_of closing)
+      → HaveTaken (tallies b rdl header session) counts (texts_of closing)
+      → RanCounted options map script (outputs m r h z) (outputs m' r' h' z') (tallies a rdl header session) counts status
+  unfolding ran_all
+  ran_counted m' r r' h h' z z' status rdl header session counts w took = record {
+    ran = ran_all m' r r' h h' z z' status w;
+    took = record { messages = taken-both a b counts.messages c.replies (string_bytes closing.message) c.took took.messages; rdl = took.rdl; header = took.header; session = took.session };
+  }
 
 -- the run without the counts
 pub uncounted : {X : Type 0} (options : Options) (map script : Option (List ℕ)) (old new : Outputs) (a b : Tallies) (r : Result Status X)

@@ -1,20 +1,21 @@
 -- From the parts of a run that stopped to what its outputs hold.
-use Rattle.std.proofs.Common.{◌≡◌, ◌≢◌, inl, inr, ℕ, Bool, List, [], ◌++◌, length, take, Option, None, Some, Result, Ok, Err, IfErr, IsErrAnd, refl, sym, ap, ◌∙◌, subst, append-nil}
+use Rattle.std.proofs.Common.{◌≡◌, ◌≢◌, inl, inr, ℕ, Bool, List, [], ◌++◌, length, take, Option, None, Some, Result, Ok, Err, IfErr, IsErrAnd, IsOkUnless, refl, sym, ap, ◌∙◌, subst, append-nil}
 use Rattle.std.specs.Io.KnownBytes.{Appends}
 use Rattle.std.proofs.KnownBytes.{Appends-nil, Appends-trans}
 use Rattle.std.proofs.Math.Seq.{take-append_seam}
 use Rattle.rdl_script.specs.Commands.{lines_of}
 use Rattle.rdl_run.specs.Answers.{History', Serves}
-use Rattle.rdl_run.specs.Closing.{Closes}
+use Rattle.rdl_run.specs.ClosedRuns.{ClosesRun, StopsRun, StopsScript, behind}
+use Rattle.rdl_run.specs.ClosingTexts.{texts_of}
 use Rattle.rdl_run.specs.Faulted.{IsWholeLines, Leaves, LeavesLines, FaultedFrom, Faulted, StopsServing}
 use Rattle.rdl_run.specs.Known.{Gives, AppendsFront}
-use Rattle.rdl_run.specs.Opening.{EachElaborates, OpensHistory, RefusesToOpen}
-use Rattle.rdl_run.specs.Output.{Output, Outputs, Runs, outputs}
+use Rattle.rdl_run.specs.Opening.{EachElaborates, OpensHistory}
+use Rattle.rdl_run.specs.Output.{Output, Outputs, outputs}
+use Rattle.rdl_run.specs.declared.closing.Closing.{Closing}
+use Rattle.rdl_run.specs.declared.counted.Counts.{Counts}
 use Rattle.rdl_run.specs.declared.run.Options.{Options}
 use Rattle.rdl_run.specs.declared.status.RunFault.{RunFault}
 use Rattle.rdl_run.specs.declared.status.RunFault.TheVariants.{Read, Write, Memory, TooLong, Interrupted}
-use Rattle.rdl_run.specs.declared.status.Status.{Status}
-use Rattle.rdl_run.specs.declared.status.Status.TheVariants.{MapRefused}
 use Rattle.rdl_run.proofs.Continued.{Continues, continued, has_output}
 use Rattle.rdl_run.proofs.WholeLines.{run-whole}
 use Rattle.rdl_run.proofs.Written.{AppendsFront-after}
@@ -85,87 +86,34 @@ module _ (asked : Bool) (first : History') (script : List ℕ) (m m' r h z : Opt
         wrote = served.2;
       })
 
+-- no memory was left to close the run
+pub stops_closing_if : (asked : Bool) (first last : History') (script : List ℕ) (refuses : Bool) (m m' : Option (List ℕ)) (r : Result Closing RunFault) → EachElaborates first
+    → (text : List ℕ) × Serves first (lines_of script) text refuses last × Appends m m' text → IsOkUnless r Memory → IfErr r (StopsScript asked first script m m')
+stops_closing_if asked first last script refuses m m' (Ok closing) whole served only = tt
+stops_closing_if asked first last script refuses m m' (Err fault) whole served only =
+    λ rdl header session. subst (FaultedFrom asked first script (outputs m rdl header session) (outputs m' rdl header session)) (sym only) (stopped_closing asked first script m m' rdl header session last refuses whole served)
+
 -- ---- A write of what closes the run failed.
 
-module _ (asked : Bool) (first : History') (script : List ℕ) (refuses : Bool) (status : Status) (last : History') (message rdl header session : List ℕ) (m mid : Option (List ℕ))
-    (served : (replies : List ℕ) × Serves first (lines_of script) replies refuses last × Appends m mid replies) (closes : Closes asked last refuses message rdl header session status) where
-  abbrev closing_output : Output
-  closing_output = record { messages = served.0 ++ message; rdl = rdl; header = header; session = session; status = status }
+module _ (replies : List ℕ) (closing : Output) (m mid : Option (List ℕ)) (said : Appends m mid replies) where
+  pub leaves_behind : (m' r r' h h' z z' : Option (List ℕ)) → Leaves Write (outputs mid r h z) (outputs m' r' h' z') closing
+      → Leaves Write (outputs m r h z) (outputs m' r' h' z') (behind replies closing)
+  leaves_behind m' r r' h h' z z' (inl l) = inl (record {
+    messages = subst (AppendsFront m m') (ap (λ (t : List ℕ). replies ++ t) (append-nil closing.messages)) (AppendsFront-after m mid m' replies closing.messages [] said l.messages);
+    rdl = l.rdl;
+    header = l.header;
+    session = l.session;
+  })
+  leaves_behind m' r r' h h' z z' (inr (inl l)) =
+      inr (inl (record { messages = Appends-trans m mid m' replies closing.messages said l.messages; rdl = l.rdl; header = l.header; session = l.session }))
+  leaves_behind m' r r' h h' z z' (inr (inr (inl l))) =
+      inr (inr (inl (record { messages = Appends-trans m mid m' replies closing.messages said l.messages; rdl = l.rdl; header = l.header; session = l.session })))
+  leaves_behind m' r r' h h' z z' (inr (inr (inr l))) =
+      inr (inr (inr (record { messages = Appends-trans m mid m' replies closing.messages said l.messages; rdl = l.rdl; header = l.header; session = l.session })))
 
-  closing-runs : Runs asked first script closing_output
-  closing-runs = record {
-    last = last;
-    refuses = refuses;
-    replies = served.0;
-    serves = served.1;
-    message = message;
-    closes = closes;
-    messages = refl;
-  }
-
-  pub failed_message : (m' r h z : Option (List ℕ)) → AppendsFront mid m' message → FaultedFrom asked first script (outputs m r h z) (outputs m' r h z) Write
-  failed_message m' r h z wrote = record {
-    out = closing_output;
-    runs = closing-runs;
-    leaves = inl (record {
-      messages = subst (AppendsFront m m') (ap (λ (t : List ℕ). served.0 ++ t) (append-nil message)) (AppendsFront-after m mid m' served.0 message [] served.2 wrote);
-      rdl = refl;
-      header = refl;
-      session = refl;
-    });
-  }
-
-  pub failed_map : (m' r r' h z : Option (List ℕ)) → Appends mid m' message → AppendsFront r r' rdl → FaultedFrom asked first script (outputs m r h z) (outputs m' r' h z) Write
-  failed_map m' r r' h z said wrote = record {
-    out = closing_output;
-    runs = closing-runs;
-    leaves = inr (inl (record { messages = Appends-trans m mid m' served.0 message served.2 said; rdl = wrote; header = refl; session = refl }));
-  }
-
-  pub failed_header : (m' r r' h h' z : Option (List ℕ)) → Appends mid m' message → Appends r r' rdl → AppendsFront h h' header
-      → FaultedFrom asked first script (outputs m r h z) (outputs m' r' h' z) Write
-  failed_header m' r r' h h' z said wrote_rdl wrote = record {
-    out = closing_output;
-    runs = closing-runs;
-    leaves = inr (inr (inl (record { messages = Appends-trans m mid m' served.0 message served.2 said; rdl = wrote_rdl; header = wrote; session = refl })));
-  }
-
-  pub failed_session : (m' r r' h h' z z' : Option (List ℕ)) → Appends mid m' message → Appends r r' rdl → Appends h h' header → AppendsFront z z' session
-      → FaultedFrom asked first script (outputs m r h z) (outputs m' r' h' z') Write
-  failed_session m' r r' h h' z z' said wrote_rdl wrote_header wrote = record {
-    out = closing_output;
-    runs = closing-runs;
-    leaves = inr (inr (inr (record { messages = Appends-trans m mid m' served.0 message served.2 said; rdl = wrote_rdl; header = wrote_header; session = wrote })));
-  }
-
-  pub failed_closing : (m' r r' h h' z z' : Option (List ℕ))
-      → Leaves Write (outputs mid r h z) (outputs m' r' h' z') (record { messages = message; rdl = rdl; header = header; session = session; status = status })
-      → FaultedFrom asked first script (outputs m r h z) (outputs m' r' h' z') Write
-  failed_closing m' r r' h h' z z' (inl l) = record {
-    out = closing_output;
-    runs = closing-runs;
-    leaves = inl (record {
-      messages = subst (AppendsFront m m') (ap (λ (t : List ℕ). served.0 ++ t) (append-nil message)) (AppendsFront-after m mid m' served.0 message [] served.2 l.messages);
-      rdl = l.rdl;
-      header = l.header;
-      session = l.session;
-    });
-  }
-  failed_closing m' r r' h h' z z' (inr (inl l)) = record {
-    out = closing_output;
-    runs = closing-runs;
-    leaves = inr (inl (record { messages = Appends-trans m mid m' served.0 message served.2 l.messages; rdl = l.rdl; header = l.header; session = l.session }));
-  }
-  failed_closing m' r r' h h' z z' (inr (inr (inl l))) = record {
-    out = closing_output;
-    runs = closing-runs;
-    leaves = inr (inr (inl (record { messages = Appends-trans m mid m' served.0 message served.2 l.messages; rdl = l.rdl; header = l.header; session = l.session })));
-  }
-  failed_closing m' r r' h h' z z' (inr (inr (inr l))) = record {
-    out = closing_output;
-    runs = closing-runs;
-    leaves = inr (inr (inr (record { messages = Appends-trans m mid m' served.0 message served.2 l.messages; rdl = l.rdl; header = l.header; session = l.session })));
-  }
+-- the messages alone were written
+pub leaves_message : (m m' r h z : Option (List ℕ)) (closing : Output) → AppendsFront m m' closing.messages → Leaves Write (outputs m r h z) (outputs m' r h z) closing
+leaves_message m m' r h z closing wrote = inl (record { messages = wrote; rdl = refl; header = refl; session = refl })
 
 -- ---- The whole run.
 
@@ -212,20 +160,21 @@ module _ (options : Options) (map script : Option (List ℕ)) where
     leaves = stopped.leaves;
   }
 
-  -- the message of a map that is refused wasn't written whole
-  pub failed_refusal : (map_bytes script_bytes message : List ℕ) (m m' r h z : Option (List ℕ)) → Gives map map_bytes → Gives script script_bytes → RefusesToOpen options.top map_bytes message
-      → AppendsFront m m' message → Faulted options map script (outputs m r h z) (outputs m' r h z) Write
-  failed_refusal map_bytes script_bytes message m m' r h z p q refused wrote = record {
-    map_bytes = map_bytes;
-    script_bytes = script_bytes;
-    map_given = p;
-    script_given = q;
-    out = record { messages = message; rdl = []; header = []; session = []; status = MapRefused };
-    is_output = inl (record { refused = refused; rdl = refl; header = refl; session = refl; status = refl });
-    leaves = inl (record { messages = wrote; rdl = refl; header = refl; session = refl });
+  -- what closes the run wasn't written whole
+  pub failed_closing : (m mid : Option (List ℕ)) (a b : Counts) (closing : Closing) → ClosesRun options map script m mid a b closing → (m' r r' h h' z z' : Option (List ℕ))
+      → Leaves Write (outputs mid r h z) (outputs m' r' h' z') (texts_of closing) → Faulted options map script (outputs m r h z) (outputs m' r' h' z') Write
+  failed_closing m mid a b closing c m' r r' h h' z z' left = record {
+    map_bytes = c.map_bytes;
+    script_bytes = c.script_bytes;
+    map_given = c.map_given;
+    script_given = c.script_given;
+    out = behind c.replies (texts_of closing);
+    is_output = c.wrote.is_output;
+    leaves = leaves_behind c.replies (texts_of closing) m mid c.said m' r r' h h' z z' left;
   }
 
-  pub faulted_if : (map_bytes script_bytes : List ℕ) (first : History') (old new : Outputs) (r : Result Status RunFault) → Gives map map_bytes → Gives script script_bytes
-      → OpensHistory options.top options.history map_bytes first → IfErr r (FaultedFrom options.session first script_bytes old new) → IfErr r (Faulted options map script old new)
-  faulted_if map_bytes script_bytes first old new (Ok status) p q o stopped = tt
-  faulted_if map_bytes script_bytes first old new (Err fault) p q o stopped = faulted_script map_bytes script_bytes first old new fault p q o stopped
+  pub stops_if : (map_bytes script_bytes : List ℕ) (first : History') (old new : Option (List ℕ)) (r : Result Closing RunFault) → Gives map map_bytes → Gives script script_bytes
+      → OpensHistory options.top options.history map_bytes first → IfErr r (StopsScript options.session first script_bytes old new) → IfErr r (StopsRun options map script old new)
+  stops_if map_bytes script_bytes first old new (Ok closing) p q o stopped = tt
+  stops_if map_bytes script_bytes first old new (Err fault) p q o stopped =
+      λ rdl header session. faulted_script map_bytes script_bytes first (outputs old rdl header session) (outputs new rdl header session) fault p q o (stopped rdl header session)

@@ -1,5 +1,6 @@
 pub mod Answers
 pub mod Closing
+pub mod ClosedRuns
 pub mod ClosingTexts
 pub mod Comparing
 pub mod Faulted
@@ -17,6 +18,7 @@ pub mod Readings
 pub mod Refused
 pub mod Replies
 pub mod Resumed
+pub mod RunTexts
 pub mod ScriptLines
 pub mod Sessions
 pub mod Shown

@@ -95,15 +95,6 @@ pub record HaveTaken (old new : Tallies) (out : Output) : Type 0 where
   pub header : HasTaken old.header new.header (length out.header)
   pub session : HasTaken old.session new.session (length out.session)
 
--- a run of a script from a history that was opened
-pub record RanFrom (are_own : Type 0) (asked : Bool) (first : History') (script : List ℕ) (old new : Outputs) (counted counts : Tallies) (status : Status) : Type 0 where
-  pub out : Output
-  pub runs : Runs asked first script out
-  pub texts : AreTexts out
-  pub own : are_own → IsOwnSession runs.last out.session
-  pub holds : Holds old new status out
-  pub took : HaveTaken counted counts out
-
 -- where the steps of the history that was opened are of edits, so are those of its session
 abbrev pub LeavesOwn : {options : Options} {map script : List ℕ} {out : Output} → IsOutput options map script out → Type 0
 LeavesOwn (inl refused) = Unit {0}

@@ -1,4 +1,4 @@
-//! How a run closes whose map was not refused.
+//! How a run closes.
 ghost use Rattle.std.specs.Prelude.{◌≡◌, ◌++◌, string_bytes, IfOk, OnOk, IsOkUnless};
 ghost use Rattle.rdl_run.specs.Closing.{Heads, status_of};
 ghost use Rattle.rdl_run.specs.Messages.{clash_line};
@@ -74,11 +74,29 @@ fn joined(mut text: String, more: &String) -> Result<String, AllocError>
 }
 
 impl Closing {
-    ghost use Rattle.std.specs.Prelude.{string_bytes, IfOk, IsOkUnless};
+    ghost use Rattle.std.specs.Prelude.{◌≡◌, [], string_bytes, IfOk, IsOkUnless};
     ghost use Rattle.rdl_run.specs.Closing.{Closes};
     ghost use Rattle.rdl_run.specs.OwnSteps.{AllOwn, IsOwnSession};
     ghost use Rattle.rdl_run.specs.Shown.{AreAt};
     ghost use Rattle.rdl_run.specs.declared.status.RunFault.{RunFault};
+    ghost use Rattle.rdl_run.specs.declared.status.Status.{Status};
+
+    /// What is said of a map or session that is refused. There are no texts.
+    pub fn refused(alloc: Global, message: String) -> Closing
+        ensures message { string_bytes result.message ≡ string_bytes message }
+        ensures rdl { string_bytes result.rdl ≡ [] }
+        ensures header { string_bytes result.header ≡ [] }
+        ensures session { string_bytes result.session ≡ [] }
+        ensures status { result.status ≡ Status.MapRefused }
+    {
+        Closing {
+            message,
+            rdl: String::new(alloc),
+            header: String::new(alloc),
+            session: String::new(alloc),
+            status: Status::MapRefused,
+        }
+    }
 
     /// Makes the texts of the map to which a script led, and of the history if the session is asked for, or the messages in
     /// their places. The rows are those of the map, if they are there.

@@ -1,13 +1,15 @@
 //! A whole run, from two inputs to four outputs.
-ghost use Rattle.std.specs.Prelude.{◌≡◌, ◌≢◌, ◌⊎◌, ◌^◌, ◌<◌, ◌≤◌, true, length, Err, IfOk, IfErr, IsErrOf, IsOkUnless, OnErr, OnOk};
+ghost use Rattle.std.specs.Prelude.{◌≡◌, ◌≢◌, ◌⊎◌, ◌^◌, ◌<◌, ◌≤◌, [], true, length, Err, IfOk, IfErr, IsErrOf, IsOkUnless, OnErr, OnOk};
+ghost use Rattle.rdl_run.specs.ClosedRuns.{ClosesRun, ClosesScript, StopsRun, StopsScript};
 ghost use Rattle.rdl_run.specs.Opening.{EachElaborates};
-ghost use Rattle.rdl_run.specs.Faulted.{Faulted, FaultedFrom, Leaves};
+ghost use Rattle.rdl_run.specs.Faulted.{Faulted, Leaves};
 ghost use Rattle.rdl_run.specs.ClosingTexts.{texts_of};
 ghost use Rattle.rdl_run.specs.OwnSteps.{AllOwn};
-ghost use Rattle.rdl_run.specs.Output.{AtOutputs, HaveTaken, Holds, Ran, RanCounted, RanFrom};
+ghost use Rattle.rdl_run.specs.Output.{AtOutputs, HaveTaken, Holds, Ran, RanCounted};
+ghost use Rattle.rdl_run.specs.RunTexts.{AreRun, in_memory};
 ghost use Rattle.rdl_run.specs.Known.{IsOver, IsWithin};
 ghost use Rattle.rdl_run.specs.Shown.{AreAt};
-ghost use Rattle.rdl_run.specs.Turns.{AreFew, AreOpen, AreUnwritten, GivesUp, HasEnded, IsInterrupted, unread};
+ghost use Rattle.rdl_run.specs.Turns.{AreFew, AreOpen, AreUnwritten, GivesUp, HasEnded, IsGivenUp, IsInterrupted, IsOpen, unread, unwritten};
 ghost use Rattle.rdl_run.specs.Writers.{AtWriters, SameWriters, counts_of, known};
 ghost use Rattle.rdl_run.specs.declared.status.RunFault.{RunFault};
 
@@ -37,6 +39,15 @@ pub struct Options {
     pub session: bool,
 }
 
+/// The texts that a run makes, and how it ended. A text is empty where it is missing or isn't asked for.
+#[derive(Debug, Drop)]
+pub struct Texts {
+    pub status: Status,
+    pub rdl: String,
+    pub header: String,
+    pub session: String,
+}
+
 /// The greatest map or session and the greatest script, in bytes.
 pub const MOST_BYTES: usize = 67_108_864;
 
@@ -64,42 +75,93 @@ fn write_closing<R: Write, H: Write, Z: Write, E: Write>(
     Ok(())
 }
 
-/// Runs a script from where a history stands, with the rows of its map if they are there, and writes the map that it leads to,
-/// that map's header, and the session if it is asked for. Where two of the header's macros have one name, that is said, and no
-/// header is written; where the session is too long, that is said, and none is written.
-fn run_script<R: Write, H: Write, Z: Write, E: Write>(
+/// Runs a script from where a history stands, with the rows of its map if they are there, and makes what closes the run: the
+/// map that it leads to, that map's header, and the session if it is asked for. Where two of the header's macros have one name,
+/// that is said, and there is no header; where the session is too long, that is said, and there is none.
+fn run_script<E: Write>(
     alloc: Global,
     journal: &mut Journal<Map>,
     mut kept: Option<Rows>,
     has_session: bool,
     script: &[u8],
-    outputs: &mut Outputs<'_, '_, '_, '_, R, H, Z, E>,
-) -> Result<Status, RunFault>
+    messages: &mut CountedWriter<'_, E>,
+) -> Result<Closing, RunFault>
     requires length { length script.now < 2 ^ 32 }
     requires kept { AreAt journal.old.history kept }
-    requires asked { AreOpen (counts_of outputs.old) }
-    ensures ran { let held = known R.contents H.contents Z.contents E.contents in
-        IfOk result (AtWriters held (RanFrom (AllOwn journal.old) has_session journal.old.history script.now) outputs.old outputs.new) }
-    ensures faulted { let held = known R.contents H.contents Z.contents E.contents in
-        EachElaborates journal.old.history → IfErr result (FaultedFrom has_session journal.old.history script.now (held outputs.old) (held outputs.new)) }
-    ensures write_ended { IsErrOf result RunFault.Write → GivesUp (counts_of outputs.new) }
-    ensures all_open { OnOk result (AreOpen (counts_of outputs.new)) }
-    ensures ends { HasEnded (counts_of outputs.new) → result ≡ Err RunFault.Write }
+    requires asked { IsOpen messages.old.counts }
+    ensures closes { IfOk result (ClosesScript (AllOwn journal.old) has_session journal.old.history script.now
+        (E.contents messages.old.writer.now) (E.contents messages.new.writer.now) messages.old.counts messages.new.counts) }
+    ensures stops { EachElaborates journal.old.history
+        → IfErr result (StopsScript has_session journal.old.history script.now (E.contents messages.old.writer.now) (E.contents messages.new.writer.now)) }
+    ensures write_ended { IsErrOf result RunFault.Write → IsGivenUp messages.new.counts }
+    ensures all_open { OnOk result (IsOpen messages.new.counts) }
+    ensures ends { messages.new.counts.ended ≡ true → result ≡ Err RunFault.Write }
     ensures no_read { result ≢ Err RunFault.Read }
     ensures no_too_long { result ≢ Err RunFault.TooLong }
     ensures no_interrupted { result ≢ Err RunFault.Interrupted }
-    ensures few { AreFew (counts_of outputs.new) }
-    ensures same { SameWriters outputs.old outputs.new }
+    ensures few { messages.new.counts.interrupts ≤ 1000 }
+    ensures same_reference { messages.new.writer.ghost_name ≡ messages.old.writer.ghost_name }
 {
-    let is_refused = serve_all(alloc, journal, &mut kept, script, &mut outputs.messages)?;
-    let closing = Closing::of(alloc, journal, kept, is_refused, has_session)?;
-    write_closing(&closing, outputs)?;
-    Ok(closing.status)
+    let is_refused = serve_all(alloc, journal, &mut kept, script, messages)?;
+    Closing::of(alloc, journal, kept, is_refused, has_session)
 }
 
 /// Whether rows are shown of the map that is opened, as far as the front of a script tells.
 fn is_listed(script: &[u8]) -> bool {
     script.is_empty() || script.starts_with(b"list\n")
+}
+
+/// The run up to what closes it, on inputs and a writer of messages that weren't asked before. The replies are written.
+fn run_lines<M: Read, S: Read, E: Write>(
+    alloc: Global,
+    map: &mut CountedReader<'_, M>,
+    script: &mut CountedReader<'_, S>,
+    options: &Options,
+    messages: &mut CountedWriter<'_, E>,
+) -> Result<Closing, RunFault>
+    requires map_fresh { map.old.counts ≡ unread }
+    requires script_fresh { script.old.counts ≡ unread }
+    requires fresh { messages.old.counts ≡ unwritten }
+    ensures closes { IfOk result (ClosesRun options.now (M.remaining map.old.reader.now) (S.remaining script.old.reader.now)
+        (E.contents messages.old.writer.now) (E.contents messages.new.writer.now) messages.old.counts messages.new.counts) }
+    ensures stops { IfErr result (StopsRun options.now (M.remaining map.old.reader.now) (S.remaining script.old.reader.now)
+        (E.contents messages.old.writer.now) (E.contents messages.new.writer.now)) }
+    ensures write_ended { IsErrOf result RunFault.Write → IsGivenUp messages.new.counts }
+    ensures all_open { OnOk result (IsOpen messages.new.counts) }
+    ensures ends { messages.new.counts.ended ≡ true → result ≡ Err RunFault.Write }
+    ensures too_long { IsErrOf result RunFault.TooLong → IsOver (M.remaining map.old.reader.now) ⊎ IsOver (S.remaining script.old.reader.now) }
+    ensures bound { OnOk result (IsWithin (M.remaining map.old.reader.now) × IsWithin (S.remaining script.old.reader.now)) }
+    ensures interrupted { IsErrOf result RunFault.Interrupted → IsInterrupted map.new.counts ⊎ IsInterrupted script.new.counts }
+    ensures read_failed { IsErrOf result RunFault.Read → (map.new.counts.failed ≡ true) ⊎ (script.new.counts.failed ≡ true) }
+    ensures map_reads { map.new.counts.reads ≤ 67109865 }
+    ensures script_reads { script.new.counts.reads ≤ 67109865 }
+    ensures few { messages.new.counts.interrupts ≤ 1000 }
+    ensures same_reference { messages.new.writer.ghost_name ≡ messages.old.writer.ghost_name }
+{
+    let map_bytes = read_counted(alloc, map, MOST_BYTES)?;
+    let script_bytes = read_counted(alloc, script, MOST_BYTES)?;
+    let opened = open_shown(
+        alloc,
+        map_bytes.as_slice(),
+        options.top.as_ref(),
+        options.history,
+        is_listed(script_bytes.as_slice()),
+    );
+    match opened {
+        Ok(shown) => {
+            let (mut journal, kept) = shown;
+            run_script(
+                alloc,
+                &mut journal,
+                kept,
+                options.session,
+                script_bytes.as_slice(),
+                messages,
+            )
+        }
+        Err(OpenFault::Refused(message)) => Ok(Closing::refused(alloc, message)),
+        Err(OpenFault::Memory) => Err(RunFault::Memory),
+    }
 }
 
 /// The whole run, on inputs and outputs that weren't asked before.
@@ -129,33 +191,9 @@ fn run_counted<M: Read, S: Read, R: Write, H: Write, Z: Write, E: Write>(
     ensures few { AreFew (counts_of outputs.new) }
     ensures same { SameWriters outputs.old outputs.new }
 {
-    let map_bytes = read_counted(alloc, map, MOST_BYTES)?;
-    let script_bytes = read_counted(alloc, script, MOST_BYTES)?;
-    let opened = open_shown(
-        alloc,
-        map_bytes.as_slice(),
-        options.top.as_ref(),
-        options.history,
-        is_listed(script_bytes.as_slice()),
-    );
-    match opened {
-        Ok(shown) => {
-            let (mut journal, kept) = shown;
-            run_script(
-                alloc,
-                &mut journal,
-                kept,
-                options.session,
-                script_bytes.as_slice(),
-                outputs,
-            )
-        }
-        Err(OpenFault::Refused(message)) => {
-            write_counted(&mut outputs.messages, message.as_bytes())?;
-            Ok(Status::MapRefused)
-        }
-        Err(OpenFault::Memory) => Err(RunFault::Memory),
-    }
+    let closing = run_lines(alloc, map, script, options, &mut outputs.messages)?;
+    write_closing(&closing, outputs)?;
+    Ok(closing.status)
 }
 
 /// Reads the map or session and the script whole, runs the script's lines, and writes the map that they lead to, its header,
@@ -188,4 +226,55 @@ pub fn run<M: Read, S: Read, R: Write, H: Write, Z: Write, E: Write>(
         messages: CountedWriter::new(messages, 0),
     };
     run_counted(alloc, &mut map, &mut script, options, &mut outputs)
+}
+
+/// The run whose texts are handed out, on inputs and a writer of messages that weren't asked before.
+fn texts_counted<M: Read, S: Read, E: Write>(
+    alloc: Global,
+    map: &mut CountedReader<'_, M>,
+    script: &mut CountedReader<'_, S>,
+    options: &Options,
+    messages: &mut CountedWriter<'_, E>,
+) -> Result<Texts, RunFault>
+    requires map_fresh { map.old.counts ≡ unread }
+    requires script_fresh { script.old.counts ≡ unread }
+    requires fresh { messages.old.counts ≡ unwritten }
+    ensures ran { IfOk result (AreRun options.now (M.remaining map.old.reader.now) (S.remaining script.old.reader.now)
+        (E.contents messages.old.writer.now) (E.contents messages.new.writer.now)) }
+    ensures faulted { IfErr result (Faulted options.now (M.remaining map.old.reader.now) (S.remaining script.old.reader.now)
+        (in_memory (E.contents messages.old.writer.now) [] [] []) (in_memory (E.contents messages.new.writer.now) [] [] [])) }
+    ensures too_long { IsErrOf result RunFault.TooLong → IsOver (M.remaining map.old.reader.now) ⊎ IsOver (S.remaining script.old.reader.now) }
+    ensures bound { OnOk result (IsWithin (M.remaining map.old.reader.now) × IsWithin (S.remaining script.old.reader.now)) }
+    ensures same_reference { messages.new.writer.ghost_name ≡ messages.old.writer.ghost_name }
+{
+    let closing = run_lines(alloc, map, script, options, messages)?;
+    write_counted(messages, closing.message.as_bytes())?;
+    Ok(Texts {
+        status: closing.status,
+        rdl: closing.rdl,
+        header: closing.header,
+        session: closing.session,
+    })
+}
+
+/// The same run, which hands out the texts of the map, its header and the session in place of writing them.
+pub fn run_texts<M: Read, S: Read, E: Write>(
+    alloc: Global,
+    map: &mut M,
+    script: &mut S,
+    options: &Options,
+    messages: &mut E,
+) -> Result<Texts, RunFault>
+    ensures ran { IfOk result (AreRun options.now (M.remaining map.old) (S.remaining script.old) (E.contents messages.old) (E.contents messages.new)) }
+    ensures faulted { IfErr result (Faulted options.now (M.remaining map.old) (S.remaining script.old)
+        (in_memory (E.contents messages.old) [] [] []) (in_memory (E.contents messages.new) [] [] [])) }
+
+    // Where a reader tells its bytes, it stops for too many only if there are more than 67,108,864.
+    ensures too_long { IsErrOf result RunFault.TooLong → IsOver (M.remaining map.old) ⊎ IsOver (S.remaining script.old) }
+    ensures bound { OnOk result (IsWithin (M.remaining map.old) × IsWithin (S.remaining script.old)) }
+{
+    let mut map = CountedReader::new(map);
+    let mut script = CountedReader::new(script);
+    let mut messages = CountedWriter::new(messages, 0);
+    texts_counted(alloc, &mut map, &mut script, options, &mut messages)
 }

@@ -1,18 +1,9 @@
--- From a run on texts in memory to the output whose texts they are.
-use Rattle.std.proofs.Common.{◌≡◌, ℕ, List, [], Option, Result, Ok, Err, IfOk, subst}
-use Rattle.rdl_run.specs.Output.{Ran}
+-- From a run that hands out its texts to the output whose texts they are.
+use Rattle.std.proofs.Common.{ℕ, List, Option, Result, Ok, Err, IfOk}
+use Rattle.rdl_run.specs.RunTexts.{AreRun}
 use Rattle.rdl_run.specs.declared.run.Options.{Options}
-use Rattle.rdl_run.specs.declared.status.Status.{Status}
-use Rattle.regedit.specs.RunTexts.{AreRun, AreOfOutput, in_memory}
-use Rattle.regedit.specs.declared.files.Texts.{Texts}
-
--- the texts were empty before
-pub from_empty : (options : Options) (map script old new : Option (List ℕ)) (r₀ h₀ z₀ r h z : List ℕ) (status : Status) → r₀ ≡ [] → h₀ ≡ [] → z₀ ≡ []
-    → Ran options map script (in_memory old r₀ h₀ z₀) (in_memory new r h z) status → Ran options map script (in_memory old [] [] []) (in_memory new r h z) status
-from_empty options map script old new r₀ h₀ z₀ r h z status p q s ran =
-    subst (λ (x : List ℕ). Ran options map script (in_memory old x [] []) (in_memory new r h z) status) p
-    (subst (λ (x : List ℕ). Ran options map script (in_memory old r₀ x []) (in_memory new r h z) status) q
-    (subst (λ (x : List ℕ). Ran options map script (in_memory old r₀ h₀ x) (in_memory new r h z) status) s ran))
+use Rattle.rdl_run.specs.declared.run.Texts.{Texts}
+use Rattle.regedit.specs.OfOutput.{AreOfOutput}
 
 of_output : (options : Options) (map script old new : Option (List ℕ)) (texts : Texts) → AreRun options map script old new texts → AreOfOutput options texts
 of_output options map script old new texts ran = record {

@@ -1,8 +1,8 @@
 -- Which text goes to which file. Own.
 use Rattle.std.specs.Prelude.{ℕ, List, [], ◌∷◌, ◌++◌, Bool, true, false, Option, Some, None, option_map, string_bytes}
 use Rattle.rdl_run.specs.Missing.{has_map, has_header, has_session}
+use Rattle.rdl_run.specs.declared.run.Texts.{Texts}
 use Rattle.regedit.specs.declared.paths.Paths.{Paths}
-use Rattle.regedit.specs.declared.files.Texts.{Texts}
 use Rattle.whole_files.specs.declared.output.Output.{Output}
 
 -- the bytes of a path, and those that go to its file
@@ -24,6 +24,6 @@ session_files there None text = []
 -- the map, then the header, then the session, each where it is there
 abbrev pub files_of : Texts → Paths → List Filed
 files_of texts paths =
-    if_there (has_map texts.status) (string_bytes paths.rdl, texts.rdl.items)
-    ++ if_there (has_header texts.status) (string_bytes paths.header, texts.header.items)
-    ++ session_files (has_session texts.status) (option_map string_bytes paths.session) texts.session.items
+    if_there (has_map texts.status) (string_bytes paths.rdl, string_bytes texts.rdl)
+    ++ if_there (has_header texts.status) (string_bytes paths.header, string_bytes texts.header)
+    ++ session_files (has_session texts.status) (option_map string_bytes paths.session) (string_bytes texts.session)

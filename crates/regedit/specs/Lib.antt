@@ -1,3 +1,3 @@
 pub mod CommandLine
 pub mod Files
-pub mod RunTexts
+pub mod OfOutput

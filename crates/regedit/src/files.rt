@@ -1,10 +1,11 @@
 //! A run over files: they are read whole before it, and replaced whole behind it.
 ghost use Rattle.std.specs.Prelude.{◌≡◌, IfOk, map};
 ghost use Rattle.regedit.specs.Files.{files_of, seen};
-ghost use Rattle.regedit.specs.RunTexts.{AreOfOutput, AreRun};
+ghost use Rattle.rdl_run.specs.RunTexts.{AreRun};
+ghost use Rattle.regedit.specs.OfOutput.{AreOfOutput};
 
 use crate::paths::Paths;
-use rdl_run::run::{MOST_BYTES, Options, run};
+use rdl_run::run::{MOST_BYTES, Options, Texts, run_texts};
 use rdl_run::status::{RunFault, Status};
 use std::alloc::{AllocError, Global};
 use std::io::{Read, Write};
@@ -58,15 +59,6 @@ fn stopped<'a, F, W>(
     Stop { fault, obstacle }
 }
 
-/// The texts of the outputs, and how the run ended that made them.
-#[derive(Debug, Drop)]
-struct Texts {
-    status: Status,
-    rdl: Vec<u8>,
-    header: Vec<u8>,
-    session: Vec<u8>,
-}
-
 /// Runs the script of the second input on the map or session of the first. The texts are those of the run, each under its name.
 fn run_inputs<'a, F: Read, M: Write>(
     alloc: Global,
@@ -79,25 +71,8 @@ fn run_inputs<'a, F: Read, M: Write>(
     ensures ran { IfOk result (AreRun options.now (F.remaining map.old.reader) (F.remaining script.old.reader)
         (M.contents messages.old.writer.now) (M.contents messages.new.writer.now)) }
 {
-    let mut rdl = Vec::new(alloc);
-    let mut header = Vec::new(alloc);
-    let mut session = Vec::new(alloc);
-    match run(
-        alloc,
-        map,
-        script,
-        options,
-        &mut rdl,
-        &mut header,
-        &mut session,
-        messages,
-    ) {
-        Ok(status) => Ok(Texts {
-            status,
-            rdl,
-            header,
-            session,
-        }),
+    match run_texts(alloc, map, script, options, messages) {
+        Ok(texts) => Ok(texts),
         Err(fault) => Err(stopped(fault, paths, map, script, messages)),
     }
 }
@@ -129,19 +104,19 @@ fn outputs_of<'p, 't>(
     if texts.status.has_map() {
         outputs.push(Output {
             path: paths.rdl.as_str(),
-            text: texts.rdl.as_slice(),
+            text: texts.rdl.as_bytes(),
         })?;
     }
     if texts.status.has_header() {
         outputs.push(Output {
             path: paths.header.as_str(),
-            text: texts.header.as_slice(),
+            text: texts.header.as_bytes(),
         })?;
     }
     match &paths.session {
         Some(path) if texts.status.has_session() => outputs.push(Output {
             path: path.as_str(),
-            text: texts.session.as_slice(),
+            text: texts.session.as_bytes(),
         })?,
         _ => {}
     }
