@@ -1,6 +1,43 @@
 -- The exit status of the program. Own; which a comparison has is of `rdl_diff`.
-use Rattle.std.specs.Prelude.{◌≡◌, ◌⊎◌, ℕ}
+use Rattle.std.specs.Prelude.{◌≡◌, ◌≢◌, ◌⊎◌, ℕ, List, [], ◌∷◌}
+use Rattle.clap.specs.declared.error.kind.ErrorKind.{ErrorKind}
+use Rattle.clap.specs.declared.error.kind.ErrorKind.TheVariants.{DisplayHelp, DisplayVersion}
+use Rattle.command_line.specs.ComparisonWords.{found, mistakes}
+use Rattle.command_line.specs.Faults.{HasBadTop}
+use Rattle.command_line.specs.declared.fault.WordsFault.{WordsFault}
+use Rattle.command_line.specs.declared.fault.WordsFault.TheVariants as faults
 
--- that of a comparison, or of what stopped it, or of words that are none
+-- that of a comparison, or of what stopped it
+abbrev pub IsOfComparison : ℕ → Type 0
+IsOfComparison n = (n ≡ 0) ⊎ ((n ≡ 1) ⊎ ((n ≡ 2) ⊎ (n ≡ 4)))
+
+-- or of words that are none
 abbrev pub IsExit : ℕ → Type 0
-IsExit n = (n ≡ 0) ⊎ ((n ≡ 1) ⊎ ((n ≡ 2) ⊎ ((n ≡ 4) ⊎ (n ≡ 5))))
+IsExit n = IsOfComparison n ⊎ (n ≡ 5)
+
+-- how the program ends where the words are no command line; help and the version may find no memory, or be cut off
+abbrev pub EndsWords : WordsFault → ℕ → Type 0
+EndsWords (faults.Help help) n = (n ≡ 0) ⊎ (n ≡ 4)
+EndsWords (faults.Version version) n = (n ≡ 0) ⊎ (n ≡ 4)
+EndsWords (faults.Refused mistake) n = n ≡ 5
+EndsWords faults.BadTop n = n ≡ 5
+EndsWords faults.Memory n = n ≡ 4
+
+-- help is asked for, before anything is wrong
+abbrev pub AskForHelp : List (List ℕ) → Type 0
+AskForHelp words = mistakes words ≡ DisplayHelp ∷ []
+
+-- the version is asked for, before anything is wrong
+abbrev pub AskForVersion : List (List ℕ) → Type 0
+AskForVersion words = mistakes words ≡ DisplayVersion ∷ []
+
+-- something is wrong, before help or the version is asked for
+abbrev pub AreMistaken : List (List ℕ) → Type 0
+AreMistaken words = (kind : ErrorKind) × (kind ≢ DisplayHelp) × (kind ≢ DisplayVersion) × (mistakes words ≡ kind ∷ [])
+
+-- nothing else is wrong
+abbrev pub AreBadAtTop : List (List ℕ) → Type 0
+AreBadAtTop words = (mistakes words ≡ []) × HasBadTop (found words)
+
+abbrev pub AreRefused : List (List ℕ) → Type 0
+AreRefused words = AreMistaken words ⊎ AreBadAtTop words

@@ -1,6 +1,6 @@
 //! The program's edge: its words, its messages and its exit status.
-ghost use Rattle.std.specs.Prelude.{◌≡◌, ◌⊎◌};
-ghost use Rattle.regdiff.specs.CommandLine.{IsExit};
+ghost use Rattle.std.specs.Prelude.{◌≡◌, ◌⊎◌, map};
+ghost use Rattle.regdiff.specs.CommandLine.{AreRefused, AskForHelp, AskForVersion, EndsWords, IsExit, IsOfComparison};
 
 use crate::files::{Stop, compare_files};
 use command_line::comparison::{Comparison, line};
@@ -48,7 +48,7 @@ fn obey<R: Files, M: Write, E: Write>(
     messages: &mut M,
     errors: &mut E,
 ) -> u8
-    ensures { IsExit result }
+    ensures { IsOfComparison result }
 {
     match compare_files(rt, alloc, line, messages) {
         Ok(status) => status_code(status),
@@ -73,7 +73,7 @@ fn refuse<M: Write, E: Write>(
     messages: &mut M,
     errors: &mut E,
 ) -> u8
-    ensures { IsExit result }
+    ensures { EndsWords fault result }
 {
     match fault {
         WordsFault::Help(told) | WordsFault::Version(told) => match print_told(
@@ -99,7 +99,13 @@ pub(crate) fn command<R: Files, M: Write, E: Write>(
     messages: &mut M,
     errors: &mut E,
 ) -> u8
-    ensures { IsExit result }
+    ensures known { IsExit result }
+
+    // Refused words end with 5, but where there is no memory to read them.
+    ensures refused { AreRefused (map (λ w. w.now) words.now) → (result ≡ 5) ⊎ (result ≡ 4) }
+    ensures only { result ≡ 5 → AreRefused (map (λ w. w.now) words.now) }
+    ensures version { AskForVersion (map (λ w. w.now) words.now) → (result ≡ 0) ⊎ (result ≡ 4) }
+    ensures help { AskForHelp (map (λ w. w.now) words.now) → (result ≡ 0) ⊎ (result ≡ 4) }
 {
     match line(alloc, words) {
         Ok(line) => obey(rt, alloc, &line, messages, errors),
