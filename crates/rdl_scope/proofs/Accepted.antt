@@ -116,15 +116,17 @@ no_first d h = by (is_too_large d) h
     by true e = cc
     by false e = e
 
-pub clear-root : (d : Items) (n : ℕ) (x : Item) → fault_of d ≡ None → slice_get (list_of d) n ≡ Some x → item_fault d None [] d n x ≡ None
-clear-root d n x h e =
+-- an item of a body that is clear has no fault
+pub clear-item : (d : Items) (around : Option Kind) (b : List ℕ) (body : Items) (n : ℕ) (x : Item) → first_fault d around b body 0 body ≡ None → slice_get (list_of body) n ≡ Some x → item_fault d around b body n x ≡ None
+clear-item d around b body n x h e =
     let number : 0 + n ≡ n = omega arith in
-    ap (λ k. item_fault d None [] d k x) (sym number) ∙ (is_clear d None [] d 0 n d x (no_first d h) e).here
+    ap (λ k. item_fault d around b body k x) (sym number) ∙ (is_clear d around b body 0 n body x h e).here
+
+pub clear-root : (d : Items) (n : ℕ) (x : Item) → fault_of d ≡ None → slice_get (list_of d) n ≡ Some x → item_fault d None [] d n x ≡ None
+clear-root d n x h e = clear-item d None [] d n x (no_first d h) e
 
 pub clear-inside : (d : Items) (a : List ℕ) (c : Component) (n : ℕ) (x : Item) → fault_of d ≡ None → component_at d a ≡ Some c → slice_get (list_of c.body) n ≡ Some x → item_fault d (Some c.kind) a c.body n x ≡ None
-clear-inside d a c n x h e g =
-    let number : 0 + n ≡ n = omega arith in
-    ap (λ k. item_fault d (Some c.kind) a c.body k x) (sym number) ∙ (is_clear d (Some c.kind) a c.body 0 n c.body x (clear-below d a None [] d c (no_first d h) e) g).here
+clear-inside d a c n x h e g = clear-item d (Some c.kind) a c.body n x (clear-below d a None [] d c (no_first d h) e) g
 
 -- the tests of a list without a fault
 pub first_none : (t : Bool) (k : FaultKind) (fs : List (Bool × FaultKind)) → first_of ((t, k) ∷ fs) ≡ None → (t ≡ false) × (first_of fs ≡ None)

@@ -1,6 +1,7 @@
 pub mod Accepted
 pub mod AsFound
 pub mod Bodies
+pub mod ClearRoots
 pub mod Depths
 pub mod Examples
 pub mod Firsts

@@ -6,6 +6,7 @@ pub mod ItemFaults
 pub mod Keys
 pub mod Noted
 pub mod OneItem
+pub mod Roots
 pub mod Scopes
 pub mod Spot
 pub mod Target

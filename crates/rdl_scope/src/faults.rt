@@ -236,7 +236,7 @@ fn fault_at(at: &Address, number: usize, kind: Option<FaultKind>) -> Option<Faul
 /// The first fault inside this item of the body at this address. Where there is none, the levels and the definitions
 /// before it stay.
 #[cycle(walk)]
-fn inside_fault<'a>(
+pub(crate) fn inside_fault<'a>(
     alloc: Global,
     description: &Description,
     at: &Address,

@@ -18,6 +18,7 @@ pub mod one_item;
 mod passed;
 mod places;
 pub mod room;
+pub mod roots;
 pub mod shells;
 mod size;
 pub mod targets;
