@@ -1,7 +1,6 @@
 -- Components are clean, instance by instance.
 use Rattle.std.proofs.Common.{◌≡◌, ℕ, zero, suc, ◌+◌, ◌≤◌, List, [], ◌∷◌, ◌++◌, drop, length, Option, Some, None, Bool, true, false, refl, ap, sym, subst, ◌∙◌, arith, add-one, ◌⊎◌, inl, inr}
-use Rattle.std.specs.Prelude.{◌&&◌, nat_lt, slice_get, unwrap_or, Result, Ok, Err, IfOk}
-use Rattle.std.specs.declared.alloc.AllocError.{AllocError}
+use Rattle.std.specs.Prelude.{◌&&◌, nat_lt, slice_get, unwrap_or}
 use Rattle.std.specs.Option.{is_none}
 use Rattle.std.specs.Cmp.Derive.{both_true}
 use Rattle.std.proofs.lemmas.Bool.{le-ltb, ltb-false}
@@ -205,11 +204,9 @@ clean-answer fs at name f h c =
     faultless : are_faultless (finished_rows 16 fs (finished_around_top name f) f.layouts.regalign.spans f.parts.items) ≡ true
     faultless = c 16 (finished_around_top name f) (record { mode = refl; bits = omega arith; reaching = λ a. refl })
 
-pub clean-answers : (fs : List Finished) (at name : List ℕ) (f : Finished) → finished_map_fault at f ≡ None → (found : Option Finished) → found ≡ Some f → (r : Result Bool AllocError)
-    → IfOk r (λ answer. answer ≡ true → AreClean fs (mode_inside f.kind f.values Regalign) 0 f.assignments.items f.layouts.regalign.spans f.parts.items)
-    → IfOk r (λ answer. answer ≡ true → fault_in (finished_answer fs at name found) ≡ None)
-clean-answers fs at name f h found e (Ok answer) c = λ yes. ap (λ o. fault_in (finished_answer fs at name o)) e ∙ clean-answer fs at name f h (c yes)
-clean-answers fs at name f h found e (Err x) c = c
+pub clean-answers : (fs : List Finished) (at name : List ℕ) (f : Finished) → finished_map_fault at f ≡ None → (found : Option Finished) → found ≡ Some f
+    → AreClean fs (mode_inside f.kind f.values Regalign) 0 f.assignments.items f.layouts.regalign.spans f.parts.items → fault_in (finished_answer fs at name found) ≡ None
+clean-answers fs at name f h found e c = ap (λ o. fault_in (finished_answer fs at name o)) e ∙ clean-answer fs at name f h c
 
 -- a row is seen by its software access, and judged by its reset
 pub seen-same : (span : Span) (xs ys : List PropertyValue) → value_under Sw xs ≡ value_under Sw ys → seen span xs ≡ seen span ys

@@ -62,3 +62,7 @@ pub mod Namesakes
 pub mod TopTypes
 pub mod FoundAgain
 pub mod ShownRows
+pub mod LikeRows
+pub mod KnownModes
+pub mod CleanHeads
+pub mod HeadNumbers

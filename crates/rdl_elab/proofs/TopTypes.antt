@@ -119,15 +119,19 @@ lookup-only name (suc i) e b k (holder h body rest) c there only =
     one : (j : ℕ) → suc j ≡ suc i → j ≡ i
     one j g = omega (arith, g)
 
--- in a description without a fault the top is the last type of its name in the root
+-- in a description without a fault a definition of the root is the last type of its name there
+pub define-type : (d : Items) (j : ℕ) (name : List ℕ) (c : Component) → fault_of d ≡ None → slice_get (list_of d) j ≡ Some (Define name c) → root_type d name ≡ component d (j ∷ [])
+define-type d j name c accepted is =
+    let itself : bytes_eq name name ≡ true = (bytes_eq-Decides name name).1 refl in
+    lookup-only name j nothing [] 0 d c is
+    (λ i o there. unique d accepted [] d refl (Define name o) (Define name o) (Define name c) i j there is itself itself)
+
+-- so is the top
 pub top-type : (d : Items) (w : Option (List ℕ)) (n : ℕ) (name : List ℕ) → fault_of d ≡ None → top_from w 0 d ≡ Some (n, name) → root_type d name ≡ component d (n ∷ [])
 top-type d w n name accepted is =
     let top = top-defined w 0 d n name is in
     let number : top.number ≡ n = omega (arith, top.place) in
-    let itself : bytes_eq name name ≡ true = (bytes_eq-Decides name name).1 refl in
-    lookup-only name top.number nothing [] 0 d top.component top.there
-    (λ j c there. unique d accepted [] d refl (Define name c) (Define name c) (Define name top.component) j top.number there top.there itself itself)
-    ∙ ap (λ i. component_in i nothing [] 0 d) number
+    define-type d top.number name top.component accepted top.there ∙ ap (λ i. component d (i ∷ [])) number
 
 -- ---- What a walk keeps of a type.
 

@@ -1,6 +1,6 @@
 -- Components below which no row has a fault, once for all their instances.
 -- own: SystemRDL 2.0 has no rows. `FinishedRows` says which row has a fault; that needs neither names nor a base.
-use Rattle.std.specs.Prelude.{◌≡◌, ℕ, ◌≤◌, ◌&&◌, List, [], ◌∷◌, ◌++◌, Bool, true, Some, slice_get}
+use Rattle.std.specs.Prelude.{◌≡◌, ℕ, ◌≤◌, ◌&&◌, List, [], ◌∷◌, ◌++◌, ◌||◌, Bool, true, false, Option, Some, None, slice_get, unwrap_or}
 use Rattle.std.specs.Option.{is_none}
 use Rattle.rdl_tree.specs.declared.shell.Kind.{Kind}
 use Rattle.rdl_tree.specs.declared.shell.Kind.TheVariants.{Addrmap, Regfile, Reg, Field}
@@ -49,6 +49,25 @@ abbrev pub has_mode : Mode → Modes → Bool
 has_mode Compact ms = ms.compact
 has_mode Regalign ms = ms.regalign
 has_mode Fullalign ms = ms.fullalign
+
+abbrev pub no_modes : Modes
+no_modes = record { compact = false; regalign = false; fullalign = false }
+
+-- these modes, and those
+abbrev pub joined : Modes → Modes → Modes
+joined a b = record { compact = a.compact || b.compact; regalign = a.regalign || b.regalign; fullalign = a.fullalign || b.fullalign }
+
+-- the modes of the component of a number; none, where there is no such component
+abbrev pub modes_at : List Modes → ℕ → Modes
+modes_at all k = unwrap_or (slice_get all k) no_modes
+
+abbrev pub modes_of : List Modes → Option ℕ → Modes
+modes_of all None = no_modes
+modes_of all (Some k) = modes_at all k
+
+-- no component is in a mode
+abbrev pub HaveNoModes : List Modes → Type 0
+HaveNoModes all = (k : ℕ) (ms : Modes) (m : Mode) → slice_get all k ≡ Some ms → has_mode m ms ≡ false
 
 -- the first of these components are clean in these modes
 abbrev pub AreCleanIn : List Finished → List Modes → Type 0

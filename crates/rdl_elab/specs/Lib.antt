@@ -40,3 +40,4 @@ pub mod Known
 pub mod Found
 pub mod StatedValues
 pub mod Anew
+pub mod CleanHeads

@@ -7,7 +7,7 @@ use Rattle.rdl_tree.specs.declared.description.Item.{Item}
 use Rattle.rdl_tree.specs.declared.description.Item.TheVariants.{Define, Instance, Own, Default, Dynamic}
 use Rattle.rdl_tree.specs.declared.description.Of.TheVariants.{Named, Anonymous}
 use Rattle.rdl_tree.specs.declared.description.Component.{Component}
-use Rattle.rdl_scope.specs.Closed.{Parts, no_parts, part, Made, Standing, lookup, with_type, with_default, with_made, head_at, parts}
+use Rattle.rdl_scope.specs.Closed.{Parts, no_parts, part, Made, Standing, lookup, component, with_type, with_default, with_made, head_at, parts}
 use Rattle.rdl_elab.specs.declared.walk.finished.Finished.{Finished}
 use Rattle.rdl_elab.specs.Kept.{Part}
 use Rattle.rdl_elab.specs.declared.walk.Walk.{Walk}
@@ -64,6 +64,18 @@ IsType d fs None None = Unit {0}
 IsType d fs None (Some c) = ⊥
 IsType d fs (Some k) None = ⊥
 IsType d fs (Some k) (Some c) = IsFinished d fs k c
+
+-- the items of the root that have a number here are the finished components of these numbers
+abbrev pub AreHeads : Items → List Finished → List (Option ℕ) → Type 0
+AreHeads d fs numbers = (j k : ℕ) → slice_get numbers j ≡ Some (Some k) → IsType d fs (Some k) (component d (j ∷ []))
+
+-- the number of the component of an item, if it is a definition whose type stands
+abbrev pub head_number : List (List ℕ × ℕ) → Item → Option ℕ
+head_number types (Define n c) = lookup n types
+head_number types (Instance s o) = None
+head_number types (Own p v) = None
+head_number types (Default p v) = None
+head_number types (Dynamic t p v) = None
 
 -- a walk keeps what stands
 pub record Stands (d : Items) (w : Walk) (e : Standing) : Type 0 where

@@ -5,6 +5,7 @@ ghost use Rattle.rdl_tree.specs.Depth.{depth};
 ghost use Rattle.rdl_scope.specs.Closed.{component};
 ghost use Rattle.rdl_scope.specs.ItemFaults.{fault_at, fault_of, out_of_memory};
 ghost use Rattle.rdl_scope.specs.OneItem.{NoOtherFault};
+ghost use Rattle.rdl_scope.specs.Roots.{NoFaultOutside};
 ghost use Rattle.rdl_elab.specs.Faults.{has_name, top_from, elaborated, under_top};
 ghost use Rattle.rdl_elab.specs.Known.{HasRows};
 ghost use Rattle.rdl_elab.specs.Tops.{top_at};
@@ -21,6 +22,7 @@ use crate::walk::lay_out_item;
 use crate::walk::reaches::with_own;
 use rdl_scope::faults::check;
 use rdl_scope::one_item::check_item;
+use rdl_scope::roots::check_roots;
 use rdl_text::name::Name;
 use rdl_text::token::Number;
 use rdl_tree::address::Address;
@@ -328,6 +330,24 @@ pub fn checked_top_but<'a>(
     ensures err { IfErr result (λ fault. (elaborated description.now.items (option_copied wanted.entry) ≡ Err fault) ⊎ (fault ≡ out_of_memory)) }
 {
     check_item(alloc, description, item)?;
+    top_of(description, wanted)
+}
+
+/// The top of a description in which no item may have a fault but those inside these items of the root, or the first fault of
+/// an item, or that there is no top.
+pub fn checked_top_in<'a>(
+    alloc: Global,
+    description: &'a Description,
+    wanted: Option<&str>,
+    asked: &[bool],
+) -> Result<Top<'a>, Fault>
+    requires { NoFaultOutside description.now.items asked.now }
+    ensures faultless { OnOk result (fault_of description.now.items ≡ None) }
+    ensures nesting { OnOk result (depth description.now.items ≤ 16) }
+    ensures top { IfOk result (λ top. top_from (option_copied wanted.entry) 0 description.now.items ≡ Some top) }
+    ensures err { IfErr result (λ fault. (elaborated description.now.items (option_copied wanted.entry) ≡ Err fault) ⊎ (fault ≡ out_of_memory)) }
+{
+    check_roots(alloc, description, asked)?;
     top_of(description, wanted)
 }
 

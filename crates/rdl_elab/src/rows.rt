@@ -11,7 +11,8 @@ ghost use Rattle.rdl_elab.specs.declared.row.PropertyValue.{PropertyValue};
 ghost use Rattle.rdl_elab.specs.Finished.{under};
 ghost use Rattle.rdl_elab.specs.FinishedRows.{finished_base, finished_values, finished_row, seen, finished_fault, field_fault, extent_fault, judged, surroundings_inside, level_rows, finished_rows, finished_rows_below, told_one, told};
 
-pub(crate) mod clean;
+pub mod clean;
+pub(crate) mod heads;
 pub mod siblings;
 
 use crate::layout::{Mode, Span};

@@ -1,22 +1,24 @@
 //! The walk that lays out components, once for all their instances.
-ghost use Rattle.std.specs.Prelude.{◌≡◌, ℕ, ◌∷◌, ◌++◌, ◌+◌, ◌≤◌, [], true, length, Some, IfOk, IfSome, OnOk};
+ghost use Rattle.std.specs.Prelude.{◌≡◌, ℕ, ◌∷◌, ◌++◌, ◌+◌, ◌≤◌, [], true, length, Some, None, IfOk, IfSome, OnOk};
 ghost use Rattle.std.specs.Option.{is_some, IsSome};
 ghost use Rattle.rdl_tree.specs.Depth.{depth};
 ghost use Rattle.rdl_tree.specs.declared.description.Item.TheVariants.{Instance};
 ghost use Rattle.rdl_tree.specs.View.{items_of};
 ghost use Rattle.rdl_scope.specs.Closed.{Made, Parts, Standing, component, head_at, lookup, nothing, parts, root_type, standing};
+ghost use Rattle.rdl_scope.specs.ItemFaults.{fault_of};
 ghost use Rattle.rdl_elab.specs.Finished.{IsFinished, IsKept, AreParts};
 ghost use Rattle.rdl_elab.specs.Written.{written, item_written, all_written};
 ghost use Rattle.rdl_elab.specs.MadeOf.{made_of};
 ghost use Rattle.rdl_elab.specs.Words.{spelling, is_among};
 ghost use Rattle.rdl_elab.specs.Taken.{WasKept};
 ghost use Rattle.rdl_elab.specs.Finishes.{AreLaidOut, BringsPart, FinishesAll, HoldsAt};
-ghost use Rattle.rdl_elab.specs.Stands.{made_at, after_item, item_parts, in_list, placed, LeadsTo, IsType, Stands, Grows, IsBehind};
+ghost use Rattle.rdl_elab.specs.Stands.{made_at, after_item, item_parts, in_list, placed, LeadsTo, AreHeads, IsType, Stands, Grows, IsBehind};
 
 pub(crate) mod built_ins;
 pub(crate) mod defaults;
 pub(crate) mod each_member;
 pub(crate) mod finished;
+pub(crate) mod heads;
 pub(crate) mod instances;
 pub(crate) mod laid_out;
 pub(crate) mod own_values;
@@ -33,6 +35,7 @@ use crate::stored::Stored;
 use crate::walk::built_ins::BuiltIns;
 use crate::walk::defaults::Defaults;
 use crate::walk::finished::{Finished, Part};
+use crate::walk::heads::head_numbers;
 use crate::walk::instances::{first_empty, levels, rows};
 use crate::walk::laid_out::take_layouts;
 use crate::walk::own_values::OwnValues;
@@ -59,12 +62,13 @@ pub(crate) struct Walked<'a> {
     pub number: usize,
 }
 
-/// All components of a description, laid out in the same order, and the number of that of a type of the root, if there
-/// is one.
+/// All components of a description, laid out in the same order, the number of that of a type of the root, if there is
+/// one, and for each item of the root that of its component, if it is a definition.
 #[derive(Drop)]
 pub(crate) struct AllWalked<'a> {
     pub components: Vec<Finished<'a>>,
     pub number: Option<usize>,
+    pub heads: Vec<Option<usize>>,
 }
 
 /// The components that are laid out, and what stands before the next item.
@@ -389,14 +393,17 @@ pub(crate) fn lay_out_all<'a>(
     requires { depth description.now.items ≤ 16 }
     ensures laid_out { IfOk result (λ all. AreLaidOut before.now all.components.items (all_written description.now.items)) }
     ensures number { IfOk result (λ all. IsType description.now.items all.components.items all.number (root_type description.now.items name.now)) }
+    ensures heads { IfOk result (λ all. fault_of description.now.items ≡ None → AreHeads description.now.items all.components.items all.heads.items) }
 {
     let mut walk = Walk::new(alloc, description, before.len().saturating_add(NEW))?;
     let root = Address::new();
     let items = description.items.as_slice();
     walk_items(alloc, description, &root, items, &mut walk, before)?;
     let number = walk.types.get(name);
+    let heads = head_numbers(alloc, &walk.types, items)?;
     Ok(AllWalked {
         components: walk.components,
         number,
+        heads,
     })
 }

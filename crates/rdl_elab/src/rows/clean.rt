@@ -1,7 +1,7 @@
 //! Components below which no row has a fault, each judged once for all its instances.
 ghost use Rattle.std.specs.Prelude.{◌≡◌, ◌++◌, ◌∷◌, [], List, true, Some, None, IfOk, option_and_then, slice_get};
 ghost use Rattle.rdl_elab.specs.Faults.{fault_in};
-ghost use Rattle.rdl_elab.specs.Clean.{AreClean, AreCleanIn, IsCleanIn, IsCleanUnder, bits_inside, has_mode};
+ghost use Rattle.rdl_elab.specs.Clean.{AreClean, AreCleanIn, HaveNoModes, IsCleanIn, IsCleanUnder, bits_inside, has_mode, modes_at};
 ghost use Rattle.rdl_elab.specs.Finished.{under};
 ghost use Rattle.rdl_elab.specs.declared.walk.finished.Finished.{Finished};
 ghost use Rattle.rdl_elab.specs.FinishedRows.{finished_answer};
@@ -23,7 +23,7 @@ const LEVELS: usize = 16;
 
 /// A set of modes.
 #[derive(Clone, Copy, Debug)]
-pub(crate) struct Modes {
+pub struct Modes {
     pub compact: bool,
     pub regalign: bool,
     pub fullalign: bool,
@@ -31,9 +31,12 @@ pub(crate) struct Modes {
 
 impl Modes {
     ghost use Rattle.std.specs.Prelude.{◌≡◌};
-    ghost use Rattle.rdl_elab.specs.Clean.{has_mode};
+    ghost use Rattle.rdl_elab.specs.Clean.{has_mode, joined, no_modes};
 
-    fn none() -> Modes {
+    /// No mode.
+    pub fn none() -> Modes
+        ensures { result ≡ no_modes }
+    {
         Modes {
             compact: false,
             regalign: false,
@@ -41,7 +44,8 @@ impl Modes {
         }
     }
 
-    fn has(self, mode: Mode) -> bool
+    /// Whether the mode is among them.
+    pub fn has(self, mode: Mode) -> bool
         ensures { result ≡ has_mode mode self }
     {
         match mode {
@@ -56,6 +60,26 @@ impl Modes {
             Mode::Compact => self.compact = true,
             Mode::Regalign => self.regalign = true,
             Mode::Fullalign => self.fullalign = true,
+        }
+    }
+
+    /// These modes, and those.
+    pub(crate) fn with(self, others: Modes) -> Modes
+        ensures { result ≡ joined self others }
+    {
+        Modes {
+            compact: self.compact || others.compact,
+            regalign: self.regalign || others.regalign,
+            fullalign: self.fullalign || others.fullalign,
+        }
+    }
+
+    /// These modes but those.
+    fn without(self, others: Modes) -> Modes {
+        Modes {
+            compact: self.compact && !others.compact,
+            regalign: self.regalign && !others.regalign,
+            fullalign: self.fullalign && !others.fullalign,
         }
     }
 }
@@ -228,26 +252,51 @@ fn clean_modes<'a>(
     })
 }
 
-/// The modes among the needed ones of the component of this number.
-fn needed_at(needed: &[Modes], number: usize) -> Modes {
-    match needed.get(number) {
+/// The modes of the component of this number.
+pub(crate) fn modes_at(all: &[Modes], number: usize) -> Modes
+    ensures { result ≡ modes_at all.now number }
+{
+    match all.get(number) {
         Some(modes) => *modes,
         None => Modes::none(),
     }
 }
 
-/// In which of the needed modes each component is found to be clean.
+/// In which modes the component of this number is known or found to be clean, where it is judged in the needed ones alone.
+fn all_modes_of<'a>(
+    alloc: Global,
+    components: &[Finished<'a>],
+    clean: &[Modes],
+    number: usize,
+    component: &Finished<'a>,
+    needed: &[Modes],
+    known: &[Modes],
+) -> Result<Modes, AllocError>
+    requires known { AreCleanIn components.now known.now }
+    requires clean { AreCleanIn components.now clean.now }
+    requires component { slice_get components.now number ≡ Some component.now }
+    ensures { IfOk result (λ modes. (m : Mode) → has_mode m modes ≡ true → IsCleanIn components.now component.now m) }
+{
+    let known = modes_at(known, number);
+    let missing = modes_at(needed, number).without(known);
+    let found = clean_modes(alloc, components, clean, component, missing)?;
+    Ok(known.with(found))
+}
+
+/// In which modes each component is known to be clean, or is found to be among the needed ones.
 fn all_clean_modes(
     alloc: Global,
     components: &[Finished],
     needed: &[Modes],
+    known: &[Modes],
 ) -> Result<Vec<Modes>, AllocError>
+    requires { AreCleanIn components.now known.now }
     ensures { IfOk result (λ clean. AreCleanIn components.now clean.items) }
 {
     let mut clean = Vec::with_capacity(alloc, components.len())?;
     for (number, component) in components.iter().enumerate() {
-        let needed = needed_at(needed, number);
-        let modes = clean_modes(alloc, components, clean.as_slice(), component, needed)?;
+        let before = clean.as_slice();
+        let modes = all_modes_of(alloc, components, before, number, component, needed, known)?;
         clean.push(modes)?;
     }
     Ok(clean)
@@ -272,62 +321,117 @@ fn need_parts(needed: &mut [Modes], component: &Finished, modes: Modes) {
     }
 }
 
-/// In which modes each component has instances below the top of this number.
+/// No modes of so many components.
+pub(crate) fn no_modes(alloc: Global, count: usize) -> Result<Vec<Modes>, AllocError>
+    ensures { IfOk result (λ none. HaveNoModes none.items) }
+{
+    let mut none = Vec::with_capacity(alloc, count)?;
+    none.resize(count, Modes::none())?;
+    Ok(none)
+}
+
+/// In which modes each component has instances below the top of this number, as far as components that are judged need it.
+/// Below a component that is known to be clean nothing is needed, unless an assignment may come into it from one that isn't.
 fn needed_modes(
     alloc: Global,
     components: &[Finished],
     top: usize,
+    known: &[Modes],
 ) -> Result<Vec<Modes>, AllocError> {
-    let mut needed = Vec::with_capacity(alloc, components.len())?;
-    for _ in 0..components.len() {
-        needed.push(Modes::none())?;
-    }
+    let mut needed = no_modes(alloc, components.len())?;
+    let mut passed = no_modes(alloc, components.len())?;
     need(needed.as_mut_slice(), top, Mode::Regalign);
     for number in (0..components.len()).rev() {
-        let modes = needed_at(needed.as_slice(), number);
-        need_parts(needed.as_mut_slice(), &components[number], modes);
+        let component = &components[number];
+        let judged = modes_at(needed.as_slice(), number).without(modes_at(known, number));
+        let through = modes_at(passed.as_slice(), number);
+        let inside = judged.with(through);
+        need_parts(needed.as_mut_slice(), component, inside);
+        let reached = if component.assignments.as_slice().is_empty() {
+            through
+        } else {
+            inside
+        };
+        need_parts(passed.as_mut_slice(), component, reached);
     }
     Ok(needed)
 }
 
-/// Whether the map whose top is the component of this number is found to have no fault in any row, each component being
-/// judged once for each mode in which it has instances.
-pub(crate) fn is_clean_top(
-    alloc: Global,
-    components: &[Finished],
-    number: usize,
-    top: &Finished,
-) -> Result<bool, AllocError>
-    requires { slice_get components.now number ≡ Some top.now }
-    ensures { IfOk result (λ answer. answer ≡ true → AreClean components.now (mode_inside top.now.kind top.now.values Mode.Regalign) 0 top.now.assignments.items top.now.layouts.regalign.spans top.now.parts.items) }
-{
-    if top.kind == Kind::Reg {
-        return Ok(false);
+/// Whether single rows decide if the map with this top, whose component has this number, has a fault.
+fn is_left_to_rows(components: &[Finished], number: usize, top: &Top) -> bool {
+    match finished_at(components, number) {
+        Some(component) => {
+            let at = Address::new().inside(top.number);
+            component.kind != Kind::Reg && map_fault(&at, component).is_none()
+        }
+        None => false,
     }
-    let needed = needed_modes(alloc, components, number)?;
-    let clean = all_clean_modes(alloc, components, needed.as_slice())?;
-    Ok(is_known(clean.as_slice(), number, Mode::Regalign))
 }
 
-/// Whether the map with this top, whose component has this number among these, is found to have no fault. Its rows aren't
-/// made.
-pub(crate) fn is_clean_map(
+/// In which modes each component is needed for the map with this top, whose component has this number.
+fn needed_under(
     alloc: Global,
     components: &[Finished],
     number: Option<usize>,
     top: &Top,
-) -> Result<bool, AllocError>
-    ensures { IfOk result (λ answer. answer ≡ true → fault_in (finished_answer components.now (top.now.0 ∷ []) top.now.1 (option_and_then (slice_get components.now) number)) ≡ None) }
+    known: &[Modes],
+) -> Result<Vec<Modes>, AllocError> {
+    match number {
+        Some(number) if is_left_to_rows(components, number, top) => {
+            needed_modes(alloc, components, number, known)
+        }
+        _ => no_modes(alloc, 0),
+    }
+}
+
+/// In which modes each component is known to be clean, or is found to be where it has instances in the map with this top,
+/// whose component has this number. Each component is judged once for each mode in which it has instances.
+pub(crate) fn modes_under(
+    alloc: Global,
+    components: &[Finished],
+    number: Option<usize>,
+    top: &Top,
+    known: &[Modes],
+) -> Result<Vec<Modes>, AllocError>
+    requires { AreCleanIn components.now known.now }
+    ensures { IfOk result (λ clean. AreCleanIn components.now clean.items) }
+{
+    let needed = needed_under(alloc, components, number, top, known)?;
+    all_clean_modes(alloc, components, needed.as_slice(), known)
+}
+
+/// Whether the map whose top is the component of this number is known to have no fault in any row.
+fn is_clean_top(components: &[Finished], number: usize, top: &Finished, clean: &[Modes]) -> bool
+    requires clean { AreCleanIn components.now clean.now }
+    requires top { slice_get components.now number ≡ Some top.now }
+    ensures { result ≡ true → AreClean components.now (mode_inside top.now.kind top.now.values Mode.Regalign) 0 top.now.assignments.items top.now.layouts.regalign.spans top.now.parts.items }
+{
+    if top.kind == Kind::Reg {
+        return false;
+    }
+    is_known(clean, number, Mode::Regalign)
+}
+
+/// Whether the map with this top, whose component has this number among these, is known to have no fault. Its rows aren't
+/// made.
+pub(crate) fn is_clean_map(
+    components: &[Finished],
+    number: Option<usize>,
+    top: &Top,
+    clean: &[Modes],
+) -> bool
+    requires { AreCleanIn components.now clean.now }
+    ensures { result ≡ true → fault_in (finished_answer components.now (top.now.0 ∷ []) top.now.1 (option_and_then (slice_get components.now) number)) ≡ None }
 {
     let Some(number) = number else {
-        return Ok(false);
+        return false;
     };
     let Some(component) = finished_at(components, number) else {
-        return Ok(false);
+        return false;
     };
     let at = Address::new().inside(top.number);
     if map_fault(&at, component).is_some() {
-        return Ok(false);
+        return false;
     }
-    is_clean_top(alloc, components, number, component)
+    is_clean_top(components, number, component, clean)
 }

@@ -8,6 +8,7 @@ use Rattle.rdl_elab.specs.Written.{written, all_written}
 use Rattle.rdl_elab.specs.Finishes.{AreLaidOut, Finishes}
 use Rattle.rdl_elab.specs.Stands.{Stands, IsType}
 use Rattle.rdl_elab.proofs.Goings.{stands-first}
+use Rattle.rdl_elab.proofs.HeadNumbers.{heads-numbered}
 use Rattle.rdl_elab.proofs.TopTypes.{type-found}
 use Rattle.rdl_elab.proofs.walk.lay_out_all.Goals as goal
 
@@ -38,3 +39,14 @@ returns-clause-number c =
     (subst (λ b. Stands d w (standing nothing b 0 (items_of c.as_slice-items.result.now))) c.new-root.ensures all) in
     subst (λ number. IsType d w.components.items number (root_type d c.args.name.now)) (sym c.get-number.ensures)
     (type-found d w.components.items c.args.name.now w.types (standing nothing [] 0 d).types whole.types)
+
+pub returns-clause-heads : goal.returns-clause-heads
+returns-clause-heads c = λ accepted.
+    let d = c.args.description.now.items in
+    let w = c.walk_items.new.walk in
+    let first = stands-first d c.in_ok-walk.walk c.in_ok-walk.ensures.types c.in_ok-walk.ensures.defaults in
+    let all = c.in_ok-walk_items.ensures.stands nothing first in
+    let whole : Stands d w (standing nothing [] 0 d) =
+    subst (λ t. Stands d w (standing nothing [] 0 t)) (ap items_of c.as_slice-items.ensures ∙ items_of-list_of d)
+    (subst (λ b. Stands d w (standing nothing b 0 (items_of c.as_slice-items.result.now))) c.new-root.ensures all) in
+    heads-numbered d w.components.items w.types c.as_slice-items.result.now c.in_ok-heads.heads.items c.as_slice-items.ensures whole.types c.in_ok-heads.ensures accepted
