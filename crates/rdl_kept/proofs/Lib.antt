@@ -34,3 +34,11 @@ pub mod SameFaults
 pub mod SameTargets
 pub mod OtherItems
 pub mod AskedFaults
+pub mod CleanStays
+pub mod Noting
+pub mod KnownRoots
+pub mod RootMarks
+pub mod RootsInReach
+pub mod RootsAsked
+pub mod UnchangedRoots
+pub mod ForgottenHeads

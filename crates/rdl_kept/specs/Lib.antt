@@ -1,6 +1,7 @@
 pub mod AllKept
 pub mod Reach
 pub mod KeptAlike
+pub mod UnreachedHeads
 pub mod Skeleton
 pub mod Tracked
 pub mod EditedBodies
@@ -10,3 +11,5 @@ pub mod HarmlessPlaces
 pub mod Renaming
 pub mod FewPlaced
 pub mod StillFaultless
+pub mod RootFacts
+pub mod RootNotes

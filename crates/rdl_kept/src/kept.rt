@@ -11,12 +11,16 @@ ghost use Rattle.rdl_kept.specs.AllKept.{has_layout};
 
 use crate::numbers::number;
 use rdl_elab::all_layouts::{Judgement, fault_with_top, lay_out, lay_out_rows};
-use rdl_elab::elaborate::{Top, checked_top, checked_top_but, known_rows, known_top};
+use rdl_elab::elaborate::{
+    Top, checked_top, checked_top_but, checked_top_in, known_rows, known_top,
+};
 use rdl_elab::layout::{Layout, Mode};
 use rdl_elab::row::Rows;
+use rdl_elab::rows::clean::Modes;
 use rdl_elab::stored::Stored;
 use rdl_scope::faults::check;
 use rdl_scope::one_item::check_item;
+use rdl_scope::roots::check_roots;
 use rdl_scope::types::own_component;
 use rdl_tree::address::Address;
 use rdl_tree::description::Description;
@@ -83,6 +87,8 @@ impl Kept {
     ghost use Rattle.rdl_scope.specs.ItemFaults.{fault_of, out_of_memory};
     ghost use Rattle.rdl_elab.specs.Faults.{elaborated, top_from};
     ghost use Rattle.rdl_scope.specs.OneItem.{NoOtherFault};
+    ghost use Rattle.rdl_scope.specs.Roots.{NoFaultOutside};
+    ghost use Rattle.rdl_elab.specs.CleanHeads.{AreCleanHeads};
     ghost use Rattle.rdl_elab.specs.Known.{HasRows};
     ghost use Rattle.rdl_kept.specs.SameSkeleton.{HasSameSkeleton};
     ghost use Rattle.rdl_kept.specs.AllKept.{AreOf, layout_at};
@@ -99,7 +105,8 @@ impl Kept {
     }
 
     /// Lays out all components of this description, and takes over what was kept where it was made of the same. Nothing
-    /// changes if the map with this top has a fault.
+    /// changes if the map with this top has a fault. These modes of the definitions of the root are known to be clean, and the answer
+    /// says which are afterwards.
     fn follow<'a>(
         &mut self,
         alloc: Global,
@@ -107,25 +114,30 @@ impl Kept {
         top: &Top<'a>,
         wanted: Option<&str>,
         judgement: Judgement,
-    ) -> Result<Result<(), Fault>, AllocError>
+        heads: &[Modes],
+    ) -> Result<Result<Vec<Modes>, Fault>, AllocError>
         requires nesting { depth description.now.items ≤ 16 }
         requires faultless { fault_of description.now.items ≡ None }
         requires top { top_from (option_copied wanted) 0 description.now.items ≡ Some top.now }
         requires known { judgement ≡ Judgement.Known → HasRows description.now.items (option_copied wanted) }
+        requires heads { AreCleanHeads description.now.items heads.now }
         ensures layouts { IfOk result (λ answer. OnOk answer (AreOf description.now.items self.new)) }
         ensures top { IfOk result (λ answer. OnOk answer (self.new.top ≡ option_copied wanted.entry)) }
         ensures placed { IfOk result (λ answer. OnOk answer (self.new.placed ≤ 3 * all_instances description.now.items)) }
         ensures few { IfOk result (λ answer. OnOk answer (PlacesWhatChanged self.old description.now.items self.new)) }
+        ensures reached { IfOk result (λ answer. OnOk answer (PlacesWhatIsInReach self.old description.now.items self.new)) }
+        ensures still { IfOk result (λ answer. OnOk answer ((old : Items) → AreOf old self.old → skeleton old ≡ skeleton description.now.items → self.new.placed ≡ 0)) }
+        ensures heads { IfOk result (λ answer. IfOk answer (λ heads. AreCleanHeads description.now.items heads.items)) }
         ensures refused { IfOk result (λ answer. IfErr answer (λ fault. elaborated description.now.items (option_copied wanted.entry) ≡ Err fault)) }
         ensures unchanged { IfOk result (λ answer. OnErr answer (self.new ≡ self.old)) }
         ensures err { OnErr result (self.new ≡ self.old) }
     {
         let wanted = copy_of_top(alloc, wanted)?;
-        let answer = lay_out(alloc, &mut self.stored, description, top, judgement)?;
+        let answer = lay_out(alloc, &mut self.stored, description, top, judgement, heads)?;
         match answer {
-            Ok(()) => {
+            Ok(heads) => {
                 self.top = wanted;
-                Ok(Ok(()))
+                Ok(Ok(heads))
             }
             Err(fault) => Ok(Err(fault)),
         }
@@ -214,33 +226,67 @@ impl Kept {
         ensures err { OnErr result (self.new ≡ self.old) }
     {
         let found = checked_top(alloc, description, top)?;
-        match self.follow(alloc, description, &found, top, Judgement::Needed) {
-            Ok(answer) => answer,
+        match self.follow(alloc, description, &found, top, Judgement::Needed, &[]) {
+            Ok(Ok(_heads)) => Ok(()),
+            Ok(Err(fault)) => Err(fault),
             Err(_) => Err(no_memory()),
         }
     }
 
     /// Lays out this description as `relay` does, where no item but the one at this address may have a fault: of the items that
-    /// one alone is judged.
+    /// one alone is judged. These modes of the definitions of the root are known to be clean, and aren't judged again; the answer
+    /// says which are known to be clean afterwards.
     pub fn relay_item(
         &mut self,
         alloc: Global,
         description: &Description,
         top: Option<&str>,
         item: &Address,
-    ) -> Result<(), Fault>
-        requires { NoOtherFault description.now.items item.now }
+        heads: &[Modes],
+    ) -> Result<Vec<Modes>, Fault>
+        requires others { NoOtherFault description.now.items item.now }
+        requires heads { AreCleanHeads description.now.items heads.now }
         ensures layouts { OnOk result (AreOf description.now.items self.new) }
         ensures top { OnOk result (self.new.top ≡ option_copied top.entry) }
         ensures placed { OnOk result (self.new.placed ≤ 3 * all_instances description.now.items) }
         ensures few { OnOk result (PlacesWhatChanged self.old description.now.items self.new) }
         ensures reached { OnOk result (PlacesWhatIsInReach self.old description.now.items self.new) }
         ensures still { OnOk result ((old : Items) → AreOf old self.old → skeleton old ≡ skeleton description.now.items → self.new.placed ≡ 0) }
+        ensures heads { IfOk result (λ heads. AreCleanHeads description.now.items heads.items) }
         ensures refused { IfErr result (λ fault. (elaborated description.now.items (option_copied top.entry) ≡ Err fault) ⊎ (fault ≡ out_of_memory)) }
         ensures err { OnErr result (self.new ≡ self.old) }
     {
         let found = checked_top_but(alloc, description, top, item)?;
-        match self.follow(alloc, description, &found, top, Judgement::Needed) {
+        match self.follow(alloc, description, &found, top, Judgement::Needed, heads) {
+            Ok(answer) => answer,
+            Err(_) => Err(no_memory()),
+        }
+    }
+
+    /// Lays out this description as `relay` does, where no item may have a fault but those inside these items of the root: of
+    /// the items those alone are judged. Modes that are known to be clean are as in `relay_item`.
+    pub fn relay_roots(
+        &mut self,
+        alloc: Global,
+        description: &Description,
+        top: Option<&str>,
+        asked: &[bool],
+        heads: &[Modes],
+    ) -> Result<Vec<Modes>, Fault>
+        requires others { NoFaultOutside description.now.items asked.now }
+        requires heads { AreCleanHeads description.now.items heads.now }
+        ensures layouts { OnOk result (AreOf description.now.items self.new) }
+        ensures top { OnOk result (self.new.top ≡ option_copied top.entry) }
+        ensures placed { OnOk result (self.new.placed ≤ 3 * all_instances description.now.items) }
+        ensures few { OnOk result (PlacesWhatChanged self.old description.now.items self.new) }
+        ensures reached { OnOk result (PlacesWhatIsInReach self.old description.now.items self.new) }
+        ensures still { OnOk result ((old : Items) → AreOf old self.old → skeleton old ≡ skeleton description.now.items → self.new.placed ≡ 0) }
+        ensures heads { IfOk result (λ heads. AreCleanHeads description.now.items heads.items) }
+        ensures refused { IfErr result (λ fault. (elaborated description.now.items (option_copied top.entry) ≡ Err fault) ⊎ (fault ≡ out_of_memory)) }
+        ensures err { OnErr result (self.new ≡ self.old) }
+    {
+        let found = checked_top_in(alloc, description, top, asked)?;
+        match self.follow(alloc, description, &found, top, Judgement::Needed, heads) {
             Ok(answer) => answer,
             Err(_) => Err(no_memory()),
         }
@@ -265,8 +311,8 @@ impl Kept {
         ensures err { OnErr result (self.new ≡ self.old) }
     {
         let found = known_top(description, top);
-        match self.follow(alloc, description, &found, top, Judgement::Known)? {
-            Ok(()) => Ok(()),
+        match self.follow(alloc, description, &found, top, Judgement::Known, &[])? {
+            Ok(_heads) => Ok(()),
             Err(_) => unreachable!(),
         }
     }
@@ -291,29 +337,33 @@ impl Kept {
     }
 
     /// Keeps the layouts as they are for this description, which has the same skeleton, if it has rows. No item of it but the
-    /// one at this address may have a fault. Nothing changes if the map has one.
+    /// one at this address may have a fault. Nothing changes if the map has one. Modes that are known to be clean are as in
+    /// `relay_item`.
     pub fn stay_judged(
         &mut self,
         alloc: Global,
         description: &Description,
         item: &Address,
-    ) -> Result<(), Fault>
+        heads: &[Modes],
+    ) -> Result<Vec<Modes>, Fault>
         requires skeleton { HasSameSkeleton description.now.items self.old }
         requires others { NoOtherFault description.now.items item.now }
+        requires heads { AreCleanHeads description.now.items heads.now }
         ensures layouts { OnOk result (AreOf description.now.items self.new) }
         ensures top { OnOk result (self.new.top ≡ self.old.top) }
         ensures placed { OnOk result (self.new.placed ≡ 0) }
+        ensures heads { IfOk result (λ heads. AreCleanHeads description.now.items heads.items) }
         ensures refused { IfErr result (λ fault. (elaborated description.now.items self.old.top ≡ Err fault) ⊎ (fault ≡ out_of_memory)) }
         ensures err { OnErr result (self.new ≡ self.old) }
     {
         let top = self.asked();
         let found = checked_top_but(alloc, description, top, item)?;
-        match fault_with_top(alloc, &self.stored, description, &found) {
-            Ok(None) => {
+        match fault_with_top(alloc, &self.stored, description, &found, heads) {
+            Ok(Ok(heads)) => {
                 self.stored.stay();
-                Ok(())
+                Ok(heads)
             }
-            Ok(Some(fault)) => Err(fault),
+            Ok(Err(fault)) => Err(fault),
             Err(_) => Err(no_memory()),
         }
     }
@@ -356,6 +406,28 @@ impl Kept {
         ensures err { OnErr result (self.new ≡ self.old) }
     {
         check(alloc, description)?;
+        self.stay(description);
+        Ok(())
+    }
+
+    /// Keeps the layouts as they are for this description, as `stay_if_faultless` does, where no item may have a fault but those
+    /// inside these items of the root.
+    pub fn stay_if_clear(
+        &mut self,
+        alloc: Global,
+        description: &Description,
+        asked: &[bool],
+    ) -> Result<(), Fault>
+        requires skeleton { HasSameSkeleton description.now.items self.old }
+        requires others { NoFaultOutside description.now.items asked.now }
+        requires rows { fault_of description.now.items ≡ None → HasRows description.now.items self.old.top }
+        ensures layouts { OnOk result (AreOf description.now.items self.new) }
+        ensures top { OnOk result (self.new.top ≡ self.old.top) }
+        ensures placed { OnOk result (self.new.placed ≡ 0) }
+        ensures refused { IfErr result (λ fault. (elaborated description.now.items self.old.top ≡ Err fault) ⊎ (fault ≡ out_of_memory)) }
+        ensures err { OnErr result (self.new ≡ self.old) }
+    {
+        check_roots(alloc, description, asked)?;
         self.stay(description);
         Ok(())
     }

@@ -1,5 +1,5 @@
 //! What the definitions have in common. Each function here is a law: it does nothing when it runs.
-ghost use Rattle.std.specs.Prelude.{◌≡◌, [], ℕ, Bool, List, map, Option, None, true, false};
+ghost use Rattle.std.specs.Prelude.{◌≡◌, ◌≢◌, [], ℕ, Bool, List, map, Option, None, Some, true, false, slice_get};
 ghost use Rattle.rdl_tree.specs.Items.{Items};
 ghost use Rattle.rdl_tree.specs.declared.shell.Shell.{Shell};
 ghost use Rattle.rdl_tree.specs.declared.patch.Patch.{Patch};
@@ -16,8 +16,13 @@ ghost use Rattle.rdl_kept.specs.Skeleton.{skeleton};
 ghost use Rattle.rdl_kept.specs.Tracked.{Tracked, old_of, new_of};
 ghost use Rattle.rdl_kept.specs.EditedBodies.{edits, is_changed_at, NamesStay, GoByName};
 ghost use Rattle.rdl_kept.specs.KeptAlike.{AreKeptAlikeBut};
+ghost use Rattle.rdl_kept.specs.declared.roots.RootFacts.{RootFacts};
+ghost use Rattle.rdl_kept.specs.RootFacts.{IsKnownRoot, ChangesOnly};
 ghost use Rattle.rdl_kept.specs.StillFaultless.{is_asked_again, AskedAgainHaveNone, fault_of_asked};
 ghost use Rattle.rdl_elab.specs.Known.{HasRows};
+ghost use Rattle.rdl_elab.specs.declared.rows.clean.Modes.{Modes};
+ghost use Rattle.rdl_elab.specs.CleanHeads.{AreCleanHeads};
+ghost use Rattle.rdl_kept.specs.UnreachedHeads.{KeepsUnreached};
 ghost use Rattle.rdl_kept.specs.Harmless.{IsHarmless};
 ghost use Rattle.rdl_kept.specs.Renaming.{IsRenaming};
 ghost use Rattle.rdl_scope.specs.ItemFaults.{is_too_large, fault_of};
@@ -79,6 +84,12 @@ pub fn steps_keep_other_items_faultless()
     ensures whole { (t : Tracked) → fault_of (old_of t) ≡ None → is_too_large (new_of t) ≡ false → AskedAgainHaveNone t → fault_of (new_of t) ≡ None }
 {}
 
+/// Where a step changes no body but those of some items of the root, and those inside them, what is known of any other item of
+/// the root stays true. So it needn't be found again.
+pub fn unchanged_items_keep_their_facts()
+    ensures { (t : Tracked) (changed : List Bool) (j : ℕ) (facts : RootFacts) → ChangesOnly changed t → slice_get changed j ≢ Some true → IsKnownRoot (old_of t) j facts → IsKnownRoot (new_of t) j facts }
+{}
+
 /// A map that has rows still has them after a harmless change that gives no item a fault. So nothing has to be elaborated
 /// again to know it.
 pub fn harmless_patches_keep_rows()
@@ -88,4 +99,9 @@ pub fn harmless_patches_keep_rows()
 /// A map that has rows still has them where an instance gets another name, if no item has a fault then.
 pub fn renamed_instances_keep_rows()
     ensures { (at : List ℕ) (u : Shell) (d : Items) (wanted : Option (List ℕ)) → HasRows d wanted → fault_of (patched (Exchange at (OfShell u)) d) ≡ None → IsRenaming at u d → HasRows (patched (Exchange at (OfShell u)) d) wanted }
+{}
+
+/// Where a definition of the root is out of reach of the bodies that a step changes, it is as clean after the step as it was before.
+pub fn unreached_definitions_stay_clean()
+    ensures { (t : Tracked) (heads kept : List Modes) → fault_of (old_of t) ≡ None → AreCleanHeads (old_of t) heads → KeepsUnreached t heads kept → AreCleanHeads (new_of t) kept }
 {}

@@ -5,3 +5,4 @@ pub mod harmless;
 pub mod kept;
 pub mod laws;
 mod numbers;
+pub mod roots;

@@ -1,4 +1,4 @@
-use Rattle.std.proofs.Common.{◌≡◌, ℕ, ◌≤◌, ◌*◌, Bool, List, Some, option_copied, ap, sym, subst, ◌∙◌}
+use Rattle.std.proofs.Common.{◌≡◌, ℕ, ◌≤◌, ◌*◌, Bool, false, List, [], Some, arith, option_copied, ap, sym, subst, ◌∙◌}
 use Rattle.std.specs.Prelude.{OnOk}
 use Rattle.rdl_kept.specs.AllKept.{KeptLayouts}
 use Rattle.rdl_elab.specs.Anew.{AreFoundBut, instances_at}
@@ -7,7 +7,11 @@ use Rattle.rdl_elab.specs.Faults.{elaborated, with_top}
 use Rattle.rdl_elab.specs.Stored.{all_under}
 use Rattle.rdl_elab.specs.Words.{AreFoundAgain}
 use Rattle.rdl_elab.specs.Written.{all_layouts}
+use Rattle.rdl_kept.specs.Reach.{in_reach}
+use Rattle.rdl_kept.proofs.AsBefore.{none-marked}
 use Rattle.rdl_kept.proofs.FoundLayouts.{all-before}
+use Rattle.rdl_kept.proofs.InOrder.{nothing-differs}
+use Rattle.rdl_kept.proofs.Reaching.{reach}
 use Rattle.rdl_elab.proofs.KeptAnswers.{judged-top}
 use Rattle.rdl_elab.proofs.KnownRows.{top-faultless}
 use Rattle.rdl_elab.proofs.TopTypes.{top-type, rows-there}
@@ -41,3 +45,13 @@ returns-in-Ok-clause-few c = λ old bodies marked are h.
     let found : AreFoundAgain old all = subst (λ (k : KeptLayouts). AreFoundAgain old k.words) (sym c.self.view_is) are.found in
     let few = subst (λ answer. OnOk answer ((marked : List ℕ → Bool) → AreFoundBut marked all new → placed ≤ 3 * instances_at marked new)) c.in-Ok.is c.in_ok-answer.ensures.few in
     few marked (all-before marked old new bodies all found h)
+
+pub returns-in-Ok-clause-reached : goal.returns-in-Ok-clause-reached
+returns-in-Ok-clause-reached c = λ old bodies edited are unchanged.
+    let new = c.args.description.now.items in
+    returns-in-Ok-clause-few c old bodies (in_reach edited new) are (reach edited old bodies new unchanged)
+
+pub returns-in-Ok-clause-still : goal.returns-in-Ok-clause-still
+returns-in-Ok-clause-still c = λ old are same.
+    let new = c.args.description.now.items in
+    omega (arith, returns-in-Ok-clause-few c old [] (λ a. false) are (nothing-differs old new same), none-marked new)

@@ -14,11 +14,11 @@ fault_with_top-requires-clause-top c =
     let top = c.in_ok-found.found in
     top-type c.args.description.now.items (option_copied c.asked-top.result) top.0 top.1 c.in_ok-found.ensures.faultless c.in_ok-found.ensures.top
 
-pub returns-in-Ok-None-clause-layouts : goal.returns-in-Ok-None-clause-layouts
-returns-in-Ok-None-clause-layouts c =
+pub returns-in-Ok-Ok-clause-layouts : goal.returns-in-Ok-Ok-clause-layouts
+returns-in-Ok-Ok-clause-layouts c =
     let d = c.args.description.now.items in
     let same : option_copied c.asked-top.result ≡ c.args.self.now.top = search rules in
-    let clean : fault_in (with_top d (Some c.in_ok-found.found)) ≡ None = sym c.in-Ok-None.ensures ∙ c.in-Ok-None.field-0-is in
+    let clean : fault_in (with_top d (Some c.in_ok-found.found)) ≡ None = sym c.in-Ok-Ok.ensures.fault ∙ ap fault_in c.in-Ok-Ok.field-0-is in
     stays-judged d c.args.self.now _ c.in_ok-found.found c.requires.skeleton c.in_ok-found.ensures.faultless
     (ap (λ o. top_from o 0 d) (sym same) ∙ c.in_ok-found.ensures.top) clean
     (ap (λ (s : Stored). the_view (record { stored = s; top = c.self.inside.top })) c.stay.ensures ∙ ap (λ (k : KeptLayouts). record k { placed = 0 }) c.self.view_is)
