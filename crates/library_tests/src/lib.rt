@@ -20,6 +20,8 @@ mod parse;
 #[cfg(test)]
 mod resumed;
 #[cfg(test)]
+mod roots;
+#[cfg(test)]
 mod rows;
 #[cfg(test)]
 mod text;

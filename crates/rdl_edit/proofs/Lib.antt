@@ -18,3 +18,6 @@ pub mod TrackedExamples
 pub mod TrackedPatches
 pub mod Walking
 pub mod WaysBack
+pub mod RootSteps
+pub mod KnownRoots
+pub mod KnownSteps

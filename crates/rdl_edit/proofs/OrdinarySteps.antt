@@ -203,7 +203,7 @@ unpeopled-item (suc j) f g (define_stays n new k body rest) = unpeopled-item j f
 unpeopled-item (suc j) f g (anonymous_stays s shell k body rest) = unpeopled-item j f g rest
 
 -- a body inside is the one that was changed, or as it was
-data WasChanged (i j : ℕ) (f : Tracked → Tracked) (t u : Tracked) : Type 0 where
+pub data WasChanged (i j : ℕ) (f : Tracked → Tracked) (t u : Tracked) : Type 0 where
   here : (v : Tracked) → j ≡ i → staying i t ≡ Some v → f v ≡ u → WasChanged i j f t u
   elsewhere : staying i t ≡ Some u → WasChanged i j f t u
 
@@ -211,7 +211,7 @@ further : (i j : ℕ) (f : Tracked → Tracked) (t rest u : Tracked) → staying
 further i j f t rest u e (here v same there made) = here v (ap suc same) (e ∙ there) made
 further i j f t rest u e (elsewhere there) = elsewhere (e ∙ there)
 
-was_changed : (i j : ℕ) (f : Tracked → Tracked) (g : Items → Items) (t u : Tracked) → staying i (at_item j f g t) ≡ Some u → WasChanged i j f t u
+pub was_changed : (i j : ℕ) (f : Tracked → Tracked) (g : Items → Items) (t u : Tracked) → staying i (at_item j f g t) ≡ Some u → WasChanged i j f t u
 was_changed i j f g nothing u e = cc
 was_changed i j f g (goes x rest) u e = by (was_changed i j f g rest u e)
   where

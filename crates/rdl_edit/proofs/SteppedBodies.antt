@@ -24,10 +24,10 @@ use Rattle.rdl_edit.proofs.OrdinaryEdits.{ordinary-edit}
 use Rattle.rdl_edit.proofs.OrdinarySteps.{step-names-stay, step-goes-by-name}
 use Rattle.rdl_edit.proofs.TrackedPatches.{old-untouched, new-untouched, old-along, new-along}
 
-old-step : (ps : List Patch) (d : Items) → old_of (tracked_step ps d) ≡ d
+pub old-step : (ps : List Patch) (d : Items) → old_of (tracked_step ps d) ≡ d
 old-step ps d = old-along ps (untouched d) ∙ old-untouched d
 
-new-step : (ps : List Patch) (d : Items) → new_of (tracked_step ps d) ≡ image ps d
+pub new-step : (ps : List Patch) (d : Items) → new_of (tracked_step ps d) ≡ image ps d
 new-step ps d = new-along ps (untouched d) ∙ ap (image ps) (new-untouched d)
 
 -- what takes an ordinary step back is ordinary where the step led

@@ -6,6 +6,7 @@ pub mod OfEdits
 pub mod Placing
 pub mod ResumeFault
 pub mod Resuming
+pub mod RootSteps
 pub mod Step
 pub mod Still
 pub mod Touching

@@ -22,8 +22,10 @@ use Rattle.rdl_rewrite.specs.declared.edit.Edit.{Edit}
 use Rattle.rdl_rewrite.specs.declared.edit.Edit.TheVariants.{Assign}
 use Rattle.rdl_edit.specs.Keeping.{Keeps}
 use Rattle.rdl_edit.specs.Step.{State}
+use Rattle.rdl_edit.specs.RootSteps.{AreRootsOf}
 use Rattle.rdl_edit.specs.declared.notes.Notes.{Notes}
 use Rattle.rdl_edit.specs.declared.notes.Outlook.{Outlook}
+use Rattle.rdl_edit.specs.declared.roots.Roots.{Roots}
 
 -- the notes are of this description: of its room, if one is noted, and of the items of one body
 pub record AreNotes (d : Items) (notes : Notes) : Type 0 where
@@ -66,7 +68,8 @@ pub record IsOutlook (ps : List Patch) (d : Items) (outlook : Outlook) : Type 0 
   pub notes : AreNotes (image ps d) outlook.notes
   pub light : IsLight ps d outlook.at
 
--- what a map keeps beside its description: layouts of it, and notes, if there are any
-pub record IsHeld (s : State) (k : KeptLayouts) (noted : Option Notes) : Type 0 where
+-- what a map keeps beside its description: layouts of it, notes, if there are any, and what is known of the items of its root
+pub record IsHeld (s : State) (k : KeptLayouts) (noted : Option Notes) (roots : Roots) : Type 0 where
   pub keeps : Keeps s k
   pub notes : IfSome noted (AreNotes s.description)
+  pub known : AreRootsOf s.description roots

@@ -8,6 +8,7 @@ mod notes;
 pub mod refusal;
 pub mod resume_fault;
 mod resuming;
+mod roots;
 mod touched;
 mod turning;
 

@@ -22,6 +22,7 @@ use crate::notes::{Notes, assigned_in, foretold, is_foretold, notes_behind, outl
 use crate::refusal::Refusal;
 use crate::resume_fault::ResumeFault;
 use crate::resuming::{Direction, backs, opened, visit};
+use crate::roots::Roots;
 use crate::turning::{again, turn};
 use journal_core::invertible::Invertible;
 use rdl_elab::row::Rows;
@@ -44,6 +45,7 @@ pub struct Map {
     name: Option<Name>,
     kept: Kept,
     notes: Option<Notes>,
+    roots: Roots,
     /// The address of the body in which the last edit put an assignment, if it did.
     last: Option<Address>,
 }
@@ -60,7 +62,7 @@ impl Model for Map {
 
     ghost view = { λ m. record { state = record { description = m.description.items; option = m.name }; placed = m.kept.placed } };
 
-    ghost invariant = { λ m. IsHeld (record { description = m.description.items; option = m.name }) m.kept m.notes };
+    ghost invariant = { λ m. IsHeld (record { description = m.description.items; option = m.name }) m.kept m.notes m.roots };
 }
 
 /// What a contract knows of a map but for its layouts: its description, and the name that the option asks of its top. Code
@@ -115,6 +117,7 @@ impl Map {
                 name,
                 kept,
                 notes: None,
+                roots: Roots::unknown(alloc),
                 last: None,
             }),
             Err(fault) => Err(fault),
@@ -138,6 +141,7 @@ impl Map {
             name,
             kept,
             notes: None,
+            roots: Roots::unknown(alloc),
             last: None,
         };
         Ok((map, rows))
@@ -196,6 +200,7 @@ impl Map {
             name,
             kept,
             notes: None,
+            roots: Roots::unknown(alloc),
             last: None,
         };
         Ok(Resumed { map, undo, redo })
@@ -290,6 +295,7 @@ impl Invertible for Map {
             alloc,
             &mut self.description,
             &mut self.kept,
+            &mut self.roots,
             name,
             patches,
             noted,
@@ -324,7 +330,14 @@ impl Invertible for Map {
         let name = top_text(self.name.as_ref());
         let read = back.read();
         let patches = back.into_vec();
-        let forward = match again(alloc, &mut self.description, &mut self.kept, name, patches) {
+        let forward = match again(
+            alloc,
+            &mut self.description,
+            &mut self.kept,
+            &mut self.roots,
+            name,
+            patches,
+        ) {
             Ok(forward) => forward,
             Err(same) => return Err(Back::new(same, read)),
         };

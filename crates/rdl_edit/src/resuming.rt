@@ -138,8 +138,8 @@ fn judge(
     ensures faultless { OnOk result (place_fault place (option_copied name.entry) description.now.items ≡ None) }
     ensures refused { IfErr result (λ f. (place_fault place (option_copied name.entry) description.now.items ≡ Some f) ⊎ (f ≡ Memory)) }
 {
-    match lay_out(alloc, description, kept, name, touched) {
-        Ok(()) => Ok(()),
+    match lay_out(alloc, description, kept, name, touched, None, &[]) {
+        Ok(_heads) => Ok(()),
         Err(fault) => Err(faulty(place, fault)),
     }
 }

@@ -37,6 +37,13 @@ pub(crate) enum Touched {
     Renamed,
 }
 
+impl Touched {
+    /// Whether any item may have a fault.
+    pub(crate) fn is_anywhere(&self) -> bool {
+        matches!(self, Touched::Any | Touched::Renamed)
+    }
+}
+
 /// Whether layouts depend on the property of this name.
 fn lays_out(name: &Name) -> bool
     ensures { result ≡ lays_out name.now }

@@ -3,6 +3,9 @@ ghost use Rattle.std.specs.Prelude.{◌≡◌, ◌⊎◌, ◌≤◌, ◌*◌, �
 ghost use Rattle.rdl_tree.specs.Items.{Items};
 ghost use Rattle.rdl_scope.specs.ItemFaults.{fault_of, out_of_memory};
 ghost use Rattle.rdl_scope.specs.OneItem.{NoOtherFault};
+ghost use Rattle.rdl_scope.specs.Roots.{NoFaultOutside};
+ghost use Rattle.rdl_elab.specs.CleanHeads.{AreCleanHeads};
+ghost use Rattle.rdl_edit.specs.RootSteps.{AreRootsOf};
 ghost use Rattle.rdl_kept.specs.AllKept.{AreOf};
 ghost use Rattle.rdl_elab.specs.Anew.{all_instances};
 ghost use Rattle.rdl_elab.specs.Faults.{elaborated};
@@ -22,7 +25,9 @@ ghost use Rattle.rdl_edit.specs.Touching.{IsKnown, IfStill};
 
 use crate::notes::Outlook;
 use crate::refusal::{Refusal, is_memory};
+use crate::roots::Roots;
 use crate::touched::{Touched, keeps_skeleton, touched_with};
+use rdl_elab::rows::clean::Modes;
 use rdl_kept::kept::Kept;
 use rdl_scope::one_item::check_new_item;
 use rdl_tree::address::Address;
@@ -66,32 +71,109 @@ fn stay_new(
     Ok(())
 }
 
-/// Lays out a description behind a step of which this is known, and judges no more than that leaves open. Nothing changes
-/// if the map has a fault.
+/// Lays out a description behind a step, all of whose items may have a fault, or those alone inside the items of the root that
+/// are asked. The answer says in which modes the definitions of the root are known to be clean, as these are.
+fn relay_all(
+    alloc: Global,
+    description: &Description,
+    kept: &mut Kept,
+    name: Option<&str>,
+    asked: Option<&Vec<bool>>,
+    heads: &[Modes],
+) -> Result<Vec<Modes>, Fault>
+    requires heads { AreCleanHeads description.now.items heads.now }
+    requires asked { IfSome (option_copied asked) (λ asked. NoFaultOutside description.now.items asked.items) }
+    ensures layouts { OnOk result (AreOf description.now.items kept.new) }
+    ensures top { OnOk result (kept.new.top ≡ option_copied name.entry) }
+    ensures placed { OnOk result (kept.new.placed ≤ 3 * all_instances description.now.items) }
+    ensures reached { OnOk result (PlacesWhatIsInReach kept.old description.now.items kept.new) }
+    ensures still { OnOk result ((old : Items) → AreOf old kept.old → skeleton old ≡ skeleton description.now.items → kept.new.placed ≡ 0) }
+    ensures heads { IfOk result (λ heads. AreCleanHeads description.now.items heads.items) }
+    ensures refused { IfErr result (λ fault. (elaborated description.now.items (option_copied name.entry) ≡ Err fault) ⊎ (fault ≡ out_of_memory)) }
+    ensures err { OnErr result (kept.new ≡ kept.old) }
+{
+    match asked {
+        Some(asked) => kept.relay_roots(alloc, description, name, asked.as_slice(), heads),
+        None => match kept.relay(alloc, description, name, &[]) {
+            Ok(()) => Ok(Vec::new(alloc)),
+            Err(fault) => Err(fault),
+        },
+    }
+}
+
+/// Keeps the layouts as they are for this description, which has the same skeleton and is known to have rows if no item has
+/// a fault. Any item may have one, or those alone inside the items of the root that are asked.
+fn stay_renamed(
+    alloc: Global,
+    description: &Description,
+    kept: &mut Kept,
+    asked: Option<&Vec<bool>>,
+) -> Result<(), Fault>
+    requires skeleton { HasSameSkeleton description.now.items kept.old }
+    requires rows { fault_of description.now.items ≡ None → HasRowsWith description.now.items kept.old.top }
+    requires asked { IfSome (option_copied asked) (λ asked. NoFaultOutside description.now.items asked.items) }
+    ensures layouts { OnOk result (AreOf description.now.items kept.new) }
+    ensures top { OnOk result (kept.new.top ≡ kept.old.top) }
+    ensures placed { OnOk result (kept.new.placed ≡ 0) }
+    ensures refused { IfErr result (λ fault. (elaborated description.now.items kept.old.top ≡ Err fault) ⊎ (fault ≡ out_of_memory)) }
+    ensures err { OnErr result (kept.new ≡ kept.old) }
+{
+    match asked {
+        Some(asked) => kept.stay_if_clear(alloc, description, asked.as_slice()),
+        None => kept.stay_if_faultless(alloc, description),
+    }
+}
+
+/// Lays out a description behind a step of which this is known, and judges no more than that leaves open: where any item may
+/// have a fault, those inside the items of the root that are asked, if these are known. What is known of definitions of the root
+/// that are clean spares work, and the answer is what is known of them now, if more is. Nothing changes if the map has a fault.
 pub(crate) fn lay_out(
     alloc: Global,
     description: &Description,
     kept: &mut Kept,
     name: Option<&str>,
     touched: &Touched,
-) -> Result<(), Fault>
+    asked: Option<&Vec<bool>>,
+    heads: &[Modes],
+) -> Result<Option<Vec<Modes>>, Fault>
     requires known { IsKnown touched.now description.now.items kept.old }
+    requires asked { IfSome (option_copied asked) (λ asked. NoFaultOutside description.now.items asked.items) }
+    requires heads { AreCleanHeads description.now.items heads.now }
     requires top { kept.old.top ≡ option_copied name }
     ensures layouts { OnOk result (AreOf description.now.items kept.new) }
     ensures top { OnOk result (kept.new.top ≡ option_copied name.entry) }
     ensures placed { OnOk result (kept.new.placed ≤ 3 * all_instances description.now.items) }
     ensures reached { OnOk result (PlacesWhatIsInReach kept.old description.now.items kept.new) }
     ensures still { OnOk result ((old : Items) → AreOf old kept.old → skeleton old ≡ skeleton description.now.items → kept.new.placed ≡ 0) }
+    ensures heads { IfOk result (λ answer. IfSome answer (λ heads. AreCleanHeads description.now.items heads.items)) }
     ensures refused { IfErr result (λ fault. (elaborated description.now.items (option_copied name.entry) ≡ Err fault) ⊎ (fault ≡ out_of_memory)) }
     ensures err { OnErr result (kept.new ≡ kept.old) }
 {
     match touched {
-        Touched::Any => kept.relay(alloc, description, name, &[]),
-        Touched::One(item) => kept.relay_item(alloc, description, name, item),
-        Touched::Still(item) => kept.stay_judged(alloc, description, item),
-        Touched::Harmless(item) => kept.stay_checked(alloc, description, item),
-        Touched::Light(item) => stay_new(alloc, description, kept, item),
-        Touched::Renamed => kept.stay_if_faultless(alloc, description),
+        Touched::Any => match relay_all(alloc, description, kept, name, asked, heads) {
+            Ok(heads) => Ok(Some(heads)),
+            Err(fault) => Err(fault),
+        },
+        Touched::One(item) => match kept.relay_item(alloc, description, name, item, heads) {
+            Ok(heads) => Ok(Some(heads)),
+            Err(fault) => Err(fault),
+        },
+        Touched::Still(item) => match kept.stay_judged(alloc, description, item, heads) {
+            Ok(heads) => Ok(Some(heads)),
+            Err(fault) => Err(fault),
+        },
+        Touched::Harmless(item) => {
+            kept.stay_checked(alloc, description, item)?;
+            Ok(None)
+        }
+        Touched::Light(item) => {
+            stay_new(alloc, description, kept, item)?;
+            Ok(None)
+        }
+        Touched::Renamed => {
+            stay_renamed(alloc, description, kept, asked)?;
+            Ok(None)
+        }
     }
 }
 
@@ -120,11 +202,12 @@ fn lay_out_known(
 }
 
 /// Applies the patches, and answers what takes them back. Something may be noted of the description that they make, by which
-/// less is judged. Where its map has a fault, the description and its layouts are as before.
+/// less is judged, as by what is known of the items of the root. Where its map has a fault, the description and its layouts are as before.
 pub(crate) fn turn(
     alloc: Global,
     description: &mut Description,
     kept: &mut Kept,
+    roots: &mut Roots,
     name: Option<&str>,
     patches: Vec<Patch>,
     outlook: Option<&Outlook>,
@@ -132,6 +215,7 @@ pub(crate) fn turn(
     requires nesting { depth description.old.items ≤ 16 }
     requires fit { AllFit patches.items description.old.items }
     requires kept { Keeps (record { description = description.old.items; option = option_copied name }) kept.old }
+    requires roots { AreRootsOf description.old.items roots.old }
     requires light { IfSome outlook (λ outlook. IsLight patches.items description.old.items outlook.now.at) }
     ensures made { OnOk result (description.new.items ≡ image patches.items description.old.items) }
     ensures keeps { OnOk result (Keeps (record { description = description.new.items; option = option_copied name.entry }) kept.new) }
@@ -144,13 +228,22 @@ pub(crate) fn turn(
     ensures refused { IfErr result (IsJudged (record { description = image patches.items description.old.items; option = option_copied name.entry })) }
     ensures err { OnErr result (description.new.items ≡ description.old.items) }
     ensures unmoved { OnErr result (kept.new ≡ kept.old) }
+    ensures roots { AreRootsOf description.new.items roots.new }
 {
     let touched = touched_with(alloc, description, patches.as_slice(), outlook);
+    let wanted = touched.is_anywhere();
+    let changed = roots.leave(alloc, description, patches.as_slice(), wanted);
     let Ok(mut turned) = description.turn(alloc, patches) else {
         return Err(Refusal::Memory);
     };
-    match lay_out(alloc, turned.description(), kept, name, &touched) {
-        Ok(()) => Ok(turned.keep()),
+    let new = turned.description();
+    let asked = roots.arrive(alloc, new, changed.as_ref());
+    let heads = roots.heads.as_slice();
+    match lay_out(alloc, new, kept, name, &touched, asked.as_ref(), heads) {
+        Ok(heads) => {
+            roots.renew(heads);
+            Ok(turned.keep())
+        }
         Err(fault) => {
             let _patches = turned.back();
             Err(refused(fault))
@@ -164,12 +257,14 @@ pub(crate) fn again(
     alloc: Global,
     description: &mut Description,
     kept: &mut Kept,
+    roots: &mut Roots,
     name: Option<&str>,
     patches: Vec<Patch>,
 ) -> Result<Vec<Patch>, Vec<Patch>>
     requires nesting { depth description.old.items ≤ 16 }
     requires fit { AllFit patches.items description.old.items }
     requires kept { Keeps (record { description = description.old.items; option = option_copied name }) kept.old }
+    requires roots { AreRootsOf description.old.items roots.old }
     requires known { HasRows (record { description = image patches.items description.old.items; option = option_copied name }) }
     ensures made { OnOk result (description.new.items ≡ image patches.items description.old.items) }
     ensures keeps { OnOk result (Keeps (record { description = description.new.items; option = option_copied name.entry }) kept.new) }
@@ -182,13 +277,17 @@ pub(crate) fn again(
     ensures handed { IfErr result (λ same. same.items ≡ patches.items) }
     ensures err { OnErr result (description.new.items ≡ description.old.items) }
     ensures unmoved { OnErr result (kept.new ≡ kept.old) }
+    ensures roots { AreRootsOf description.new.items roots.new }
 {
     let still = keeps_skeleton(description, patches.as_slice());
+    let changed = roots.leave(alloc, description, patches.as_slice(), false);
     let mut turned = match description.turn(alloc, patches) {
         Ok(turned) => turned,
         Err(same) => return Err(same),
     };
-    match lay_out_known(alloc, turned.description(), kept, name, still) {
+    let new = turned.description();
+    roots.arrive(alloc, new, changed.as_ref());
+    match lay_out_known(alloc, new, kept, name, still) {
         Ok(()) => Ok(turned.keep()),
         Err(_) => Err(turned.back()),
     }

@@ -1,4 +1,8 @@
-use Rattle.std.proofs.Common.{◌≡◌, sym, subst, rules, ◌∙◌, option_copied}
+use Rattle.std.proofs.Common.{◌≡◌, None, refl, sym, subst, rules, ◌∙◌, option_copied}
+use Rattle.std.specs.Prelude.{IfSome}
+use Rattle.rdl_scope.specs.ItemFaults.{fault_of}
+use Rattle.rdl_edit.specs.RootSteps.{IsStepInside}
+use Rattle.rdl_edit.proofs.KnownRoots.{roots-made}
 use Rattle.rdl_tree.specs.Patch.{image}
 use Rattle.rdl_elab.specs.Known.{HasRows}
 use Rattle.rdl_edit.proofs.Placings.{back-keeps, few-placed, none-placed, keeps-made}
@@ -7,7 +11,7 @@ use Rattle.rdl_edit.proofs.turning.again.Goals as goal
 
 pub lay_out_known-requires-clause-known : goal.lay_out_known-requires-clause-known
 lay_out_known-requires-clause-known c =
-    let made : c.description.result.now.items ≡ image c.args.patches.items c.args.description.now.items = search rules in
+    let made : c.description-new.result.now.items ≡ image c.args.patches.items c.args.description.now.items = search rules in
     let known = c.requires.known in
     subst (λ d. HasRows d (option_copied c.args.name)) (sym made) (record { rows = known.rows; are = known.are })
 
@@ -28,16 +32,30 @@ returns-in-Ok-lay_out_known-clause-back_keeps c =
 
 pub returns-in-Ok-lay_out_known-clause-few : goal.returns-in-Ok-lay_out_known-clause-few
 returns-in-Ok-lay_out_known-clause-few c =
-    let made : c.description.result.now.items ≡ image c.args.patches.items c.args.description.now.items = search rules in
-    few-placed c.args.kept.now c.args.description.now.items c.description.result.now.items c.args.patches.items c.lay_out_known.new.kept.placed made c.in-Ok-lay_out_known.ensures.reached
+    let made : c.description-new.result.now.items ≡ image c.args.patches.items c.args.description.now.items = search rules in
+    few-placed c.args.kept.now c.args.description.now.items c.description-new.result.now.items c.args.patches.items c.lay_out_known.new.kept.placed made c.in-Ok-lay_out_known.ensures.reached
 
 pub returns-in-Ok-lay_out_known-clause-none : goal.returns-in-Ok-lay_out_known-clause-none
 returns-in-Ok-lay_out_known-clause-none c =
-    let made : c.description.result.now.items ≡ image c.args.patches.items c.args.description.now.items = search rules in
-    none-placed c.args.kept.now c.args.description.now.items c.description.result.now.items c.args.patches.items c.lay_out_known.new.kept.placed made c.in-Ok-lay_out_known.ensures.still
+    let made : c.description-new.result.now.items ≡ image c.args.patches.items c.args.description.now.items = search rules in
+    none-placed c.args.kept.now c.args.description.now.items c.description-new.result.now.items c.args.patches.items c.lay_out_known.new.kept.placed made c.in-Ok-lay_out_known.ensures.still
 
 pub returns-in-Ok-lay_out_known-clause-keeps : goal.returns-in-Ok-lay_out_known-clause-keeps
 returns-in-Ok-lay_out_known-clause-keeps c =
-    let made : c.description.result.now.items ≡ image c.args.patches.items c.args.description.now.items = search rules in
-    keeps-made c.description.result.now.items _ (image c.args.patches.items c.args.description.now.items) (option_copied c.args.name) c.lay_out_known.new.kept c.in-Ok-lay_out_known.ensures.layouts
+    let made : c.description-new.result.now.items ≡ image c.args.patches.items c.args.description.now.items = search rules in
+    keeps-made c.description-new.result.now.items _ (image c.args.patches.items c.args.description.now.items) (option_copied c.args.name) c.lay_out_known.new.kept c.in-Ok-lay_out_known.ensures.layouts
     c.in-Ok-lay_out_known.ensures.top made (search rules)
+
+pub returns-in-Ok-lay_out_known-clause-roots : goal.returns-in-Ok-lay_out_known-clause-roots
+returns-in-Ok-lay_out_known-clause-roots c =
+    let old = c.args.description.now.items in
+    let new = c.description-new.result.now.items in
+    let made : new ≡ image c.args.patches.items old = search rules in
+    let accepted : fault_of old ≡ None = search rules in
+    let inside : IfSome (option_copied c.as_ref.result) (λ roots. IsStepInside roots.items old new) = search rules in
+    roots-made new _ (image c.args.patches.items old) c.arrive.new.self made (search rules) (c.arrive.ensures.behind old accepted inside c.leave-changed.ensures.roots)
+
+pub returns-clause-roots : goal.returns-clause-roots
+returns-clause-roots c =
+    let old = c.args.description.now.items in
+    roots-made old _ old c.arrive.new.self refl (search rules) (c.arrive.ensures.before old c.leave-changed.ensures.roots)

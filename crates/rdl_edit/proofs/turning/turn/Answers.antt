@@ -1,4 +1,11 @@
-use Rattle.std.proofs.Common.{◌≡◌, rules, sym, subst, ◌∙◌, option_copied}
+use Rattle.std.proofs.Common.{◌≡◌, None, refl, rules, sym, subst, ◌∙◌, option_copied}
+use Rattle.std.specs.Prelude.{IfSome}
+use Rattle.rdl_scope.specs.ItemFaults.{fault_of}
+use Rattle.rdl_elab.specs.CleanHeads.{AreCleanHeads}
+use Rattle.rdl_edit.specs.RootSteps.{IsStepInside, AreRootsOf}
+use Rattle.rdl_edit.specs.Touching.{IsTouched}
+use Rattle.rdl_edit.proofs.KnownRoots.{roots-made}
+use Rattle.rdl_edit.proofs.KnownSteps.{known-behind}
 use Rattle.rdl_tree.specs.Patch.{image}
 use Rattle.rdl_edit.proofs.Placings.{back-keeps, few-placed, none-placed, keeps-made, judged-made}
 use Rattle.rdl_edit.proofs.WaysBack.{way-back, cheap}
@@ -22,23 +29,49 @@ returns-in-Ok-lay_out-clause-back_keeps c =
 
 pub returns-in-Ok-lay_out-clause-few : goal.returns-in-Ok-lay_out-clause-few
 returns-in-Ok-lay_out-clause-few c =
-    let made : c.description.result.now.items ≡ image c.args.patches.items c.args.description.now.items = search rules in
-    few-placed c.args.kept.now c.args.description.now.items c.description.result.now.items c.args.patches.items c.lay_out.new.kept.placed made c.in-Ok-lay_out.ensures.reached
+    let made : c.description-new.result.now.items ≡ image c.args.patches.items c.args.description.now.items = search rules in
+    few-placed c.args.kept.now c.args.description.now.items c.description-new.result.now.items c.args.patches.items c.lay_out.new.kept.placed made c.in-Ok-lay_out.ensures.reached
 
 pub returns-in-Ok-lay_out-clause-none : goal.returns-in-Ok-lay_out-clause-none
 returns-in-Ok-lay_out-clause-none c =
-    let made : c.description.result.now.items ≡ image c.args.patches.items c.args.description.now.items = search rules in
-    none-placed c.args.kept.now c.args.description.now.items c.description.result.now.items c.args.patches.items c.lay_out.new.kept.placed made c.in-Ok-lay_out.ensures.still
+    let made : c.description-new.result.now.items ≡ image c.args.patches.items c.args.description.now.items = search rules in
+    none-placed c.args.kept.now c.args.description.now.items c.description-new.result.now.items c.args.patches.items c.lay_out.new.kept.placed made c.in-Ok-lay_out.ensures.still
 
 pub returns-in-Ok-lay_out-clause-keeps : goal.returns-in-Ok-lay_out-clause-keeps
 returns-in-Ok-lay_out-clause-keeps c =
-    let made : c.description.result.now.items ≡ image c.args.patches.items c.args.description.now.items = search rules in
-    keeps-made c.description.result.now.items _ (image c.args.patches.items c.args.description.now.items) (option_copied c.args.name) c.lay_out.new.kept c.in-Ok-lay_out.ensures.layouts c.in-Ok-lay_out.ensures.top
+    let made : c.description-new.result.now.items ≡ image c.args.patches.items c.args.description.now.items = search rules in
+    keeps-made c.description-new.result.now.items _ (image c.args.patches.items c.args.description.now.items) (option_copied c.args.name) c.lay_out.new.kept c.in-Ok-lay_out.ensures.layouts c.in-Ok-lay_out.ensures.top
     made (search rules)
 
-pub returns-in-Err-clause-refused : goal.returns-in-Err-clause-refused
-returns-in-Err-clause-refused c =
-    let d = image c.args.patches.items c.args.description.now.items in
-    let made : c.description.result.now.items ≡ d = search rules in
-    subst (IsJudged (record { description = d; option = option_copied c.args.name })) (sym c.refused.ensures)
-    (judged-made c.description.result.now.items d (option_copied c.args.name) c.in-Err.fault c.in-Err.ensures.refused made)
+pub lay_out-requires-clause-known : goal.lay_out-requires-clause-known
+lay_out-requires-clause-known c =
+    let made : c.description-new.result.now.items ≡ image c.args.patches.items c.args.description.now.items = search rules in
+    let touched : IsTouched c.touched_with-touched.result c.args.patches.items c.args.description.now.items = search rules in
+    known-behind c.args.patches.items c.args.description.now.items c.description-new.result.now.items c.args.kept.now made c.requires.kept.layouts c.touched_with-touched.result touched
+
+-- what is known of the items of the root behind the step
+behind : (c : goal.After-as_ref-2) → AreRootsOf c.description-new.result.now.items c.arrive-asked.new.self
+behind c =
+    let old = c.args.description.now.items in
+    let new = c.description-new.result.now.items in
+    let accepted : fault_of old ≡ None = search rules in
+    let inside : IfSome (option_copied c.as_ref.result) (λ roots. IsStepInside roots.items old new) = search rules in
+    c.arrive-asked.ensures.behind old accepted inside c.leave-changed.ensures.roots
+
+pub lay_out-requires-clause-heads : goal.lay_out-requires-clause-heads
+lay_out-requires-clause-heads c = subst (λ heads. AreCleanHeads c.description-new.result.now.items heads) (sym c.as_slice-heads.ensures.value) (behind c).heads
+
+pub returns-in-Ok-lay_out-clause-roots : goal.returns-in-Ok-lay_out-clause-roots
+returns-in-Ok-lay_out-clause-roots c =
+    let old = c.args.description.now.items in
+    let new = c.description-new.result.now.items in
+    let made : new ≡ image c.args.patches.items old = search rules in
+    let accepted : fault_of old ≡ None = search rules in
+    let inside : IfSome (option_copied c.as_ref.result) (λ roots. IsStepInside roots.items old new) = search rules in
+    let known : AreRootsOf new c.arrive-asked.new.self = c.arrive-asked.ensures.behind old accepted inside c.leave-changed.ensures.roots in
+    roots-made new _ (image c.args.patches.items old) c.renew.new.self made (search rules) (c.renew.ensures new known c.in-Ok-lay_out.ensures.heads)
+
+pub returns-clause-roots : goal.returns-clause-roots
+returns-clause-roots c =
+    let old = c.args.description.now.items in
+    roots-made old _ old c.arrive-asked.new.self refl (search rules) (c.arrive-asked.ensures.before old c.leave-changed.ensures.roots)

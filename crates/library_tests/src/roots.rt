@@ -1,0 +1,98 @@
+//! What is known of the items of the root, and edits that are judged by it.
+use crate::assert_holds;
+use crate::history::{is_made, opened};
+use crate::parse::description;
+use rdl_kept::kept::Kept;
+use rdl_kept::roots::{facts_of, forget_reached, reach_of};
+use rdl_scope::faults::check;
+use rdl_scope::roots::check_roots;
+use rdl_tree::description::Description;
+use std::alloc::Global;
+use std::test::Fail;
+
+/// A register, two definitions that hold it, one inside the other, and one that says nothing of it.
+const NESTED: &str = "reg A { field {} f; };
+regfile B { A a; A b; };
+addrmap C { B b; reg R { field {} f; }; R r; r.f->reset = 1; };
+addrmap top { C c; reg R { field {} f; } r; };
+";
+
+/// The items of the root to which the type references inside each lead, and whether an assignment from outside stands in it.
+const SAID: [(usize, &[usize], bool); 4] = [
+    (0, &[], false),
+    (1, &[0], false),
+    (2, &[1], true),
+    (3, &[2], false),
+];
+
+fn is_said(
+    alloc: Global,
+    description: &Description,
+    number: usize,
+    types: &[usize],
+    has_dynamic: bool,
+) -> Result<bool, Fail> {
+    let facts = facts_of(alloc, description, number)?;
+    Ok(facts.types.as_slice() == types && facts.has_dynamic == has_dynamic)
+}
+
+// `R` is found inside `C`, and isn't of the root
+#[test]
+fn each_item_of_the_root_says_what_it_leads_to(rt: HostRuntime) -> Result<(), Fail> {
+    let description = description(rt.alloc(), NESTED)?;
+    for (number, types, has_dynamic) in SAID.iter() {
+        let said = is_said(rt.alloc(), &description, *number, types, *has_dynamic)?;
+        assert_holds(&rt, said, "an item of the root");
+    }
+    Ok(())
+}
+
+// with memory enough none of the calls gives up
+#[test]
+fn the_root_of_a_faultless_map_is_judged(rt: HostRuntime) -> Result<(), Fail> {
+    let description = description(rt.alloc(), NESTED)?;
+    let mut kept = Kept::of(rt.alloc(), &description, None)?;
+    check(rt.alloc(), &description)?;
+    check_roots(rt.alloc(), &description, &[true, true, true, true])?;
+    let asked = [false, true, true, false];
+    let mut heads = kept.relay_roots(rt.alloc(), &description, None, &asked, &[])?;
+    assert_holds(&rt, heads.len() == 4, "one for each item");
+    forget_reached(&mut heads, &[true]);
+    let reach = reach_of(rt.alloc(), &description, &[], &[])?;
+    assert_holds(&rt, reach.is_none(), "nothing is known");
+    Ok(())
+}
+
+/// Two registers of fields, and two blocks of them, of which one sets the reset of its field from outside.
+const BLOCKS: &str = "reg T { field {} f[8]; };
+reg U { field {} g; };
+addrmap A { T t; t.f->reset = 200; };
+addrmap B { U u; };
+addrmap top { A a; B b; };
+";
+
+/// Lines, and whether each is made: 200 needs eight bits, in whichever block the field stands.
+const LINES: [(&str, bool); 12] = [
+    ("resize /$B/u [2]", true),
+    ("resize /$T/f [4]", false),
+    ("undo", true),
+    ("resize /$T/f [4]", false),
+    ("resize /$T/f [16]", true),
+    ("rename /$B/u t", true),
+    ("add /$B last U t;", false),
+    ("add /$B last T v;", true),
+    ("assign /$B v.f reset 65536", false),
+    ("assign /$B v.f reset 65535", true),
+    ("resize /$T/f [8]", false),
+    ("remove /$B/v", true),
+];
+
+#[test]
+fn an_edit_inside_one_definition_is_judged_where_it_reaches(rt: HostRuntime) -> Result<(), Fail> {
+    let mut journal = opened(rt.alloc(), BLOCKS, 100)?;
+    for (line, made) in LINES.iter() {
+        let is = is_made(rt.alloc(), &mut journal, line)?;
+        assert_holds(&rt, is == *made, line);
+    }
+    Ok(())
+}

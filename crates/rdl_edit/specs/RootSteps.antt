@@ -1,0 +1,61 @@
+-- Steps that change nothing but the bodies inside some items of the root.
+-- own: SystemRDL 2.0 has no edits.
+use Rattle.std.specs.Prelude.{◌≡◌, ◌≢◌, ℕ, Bool, true, false, List, [], ◌∷◌, Option, Some, None, unwrap_or, slice_get}
+use Rattle.rdl_tree.specs.Items.{Items}
+use Rattle.rdl_tree.specs.Patch.{image}
+use Rattle.rdl_tree.specs.declared.patch.Patch.{Patch}
+use Rattle.rdl_tree.specs.declared.patch.Patch.TheVariants.{Insert, Delete, Shift, Exchange}
+use Rattle.rdl_scope.specs.ItemFaults.{fault_of}
+use Rattle.rdl_kept.specs.RootFacts.{IsKnownRoot, AreFactsOf, ChangesOnly}
+use Rattle.rdl_kept.specs.declared.roots.RootFacts.{RootFacts}
+use Rattle.rdl_kept.specs.Tracked.{Tracked, old_of, new_of}
+use Rattle.rdl_elab.specs.CleanHeads.{AreCleanHeads}
+use Rattle.rdl_edit.specs.declared.roots.Roots.{Roots}
+
+-- the item to which a patch leads
+abbrev pub address_of : Patch → List ℕ
+address_of (Insert at x) = at
+address_of (Delete at) = at
+address_of (Shift at to) = at
+address_of (Exchange at part) = at
+
+-- the item at an address stands inside one of these items of the root, each by its number
+abbrev pub is_inside : List Bool → List ℕ → Bool
+is_inside roots [] = false
+is_inside roots (i ∷ []) = false
+is_inside roots (i ∷ j ∷ a) = unwrap_or (slice_get roots i) false
+
+-- a patch changes such an item
+abbrev pub is_patch_inside : List Bool → Patch → Bool
+is_patch_inside roots p = is_inside roots (address_of p)
+
+-- a step from a description to another one changes no body but those inside these items of the root
+pub record IsStepInside (roots : List Bool) (old new : Items) : Type 0 where
+  pub step : Tracked
+  pub was : old_of step ≡ old
+  pub leads : new_of step ≡ new
+  pub only : ChangesOnly roots step
+
+-- such a step, from a description without a fault, led to this one
+pub record IsBehindStep (roots : List Bool) (new : Items) : Type 0 where
+  pub old : Items
+  pub accepted : fault_of old ≡ None
+  pub step : IsStepInside roots old new
+
+-- what is known of one item of the root, if something is, is true, and nothing is changed inside it
+abbrev pub IsKnownBeside : Items → (changed : List Bool) → ℕ → Option RootFacts → Type 0
+IsKnownBeside d changed j None = Unit {0}
+IsKnownBeside d changed j (Some known) = IsKnownRoot d j known × (slice_get changed j ≢ Some true)
+
+abbrev pub AreKnownBeside : Items → (changed : List Bool) → List (Option RootFacts) → Type 0
+AreKnownBeside d changed facts = (j : ℕ) (known : Option RootFacts) → slice_get facts j ≡ Some known → IsKnownBeside d changed j known
+
+-- what is known of the items of the root is true before the patches and behind them
+pub record AreFactsAround (patches : List Patch) (d : Items) (facts : List (Option RootFacts)) : Type 0 where
+  pub before : AreFactsOf d facts
+  pub behind : AreFactsOf (image patches d) facts
+
+-- all that a map knows of the items of its root is true of this description: what each says by itself, and in which modes it is clean
+pub record AreRootsOf (d : Items) (roots : Roots) : Type 0 where
+  pub facts : AreFactsOf d roots.facts.items
+  pub heads : AreCleanHeads d roots.heads.items

@@ -1,0 +1,259 @@
+//! What a map knows of the items of its root, so that a step inside some of them is judged by what it can change.
+ghost use Rattle.std.specs.Prelude.{◌≡◌, ◌≤◌, ◌++◌, ◌∷◌, [], ℕ, true, length, Option, None, Some, slice_get, option_copied, All, IfOk, IfSome, OnOk};
+ghost use Rattle.std.specs.List.{list_all};
+ghost use Rattle.rdl_tree.specs.Address.{holder_of};
+ghost use Rattle.rdl_tree.specs.Items.{Items};
+ghost use Rattle.rdl_tree.specs.Patch.{image};
+ghost use Rattle.rdl_scope.specs.ItemFaults.{fault_of};
+ghost use Rattle.rdl_scope.specs.Roots.{NoFaultOutside};
+ghost use Rattle.rdl_kept.specs.RootFacts.{AreFactsOf, IsKnownRoot};
+ghost use Rattle.rdl_kept.specs.declared.roots.RootFacts.{RootFacts as Facts};
+ghost use Rattle.rdl_edit.specs.RootSteps.{address_of, is_patch_inside, IsKnownBeside, AreKnownBeside};
+
+use rdl_elab::rows::clean::Modes;
+use rdl_kept::roots::{RootFacts, facts_of, forget_reached, reach_of};
+use rdl_tree::address::Address;
+use rdl_tree::description::Description;
+use rdl_tree::patch::Patch;
+use std::alloc::{AllocError, Global};
+
+/// What is known of the items of the root, each by its number. Of those behind the last one nothing is known.
+#[derive(Debug, Drop)]
+pub(crate) struct Roots {
+    /// What each says.
+    pub(crate) facts: Vec<Option<RootFacts>>,
+    /// In which modes each is known to be clean.
+    pub(crate) heads: Vec<Modes>,
+}
+
+fn address_of(patch: &Patch) -> &Address
+    ensures { result.now ≡ address_of patch.now }
+{
+    match patch {
+        Patch::Insert(at, _) | Patch::Delete(at) | Patch::Shift(at, _) | Patch::Exchange(at, _) =>
+            at,
+    }
+}
+
+/// Whether the patch changes a body inside one of these items of the root.
+fn is_patch_inside(roots: &[bool], patch: &Patch) -> bool
+    ensures { result ≡ is_patch_inside roots.now patch.now }
+{
+    match address_of(patch).as_slice() {
+        [] | [_] => false,
+        [root, ..] => match roots.get(*root) {
+            Some(is_inside) => *is_inside,
+            None => false,
+        },
+    }
+}
+
+/// Marks the item of the root inside which the patch changes a body.
+fn mark(roots: &mut Vec<bool>, patch: &Patch) {
+    if let Some(root) = address_of(patch).as_slice().first() {
+        if let Some(mark) = roots.get_mut(*root) {
+            *mark = true;
+        }
+    }
+}
+
+/// Whether all of these patches do.
+fn are_inside(roots: &[bool], patches: &[Patch]) -> bool
+    ensures { result ≡ list_all (is_patch_inside roots.now) patches.now }
+{
+    patches.iter().all(|patch| is_patch_inside(roots, patch))
+}
+
+/// How many items a root has at most of whose items something is known: the names before each are gone over for it.
+const MAX_ROOTS: usize = 256;
+
+/// The items of a root of so many items inside which these patches change bodies, if they change no other body, and the root
+/// doesn't have too many items.
+fn roots_changed(alloc: Global, count: usize, patches: &[Patch]) -> Option<Vec<bool>>
+    ensures { IfSome result (λ roots. list_all (is_patch_inside roots.items) patches.now ≡ true) }
+{
+    if count > MAX_ROOTS {
+        return None;
+    }
+    let mut roots = marks(alloc, count).ok()?;
+    for patch in patches {
+        mark(&mut roots, patch);
+    }
+    if are_inside(roots.as_slice(), patches) {
+        Some(roots)
+    } else {
+        None
+    }
+}
+
+/// Marks of so many items of the root, none of which is set.
+fn marks(alloc: Global, count: usize) -> Result<Vec<bool>, AllocError> {
+    let mut marks = Vec::with_capacity(alloc, count)?;
+    marks.resize(count, false)?;
+    Ok(marks)
+}
+
+fn is_marked(marks: &[bool], number: usize) -> bool
+    ensures { slice_get marks.now number ≡ Some true → result ≡ true }
+{
+    match marks.get(number) {
+        Some(mark) => *mark,
+        None => false,
+    }
+}
+
+/// What is known of the item of the root of this number, and from now on elsewhere.
+fn take_known(facts: &mut Vec<Option<RootFacts>>, number: usize) -> Option<RootFacts>
+    ensures taken { (d : Items) → AreFactsOf d facts.old.items → IfSome result (IsKnownRoot d number) }
+    ensures left { (d : Items) → AreFactsOf d facts.old.items → AreFactsOf d facts.new.items }
+{
+    facts.get_mut(number)?.take()
+}
+
+/// What is known of the item of the root of this number where none is changed inside but those of these. What isn't known
+/// yet is asked for if that is wanted.
+fn known_beside(
+    alloc: Global,
+    description: &Description,
+    facts: &mut Vec<Option<RootFacts>>,
+    changed: &[bool],
+    number: usize,
+    wanted: bool,
+) -> Result<Option<RootFacts>, AllocError>
+    requires { AreFactsOf description.now.items facts.old.items }
+    ensures known { IfOk result (IsKnownBeside description.now.items changed.now number) }
+    ensures left { AreFactsOf description.now.items facts.new.items }
+{
+    if is_marked(changed, number) {
+        return Ok(None);
+    }
+    if let Some(known) = take_known(facts, number) {
+        return Ok(Some(known));
+    }
+    if wanted {
+        Ok(Some(facts_of(alloc, description, number)?))
+    } else {
+        Ok(None)
+    }
+}
+
+/// What is known of the items of the root but for those inside which something is changed.
+#[tactic(auto, using(crate::proofs::KnownRoots::steps))]
+fn all_beside(
+    alloc: Global,
+    description: &Description,
+    facts: &mut Vec<Option<RootFacts>>,
+    changed: &[bool],
+    wanted: bool,
+) -> Result<Vec<Option<RootFacts>>, AllocError>
+    requires { AreFactsOf description.now.items facts.old.items }
+    ensures { IfOk result (λ known. AreKnownBeside description.now.items changed.now known.items) }
+{
+    let mut known = Vec::with_capacity(alloc, changed.len())?;
+    for _ in 0..changed.len() {
+        let number = known.len();
+        known.push(known_beside(alloc, description, facts, changed, number, wanted)?)?;
+    }
+    Ok(known)
+}
+
+impl Roots {
+    ghost use Rattle.std.specs.Prelude.{◌≡◌, [], None, IfSome, option_copied};
+    ghost use Rattle.rdl_tree.specs.Items.{Items};
+    ghost use Rattle.rdl_tree.specs.Patch.{image};
+    ghost use Rattle.rdl_scope.specs.ItemFaults.{fault_of};
+    ghost use Rattle.rdl_scope.specs.Roots.{NoFaultOutside};
+    ghost use Rattle.rdl_elab.specs.CleanHeads.{AreCleanHeads};
+    ghost use Rattle.rdl_kept.specs.RootFacts.{AreFactsOf};
+    ghost use Rattle.rdl_edit.specs.RootSteps.{IsStepInside, IsBehindStep, AreRootsOf};
+
+    /// Nothing is known.
+    pub(crate) fn unknown(alloc: Global) -> Roots
+        ensures facts { result.facts.items ≡ [] }
+        ensures heads { result.heads.items ≡ [] }
+    {
+        Roots {
+            facts: Vec::new(alloc),
+            heads: Vec::new(alloc),
+        }
+    }
+
+    /// Leaves a description by these patches: what the items say inside which they change bodies is forgotten, and what all say
+    /// where they change others. The answer is which items these are, if they change no others. What the others say is asked for
+    /// if that is wanted.
+    #[tactic(auto, using(crate::proofs::KnownRoots::steps))]
+    pub(crate) fn leave(
+        &mut self,
+        alloc: Global,
+        description: &Description,
+        patches: &[Patch],
+        wanted: bool,
+    ) -> Option<Vec<bool>>
+        requires faultless { fault_of description.now.items ≡ None }
+        requires roots { AreRootsOf description.now.items self.old }
+        ensures roots { AreRootsOf description.now.items self.new }
+        ensures facts { AreFactsOf (image patches.now description.now.items) self.new.facts.items }
+        ensures inside { IfSome result (λ roots. IsStepInside roots.items description.now.items (image patches.now description.now.items)) }
+    {
+        let Some(changed) = roots_changed(alloc, description.items.len(), patches) else {
+            self.facts.clear();
+            return None;
+        };
+        let roots = changed.as_slice();
+        match all_beside(alloc, description, &mut self.facts, roots, wanted) {
+            Ok(known) => {
+                self.facts = known;
+                Some(changed)
+            }
+            Err(_) => {
+                self.facts.clear();
+                None
+            }
+        }
+    }
+
+    /// Arrives at this description behind a step that changed bodies inside these items of the root alone, if that is known: it
+    /// is forgotten in which modes those were clean that the step reaches. The answer is inside which items of the root all has
+    /// to be judged, if that is known.
+    pub(crate) fn arrive(
+        &mut self,
+        alloc: Global,
+        description: &Description,
+        changed: Option<&Vec<bool>>,
+    ) -> Option<Vec<bool>>
+        requires facts { AreFactsOf description.now.items self.old.facts.items }
+        requires step { IfSome (option_copied changed) (λ roots. IsBehindStep roots.items description.now.items) }
+        ensures asked { IfSome result (λ asked. NoFaultOutside description.now.items asked.items) }
+        ensures before { (old : Items) → AreRootsOf old self.old → AreRootsOf old self.new }
+        ensures behind { (old : Items) → fault_of old ≡ None → IfSome (option_copied changed.entry) (λ roots. IsStepInside roots.items old description.now.items) → AreRootsOf old self.old → AreRootsOf description.now.items self.new }
+    {
+        let Some(changed) = changed else {
+            self.heads.clear();
+            return None;
+        };
+        match reach_of(
+            alloc,
+            description,
+            self.facts.as_slice(),
+            changed.as_slice(),
+        ) {
+            Ok(Some(reach)) => {
+                forget_reached(&mut self.heads, reach.reached.as_slice());
+                Some(reach.asked)
+            }
+            Ok(None) | Err(_) => {
+                self.heads.clear();
+                None
+            }
+        }
+    }
+
+    /// Takes what is known now of definitions that are clean, if that has changed.
+    pub(crate) fn renew(&mut self, heads: Option<Vec<Modes>>)
+        ensures { (d : Items) → AreRootsOf d self.old → IfSome heads (λ heads. AreCleanHeads d heads.items) → AreRootsOf d self.new }
+    {
+        if let Some(heads) = heads {
+            self.heads = heads;
+        }
+    }
+}
