@@ -1,14 +1,15 @@
 -- Each item of a body has at most as many items as the body, and a walk over all of them has the body's size.
-use Rattle.std.proofs.Common.{◌≡◌, ℕ, zero, suc, ◌+◌, ◌≤◌, ◌<◌, List, [], ◌∷◌, length, get_or, refl, ap, subst, arith, sum_by, take}
-use Rattle.std.specs.Prelude.{min, ◌^◌, ◌-◌}
+use Rattle.std.proofs.Common.{◌≡◌, ℕ, zero, suc, ◌+◌, ◌≤◌, ◌<◌, max, List, [], ◌∷◌, length, get_or, ap, subst, ◌∙◌, arith, take, take_all}
 use Rattle.std.proofs.lemmas.List.Sums.{sum_by_more}
-use Rattle.rdl_tree.specs.Weight.{capped, weight}
+use Rattle.rdl_tree.specs.Weight.{capped}
 use Rattle.rdl_tree.specs.ItemWeight.{item_weight}
-use Rattle.rdl_tree.specs.Items.{Items, count}
-use Rattle.rdl_tree.specs.View.{items_of, list_of}
+use Rattle.rdl_tree.specs.Items.{Items, no_items, count}
+use Rattle.rdl_tree.specs.View.{add, items_of, list_of}
 use Rattle.rdl_tree.specs.declared.description.Item.{Item}
-use Rattle.rdl_tree.proofs.Rounds.{items_of-list_of, weight_done}
-use Rattle.rdl_tree.proofs.Sizes.{item_count, count-add}
+use Rattle.rdl_tree.proofs.Rounds.{items_of-list_of, weight-items_of}
+use Rattle.rdl_tree.proofs.Sizes.{item_count, item_depth, count-add, count-items_of, depth_more}
+use Rattle.rdl_scope.specs.Roots.{IsSizeOf}
+use Rattle.rdl_scope.specs.declared.size.Size.{Size}
 
 count-item-of : (i : ℕ) (xs : List Item) (x : Item) → i < length xs → item_count (get_or xs i x) ≤ count (items_of xs)
 count-item-of i [] x h = omega (arith, h)
@@ -19,13 +20,14 @@ count-item-of (suc i) (y ∷ xs) x h = omega (arith, count-add y (items_of xs), 
 pub count-item : (i : ℕ) (t : Items) (xs : List Item) (x y : Item) → xs ≡ list_of t → i < length xs → y ≡ get_or xs i x → item_count y ≤ count t
 count-item i t xs x y e h f = omega (arith, count-item-of i xs x h, ap item_count f, ap (λ l. count (items_of l)) e, ap count (items_of-list_of t))
 
--- a sum that stops at the greatest `u64` takes one more item
-pub sum_more : (f : Item → ℕ) (r n m i : ℕ) (xs : List Item) (x : Item) → r ≡ min (n + m) (2 ^ 64 - 1) → n ≡ capped (sum_by f (take i xs)) → m ≡ capped (f x) → x ≡ get_or xs i x → i < length xs → r ≡ capped (sum_by f (take (i + 1) xs))
-sum_more f r n m i xs x e g h k l = omega (arith, e, g, h, ap f k, sum_by_more f xs i x l)
+-- a body with one more item is as large as the two
+pub size-more : (r s m : Size) (i : ℕ) (xs : List Item) (x : Item) → IsSizeOf (items_of (take i xs)) s → IsSizeOf (add x no_items) m → r.depth ≡ max s.depth m.depth → r.count ≡ capped (s.count + m.count) → r.weight ≡ capped (s.weight + m.weight) → x ≡ get_or xs i x → i < length xs → IsSizeOf (items_of (take (i + 1) xs)) r
+size-more r s m i xs x those one e f g h k = record {
+  levels = e ∙ depth_more s.depth m.depth i xs x those.levels k (one.levels ∙ ap (λ y. capped (item_depth y)) h);
+  items = omega (arith, f, those.items, one.items, count-items_of (take i xs), count-items_of (take (i + 1) xs), ap item_count h, sum_by_more item_count xs i x k);
+  at_most = omega (arith, g, those.at_most, one.at_most, weight-items_of (take i xs), weight-items_of (take (i + 1) xs), ap item_weight h, sum_by_more item_weight xs i x k);
+}
 
--- the same of a number that the sum is not above
-pub most_more : (f : Item → ℕ) (r n m i : ℕ) (xs : List Item) (x : Item) → r ≡ min (n + m) (2 ^ 64 - 1) → capped (sum_by f (take i xs)) ≤ n → capped (f x) ≤ m → x ≡ get_or xs i x → i < length xs → capped (sum_by f (take (i + 1) xs)) ≤ r
-most_more f r n m i xs x e g h k l = omega (arith, e, g, h, ap f k, sum_by_more f xs i x l)
-
-pub most_done : (n i : ℕ) (xs ys : List Item) (t : Items) → capped (sum_by item_weight (take i xs)) ≤ n → length xs ≤ i → xs ≡ ys → items_of ys ≡ t → capped (weight t) ≤ n
-most_done n i xs ys t e h f g = subst (λ k. k ≤ n) (weight_done (capped (sum_by item_weight (take i xs))) i xs ys t refl h f g) e
+-- and one whose items are all counted is of that size
+pub size-done : (s : Size) (i : ℕ) (xs : List Item) (t : Items) → IsSizeOf (items_of (take i xs)) s → length xs ≤ i → xs ≡ list_of t → IsSizeOf t s
+size-done s i xs t those h f = subst (λ u. IsSizeOf u s) (ap items_of (take_all i xs h ∙ f) ∙ items_of-list_of t) those

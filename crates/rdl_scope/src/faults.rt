@@ -13,6 +13,7 @@ ghost use Rattle.rdl_scope.specs.Scopes.{number_under, scope_found, level_found,
 ghost use Rattle.rdl_scope.specs.Target.{instance_in};
 ghost use Rattle.rdl_scope.specs.Walk.{found};
 ghost use Rattle.rdl_scope.specs.ItemFaults.{kind_at, instance_kind, target_kind, is_set, is_excluded, excluded_by, item_fault, fault_at, first_fault, inside_fault, is_too_large, fault_of, out_of_memory};
+ghost use Rattle.rdl_scope.specs.Roots.{IsSizeOf};
 ghost use Rattle.rdl_tree.specs.View.{list_of};
 
 use crate::assignments::{default_fault, dynamic_fault, own_fault, rivals};
@@ -22,7 +23,7 @@ use crate::names::Names;
 use crate::passed::Passed;
 use crate::places::{Places, address_of, kind_of, place_of};
 use crate::shells::instance_fault;
-use crate::size::body_size;
+use crate::size::{Size, body_size};
 use crate::targets::{instance_in, passes};
 use crate::types::{component_at, component_of, items_in, own_component};
 use crate::values::{is_false, own_before};
@@ -347,7 +348,14 @@ fn first_fault<'a>(
 pub(crate) fn is_too_large(description: &Description) -> bool
     ensures { result ≡ is_too_large description.now.items }
 {
-    let size = body_size(&description.items);
+    is_over(description, &body_size(&description.items))
+}
+
+/// Whether nesting, items or weight of a description of this size are over the limits.
+pub(crate) fn is_over(description: &Description, size: &Size) -> bool
+    requires { IsSizeOf description.now.items size.now }
+    ensures { result ≡ is_too_large description.now.items }
+{
     size.depth > 16
         || size.count > 65_536
         || size.weight > 8_388_608 && description.weight() > 8_388_608

@@ -20,7 +20,7 @@ mod places;
 pub mod room;
 pub mod roots;
 pub mod shells;
-mod size;
+pub mod size;
 pub mod targets;
 pub mod types;
 pub mod values;

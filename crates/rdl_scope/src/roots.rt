@@ -1,15 +1,16 @@
 //! The faults of the items inside some items of the root, where no other item can have one.
-ghost use Rattle.std.specs.Prelude.{◌≡◌, ℕ, List, [], ◌∷◌, true, false, ◌≤◌, Some, None, slice_get, unwrap_or, IfOk, IfErr, OnOk, ◌⊎◌};
+ghost use Rattle.std.specs.Prelude.{◌≡◌, ℕ, List, [], ◌∷◌, true, false, ◌≤◌, Some, None, slice_get, unwrap_or, IfOk, IfErr, IfSome, OnOk, ◌⊎◌};
 ghost use Rattle.rdl_tree.specs.Depth.{depth};
 ghost use Rattle.rdl_tree.specs.Component.{own_component};
 ghost use Rattle.rdl_tree.specs.View.{list_of};
 ghost use Rattle.rdl_scope.specs.Scopes.{scope_found};
 ghost use Rattle.rdl_scope.specs.Walk.{found};
 ghost use Rattle.rdl_scope.specs.ItemFaults.{inside_fault, fault_of, out_of_memory};
-ghost use Rattle.rdl_scope.specs.Roots.{AreClear, NoFaultOutside};
+ghost use Rattle.rdl_scope.specs.Roots.{AreClear, NoFaultOutside, IsSizeOf};
 
-use crate::faults::{check, inside_fault, is_too_large};
+use crate::faults::{check, inside_fault, is_over};
 use crate::names::Names;
+use crate::size::{Size, body_size};
 use crate::types::own_component;
 use rdl_tree::address::Address;
 use rdl_tree::description::{Description, Item};
@@ -85,27 +86,51 @@ fn are_clear(alloc: Global, description: &Description, asked: &[bool]) -> Result
     Ok(true)
 }
 
+/// The size of a description: this one, if it is known, and else found in one walk.
+fn size_of(description: &Description, known: Option<Size>) -> Size
+    requires { IfSome known (IsSizeOf description.now.items) }
+    ensures { IsSizeOf description.now.items result }
+{
+    match known {
+        Some(size) => size,
+        None => body_size(&description.items),
+    }
+}
+
 /// Whether the description is within the limits, and no item inside the items of the root that are asked has a fault.
-fn is_clear(alloc: Global, description: &Description, asked: &[bool]) -> Result<bool, AllocError>
-    requires { NoFaultOutside description.now.items asked.now }
+fn is_clear(
+    alloc: Global,
+    description: &Description,
+    asked: &[bool],
+    size: Option<Size>,
+) -> Result<bool, AllocError>
+    requires others { NoFaultOutside description.now.items asked.now }
+    requires size { IfSome size (IsSizeOf description.now.items) }
     ensures clear { IfOk result (λ clear. clear ≡ true → fault_of description.now.items ≡ None) }
     ensures levels { IfOk result (λ clear. clear ≡ true → depth description.now.items ≤ 16) }
 {
-    if is_too_large(description) {
+    if is_over(description, &size_of(description, size)) {
         return Ok(false);
     }
     are_clear(alloc, description, asked)
 }
 
 /// Does the same as `check`, where no item can have a fault but those inside the items of the root that are asked, by
-/// their numbers: these alone are judged, and the others only if one of them has a fault.
-pub fn check_roots(alloc: Global, description: &Description, asked: &[bool]) -> Result<(), Fault>
-    requires { NoFaultOutside description.now.items asked.now }
+/// their numbers: these alone are judged, and the others only if one of them has a fault. Where the size is known, no walk over
+/// all items is made for it.
+pub fn check_roots(
+    alloc: Global,
+    description: &Description,
+    asked: &[bool],
+    size: Option<Size>,
+) -> Result<(), Fault>
+    requires others { NoFaultOutside description.now.items asked.now }
+    requires size { IfSome size (IsSizeOf description.now.items) }
     ensures ok { OnOk result (fault_of description.now.items ≡ None) }
     ensures levels { OnOk result (depth description.now.items ≤ 16) }
     ensures err { IfErr result (λ fault. (fault_of description.now.items ≡ Some fault) ⊎ (fault ≡ out_of_memory)) }
 {
-    match is_clear(alloc, description, asked) {
+    match is_clear(alloc, description, asked, size) {
         Ok(true) => Ok(()),
         Ok(false) => check(alloc, description),
         Err(_) => Err(Fault {

@@ -1,23 +1,58 @@
 //! How large a body is at most, in one walk that reads no names of targets.
 ghost use Rattle.std.specs.Prelude.{◌≡◌, ◌≤◌, ◌+◌, length, sum_by};
-ghost use Rattle.rdl_tree.specs.Items.{no_items, count};
-ghost use Rattle.rdl_tree.specs.Depth.{depth};
-ghost use Rattle.rdl_tree.specs.Weight.{weight, capped};
+ghost use Rattle.rdl_tree.specs.Items.{no_items};
+ghost use Rattle.rdl_tree.specs.Weight.{capped};
 ghost use Rattle.rdl_tree.specs.ItemWeight.{item_weight};
 ghost use Rattle.rdl_tree.specs.View.{add};
 ghost use Rattle.rdl_tree.specs.declared.description.Item.{Item};
+ghost use Rattle.rdl_scope.specs.Roots.{IsSizeOf};
 
 use rdl_text::name::Name;
 use rdl_tree::description::{Body, Item, Of};
 use rdl_tree::target::Target;
 use rdl_tree::value::Value;
 
-/// How deep items nest, how many they are with those inside, and a number that their weight is not above.
-#[derive(Clone, Copy)]
-pub(crate) struct Size {
-    pub(crate) depth: u64,
-    pub(crate) count: u64,
-    pub(crate) weight: u64,
+/// How large items are with all inside them. Each number stops at the greatest `u64`.
+#[derive(Debug, Clone, Copy)]
+pub struct Size {
+    /// How deep they nest, in levels of braces.
+    pub depth: u64,
+    /// How many they are, in items.
+    pub count: u64,
+    /// A number that their weight isn't above: one for each item, and one for each byte of names, target names, property names
+    /// and strings.
+    pub weight: u64,
+}
+
+impl Size {
+    ghost use Rattle.std.specs.Prelude.{◌≡◌, ◌+◌, max};
+    ghost use Rattle.rdl_tree.specs.Weight.{capped};
+    ghost use Rattle.rdl_tree.specs.Items.{no_items};
+    ghost use Rattle.rdl_scope.specs.Roots.{IsSizeOf};
+
+    /// The size of no items.
+    pub fn nothing() -> Size
+        ensures { IsSizeOf no_items result }
+    {
+        Size {
+            depth: 0,
+            count: 0,
+            weight: 0,
+        }
+    }
+
+    /// The size of the items of this size with those of the other size after them, in one body.
+    pub fn beside(self, other: Size) -> Size
+        ensures depth { result.depth ≡ max self.depth other.depth }
+        ensures count { result.count ≡ capped (self.count + other.count) }
+        ensures weight { result.weight ≡ capped (self.weight + other.weight) }
+    {
+        Size {
+            depth: self.depth.max(other.depth),
+            count: self.count.saturating_add(other.count),
+            weight: self.weight.saturating_add(other.weight),
+        }
+    }
 }
 
 /// The size of an item of this name, in whose braces stand items of this size.
@@ -55,11 +90,10 @@ fn most_weight(target: &Target, property: &Name, value: &Value) -> u64
         .saturating_add(1)
 }
 
+/// The size of an item with all inside it, in one walk that reads no names of targets.
 #[cycle(size)]
-fn item_size(item: &Item) -> Size
-    ensures depth { result.depth ≡ capped (depth (add item.now no_items)) }
-    ensures count { result.count ≡ capped (count (add item.now no_items)) }
-    ensures weight { capped (weight (add item.now no_items)) ≤ result.weight }
+pub fn item_size(item: &Item) -> Size
+    ensures { IsSizeOf (add item.now no_items) result }
 {
     match item {
         Item::Define(name, component) => around(name.len(), body_size(&component.body)),
@@ -79,24 +113,14 @@ fn item_size(item: &Item) -> Size
     }
 }
 
+/// The size of the items of a body with all inside them.
 #[cycle(size)]
 pub(crate) fn body_size(body: &Body) -> Size
-    ensures depth { result.depth ≡ capped (depth body.now) }
-    ensures count { result.count ≡ capped (count body.now) }
-    ensures weight { capped (weight body.now) ≤ result.weight }
+    ensures { IsSizeOf body.now result }
 {
-    let mut deepest = 0u64;
-    let mut count = 0u64;
-    let mut weight = 0u64;
+    let mut size = Size::nothing();
     for item in body.as_slice() {
-        let size = item_size(item);
-        deepest = deepest.max(size.depth);
-        count = count.saturating_add(size.count);
-        weight = weight.saturating_add(size.weight);
+        size = size.beside(item_size(item));
     }
-    Size {
-        depth: deepest,
-        count,
-        weight,
-    }
+    size
 }

@@ -1,10 +1,8 @@
-use Rattle.std.proofs.Common.{◌≡◌, ◌≤◌, take, sum_by, ◌*◌, ◌+◌}
+use Rattle.std.proofs.Common.{take, ◌*◌, ◌+◌}
 use Rattle.rdl_tree.specs.Items.{count}
 use Rattle.rdl_tree.specs.View.{items_of}
-use Rattle.rdl_tree.specs.Weight.{capped}
-use Rattle.rdl_tree.specs.ItemWeight.{item_weight}
-use Rattle.rdl_tree.specs.Depth.{depth}
 use Rattle.rdl_tree.proofs.Sizes.{item_count}
+use Rattle.rdl_scope.specs.Roots.{IsSizeOf}
 use Rattle.rdl_scope.proofs.size.+size.Given as goal
 
 abbrev pub decreases-item_size : goal.decreases-item_size
@@ -14,8 +12,4 @@ abbrev pub decreases-body_size : goal.decreases-body_size
 decreases-body_size l = 2 * count l.body.now + 1
 
 abbrev pub invariant-body_size-loop-item : goal.invariant-body_size-loop-item
-invariant-body_size-loop-item l = record {
-  deepest : l.deepest ≡ capped (depth (items_of (take l.item-index l.item-items)));
-  count : l.count ≡ capped (sum_by item_count (take l.item-index l.item-items));
-  weight : capped (sum_by item_weight (take l.item-index l.item-items)) ≤ l.weight;
-}
+invariant-body_size-loop-item l = IsSizeOf (items_of (take l.item-index l.item-items)) l.size
