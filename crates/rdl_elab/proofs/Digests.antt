@@ -3,7 +3,7 @@ use Rattle.std.proofs.Common.{◌≡◌, ℕ, zero, suc, ◌<◌, ◌≤◌, Lis
 use Rattle.std.specs.List.{fold}
 use Rattle.std.specs.Int.{w64, from_le_bytes}
 use Rattle.std.proofs.lemmas.Bool.{lt-ltb, le-ltb}
-use Rattle.rdl_elab.specs.WordIndex.{with_number, with_eights}
+use Rattle.rdl_elab.specs.Digest.{with_number, with_eights}
 
 pub behind-eight : (k n : ℕ) (bs : List ℕ) → 8 ≤ length bs → with_eights (suc k) n bs ≡ with_eights k (with_number n (from_le_bytes w64 (take 8 bs))) (drop 8 bs)
 unfolding with_eights

@@ -27,7 +27,6 @@ pub mod Roots
 pub mod DefaultStacks
 pub mod Digests
 pub mod ValueLists
-pub mod OnlyKept
 pub mod Onward
 pub mod BareHeads
 pub mod Unstated
@@ -50,11 +49,11 @@ pub mod SameLevels
 pub mod FieldsInside
 pub mod KeptAnswers
 pub mod KnownRows
+pub mod LedKeys
+pub mod Adding
 pub mod Storing
 pub mod Coding
 pub mod Spelled
-pub mod LedWords
-pub mod Indexing
 pub mod Numbering
 pub mod AllTaken
 pub mod NamesAround

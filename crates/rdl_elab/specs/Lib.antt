@@ -25,7 +25,9 @@ pub mod Written
 pub mod MadeOf
 pub mod Coded
 pub mod Words
+pub mod Digest
 pub mod WordIndex
+pub mod Entries
 pub mod Stored
 pub mod Taken
 pub mod StandIns

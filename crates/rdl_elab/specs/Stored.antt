@@ -1,10 +1,8 @@
--- Layouts under keys, and how they are found by the words of what they are made of.
+-- Layouts under keys.
 -- own: how they are kept.
-use Rattle.std.specs.Prelude.{◌≡◌, ℕ, List, map, Option, Some, None, IfSome, IsSome, IsSomeAnd, Contains, slice_get, slice_index_or}
+use Rattle.std.specs.Prelude.{◌≡◌, ℕ, List, map, Option, Some, None, IsSome, Contains, slice_index_or}
 use Rattle.std.specs.List.{filter_map}
 use Rattle.rdl_elab.specs.Kept.{Layouts}
-use Rattle.rdl_elab.specs.Words.{AreMadeOf}
-use Rattle.rdl_elab.specs.WordIndex.{number_of}
 
 -- what stands under a key
 abbrev pub under_key : List (Option Layouts) → ℕ → Option Layouts
@@ -21,7 +19,3 @@ AreUnder slots keys all = map (under_key slots) keys ≡ map Some all
 -- nothing stands but under these keys
 abbrev pub HoldsOnly : List (Option Layouts) → List ℕ → Type 0
 HoldsOnly slots keys = (k : ℕ) → IsSome (under_key slots k) → Contains keys k
-
--- the layouts of the number to which an index leads from words are made of whatever has these words
-abbrev pub Leads : List Layouts → List (List ℕ × ℕ) → Type 0
-Leads all es = (q : List ℕ) → IfSome (number_of es q) (λ n. IsSomeAnd (slice_get all n) (AreMadeOf q))

@@ -74,6 +74,14 @@ Puts more old new = (rest : List ℕ) → new ++ coded rest ≡ old ++ coded (mo
 abbrev pub AreMadeOf : List ℕ → Layouts → Type 0
 AreMadeOf bytes l = (a : MadeOf) → spelling a ≡ bytes → layouts_made a ≡ l
 
+-- bytes that spell something
+abbrev pub IsSpelled : List ℕ → Type 0
+IsSpelled bytes = (a : MadeOf) × (spelling a ≡ bytes)
+
+-- bytes that spell something, and layouts that are made of it
+abbrev pub IsMade : List ℕ → Layouts → Type 0
+IsMade bytes l = AreMadeOf bytes l × IsSpelled bytes
+
 abbrev pub is_among : List ℕ → List (List ℕ) → Bool
 is_among ws all = list_any (λ vs. bytes_eq ws vs) all
 

@@ -1,11 +1,11 @@
 //! The rows of a map, or its first fault.
-ghost use Rattle.std.specs.Prelude.{◌≡◌, ℕ, ◌⊎◌, ◌∷◌, ◌≤◌, [], nat_lt, Ok, Err, Some, None, IfOk, IfErr, OnOk, option_and_then, option_copied, option_map, slice_get, drop};
+ghost use Rattle.std.specs.Prelude.{◌≡◌, ℕ, ◌⊎◌, ◌∷◌, ◌≤◌, [], nat_lt, Ok, Err, Some, None, IfOk, IfErr, IfSome, OnOk, option_and_then, option_copied, option_map, slice_get, drop};
 ghost use Rattle.std.specs.Option.{option_or};
 ghost use Rattle.rdl_tree.specs.Depth.{depth};
 ghost use Rattle.rdl_scope.specs.Closed.{component};
 ghost use Rattle.rdl_scope.specs.ItemFaults.{fault_at, fault_of, out_of_memory};
 ghost use Rattle.rdl_scope.specs.OneItem.{NoOtherFault};
-ghost use Rattle.rdl_scope.specs.Roots.{NoFaultOutside};
+ghost use Rattle.rdl_scope.specs.Roots.{NoFaultOutside, IsSizeOf};
 ghost use Rattle.rdl_elab.specs.Faults.{has_name, top_from, elaborated, under_top};
 ghost use Rattle.rdl_elab.specs.Known.{HasRows};
 ghost use Rattle.rdl_elab.specs.Tops.{top_at};
@@ -23,6 +23,7 @@ use crate::walk::reaches::with_own;
 use rdl_scope::faults::check;
 use rdl_scope::one_item::check_item;
 use rdl_scope::roots::check_roots;
+use rdl_scope::size::Size;
 use rdl_text::name::Name;
 use rdl_text::token::Number;
 use rdl_tree::address::Address;
@@ -334,20 +335,22 @@ pub fn checked_top_but<'a>(
 }
 
 /// The top of a description in which no item may have a fault but those inside these items of the root, or the first fault of
-/// an item, or that there is no top.
+/// an item, or that there is no top. The size may be known.
 pub fn checked_top_in<'a>(
     alloc: Global,
     description: &'a Description,
     wanted: Option<&str>,
     asked: &[bool],
+    size: Option<Size>,
 ) -> Result<Top<'a>, Fault>
-    requires { NoFaultOutside description.now.items asked.now }
+    requires others { NoFaultOutside description.now.items asked.now }
+    requires size { IfSome size (IsSizeOf description.now.items) }
     ensures faultless { OnOk result (fault_of description.now.items ≡ None) }
     ensures nesting { OnOk result (depth description.now.items ≤ 16) }
     ensures top { IfOk result (λ top. top_from (option_copied wanted.entry) 0 description.now.items ≡ Some top) }
     ensures err { IfErr result (λ fault. (elaborated description.now.items (option_copied wanted.entry) ≡ Err fault) ⊎ (fault ≡ out_of_memory)) }
 {
-    check_roots(alloc, description, asked)?;
+    check_roots(alloc, description, asked, size)?;
     top_of(description, wanted)
 }
 

@@ -4,7 +4,7 @@ ghost use Rattle.std.specs.Option.{IsSome};
 ghost use Rattle.rdl_elab.specs.Capped.{IsAlignment};
 ghost use Rattle.rdl_elab.specs.LaidOut.{kept_members};
 ghost use Rattle.rdl_elab.specs.Stored.{under_key};
-ghost use Rattle.rdl_elab.specs.Words.{spelling, is_among, AreMadeOf};
+ghost use Rattle.rdl_elab.specs.Words.{spelling, is_among, AreMadeOf, IsSpelled};
 
 use crate::layout::{Layout, LayoutValues, Mode};
 use crate::stored::{Candidate, Stored};
@@ -89,16 +89,16 @@ impl Model for LaidOut {
 
     ghost Value = { LaidOut };
 
-    ghost use Rattle.rdl_elab.specs.Words.{AreMadeOf};
+    ghost use Rattle.rdl_elab.specs.Words.{IsMade};
 
     ghost view = { λ l. record { words = l.words; layouts = l.layouts } };
 
-    ghost invariant = { λ l. AreMadeOf l.words l.layouts };
+    ghost invariant = { λ l. IsMade l.words l.layouts };
 }
 
 impl LaidOut {
     ghost use Rattle.std.specs.Prelude.{◌≡◌, IfOk};
-    ghost use Rattle.rdl_elab.specs.Words.{AreMadeOf};
+    ghost use Rattle.rdl_elab.specs.Words.{AreMadeOf, IsMade};
 
     /// Its layouts, for one more.
     pub(crate) fn layouts(&self) -> Result<SharedLayouts, AllocError>
@@ -108,13 +108,20 @@ impl LaidOut {
         self.layouts.share()
     }
 
-    /// The words and the layouts.
-    pub(crate) fn into_parts(self) -> (SharedWords, SharedLayouts)
-        ensures words { result.0 ≡ self.words }
-        ensures layouts { result.1 ≡ self.layouts }
-        ensures made { AreMadeOf self.words self.layouts }
+    /// The words of what they are made of.
+    pub(crate) fn words(&self) -> &SharedWords
+        ensures same { result.now ≡ self.now.words }
+        ensures made { IsMade self.now.words self.now.layouts }
     {
-        (self.words, self.layouts)
+        &self.words
+    }
+
+    /// The layouts, as others share them.
+    pub(crate) fn shared(&self) -> &SharedLayouts
+        ensures same { result.now ≡ self.now.layouts }
+        ensures made { IsMade self.now.words self.now.layouts }
+    {
+        &self.layouts
     }
 }
 
@@ -144,6 +151,7 @@ fn shared_words(
 fn kept_layouts(alloc: Global, words: &[u8], kept: Candidate<'_>) -> Result<LaidOut, AllocError>
     requires words { IfSome (option_copied kept.words) (λ ws. ws ≡ words.now) }
     requires made { AreMadeOf words.now kept.layouts.now }
+    requires spelled { IsSpelled words.now }
     ensures words { IfOk result (λ laid_out. laid_out.words ≡ words.now) }
     ensures layouts { IfOk result (λ laid_out. laid_out.layouts ≡ kept.entry.layouts.now) }
 {

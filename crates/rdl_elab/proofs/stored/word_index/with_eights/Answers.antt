@@ -1,6 +1,6 @@
 use Rattle.std.proofs.Common.{rules, ◌≡◌, ℕ, suc, ◌+◌, ◌-◌, ◌<◌, ◌≤◌, List, length, take, ap, sym, refl, ◌∙◌, arith}
 use Rattle.std.specs.Int.{w64, from_le_bytes}
-use Rattle.rdl_elab.specs.WordIndex.{with_number, with_eights}
+use Rattle.rdl_elab.specs.Digest.{with_number, with_eights}
 use Rattle.rdl_elab.proofs.Digests.{behind-eight, behind-fewer, behind-all}
 use Rattle.rdl_elab.proofs.stored.word_index.with_eights.Goals as goal
 

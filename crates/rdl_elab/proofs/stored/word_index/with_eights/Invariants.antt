@@ -1,5 +1,5 @@
 use Rattle.std.proofs.Common.{◌≡◌, ◌-◌}
-use Rattle.rdl_elab.specs.WordIndex.{with_eights}
+use Rattle.rdl_elab.specs.Digest.{with_eights}
 use Rattle.rdl_elab.proofs.stored.word_index.with_eights.Given as goal
 
 abbrev pub invariant-eights : goal.invariant-eights

@@ -1,0 +1,175 @@
+-- More is put under keys, and is taken away again.
+use Rattle.std.proofs.Common.{◌≡◌, ◌≢◌, ◌⊎◌, inl, inr, ◌<◌, ◌≤◌, ◌+◌, ℕ, Bool, true, List, [], ◌∷◌, ◌++◌, map, length, take, get_or, Option, Some, None, refl, sym, ap, subst, ◌∙◌, arith}
+use Rattle.std.specs.Global.{Vec}
+use Rattle.std.specs.Prelude.{◌==◌, false, is_some, Result, Ok, Err, IfOk, OnErr, Contains, IsSome, IsSomeAnd, slice_get}
+use Rattle.std.proofs.lemmas.List.{map-append}
+use Rattle.std.proofs.lemmas.List.Elements.{Contains-append_left, Contains-push, Contains-push_cases}
+use Rattle.std.proofs.lemmas.Bool.Decides.{Decides-eqb}
+use Rattle.slab.specs.Slab.{Slab, get}
+use Rattle.rdl_elab.specs.Kept.{Layouts, MadeOf, LaidOut}
+use Rattle.rdl_elab.specs.Words.{IsMade}
+use Rattle.rdl_elab.specs.Entries.{IsOf, Puts, Adds}
+use Rattle.rdl_elab.specs.declared.walk.finished.Finished.{Finished}
+use Rattle.rdl_elab.specs.Taken.{AreUnderKeys, AreMarked}
+
+some-is : {X : Type 0} (o : Option X) (x : X) → o ≡ Some x → IsSome o
+some-is o x e = ap is_some e
+
+none-not : {X : Type 0} (o : Option X) → o ≡ None → IsSome o → ⊥
+none-not o e is = let no : false ≡ true = sym (ap is_some e) ∙ is in cc
+
+pub nat-decides : (a b : ℕ) → (a ≡ b) ⊎ (a ≢ b)
+nat-decides a b = by (a == b) refl
+  where
+    by : (t : Bool) → (a == b) ≡ t → (a ≡ b) ⊎ (a ≢ b)
+    by true e = inl ((Decides-eqb a b).0 e)
+    by false e = inr (λ same. let is : (a == b) ≡ true = (Decides-eqb a b).1 same in cc)
+
+-- what is made of the same words is the same
+pub same-made : (o : Option LaidOut) (q : List ℕ) (f : LaidOut) → IsSomeAnd o (IsOf q) → q ≡ f.words → IsMade f.words f.layouts → o ≡ Some f
+same-made None q f h e made = absurd h
+same-made (Some o) q f h e made =
+    let words : o.words ≡ f.words = h.0 ∙ e in
+    let layouts : o.layouts ≡ f.layouts = sym (h.1.0 made.1.0 (made.1.1 ∙ sym words)) ∙ made.0 made.1.0 made.1.1 in
+    λ i. Some (record { words = words i; layouts = layouts i })
+
+-- ---- Keys that are added.
+
+pub adds-none : (s : Slab LaidOut) → Adds s s []
+adds-none s = record {
+  stays = λ k e is. is;
+  only = λ k is. inl is;
+  free = λ k among. absurd (omega (arith, among.1));
+}
+
+pub adds-key : (first now : Slab LaidOut) (added : List ℕ) (key : ℕ) → get now key ≡ None → Adds first now added → Adds first now (added ++ key ∷ [])
+adds-key first now added key free h = record {
+  stays = h.stays;
+  only = λ k is. elim (h.only k is) [
+    | inl was ↦ inl was
+    | inr among ↦ inr (Contains-append_left added (key ∷ []) k among)
+  ];
+  free = λ k among. elim (Contains-push_cases added key k among) [
+    | inl before ↦ h.free k before
+    | inr here ↦ subst (λ q. get first q ≡ None) here (was-free (get first key) refl)
+  ];
+}
+  where
+    was-free : (o : Option LaidOut) → get first key ≡ o → get first key ≡ None
+    was-free None e = e
+    was-free (Some x) e = absurd (none-not (get now key) free (some-is (get now key) x (h.stays key x e)))
+
+pub adds-one : (first old new : Slab LaidOut) (added : List ℕ) (key : ℕ) → Puts old new key → Adds first old added → Adds first new (added ++ key ∷ [])
+adds-one first old new added key p h =
+    let more = adds-key first old added key p.free h in
+    record {
+      stays = λ k e is. p.stays k e (h.stays k e is);
+      only = λ k is. elim (p.only k is) [
+        | inl was ↦ more.only k was
+        | inr here ↦ inr (subst (λ q. Contains (added ++ key ∷ []) q) (sym here) (Contains-push added key))
+      ];
+      free = more.free;
+    }
+
+-- what was added is taken away
+pub undone : (first mid last : Slab LaidOut) (added : List ℕ) → Adds first mid added → ((k : ℕ) → Contains added k → get last k ≡ None) → ((k : ℕ) → (get last k ≡ get mid k) ⊎ Contains added k) → (k : ℕ) → get last k ≡ get first k
+undone first mid last added h gone kept k = elim (kept k) [
+  | inl same ↦ by (get first k) (get mid k) refl refl same
+  | inr among ↦ gone k among ∙ sym (h.free k among)
+]
+  where
+    by : (a b : Option LaidOut) → get first k ≡ a → get mid k ≡ b → get last k ≡ get mid k → get last k ≡ get first k
+    by (Some x) b e f same = same ∙ h.stays k x e ∙ sym e
+    by None None e f same = same ∙ f ∙ sym e
+    by None (Some y) e f same = elim (h.only k (some-is (get mid k) y f)) [
+      | inl was ↦ absurd (none-not (get first k) e was)
+      | inr among ↦ gone k among ∙ sym e
+    ]
+
+-- ---- Loops.
+
+-- one more component is kept
+pub under-more : (old new : Slab LaidOut) (keys : List ℕ) (key : ℕ) (fs : List Finished) (f : Finished) → ((k : ℕ) (e : LaidOut) → get old k ≡ Some e → get new k ≡ Some e) → get new key ≡ Some f.laid_out → AreUnderKeys old keys fs → AreUnderKeys new (keys ++ key ∷ []) (fs ++ f ∷ [])
+under-more old new keys key fs f stays is h =
+    map-append (get new) keys (key ∷ [])
+    ∙ (λ i. on keys fs h i ++ is i ∷ [])
+    ∙ sym (map-append (λ (g : Finished). Some g.laid_out) fs (f ∷ []))
+  where
+    on : (ks : List ℕ) (gs : List Finished) → AreUnderKeys old ks gs → AreUnderKeys new ks gs
+    on [] [] e = refl
+    on [] (g ∷ gs) e = cc
+    on (k ∷ ks) [] e = cc
+    on (k ∷ ks) (g ∷ gs) e =
+        let here : get old k ≡ Some g.laid_out = cc in
+        let rest : map (get old) ks ≡ map (λ (g : Finished). Some g.laid_out) gs = cc in
+        λ i. stays k g.laid_out here i ∷ on ks gs rest i
+
+pub only-more : (first old new : Slab LaidOut) (keys : List ℕ) (r : ℕ) → ((k : ℕ) → IsSome (get new k) → IsSome (get old k) ⊎ (k ≡ r)) → ((k : ℕ) → IsSome (get old k) → IsSome (get first k) ⊎ Contains keys k) → (k : ℕ) → IsSome (get new k) → IsSome (get first k) ⊎ Contains (keys ++ r ∷ []) k
+only-more first old new keys r one h k is = elim (one k is) [
+  | inl was ↦ elim (h k was) [
+    | inl before ↦ inl before
+    | inr put ↦ inr (Contains-append_left keys (r ∷ []) k put)
+  ]
+  | inr here ↦ inr (subst (λ q. Contains (keys ++ r ∷ []) q) (sym here) (Contains-push keys r))
+]
+
+-- what stands under one more key is removed
+pub none-more : (old new : Slab LaidOut) (keys : List ℕ) (key : ℕ) → get new key ≡ None → ((k : ℕ) → k ≢ key → get new k ≡ get old k) → ((k : ℕ) → Contains keys k → get old k ≡ None) → (k : ℕ) → Contains (keys ++ key ∷ []) k → get new k ≡ None
+none-more old new keys key here others h k among = elim (Contains-push_cases keys key k among) [
+  | inr same ↦ subst (λ q. get new q ≡ None) same here
+  | inl before ↦ elim (nat-decides k key) [
+    | inl same ↦ subst (λ q. get new q ≡ None) (sym same) here
+    | inr other ↦ others k other ∙ h k before
+  ]
+]
+
+pub kept-more : (first old new : Slab LaidOut) (keys : List ℕ) (key : ℕ) → ((k : ℕ) → k ≢ key → get new k ≡ get old k) → ((k : ℕ) → (get old k ≡ get first k) ⊎ Contains keys k) → (k : ℕ) → (get new k ≡ get first k) ⊎ Contains (keys ++ key ∷ []) k
+kept-more first old new keys key others h k = elim (nat-decides k key) [
+  | inl same ↦ inr (subst (λ q. Contains (keys ++ key ∷ []) q) (sym same) (Contains-push keys key))
+  | inr other ↦ elim (h k) [
+    | inl is ↦ inl (others k other ∙ is)
+    | inr among ↦ inr (Contains-append_left keys (key ∷ []) k among)
+  ]
+]
+
+-- what stands under one more key is removed, if it isn't marked
+pub gone-more : (old new : Slab LaidOut) (marks : List Bool) (keys : List ℕ) (key : ℕ) → ((k : ℕ) → IsSome (get new k) → IsSome (get old k)) → (IsSome (get new key) → slice_get marks key ≡ Some true) → ((k : ℕ) → Contains keys k → IsSome (get old k) → slice_get marks k ≡ Some true) → (k : ℕ) → Contains (keys ++ key ∷ []) k → IsSome (get new k) → slice_get marks k ≡ Some true
+gone-more old new marks keys key left one h k among is = elim (Contains-push_cases keys key k among) [
+  | inl before ↦ h k before (left k is)
+  | inr here ↦ subst (λ q. slice_get marks q ≡ Some true) here (one (subst (λ q. IsSome (get new q)) (sym here) is))
+]
+
+-- one more key is marked
+pub marked-more : (old new : List Bool) (keys : List ℕ) (key len : ℕ) → ((k : ℕ) → slice_get old k ≡ Some true → slice_get new k ≡ Some true) → (key < len → slice_get new key ≡ Some true) → ((k : ℕ) → Contains keys k → k < len → slice_get old k ≡ Some true) → (k : ℕ) → Contains (keys ++ key ∷ []) k → k < len → slice_get new k ≡ Some true
+marked-more old new keys key len stays one h k among less = elim (Contains-push_cases keys key k among) [
+  | inl before ↦ stays k (h k before less)
+  | inr here ↦ subst (λ q. slice_get new q ≡ Some true) here (one (subst (λ q. q < len) (sym here) less))
+]
+
+pub marks-more : (old new : List Bool) (keys : List ℕ) (key : ℕ) → ((k : ℕ) → slice_get new k ≡ Some true → (slice_get old k ≡ Some true) ⊎ (k ≡ key)) → ((k : ℕ) → slice_get old k ≡ Some true → Contains keys k) → (k : ℕ) → slice_get new k ≡ Some true → Contains (keys ++ key ∷ []) k
+marks-more old new keys key one h k is = elim (one k is) [
+  | inl was ↦ Contains-append_left keys (key ∷ []) k (h k was)
+  | inr here ↦ subst (λ q. Contains (keys ++ key ∷ []) q) (sym here) (Contains-push keys key)
+]
+
+-- the key under which more is put
+pub ok-only : {E : Type 0} (r : Result ℕ E) (old new : Slab LaidOut) (key : ℕ) → Puts old new key → IfOk r (λ k. k ≡ key) → IfOk r (λ q. (k : ℕ) → IsSome (get new k) → IsSome (get old k) ⊎ (k ≡ q))
+ok-only (Ok q) old new key p e = λ k is. elim (p.only k is) [
+  | inl was ↦ inl was
+  | inr here ↦ inr (here ∙ sym e)
+]
+ok-only (Err x) old new key p e = tt
+
+-- marks below a number that no slot reaches
+pub ok-marked : {E : Type 0} (r : Result (Vec Bool) E) (s : Slab LaidOut) (keys : List ℕ) (len : ℕ) → length s.slots ≤ len
+    → IfOk r (λ marks. (k : ℕ) → Contains keys k → k < len → slice_get marks.items k ≡ Some true) → IfOk r (λ marks. (k : ℕ) → slice_get marks.items k ≡ Some true → Contains keys k)
+    → IfOk r (λ marks. AreMarked marks.items keys s)
+ok-marked (Ok marks) s keys len long marked only = record {
+  marked = λ k among less. marked k among (omega (arith, long, less));
+  only = only;
+}
+ok-marked (Err e) s keys len long marked only = tt
+
+pub on-err : {T E P : Type 0} (r : Result T E) → P → OnErr r P
+on-err (Ok x) h = tt
+on-err (Err e) h = h
