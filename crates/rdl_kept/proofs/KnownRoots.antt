@@ -11,6 +11,7 @@ use Rattle.rdl_tree.specs.declared.description.Item.{Item}
 use Rattle.rdl_tree.specs.declared.description.Item.TheVariants.{Define, Instance, Own, Default, Dynamic}
 use Rattle.rdl_tree.specs.declared.description.Of.TheVariants.{Named, Anonymous}
 use Rattle.rdl_tree.proofs.Rounds.{list_of-add, inner-slice_get}
+use Rattle.rdl_scope.specs.Roots.{IsSizeOf}
 use Rattle.rdl_scope.specs.Types.{last_definition, type_at, type_from}
 use Rattle.rdl_elab.specs.OwnValues.{dynamic_there}
 use Rattle.rdl_kept.specs.declared.roots.RootFacts.{RootFacts}
@@ -92,15 +93,21 @@ module _ (d : Items) (j : ℕ) (y : Item) (f : RootFacts) (there : slice_get (li
   dynamic-known none a (Some (Default p v)) e = refl
   dynamic-known none a (Some (Dynamic t p v)) e = let some = at a (Dynamic t p v) e in let no : false ≡ true = sym none ∙ some in cc
 
-  pub known-root : IsKnownRoot d j f
-  known-root = record {
-    types = λ a k. types-known a k (item_at (j ∷ a) d) refl;
-    dynamic = λ none a. dynamic-known none a (item_at (j ∷ a) d) refl;
+  -- and so of facts that say the same, and say the item's size
+  pub known-root : (g : RootFacts) → g.types.items ≡ f.types.items → g.has_dynamic ≡ f.has_dynamic → IsSizeOf (add y no_items) g.size → IsKnownRoot d j g
+  known-root g types dynamic size = record {
+    types = λ a k e. subst (λ ks. Contains ks k) (sym types) (types-known a k (item_at (j ∷ a) d) refl e);
+    dynamic = λ none a. dynamic-known (sym dynamic ∙ none) a (item_at (j ∷ a) d) refl;
+    size = λ x e. let both : Some y ≡ Some x = sym there ∙ e in let same : y ≡ x = cc in subst (λ z. IsSizeOf (add z no_items) g.size) same size;
   }
 
 -- without an item of this number nothing stands inside it
 pub no-root : (d : Items) (j : ℕ) (f : RootFacts) → slice_get (list_of d) j ≡ None → IsKnownRoot d j f
-no-root d j f none = record { types = λ a k e. types a k (item_at (j ∷ a) d) (nowhere a) e; dynamic = λ _ a. ap dynamic_there (nowhere a) }
+no-root d j f none = record {
+  types = λ a k e. types a k (item_at (j ∷ a) d) (nowhere a) e;
+  dynamic = λ _ a. ap dynamic_there (nowhere a);
+  size = λ x e. let no : None ≡ Some x = sym none ∙ e in cc;
+}
   where
     nowhere : (a : List ℕ) → item_at (j ∷ a) d ≡ None
     nowhere [] = none

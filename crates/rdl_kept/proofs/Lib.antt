@@ -31,6 +31,7 @@ pub mod AlikeParts
 pub mod AlikeRows
 pub mod KeptAlike
 pub mod SameFaults
+pub mod SameItems
 pub mod SameTargets
 pub mod OtherItems
 pub mod AskedFaults

@@ -16,6 +16,7 @@ use Rattle.rdl_kept.specs.EditedBodies.{is_changed, is_changed_at, tracked_at}
 use Rattle.rdl_kept.specs.RootFacts.{IsKnownRoot, IsInside, ChangesOnly}
 use Rattle.rdl_kept.proofs.TrackedChanges.{type-same, body-same}
 use Rattle.rdl_kept.proofs.SameBodies.{bodies-are}
+use Rattle.rdl_kept.proofs.SameItems.{same-item}
 use Rattle.rdl_kept.proofs.RootsInReach.{holder-inside}
 
 -- ---- The items of a body that isn't changed.
@@ -100,4 +101,5 @@ module _ (t : Tracked) (changed : List Bool) (only : ChangesOnly changed t) (j :
   still-known facts known = record {
     types = λ a k e. known.types a k (sym (type-alike t (j ∷ a) (omega arith) (holder-unchanged a)) ∙ e);
     dynamic = λ none a. dynamic-alike t (j ∷ a) (omega arith) (holder-unchanged a) ∙ known.dynamic none a;
+    size = λ x e. known.size x (sym (same-item t j (unchanged [] (λ h. h)) (λ a. unchanged (j ∷ a) still)) ∙ e);
   }

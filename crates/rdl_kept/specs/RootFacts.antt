@@ -3,26 +3,27 @@
 use Rattle.std.specs.Prelude.{◌≡◌, ◌<◌, ℕ, Bool, true, false, List, [], ◌∷◌, Option, Some, None, slice_get}
 use Rattle.std.specs.List.{Contains, list_all}
 use Rattle.rdl_tree.specs.ItemAt.{item_at}
-use Rattle.rdl_tree.specs.Items.{Items}
-use Rattle.rdl_tree.specs.View.{list_of}
+use Rattle.rdl_tree.specs.Items.{Items, no_items}
+use Rattle.rdl_tree.specs.View.{add, list_of}
 use Rattle.rdl_tree.specs.declared.description.Item.{Item}
 use Rattle.rdl_tree.specs.declared.description.Item.TheVariants.{Define, Instance, Own, Default, Dynamic}
 use Rattle.rdl_scope.specs.Types.{type_of}
 use Rattle.rdl_scope.specs.ItemFaults.{fault_of}
 use Rattle.rdl_elab.specs.OwnValues.{dynamic_there}
 use Rattle.rdl_kept.specs.declared.roots.RootFacts.{RootFacts}
-use Rattle.rdl_scope.specs.Roots.{NoFaultOutside}
+use Rattle.rdl_scope.specs.Roots.{NoFaultOutside, IsSizeOf}
 use Rattle.rdl_kept.specs.Tracked.{Tracked, old_of, new_of}
 use Rattle.rdl_kept.specs.EditedBodies.{is_changed_at}
 use Rattle.rdl_kept.specs.Reach.{in_reach}
 
 -- ---- One item of the root.
 
--- each item of the root to which a type reference in item j leads, or inside it, is among the types; and if there is said to be no
--- dynamic assignment, item j is none and none stands inside it
+-- each item of the root to which a type reference in item j leads, or inside it, is among the types; if there is said to be no dynamic
+-- assignment, item j is none and none stands inside it; and the size is that of item j, if there is one
 pub record IsKnownRoot (d : Items) (j : ℕ) (facts : RootFacts) : Type 0 where
   pub types : (a : List ℕ) (k : ℕ) → type_of d (j ∷ a) ≡ Some (k ∷ []) → Contains facts.types.items k
   pub dynamic : facts.has_dynamic ≡ false → (a : List ℕ) → dynamic_there (item_at (j ∷ a) d) ≡ false
+  pub size : (x : Item) → slice_get (list_of d) j ≡ Some x → IsSizeOf (add x no_items) facts.size
 
 -- what is said of any item of the root is known of it
 abbrev pub AreFactsOf : Items → List (Option RootFacts) → Type 0

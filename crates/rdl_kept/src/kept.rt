@@ -21,6 +21,7 @@ use rdl_elab::stored::Stored;
 use rdl_scope::faults::check;
 use rdl_scope::one_item::check_item;
 use rdl_scope::roots::check_roots;
+use rdl_scope::size::Size;
 use rdl_scope::types::own_component;
 use rdl_tree::address::Address;
 use rdl_tree::description::Description;
@@ -81,13 +82,13 @@ impl Model for Kept {
 }
 
 impl Kept {
-    ghost use Rattle.std.specs.Prelude.{◌≡◌, ◌≤◌, ◌*◌, ◌⊎◌, ℕ, Bool, List, [], Ok, Err, Some, None, IfOk, IfErr, OnOk, OnErr, option_copied};
+    ghost use Rattle.std.specs.Prelude.{◌≡◌, ◌≤◌, ◌*◌, ◌⊎◌, ℕ, Bool, List, [], Ok, Err, Some, None, IfOk, IfErr, IfSome, OnOk, OnErr, option_copied};
     ghost use Rattle.rdl_tree.specs.Items.{Items};
     ghost use Rattle.rdl_tree.specs.Depth.{depth};
     ghost use Rattle.rdl_scope.specs.ItemFaults.{fault_of, out_of_memory};
     ghost use Rattle.rdl_elab.specs.Faults.{elaborated, top_from};
     ghost use Rattle.rdl_scope.specs.OneItem.{NoOtherFault};
-    ghost use Rattle.rdl_scope.specs.Roots.{NoFaultOutside};
+    ghost use Rattle.rdl_scope.specs.Roots.{NoFaultOutside, IsSizeOf};
     ghost use Rattle.rdl_elab.specs.CleanHeads.{AreCleanHeads};
     ghost use Rattle.rdl_elab.specs.Known.{HasRows};
     ghost use Rattle.rdl_kept.specs.SameSkeleton.{HasSameSkeleton};
@@ -264,16 +265,19 @@ impl Kept {
     }
 
     /// Lays out this description as `relay` does, where no item may have a fault but those inside these items of the root: of
-    /// the items those alone are judged. Modes that are known to be clean are as in `relay_item`.
+    /// the items those alone are judged. The size of the description may be known. Modes that are known to be clean are as in
+    /// `relay_item`.
     pub fn relay_roots(
         &mut self,
         alloc: Global,
         description: &Description,
         top: Option<&str>,
         asked: &[bool],
+        size: Option<Size>,
         heads: &[Modes],
     ) -> Result<Vec<Modes>, Fault>
         requires others { NoFaultOutside description.now.items asked.now }
+        requires size { IfSome size (IsSizeOf description.now.items) }
         requires heads { AreCleanHeads description.now.items heads.now }
         ensures layouts { OnOk result (AreOf description.now.items self.new) }
         ensures top { OnOk result (self.new.top ≡ option_copied top.entry) }
@@ -285,7 +289,7 @@ impl Kept {
         ensures refused { IfErr result (λ fault. (elaborated description.now.items (option_copied top.entry) ≡ Err fault) ⊎ (fault ≡ out_of_memory)) }
         ensures err { OnErr result (self.new ≡ self.old) }
     {
-        let found = checked_top_in(alloc, description, top, asked)?;
+        let found = checked_top_in(alloc, description, top, asked, size)?;
         match self.follow(alloc, description, &found, top, Judgement::Needed, heads) {
             Ok(answer) => answer,
             Err(_) => Err(no_memory()),
@@ -411,15 +415,17 @@ impl Kept {
     }
 
     /// Keeps the layouts as they are for this description, as `stay_if_faultless` does, where no item may have a fault but those
-    /// inside these items of the root.
+    /// inside these items of the root. The size of the description may be known.
     pub fn stay_if_clear(
         &mut self,
         alloc: Global,
         description: &Description,
         asked: &[bool],
+        size: Option<Size>,
     ) -> Result<(), Fault>
         requires skeleton { HasSameSkeleton description.now.items self.old }
         requires others { NoFaultOutside description.now.items asked.now }
+        requires size { IfSome size (IsSizeOf description.now.items) }
         requires rows { fault_of description.now.items ≡ None → HasRows description.now.items self.old.top }
         ensures layouts { OnOk result (AreOf description.now.items self.new) }
         ensures top { OnOk result (self.new.top ≡ self.old.top) }
@@ -427,7 +433,7 @@ impl Kept {
         ensures refused { IfErr result (λ fault. (elaborated description.now.items self.old.top ≡ Err fault) ⊎ (fault ≡ out_of_memory)) }
         ensures err { OnErr result (self.new ≡ self.old) }
     {
-        check_roots(alloc, description, asked)?;
+        check_roots(alloc, description, asked, size)?;
         self.stay(description);
         Ok(())
     }

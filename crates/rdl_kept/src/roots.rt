@@ -1,7 +1,9 @@
 //! What is known of each item of the root by itself, and which of them have to be judged again by it.
 ghost use Rattle.std.specs.Prelude.{◌≡◌, ◌↔◌, ℕ, List, Some, None, true, IfOk, IfSome, OnOk, length, option_copied, slice_get, if◌then◌else◌};
 ghost use Rattle.std.specs.List.{Contains};
-ghost use Rattle.rdl_tree.specs.View.{list_of};
+ghost use Rattle.rdl_tree.specs.Items.{no_items};
+ghost use Rattle.rdl_tree.specs.View.{add, list_of};
+ghost use Rattle.rdl_scope.specs.Roots.{IsSizeOf};
 ghost use Rattle.rdl_kept.specs.declared.roots.RootFacts.{RootFacts};
 ghost use Rattle.rdl_scope.specs.ByName.{value_under};
 ghost use Rattle.rdl_scope.specs.Types.{last_definition};
@@ -11,6 +13,7 @@ ghost use Rattle.rdl_kept.specs.UnreachedHeads.{IsUnreached};
 
 use rdl_elab::rows::clean::Modes;
 use rdl_scope::by_name::ByName;
+use rdl_scope::size::{Size, item_size};
 use rdl_text::name::Name;
 use rdl_tree::description::{Body, Description, Item, Of};
 use std::alloc::{AllocError, Global};
@@ -22,6 +25,8 @@ pub struct RootFacts {
     pub types: Vec<usize>,
     /// Whether a dynamic assignment stands inside it.
     pub has_dynamic: bool,
+    /// How large it is with all inside it.
+    pub size: Size,
 }
 
 /// Which items of the root a change inside some of them reaches, and inside which of them all has to be judged again.
@@ -144,10 +149,15 @@ fn facts_of_item(
         facts: RootFacts {
             types: Vec::new(alloc),
             has_dynamic: false,
+            size: Size::nothing(),
         },
     };
     notes.note_item(item)?;
-    Ok(notes.facts)
+    Ok(RootFacts {
+        types: notes.facts.types,
+        has_dynamic: notes.facts.has_dynamic,
+        size: item_size(item),
+    })
 }
 
 /// What is known of the item of the root of this number. Where there is none, nothing stands inside it.
@@ -163,6 +173,7 @@ pub fn facts_of(
         None => Ok(RootFacts {
             types: Vec::new(alloc),
             has_dynamic: false,
+            size: Size::nothing(),
         }),
     }
 }
@@ -287,6 +298,41 @@ pub fn reach_of(
     let reached = reached(alloc, facts, changed)?;
     let asked = asked(alloc, facts, changed, reached.as_slice())?;
     Ok(Some(Reach { reached, asked }))
+}
+
+/// The size of an item of the root of which this is known. It is found in one walk if the item is changed.
+fn size_of_item(item: &Item, is_changed: bool, known: &Option<RootFacts>) -> Option<Size>
+    requires { (facts : RootFacts) → known.now ≡ Some facts → IsSizeOf (add item.now no_items) facts.size }
+    ensures { IfSome result (IsSizeOf (add item.now no_items)) }
+{
+    if is_changed {
+        return Some(item_size(item));
+    }
+    match known {
+        Some(facts) => Some(facts.size),
+        None => None,
+    }
+}
+
+/// The size of the description: the sizes of the items of the root, added up. Those that are changed are walked over, and of the
+/// others they are known. There is no answer where one of the others isn't known, or the lengths differ.
+pub fn size_of(
+    description: &Description,
+    facts: &[Option<RootFacts>],
+    changed: &[bool],
+) -> Option<Size>
+    requires { AreFactsOf description.now.items facts.now }
+    ensures { IfSome result (IsSizeOf description.now.items) }
+{
+    let items = description.items.as_slice();
+    if facts.len() != items.len() || changed.len() != items.len() {
+        return None;
+    }
+    let mut size = Size::nothing();
+    for (j, item) in items.iter().enumerate() {
+        size = size.beside(size_of_item(item, is_marked(changed, j), &facts[j])?);
+    }
+    Some(size)
 }
 
 /// Forgets in which modes the definitions of the root that are reached were found clean.
