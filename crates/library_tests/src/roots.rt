@@ -53,9 +53,9 @@ fn the_root_of_a_faultless_map_is_judged(rt: HostRuntime) -> Result<(), Fail> {
     let description = description(rt.alloc(), NESTED)?;
     let mut kept = Kept::of(rt.alloc(), &description, None)?;
     check(rt.alloc(), &description)?;
-    check_roots(rt.alloc(), &description, &[true, true, true, true])?;
+    check_roots(rt.alloc(), &description, &[true, true, true, true], None)?;
     let asked = [false, true, true, false];
-    let mut heads = kept.relay_roots(rt.alloc(), &description, None, &asked, &[])?;
+    let mut heads = kept.relay_roots(rt.alloc(), &description, None, &asked, None, &[])?;
     assert_holds(&rt, heads.len() == 4, "one for each item");
     forget_reached(&mut heads, &[true]);
     let reach = reach_of(rt.alloc(), &description, &[], &[])?;

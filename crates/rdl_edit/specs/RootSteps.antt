@@ -1,15 +1,17 @@
 -- Steps that change nothing but the bodies inside some items of the root.
 -- own: SystemRDL 2.0 has no edits.
-use Rattle.std.specs.Prelude.{◌≡◌, ◌≢◌, ℕ, Bool, true, false, List, [], ◌∷◌, Option, Some, None, unwrap_or, slice_get}
+use Rattle.std.specs.Prelude.{◌≡◌, ◌≢◌, ℕ, Bool, true, false, List, [], ◌∷◌, Option, Some, None, IfSome, unwrap_or, slice_get}
 use Rattle.rdl_tree.specs.Items.{Items}
 use Rattle.rdl_tree.specs.Patch.{image}
 use Rattle.rdl_tree.specs.declared.patch.Patch.{Patch}
 use Rattle.rdl_tree.specs.declared.patch.Patch.TheVariants.{Insert, Delete, Shift, Exchange}
 use Rattle.rdl_scope.specs.ItemFaults.{fault_of}
+use Rattle.rdl_scope.specs.Roots.{NoFaultOutside, IsSizeOf}
 use Rattle.rdl_kept.specs.RootFacts.{IsKnownRoot, AreFactsOf, ChangesOnly}
 use Rattle.rdl_kept.specs.declared.roots.RootFacts.{RootFacts}
 use Rattle.rdl_kept.specs.Tracked.{Tracked, old_of, new_of}
 use Rattle.rdl_elab.specs.CleanHeads.{AreCleanHeads}
+use Rattle.rdl_edit.specs.declared.roots.Asked.{Asked}
 use Rattle.rdl_edit.specs.declared.roots.Roots.{Roots}
 
 -- the item to which a patch leads
@@ -54,6 +56,11 @@ AreKnownBeside d changed facts = (j : ℕ) (known : Option RootFacts) → slice_
 pub record AreFactsAround (patches : List Patch) (d : Items) (facts : List (Option RootFacts)) : Type 0 where
   pub before : AreFactsOf d facts
   pub behind : AreFactsOf (image patches d) facts
+
+-- no item of this description has a fault if none inside these items of the root has one, and it has this size
+pub record AreAskedOf (d : Items) (asked : Asked) : Type 0 where
+  pub others : NoFaultOutside d asked.roots.items
+  pub size : IfSome asked.size (IsSizeOf d)
 
 -- all that a map knows of the items of its root is true of this description: what each says by itself, and in which modes it is clean
 pub record AreRootsOf (d : Items) (roots : Roots) : Type 0 where

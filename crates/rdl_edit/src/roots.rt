@@ -8,10 +8,11 @@ ghost use Rattle.rdl_scope.specs.ItemFaults.{fault_of};
 ghost use Rattle.rdl_scope.specs.Roots.{NoFaultOutside};
 ghost use Rattle.rdl_kept.specs.RootFacts.{AreFactsOf, IsKnownRoot};
 ghost use Rattle.rdl_kept.specs.declared.roots.RootFacts.{RootFacts as Facts};
-ghost use Rattle.rdl_edit.specs.RootSteps.{address_of, is_patch_inside, IsKnownBeside, AreKnownBeside};
+ghost use Rattle.rdl_edit.specs.RootSteps.{address_of, is_patch_inside, IsKnownBeside, AreKnownBeside, AreAskedOf};
 
 use rdl_elab::rows::clean::Modes;
-use rdl_kept::roots::{RootFacts, facts_of, forget_reached, reach_of};
+use rdl_kept::roots::{RootFacts, facts_of, forget_reached, reach_of, size_of};
+use rdl_scope::size::Size;
 use rdl_tree::address::Address;
 use rdl_tree::description::Description;
 use rdl_tree::patch::Patch;
@@ -24,6 +25,13 @@ pub(crate) struct Roots {
     pub(crate) facts: Vec<Option<RootFacts>>,
     /// In which modes each is known to be clean.
     pub(crate) heads: Vec<Modes>,
+}
+
+/// Inside which items of the root all has to be judged, and the size of the description, if it is known.
+#[derive(Debug, Drop)]
+pub(crate) struct Asked {
+    pub(crate) roots: Vec<bool>,
+    pub(crate) size: Option<Size>,
 }
 
 fn address_of(patch: &Patch) -> &Address
@@ -157,15 +165,33 @@ fn all_beside(
     Ok(known)
 }
 
+/// What has to be judged where no item has a fault but those inside these items of the root, if that is wanted.
+fn asked_in(
+    description: &Description,
+    facts: &[Option<RootFacts>],
+    changed: &[bool],
+    roots: Vec<bool>,
+    wanted: bool,
+) -> Option<Asked>
+    requires facts { AreFactsOf description.now.items facts.now }
+    requires others { NoFaultOutside description.now.items roots.items }
+    ensures { IfSome result (AreAskedOf description.now.items) }
+{
+    if !wanted {
+        return None;
+    }
+    let size = size_of(description, facts, changed);
+    Some(Asked { roots, size })
+}
+
 impl Roots {
     ghost use Rattle.std.specs.Prelude.{◌≡◌, [], None, IfSome, option_copied};
     ghost use Rattle.rdl_tree.specs.Items.{Items};
     ghost use Rattle.rdl_tree.specs.Patch.{image};
     ghost use Rattle.rdl_scope.specs.ItemFaults.{fault_of};
-    ghost use Rattle.rdl_scope.specs.Roots.{NoFaultOutside};
     ghost use Rattle.rdl_elab.specs.CleanHeads.{AreCleanHeads};
     ghost use Rattle.rdl_kept.specs.RootFacts.{AreFactsOf};
-    ghost use Rattle.rdl_edit.specs.RootSteps.{IsStepInside, IsBehindStep, AreRootsOf};
+    ghost use Rattle.rdl_edit.specs.RootSteps.{IsStepInside, IsBehindStep, AreAskedOf, AreRootsOf};
 
     /// Nothing is known.
     pub(crate) fn unknown(alloc: Global) -> Roots
@@ -214,16 +240,17 @@ impl Roots {
 
     /// Arrives at this description behind a step that changed bodies inside these items of the root alone, if that is known: it
     /// is forgotten in which modes those were clean that the step reaches. The answer is inside which items of the root all has
-    /// to be judged, if that is known.
+    /// to be judged, if that is known and wanted.
     pub(crate) fn arrive(
         &mut self,
         alloc: Global,
         description: &Description,
         changed: Option<&Vec<bool>>,
-    ) -> Option<Vec<bool>>
+        wanted: bool,
+    ) -> Option<Asked>
         requires facts { AreFactsOf description.now.items self.old.facts.items }
         requires step { IfSome (option_copied changed) (λ roots. IsBehindStep roots.items description.now.items) }
-        ensures asked { IfSome result (λ asked. NoFaultOutside description.now.items asked.items) }
+        ensures asked { IfSome result (AreAskedOf description.now.items) }
         ensures before { (old : Items) → AreRootsOf old self.old → AreRootsOf old self.new }
         ensures behind { (old : Items) → fault_of old ≡ None → IfSome (option_copied changed.entry) (λ roots. IsStepInside roots.items old description.now.items) → AreRootsOf old self.old → AreRootsOf description.now.items self.new }
     {
@@ -239,7 +266,8 @@ impl Roots {
         ) {
             Ok(Some(reach)) => {
                 forget_reached(&mut self.heads, reach.reached.as_slice());
-                Some(reach.asked)
+                let facts = self.facts.as_slice();
+                asked_in(description, facts, changed.as_slice(), reach.asked, wanted)
             }
             Ok(None) | Err(_) => {
                 self.heads.clear();

@@ -3,9 +3,8 @@ ghost use Rattle.std.specs.Prelude.{◌≡◌, ◌⊎◌, ◌≤◌, ◌*◌, �
 ghost use Rattle.rdl_tree.specs.Items.{Items};
 ghost use Rattle.rdl_scope.specs.ItemFaults.{fault_of, out_of_memory};
 ghost use Rattle.rdl_scope.specs.OneItem.{NoOtherFault};
-ghost use Rattle.rdl_scope.specs.Roots.{NoFaultOutside};
 ghost use Rattle.rdl_elab.specs.CleanHeads.{AreCleanHeads};
-ghost use Rattle.rdl_edit.specs.RootSteps.{AreRootsOf};
+ghost use Rattle.rdl_edit.specs.RootSteps.{AreAskedOf, AreRootsOf};
 ghost use Rattle.rdl_kept.specs.AllKept.{AreOf};
 ghost use Rattle.rdl_elab.specs.Anew.{all_instances};
 ghost use Rattle.rdl_elab.specs.Faults.{elaborated};
@@ -25,7 +24,7 @@ ghost use Rattle.rdl_edit.specs.Touching.{IsKnown, IfStill};
 
 use crate::notes::Outlook;
 use crate::refusal::{Refusal, is_memory};
-use crate::roots::Roots;
+use crate::roots::{Asked, Roots};
 use crate::touched::{Touched, keeps_skeleton, touched_with};
 use rdl_elab::rows::clean::Modes;
 use rdl_kept::kept::Kept;
@@ -78,11 +77,11 @@ fn relay_all(
     description: &Description,
     kept: &mut Kept,
     name: Option<&str>,
-    asked: Option<&Vec<bool>>,
+    asked: Option<&Asked>,
     heads: &[Modes],
 ) -> Result<Vec<Modes>, Fault>
     requires heads { AreCleanHeads description.now.items heads.now }
-    requires asked { IfSome (option_copied asked) (λ asked. NoFaultOutside description.now.items asked.items) }
+    requires asked { IfSome (option_copied asked) (AreAskedOf description.now.items) }
     ensures layouts { OnOk result (AreOf description.now.items kept.new) }
     ensures top { OnOk result (kept.new.top ≡ option_copied name.entry) }
     ensures placed { OnOk result (kept.new.placed ≤ 3 * all_instances description.now.items) }
@@ -93,7 +92,10 @@ fn relay_all(
     ensures err { OnErr result (kept.new ≡ kept.old) }
 {
     match asked {
-        Some(asked) => kept.relay_roots(alloc, description, name, asked.as_slice(), heads),
+        Some(asked) => {
+            let roots = asked.roots.as_slice();
+            kept.relay_roots(alloc, description, name, roots, asked.size, heads)
+        }
         None => match kept.relay(alloc, description, name, &[]) {
             Ok(()) => Ok(Vec::new(alloc)),
             Err(fault) => Err(fault),
@@ -107,11 +109,11 @@ fn stay_renamed(
     alloc: Global,
     description: &Description,
     kept: &mut Kept,
-    asked: Option<&Vec<bool>>,
+    asked: Option<&Asked>,
 ) -> Result<(), Fault>
     requires skeleton { HasSameSkeleton description.now.items kept.old }
     requires rows { fault_of description.now.items ≡ None → HasRowsWith description.now.items kept.old.top }
-    requires asked { IfSome (option_copied asked) (λ asked. NoFaultOutside description.now.items asked.items) }
+    requires asked { IfSome (option_copied asked) (AreAskedOf description.now.items) }
     ensures layouts { OnOk result (AreOf description.now.items kept.new) }
     ensures top { OnOk result (kept.new.top ≡ kept.old.top) }
     ensures placed { OnOk result (kept.new.placed ≡ 0) }
@@ -119,7 +121,7 @@ fn stay_renamed(
     ensures err { OnErr result (kept.new ≡ kept.old) }
 {
     match asked {
-        Some(asked) => kept.stay_if_clear(alloc, description, asked.as_slice()),
+        Some(asked) => kept.stay_if_clear(alloc, description, asked.roots.as_slice(), asked.size),
         None => kept.stay_if_faultless(alloc, description),
     }
 }
@@ -133,11 +135,11 @@ pub(crate) fn lay_out(
     kept: &mut Kept,
     name: Option<&str>,
     touched: &Touched,
-    asked: Option<&Vec<bool>>,
+    asked: Option<&Asked>,
     heads: &[Modes],
 ) -> Result<Option<Vec<Modes>>, Fault>
     requires known { IsKnown touched.now description.now.items kept.old }
-    requires asked { IfSome (option_copied asked) (λ asked. NoFaultOutside description.now.items asked.items) }
+    requires asked { IfSome (option_copied asked) (AreAskedOf description.now.items) }
     requires heads { AreCleanHeads description.now.items heads.now }
     requires top { kept.old.top ≡ option_copied name }
     ensures layouts { OnOk result (AreOf description.now.items kept.new) }
@@ -237,7 +239,7 @@ pub(crate) fn turn(
         return Err(Refusal::Memory);
     };
     let new = turned.description();
-    let asked = roots.arrive(alloc, new, changed.as_ref());
+    let asked = roots.arrive(alloc, new, changed.as_ref(), wanted);
     let heads = roots.heads.as_slice();
     match lay_out(alloc, new, kept, name, &touched, asked.as_ref(), heads) {
         Ok(heads) => {
@@ -286,7 +288,7 @@ pub(crate) fn again(
         Err(same) => return Err(same),
     };
     let new = turned.description();
-    roots.arrive(alloc, new, changed.as_ref());
+    roots.arrive(alloc, new, changed.as_ref(), false);
     match lay_out_known(alloc, new, kept, name, still) {
         Ok(()) => Ok(turned.keep()),
         Err(_) => Err(turned.back()),
