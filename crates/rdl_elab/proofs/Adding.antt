@@ -1,12 +1,12 @@
 -- More is put under keys, and is taken away again.
-use Rattle.std.proofs.Common.{◌≡◌, ◌≢◌, ◌⊎◌, inl, inr, ◌<◌, ◌≤◌, ◌+◌, ℕ, Bool, true, List, [], ◌∷◌, ◌++◌, map, length, take, get_or, Option, Some, None, refl, sym, ap, subst, ◌∙◌, arith}
+use Rattle.std.proofs.Common.{◌≡◌, ◌≢◌, ◌⊎◌, inl, inr, ◌<◌, ◌≤◌, ℕ, Bool, true, List, [], ◌∷◌, ◌++◌, map, length, Option, Some, None, refl, sym, ap, subst, ◌∙◌, arith}
 use Rattle.std.specs.Global.{Vec}
 use Rattle.std.specs.Prelude.{◌==◌, false, is_some, Result, Ok, Err, IfOk, OnErr, Contains, IsSome, IsSomeAnd, slice_get}
 use Rattle.std.proofs.lemmas.List.{map-append}
 use Rattle.std.proofs.lemmas.List.Elements.{Contains-append_left, Contains-push, Contains-push_cases}
 use Rattle.std.proofs.lemmas.Bool.Decides.{Decides-eqb}
 use Rattle.slab.specs.Slab.{Slab, get}
-use Rattle.rdl_elab.specs.Kept.{Layouts, MadeOf, LaidOut}
+use Rattle.rdl_elab.specs.Kept.{LaidOut}
 use Rattle.rdl_elab.specs.Words.{IsMade}
 use Rattle.rdl_elab.specs.Entries.{IsOf, Puts, Adds}
 use Rattle.rdl_elab.specs.declared.walk.finished.Finished.{Finished}

@@ -51,6 +51,7 @@ pub mod KeptAnswers
 pub mod KnownRows
 pub mod LedKeys
 pub mod Adding
+pub mod Tying
 pub mod Storing
 pub mod Coding
 pub mod Spelled

@@ -1,11 +1,12 @@
 -- Layouts with the words of what they are made of, under keys.
 -- own: how they are kept.
-use Rattle.std.specs.Prelude.{◌≡◌, ◌≢◌, ◌⊎◌, ℕ, List, [], ◌∷◌, map, Option, Some, None, IsSome, Contains, option_map}
+use Rattle.std.specs.Prelude.{◌≡◌, ◌≢◌, ◌⊎◌, ℕ, List, [], ◌∷◌, map, Option, Some, None, IsSome, IsSomeAnd, Contains, option_map}
 use Rattle.std.specs.List.{filter_map}
 use Rattle.slab.specs.Slab.{Slab, get}
 use Rattle.rdl_elab.specs.Kept.{Layouts, LaidOut}
 use Rattle.rdl_elab.specs.Words.{IsMade}
-use Rattle.rdl_elab.specs.WordIndex.{IsLed}
+use Rattle.rdl_elab.specs.Digest.{digest}
+use Rattle.rdl_elab.specs.WordIndex.{spot_of, other_of, IsLed}
 use Rattle.rdl_elab.specs.declared.stored.word_index.WordIndex.{WordIndex}
 
 -- layouts that are made of what these words spell
@@ -19,6 +20,21 @@ HasNone q s = (k : ℕ) (e : LaidOut) → get s k ≡ Some e → e.words ≢ q
 -- the words of each lead to its key
 abbrev pub AreLed : Slab LaidOut → WordIndex → Type 0
 AreLed s i = (k : ℕ) (e : LaidOut) → get s k ≡ Some e → IsLed i e.words k
+
+-- where nothing has these words, one index leads to what the other led to
+abbrev pub KeepsLed : List ℕ → WordIndex → WordIndex → Type 0
+KeepsLed w i j = (s : Slab LaidOut) → HasNone w s → AreLed s i → AreLed s j
+
+-- nothing leads anywhere but to what has the words or their digest, or from these words to this key
+pub record LeadsBackBut (s : Slab LaidOut) (i : WordIndex) (w : List ℕ) (key : ℕ) : Type 0 where
+  pub digests : (q : List ℕ) (k : ℕ) → spot_of i q ≡ Some k → IsSomeAnd (get s k) (λ e. digest e.words ≡ digest q) ⊎ ((k ≡ key) × (digest w ≡ digest q))
+  pub others : (q : List ℕ) (k : ℕ) → other_of i q ≡ Some k → IsSomeAnd (get s k) (λ e. e.words ≡ q) ⊎ ((k ≡ key) × (w ≡ q))
+
+-- the words of each lead to its key, and nothing leads anywhere but to what has the words or their digest
+pub record AreTied (s : Slab LaidOut) (i : WordIndex) : Type 0 where
+  pub led : AreLed s i
+  pub digests : (q : List ℕ) (k : ℕ) → spot_of i q ≡ Some k → IsSomeAnd (get s k) (λ e. digest e.words ≡ digest q)
+  pub others : (q : List ℕ) (k : ℕ) → other_of i q ≡ Some k → IsSomeAnd (get s k) (λ e. e.words ≡ q)
 
 -- what stands under the keys goes on to stand there, and if there is more, it stands under this key, which was free
 pub record Puts (old new : Slab LaidOut) (key : ℕ) : Type 0 where

@@ -1,5 +1,5 @@
 //! Layouts under their keys, found again by the words of what they are made of.
-ghost use Rattle.std.specs.Prelude.{◌≡◌, ◌≢◌, ◌⊎◌, ◌<◌, ℕ, [], true, None, Some, map, length, slice_get, option_copied, option_map, option_and_then, Contains, IfOk, IfSome, IsSome, OnOk, OnErr};
+ghost use Rattle.std.specs.Prelude.{◌≡◌, ◌⊎◌, ◌<◌, ℕ, [], true, None, Some, length, slice_get, option_copied, option_map, option_and_then, Contains, IfOk, IfSome, IsSome, OnOk, OnErr};
 ghost use Rattle.slab.specs.Slab.{Slab, get, SameValues};
 ghost use Rattle.rdl_elab.specs.declared.walk.finished.Finished.{Finished};
 ghost use Rattle.rdl_elab.specs.declared.stored.Candidate.{Candidate};
@@ -213,7 +213,7 @@ impl Model for Stored {
 }
 
 impl Stored {
-    ghost use Rattle.std.specs.Prelude.{◌≡◌, [], map, length, is_some, slice_get, option_copied, option_map, IfSome, Some, OnOk, OnErr};
+    ghost use Rattle.std.specs.Prelude.{◌≡◌, map, length, is_some, slice_get, option_copied, option_map, IfSome, Some, OnOk, OnErr};
     ghost use Rattle.std.specs.List.{AllByRecursion};
     ghost use Rattle.rdl_elab.specs.Anew.{AreKept};
     ghost use Rattle.rdl_elab.specs.Finished.{under};

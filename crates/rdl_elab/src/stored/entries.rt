@@ -1,9 +1,9 @@
 //! Layouts under keys, found again by the words of what they are made of.
-ghost use Rattle.std.specs.Prelude.{◌≡◌, ◌≢◌, ℕ, false, None, Some, IfSome, IsSomeAnd, OnOk};
+ghost use Rattle.std.specs.Prelude.{◌≡◌, ◌≢◌, ℕ, None, Some, IfOk, IfSome, IsSomeAnd, OnOk, OnErr};
 ghost use Rattle.slab.specs.Slab.{get};
 ghost use Rattle.rdl_elab.specs.Kept.{LaidOut};
-ghost use Rattle.rdl_elab.specs.Entries.{IsOf, AreLed, HasNone};
-ghost use Rattle.rdl_elab.specs.WordIndex.{IsLed};
+ghost use Rattle.rdl_elab.specs.Entries.{IsOf, HasNone, AreLed, KeepsLed, LeadsBackBut, AreTied, Puts};
+ghost use Rattle.rdl_elab.specs.WordIndex.{IsLed, LeadsMore};
 
 use crate::stored::word_index::WordIndex;
 use crate::walk::laid_out::LaidOut;
@@ -24,33 +24,39 @@ fn with_words(slab: &Slab<LaidOut>, key: Option<usize>, words: &[u8]) -> Option<
     }
 }
 
-/// Whether something stands under the key.
-fn is_taken(slab: &Slab<LaidOut>, key: Option<usize>) -> bool
-    ensures { result ≡ false → (k : ℕ) (e : LaidOut) → get slab.now k ≡ Some e → key ≢ Some k }
-{
-    match key {
-        Some(key) => slab.get(key).is_some(),
-        None => false,
-    }
-}
-
-/// Leads from words that nothing has to a key under which nothing stands.
-fn lead(
-    alloc: Global,
-    slab: &Slab<LaidOut>,
-    index: &mut WordIndex,
-    words: &[u8],
-    key: usize,
-) -> Result<(), AllocError>
-    requires { HasNone words.now slab.now }
+/// Leads from the words to the key, by their digest if it leads nowhere, or else by the words themselves.
+fn lead(alloc: Global, index: &mut WordIndex, words: &[u8], key: usize) -> Result<(), AllocError>
     ensures there { OnOk result (IsLed index.new words.now key) }
-    ensures others { AreLed slab.now index.old → AreLed slab.now index.new }
+    ensures others { KeepsLed words.now index.old index.new }
+    ensures only { LeadsMore index.old index.new words.now key }
 {
-    if is_taken(slab, index.by_digest(words)) {
+    if index.by_digest(words).is_some() {
         index.lead_words(alloc, words, key)
     } else {
         index.lead_digest(words, key)
     }
+}
+
+/// Puts these under a key under which nothing stands, and leads from their words to it.
+fn put_led(
+    alloc: Global,
+    slab: &mut Slab<LaidOut>,
+    index: &mut WordIndex,
+    laid_out: LaidOut,
+) -> Result<usize, AllocError>
+    requires none { HasNone laid_out.words slab.old }
+    requires tied { AreTied slab.old index.old }
+    ensures key { IfOk result (λ k. k ≡ slab.old.vacant_key) }
+    ensures put { IfOk result (λ k. get slab.new k ≡ Some laid_out) }
+    ensures others { Puts slab.old slab.new slab.old.vacant_key }
+    ensures tied { OnOk result (AreTied slab.new index.new) }
+    ensures led { OnErr result (AreLed slab.new index.new) }
+    ensures back { OnErr result (LeadsBackBut slab.new index.new laid_out.words slab.old.vacant_key) }
+    ensures vacant { OnErr result (get slab.new slab.old.vacant_key ≡ None) }
+{
+    let key = slab.vacant_key();
+    lead(alloc, index, laid_out.words().as_slice(), key)?;
+    Ok(slab.insert(laid_out)?)
 }
 
 /// Layouts under keys, found again by the words of what they are made of. A contract sees what stands under the keys.
@@ -67,15 +73,15 @@ impl Model for Entries {
 
     ghost Value = { Slab LaidOut };
 
-    ghost use Rattle.rdl_elab.specs.Entries.{AreLed};
+    ghost use Rattle.rdl_elab.specs.Entries.{AreTied};
 
     ghost view = { λ e. e.slab };
 
-    ghost invariant = { λ e. AreLed e.slab e.index };
+    ghost invariant = { λ e. AreTied e.slab e.index };
 }
 
 impl Entries {
-    ghost use Rattle.std.specs.Prelude.{◌≡◌, ◌≢◌, ◌≤◌, ℕ, [], None, Some, length, option_copied, IfOk, IfSome, IsSomeAnd};
+    ghost use Rattle.std.specs.Prelude.{◌≡◌, ◌≤◌, [], None, Some, length, option_copied, IfOk, IfSome, IsSomeAnd};
     ghost use Rattle.slab.specs.Slab.{get, Updates};
     ghost use Rattle.rdl_elab.specs.Entries.{IsOf, HasNone, Puts};
 
@@ -133,14 +139,14 @@ impl Entries {
         ensures others { Puts self.old self.new self.old.vacant_key }
     {
         let key = self.slab.vacant_key();
-        lead(
-            alloc,
-            &self.slab,
-            &mut self.index,
-            laid_out.words().as_slice(),
-            key,
-        )?;
-        Ok(self.slab.insert(laid_out)?)
+        let words = laid_out.words().share()?;
+        match put_led(alloc, &mut self.slab, &mut self.index, laid_out) {
+            Ok(key) => Ok(key),
+            Err(error) => {
+                self.index.forget(words.as_slice(), key);
+                Err(error)
+            }
+        }
     }
 
     /// Removes what stands under the key.

@@ -69,11 +69,15 @@ pub(crate) struct WordIndex {
 }
 
 impl WordIndex {
-    ghost use Rattle.std.specs.Prelude.{◌≡◌, ◌≢◌, ℕ, List, Some, OnOk};
-    ghost use Rattle.rdl_elab.specs.WordIndex.{spot_of, other_of, IsLed};
+    ghost use Rattle.std.specs.Prelude.{◌≡◌, ◌≢◌, ℕ, List, None, Some, OnOk};
+    ghost use Rattle.rdl_elab.specs.Digest.{digest};
+    ghost use Rattle.rdl_elab.specs.WordIndex.{spot_of, other_of, IsLed, LeadsMore, Forgets};
 
     /// No words lead anywhere.
-    pub(crate) fn new(alloc: Global) -> WordIndex {
+    pub(crate) fn new(alloc: Global) -> WordIndex
+        ensures digests { (q : List ℕ) → spot_of result q ≡ None }
+        ensures others { (q : List ℕ) → other_of result q ≡ None }
+    {
         WordIndex {
             spots: BTreeMap::new(alloc),
             others: BTreeMap::new(alloc),
@@ -99,6 +103,7 @@ impl WordIndex {
     pub(crate) fn lead_digest(&mut self, words: &[u8], key: usize) -> Result<(), AllocError>
         ensures there { OnOk result (IsLed self.new words.now key) }
         ensures others { (q : List ℕ) (k : ℕ) → IsLed self.old q k → spot_of self.old words.now ≢ Some k → IsLed self.new q k }
+        ensures only { LeadsMore self.old self.new words.now key }
     {
         self.spots.insert(digest(words), key)?;
         Ok(())
@@ -113,6 +118,7 @@ impl WordIndex {
     ) -> Result<(), AllocError>
         ensures there { OnOk result (IsLed self.new words.now key) }
         ensures others { (q : List ℕ) (k : ℕ) → IsLed self.old q k → q ≢ words.now → IsLed self.new q k }
+        ensures only { LeadsMore self.old self.new words.now key }
     {
         self.others.insert(words.to_vec(alloc)?, key)?;
         Ok(())
@@ -120,7 +126,9 @@ impl WordIndex {
 
     /// Lets the digest of the words lead to the key no longer.
     fn forget_digest(&mut self, words: &[u8], key: usize)
-        ensures { (q : List ℕ) (k : ℕ) → IsLed self.old q k → k ≢ key → IsLed self.new q k }
+        ensures stay { (q : List ℕ) (k : ℕ) → IsLed self.old q k → k ≢ key → IsLed self.new q k }
+        ensures digests { (q : List ℕ) (k : ℕ) → spot_of self.new q ≡ Some k → (spot_of self.old q ≡ Some k) × (digest words.now ≡ digest q → k ≢ key) }
+        ensures others { (q : List ℕ) → other_of self.new q ≡ other_of self.old q }
     {
         let digest = digest(words);
         if self.spots.get(&digest).copied() == Some(key) {
@@ -130,7 +138,9 @@ impl WordIndex {
 
     /// Lets the words themselves lead to the key no longer.
     fn forget_words(&mut self, words: &[u8], key: usize)
-        ensures { (q : List ℕ) (k : ℕ) → IsLed self.old q k → k ≢ key → IsLed self.new q k }
+        ensures stay { (q : List ℕ) (k : ℕ) → IsLed self.old q k → k ≢ key → IsLed self.new q k }
+        ensures digests { (q : List ℕ) → spot_of self.new q ≡ spot_of self.old q }
+        ensures others { (q : List ℕ) (k : ℕ) → other_of self.new q ≡ Some k → (other_of self.old q ≡ Some k) × (words.now ≡ q → k ≢ key) }
     {
         if self.by_words(words) == Some(key) {
             self.others.remove(words);
@@ -139,7 +149,8 @@ impl WordIndex {
 
     /// Lets the words lead to the key no longer. What leads to other keys goes on to lead there.
     pub(crate) fn forget(&mut self, words: &[u8], key: usize)
-        ensures { (q : List ℕ) (k : ℕ) → IsLed self.old q k → k ≢ key → IsLed self.new q k }
+        ensures stay { (q : List ℕ) (k : ℕ) → IsLed self.old q k → k ≢ key → IsLed self.new q k }
+        ensures gone { Forgets self.old self.new words.now key }
     {
         self.forget_digest(words, key);
         self.forget_words(words, key);

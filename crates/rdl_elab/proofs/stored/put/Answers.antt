@@ -1,4 +1,4 @@
-use Rattle.std.proofs.Common.{rules, ◌≡◌, ◌∷◌, ◌++◌, ℕ, List, [], ap, sym, subst, ◌∙◌}
+use Rattle.std.proofs.Common.{rules, ◌≡◌, ◌∷◌, ◌++◌, [], sym, subst, ◌∙◌}
 use Rattle.slab.specs.Slab.{get}
 use Rattle.rdl_elab.specs.Entries.{Adds}
 use Rattle.rdl_elab.proofs.Adding.{same-made, adds-one, ok-only}

@@ -1,4 +1,4 @@
-use Rattle.std.proofs.Common.{◌≡◌, ◌⊎◌, inl, refl, ◌+◌, ◌∷◌, ◌++◌, ℕ, List, [], take, get_or, Contains, sym, subst}
+use Rattle.std.proofs.Common.{◌≡◌, ◌⊎◌, ◌+◌, ◌∷◌, ◌++◌, ℕ, List, [], take, get_or, Contains, sym, subst}
 use Rattle.std.proofs.lemmas.List.{take_more}
 use Rattle.slab.specs.Slab.{get}
 use Rattle.rdl_elab.proofs.Adding.{none-more, kept-more}

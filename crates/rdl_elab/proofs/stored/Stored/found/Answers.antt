@@ -1,4 +1,4 @@
-use Rattle.std.proofs.Common.{rules, ◌≡◌, ℕ, false, List, None, ap, sym, subst, Some, ◌∙◌}
+use Rattle.std.proofs.Common.{rules, ◌≡◌, ℕ, false, None, ap, sym, subst, Some, ◌∙◌}
 use Rattle.std.specs.Prelude.{is_some, IfSome}
 use Rattle.rdl_elab.specs.declared.stored.Candidate.{Candidate}
 use Rattle.rdl_elab.specs.Kept.{Layouts, Stored}

@@ -1,11 +1,10 @@
-use Rattle.std.proofs.Common.{rules, ◌≡◌, ℕ, Contains, Bool, true, List, map, Some, ap, sym, subst, ◌∙◌}
+use Rattle.std.proofs.Common.{◌≡◌, ℕ, Contains, Bool, true, List, map, Some, ap, sym, subst, ◌∙◌}
 use Rattle.std.specs.Prelude.{IsSome, slice_get}
 use Rattle.slab.specs.Slab.{get}
 use Rattle.rdl_elab.specs.declared.walk.finished.Finished.{Finished}
-use Rattle.rdl_elab.specs.Kept.{Layouts, Stored}
+use Rattle.rdl_elab.specs.Kept.{Layouts}
 use Rattle.rdl_elab.specs.Entries.{slot_layouts}
 use Rattle.rdl_elab.specs.Stored.{AreUnder}
-use Rattle.rdl_elab.specs.Taken.{AreUnderKeys}
 use Rattle.rdl_elab.proofs.Adding.{on-err}
 use Rattle.rdl_elab.proofs.Storing.{stays-stored, same-stored, under-all, under-keys, under-kept, kept-keys, holds-only}
 use Rattle.rdl_elab.proofs.stored.Stored.replace.Goals as goal
