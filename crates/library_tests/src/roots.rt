@@ -3,7 +3,7 @@ use crate::assert_holds;
 use crate::history::{is_made, opened};
 use crate::parse::description;
 use rdl_kept::kept::Kept;
-use rdl_kept::roots::{facts_of, forget_reached, reach_of};
+use rdl_kept::roots::{facts_of, forget_reached, reach_of, size_of};
 use rdl_scope::faults::check;
 use rdl_scope::roots::check_roots;
 use rdl_tree::description::Description;
@@ -60,6 +60,16 @@ fn the_root_of_a_faultless_map_is_judged(rt: HostRuntime) -> Result<(), Fail> {
     forget_reached(&mut heads, &[true]);
     let reach = reach_of(rt.alloc(), &description, &[], &[])?;
     assert_holds(&rt, reach.is_none(), "nothing is known");
+    Ok(())
+}
+
+// of a root without items all is known
+#[test]
+fn a_root_without_items_reaches_nothing(rt: HostRuntime) -> Result<(), Fail> {
+    let empty = description(rt.alloc(), "")?;
+    let reach = reach_of(rt.alloc(), &empty, &[], &[])?;
+    assert_holds(&rt, reach.is_some(), "what is reached");
+    assert_holds(&rt, size_of(&empty, &[], &[]).is_some(), "the size");
     Ok(())
 }
 
