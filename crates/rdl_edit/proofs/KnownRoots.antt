@@ -1,21 +1,22 @@
 -- What is known of the items of the root, item by item, and that it stays true where nothing is changed.
-use Rattle.std.proofs.Common.{◌≡◌, ℕ, zero, suc, ◌+◌, ◌<◌, ◌≤◌, Bool, true, List, [], ◌∷◌, ◌++◌, length, Option, Some, None, refl, ap, sym, subst, ◌∙◌, arith, ◌⊎◌, inl, inr}
+use Rattle.std.proofs.Common.{◌≡◌, ℕ, zero, suc, Bool, true, List, [], ◌∷◌, ◌++◌, length, Option, Some, None, refl, ap, sym, subst, ◌∙◌, ◌⊎◌, inl, inr}
 use Rattle.std.specs.Prelude.{slice_get, slice_set}
 use Rattle.std.specs.List.{list_all}
-use Rattle.std.proofs.lemmas.Option.{slice_get_within}
 use Rattle.rdl_tree.specs.Items.{Items}
 use Rattle.rdl_tree.specs.Patch.{image}
 use Rattle.rdl_tree.specs.declared.patch.Patch.{Patch}
 use Rattle.rdl_scope.specs.ItemFaults.{fault_of}
 use Rattle.rdl_scope.specs.Roots.{NoFaultOutside}
-use Rattle.rdl_elab.specs.CleanHeads.{AreCleanHeads}
-use Rattle.rdl_elab.specs.declared.rows.clean.Modes.{Modes}
-use Rattle.rdl_kept.specs.RootFacts.{IsKnownRoot, AreFactsOf, ChangesOnly, AsksEnough, ReachesEnough}
+use Rattle.rdl_elab.specs.declared.kept_root.KeptRoot.{KeptRoot}
+use Rattle.rdl_elab.specs.Runs.{AreKeptRoots}
+use Rattle.rdl_kept.specs.AllKept.{AreKnownIn, AreOf, KeptLayouts, StandsStill}
+use Rattle.rdl_elab.proofs.KnownRows.{no-item-fault}
+use Rattle.rdl_kept.specs.RootFacts.{IsKnownRoot, AsksEnough, ReachesEnough}
 use Rattle.rdl_kept.specs.UnreachedHeads.{IsUnreached}
 use Rattle.rdl_kept.specs.declared.roots.RootFacts.{RootFacts}
-use Rattle.rdl_kept.specs.Tracked.{Tracked, old_of, new_of}
-use Rattle.rdl_kept.proofs.CleanStays.{clean-stays}
-use Rattle.rdl_kept.proofs.ForgottenHeads.{unreached-kept, unreached-clean}
+use Rattle.rdl_kept.specs.Tracked.{old_of, new_of}
+use Rattle.rdl_kept.proofs.CleanStays.{roots-stay}
+use Rattle.rdl_kept.proofs.ForgottenHeads.{unreached-kept, unreached-known}
 use Rattle.rdl_kept.proofs.UnchangedRoots.{still-known}
 use Rattle.rdl_edit.specs.RootSteps.{is_patch_inside, IsKnownBeside, AreKnownBeside, AreFactsAround, IsStepInside, IsBehindStep, AreRootsOf}
 use Rattle.rdl_edit.specs.Tracking.{tracked_step}
@@ -81,23 +82,35 @@ step-led changed old new accepted step = record { old = old; accepted = accepted
 pub enough-asked : (changed asked : List Bool) (new : Items) → IsBehindStep changed new → AsksEnough new changed asked → NoFaultOutside new asked
 enough-asked changed asked new b enough = enough b.step.step (ap fault_of b.step.was ∙ b.accepted) b.step.leads b.step.only
 
-pub heads-before : (old : Items) (heads kept : List Modes) (reached : List Bool) → IsUnreached heads reached kept → AreCleanHeads old heads → AreCleanHeads old kept
-heads-before old heads kept reached less clean = unreached-clean old reached heads kept less clean
+pub heads-before : (old : Items) (k : KeptLayouts) (heads kept : List KeptRoot) (reached : List Bool) → IsUnreached heads reached kept → AreKnownIn old k heads → AreKnownIn old k kept
+heads-before old k heads kept reached less known = unreached-known old k.spelled k.layouts reached heads kept less known
 
-pub heads-behind : (changed reached : List Bool) (old new : Items) (heads kept : List Modes) → fault_of old ≡ None → IsStepInside changed old new → ReachesEnough new changed reached → IsUnreached heads reached kept
-    → AreCleanHeads old heads → AreCleanHeads new kept
-heads-behind changed reached old new heads kept accepted step enough less clean =
+pub heads-behind : (changed reached : List Bool) (old new : Items) (k : KeptLayouts) (heads kept : List KeptRoot) → fault_of old ≡ None → IsStepInside changed old new → ReachesEnough new changed reached
+    → IsUnreached heads reached kept → AreKnownIn old k heads → AreKnownIn new k kept
+heads-behind changed reached old new k heads kept accepted step enough less known =
     let t = step.step in
     let was : fault_of (old_of t) ≡ None = ap fault_of step.was ∙ accepted in
     let far : ReachesEnough (new_of t) changed reached = subst (λ d. ReachesEnough d changed reached) (sym step.leads) enough in
-    let before : AreCleanHeads (old_of t) heads = subst (λ d. AreCleanHeads d heads) (sym step.was) clean in
-    subst (λ d. AreCleanHeads d kept) step.leads (clean-stays t heads kept was before (unreached-kept t changed reached heads kept less far was step.only))
+    let before : AreKnownIn (old_of t) k heads = subst (λ d. AreKnownIn d k heads) (sym step.was) known in
+    subst (λ d. AreKnownIn d k kept) step.leads (roots-stay t k.spelled k.layouts heads kept was before (unreached-kept t changed reached heads kept less far was step.only))
 
-pub no-heads : (d : Items) (heads : List Modes) → heads ≡ [] → AreCleanHeads d heads
-no-heads d heads none j ms c m e = cc
+pub no-heads : (d : Items) (k : KeptLayouts) (heads : List KeptRoot) → heads ≡ [] → AreKnownIn d k heads
+no-heads d k heads none = subst (AreKnownIn d k) (sym none) (record { clean = λ j ms c m e. cc; kept = λ j r s e. cc })
+
+-- what is known of them stays where all stands as it stood, and else is renewed
+pub heads-answered : (d : Items) (old new : KeptLayouts) (heads : List KeptRoot) → StandsStill old new → AreKnownIn d old heads → AreKnownIn d new heads
+heads-answered d old new heads same known =
+    subst (λ words. AreKeptRoots d words new.layouts heads) (sym same.spelled) (subst (λ layouts. AreKeptRoots d old.spelled layouts heads) (sym same.layouts) known)
+
+pub roots-answered : (d : Items) (old new : KeptLayouts) (roots : Roots) → AreRootsOf d old roots → StandsStill old new → AreRootsOf d new roots
+roots-answered d old new roots known same = record { facts = known.facts; heads = heads-answered d old new roots.heads.items same known.heads }
+
+-- no item of a description has a fault whose layouts are kept
+pub was-faultless : (d : Items) (k : KeptLayouts) → AreOf d k → fault_of d ≡ None
+was-faultless d k are = no-item-fault d k.top (record { rows = are.rows; are = are.faultless })
 
 -- the same description by another name
-pub roots-made : (there here made : Items) (roots : Roots) → there ≡ made → here ≡ made → AreRootsOf there roots → AreRootsOf here roots
-roots-made there here made roots e f known = subst (λ d. AreRootsOf d roots) (e ∙ sym f) known
+pub roots-made : (there here made : Items) (k : KeptLayouts) (roots : Roots) → there ≡ made → here ≡ made → AreRootsOf there k roots → AreRootsOf here k roots
+roots-made there here made k roots e f known = subst (λ d. AreRootsOf d k roots) (e ∙ sym f) known
 
-pub ruleset steps = (none-beside, one-beside, unknown-around, step-inside, step-led)
+pub ruleset steps = (none-beside, one-beside, unknown-around, step-inside, step-led, no-heads, roots-answered)

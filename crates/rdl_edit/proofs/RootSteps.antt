@@ -1,6 +1,6 @@
 -- A step whose patches change bodies inside some items of the root changes no other body.
 use Rattle.std.proofs.Common.{◌≡◌, ℕ, zero, suc, Bool, true, false, List, [], ◌∷◌, Option, ◌++◌, Some, None, refl, ap, sym, ◌∙◌, arith}
-use Rattle.std.specs.Prelude.{◌||◌, ◌&&◌, slice_get, unwrap_or, is_some}
+use Rattle.std.specs.Prelude.{◌||◌, slice_get, unwrap_or, is_some}
 use Rattle.std.specs.List.{list_all}
 use Rattle.std.proofs.lemmas.Bool.{false≢true, and_parts}
 use Rattle.rdl_tree.specs.Items.{Items, no_items, plain, holder, named, own, default, dynamic, define, anonymous}
@@ -12,7 +12,7 @@ use Rattle.rdl_kept.specs.Tracked.{Tracked, nothing, comes, goes, named_stays, o
 use Rattle.rdl_kept.specs.EditedBodies.{is_changed, is_changed_at}
 use Rattle.rdl_edit.specs.Tracking.{at_item, at_body, tracked, tracked_along, tracked_step}
 use Rattle.rdl_kept.specs.RootFacts.{IsInside, ChangesOnly}
-use Rattle.rdl_edit.specs.RootSteps.{address_of, is_inside, is_patch_inside}
+use Rattle.rdl_edit.specs.RootSteps.{is_inside, is_patch_inside}
 use Rattle.rdl_edit.proofs.OrdinarySteps.{WasChanged, was_changed}
 
 -- ---- Before any step.

@@ -72,4 +72,4 @@ pub record IsOutlook (ps : List Patch) (d : Items) (outlook : Outlook) : Type 0 
 pub record IsHeld (s : State) (k : KeptLayouts) (noted : Option Notes) (roots : Roots) : Type 0 where
   pub keeps : Keeps s k
   pub notes : IfSome noted (AreNotes s.description)
-  pub known : AreRootsOf s.description roots
+  pub known : AreRootsOf s.description k roots

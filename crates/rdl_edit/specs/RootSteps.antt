@@ -1,6 +1,7 @@
 -- Steps that change nothing but the bodies inside some items of the root.
 -- own: SystemRDL 2.0 has no edits.
 use Rattle.std.specs.Prelude.{◌≡◌, ◌≢◌, ℕ, Bool, true, false, List, [], ◌∷◌, Option, Some, None, IfSome, unwrap_or, slice_get}
+use Rattle.std.specs.Global.{Vec}
 use Rattle.rdl_tree.specs.Items.{Items}
 use Rattle.rdl_tree.specs.Patch.{image}
 use Rattle.rdl_tree.specs.declared.patch.Patch.{Patch}
@@ -10,7 +11,8 @@ use Rattle.rdl_scope.specs.Roots.{NoFaultOutside, IsSizeOf}
 use Rattle.rdl_kept.specs.RootFacts.{IsKnownRoot, AreFactsOf, ChangesOnly}
 use Rattle.rdl_kept.specs.declared.roots.RootFacts.{RootFacts}
 use Rattle.rdl_kept.specs.Tracked.{Tracked, old_of, new_of}
-use Rattle.rdl_elab.specs.CleanHeads.{AreCleanHeads}
+use Rattle.rdl_elab.specs.declared.kept_root.KeptRoot.{KeptRoot}
+use Rattle.rdl_kept.specs.AllKept.{AreKnownIn, KeptLayouts, StandsStill}
 use Rattle.rdl_edit.specs.declared.roots.Asked.{Asked}
 use Rattle.rdl_edit.specs.declared.roots.Roots.{Roots}
 
@@ -62,7 +64,12 @@ pub record AreAskedOf (d : Items) (asked : Asked) : Type 0 where
   pub others : NoFaultOutside d asked.roots.items
   pub size : IfSome asked.size (IsSizeOf d)
 
--- all that a map knows of the items of its root is true of this description: what each says by itself, and in which modes it is clean
-pub record AreRootsOf (d : Items) (roots : Roots) : Type 0 where
+-- all that a map knows of the items of its root is true of this description: what each says by itself, in which modes it is clean, and what is kept of it
+pub record AreRootsOf (d : Items) (k : KeptLayouts) (roots : Roots) : Type 0 where
   pub facts : AreFactsOf d roots.facts.items
-  pub heads : AreCleanHeads d roots.heads.items
+  pub heads : AreKnownIn d k roots.heads.items
+
+-- what is known of them now, or nothing new, where all that is kept stands as it stood
+abbrev pub AreAnswered : Items → (old new : KeptLayouts) → Option (Vec KeptRoot) → Type 0
+AreAnswered d old new None = StandsStill old new
+AreAnswered d old new (Some heads) = AreKnownIn d new heads.items

@@ -296,7 +296,7 @@ pub(crate) fn visit(
         return Ok(steps);
     }
     match kept.relay_known(alloc, description, name, &[]) {
-        Ok(()) => Ok(steps),
+        Ok(_heads) => Ok(steps),
         Err(_) => Err(ResumeFault::Memory),
     }
 }

@@ -10,7 +10,7 @@ ghost use Rattle.rdl_kept.specs.RootFacts.{AreFactsOf, IsKnownRoot};
 ghost use Rattle.rdl_kept.specs.declared.roots.RootFacts.{RootFacts as Facts};
 ghost use Rattle.rdl_edit.specs.RootSteps.{address_of, is_patch_inside, IsKnownBeside, AreKnownBeside, AreAskedOf};
 
-use rdl_elab::rows::clean::Modes;
+use rdl_elab::kept_root::KeptRoot;
 use rdl_kept::roots::{RootFacts, facts_of, forget_reached, reach_of, size_of};
 use rdl_scope::size::Size;
 use rdl_tree::address::Address;
@@ -23,8 +23,8 @@ use std::alloc::{AllocError, Global};
 pub(crate) struct Roots {
     /// What each says.
     pub(crate) facts: Vec<Option<RootFacts>>,
-    /// In which modes each is known to be clean.
-    pub(crate) heads: Vec<Modes>,
+    /// In which modes each is known to be clean, and what is kept of it.
+    pub(crate) heads: Vec<KeptRoot>,
 }
 
 /// Inside which items of the root all has to be judged, and the size of the description, if it is known.
@@ -75,12 +75,15 @@ fn are_inside(roots: &[bool], patches: &[Patch]) -> bool
 /// How many items a root has at most of whose items something is known: the names before each are gone over for it.
 const MAX_ROOTS: usize = 256;
 
-/// The items of a root of so many items inside which these patches change bodies, if they change no other body, and the root
-/// doesn't have too many items.
+/// How many patches a step has at most of which it is asked what they change: one with more is judged as a whole.
+const MAX_PATCHES: usize = 1000;
+
+/// The items of a root of so many items inside which these patches change bodies, if they change no other body, and there aren't
+/// too many items or patches.
 fn roots_changed(alloc: Global, count: usize, patches: &[Patch]) -> Option<Vec<bool>>
     ensures { IfSome result (λ roots. list_all (is_patch_inside roots.items) patches.now ≡ true) }
 {
-    if count > MAX_ROOTS {
+    if count > MAX_ROOTS || patches.len() > MAX_PATCHES {
         return None;
     }
     let mut roots = marks(alloc, count).ok()?;
@@ -189,9 +192,9 @@ impl Roots {
     ghost use Rattle.rdl_tree.specs.Items.{Items};
     ghost use Rattle.rdl_tree.specs.Patch.{image};
     ghost use Rattle.rdl_scope.specs.ItemFaults.{fault_of};
-    ghost use Rattle.rdl_elab.specs.CleanHeads.{AreCleanHeads};
+    ghost use Rattle.rdl_kept.specs.AllKept.{KeptLayouts};
     ghost use Rattle.rdl_kept.specs.RootFacts.{AreFactsOf};
-    ghost use Rattle.rdl_edit.specs.RootSteps.{IsStepInside, IsBehindStep, AreAskedOf, AreRootsOf};
+    ghost use Rattle.rdl_edit.specs.RootSteps.{AreAnswered, IsStepInside, IsBehindStep, AreAskedOf, AreRootsOf};
 
     /// Nothing is known.
     pub(crate) fn unknown(alloc: Global) -> Roots
@@ -216,8 +219,8 @@ impl Roots {
         wanted: bool,
     ) -> Option<Vec<bool>>
         requires faultless { fault_of description.now.items ≡ None }
-        requires roots { AreRootsOf description.now.items self.old }
-        ensures roots { AreRootsOf description.now.items self.new }
+        requires known { AreFactsOf description.now.items self.old.facts.items }
+        ensures roots { (k : KeptLayouts) → AreRootsOf description.now.items k self.old → AreRootsOf description.now.items k self.new }
         ensures facts { AreFactsOf (image patches.now description.now.items) self.new.facts.items }
         ensures inside { IfSome result (λ roots. IsStepInside roots.items description.now.items (image patches.now description.now.items)) }
     {
@@ -251,8 +254,8 @@ impl Roots {
         requires facts { AreFactsOf description.now.items self.old.facts.items }
         requires step { IfSome (option_copied changed) (λ roots. IsBehindStep roots.items description.now.items) }
         ensures asked { IfSome result (AreAskedOf description.now.items) }
-        ensures before { (old : Items) → AreRootsOf old self.old → AreRootsOf old self.new }
-        ensures behind { (old : Items) → fault_of old ≡ None → IfSome (option_copied changed.entry) (λ roots. IsStepInside roots.items old description.now.items) → AreRootsOf old self.old → AreRootsOf description.now.items self.new }
+        ensures before { (old : Items) (k : KeptLayouts) → AreRootsOf old k self.old → AreRootsOf old k self.new }
+        ensures behind { (old : Items) (k : KeptLayouts) → fault_of old ≡ None → IfSome (option_copied changed.entry) (λ roots. IsStepInside roots.items old description.now.items) → AreRootsOf old k self.old → AreRootsOf description.now.items k self.new }
     {
         let Some(changed) = changed else {
             self.heads.clear();
@@ -276,9 +279,9 @@ impl Roots {
         }
     }
 
-    /// Takes what is known now of definitions that are clean, if that has changed.
-    pub(crate) fn renew(&mut self, heads: Option<Vec<Modes>>)
-        ensures { (d : Items) → AreRootsOf d self.old → IfSome heads (λ heads. AreCleanHeads d heads.items) → AreRootsOf d self.new }
+    /// Takes what is known now of the definitions of the root, if that has changed.
+    pub(crate) fn renew(&mut self, heads: Option<Vec<KeptRoot>>)
+        ensures { (d : Items) (old new : KeptLayouts) → AreRootsOf d old self.old → AreAnswered d old new heads → AreRootsOf d new self.new }
     {
         if let Some(heads) = heads {
             self.heads = heads;

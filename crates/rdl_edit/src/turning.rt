@@ -3,9 +3,8 @@ ghost use Rattle.std.specs.Prelude.{◌≡◌, ◌⊎◌, ◌≤◌, ◌*◌, �
 ghost use Rattle.rdl_tree.specs.Items.{Items};
 ghost use Rattle.rdl_scope.specs.ItemFaults.{fault_of, out_of_memory};
 ghost use Rattle.rdl_scope.specs.OneItem.{NoOtherFault};
-ghost use Rattle.rdl_elab.specs.CleanHeads.{AreCleanHeads};
-ghost use Rattle.rdl_edit.specs.RootSteps.{AreAskedOf, AreRootsOf};
-ghost use Rattle.rdl_kept.specs.AllKept.{AreOf};
+ghost use Rattle.rdl_edit.specs.RootSteps.{AreAnswered, AreAskedOf, AreRootsOf};
+ghost use Rattle.rdl_kept.specs.AllKept.{AreKnownIn, AreOf, StandsStill};
 ghost use Rattle.rdl_elab.specs.Anew.{all_instances};
 ghost use Rattle.rdl_elab.specs.Faults.{elaborated};
 ghost use Rattle.rdl_elab.specs.Known.{HasRows as HasRowsWith};
@@ -26,7 +25,7 @@ use crate::notes::Outlook;
 use crate::refusal::{Refusal, is_memory};
 use crate::roots::{Asked, Roots};
 use crate::touched::{Touched, keeps_skeleton, touched_with};
-use rdl_elab::rows::clean::Modes;
+use rdl_elab::kept_root::KeptRoot;
 use rdl_kept::kept::Kept;
 use rdl_scope::one_item::check_new_item;
 use rdl_tree::address::Address;
@@ -62,6 +61,7 @@ fn stay_new(
     ensures layouts { OnOk result (AreOf description.now.items kept.new) }
     ensures top { OnOk result (kept.new.top ≡ kept.old.top) }
     ensures placed { OnOk result (kept.new.placed ≡ 0) }
+    ensures still { OnOk result (StandsStill kept.old kept.new) }
     ensures refused { IfErr result (λ fault. (elaborated description.now.items kept.old.top ≡ Err fault) ⊎ (fault ≡ out_of_memory)) }
     ensures err { OnErr result (kept.new ≡ kept.old) }
 {
@@ -78,16 +78,16 @@ fn relay_all(
     kept: &mut Kept,
     name: Option<&str>,
     asked: Option<&Asked>,
-    heads: &[Modes],
-) -> Result<Vec<Modes>, Fault>
-    requires heads { AreCleanHeads description.now.items heads.now }
+    heads: &[KeptRoot],
+) -> Result<Vec<KeptRoot>, Fault>
+    requires heads { AreKnownIn description.now.items kept.old heads.now }
     requires asked { IfSome (option_copied asked) (AreAskedOf description.now.items) }
     ensures layouts { OnOk result (AreOf description.now.items kept.new) }
     ensures top { OnOk result (kept.new.top ≡ option_copied name.entry) }
     ensures placed { OnOk result (kept.new.placed ≤ 3 * all_instances description.now.items) }
     ensures reached { OnOk result (PlacesWhatIsInReach kept.old description.now.items kept.new) }
     ensures still { OnOk result ((old : Items) → AreOf old kept.old → skeleton old ≡ skeleton description.now.items → kept.new.placed ≡ 0) }
-    ensures heads { IfOk result (λ heads. AreCleanHeads description.now.items heads.items) }
+    ensures heads { IfOk result (λ heads. AreKnownIn description.now.items kept.new heads.items) }
     ensures refused { IfErr result (λ fault. (elaborated description.now.items (option_copied name.entry) ≡ Err fault) ⊎ (fault ≡ out_of_memory)) }
     ensures err { OnErr result (kept.new ≡ kept.old) }
 {
@@ -117,6 +117,7 @@ fn stay_renamed(
     ensures layouts { OnOk result (AreOf description.now.items kept.new) }
     ensures top { OnOk result (kept.new.top ≡ kept.old.top) }
     ensures placed { OnOk result (kept.new.placed ≡ 0) }
+    ensures still { OnOk result (StandsStill kept.old kept.new) }
     ensures refused { IfErr result (λ fault. (elaborated description.now.items kept.old.top ≡ Err fault) ⊎ (fault ≡ out_of_memory)) }
     ensures err { OnErr result (kept.new ≡ kept.old) }
 {
@@ -136,18 +137,18 @@ pub(crate) fn lay_out(
     name: Option<&str>,
     touched: &Touched,
     asked: Option<&Asked>,
-    heads: &[Modes],
-) -> Result<Option<Vec<Modes>>, Fault>
+    heads: &[KeptRoot],
+) -> Result<Option<Vec<KeptRoot>>, Fault>
     requires known { IsKnown touched.now description.now.items kept.old }
     requires asked { IfSome (option_copied asked) (AreAskedOf description.now.items) }
-    requires heads { AreCleanHeads description.now.items heads.now }
+    requires heads { AreKnownIn description.now.items kept.old heads.now }
     requires top { kept.old.top ≡ option_copied name }
     ensures layouts { OnOk result (AreOf description.now.items kept.new) }
     ensures top { OnOk result (kept.new.top ≡ option_copied name.entry) }
     ensures placed { OnOk result (kept.new.placed ≤ 3 * all_instances description.now.items) }
     ensures reached { OnOk result (PlacesWhatIsInReach kept.old description.now.items kept.new) }
     ensures still { OnOk result ((old : Items) → AreOf old kept.old → skeleton old ≡ skeleton description.now.items → kept.new.placed ≡ 0) }
-    ensures heads { IfOk result (λ answer. IfSome answer (λ heads. AreCleanHeads description.now.items heads.items)) }
+    ensures heads { IfOk result (AreAnswered description.now.items kept.old kept.new) }
     ensures refused { IfErr result (λ fault. (elaborated description.now.items (option_copied name.entry) ≡ Err fault) ⊎ (fault ≡ out_of_memory)) }
     ensures err { OnErr result (kept.new ≡ kept.old) }
 {
@@ -186,21 +187,24 @@ fn lay_out_known(
     kept: &mut Kept,
     name: Option<&str>,
     still: bool,
-) -> Result<(), AllocError>
+    heads: &[KeptRoot],
+) -> Result<Option<Vec<KeptRoot>>, AllocError>
     requires known { HasRowsWith description.now.items (option_copied name) }
     requires still { IfStill still description.now.items kept.old }
+    requires heads { AreKnownIn description.now.items kept.old heads.now }
     requires top { kept.old.top ≡ option_copied name }
     ensures layouts { OnOk result (AreOf description.now.items kept.new) }
     ensures top { OnOk result (kept.new.top ≡ option_copied name.entry) }
     ensures reached { OnOk result (PlacesWhatIsInReach kept.old description.now.items kept.new) }
     ensures still { OnOk result ((old : Items) → AreOf old kept.old → skeleton old ≡ skeleton description.now.items → kept.new.placed ≡ 0) }
+    ensures heads { IfOk result (AreAnswered description.now.items kept.old kept.new) }
     ensures err { OnErr result (kept.new ≡ kept.old) }
 {
     if still {
         kept.stay(description);
-        return Ok(());
+        return Ok(None);
     }
-    kept.relay_known(alloc, description, name, &[])
+    Ok(Some(kept.relay_known(alloc, description, name, heads)?))
 }
 
 /// Applies the patches, and answers what takes them back. Something may be noted of the description that they make, by which
@@ -217,7 +221,7 @@ pub(crate) fn turn(
     requires nesting { depth description.old.items ≤ 16 }
     requires fit { AllFit patches.items description.old.items }
     requires kept { Keeps (record { description = description.old.items; option = option_copied name }) kept.old }
-    requires roots { AreRootsOf description.old.items roots.old }
+    requires roots { AreRootsOf description.old.items kept.old roots.old }
     requires light { IfSome outlook (λ outlook. IsLight patches.items description.old.items outlook.now.at) }
     ensures made { OnOk result (description.new.items ≡ image patches.items description.old.items) }
     ensures keeps { OnOk result (Keeps (record { description = description.new.items; option = option_copied name.entry }) kept.new) }
@@ -230,7 +234,7 @@ pub(crate) fn turn(
     ensures refused { IfErr result (IsJudged (record { description = image patches.items description.old.items; option = option_copied name.entry })) }
     ensures err { OnErr result (description.new.items ≡ description.old.items) }
     ensures unmoved { OnErr result (kept.new ≡ kept.old) }
-    ensures roots { AreRootsOf description.new.items roots.new }
+    ensures roots { AreRootsOf description.new.items kept.new roots.new }
 {
     let touched = touched_with(alloc, description, patches.as_slice(), outlook);
     let wanted = touched.is_anywhere();
@@ -266,7 +270,7 @@ pub(crate) fn again(
     requires nesting { depth description.old.items ≤ 16 }
     requires fit { AllFit patches.items description.old.items }
     requires kept { Keeps (record { description = description.old.items; option = option_copied name }) kept.old }
-    requires roots { AreRootsOf description.old.items roots.old }
+    requires roots { AreRootsOf description.old.items kept.old roots.old }
     requires known { HasRows (record { description = image patches.items description.old.items; option = option_copied name }) }
     ensures made { OnOk result (description.new.items ≡ image patches.items description.old.items) }
     ensures keeps { OnOk result (Keeps (record { description = description.new.items; option = option_copied name.entry }) kept.new) }
@@ -279,7 +283,7 @@ pub(crate) fn again(
     ensures handed { IfErr result (λ same. same.items ≡ patches.items) }
     ensures err { OnErr result (description.new.items ≡ description.old.items) }
     ensures unmoved { OnErr result (kept.new ≡ kept.old) }
-    ensures roots { AreRootsOf description.new.items roots.new }
+    ensures roots { AreRootsOf description.new.items kept.new roots.new }
 {
     let still = keeps_skeleton(description, patches.as_slice());
     let changed = roots.leave(alloc, description, patches.as_slice(), false);
@@ -289,8 +293,12 @@ pub(crate) fn again(
     };
     let new = turned.description();
     roots.arrive(alloc, new, changed.as_ref(), false);
-    match lay_out_known(alloc, new, kept, name, still) {
-        Ok(()) => Ok(turned.keep()),
+    let heads = roots.heads.as_slice();
+    match lay_out_known(alloc, new, kept, name, still, heads) {
+        Ok(heads) => {
+            roots.renew(heads);
+            Ok(turned.keep())
+        }
         Err(_) => Err(turned.back()),
     }
 }

@@ -1,5 +1,5 @@
 -- More is put under keys, and is taken away again.
-use Rattle.std.proofs.Common.{◌≡◌, ◌≢◌, ◌⊎◌, inl, inr, ◌<◌, ◌≤◌, ℕ, Bool, true, List, [], ◌∷◌, ◌++◌, map, length, Option, Some, None, refl, sym, ap, subst, ◌∙◌, arith}
+use Rattle.std.proofs.Common.{◌≡◌, ◌≢◌, ◌⊎◌, inl, inr, ◌<◌, ◌≤◌, ℕ, Bool, true, List, [], ◌∷◌, ◌++◌, map, length, Option, Some, None, refl, sym, ap, subst, ◌∙◌, arith, append-nil, append_assoc}
 use Rattle.std.specs.Global.{Vec}
 use Rattle.std.specs.Prelude.{◌==◌, false, is_some, Result, Ok, Err, IfOk, OnErr, Contains, IsSome, IsSomeAnd, slice_get}
 use Rattle.std.proofs.lemmas.List.{map-append}
@@ -8,9 +8,11 @@ use Rattle.std.proofs.lemmas.Bool.Decides.{Decides-eqb}
 use Rattle.slab.specs.Slab.{Slab, get}
 use Rattle.rdl_elab.specs.Kept.{LaidOut}
 use Rattle.rdl_elab.specs.Words.{IsMade}
-use Rattle.rdl_elab.specs.Entries.{IsOf, Puts, Adds}
+use Rattle.rdl_elab.specs.Entries.{IsOf, Puts, Adds, AreHeld, laid_under}
 use Rattle.rdl_elab.specs.declared.walk.finished.Finished.{Finished}
-use Rattle.rdl_elab.specs.Taken.{AreUnderKeys, AreMarked}
+use Rattle.rdl_elab.specs.Taken.{AreUnderKeys, AreMarked, Pushes, run_keys, brought, all_brought}
+use Rattle.rdl_elab.specs.declared.walk.passed.Passed.{Passed}
+use Rattle.rdl_elab.proofs.StoredRuns.{run_laid, run-held}
 
 some-is : {X : Type 0} (o : Option X) (x : X) → o ≡ Some x → IsSome o
 some-is o x e = ap is_some e
@@ -88,29 +90,65 @@ undone first mid last added h gone kept k = elim (kept k) [
 
 -- ---- Loops.
 
--- one more component is kept
-pub under-more : (old new : Slab LaidOut) (keys : List ℕ) (key : ℕ) (fs : List Finished) (f : Finished) → ((k : ℕ) (e : LaidOut) → get old k ≡ Some e → get new k ≡ Some e) → get new key ≡ Some f.laid_out → AreUnderKeys old keys fs → AreUnderKeys new (keys ++ key ∷ []) (fs ++ f ∷ [])
-under-more old new keys key fs f stays is h =
-    map-append (get new) keys (key ∷ [])
-    ∙ (λ i. on keys fs h i ++ is i ∷ [])
-    ∙ sym (map-append (λ (g : Finished). Some g.laid_out) fs (f ∷ []))
-  where
-    on : (ks : List ℕ) (gs : List Finished) → AreUnderKeys old ks gs → AreUnderKeys new ks gs
-    on [] [] e = refl
-    on [] (g ∷ gs) e = cc
-    on (k ∷ ks) [] e = cc
-    on (k ∷ ks) (g ∷ gs) e =
-        let here : get old k ≡ Some g.laid_out = cc in
-        let rest : map (get old) ks ≡ map (λ (g : Finished). Some g.laid_out) gs = cc in
-        λ i. stays k g.laid_out here i ∷ on ks gs rest i
+-- what stands under keys goes on to stand there
+stays-under : (old new : Slab LaidOut) (keys : List ℕ) (ls : List LaidOut) → ((k : ℕ) (e : LaidOut) → get old k ≡ Some e → get new k ≡ Some e) → map (get old) keys ≡ map Some ls → map (get new) keys ≡ map (get old) keys
+stays-under old new [] ls stays e = refl
+stays-under old new (k ∷ ks) [] stays e = cc
+stays-under old new (k ∷ ks) (l ∷ ls) stays e =
+    let here : get old k ≡ Some l = cc in
+    let rest : map (get old) ks ≡ map Some ls = cc in
+    λ i. (stays k l here ∙ sym here) i ∷ stays-under old new ks ls stays rest i
 
-pub only-more : (first old new : Slab LaidOut) (keys : List ℕ) (r : ℕ) → ((k : ℕ) → IsSome (get new k) → IsSome (get old k) ⊎ (k ≡ r)) → ((k : ℕ) → IsSome (get old k) → IsSome (get first k) ⊎ Contains keys k) → (k : ℕ) → IsSome (get new k) → IsSome (get first k) ⊎ Contains (keys ++ r ∷ []) k
-only-more first old new keys r one h k is = elim (one k is) [
+pub brought-stays : (first now : Slab LaidOut) (before : List ℕ) (f : Finished) (o : Option Passed) → AreHeld first before → ((k : ℕ) (e : LaidOut) → get first k ≡ Some e → get now k ≡ Some e) → brought now before f o ≡ brought first before f o
+brought-stays first now before f None held stays = refl
+brought-stays first now before f (Some p) held stays =
+    stays-under first now (run_keys p.run before) (run_laid p.run (laid_under first before)) stays (run-held first before p.run (laid_under first before) held)
+
+pub brought-append : (s : Slab LaidOut) (before : List ℕ) (fs : List Finished) (f : Finished) → all_brought s before (fs ++ f ∷ []) ≡ all_brought s before fs ++ brought s before f f.passed
+brought-append s before [] f = append-nil (brought s before f f.passed)
+brought-append s before (g ∷ gs) f =
+    ap (λ xs. brought s before g g.passed ++ xs) (brought-append s before gs f)
+    ∙ sym (append_assoc (brought s before g g.passed) (all_brought s before gs) (brought s before f f.passed))
+
+-- what is brought stands there
+brought-some : (s : Slab LaidOut) (before : List ℕ) (f : Finished) (o : Option Passed) → AreHeld s before → (ls : List LaidOut) × (brought s before f o ≡ map Some ls)
+brought-some s before f None held = (f.laid_out ∷ [], refl)
+brought-some s before f (Some p) held = (run_laid p.run (laid_under s before), run-held s before p.run (laid_under s before) held)
+
+pub all-some : (s : Slab LaidOut) (before : List ℕ) (fs : List Finished) → AreHeld s before → (ls : List LaidOut) × (all_brought s before fs ≡ map Some ls)
+all-some s before [] held = ([], refl)
+all-some s before (f ∷ fs) held =
+    let one = brought-some s before f f.passed held in
+    let others = all-some s before fs held in
+    (one.0 ++ others.0, (λ i. one.1 i ++ others.1 i) ∙ sym (map-append Some one.0 others.0))
+
+-- one more component is kept
+pub under-more : (first old new : Slab LaidOut) (before keys more : List ℕ) (fs : List Finished) (f : Finished) → AreHeld first before → ((k : ℕ) (e : LaidOut) → get first k ≡ Some e → get old k ≡ Some e) → ((k : ℕ) (e : LaidOut) → get old k ≡ Some e → get new k ≡ Some e)
+    → Pushes new before keys more f → AreUnderKeys first before old keys fs → AreUnderKeys first before new more (fs ++ f ∷ [])
+under-more first old new before keys more fs f held stood stays p h =
+    let was = all-some first before fs held in
+    let one : map (get new) keys ≡ all_brought first before fs = stays-under old new keys was.0 stays (h ∙ was.1) ∙ h in
+    let two : map (get new) p.keys ≡ brought first before f f.passed = p.under ∙ brought-stays first new before f f.passed held (λ k e is. stays k e (stood k e is)) in
+    ap (map (get new)) p.is ∙ map-append (get new) keys p.keys ∙ (λ i. one i ++ two i) ∙ sym (brought-append first before fs f)
+
+-- keys that are there are pushed once more
+pub only-pushed : (first old new : Slab LaidOut) (keys more : List ℕ) → ((k : ℕ) → IsSome (get new k) → IsSome (get old k) ⊎ Contains more k) → ((k : ℕ) → IsSome (get old k) → IsSome (get first k) ⊎ Contains keys k) → ((k : ℕ) → Contains keys k → Contains more k)
+    → (k : ℕ) → IsSome (get new k) → IsSome (get first k) ⊎ Contains more k
+only-pushed first old new keys more one h further k is = elim (one k is) [
   | inl was ↦ elim (h k was) [
     | inl before ↦ inl before
-    | inr put ↦ inr (Contains-append_left keys (r ∷ []) k put)
+    | inr put ↦ inr (further k put)
   ]
-  | inr here ↦ inr (subst (λ q. Contains (keys ++ r ∷ []) q) (sym here) (Contains-push keys r))
+  | inr here ↦ inr here
+]
+
+pub pushed-further : (s : Slab LaidOut) (before old new : List ℕ) (f : Finished) → Pushes s before old new f → (k : ℕ) → Contains old k → Contains new k
+pushed-further s before old new f p k among = subst (λ ks. Contains ks k) (sym p.is) (Contains-append_left old p.keys k among)
+
+pub pushed-only : (old new : Slab LaidOut) (keys more : List ℕ) (key : ℕ) → more ≡ keys ++ key ∷ [] → ((k : ℕ) → IsSome (get new k) → IsSome (get old k) ⊎ (k ≡ key)) → (k : ℕ) → IsSome (get new k) → IsSome (get old k) ⊎ Contains more k
+pushed-only old new keys more key pushed one k is = elim (one k is) [
+  | inl was ↦ inl was
+  | inr here ↦ inr (subst (λ ks. Contains ks k) (sym pushed) (subst (λ q. Contains (keys ++ key ∷ []) q) (sym here) (Contains-push keys key)))
 ]
 
 -- what stands under one more key is removed

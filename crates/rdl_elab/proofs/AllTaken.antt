@@ -1,7 +1,7 @@
 -- What is kept of finished components is that of those that are written, and how many instances were placed for it.
-use Rattle.std.proofs.Common.{◌≡◌, ℕ, ◌*◌, ◌≤◌, Bool, true, false, List, [], ◌∷◌, ◌++◌, map, length, Option, Some, None, ap, sym, refl, ◌∙◌, arith}
+use Rattle.std.proofs.Common.{◌≡◌, ℕ, ◌*◌, ◌≤◌, Bool, true, false, List, [], ◌∷◌, ◌++◌, map, length, Option, Some, None, ap, subst, refl, arith}
 use Rattle.std.specs.Prelude.{sum_by, if◌then◌else◌}
-use Rattle.std.proofs.lemmas.List.Sums.{sum_by-cons}
+use Rattle.std.proofs.lemmas.List.Sums.{sum_by-cons, sum_by-append}
 use Rattle.std.specs.List.{AllByRecursion}
 use Rattle.std.specs.Option.{IsSome}
 use Rattle.rdl_tree.specs.declared.shell.Kind.{Kind}
@@ -19,13 +19,21 @@ use Rattle.rdl_elab.specs.Size.{end_of}
 use Rattle.rdl_elab.specs.Bits.{bits_of, bits_from}
 use Rattle.rdl_elab.specs.Layouts.{values_of, mode_inside, laid_out, layouts, layout, member}
 use Rattle.rdl_elab.specs.Capped.{capped_span, capped_layout}
-use Rattle.rdl_elab.specs.Written.{layouts_kept}
 use Rattle.rdl_elab.specs.MadeOf.{made_of}
 use Rattle.rdl_elab.specs.Words.{spelling, is_among}
 use Rattle.rdl_elab.specs.Kept.{Stored}
-use Rattle.rdl_elab.specs.Taken.{WasKept}
-use Rattle.rdl_elab.specs.Finishes.{IsLaidOut, AreLaidOut}
-use Rattle.rdl_elab.specs.Anew.{how_many, AreKept, all_spans, new_spans}
+use Rattle.rdl_elab.specs.Finishes.{IsLaidOut}
+use Rattle.rdl_elab.specs.Runs.{Brings, AreTaken}
+use Rattle.rdl_elab.specs.declared.walk.passed.Passed.{Passed}
+use Rattle.rdl_elab.specs.Anew.{how_many, all_spans, new_spans}
+
+all-left : {X : Type 0} (P : X → Type 0) (xs ys : List X) → AllByRecursion P (xs ++ ys) → AllByRecursion P xs
+all-left P [] ys h = tt
+all-left P (x ∷ xs) ys h = (h.0, all-left P xs ys h.1)
+
+all-right : {X : Type 0} (P : X → Type 0) (xs ys : List X) → AllByRecursion P (xs ++ ys) → AllByRecursion P ys
+all-right P [] ys h = h
+all-right P (x ∷ xs) ys h = all-right P xs ys h.1
 
 -- a layout has a span for each instance, and that of a field none
 spans-length : (around : Option ℕ) (m : Mode) (end : ℕ) (ps : List Placement) → length (spans_from around m end ps) ≡ length ps
@@ -67,13 +75,6 @@ module _ (before : Stored) where
       by None = all
       by (Some k) = omega arith
 
-  pub all-placed : (fs : List Finished) (cs : List Made) → AreLaidOut before fs cs → sum_by new_spans fs ≤ 3 * sum_by (λ (c : Made). how_many c.parts) cs
-  all-placed [] [] h = omega arith
-  all-placed [] (c ∷ cs) h = absurd h
-  all-placed (f ∷ fs) [] h = absurd h
-  all-placed (f ∷ fs) (c ∷ cs) h =
-      omega (arith, sum_by-cons new_spans f fs, sum_by-cons (λ (c : Made). how_many c.parts) c cs, one-placed f c h.0, all-placed fs cs h.1)
-
   -- what is taken over isn't placed
   none-placed : (f : Finished) → IsSome f.key → new_spans f ≡ 0
   none-placed f h = by f.key h
@@ -81,6 +82,18 @@ module _ (before : Stored) where
       by : (o : Option ℕ) → IsSome o → ◌≡◌ {A = ℕ} (elim o [ None ↦ all_spans f.layouts | Some k ↦ 0 ]) 0
       by None h = cc
       by (Some k) h = refl
+
+  abbrev all_many : List Made → ℕ
+  all_many cs = sum_by (λ (c : Made). how_many c.parts) cs
+
+  brought-placed : (f : Finished) (o : Option Passed) (here : List Made) → Brings before f o here → new_spans f ≤ 3 * all_many here
+  brought-placed f None here h = omega (arith, one-placed f h.made h.laid_out, sum_by-cons (λ (c : Made). how_many c.parts) h.made [], ap all_many h.is)
+  brought-placed f (Some p) here h = omega (arith, none-placed f h.key)
+
+  pub all-placed : (fs : List Finished) (cs : List Made) → AreTaken before fs cs → sum_by new_spans fs ≤ 3 * all_many cs
+  all-placed [] cs h = omega arith
+  all-placed (f ∷ fs) cs h =
+      omega (arith, sum_by-cons new_spans f fs, ap all_many h.is, sum_by-append (λ (c : Made). how_many c.parts) h.here h.rest, brought-placed f f.passed h.here h.brings, all-placed fs h.rest h.further)
 
   module _ (marked : List ℕ → Bool) where
     abbrev IsFound : Made → Type 0
@@ -96,38 +109,24 @@ module _ (before : Stored) where
         by true is = one-placed f c h
         by false is = omega (arith, none-placed f (h.taken (found is)))
 
-    pub few-placed : (fs : List Finished) (cs : List Made) → AllByRecursion IsFound cs → AreLaidOut before fs cs → sum_by new_spans fs ≤ 3 * sum_by many cs
-    few-placed [] [] found h = omega arith
-    few-placed [] (c ∷ cs) found h = absurd h
-    few-placed (f ∷ fs) [] found h = absurd h
-    few-placed (f ∷ fs) (c ∷ cs) found h =
-        omega (arith, sum_by-cons new_spans f fs, sum_by-cons many c cs, one-few f c found.0 h.0, few-placed fs cs found.1 h.1)
+    abbrev all_new : List Made → ℕ
+    all_new cs = sum_by many cs
 
-  -- the layouts of all, and that they are found by what they are made of
-  pub laid-layouts : (fs : List Finished) (cs : List Made) → AreLaidOut before fs cs → map (λ (f : Finished). f.laid_out.layouts) fs ≡ map layouts_kept cs
-  laid-layouts [] [] h = refl
-  laid-layouts [] (c ∷ cs) h = absurd h
-  laid-layouts (f ∷ fs) [] h = absurd h
-  laid-layouts (f ∷ fs) (c ∷ cs) h = λ i. (h.0.same ∙ h.0.layouts) i ∷ laid-layouts fs cs h.1 i
+    brought-few : (f : Finished) (o : Option Passed) (here : List Made) → AllByRecursion IsFound here → Brings before f o here → new_spans f ≤ 3 * all_new here
+    brought-few f None here found h =
+        let one = subst (λ (cs : List Made). AllByRecursion IsFound cs) h.is found in
+        omega (arith, one-few f h.made one.0 h.laid_out, sum_by-cons many h.made [], ap all_new h.is)
+    brought-few f (Some p) here found h = omega (arith, none-placed f h.key)
 
-  pub laid-among : (all : List (List ℕ)) (fs : List Finished) (cs : List Made) → AreKept all fs → AreLaidOut before fs cs → AllByRecursion (λ (c : Made). is_among (spelling (made_of c)) all ≡ true) cs
-  laid-among all [] [] k h = tt
-  laid-among all [] (c ∷ cs) k h = absurd h
-  laid-among all (f ∷ fs) [] k h = absurd h
-  laid-among all (f ∷ fs) (c ∷ cs) k h = (ap (λ ws. is_among ws all) (sym h.0.made) ∙ k.0, laid-among all fs cs k.1 h.1)
-
-  -- layouts that are taken over stand under their keys
-  pub were-kept : (fs : List Finished) (cs : List Made) → AreLaidOut before fs cs → AllByRecursion (WasKept before.slots) fs
-  were-kept [] [] h = tt
-  were-kept [] (c ∷ cs) h = absurd h
-  were-kept (f ∷ fs) [] h = absurd h
-  were-kept (f ∷ fs) (c ∷ cs) h = (h.0.kept, were-kept fs cs h.1)
-
--- one more finished component is kept
-pub kept-on : (old new : List (List ℕ)) (fs : List Finished) → ((ws : List ℕ) → is_among ws old ≡ true → is_among ws new ≡ true) → AreKept old fs → AreKept new fs
-kept-on old new [] more h = tt
-kept-on old new (f ∷ fs) more h = (more f.laid_out.words h.0, kept-on old new fs more h.1)
-
-pub kept-push : (all : List (List ℕ)) (fs : List Finished) (f : Finished) → AreKept all fs → is_among f.laid_out.words all ≡ true → AreKept all (fs ++ f ∷ [])
-kept-push all [] f h e = (e, tt)
-kept-push all (g ∷ fs) f h e = (h.0, kept-push all fs f h.1 e)
+    pub few-placed : (fs : List Finished) (cs : List Made) → AllByRecursion IsFound cs → AreTaken before fs cs → sum_by new_spans fs ≤ 3 * all_new cs
+    few-placed [] cs found h = omega arith
+    few-placed (f ∷ fs) cs found h =
+        let each = subst (λ (ds : List Made). AllByRecursion IsFound ds) h.is found in
+        omega (
+          arith,
+          sum_by-cons new_spans f fs,
+          ap all_new h.is,
+          sum_by-append many h.here h.rest,
+          brought-few f f.passed h.here (all-left IsFound h.here h.rest each) h.brings,
+          few-placed fs h.rest (all-right IsFound h.here h.rest each) h.further,
+        )

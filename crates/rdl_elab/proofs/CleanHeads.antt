@@ -1,6 +1,6 @@
 -- What was found clean is known again, in the same description and in one like it.
-use Rattle.std.proofs.Common.{◌≡◌, ℕ, List, [], ◌∷◌, Option, Some, None, refl, ap, sym, subst, ◌∙◌}
-use Rattle.std.specs.Prelude.{unwrap_or}
+use Rattle.std.proofs.Common.{◌≡◌, ℕ, List, [], ◌∷◌, Option, Some, None, true, refl, ap, sym, subst, ◌∙◌}
+use Rattle.std.specs.Prelude.{slice_get, unwrap_or}
 use Rattle.rdl_tree.specs.Items.{Items}
 use Rattle.rdl_scope.specs.ItemFaults.{fault_of}
 use Rattle.rdl_scope.specs.Closed.{Parts, no_parts, part, Made, component}
@@ -11,8 +11,11 @@ use Rattle.rdl_elab.specs.declared.walk.finished.Finished.{Finished}
 use Rattle.rdl_elab.specs.Finished.{IsFinished}
 use Rattle.rdl_elab.specs.Found.{ArePartsFound}
 use Rattle.rdl_elab.specs.Stands.{AreHeads, IsType}
-use Rattle.rdl_elab.specs.Clean.{IsCleanIn}
-use Rattle.rdl_elab.specs.CleanHeads.{IsLike, AreLikeInside, WasFoundClean, AreCleanHeads, IsHeadClean, AreHeadsIn, AreHeadsOf}
+use Rattle.rdl_elab.specs.Clean.{IsCleanIn, AreCleanIn, has_mode}
+use Rattle.rdl_elab.specs.Runs.{modes_of_roots, modes_or, root_modes}
+use Rattle.rdl_elab.specs.declared.kept_root.KeptRoot.{KeptRoot}
+use Rattle.rdl_elab.specs.CleanHeads.{IsLike, AreLikeInside, WasFoundClean, AreCleanHeads, AreHeadsIn}
+use Rattle.rdl_elab.proofs.KnownModes.{AreFoundOr, known-at, stands-there}
 use Rattle.rdl_elab.proofs.LikeRows.{alike-clean}
 use Rattle.rdl_elab.proofs.PartsFound.{parts-found}
 
@@ -102,11 +105,13 @@ module _ (d : Items) (fs : List Finished) (numbers : List (Option ℕ)) (accepte
           let is : IsFinished d fs k c = t in
           subst (λ (g : Finished). IsCleanIn fs g m) (the-same is.finished f (sym is.there ∙ there)) (found-clean d fs k c m accepted (clean j ms c m s e h) is)
 
-  pub heads-of : (heads : List Modes) → AreHeadsOf fs numbers heads → AreCleanHeads d heads
-  heads-of heads of j ms c m s e h = by (of j ms m s h)
+  -- an item whose component has a number is clean where that is, and another one where it is known to be
+  pub heads-or : (clean : List Modes) (roots : List KeptRoot) (modes : List Modes) → AreCleanIn fs clean → AreCleanHeads d (modes_of_roots roots) → AreFoundOr numbers clean roots modes → AreCleanHeads d modes
+  heads-or clean roots modes are_clean known each j ms c m s e h = let x = each j ms s in by x.0 x.1 (sym (ap (has_mode m) x.2) ∙ h)
     where
-      by : IsHeadClean fs numbers j m → WasFoundClean d c m
-      by head =
-          let is : IsFinished d fs head.number c = subst (IsType d fs (Some head.number)) e (are j head.number head.there) in
+      by : (number : Option ℕ) → slice_get numbers j ≡ Some number → has_mode m (modes_or clean number (root_modes roots j)) ≡ true → WasFoundClean d c m
+      by None n g = let t = stands-there (modes_of_roots roots) j m g in known j t.0 c m t.1 e t.2
+      by (Some k) n g =
+          let is : IsFinished d fs k c = subst (IsType d fs (Some k)) e (are j k n) in
           let there : component d c.head.at ≡ Some c = ap (component d) (as_found d (j ∷ []) c e).place ∙ e in
-          clean-found d fs head.number c m accepted there is (head.clean is.finished is.there)
+          clean-found d fs k c m accepted there is (known-at fs clean k is.finished m are_clean is.there g)

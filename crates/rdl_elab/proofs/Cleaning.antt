@@ -150,7 +150,7 @@ pub none-below : (fs : List Finished) (m : Mode) (least : ℕ) (rs : List Reach)
 none-below fs m least rs spans parts e zero o a = refl
 none-below fs m least rs spans parts e (suc n) o a = ap (λ ps. are_faultless (finished_rows (suc n) fs o spans ps)) e
 
-few-bits : (k : Kind) (n : ℕ) → bits_inside k n ≤ n
+pub few-bits : (k : Kind) (n : ℕ) → bits_inside k n ≤ n
 few-bits Reg n = omega arith
 few-bits Field n = omega arith
 few-bits Regfile n = omega arith
@@ -184,7 +184,7 @@ one-more fs all f ms c there h k ns g m s t e = by_place (last-or-before all ms 
     by_place (inl a) = c k ns g m a t e
     by_place (inr b) = subst (λ x. IsCleanIn fs x m) (the-same f g (sym there ∙ ap (slice_get fs) (sym b.0) ∙ t)) (h m (ap (has_mode m) b.1 ∙ e))
 
-told-faultless : (rows : List Row) (ks : List FinishedRow) → are_faultless ks ≡ true → (told rows ks).fault ≡ None
+pub told-faultless : (rows : List Row) (ks : List FinishedRow) → are_faultless ks ≡ true → (told rows ks).fault ≡ None
 told-faultless rows [] h = refl
 told-faultless rows (k ∷ ks) h = by_first k.fault h (λ g. told-faultless (rows ++ k.row ∷ []) ks g)
   where

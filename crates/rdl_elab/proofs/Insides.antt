@@ -1,6 +1,6 @@
 -- What is found by what is kept of the instances' components is what the component has.
-use Rattle.std.proofs.Common.{◌≡◌, ℕ, ◌+◌, ◌≤◌, ◌<◌, List, [], ◌∷◌, map, length, drop, get_or, Option, Some, None, refl, ap, sym, ◌∙◌, arith, add-one, drop-cons, ◌++◌, append_assoc}
-use Rattle.std.specs.Prelude.{max, min, option_map, slice_get, if◌then◌else◌}
+use Rattle.std.proofs.Common.{◌≡◌, ℕ, zero, suc, Bool, true, false, ◌+◌, ◌≤◌, ◌<◌, List, [], ◌∷◌, map, length, drop, get_or, Option, Some, None, refl, ap, sym, ◌∙◌, arith, add-one, drop-cons, ◌++◌, append_assoc}
+use Rattle.std.specs.Prelude.{◌&&◌, max, min, option_map, slice_get, if◌then◌else◌}
 use Rattle.std.specs.Option.{option_or}
 use Rattle.std.specs.List.{cons_option}
 use Rattle.std.proofs.lemmas.List.{drop_all}
@@ -14,78 +14,79 @@ use Rattle.rdl_elab.specs.declared.layout.Mode.TheVariants.{Compact}
 use Rattle.rdl_elab.specs.declared.layout.Layout.{Layout}
 use Rattle.rdl_elab.specs.Kept.{Part}
 use Rattle.rdl_elab.specs.declared.walk.finished.Finished.{Finished}
-use Rattle.rdl_elab.specs.Layouts.{layouts, layout}
-use Rattle.rdl_elab.specs.Capped.{capped_instance}
 use Rattle.rdl_elab.specs.Faults.{levels, count, is_empty, first_empty}
-use Rattle.rdl_elab.specs.Finished.{under, IsPart, AreParts}
+use Rattle.rdl_elab.specs.Finished.{under, AreParts}
+use Rattle.rdl_elab.specs.Ready.{IsReadyPart, AreReadyParts, AreAllWhole}
 use Rattle.rdl_elab.specs.EachMember.{shown_each}
 use Rattle.rdl_elab.specs.LaidOut.{kept_member, kept_members}
-use Rattle.rdl_elab.specs.Inside.{kept_part, kept_parts, part_levels, kept_levels, part_rows, finished_rows, lacks_parts, part_empty, kept_empty}
+use Rattle.rdl_elab.specs.Inside.{kept_part, kept_parts, part_levels, kept_levels, part_rows, finished_rows, lacks_rows, part_empty, kept_empty, is_whole, are_whole}
 
 pub or-assoc : {X : Type 0} (a b c : Option X) → option_or (option_or a b) c ≡ option_or a (option_or b c)
 or-assoc None b c = refl
 or-assoc (Some x) b c = refl
 
+-- whether a component has no instances is seen by its rows
+lacks-some : (k : Kind) (n : ℕ) → 0 < n → lacks_rows k n ≡ false
+lacks-some k zero h = absurd (omega (arith, h))
+lacks-some Addrmap (suc n) h = refl
+lacks-some Regfile (suc n) h = refl
+lacks-some Reg (suc n) h = refl
+lacks-some Field (suc n) h = refl
+
+lacks-empty : (k : Kind) (inside : Parts) (n : ℕ) → n ≡ min (count inside) 65536 → lacks_rows k n ≡ is_empty k inside
+lacks-empty k no_parts n e = ap (lacks_rows k) (none n e) ∙ empty k
+  where
+    none : (n : ℕ) → n ≡ min 0 65536 → n ≡ 0
+    none n e = omega arith
+
+    empty : (k : Kind) → lacks_rows k 0 ≡ is_empty k no_parts
+    empty Addrmap = refl
+    empty Regfile = refl
+    empty Reg = refl
+    empty Field = refl
+lacks-empty k (part at s h inside rest) n e = lacks-some k n (some n (count inside) (count rest) e) ∙ sym (full k)
+  where
+    some : (n a b : ℕ) → n ≡ min (a + 1 + b) 65536 → 0 < n
+    some n a b e = omega arith
+
+    full : (k : Kind) → is_empty k (part at s h inside rest) ≡ false
+    full Addrmap = refl
+    full Regfile = refl
+    full Reg = refl
+    full Field = refl
+
 module _ (d : Items) (fs : List Finished) where
-  abbrev Inside : (p : Part) (inside : Parts) → Finished → Type 0
-  Inside p inside f = AreParts d fs p.component f.parts.items inside
-
-  one-kept : (m : Mode) (n : ℕ) (p : Part) (at : List ℕ) (s : Shell) (h : Head) (inside : Parts) → IsPart d fs n p at s (record { head = h; parts = inside }) (Inside p inside) → kept_part m fs p ≡ Some (capped_instance (s, layout m (record { head = h; parts = inside })))
-  one-kept m n p at s h inside x =
-      ap (option_map (λ (f : Finished). (p.shell, under m f.layouts))) x.there
-      ∙ ap (λ t. Some (t, under m x.finished.layouts)) x.shell
-      ∙ ap (λ l. Some (s, l)) (x.kept.layouts m)
-
-  pub parts-kept : (m : Mode) (n : ℕ) (ps : List Part) (inside : Parts) → AreParts d fs n ps inside → kept_parts m fs ps ≡ map capped_instance (layouts m inside)
-  parts-kept m n [] no_parts h = refl
-  parts-kept m n (p ∷ ps) no_parts h = absurd h
-  parts-kept m n [] (part at s k inside rest) h = absurd h
-  parts-kept m n (p ∷ ps) (part at s k inside rest) h =
-      ap (λ o. cons_option o (kept_parts m fs ps)) (one-kept m n p at s k inside h.0)
-      ∙ ap (λ xs. capped_instance (s, layout m (record { head = k; parts = inside })) ∷ xs) (parts-kept m n ps rest h.1)
-
-  pub levels-kept : (n : ℕ) (ps : List Part) (inside : Parts) → AreParts d fs n ps inside → min (kept_levels fs ps) 16 ≡ min (levels inside) 16
+  pub levels-kept : (n : ℕ) (ps : List Part) (inside : Parts) → AreReadyParts d fs n ps inside → min (kept_levels fs ps) 16 ≡ min (levels inside) 16
   levels-kept n [] no_parts h = refl
   levels-kept n (p ∷ ps) no_parts h = absurd h
   levels-kept n [] (part at s k inside rest) h = absurd h
   levels-kept n (p ∷ ps) (part at s k inside rest) h =
-      more (levels inside) (levels rest) h.0.finished.levels (part_levels (slice_get fs p.component)) (kept_levels fs ps) h.0.kept.levels (ap part_levels h.0.there) (levels-kept n ps rest h.1)
+      more (levels inside) (levels rest) h.0.finished.levels (part_levels (slice_get fs p.component)) (kept_levels fs ps) h.0.ready.kept.levels (ap part_levels h.0.there) (levels-kept n ps rest h.1)
     where
       more : (a b f x y : ℕ) → f ≡ min a 16 → x ≡ f + 1 → min y 16 ≡ min b 16 → min (max x y) 16 ≡ min (max (a + 1) b) 16
       more a b f x y e g ih = omega arith
 
-  pub rows-kept : (n : ℕ) (ps : List Part) (inside : Parts) → AreParts d fs n ps inside → min (finished_rows fs ps) 65536 ≡ min (count inside) 65536
+  pub rows-kept : (n : ℕ) (ps : List Part) (inside : Parts) → AreReadyParts d fs n ps inside → min (finished_rows fs ps) 65536 ≡ min (count inside) 65536
   rows-kept n [] no_parts h = refl
   rows-kept n (p ∷ ps) no_parts h = absurd h
   rows-kept n [] (part at s k inside rest) h = absurd h
   rows-kept n (p ∷ ps) (part at s k inside rest) h =
-      more (count inside) (count rest) h.0.finished.rows (part_rows (slice_get fs p.component)) (finished_rows fs ps) h.0.kept.rows (ap part_rows h.0.there) (rows-kept n ps rest h.1)
+      more (count inside) (count rest) h.0.finished.rows (part_rows (slice_get fs p.component)) (finished_rows fs ps) h.0.ready.kept.rows (ap part_rows h.0.there) (rows-kept n ps rest h.1)
     where
       more : (a b f x y : ℕ) → f ≡ min a 65536 → x ≡ f + 1 → min y 65536 ≡ min b 65536 → min (x + y) 65536 ≡ min (a + 1 + b) 65536
       more a b f x y e g ih = omega arith
 
-  lacks-empty : (n : ℕ) (k : Kind) (ps : List Part) (inside : Parts) → AreParts d fs n ps inside → lacks_parts k ps ≡ is_empty k inside
-  lacks-empty n Addrmap [] no_parts h = refl
-  lacks-empty n Regfile [] no_parts h = refl
-  lacks-empty n Reg [] no_parts h = refl
-  lacks-empty n Field [] no_parts h = refl
-  lacks-empty n k (p ∷ ps) no_parts h = absurd h
-  lacks-empty n k [] (part at s g inside rest) h = absurd h
-  lacks-empty n Addrmap (p ∷ ps) (part at s g inside rest) h = refl
-  lacks-empty n Regfile (p ∷ ps) (part at s g inside rest) h = refl
-  lacks-empty n Reg (p ∷ ps) (part at s g inside rest) h = refl
-  lacks-empty n Field (p ∷ ps) (part at s g inside rest) h = refl
-
-  one-empty : (n : ℕ) (p : Part) (at : List ℕ) (s : Shell) (h : Head) (inside : Parts) → (x : IsPart d fs n p at s (record { head = h; parts = inside }) (Inside p inside))
+  one-empty : (n : ℕ) (p : Part) (at : List ℕ) (s : Shell) (h : Head) (inside : Parts) → (x : IsReadyPart d fs n p at s (record { head = h; parts = inside }))
       → part_empty p (slice_get fs p.component) ≡ option_or (if is_empty h.kind inside then Some at else None) (first_empty inside)
   one-empty n p at s h inside x =
       let f = x.finished in
+      let kept = x.ready.kept in
       ap (part_empty p) x.there
-      ∙ ap (λ b. option_or (if b then Some p.at else None) f.first_empty) (ap (λ k. lacks_parts k f.parts.items) x.kept.kind ∙ lacks-empty p.component h.kind f.parts.items inside x.inside)
+      ∙ ap (λ b. option_or (if b then Some p.at else None) f.first_empty) (ap (λ k. lacks_rows k f.rows) kept.kind ∙ lacks-empty h.kind inside f.rows kept.rows)
       ∙ ap (λ a. option_or (if is_empty h.kind inside then Some a else None) f.first_empty) x.place
-      ∙ ap (λ o. option_or (if is_empty h.kind inside then Some at else None) o) x.kept.first_empty
+      ∙ ap (λ o. option_or (if is_empty h.kind inside then Some at else None) o) kept.first_empty
 
-  pub empty-kept : (n : ℕ) (ps : List Part) (inside : Parts) → AreParts d fs n ps inside → kept_empty fs ps ≡ first_empty inside
+  pub empty-kept : (n : ℕ) (ps : List Part) (inside : Parts) → AreReadyParts d fs n ps inside → kept_empty fs ps ≡ first_empty inside
   empty-kept n [] no_parts h = refl
   empty-kept n (p ∷ ps) no_parts h = absurd h
   empty-kept n [] (part at s k inside rest) h = absurd h
@@ -93,6 +94,29 @@ module _ (d : Items) (fs : List Finished) where
       ap (λ o. option_or o (kept_empty fs ps)) (one-empty n p at s k inside h.0)
       ∙ ap (option_or (option_or (if is_empty k.kind inside then Some at else None) (first_empty inside))) (empty-kept n ps rest h.1)
       ∙ or-assoc (if is_empty k.kind inside then Some at else None) (first_empty inside) (first_empty rest)
+
+-- all below the instances' components is held, if it is held below each
+and-true : (a b : Bool) → (a && b) ≡ true → (a ≡ true) × (b ≡ true)
+and-true true b h = (refl, h)
+and-true false b h = cc
+
+pub whole-parts : (d : Items) (fs : List Finished) (n : ℕ) (ps : List Part) (inside : Parts) → AreReadyParts d fs n ps inside → are_whole fs ps ≡ true → AreParts d fs n ps inside
+whole-parts d fs n [] no_parts h w = tt
+whole-parts d fs n (p ∷ ps) no_parts h w = absurd h
+whole-parts d fs n [] (part at s k inside rest) h w = absurd h
+whole-parts d fs n (p ∷ ps) (part at s k inside rest) h w =
+    let one = h.0 in
+    let both = and-true (is_whole (slice_get fs p.component)) (are_whole fs ps) w in
+    let all = one.ready.whole (sym (ap is_whole one.there) ∙ both.0) in
+    (record { place = one.place; shell = one.shell; before = one.before; finished = one.finished; there = one.there; kept = all.0; inside = all.1 }, whole-parts d fs n ps rest h.1 both.1)
+
+pub all-whole : (fs : List Finished) (ps : List Part) → AreAllWhole fs → are_whole fs ps ≡ true
+all-whole fs [] h = refl
+all-whole fs (p ∷ ps) h = by (slice_get fs p.component) refl (all-whole fs ps h)
+  where
+    by : (o : Option Finished) → slice_get fs p.component ≡ o → are_whole fs ps ≡ true → (is_whole o && are_whole fs ps) ≡ true
+    by None e rest = rest
+    by (Some f) e rest = ap (λ b. b && are_whole fs ps) (h p.component f e) ∙ rest
 
 -- steps of the loops over the instances
 next : (i : ℕ) (ps : List Part) (p : Part) → i < length ps → drop i ps ≡ get_or ps i p ∷ drop (i + 1) ps
@@ -188,6 +212,16 @@ module _ (fs : List Finished) (i : ℕ) (ps : List Part) (p : Part) (h : i < len
 
 pub members-none : (fs : List Finished) (i : ℕ) (ps : List Part) → length ps ≤ i → kept_members fs (drop i ps) ≡ []
 members-none fs i ps h = ap (kept_members fs) (drop_all i ps h)
+
+-- whether all is held below one more
+pub whole-end : (fs : List Finished) (i : ℕ) (ps : List Part) → length ps ≤ i → are_whole fs (drop i ps) ≡ true
+whole-end fs i ps h = ap (are_whole fs) (drop_all i ps h)
+
+pub whole-next : (fs : List Finished) (i : ℕ) (ps : List Part) (p : Part) (b : Bool) → i < length ps → p ≡ get_or ps i p → is_whole (slice_get fs p.component) ≡ b → are_whole fs (drop i ps) ≡ (b && are_whole fs (drop (i + 1) ps))
+whole-next fs i ps p b h is e =
+    ap (are_whole fs) (next i ps p h)
+    ∙ ap (λ (q : Part). is_whole (slice_get fs q.component) && are_whole fs (drop (i + 1) ps)) (sym is)
+    ∙ ap (λ w. w && are_whole fs (drop (i + 1) ps)) e
 
 -- one more instance for the levels, the rows, and the instances that must not be empty
 module _ (fs : List Finished) (i : ℕ) (ps : List Part) (p : Part) (o : Option Finished) (h : i < length ps) (is : p ≡ get_or ps i p) (found : slice_get fs p.component ≡ o) where

@@ -1,14 +1,11 @@
 -- The answer by what is kept of the components is the answer by the definitions.
-use Rattle.std.proofs.Common.{◌≡◌, ℕ, ◌+◌, ◌^◌, ◌≤◌, ◌<◌, Bool, true, false, List, [], ◌∷◌, Option, Some, None, Result, Ok, Err, refl, ap, sym, ◌∙◌, arith, ◌⊎◌, inl, inr}
-use Rattle.std.specs.Prelude.{min, nat_lt, slice_get, option_and_then}
+use Rattle.std.proofs.Common.{◌≡◌, ℕ, true, false, List, [], ◌∷◌, Option, Some, None, Result, Ok, Err, refl, ap, sym, ◌∙◌, arith, ◌⊎◌, inl, inr}
+use Rattle.std.specs.Prelude.{slice_get}
 use Rattle.std.specs.Option.{option_or, is_some}
 use Rattle.std.specs.Prelude.{IfOk, IfErr}
-use Rattle.std.proofs.lemmas.Bool.{cases_lt, lt-ltb, le-ltb, ltb-false}
 use Rattle.rdl_tree.specs.Items.{Items}
 use Rattle.rdl_tree.specs.declared.fault.Fault.{Fault}
-use Rattle.rdl_tree.specs.declared.fault.FaultKind.{FaultKind}
-use Rattle.rdl_tree.specs.declared.fault.FaultKind.TheVariants.{TooManyLevels, TooManyRows, EmptyComponent, MapTooLarge}
-use Rattle.rdl_scope.specs.ItemFaults.{first_of, fault_at, fault_of}
+use Rattle.rdl_scope.specs.ItemFaults.{fault_of}
 use Rattle.rdl_scope.specs.Closed.{Made, component}
 use Rattle.rdl_elab.specs.declared.layout.Mode.TheVariants.{Regalign}
 use Rattle.rdl_elab.specs.declared.layout.Layout.{Layout}
@@ -16,55 +13,25 @@ use Rattle.rdl_elab.specs.declared.row.Location.TheVariants.{Bytes}
 use Rattle.rdl_elab.specs.declared.row.Row.{Row}
 use Rattle.rdl_elab.specs.declared.walk.finished.Finished.{Finished}
 use Rattle.rdl_elab.specs.Layouts.{mode_inside}
-use Rattle.rdl_elab.specs.Capped.{capped}
 use Rattle.rdl_elab.specs.Rows.{around_top, rows_below, rows_of, top_layout, top_row}
-use Rattle.rdl_elab.specs.Faults.{levels, count, first_empty, first_row_fault, fault_of_top, rows_or, under_top, top_from, with_top, unless_fault, elaborated}
+use Rattle.rdl_elab.specs.Faults.{first_row_fault, fault_of_top, rows_or, under_top, top_from, with_top, unless_fault, elaborated}
 use Rattle.rdl_elab.specs.Finished.{IsFinished}
 use Rattle.rdl_elab.specs.Reaches.{reaches, reaches_at}
-use Rattle.rdl_elab.specs.FinishedRows.{Told, told, finished_rows, finished_map_fault, finished_top_row, finished_around_top, told_below, rows_unless, fault_or, finished_rows_or_fault, finished_answer}
+use Rattle.rdl_elab.specs.FinishedRows.{Told, told, finished_rows, finished_top_row, finished_around_top, told_below, rows_unless, fault_or, finished_rows_or_fault, finished_answer}
 use Rattle.rdl_scope.proofs.AsFound.{as_found}
 use Rattle.rdl_elab.proofs.RowsAlong.{values-top, reaches-body}
 use Rattle.rdl_elab.proofs.PartsFound.{parts-found}
 use Rattle.rdl_elab.proofs.FieldsInside.{registers-hold-fields}
 use Rattle.rdl_elab.proofs.Fitting.{FieldsIn, fits-inside}
-use Rattle.rdl_elab.proofs.SameRows.{some-none}
-use Rattle.rdl_elab.proofs.SameLevels.{told_judged, judged-fault, judged-rows, around_of, levels-same, level-same}
-
-limit-same : (limit n cut : ℕ) → limit < cut → nat_lt limit (min n cut) ≡ nat_lt limit n
-limit-same limit n cut h = by_order (cases_lt limit n)
-  where
-    by_order : ((limit < n) ⊎ (n ≤ limit)) → nat_lt limit (min n cut) ≡ nat_lt limit n
-    by_order (inl l) = lt-ltb limit (min n cut) (omega (arith, l, h)) ∙ sym (lt-ltb limit n l)
-    by_order (inr g) = le-ltb limit (min n cut) (omega (arith, g, h)) ∙ sym (le-ltb limit n g)
-
-next-same : (limit n : ℕ) → nat_lt limit (min n limit + 1) ≡ nat_lt limit (n + 1)
-next-same limit n = by_order (cases_lt limit (n + 1))
-  where
-    by_order : ((limit < n + 1) ⊎ (n + 1 ≤ limit)) → nat_lt limit (min n limit + 1) ≡ nat_lt limit (n + 1)
-    by_order (inl l) = lt-ltb limit (min n limit + 1) (omega (arith, l)) ∙ sym (lt-ltb limit (n + 1) l)
-    by_order (inr g) = le-ltb limit (min n limit + 1) (omega (arith, g)) ∙ sym (le-ltb limit (n + 1) g)
+use Rattle.rdl_elab.proofs.SameLevels.{told_judged, judged-fault, judged-rows, alone, around_of, levels-same, level-same}
+use Rattle.rdl_elab.proofs.MapLimits.{of_levels, of_empty, of_size, limits, limits-kept, few-levels, small, size-exact}
+use Rattle.rdl_elab.specs.Ready.{IsKeptAlone}
 
 rows-after : (rows : List Row) (a b c r : Option Fault) → rows_or rows (option_or a (option_or b (option_or c r))) ≡ fault_or (option_or a (option_or b c)) (rows_or rows r)
 rows-after rows None None None r = refl
 rows-after rows None None (Some f) r = refl
 rows-after rows None (Some f) c r = refl
 rows-after rows (Some f) b c r = refl
-
-or-first : (a b : Option Fault) → option_or a b ≡ None → a ≡ None
-or-first None b h = refl
-or-first (Some f) b h = absurd (some-none h)
-
-or-second : (a b : Option Fault) → option_or a b ≡ None → b ≡ None
-or-second None b h = h
-or-second (Some f) b h = absurd (some-none h)
-
-none-at : (at : List ℕ) (o : Option FaultKind) → fault_at at o ≡ None → o ≡ None
-none-at at None h = refl
-none-at at (Some f) h = absurd (some-none h)
-
-none-first : (t : Bool) (k : FaultKind) (ks : List (Bool × FaultKind)) → first_of ((t, k) ∷ ks) ≡ None → t ≡ false
-none-first true k ks h = absurd (some-none h)
-none-first false k ks h = refl
 
 module _ (d : Items) (n : ℕ) (name : List ℕ) (c : Made) (fs : List Finished) (number : ℕ) (none : fault_of d ≡ None) (made : component d (n ∷ []) ≡ Some c) (q : IsFinished d fs number c) where
   abbrev at : List ℕ
@@ -73,56 +40,20 @@ module _ (d : Items) (n : ℕ) (name : List ℕ) (c : Made) (fs : List Finished)
   abbrev f : Finished
   f = q.finished
 
-  abbrev of_levels : Option Fault
-  of_levels = fault_at at (first_of ((nat_lt 16 (levels c.parts + 1), TooManyLevels) ∷ (nat_lt 65536 (count c.parts + 1), TooManyRows) ∷ []))
-
-  abbrev of_empty : Option Fault
-  of_empty = option_and_then (λ a. fault_at a (Some EmptyComponent)) (first_empty c.parts)
-
-  abbrev of_size : Option Fault
-  of_size = fault_at at (first_of ((nat_lt (2 ^ 40) (top_layout c).size, MapTooLarge) ∷ []))
+  kept_alone : IsKeptAlone f c
+  kept_alone = alone d f c q.kept
 
   abbrev of_map : Option Fault
-  of_map = option_or of_levels (option_or of_empty of_size)
-
-  size-is : f.layouts.regalign.size ≡ capped (top_layout c).size
-  size-is = ap (λ (x : Layout). x.size) (q.kept.layouts Regalign)
-
-  levels-is : nat_lt 16 (f.levels + 1) ≡ nat_lt 16 (levels c.parts + 1)
-  levels-is = ap (λ x. nat_lt 16 (x + 1)) q.kept.levels ∙ next-same 16 (levels c.parts)
-
-  rows-is : nat_lt 65536 (f.rows + 1) ≡ nat_lt 65536 (count c.parts + 1)
-  rows-is = ap (λ x. nat_lt 65536 (x + 1)) q.kept.rows ∙ next-same 65536 (count c.parts)
-
-  large-is : nat_lt (2 ^ 40) f.layouts.regalign.size ≡ nat_lt (2 ^ 40) (top_layout c).size
-  large-is = ap (nat_lt (2 ^ 40)) size-is ∙ limit-same (2 ^ 40) (top_layout c).size (2 ^ 40 + 1) (omega arith)
-
-  map-is : finished_map_fault at f ≡ of_map
-  map-is = λ i.
-      option_or (fault_at at (first_of ((levels-is i, TooManyLevels) ∷ (rows-is i, TooManyRows) ∷ [])))
-      (option_or (option_and_then (λ a. fault_at a (Some EmptyComponent)) (q.kept.first_empty i))
-      (fault_at at (first_of ((large-is i, MapTooLarge) ∷ []))))
+  of_map = limits n c
 
   module _ (clear : of_map ≡ None) where
-    few-levels : levels c.parts ≤ 16
-    few-levels = omega (arith, ltb-false 16 (levels c.parts + 1) (none-first (nat_lt 16 (levels c.parts + 1)) TooManyLevels ((nat_lt 65536 (count c.parts + 1), TooManyRows) ∷ []) (none-at at _ (or-first of_levels _ clear))))
-
-    small : (top_layout c).size ≤ 2 ^ 40
-    small = ltb-false (2 ^ 40) (top_layout c).size (none-first (nat_lt (2 ^ 40) (top_layout c).size) MapTooLarge [] (none-at at _ (or-second of_empty of_size (or-second of_levels _ clear))))
-
-    size-exact : f.layouts.regalign.size ≡ (top_layout c).size
-    size-exact = size-is ∙ exactly (top_layout c).size small
-      where
-        exactly : (x : ℕ) → x ≤ 2 ^ 40 → capped x ≡ x
-        exactly x h = omega (arith, h)
-
     row-is : finished_top_row name f ≡ top_row d name c
     row-is = λ i.
         record {
           names = name ∷ [];
           kind = q.kept.kind i;
           base = 0;
-          location = Bytes (record { offset = 0; size = size-exact i; dims = []; stride = size-exact i });
+          location = Bytes (record { offset = 0; size = size-exact n c f kept_alone clear i; dims = []; stride = size-exact n c f kept_alone clear i });
           values = (q.kept.shown ∙ values-top d at c made) i;
         }
 
@@ -139,7 +70,7 @@ module _ (d : Items) (n : ℕ) (name : List ℕ) (c : Made) (fs : List Finished)
     below-is =
         (λ i. told (row-is i ∷ []) (finished_rows 16 fs (around-is i) (ap (λ (x : Layout). x.spans) (q.kept.layouts Regalign) i) f.parts.items))
         ∙ levels-same d fs none 16 c.parts (λ k. level-same d fs none c.parts k) at (around_top name c) c.head.kind (top_layout c).spans f.parts.items number (top_row d name c ∷ []) q.parts (parts-found d at c made) fields
-        (fits-inside Regalign 0 c.head c.parts fields (inr (omega (arith, small)))) (omega arith) few-levels
+        (fits-inside Regalign 0 c.head c.parts fields (inr (omega (arith, small n c clear)))) (omega arith) (few-levels n c clear)
 
     answer-is : rows_unless (told_below fs name f).fault (told_below fs name f).rows ≡ rows_or (rows_of d name c) (first_row_fault d (rows_below d name c))
     answer-is = ap (λ (t : Told). rows_unless t.fault t.rows) below-is ∙ ap (λ x. rows_unless x all.rows) (judged-fault d (top_row d name c ∷ []) (rows_below d name c)) ∙ by_fault (first_row_fault d (rows_below d name c)) refl
@@ -153,9 +84,9 @@ module _ (d : Items) (n : ℕ) (name : List ℕ) (c : Made) (fs : List Finished)
 
   kept-is : finished_rows_or_fault fs at name f ≡ rows_or (rows_of d name c) (fault_of_top d at name c)
   kept-is =
-      ap (λ x. fault_or x (rows_unless (told_below fs name f).fault (told_below fs name f).rows)) map-is
+      ap (λ x. fault_or x (rows_unless (told_below fs name f).fault (told_below fs name f).rows)) (limits-kept n c f kept_alone)
       ∙ by_fault of_map refl
-      ∙ sym (rows-after (rows_of d name c) of_levels of_empty of_size (first_row_fault d (rows_below d name c)))
+      ∙ sym (rows-after (rows_of d name c) (of_levels n c) (of_empty c) (of_size n c) (first_row_fault d (rows_below d name c)))
     where
       by_fault : (x : Option Fault) → of_map ≡ x
           → fault_or x (rows_unless (told_below fs name f).fault (told_below fs name f).rows) ≡ fault_or x (rows_or (rows_of d name c) (first_row_fault d (rows_below d name c)))

@@ -24,6 +24,7 @@ pub mod Making
 pub mod Goings
 pub mod Writing
 pub mod Roots
+pub mod RootWalk
 pub mod DefaultStacks
 pub mod Digests
 pub mod ValueLists
@@ -47,6 +48,7 @@ pub mod SameInstances
 pub mod SameRows
 pub mod SameLevels
 pub mod FieldsInside
+pub mod MapLimits
 pub mod KeptAnswers
 pub mod KnownRows
 pub mod LedKeys
@@ -65,4 +67,8 @@ pub mod ShownRows
 pub mod LikeRows
 pub mod KnownModes
 pub mod CleanHeads
+pub mod Carried
+pub mod PassedRows
 pub mod HeadNumbers
+mod StoredRuns
+mod RootRuns

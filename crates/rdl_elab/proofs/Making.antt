@@ -14,7 +14,8 @@ use Rattle.rdl_elab.specs.declared.walk.finished.Finished.{Finished}
 use Rattle.rdl_elab.specs.Kept.{Part, EachMember}
 use Rattle.rdl_elab.specs.Layouts.{values_of, mode_inside, laid_out, layouts, layout, member}
 use Rattle.rdl_elab.specs.Capped.{capped_layout, capped_instance}
-use Rattle.rdl_elab.specs.Finished.{under, IsPart, AreParts}
+use Rattle.rdl_elab.specs.Finished.{under}
+use Rattle.rdl_elab.specs.Ready.{IsReadyPart, AreReadyParts}
 use Rattle.rdl_elab.specs.Inside.{kept_parts}
 use Rattle.rdl_elab.specs.EachMember.{member_under, shown_each}
 use Rattle.rdl_elab.specs.LaidOut.{shown_member, kept_member, kept_members}
@@ -53,21 +54,21 @@ pub all-made : (d : Items) → map layouts_made (all_made d) ≡ all_layouts d
 all-made d = each-made (all_written d)
 
 -- what is taken of the instances by what is kept of their components
-one-member : (d : Items) (fs : List Finished) (n : ℕ) (p : Part) (at : List ℕ) (s : Shell) (c : Made) (Inside : Finished → Type 0) → IsPart d fs n p at s c Inside → kept_member fs p ≡ Some (each_member s c)
-one-member d fs n p at s c Inside h =
-    let layouts = h.kept.layouts in
+one-member : (d : Items) (fs : List Finished) (n : ℕ) (p : Part) (at : List ℕ) (s : Shell) (c : Made) → IsReadyPart d fs n p at s c → kept_member fs p ≡ Some (each_member s c)
+one-member d fs n p at s c h =
+    let layouts = h.ready.kept.layouts in
     ap (option_map (λ (f : Finished). shown_each p.shell f.layouts)) h.there
     ∙ (λ i. Some (shown_each (h.shell i) (record { compact = layouts Compact i; regalign = layouts Regalign i; fullalign = layouts Fullalign i })))
 
-all-members : (d : Items) (fs : List Finished) (n : ℕ) (ps : List Part) (inside : Parts) → AreParts d fs n ps inside → kept_members fs ps ≡ members_of inside
+all-members : (d : Items) (fs : List Finished) (n : ℕ) (ps : List Part) (inside : Parts) → AreReadyParts d fs n ps inside → kept_members fs ps ≡ members_of inside
 all-members d fs n [] no_parts h = refl
 all-members d fs n (p ∷ ps) no_parts h = absurd h
 all-members d fs n [] (part at s k inside rest) h = absurd h
 all-members d fs n (p ∷ ps) (part at s k inside rest) h =
     let c : Made = record { head = k; parts = inside } in
-    ap (λ o. cons_option o (kept_members fs ps)) (one-member d fs n p at s c (λ f. AreParts d fs p.component f.parts.items inside) h.0) ∙ ap (λ ms. each_member s c ∷ ms) (all-members d fs n ps rest h.1)
+    ap (λ o. cons_option o (kept_members fs ps)) (one-member d fs n p at s c h.0) ∙ ap (λ ms. each_member s c ∷ ms) (all-members d fs n ps rest h.1)
 
-pub members-are : (d : Items) (fs : List Finished) (n : ℕ) (ps : List Part) (inside : Parts) (ms : List EachMember) → AreParts d fs n ps inside → ms ≡ kept_members fs ps → ms ≡ members_of inside
+pub members-are : (d : Items) (fs : List Finished) (n : ℕ) (ps : List Part) (inside : Parts) (ms : List EachMember) → AreReadyParts d fs n ps inside → ms ≡ kept_members fs ps → ms ≡ members_of inside
 members-are d fs n ps inside ms are h = h ∙ all-members d fs n ps inside are
 
 -- the layouts that are made of this kind, these values and what is taken of these instances

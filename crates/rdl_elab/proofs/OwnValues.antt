@@ -10,10 +10,9 @@ use Rattle.rdl_tree.specs.declared.property.Property.{Property}
 use Rattle.rdl_tree.specs.declared.value.Value.{Value}
 use Rattle.rdl_elab.specs.declared.walk.own_values.Assigned.{Assigned}
 use Rattle.rdl_tree.specs.Items.{Items, no_items, plain, holder, named, own, default, dynamic, define, anonymous}
-use Rattle.rdl_tree.specs.View.{list_of}
 use Rattle.rdl_tree.specs.declared.description.Item.{Item}
 use Rattle.rdl_elab.specs.OwnValues.{assigned_to, is_dynamic, dynamic_there, any_dynamic}
-use Rattle.rdl_elab.specs.Reaches.{Reach, reaches_by}
+use Rattle.rdl_elab.specs.Reaches.{reaches_by}
 use Rattle.rdl_elab.specs.StatedValues.{shown_on, if_named}
 use Rattle.rdl_elab.proofs.Names.{names-apart}
 use Rattle.rdl_elab.proofs.StatedLists.{or-assoc, shown-or, same-named, name-of, not-its-name, adds-none}

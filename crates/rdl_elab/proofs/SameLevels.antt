@@ -17,7 +17,7 @@ use Rattle.rdl_tree.specs.declared.fault.Fault.{Fault}
 use Rattle.rdl_tree.specs.declared.fault.FaultKind.{FaultKind}
 use Rattle.rdl_tree.specs.declared.property.Property.TheVariants.{Regwidth}
 use Rattle.rdl_scope.specs.ItemFaults.{fault_at, fault_of}
-use Rattle.rdl_scope.specs.Closed.{Head, Parts, no_parts, part, head_value}
+use Rattle.rdl_scope.specs.Closed.{Head, Parts, no_parts, part, Made, head_value}
 use Rattle.rdl_elab.specs.declared.layout.Span.{Span}
 use Rattle.rdl_elab.specs.declared.layout.Layout.{Layout}
 use Rattle.rdl_elab.specs.declared.row.Row.{Row}
@@ -30,7 +30,8 @@ use Rattle.rdl_elab.specs.Rows.{location_of, base_of, Around, Judged, judged_row
 use Rattle.rdl_elab.specs.Faults.{levels, kind_fault, row_fault, first_row_fault}
 use Rattle.rdl_elab.specs.Found.{IsPartFound, ArePartsFound}
 use Rattle.rdl_elab.specs.Finished.{under, IsKept, IsPart, AreParts}
-use Rattle.rdl_elab.specs.Reaches.{Reach, values_along, along, behind, reaches_at}
+use Rattle.rdl_elab.specs.Reaches.{Reach, values_along, along, behind, reaches, reaches_at}
+use Rattle.rdl_elab.specs.Ready.{IsKeptAlone}
 use Rattle.rdl_elab.specs.FinishedRows.{Surroundings, FinishedRow, Told, finished_base, finished_values, finished_row, seen, finished_fault, judged, surroundings_inside, level_rows, finished_rows, told_one, told}
 use Rattle.rdl_elab.proofs.Along.{along-further}
 use Rattle.rdl_elab.proofs.RowsAlong.{values-row, values-alone, reaches-body}
@@ -115,13 +116,36 @@ kept-along h None [] = sym (values-alone h)
 kept-along h None (r ∷ rs) = refl
 kept-along h (Some n) rs = refl
 
+base-below : (k : Kind) (base : ℕ) (span : Span) → base_of k base span ≤ base + span.start
+base-below Field base span = omega arith
+base-below Addrmap base span = omega arith
+base-below Regfile base span = omega arith
+base-below Reg base span = omega arith
+
+-- what is inside an instance lies within the bytes of a map
+pub room-inside : (a : Around) (span : Span) (h : Head) (within : Parts) → (h.kind ≡ Field) ⊎ BytesFit a.mode a.base span h within → (h.kind ≡ Field) ⊎ (base_of h.kind a.base span + (layout_of a.mode h within).size ≤ 2 ^ 40)
+room-inside a span h within (inl e) = inl e
+room-inside a span h within (inr g) = inr (omega (arith, base-below h.kind a.base span, g.holds, g.room))
+
+-- what is kept of a component but its instances and its assignments
+pub alone : (d : Items) (f : Finished) (c : Made) → IsKept d f c → IsKeptAlone f c
+alone d f c k = record {
+  kind = k.kind;
+  values = k.values;
+  shown = k.shown;
+  layouts = k.layouts;
+  levels = k.levels;
+  rows = k.rows;
+  first_empty = k.first_empty;
+}
+
 module _ (d : Items) (fs : List Finished) (faultless : fault_of d ≡ None) where
   -- what stands around the instances of the component at b, by what is kept
   abbrev pub around_of : List ℕ → Around → Surroundings
   around_of b a = record { mode = a.mode; names = a.names; base = a.base; bits = a.bits; reaching = along d [] a.path ++ reaches_at d b }
 
   module _ (b : List ℕ) (a : Around) (before : List (Span × Option Value)) (span : Span) (at : List ℕ) (s : Shell) (h : Head) (within : Parts) (p : Part) (f : Finished)
-      (place : p.at ≡ at) (shell : p.shell ≡ s) (k : IsKept d f (record { head = h; parts = within })) (found : IsPartFound d b at s h within)
+      (place : p.at ≡ at) (shell : p.shell ≡ s) (k : IsKeptAlone f (record { head = h; parts = within })) (found : IsPartFound d b at s h within)
       (small : a.bits ≤ 128) (fits : OneFits a.mode a.base span h within) where
     abbrev l : Layout
     l = layout_of a.mode h within
@@ -147,7 +171,7 @@ module _ (d : Items) (fs : List Finished) (faultless : fault_of d ≡ None) wher
         ∙ kept-along h s.reset (along d [] (a.path ++ at ∷ []))
         ∙ values-row d a.path at s found.of h within found.instance found.component
 
-    kept-fault : (judged o (map sibling_of before) (capped_span span) p f r').fault ≡ row_fault d r
+    pub kept-fault : (judged o (map sibling_of before) (capped_span span) p f r').fault ≡ row_fault d r
     kept-fault =
         (λ i. fault_at (place i) (finished_fault (k.kind i) (k.values i) a.bits (shell i) (size-is i) (seen (capped_span span) (values-is i)) (map sibling_of before) (values-is i)))
         ∙ ap (fault_at at) (fault-same d a before span at s h within small fits)
@@ -159,7 +183,7 @@ module _ (d : Items) (fs : List Finished) (faultless : fault_of d ≡ None) wher
         without None e = refl
         without (Some g) e = absurd (some-none e)
 
-    exact : row_fault d r ≡ None → capped_span span ≡ span
+    pub exact : row_fault d r ≡ None → capped_span span ≡ span
     exact e = span-exact d a before span at s h within small fits (fault-none e)
 
     row-is : capped_span span ≡ span → r' ≡ r.row
@@ -172,20 +196,21 @@ module _ (d : Items) (fs : List Finished) (faultless : fault_of d ≡ None) wher
           values = values-is i;
         }
 
-    inside-is : capped_span span ≡ span → surroundings_inside o p f r' ≡ around_of h.at (inside r)
-    inside-is e = λ i.
+    -- its own assignments are those of its body
+    pub inside-is : f.assignments.items ≡ reaches d h.at 0 h.body → capped_span span ≡ span → surroundings_inside o p f r' ≡ around_of h.at (inside r)
+    inside-is assigned e = λ i.
         record {
           mode = mode_inside (k.kind i) (k.values i) a.mode;
           names = (row-is e i).names;
           base = (row-is e i).base;
           bits = (k.values i).regwidth;
-          reaching = reaching-is i ++ (k.assignments faultless found.component ∙ sym (reaches-body d h.at (record { head = h; parts = within }) found.component)) i;
+          reaching = reaching-is i ++ (assigned ∙ sym (reaches-body d h.at (record { head = h; parts = within }) found.component)) i;
         }
 
-    seen-is : capped_span span ≡ span → seen (capped_span span) r'.values ≡ sibling_of (span, r.access)
+    pub seen-is : capped_span span ≡ span → seen (capped_span span) r'.values ≡ sibling_of (span, r.access)
     seen-is e = (λ i. seen (e i) (values-is i)) ∙ seen-same d r.path h span
 
-    spans-is : (under a.mode f.layouts).spans ≡ map capped_span l.spans
+    pub spans-is : (under a.mode f.layouts).spans ≡ map capped_span l.spans
     spans-is = ap (λ (x : Layout). x.spans) (k.layouts a.mode)
 
   abbrev LevelSame : ℕ → Parts → Type 0
@@ -211,12 +236,6 @@ module _ (d : Items) (fs : List Finished) (faultless : fault_of d ≡ None) wher
       by_fault None = h u.rows
       by_fault (Some f) = refl
 
-  base-below : (k : Kind) (base : ℕ) (span : Span) → base_of k base span ≤ base + span.start
-  base-below Field base span = omega arith
-  base-below Addrmap base span = omega arith
-  base-below Regfile base span = omega arith
-  base-below Reg base span = omega arith
-
   -- an instance with all below it, and those behind it
   module _ (n : ℕ) (b : List ℕ) (a : Around) (m : Kind) (before : List (Span × Option Value)) (span : Span) (spans : List Span) (at : List ℕ) (s : Shell) (h : Head) (within rest : Parts)
       (p : Part) (ps : List Part) (bound : ℕ)
@@ -230,6 +249,9 @@ module _ (d : Items) (fs : List Finished) (faultless : fault_of d ≡ None) wher
 
     abbrev f : Finished
     f = q.finished
+
+    kept : IsKeptAlone f (record { head = h; parts = within })
+    kept = alone d f (record { head = h; parts = within }) q.kept
 
     abbrev size : Layout
     size = layout_of a.mode h within
@@ -252,20 +274,16 @@ module _ (d : Items) (fs : List Finished) (faultless : fault_of d ≡ None) wher
     abbrev more_judged : List Judged
     more_judged = rows_in d a (before ++ (span, judged_here.access) ∷ []) spans rest
 
-    room : (h.kind ≡ Field) ⊎ BytesFit a.mode a.base span h within → (h.kind ≡ Field) ⊎ (base_of h.kind a.base span + size.size ≤ 2 ^ 40)
-    room (inl e) = inl e
-    room (inr g) = inr (omega (arith, base-below h.kind a.base span, g.holds, g.room))
-
     inner-same : (rows : List Row) → capped_span span ≡ span → told (rows ++ row' ∷ []) inner ≡ told_judged d (rows ++ judged_here.row ∷ []) inner_judged
     inner-same rows e =
-        (λ i. told (rows ++ row-is b a before span at s h within p f q.place q.shell q.kept found small fits e i ∷ []) (finished_rows n fs (inside-is b a before span at s h within p f q.place q.shell q.kept found small fits e i) (spans-is b a before span at s h within p f q.place q.shell q.kept found small fits i) f.parts.items))
+        (λ i. told (rows ++ row-is b a before span at s h within p f q.place q.shell kept found small fits e i ∷ []) (finished_rows n fs (inside-is b a before span at s h within p f q.place q.shell kept found small fits (q.kept.assignments faultless found.component) e i) (spans-is b a before span at s h within p f q.place q.shell kept found small fits i) f.parts.items))
         ∙ levels-same n within same-within h.at (inside judged_here) h.kind size.spans f.parts.items p.component (rows ++ judged_here.row ∷ []) q.inside found-within fields
-        (fits-inside a.mode judged_here.row.base h within fields (room fits.bytes)) (bits-small h) deep
+        (fits-inside a.mode judged_here.row.base h within fields (room-inside a span h within fits.bytes)) (bits-small h) deep
 
     more-same : capped_span span ≡ span → (rows : List Row) → told rows more ≡ told_judged d rows more_judged
     more-same e rows =
         ap (λ bs. told rows (level_rows fs below (around_of b a) bs (map capped_span spans) ps))
-        (ap (λ x. map sibling_of before ++ x ∷ []) (seen-is b a before span at s h within p f q.place q.shell q.kept found small fits e) ∙ sym (map-append sibling_of before ((span, judged_here.access) ∷ [])))
+        (ap (λ x. map sibling_of before ++ x ∷ []) (seen-is b a before span at s h within p f q.place q.shell kept found small fits e) ∙ sym (map-append sibling_of before ((span, judged_here.access) ∷ [])))
         ∙ same-rest b a m (before ++ (span, judged_here.access) ∷ []) spans ps bound rows parts-rest found-rest fields-rest fit-rest small deep-rest
 
     go-on : (rows : List Row) → capped_span span ≡ span → told (rows ++ row' ∷ []) (inner ++ more) ≡ told_judged d (rows ++ judged_here.row ∷ []) (inner_judged ++ more_judged)
@@ -280,11 +298,11 @@ module _ (d : Items) (fs : List Finished) (faultless : fault_of d ≡ None) wher
     by-fault : (rows : List Row) (x : Option Fault) → row_fault d judged_here ≡ x
         → told_one kept_here.fault row' rows (told (rows ++ row' ∷ []) (inner ++ more)) ≡ told_one (row_fault d judged_here) judged_here.row rows (told_judged d (rows ++ judged_here.row ∷ []) (inner_judged ++ more_judged))
     by-fault rows None e =
-        ap (λ y. told_one y row' rows (told (rows ++ row' ∷ []) (inner ++ more))) (kept-fault b a before span at s h within p f q.place q.shell q.kept found small fits ∙ e)
-        ∙ go-on rows (exact b a before span at s h within p f q.place q.shell q.kept found small fits e)
+        ap (λ y. told_one y row' rows (told (rows ++ row' ∷ []) (inner ++ more))) (kept-fault b a before span at s h within p f q.place q.shell kept found small fits ∙ e)
+        ∙ go-on rows (exact b a before span at s h within p f q.place q.shell kept found small fits e)
         ∙ sym (ap (λ y. told_one y judged_here.row rows (told_judged d (rows ++ judged_here.row ∷ []) (inner_judged ++ more_judged))) e)
     by-fault rows (Some g) e =
-        ap (λ y. told_one y row' rows (told (rows ++ row' ∷ []) (inner ++ more))) (kept-fault b a before span at s h within p f q.place q.shell q.kept found small fits ∙ e)
+        ap (λ y. told_one y row' rows (told (rows ++ row' ∷ []) (inner ++ more))) (kept-fault b a before span at s h within p f q.place q.shell kept found small fits ∙ e)
         ∙ sym (ap (λ y. told_one y judged_here.row rows (told_judged d (rows ++ judged_here.row ∷ []) (inner_judged ++ more_judged))) e)
 
     one-same : (rows : List Row) → told rows (level_rows fs below (around_of b a) (map sibling_of before) (capped_span span ∷ map capped_span spans) (p ∷ ps))

@@ -6,12 +6,10 @@ use Rattle.std.proofs.lemmas.List.Elements.{Contains-append_left, Contains-appen
 use Rattle.std.proofs.lemmas.Slice.Eq.{bytes_eq-Decides}
 use Rattle.slab.specs.Slab.{Slab, get}
 use Rattle.rdl_elab.specs.Kept.{Layouts, LaidOut, Stored}
-use Rattle.rdl_elab.specs.Anew.{AreKept}
 use Rattle.rdl_elab.specs.Words.{is_among, IsMade}
-use Rattle.rdl_elab.specs.Entries.{HasNone, IsOf, with_slot, trimmed, layouts_at, slot_layouts, slot_words}
+use Rattle.rdl_elab.specs.Entries.{HasNone, IsOf, AreHeld, with_slot, trimmed, layouts_at, slot_layouts, slot_words, key_words}
 use Rattle.rdl_elab.specs.Stored.{under_key, all_under, AreUnder, HoldsOnly}
-use Rattle.rdl_elab.specs.Taken.{AreUnderKeys, AreMarked}
-use Rattle.rdl_elab.specs.declared.walk.finished.Finished.{Finished}
+use Rattle.rdl_elab.specs.Taken.{AreMarked}
 
 abbrev layouts_of : LaidOut → Layouts
 layouts_of e = e.layouts
@@ -117,26 +115,6 @@ module _ (q : List ℕ) where
   pub words-none : (s : Slab LaidOut) → HasNone q s → is_among q (slot_words s) ≡ false
   words-none s h = among-none (trimmed s.slots) (λ k e is. h k e (sym (at-trimmed s.slots k) ∙ is))
 
--- ---- Components.
-
-pub under-keys : (s : Slab LaidOut) (keys : List ℕ) (fs : List Finished) → AreUnderKeys s keys fs → AreUnder (slot_layouts s) keys (map (λ (f : Finished). f.laid_out.layouts) fs)
-under-keys s [] [] e = refl
-under-keys s [] (f ∷ fs) e = cc
-under-keys s (k ∷ ks) [] e = cc
-under-keys s (k ∷ ks) (f ∷ fs) e =
-    let here : get s k ≡ Some f.laid_out = cc in
-    let rest : map (get s) ks ≡ map (λ (g : Finished). Some g.laid_out) fs = cc in
-    λ i. (under-slots s k ∙ ap (option_map layouts_of) here) i ∷ under-keys s ks fs rest i
-
-pub kept-keys : (s : Slab LaidOut) (keys : List ℕ) (fs : List Finished) → AreUnderKeys s keys fs → AreKept (slot_words s) fs
-kept-keys s [] [] e = tt
-kept-keys s [] (f ∷ fs) e = cc
-kept-keys s (k ∷ ks) [] e = cc
-kept-keys s (k ∷ ks) (f ∷ fs) e =
-    let here : get s k ≡ Some f.laid_out = cc in
-    let rest : map (get s) ks ≡ map (λ (g : Finished). Some g.laid_out) fs = cc in
-    (words-there f.laid_out.words s k f.laid_out here refl, kept-keys s ks fs rest)
-
 within : (os : Slots) (k : ℕ) (e : LaidOut) → slot os k ≡ Some e → k < length os
 within [] k e is = cc
 within (x ∷ xs) zero e is = omega arith
@@ -145,19 +123,19 @@ within (x ∷ xs) (suc k) e is = omega (arith, within xs k e is)
 -- what isn't marked is removed
 module _ (first mid last : Slab LaidOut) (before keys : List ℕ) (marks : List Bool) (are : AreMarked marks keys mid)
     (kept : (k : ℕ) → slice_get marks k ≡ Some true → get last k ≡ get mid k) where
-  pub under-kept : (fs : List Finished) → AreUnderKeys mid keys fs → AreUnderKeys last keys fs
+  pub under-kept : (ls : List LaidOut) → map (get mid) keys ≡ map Some ls → map (get last) keys ≡ map Some ls
   under-kept = by keys (λ k among. among)
     where
-      by : (ks : List ℕ) → ((k : ℕ) → Contains ks k → Contains keys k) → (fs : List Finished) → AreUnderKeys mid ks fs → AreUnderKeys last ks fs
+      by : (ks : List ℕ) → ((k : ℕ) → Contains ks k → Contains keys k) → (ls : List LaidOut) → map (get mid) ks ≡ map Some ls → map (get last) ks ≡ map Some ls
       by [] h [] e = refl
-      by [] h (f ∷ fs) e = cc
+      by [] h (l ∷ ls) e = cc
       by (k ∷ ks) h [] e = cc
-      by (k ∷ ks) h (f ∷ fs) e =
-          let here : get mid k ≡ Some f.laid_out = cc in
-          let rest : map (get mid) ks ≡ map (λ (g : Finished). Some g.laid_out) fs = cc in
+      by (k ∷ ks) h (l ∷ ls) e =
+          let here : get mid k ≡ Some l = cc in
+          let rest : map (get mid) ks ≡ map Some ls = cc in
           let mine : Contains keys k = h k (Contains-append_left (k ∷ []) ks k (Contains-push [] k)) in
-          let stays : get last k ≡ get mid k = kept k (are.marked k mine (within mid.slots k f.laid_out here)) in
-          λ i. (stays ∙ here) i ∷ by ks (λ j among. h j (Contains-append_right (k ∷ []) ks j among)) fs rest i
+          let stays : get last k ≡ get mid k = kept k (are.marked k mine (within mid.slots k l here)) in
+          λ i. (stays ∙ here) i ∷ by ks (λ j among. h j (Contains-append_right (k ∷ []) ks j among)) ls rest i
 
   pub holds-only : HoldsOnly (slot_layouts first) before → ((k : ℕ) → IsSome (get mid k) → IsSome (get first k) ⊎ Contains keys k)
       → ((k : ℕ) → IsSome (get last k) → IsSome (get mid k)) → ((k : ℕ) → Contains before k → IsSome (get last k) → slice_get marks k ≡ Some true) → HoldsOnly (slot_layouts last) keys
@@ -182,23 +160,28 @@ module _ (first mid last : Slab LaidOut) (before keys : List ℕ) (marks : List 
 
 -- ---- Nothing is kept.
 
-pub empty-stored : (s : Slab LaidOut) (keys : List ℕ) → s.slots ≡ [] → keys ≡ [] → AreUnder (slot_layouts s) keys (all_under (slot_layouts s) keys) × HoldsOnly (slot_layouts s) keys
+pub empty-stored : (s : Slab LaidOut) (keys : List ℕ) → s.slots ≡ [] → keys ≡ [] → AreHeld s keys × HoldsOnly (slot_layouts s) keys
 empty-stored s keys none empty = (
-  subst (λ ks. AreUnder (slot_layouts s) ks (all_under (slot_layouts s) ks)) (sym empty) refl,
+  subst (λ ks. AreHeld s ks) (sym empty) refl,
   λ k is. (let no : IsSome (option_map layouts_of (slot [] k)) = subst IsSome (under-slots s k ∙ λ i. option_map layouts_of (slot (none i) k)) is in cc),
 )
 
 -- ---- Nothing changes.
 
-pub stays-stored : (old new : Slab LaidOut) (keys : List ℕ) → ((k : ℕ) → get new k ≡ get old k) → AreUnder (slot_layouts old) keys (all_under (slot_layouts old) keys) × HoldsOnly (slot_layouts old) keys → AreUnder (slot_layouts new) keys (all_under (slot_layouts new) keys) × HoldsOnly (slot_layouts new) keys
-stays-stored old new keys h =
-    subst (λ (os : Slots). AreUnder (map (option_map layouts_of) os) keys (all_under (map (option_map layouts_of) os) keys) × HoldsOnly (map (option_map layouts_of) os) keys) (sym (same-slots old new h))
+held-same : (old new : Slab LaidOut) (keys : List ℕ) → ((k : ℕ) → get new k ≡ get old k) → AreHeld old keys → AreHeld new keys
+held-same old new keys h held = subst (λ (at : ℕ → Option LaidOut). map at keys ≡ map Some (filter_map at keys)) (λ i k. sym (h k) i) held
 
-abbrev seen_as : Slots → List ℕ → ℕ → Stored
-seen_as os keys placed = record { slots = map (option_map layouts_of) os; keys = keys; words = filter_map (option_map words_of) os; placed = placed }
+pub stays-stored : (old new : Slab LaidOut) (keys : List ℕ) → ((k : ℕ) → get new k ≡ get old k) → AreHeld old keys × HoldsOnly (slot_layouts old) keys → AreHeld new keys × HoldsOnly (slot_layouts new) keys
+stays-stored old new keys h was = (
+  held-same old new keys h was.0,
+  subst (λ (os : Slots). HoldsOnly (map (option_map layouts_of) os) keys) (sym (same-slots old new h)) was.1,
+)
 
-pub same-stored : (old new : Slab LaidOut) (keys : List ℕ) (placed : ℕ) → ((k : ℕ) → get new k ≡ get old k) → seen_as (trimmed new.slots) keys placed ≡ seen_as (trimmed old.slots) keys placed
-same-stored old new keys placed h = ap (λ (os : Slots). seen_as os keys placed) (same-slots old new h)
+abbrev seen_as : Slots → List (List ℕ) → List ℕ → ℕ → Stored
+seen_as os spelled keys placed = record { slots = map (option_map layouts_of) os; keys = keys; words = filter_map (option_map words_of) os; spelled = spelled; placed = placed }
+
+pub same-stored : (old new : Slab LaidOut) (keys : List ℕ) (placed : ℕ) → ((k : ℕ) → get new k ≡ get old k) → seen_as (trimmed new.slots) (key_words new keys) keys placed ≡ seen_as (trimmed old.slots) (key_words old keys) keys placed
+same-stored old new keys placed h = λ i. seen_as (same-slots old new h i) (filter_map (λ k. option_map words_of (h k i)) keys) keys placed
 
 -- ---- What is found.
 

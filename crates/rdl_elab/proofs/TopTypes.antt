@@ -17,6 +17,7 @@ use Rattle.rdl_elab.specs.declared.row.Row.{Row}
 use Rattle.rdl_tree.specs.declared.fault.Fault.{Fault}
 use Rattle.rdl_elab.specs.Faults.{may_be_top, name_of, has_name, top_from, under_top, with_top}
 use Rattle.rdl_elab.specs.FinishedRows.{finished_answer}
+use Rattle.rdl_elab.specs.Ready.{IsReadyType}
 use Rattle.rdl_elab.specs.Stands.{AreTypes, IsType}
 use Rattle.rdl_elab.proofs.KeptAnswers.{answer-kept}
 use Rattle.rdl_elab.proofs.Namesakes.{unique}
@@ -135,15 +136,15 @@ top-type d w n name accepted is =
 
 -- ---- What a walk keeps of a type.
 
-pub type-found : (d : Items) (fs : List Finished) (name : List ℕ) (ks : List (List ℕ × ℕ)) (ts : List (List ℕ × Made)) → AreTypes d fs ks ts → IsType d fs (lookup name ks) (lookup name ts)
+pub type-found : (d : Items) (fs : List Finished) (name : List ℕ) (ks : List (List ℕ × ℕ)) (ts : List (List ℕ × Made)) → AreTypes d fs ks ts → IsReadyType d fs (lookup name ks) (lookup name ts)
 type-found d fs name [] [] h = tt
 type-found d fs name (k ∷ ks) [] h = absurd h
 type-found d fs name [] (t ∷ ts) h = absurd h
 type-found d fs name (k ∷ ks) (t ∷ ts) h =
-    subst (λ (n : List ℕ). IsType d fs (if bytes_eq k.0 name then Some k.1 else lookup name ks) (if bytes_eq n name then Some t.1 else lookup name ts)) h.0
+    subst (λ (n : List ℕ). IsReadyType d fs (if bytes_eq k.0 name then Some k.1 else lookup name ks) (if bytes_eq n name then Some t.1 else lookup name ts)) h.0
     (by_test (type-found d fs name ks ts h.2) (bytes_eq k.0 name))
   where
-    by_test : IsType d fs (lookup name ks) (lookup name ts) → (b : Bool) → IsType d fs (if b then Some k.1 else lookup name ks) (if b then Some t.1 else lookup name ts)
+    by_test : IsReadyType d fs (lookup name ks) (lookup name ts) → (b : Bool) → IsReadyType d fs (if b then Some k.1 else lookup name ks) (if b then Some t.1 else lookup name ts)
     by_test further true = h.1
     by_test further false = further
 

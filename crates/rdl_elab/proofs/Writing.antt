@@ -1,5 +1,5 @@
 -- A walk finishes the components that are written, one after another.
-use Rattle.std.proofs.Common.{◌≡◌, ℕ, true, suc, ◌+◌, ◌<◌, List, [], ◌∷◌, ◌++◌, length, take, get_or, refl, ap, sym, subst, ◌∙◌, arith, append_assoc}
+use Rattle.std.proofs.Common.{◌≡◌, ℕ, true, suc, ◌+◌, ◌<◌, List, [], ◌∷◌, ◌++◌, length, take, get_or, None, refl, ap, sym, subst, ◌∙◌, arith, append_assoc}
 use Rattle.std.specs.Option.{IsSome}
 use Rattle.rdl_tree.specs.Items.{Items, no_items}
 use Rattle.rdl_tree.specs.View.{add, items_of, list_of}
@@ -11,7 +11,7 @@ use Rattle.rdl_tree.specs.declared.description.Component.{Component}
 use Rattle.rdl_scope.specs.Closed.{Made, Standing, standing}
 use Rattle.rdl_elab.specs.declared.layout.Mode.TheVariants.{Compact, Regalign, Fullalign}
 use Rattle.rdl_elab.specs.declared.walk.finished.Finished.{Finished}
-use Rattle.rdl_elab.specs.Finished.{IsKept}
+use Rattle.rdl_elab.specs.Ready.{IsKeptAlone}
 use Rattle.rdl_elab.specs.Stands.{made_at, after_item}
 use Rattle.rdl_elab.specs.Written.{written, item_written}
 use Rattle.rdl_elab.specs.MadeOf.{made_of}
@@ -41,8 +41,9 @@ module _ (before : Stored) where
   pub finishes-push : (fs gs : List Finished) (f : Finished) (c : Made) → gs ≡ fs ++ f ∷ [] → IsLaidOut before f c → Finishes before fs gs (c ∷ [])
   finishes-push fs gs f c is h = record { more = f ∷ []; is = is; are = (h, tt) }
 
-  pub laid-out : (d : Items) (f : Finished) (c : Made) → IsKept d f c → f.laid_out.words ≡ spelling (made_of c) → f.laid_out.layouts ≡ f.layouts → WasKept before.slots f → (is_among f.laid_out.words before.words ≡ true → IsSome f.key) → IsLaidOut before f c
-  laid-out d f c h e same kept taken = record {
+  pub laid-out : (f : Finished) (c : Made) → IsKeptAlone f c → f.passed ≡ None → f.laid_out.words ≡ spelling (made_of c) → f.laid_out.layouts ≡ f.layouts → WasKept before.slots f → (is_among f.laid_out.words before.words ≡ true → IsSome f.key) → IsLaidOut before f c
+  laid-out f c h held e same kept taken = record {
+    held = held;
     layouts = λ i. record { compact = h.layouts Compact i; regalign = h.layouts Regalign i; fullalign = h.layouts Fullalign i };
     made = e;
     same = same;
@@ -66,7 +67,7 @@ written-add e b n (Own p v) rest = refl
 written-add e b n (Default p v) rest = refl
 written-add e b n (Dynamic t p v) rest = refl
 
-written-last : (e : Standing) (b : List ℕ) (n : ℕ) (xs : List Item) (x : Item)
+pub written-last : (e : Standing) (b : List ℕ) (n : ℕ) (xs : List Item) (x : Item)
     → written e b n (items_of (xs ++ x ∷ [])) ≡ written e b n (items_of xs) ++ item_written (standing e b n (items_of xs)) (b ++ (n + length xs) ∷ []) x
 written-last e b n [] x = written-add e b n x no_items ∙ append_nil (item_written e (b ++ n ∷ []) x) ∙ ap (λ k. item_written e (b ++ k ∷ []) x) (none n)
   where

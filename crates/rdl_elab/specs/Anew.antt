@@ -27,10 +27,6 @@ instances_at marked d = sum_by (λ (c : Made). if marked c.head.at then how_many
 abbrev pub AreFoundBut : (List ℕ → Bool) → List (List ℕ) → Items → Type 0
 AreFoundBut marked all d = AllByRecursion (λ (c : Made). marked c.head.at ≡ false → is_among (spelling (made_of c)) all ≡ true) (all_written d)
 
--- the words of these finished components are among them
-abbrev pub AreKept : List (List ℕ) → List Finished → Type 0
-AreKept all fs = AllByRecursion (λ (f : Finished). is_among f.laid_out.words all ≡ true) fs
-
 -- the spans of a component's layouts, and those that are new
 abbrev pub all_spans : Layouts → ℕ
 all_spans l = length l.compact.spans + length l.regalign.spans + length l.fullalign.spans

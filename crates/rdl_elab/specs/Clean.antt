@@ -1,6 +1,6 @@
 -- Components below which no row has a fault, once for all their instances.
 -- own: SystemRDL 2.0 has no rows. `FinishedRows` says which row has a fault; that needs neither names nor a base.
-use Rattle.std.specs.Prelude.{◌≡◌, ℕ, ◌≤◌, ◌&&◌, List, [], ◌∷◌, ◌++◌, ◌||◌, Bool, true, false, Option, Some, None, slice_get, unwrap_or}
+use Rattle.std.specs.Prelude.{◌≡◌, ℕ, ◌≤◌, ◌&&◌, List, [], ◌∷◌, ◌++◌, ◌||◌, Bool, true, false, Some, slice_get, unwrap_or}
 use Rattle.std.specs.Option.{is_none}
 use Rattle.rdl_tree.specs.declared.shell.Kind.{Kind}
 use Rattle.rdl_tree.specs.declared.shell.Kind.TheVariants.{Addrmap, Regfile, Reg, Field}
@@ -60,10 +60,6 @@ joined a b = record { compact = a.compact || b.compact; regalign = a.regalign ||
 -- the modes of the component of a number; none, where there is no such component
 abbrev pub modes_at : List Modes → ℕ → Modes
 modes_at all k = unwrap_or (slice_get all k) no_modes
-
-abbrev pub modes_of : List Modes → Option ℕ → Modes
-modes_of all None = no_modes
-modes_of all (Some k) = modes_at all k
 
 -- no component is in a mode
 abbrev pub HaveNoModes : List Modes → Type 0

@@ -52,18 +52,8 @@ abbrev pub AreCleanHeads : Items → List Modes → Type 0
 AreCleanHeads d heads =
     (j : ℕ) (ms : Modes) (c : Made) (m : Mode) → slice_get heads j ≡ Some ms → component d (j ∷ []) ≡ Some c → has_mode m ms ≡ true → WasFoundClean d c m
 
--- an item of the root has one of these components, which is clean in the mode
-pub record IsHeadClean (fs : List Finished) (numbers : List (Option ℕ)) (j : ℕ) (m : Mode) : Type 0 where
-  pub number : ℕ
-  pub there : slice_get numbers j ≡ Some (Some number)
-  pub clean : (f : Finished) → slice_get fs number ≡ Some f → IsCleanIn fs f m
-
 -- the modes of an item of the root, by the number of its component, are those in which that is clean
 abbrev pub AreHeadsIn : List Finished → List (Option ℕ) → List Modes → Type 0
 AreHeadsIn fs numbers heads =
     (j k : ℕ) (ms : Modes) (f : Finished) (m : Mode) → slice_get heads j ≡ Some ms → slice_get numbers j ≡ Some (Some k) → slice_get fs k ≡ Some f
     → has_mode m ms ≡ true → IsCleanIn fs f m
-
--- only what has a component is in a mode
-abbrev pub AreHeadsOf : List Finished → List (Option ℕ) → List Modes → Type 0
-AreHeadsOf fs numbers heads = (j : ℕ) (ms : Modes) (m : Mode) → slice_get heads j ≡ Some ms → has_mode m ms ≡ true → IsHeadClean fs numbers j m

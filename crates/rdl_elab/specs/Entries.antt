@@ -69,3 +69,15 @@ slot_layouts s = map (option_map (λ (e : LaidOut). e.layouts)) (trimmed s.slots
 -- the words of what stands there
 abbrev pub slot_words : Slab LaidOut → List (List ℕ)
 slot_words s = filter_map (option_map (λ (e : LaidOut). e.words)) (trimmed s.slots)
+
+-- the words of what stands under these keys
+abbrev pub key_words : Slab LaidOut → List ℕ → List (List ℕ)
+key_words s keys = filter_map (λ k. option_map (λ (e : LaidOut). e.words) (get s k)) keys
+
+-- what stands under these keys
+abbrev pub laid_under : Slab LaidOut → List ℕ → List LaidOut
+laid_under s keys = filter_map (get s) keys
+
+-- under each of these keys something stands
+abbrev pub AreHeld : Slab LaidOut → List ℕ → Type 0
+AreHeld s keys = map (get s) keys ≡ map Some (laid_under s keys)

@@ -1,6 +1,6 @@
 -- What a component takes of its instances, by what is kept of their components.
 -- own: SystemRDL 2.0 has no limits; levels, rows and elements are counted as far as they are told apart.
-use Rattle.std.specs.Prelude.{ℕ, ◌+◌, ◌-◌, ◌^◌, min, max, Bool, true, false, List, [], ◌∷◌, Option, Some, None, option_map, slice_get, if◌then◌else◌}
+use Rattle.std.specs.Prelude.{ℕ, zero, ◌+◌, ◌-◌, ◌^◌, ◌&&◌, min, max, Bool, true, false, List, [], ◌∷◌, Option, Some, None, option_map, slice_get, if◌then◌else◌}
 use Rattle.std.specs.Option.{option_or}
 use Rattle.std.specs.List.{filter_map}
 use Rattle.rdl_tree.specs.declared.shell.Kind.{Kind}
@@ -47,17 +47,26 @@ abbrev pub finished_rows : List Finished → List Part → ℕ
 finished_rows fs [] = 0
 finished_rows fs (p ∷ ps) = part_rows (slice_get fs p.component) + finished_rows fs ps
 
--- whether a component of this kind with these instances is one that must not be without any
-abbrev pub lacks_parts : Kind → List Part → Bool
-lacks_parts Addrmap [] = true
-lacks_parts Regfile [] = true
-lacks_parts kind ps = false
+-- whether a component of this kind with so many rows below it is one that must not be without instances
+abbrev pub lacks_rows : Kind → ℕ → Bool
+lacks_rows Addrmap zero = true
+lacks_rows Regfile zero = true
+lacks_rows kind n = false
 
 -- the instance, or the first below it, of a register file or address map without instances
 abbrev pub part_empty : Part → Option Finished → Option (List ℕ)
 part_empty p None = None
-part_empty p (Some f) = option_or (if lacks_parts f.kind f.parts.items then Some p.at else None) f.first_empty
+part_empty p (Some f) = option_or (if lacks_rows f.kind f.rows then Some p.at else None) f.first_empty
 
 abbrev pub kept_empty : List Finished → List Part → Option (List ℕ)
 kept_empty fs [] = None
 kept_empty fs (p ∷ ps) = option_or (part_empty p (slice_get fs p.component)) (kept_empty fs ps)
+
+-- whether all below the component of an instance is held, if it is there
+abbrev pub is_whole : Option Finished → Bool
+is_whole None = true
+is_whole (Some f) = f.whole
+
+abbrev pub are_whole : List Finished → List Part → Bool
+are_whole fs [] = true
+are_whole fs (p ∷ ps) = is_whole (slice_get fs p.component) && are_whole fs ps

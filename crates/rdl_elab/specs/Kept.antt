@@ -41,9 +41,10 @@ pub record LaidOut : Type 0 where
   pub layouts : Layouts
 
 -- what is kept: the slots of a slab with layouts, whose numbers are their keys; the keys of the layouts of all components in their order;
--- the words of what they are made of, as bytes; and how many instances were placed for them
+-- the words of what they are made of, as bytes, of all that stands in a slot, and under these keys in their order; and how many instances were placed for them
 pub record Stored : Type 0 where
   pub slots : List (Option Layouts)
   pub keys : List ℕ
   pub words : List (List ℕ)
+  pub spelled : List (List ℕ)
   pub placed : ℕ

@@ -34,6 +34,7 @@ pub mod StandIns
 pub mod Finishes
 pub mod Numbers
 pub mod Stands
+pub mod RootWalk
 pub mod TypeStacks
 pub mod DefaultStacks
 pub mod OwnValues
@@ -43,3 +44,6 @@ pub mod Found
 pub mod StatedValues
 pub mod Anew
 pub mod CleanHeads
+pub mod Ready
+pub mod Runs
+pub mod KeptRoots

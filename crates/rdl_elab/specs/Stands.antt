@@ -13,6 +13,7 @@ use Rattle.rdl_elab.specs.Kept.{Part}
 use Rattle.rdl_elab.specs.declared.walk.Walk.{Walk}
 use Rattle.rdl_elab.specs.declared.walk.Found.{Found}
 use Rattle.rdl_elab.specs.Finished.{IsFinished}
+use Rattle.rdl_elab.specs.Ready.{IsReady, KeepsWhole}
 
 -- the component written at an address
 abbrev pub made_at : Standing → List ℕ → Component → Made
@@ -56,7 +57,7 @@ abbrev pub AreTypes : Items → List Finished → List (List ℕ × ℕ) → Lis
 AreTypes d fs [] [] = Unit {0}
 AreTypes d fs (k ∷ ks) [] = ⊥
 AreTypes d fs [] (t ∷ ts) = ⊥
-AreTypes d fs (k ∷ ks) (t ∷ ts) = (k.0 ≡ t.0) × IsFinished d fs k.1 t.1 × AreTypes d fs ks ts
+AreTypes d fs (k ∷ ks) (t ∷ ts) = (k.0 ≡ t.0) × IsReady d fs k.1 t.1 × AreTypes d fs ks ts
 
 -- a type, if there is one, is the finished component of this number
 abbrev pub IsType : Items → List Finished → Option ℕ → Option Made → Type 0
@@ -97,3 +98,4 @@ pub record IsBehind (old new : Walk) : Type 0 where
   pub types : IsLonger old.types new.types
   pub defaults : IsLonger old.defaults new.defaults
   pub components : Grows old.components.items new.components.items
+  pub whole : KeepsWhole old.components.items new.components.items

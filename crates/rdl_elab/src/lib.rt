@@ -3,6 +3,7 @@
 
 pub mod all_layouts;
 pub mod elaborate;
+pub mod kept_root;
 pub mod laws;
 pub mod layout;
 pub mod row;

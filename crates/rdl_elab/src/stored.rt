@@ -4,8 +4,8 @@ ghost use Rattle.slab.specs.Slab.{Slab, get, SameValues};
 ghost use Rattle.rdl_elab.specs.declared.walk.finished.Finished.{Finished};
 ghost use Rattle.rdl_elab.specs.declared.stored.Candidate.{Candidate};
 ghost use Rattle.rdl_elab.specs.Kept.{LaidOut};
-ghost use Rattle.rdl_elab.specs.Entries.{Adds, layouts_at};
-ghost use Rattle.rdl_elab.specs.Taken.{AreUnderKeys, AreMarked};
+ghost use Rattle.rdl_elab.specs.Entries.{Adds, AreHeld, layouts_at};
+ghost use Rattle.rdl_elab.specs.Taken.{AreUnderKeys, AreMarked, Pushes, run_keys};
 
 pub(crate) mod entries;
 pub(crate) mod word_index;
@@ -14,6 +14,7 @@ use crate::layout::{Layout, Mode};
 use crate::stored::entries::Entries;
 use crate::walk::finished::Finished;
 use crate::walk::laid_out::SharedLayouts;
+use crate::walk::passed::Run;
 use crate::walk::shared_words::SharedWords;
 use std::alloc::{AllocError, Global};
 use std::marker::Model;
@@ -46,22 +47,59 @@ fn put(
     entries.put(alloc, finished.laid_out)
 }
 
-/// Puts in what wasn't kept before, and pushes the keys of all.
+/// Those of these keys that stand side by side there.
+fn run_of(keys: &[usize], run: Run) -> &[usize]
+    ensures { result.now ≡ run_keys run keys.now }
+{
+    let Some(behind) = keys.get(run.first..) else {
+        return &[];
+    };
+    match behind.get(..run.count) {
+        Some(keys) => keys,
+        None => behind,
+    }
+}
+
+/// Puts in what is to be kept of this component, and pushes its keys: those before, if it was passed over.
+fn put_keys(
+    alloc: Global,
+    entries: &mut Entries,
+    added: &mut Vec<usize>,
+    before: &[usize],
+    finished: Finished,
+    keys: &mut Vec<usize>,
+) -> Result<(), AllocError>
+    ensures pushes { OnOk result (Pushes entries.new before.now keys.old.items keys.new.items finished.entry) }
+    ensures only { OnOk result ((k : ℕ) → IsSome (get entries.new k) → IsSome (get entries.old k) ⊎ Contains keys.new.items k) }
+    ensures adds { (first : Slab LaidOut) → Adds first entries.old added.old.items → Adds first entries.new added.new.items }
+    ensures stays { (k : ℕ) (e : LaidOut) → get entries.old k ≡ Some e → get entries.new k ≡ Some e }
+{
+    if let Some(passed) = &finished.passed {
+        keys.extend_from_slice(run_of(before, passed.run))?;
+        return Ok(());
+    }
+    let key = put(alloc, entries, added, finished)?;
+    keys.push(key)?;
+    Ok(())
+}
+
+/// Puts in what wasn't kept before, and pushes the keys of all. Those of what was passed over are among the keys before.
 fn put_all(
     alloc: Global,
     entries: &mut Entries,
     added: &mut Vec<usize>,
+    before: &[usize],
     components: Vec<Finished>,
     keys: &mut Vec<usize>,
 ) -> Result<(), AllocError>
-    requires { keys.old.items ≡ [] }
-    ensures under { OnOk result (AreUnderKeys entries.new keys.new.items components.entry.items) }
+    requires empty { keys.old.items ≡ [] }
+    requires held { AreHeld entries.old before.now }
+    ensures under { OnOk result (AreUnderKeys entries.old before.now entries.new keys.new.items components.entry.items) }
     ensures only { OnOk result ((k : ℕ) → IsSome (get entries.new k) → IsSome (get entries.old k) ⊎ Contains keys.new.items k) }
     ensures adds { Adds entries.old entries.old added.old.items → Adds entries.old entries.new added.new.items }
 {
     for finished in components {
-        let key = put(alloc, entries, added, finished)?;
-        keys.push(key)?;
+        put_keys(alloc, entries, added, before, finished, keys)?;
     }
     Ok(())
 }
@@ -106,16 +144,18 @@ fn put_marked(
     alloc: Global,
     entries: &mut Entries,
     added: &mut Vec<usize>,
+    before: &[usize],
     components: Vec<Finished>,
     keys: &mut Vec<usize>,
 ) -> Result<Vec<bool>, AllocError>
-    requires { keys.old.items ≡ [] }
-    ensures under { OnOk result (AreUnderKeys entries.new keys.new.items components.entry.items) }
+    requires empty { keys.old.items ≡ [] }
+    requires held { AreHeld entries.old before.now }
+    ensures under { OnOk result (AreUnderKeys entries.old before.now entries.new keys.new.items components.entry.items) }
     ensures only { OnOk result ((k : ℕ) → IsSome (get entries.new k) → IsSome (get entries.old k) ⊎ Contains keys.new.items k) }
     ensures marks { IfOk result (λ marks. AreMarked marks.items keys.new.items entries.new) }
     ensures adds { Adds entries.old entries.old added.old.items → Adds entries.old entries.new added.new.items }
 {
-    put_all(alloc, entries, added, components, keys)?;
+    put_all(alloc, entries, added, before, components, keys)?;
     marks_of(alloc, entries.capacity(), keys.as_slice())
 }
 
@@ -123,17 +163,19 @@ fn put_marked(
 fn put_or_undo(
     alloc: Global,
     entries: &mut Entries,
+    before: &[usize],
     components: Vec<Finished>,
     keys: &mut Vec<usize>,
 ) -> Result<Vec<bool>, AllocError>
-    requires { keys.old.items ≡ [] }
-    ensures under { OnOk result (AreUnderKeys entries.new keys.new.items components.entry.items) }
+    requires empty { keys.old.items ≡ [] }
+    requires held { AreHeld entries.old before.now }
+    ensures under { OnOk result (AreUnderKeys entries.old before.now entries.new keys.new.items components.entry.items) }
     ensures only { OnOk result ((k : ℕ) → IsSome (get entries.new k) → IsSome (get entries.old k) ⊎ Contains keys.new.items k) }
     ensures marks { IfOk result (λ marks. AreMarked marks.items keys.new.items entries.new) }
     ensures err { OnErr result (SameValues entries.old entries.new) }
 {
     let mut added = Vec::new(alloc);
-    match put_marked(alloc, entries, &mut added, components, keys) {
+    match put_marked(alloc, entries, &mut added, before, components, keys) {
         Ok(marks) => Ok(marks),
         Err(error) => {
             remove_all(entries, added.as_slice());
@@ -204,21 +246,22 @@ impl Model for Stored {
 
     ghost Value = { Stored };
 
-    ghost use Rattle.rdl_elab.specs.Entries.{slot_layouts, slot_words};
-    ghost use Rattle.rdl_elab.specs.Stored.{all_under, AreUnder, HoldsOnly};
+    ghost use Rattle.rdl_elab.specs.Entries.{AreHeld, key_words, slot_layouts, slot_words};
+    ghost use Rattle.rdl_elab.specs.Stored.{HoldsOnly};
 
-    ghost view = { λ s. record { slots = slot_layouts s.entries; keys = s.keys.items; words = slot_words s.entries; placed = s.placed } };
+    ghost view = { λ s. record { slots = slot_layouts s.entries; keys = s.keys.items; words = slot_words s.entries; spelled = key_words s.entries s.keys.items; placed = s.placed } };
 
-    ghost invariant = { λ s. AreUnder (slot_layouts s.entries) s.keys.items (all_under (slot_layouts s.entries) s.keys.items) × HoldsOnly (slot_layouts s.entries) s.keys.items };
+    ghost invariant = { λ s. AreHeld s.entries s.keys.items × HoldsOnly (slot_layouts s.entries) s.keys.items };
 }
 
 impl Stored {
-    ghost use Rattle.std.specs.Prelude.{◌≡◌, map, length, is_some, slice_get, option_copied, option_map, IfSome, Some, OnOk, OnErr};
+    ghost use Rattle.std.specs.Prelude.{◌≡◌, ◌++◌, ◌∷◌, [], List, map, true, length, is_some, slice_get, option_copied, option_map, IfSome, IsSomeAnd, Some, OnOk, OnErr};
     ghost use Rattle.std.specs.List.{AllByRecursion};
-    ghost use Rattle.rdl_elab.specs.Anew.{AreKept};
+    ghost use Rattle.rdl_scope.specs.Closed.{Made};
+    ghost use Rattle.rdl_elab.specs.Runs.{AreTaken, IsRun, spelled_of};
+    ghost use Rattle.rdl_elab.specs.Written.{layouts_kept};
     ghost use Rattle.rdl_elab.specs.Finished.{under};
     ghost use Rattle.rdl_elab.specs.Stored.{under_key, all_under};
-    ghost use Rattle.rdl_elab.specs.Taken.{WasKept};
     ghost use Rattle.rdl_elab.specs.Words.{AreMadeOf, IsSpelled, is_among};
 
     /// Nothing is kept.
@@ -235,6 +278,14 @@ impl Stored {
         ensures { result ≡ length (all_under self.now.slots self.now.keys) }
     {
         self.keys.as_slice().len()
+    }
+
+    /// The last of these keys.
+    pub(crate) fn last_key(&self, run: Run) -> Option<usize>
+        ensures { (before : List Made) (last : Made) → IsRun self.now.spelled (all_under self.now.slots self.now.keys) run (before ++ last ∷ []) → IsSomeAnd result (λ k. under_key self.now.slots k ≡ Some (layouts_kept last)) }
+    {
+        let keys = run_of(self.keys.as_slice(), run);
+        keys.last().copied()
     }
 
     /// How many instances were placed for the layouts.
@@ -280,14 +331,16 @@ impl Stored {
         components: Vec<Finished>,
         placed: u64,
     ) -> Result<(), AllocError>
-        requires { AllByRecursion (WasKept self.old.slots) components.items }
-        ensures layouts { OnOk result (all_under self.new.slots self.new.keys ≡ map (λ f. f.laid_out.layouts) components.entry.items) }
-        ensures kept { OnOk result (AreKept self.new.words components.entry.items) }
+        requires { (cs : List Made) × AreTaken self.old components.items cs }
+        ensures layouts { OnOk result ((cs : List Made) → AreTaken self.old components.entry.items cs → all_under self.new.slots self.new.keys ≡ map layouts_kept cs) }
+        ensures spelled { OnOk result ((cs : List Made) → AreTaken self.old components.entry.items cs → self.new.spelled ≡ map spelled_of cs) }
+        ensures among { OnOk result (AllByRecursion (λ ws. is_among ws self.new.words ≡ true) self.new.spelled) }
         ensures placed { OnOk result (self.new.placed ≡ placed) }
         ensures err { OnErr result (self.new ≡ self.old) }
     {
-        let mut keys = Vec::with_capacity(alloc, components.len())?;
-        let marks = put_or_undo(alloc, &mut self.entries, components, &mut keys)?;
+        let mut keys = Vec::with_capacity(alloc, self.keys.len())?;
+        let before = self.keys.as_slice();
+        let marks = put_or_undo(alloc, &mut self.entries, before, components, &mut keys)?;
         remove_unused(&mut self.entries, self.keys.as_slice(), marks.as_slice());
         self.keys = keys;
         self.placed = placed;

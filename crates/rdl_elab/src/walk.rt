@@ -1,18 +1,25 @@
 //! The walk that lays out components, once for all their instances.
-ghost use Rattle.std.specs.Prelude.{◌≡◌, ℕ, ◌∷◌, ◌++◌, ◌+◌, ◌≤◌, [], true, length, Some, None, IfOk, IfSome, OnOk};
+ghost use Rattle.std.specs.Prelude.{◌≡◌, ◌∷◌, ◌++◌, ◌+◌, ◌≤◌, [], false, true, length, slice_get, Some, None, IfOk, IfSome, OnOk};
 ghost use Rattle.std.specs.Option.{is_some, IsSome};
 ghost use Rattle.rdl_tree.specs.Depth.{depth};
 ghost use Rattle.rdl_tree.specs.declared.description.Item.TheVariants.{Instance};
-ghost use Rattle.rdl_tree.specs.View.{items_of};
-ghost use Rattle.rdl_scope.specs.Closed.{Made, Parts, Standing, component, head_at, lookup, nothing, parts, root_type, standing};
+ghost use Rattle.rdl_tree.specs.Items.{Items};
+ghost use Rattle.rdl_tree.specs.View.{items_of, list_of};
+ghost use Rattle.rdl_scope.specs.Closed.{Made, Standing, component, lookup, nothing, parts, root_type, standing};
 ghost use Rattle.rdl_scope.specs.ItemFaults.{fault_of};
-ghost use Rattle.rdl_elab.specs.Finished.{IsFinished, IsKept, AreParts};
+ghost use Rattle.rdl_elab.specs.Finished.{IsFinished, IsKept};
+ghost use Rattle.rdl_elab.specs.Inside.{are_whole};
+ghost use Rattle.rdl_elab.specs.Reaches.{reaches};
+ghost use Rattle.rdl_elab.specs.Ready.{IsKeptAlone, IsReady, IsReadyType, AreReadyParts, AreAllWhole, KeepsWhole};
+ghost use Rattle.rdl_elab.specs.Runs.{AreRootsKept, AreEnds, AreTaken, IsRootKept};
+ghost use Rattle.rdl_elab.specs.RootWalk.{DefinesLast, GoesOver, PassesOver};
+ghost use Rattle.rdl_elab.specs.Stored.{all_under};
 ghost use Rattle.rdl_elab.specs.Written.{written, item_written, all_written};
 ghost use Rattle.rdl_elab.specs.MadeOf.{made_of};
 ghost use Rattle.rdl_elab.specs.Words.{spelling, is_among};
 ghost use Rattle.rdl_elab.specs.Taken.{WasKept};
-ghost use Rattle.rdl_elab.specs.Finishes.{AreLaidOut, BringsPart, FinishesAll, HoldsAt};
-ghost use Rattle.rdl_elab.specs.Stands.{made_at, after_item, item_parts, in_list, placed, LeadsTo, AreHeads, IsType, Stands, Grows, IsBehind};
+ghost use Rattle.rdl_elab.specs.Finishes.{BringsPart, FinishesAll, HoldsAt};
+ghost use Rattle.rdl_elab.specs.Stands.{made_at, after_item, LeadsTo, AreHeads, IsType, Stands, Grows, IsBehind};
 
 pub(crate) mod built_ins;
 pub(crate) mod defaults;
@@ -23,25 +30,31 @@ pub(crate) mod instances;
 pub(crate) mod laid_out;
 pub(crate) mod own_values;
 pub(crate) mod part_list;
+pub(crate) mod passed;
 pub(crate) mod reaches;
 pub(crate) mod shared;
 pub(crate) mod shared_words;
+pub(crate) mod stop;
 pub(crate) mod targets;
 pub(crate) mod types;
 pub(crate) mod values;
 pub(crate) mod words;
 
+use crate::all_layouts::Judgement;
+use crate::kept_root::{KeptRoot, Summary};
 use crate::stored::Stored;
 use crate::walk::built_ins::BuiltIns;
 use crate::walk::defaults::Defaults;
 use crate::walk::finished::{Finished, Part};
 use crate::walk::heads::head_numbers;
-use crate::walk::instances::{first_empty, levels, rows};
+use crate::walk::instances::{are_whole, first_empty, levels, rows};
 use crate::walk::laid_out::take_layouts;
 use crate::walk::own_values::OwnValues;
 use crate::walk::part_list::PartList;
+use crate::walk::passed::{passed_component, summary_at};
 use crate::walk::reaches::assignments_if;
 use crate::walk::shared::share;
+use crate::walk::stop::Stop;
 use crate::walk::targets::goes_further;
 use crate::walk::types::Types;
 use crate::walk::values::{layout_values, shown_values};
@@ -62,13 +75,15 @@ pub(crate) struct Walked<'a> {
     pub number: usize,
 }
 
-/// All components of a description, laid out in the same order, the number of that of a type of the root, if there is
-/// one, and for each item of the root that of its component, if it is a definition.
+/// All components of a description, laid out in the same order, but for those inside definitions that were passed over; the
+/// number of that of a type of the root, if there is one; and for each item of the root the number of its component, if it is
+/// a definition below which all is held, and how many components there are behind the item.
 #[derive(Drop)]
 pub(crate) struct AllWalked<'a> {
     pub components: Vec<Finished<'a>>,
     pub number: Option<usize>,
     pub heads: Vec<Option<usize>>,
+    pub ends: Vec<usize>,
 }
 
 /// The components that are laid out, and what stands before the next item.
@@ -89,6 +104,19 @@ struct Found<'a> {
     component: usize,
 }
 
+/// Where dynamic assignments go, is told only if all below their component is held.
+fn require_whole(has_dynamic: bool, whole: bool) -> Result<(), Stop>
+    ensures { OnOk result (whole ≡ false → has_dynamic ≡ false) }
+{
+    if whole {
+        return Ok(());
+    }
+    if has_dynamic {
+        return Err(Stop::NotHere);
+    }
+    Ok(())
+}
+
 /// All that is kept of a component with these instances, which these defaults reach.
 fn finished_component<'a>(
     alloc: Global,
@@ -98,9 +126,13 @@ fn finished_component<'a>(
     parts: Vec<Part<'a>>,
     walk: &mut Walk<'a>,
     before: &Stored,
-) -> Result<Finished<'a>, AllocError>
+) -> Result<Finished<'a>, Stop>
     requires { depth description.now.items ≤ 16 }
-    ensures kept { IfOk result (λ f. HoldsAt description.now.items walk.old at.now component.now parts.entry.items (IsKept description.now.items f)) }
+    ensures kept { IfOk result (λ f. HoldsAt description.now.items walk.old at.now component.now parts.entry.items (IsKeptAlone f)) }
+    ensures whole { IfOk result (λ f. HoldsAt description.now.items walk.old at.now component.now parts.entry.items (λ made. f.whole ≡ true → IsKept description.now.items f made)) }
+    ensures all { IfOk result (λ f. f.whole ≡ are_whole walk.old.components.items parts.entry.items) }
+    ensures held { IfOk result (λ f. f.passed ≡ None) }
+    ensures assigned { IfOk result (λ f. f.whole ≡ false → (f.assignments.items ≡ []) × (reaches description.now.items at.now 0 component.now.body ≡ [])) }
     ensures parts { IfOk result (λ f. f.parts.items ≡ parts.entry.items) }
     ensures words { IfOk result (λ f. HoldsAt description.now.items walk.old at.now component.now parts.entry.items (λ made. f.laid_out.words ≡ spelling (made_of made))) }
     ensures same { IfOk result (λ f. f.laid_out.layouts ≡ f.layouts) }
@@ -115,6 +147,8 @@ fn finished_component<'a>(
     let shown = shown_values(alloc, kind, &own, &mut walk.defaults, &walk.built_ins)?;
     let components = walk.components.as_slice();
     let parts = PartList::of(alloc, parts, walk.by_name || own.has_dynamic())?;
+    let whole = are_whole(parts.as_slice(), components);
+    require_whole(own.has_dynamic(), whole)?;
     let assignments = assignments_if(alloc, own.has_dynamic(), components, &parts, body)?;
     let room = &mut walk.built_ins;
     let taken = take_layouts(
@@ -140,7 +174,22 @@ fn finished_component<'a>(
         rows: rows(parts.as_slice(), components),
         first_empty,
         parts,
+        whole,
+        passed: None,
     })
+}
+
+/// Puts the component behind the others, and answers its number.
+fn push_finished<'a>(
+    components: &mut Vec<Finished<'a>>,
+    finished: Finished<'a>,
+) -> Result<usize, AllocError>
+    ensures number { IfOk result (λ k. k ≡ length components.old.items) }
+    ensures items { OnOk result (components.new.items ≡ components.old.items ++ finished.entry ∷ []) }
+{
+    let number = components.len();
+    components.push(finished)?;
+    Ok(number)
 }
 
 /// Lays out the component of the item at this address. What stands before the item stays.
@@ -153,10 +202,12 @@ fn finish<'a>(
     component: &'a Component,
     walk: &mut Walk<'a>,
     before: &Stored,
-) -> Result<usize, AllocError>
+) -> Result<usize, Stop>
     requires nesting { depth description.now.items ≤ 16 }
     requires room { length at.now + depth component.now.body ≤ 16 }
-    ensures made { IfOk result (λ k. (e : Standing) → Stands description.now.items walk.old e → IsFinished description.now.items walk.new.components.items k (made_at e at.now component.now)) }
+    ensures made { IfOk result (λ k. (e : Standing) → Stands description.now.items walk.old e → IsReady description.now.items walk.new.components.items k (made_at e at.now component.now)) }
+    ensures last { IfOk result (λ k. length walk.new.components.items ≡ k + 1) }
+    ensures whole { OnOk result (KeepsWhole walk.old.components.items walk.new.components.items) }
     ensures types { IfOk result (λ k. walk.new.types ≡ walk.old.types) }
     ensures defaults { IfOk result (λ k. walk.new.defaults ≡ walk.old.defaults) }
     ensures components { IfOk result (λ k. Grows walk.old.components.items walk.new.components.items) }
@@ -175,9 +226,7 @@ fn finish<'a>(
     walk.types.truncate(types)?;
     walk.defaults.truncate(defaults);
     let finished = finished_component(alloc, description, at, component, parts, walk, before)?;
-    let number = walk.components.len();
-    walk.components.push(finished)?;
-    Ok(number)
+    Ok(push_finished(&mut walk.components, finished)?)
 }
 
 /// The instance of a type, if the type stands.
@@ -201,7 +250,7 @@ fn walk_instance<'a>(
     of: &'a Of,
     walk: &mut Walk<'a>,
     before: &Stored,
-) -> Result<Option<Found<'a>>, AllocError>
+) -> Result<Option<Found<'a>>, Stop>
     requires nesting { depth description.now.items ≤ 16 }
     requires room { length at.now + depth (items_of (Instance shell.now of.now ∷ [])) ≤ 16 }
     ensures part { IfOk result (λ f. BringsPart description.now.items walk.old walk.new (at.now ++ number ∷ []) (Instance shell.now of.now) f) }
@@ -236,13 +285,14 @@ fn walk_item<'a>(
     item: &'a Item,
     walk: &mut Walk<'a>,
     before: &Stored,
-) -> Result<Option<Found<'a>>, AllocError>
+) -> Result<Option<Found<'a>>, Stop>
     requires nesting { depth description.now.items ≤ 16 }
     requires room { length at.now + depth (items_of (item.now ∷ [])) ≤ 16 }
     ensures part { IfOk result (λ f. BringsPart description.now.items walk.old walk.new (at.now ++ number ∷ []) item.now f) }
     ensures stands { IfOk result (λ f. (e : Standing) → Stands description.now.items walk.old e → Stands description.now.items walk.new (after_item (at.now ++ number ∷ []) item.now e)) }
     ensures behind { IfOk result (λ f. IsBehind walk.old walk.new) }
     ensures finishes { IfOk result (λ f. FinishesAll description.now.items before.now walk.old walk.new (λ e. item_written e (at.now ++ number ∷ []) item.now)) }
+    ensures last { IfOk result (λ f. DefinesLast description.now.items walk.old walk.new (at.now ++ number ∷ []) item.now) }
 {
     match item {
         Item::Define(name, component) => {
@@ -278,6 +328,13 @@ fn reserve_first(parts: &mut Vec<Part>, count: usize) -> Result<(), AllocError>
     Ok(())
 }
 
+fn push_part<'a>(parts: &mut Vec<Part<'a>>, part: Part<'a>) -> Result<(), AllocError>
+    ensures { OnOk result (parts.new.items ≡ parts.old.items ++ part.entry ∷ []) }
+{
+    parts.push(part)?;
+    Ok(())
+}
+
 /// Lays out what these first items of the body at this address hold, and goes on behind them. The parts are those of
 /// the instances.
 #[cycle(walk)]
@@ -289,10 +346,10 @@ fn walk_items<'a>(
     items: &'a [Item],
     walk: &mut Walk<'a>,
     before: &Stored,
-) -> Result<Vec<Part<'a>>, AllocError>
+) -> Result<Vec<Part<'a>>, Stop>
     requires nesting { depth description.now.items ≤ 16 }
     requires room { length at.now + depth (items_of items.now) ≤ 16 }
-    ensures parts { IfOk result (λ ps. (e : Standing) → Stands description.now.items walk.old e → AreParts description.now.items walk.new.components.items (length walk.new.components.items) ps.items (parts e at.now 0 (items_of items.now))) }
+    ensures parts { IfOk result (λ ps. (e : Standing) → Stands description.now.items walk.old e → AreReadyParts description.now.items walk.new.components.items (length walk.new.components.items) ps.items (parts e at.now 0 (items_of items.now))) }
     ensures stands { IfOk result (λ ps. (e : Standing) → Stands description.now.items walk.old e → Stands description.now.items walk.new (standing e at.now 0 (items_of items.now))) }
     ensures behind { IfOk result (λ ps. IsBehind walk.old walk.new) }
     ensures finishes { IfOk result (λ ps. FinishesAll description.now.items before.now walk.old walk.new (λ e. written e at.now 0 (items_of items.now))) }
@@ -303,7 +360,10 @@ fn walk_items<'a>(
         if let Some(found) = walk_item(alloc, description, at, i, item, walk, before)? {
             reserve_first(&mut parts, items.len() - i)?;
             let around = share(alloc, at, &mut shared)?;
-            parts.push(Part::new(around, i, found.shell, found.component))?;
+            push_part(
+                &mut parts,
+                Part::new(around, i, found.shell, found.component),
+            )?;
         }
     }
     Ok(parts)
@@ -337,11 +397,12 @@ fn finish_behind<'a>(
     component: &'a Component,
     walk: &mut Walk<'a>,
     before: &Stored,
-) -> Result<usize, AllocError>
+) -> Result<usize, Stop>
     requires nesting { depth description.now.items ≤ 16 }
     requires room { depth (items_of items.now) ≤ 16 }
     requires inside { 1 + depth component.now.body ≤ 16 }
-    ensures { IfOk result (λ k. Stands description.now.items walk.old nothing → IsFinished description.now.items walk.new.components.items k (made_at (standing nothing [] 0 (items_of items.now)) (n ∷ []) component.now)) }
+    ensures finished { IfOk result (λ k. Stands description.now.items walk.old nothing → IsReady description.now.items walk.new.components.items k (made_at (standing nothing [] 0 (items_of items.now)) (n ∷ []) component.now)) }
+    ensures whole { OnOk result (KeepsWhole walk.old.components.items walk.new.components.items) }
 {
     let root = Address::new();
     walk_items(alloc, description, &root, items, walk, before)?;
@@ -367,43 +428,160 @@ pub(crate) fn lay_out_item<'a>(
     };
     let mut walk = Walk::new(alloc, description, 0)?;
     let before = Stored::empty(alloc);
-    let number = finish_behind(
+    let first = &items[..n];
+    match finish_behind(alloc, description, first, n, component, &mut walk, &before) {
+        Ok(number) => Ok(Some(Walked {
+            components: walk.components,
+            number,
+        })),
+        Err(stop) => Err(stop.memory()),
+    }
+}
+
+/// Passes over the definition of the root of this name, of which this is kept.
+fn pass<'a>(
+    alloc: Global,
+    number: usize,
+    name: &'a Name,
+    summary: &Summary,
+    walk: &mut Walk<'a>,
+    before: &Stored,
+) -> Result<(), Stop>
+    ensures passes { (d : Items) → IsRootKept d before.now.spelled (all_under before.now.slots before.now.keys) number summary.now → OnOk result (PassesOver d before.now number walk.old.components.items walk.new.components.items) }
+    ensures types { OnOk result (walk.new.types ≡ (name.now, length walk.old.components.items) ∷ walk.old.types) }
+    ensures defaults { OnOk result (walk.new.defaults ≡ walk.old.defaults) }
+{
+    let finished = passed_component(alloc, number, summary, before)?;
+    let component = push_finished(&mut walk.components, finished)?;
+    walk.types.push(name, component)?;
+    Ok(())
+}
+
+/// Lays out what this item of the root holds, or passes over it if enough is kept of it.
+fn walk_root<'a>(
+    alloc: Global,
+    description: &'a Description,
+    number: usize,
+    item: &'a Item,
+    walk: &mut Walk<'a>,
+    before: &Stored,
+    roots: &[KeptRoot],
+    judgement: Judgement,
+) -> Result<(), Stop>
+    requires nesting { depth description.now.items ≤ 16 }
+    requires there { slice_get (list_of description.now.items) number ≡ Some item.now }
+    requires kept { AreRootsKept description.now.items before.now.spelled (all_under before.now.slots before.now.keys) roots.now }
+    ensures goes { OnOk result (GoesOver description.now.items before.now number walk.old walk.new) }
+    ensures whole { OnOk result (roots.now ≡ [] → KeepsWhole walk.old.components.items walk.new.components.items) }
+{
+    if let Item::Define(name, _) = item {
+        if let Some(summary) = summary_at(roots, number, judgement) {
+            pass(alloc, number, name, summary, walk, before)?;
+            return Ok(());
+        }
+    }
+    walk_item(
         alloc,
         description,
-        &items[..n],
-        n,
-        component,
-        &mut walk,
-        &before,
-    )?;
-    Ok(Some(Walked {
-        components: walk.components,
+        &Address::new(),
         number,
-    }))
+        item,
+        walk,
+        before,
+    )?;
+    Ok(())
+}
+
+fn push_end(ends: &mut Vec<usize>, end: usize) -> Result<(), AllocError>
+    ensures { OnOk result (ends.new.items ≡ ends.old.items ++ end ∷ []) }
+{
+    ends.push(end)?;
+    Ok(())
+}
+
+/// Lays out what the items of the root hold, or passes over them. The answer says how many components there are behind each.
+fn walk_roots<'a>(
+    alloc: Global,
+    description: &'a Description,
+    items: &'a [Item],
+    walk: &mut Walk<'a>,
+    before: &Stored,
+    roots: &[KeptRoot],
+    judgement: Judgement,
+) -> Result<Vec<usize>, Stop>
+    requires nesting { depth description.now.items ≤ 16 }
+    requires root { items.now ≡ list_of description.now.items }
+    requires kept { AreRootsKept description.now.items before.now.spelled (all_under before.now.slots before.now.keys) roots.now }
+    requires first { Stands description.now.items walk.now nothing }
+    requires none { walk.now.components.items ≡ [] }
+    ensures stands { IfOk result (λ ends. Stands description.now.items walk.new (standing nothing [] 0 description.now.items)) }
+    ensures taken { IfOk result (λ ends. AreTaken before.now walk.new.components.items (all_written description.now.items)) }
+    ensures ends { IfOk result (λ ends. AreEnds description.now.items before.now walk.new.components.items ends.items) }
+    ensures whole { IfOk result (λ ends. roots.now ≡ [] → AreAllWhole walk.new.components.items) }
+{
+    let mut ends = Vec::with_capacity(alloc, items.len())?;
+    for (i, item) in items.iter().enumerate() {
+        walk_root(alloc, description, i, item, walk, before, roots, judgement)?;
+        push_end(&mut ends, walk.components.len())?;
+    }
+    Ok(ends)
 }
 
 /// Lays out all components of the description, used or not, each behind those inside it. Layouts that are kept stay
-/// where nothing has changed of what they were made of. The number is that of the last type of this name.
+/// where nothing has changed of what they were made of, and definitions of the root of which enough is kept are passed over.
+/// The number is that of the last type of this name.
 pub(crate) fn lay_out_all<'a>(
+    alloc: Global,
+    description: &'a Description,
+    name: &'a Name,
+    before: &Stored,
+    roots: &[KeptRoot],
+    judgement: Judgement,
+) -> Result<AllWalked<'a>, Stop>
+    requires nesting { depth description.now.items ≤ 16 }
+    requires kept { AreRootsKept description.now.items before.now.spelled (all_under before.now.slots before.now.keys) roots.now }
+    ensures number { IfOk result (λ all. IsReadyType description.now.items all.components.items all.number (root_type description.now.items name.now)) }
+    ensures heads { IfOk result (λ all. fault_of description.now.items ≡ None → AreHeads description.now.items all.components.items all.heads.items) }
+    ensures ends { IfOk result (λ all. AreEnds description.now.items before.now all.components.items all.ends.items) }
+    ensures taken { IfOk result (λ all. AreTaken before.now all.components.items (all_written description.now.items)) }
+    ensures whole { IfOk result (λ all. roots.now ≡ [] → AreAllWhole all.components.items) }
+{
+    let mut walk = Walk::new(alloc, description, before.len().saturating_add(NEW))?;
+    let items = description.items.as_slice();
+    let ends = walk_roots(
+        alloc,
+        description,
+        items,
+        &mut walk,
+        before,
+        roots,
+        judgement,
+    )?;
+    let number = walk.types.get(name);
+    let heads = head_numbers(alloc, &walk.types, items, walk.components.as_slice())?;
+    Ok(AllWalked {
+        components: walk.components,
+        number,
+        heads,
+        ends,
+    })
+}
+
+/// The same, where no definition is passed over.
+pub(crate) fn lay_out_whole<'a>(
     alloc: Global,
     description: &'a Description,
     name: &'a Name,
     before: &Stored,
 ) -> Result<AllWalked<'a>, AllocError>
     requires { depth description.now.items ≤ 16 }
-    ensures laid_out { IfOk result (λ all. AreLaidOut before.now all.components.items (all_written description.now.items)) }
     ensures number { IfOk result (λ all. IsType description.now.items all.components.items all.number (root_type description.now.items name.now)) }
     ensures heads { IfOk result (λ all. fault_of description.now.items ≡ None → AreHeads description.now.items all.components.items all.heads.items) }
+    ensures ends { IfOk result (λ all. AreEnds description.now.items before.now all.components.items all.ends.items) }
+    ensures taken { IfOk result (λ all. AreTaken before.now all.components.items (all_written description.now.items)) }
 {
-    let mut walk = Walk::new(alloc, description, before.len().saturating_add(NEW))?;
-    let root = Address::new();
-    let items = description.items.as_slice();
-    walk_items(alloc, description, &root, items, &mut walk, before)?;
-    let number = walk.types.get(name);
-    let heads = head_numbers(alloc, &walk.types, items)?;
-    Ok(AllWalked {
-        components: walk.components,
-        number,
-        heads,
-    })
+    match lay_out_all(alloc, description, name, before, &[], Judgement::Known) {
+        Ok(all) => Ok(all),
+        Err(stop) => Err(stop.memory()),
+    }
 }

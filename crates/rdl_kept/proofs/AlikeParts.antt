@@ -17,6 +17,11 @@ use Rattle.rdl_scope.specs.ItemFaults.{kind_at}
 use Rattle.rdl_scope.specs.Closed.{Head, Parts, no_parts, part, Made, component, with_made, instances, head_value}
 use Rattle.rdl_scope.proofs.AsFound.{as_found, value-found}
 use Rattle.rdl_elab.specs.declared.layout.Mode.{Mode}
+use Rattle.rdl_elab.specs.declared.layout.Mode.TheVariants.{Compact, Regalign, Fullalign}
+use Rattle.rdl_elab.specs.Capped.{capped_layout}
+use Rattle.rdl_elab.specs.Written.{layouts_kept}
+use Rattle.rdl_elab.specs.MadeOf.{members_of}
+use Rattle.rdl_elab.specs.EachMember.{shown_each}
 use Rattle.rdl_elab.specs.Layouts.{values_of, layout_values, mode_inside, member, laid_out, layouts, layout_of}
 use Rattle.rdl_elab.specs.Shown.{valued, shown_values}
 use Rattle.rdl_elab.specs.Faults.{levels, count, is_empty, first_empty}
@@ -227,3 +232,22 @@ module _ (t : Tracked) where
       let deep : layouts (mode_inside h.kind (values_of h) m) inside ≡ layouts (mode_inside k.kind (values_of k) m) within =
       ap (λ n. layouts n inside) mode ∙ layouts-same (mode_inside k.kind (values_of k) m) inside within a in
       λ i. laid_out (kind i) (values i) (mode i) (map member (deep i))
+
+  -- what their layouts are made of
+  pub laid-out-same : (h k : Head) (inside within : Parts) → h.kind ≡ k.kind → ((p : Property) → head_value h p ≡ head_value k p) → AreAlike t inside within
+      → layouts_kept (record { head = h; parts = inside }) ≡ layouts_kept (record { head = k; parts = within })
+  laid-out-same h k inside within kind value a =
+      let compact = layout-same Compact h k inside within kind value a in
+      let regalign = layout-same Regalign h k inside within kind value a in
+      let fullalign = layout-same Fullalign h k inside within kind value a in
+      λ i. record { compact = capped_layout (compact i); regalign = capped_layout (regalign i); fullalign = capped_layout (fullalign i) }
+
+  pub members-same : (ps qs : Parts) → AreAlike t ps qs → members_of ps ≡ members_of qs
+  members-same no_parts no_parts a = refl
+  members-same no_parts (part was u k within others) a = absurd a
+  members-same (part at s h inside rest) no_parts a = absurd a
+  members-same (part at s h inside rest) (part was u k within others) a =
+      let shell = a.0.same.shell in
+      let laid_out = laid-out-same h k inside within a.0.kind a.0.value a.1 in
+      let more = members-same rest others a.2 in
+      λ i. shown_each (shell i) (laid_out i) ∷ more i

@@ -70,7 +70,7 @@ layout-numbered d a m k found at is =
     by None e = refl
     by (Some c) e = ap Some (under-kept m c) ∙ sym (shown-some c.head.kind (capped_layout (layout m c)) (sym (ap has_layout (found a c e).component) ∙ is))
 
-map-length : {X Y : Type 0} (f : X → Y) (xs : List X) → length (map f xs) ≡ length xs
+pub map-length : {X Y : Type 0} (f : X → Y) (xs : List X) → length (map f xs) ≡ length xs
 map-length f [] = refl
 map-length f (x ∷ xs) = omega (arith, map-length f xs)
 

@@ -10,6 +10,8 @@ use Rattle.rdl_elab.specs.Layouts.{values_of, mode_inside, layout}
 use Rattle.rdl_elab.specs.Clean.{bits_inside}
 use Rattle.rdl_elab.specs.Reaches.{reaches}
 use Rattle.rdl_elab.specs.Rows.{rows_in}
+use Rattle.rdl_elab.specs.Written.{layouts_kept}
+use Rattle.rdl_elab.specs.MadeOf.{made_of}
 use Rattle.rdl_kept.specs.Tracked.{Tracked, old_of, new_of}
 use Rattle.rdl_kept.specs.EditedBodies.{is_changed_at}
 use Rattle.rdl_kept.specs.Reach.{in_reach, stands_for}
@@ -19,7 +21,7 @@ use Rattle.rdl_kept.proofs.TrackedRest.{some-there}
 use Rattle.rdl_kept.proofs.TrackedChanges.{StandsIn, holder-stands, component-both}
 use Rattle.rdl_kept.proofs.TrackedUnchanged.{stands-unchanged}
 use Rattle.rdl_kept.proofs.OutOfReach.{IsOut, is-out, reaches-same}
-use Rattle.rdl_kept.proofs.AlikeParts.{AreAlike, body-now, body-was, parts-same, head-same, kind-same, all-alike, values-same, shown-same, levels-same, count-same, empty-same, layout-same}
+use Rattle.rdl_kept.proofs.AlikeParts.{AreAlike, body-now, body-was, parts-same, head-same, kind-same, all-alike, values-same, shown-same, levels-same, count-same, empty-same, layout-same, members-same, laid-out-same as parts-laid-out}
 use Rattle.rdl_kept.proofs.AlikeRows.{told, rows-same, told-rows, told-faults}
 
 -- ---- One component.
@@ -56,6 +58,12 @@ module _ (t : Tracked) (a : List ℕ) (h : IsOut t a) (c k : Made) (e : componen
       let place = (as_found new a c e).place in
       let placed = (as_found old a k f).place in
       (λ i. reaches new (place i) 0 (body-now t a h c k e f i)) ∙ reaches-same t a h ∙ sym (λ i. reaches old (placed i) 0 (body-was t a h c k e f i))
+
+  pub made-same : made_of c ≡ made_of k
+  made-same = let members = members-same t c.parts k.parts parts-alike in λ i. record { kind = kind i; values = values i; members = members i }
+
+  pub laid-out-same : layouts_kept c ≡ layouts_kept k
+  laid-out-same = parts-laid-out t c.head k.head c.parts k.parts kind (head-same t a h c k e f) parts-alike
 
   pub alike : IsKeptAlike new old c k
   alike = record {

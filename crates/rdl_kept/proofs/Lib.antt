@@ -9,6 +9,7 @@ pub mod FramedAssignments
 pub mod HarmlessPatches
 pub mod Renamings
 pub mod FoundLayouts
+pub mod WrittenStays
 pub mod StandingIn
 pub mod AsBefore
 pub mod Reaching

@@ -3,7 +3,7 @@ use Rattle.std.proofs.Common.{◌≡◌, ℕ, zero, suc, Bool, true, false, List
 use Rattle.std.specs.Prelude.{◌||◌, slice_get}
 use Rattle.rdl_tree.specs.Items.{plain, holder, named, own, default, dynamic, define, anonymous}
 use Rattle.rdl_tree.specs.View.{list_of, holder_item}
-use Rattle.rdl_kept.specs.Tracked.{Tracked, nothing, comes, goes, named_stays, own_stays, default_stays, dynamic_stays, define_stays, anonymous_stays, old_of, new_of}
+use Rattle.rdl_kept.specs.Tracked.{Tracked, nothing, named_stays, own_stays, default_stays, dynamic_stays, define_stays, anonymous_stays, old_of, new_of}
 use Rattle.rdl_kept.specs.EditedBodies.{is_changed, is_changed_at}
 
 -- no body is changed

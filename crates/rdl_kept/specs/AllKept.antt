@@ -7,6 +7,8 @@ use Rattle.rdl_tree.specs.declared.shell.Kind.{Kind}
 use Rattle.rdl_tree.specs.declared.shell.Kind.TheVariants.{Addrmap, Regfile, Reg, Field}
 use Rattle.rdl_tree.specs.declared.description.Component.{Component}
 use Rattle.rdl_scope.specs.Closed.{Made, component}
+use Rattle.rdl_elab.specs.declared.kept_root.KeptRoot.{KeptRoot}
+use Rattle.rdl_elab.specs.Runs.{AreKeptRoots, all_spelled}
 use Rattle.rdl_elab.specs.declared.layout.Mode.{Mode}
 use Rattle.rdl_elab.specs.declared.layout.Layout.{Layout}
 use Rattle.rdl_elab.specs.declared.row.Row.{Row}
@@ -19,17 +21,19 @@ use Rattle.rdl_elab.specs.MadeOf.{made_of}
 use Rattle.rdl_elab.specs.Words.{AreFoundAgain}
 use Rattle.rdl_elab.specs.StandIns.{stand_ins}
 
--- the layouts of all components, each behind those inside it; the words of what is kept, as bytes; the name that was asked of the top; and how
--- many instances were placed, once for each mode
+-- the layouts of all components, each behind those inside it; the words of what is kept, as bytes, all of them, and those of each component; the
+-- name that was asked of the top; and how many instances were placed, once for each mode
 pub record KeptLayouts : Type 0 where
   pub layouts : List Layouts
   pub words : List (List ℕ)
+  pub spelled : List (List ℕ)
   pub top : Option (List ℕ)
   pub placed : ℕ
 
 -- they are those of this description, which has no fault, and each is found by what it is made of
 pub record AreOf (d : Items) (k : KeptLayouts) : Type 0 where
   pub layouts : k.layouts ≡ all_layouts d
+  pub spelled : k.spelled ≡ all_spelled d
   pub found : AreFoundAgain d k.words
   pub rows : List Row
   pub faultless : elaborated d k.top ≡ Ok rows
@@ -63,3 +67,12 @@ IsAsBefore old kept c = option_map made_of (option_and_then (component old) kept
 -- every component is as before but for those at these addresses; the items of these bodies stand for the kept ones of their name
 abbrev pub IsAsBeforeBut : (List ℕ → Bool) → Items → List (List ℕ) → Items → Type 0
 IsAsBeforeBut marked old bodies new = AllZip (λ kept (c : Made). marked c.head.at ≡ false → IsAsBefore old kept c) (stand_ins old bodies new) (all_written new)
+
+-- all that is known of the items of the root is true, and what is kept of them stands there
+abbrev pub AreKnownIn : Items → KeptLayouts → List KeptRoot → Type 0
+AreKnownIn d k roots = AreKeptRoots d k.spelled k.layouts roots
+
+-- what stands there stands there still
+pub record StandsStill (old new : KeptLayouts) : Type 0 where
+  pub layouts : new.layouts ≡ old.layouts
+  pub spelled : new.spelled ≡ old.spelled

@@ -14,9 +14,9 @@ use rdl_elab::all_layouts::{Judgement, fault_with_top, lay_out, lay_out_rows};
 use rdl_elab::elaborate::{
     Top, checked_top, checked_top_but, checked_top_in, known_rows, known_top,
 };
+use rdl_elab::kept_root::KeptRoot;
 use rdl_elab::layout::{Layout, Mode};
 use rdl_elab::row::Rows;
-use rdl_elab::rows::clean::Modes;
 use rdl_elab::stored::Stored;
 use rdl_scope::faults::check;
 use rdl_scope::one_item::check_item;
@@ -78,7 +78,7 @@ impl Model for Kept {
 
     ghost Value = { KeptLayouts };
 
-    ghost view = { λ k. record { layouts = all_under k.stored.slots k.stored.keys; words = k.stored.words; top = option_map string_bytes k.top; placed = k.stored.placed } };
+    ghost view = { λ k. record { layouts = all_under k.stored.slots k.stored.keys; words = k.stored.words; spelled = k.stored.spelled; top = option_map string_bytes k.top; placed = k.stored.placed } };
 }
 
 impl Kept {
@@ -89,10 +89,9 @@ impl Kept {
     ghost use Rattle.rdl_elab.specs.Faults.{elaborated, top_from};
     ghost use Rattle.rdl_scope.specs.OneItem.{NoOtherFault};
     ghost use Rattle.rdl_scope.specs.Roots.{NoFaultOutside, IsSizeOf};
-    ghost use Rattle.rdl_elab.specs.CleanHeads.{AreCleanHeads};
     ghost use Rattle.rdl_elab.specs.Known.{HasRows};
     ghost use Rattle.rdl_kept.specs.SameSkeleton.{HasSameSkeleton};
-    ghost use Rattle.rdl_kept.specs.AllKept.{AreOf, layout_at};
+    ghost use Rattle.rdl_kept.specs.AllKept.{AreKnownIn, AreOf, StandsStill, layout_at};
     ghost use Rattle.rdl_elab.specs.Anew.{all_instances};
     ghost use Rattle.rdl_kept.specs.FewPlaced.{PlacesWhatChanged, PlacesWhatIsInReach};
     ghost use Rattle.rdl_kept.specs.Skeleton.{skeleton};
@@ -106,8 +105,8 @@ impl Kept {
     }
 
     /// Lays out all components of this description, and takes over what was kept where it was made of the same. Nothing
-    /// changes if the map with this top has a fault. These modes of the definitions of the root are known to be clean, and the answer
-    /// says which are afterwards.
+    /// changes if the map with this top has a fault. This is known of the definitions of the root, and the answer says
+    /// what is afterwards.
     fn follow<'a>(
         &mut self,
         alloc: Global,
@@ -115,20 +114,20 @@ impl Kept {
         top: &Top<'a>,
         wanted: Option<&str>,
         judgement: Judgement,
-        heads: &[Modes],
-    ) -> Result<Result<Vec<Modes>, Fault>, AllocError>
+        heads: &[KeptRoot],
+    ) -> Result<Result<Vec<KeptRoot>, Fault>, AllocError>
         requires nesting { depth description.now.items ≤ 16 }
         requires faultless { fault_of description.now.items ≡ None }
         requires top { top_from (option_copied wanted) 0 description.now.items ≡ Some top.now }
         requires known { judgement ≡ Judgement.Known → HasRows description.now.items (option_copied wanted) }
-        requires heads { AreCleanHeads description.now.items heads.now }
+        requires heads { AreKnownIn description.now.items self.old heads.now }
         ensures layouts { IfOk result (λ answer. OnOk answer (AreOf description.now.items self.new)) }
         ensures top { IfOk result (λ answer. OnOk answer (self.new.top ≡ option_copied wanted.entry)) }
         ensures placed { IfOk result (λ answer. OnOk answer (self.new.placed ≤ 3 * all_instances description.now.items)) }
         ensures few { IfOk result (λ answer. OnOk answer (PlacesWhatChanged self.old description.now.items self.new)) }
         ensures reached { IfOk result (λ answer. OnOk answer (PlacesWhatIsInReach self.old description.now.items self.new)) }
         ensures still { IfOk result (λ answer. OnOk answer ((old : Items) → AreOf old self.old → skeleton old ≡ skeleton description.now.items → self.new.placed ≡ 0)) }
-        ensures heads { IfOk result (λ answer. IfOk answer (λ heads. AreCleanHeads description.now.items heads.items)) }
+        ensures heads { IfOk result (λ answer. IfOk answer (λ heads. AreKnownIn description.now.items self.new heads.items)) }
         ensures refused { IfOk result (λ answer. IfErr answer (λ fault. elaborated description.now.items (option_copied wanted.entry) ≡ Err fault)) }
         ensures unchanged { IfOk result (λ answer. OnErr answer (self.new ≡ self.old)) }
         ensures err { OnErr result (self.new ≡ self.old) }
@@ -235,25 +234,25 @@ impl Kept {
     }
 
     /// Lays out this description as `relay` does, where no item but the one at this address may have a fault: of the items that
-    /// one alone is judged. These modes of the definitions of the root are known to be clean, and aren't judged again; the answer
-    /// says which are known to be clean afterwards.
+    /// one alone is judged. What is known of the definitions of the root spares work: those of which enough is kept are passed
+    /// over, and those that are clean aren't judged again. The answer says what is known afterwards.
     pub fn relay_item(
         &mut self,
         alloc: Global,
         description: &Description,
         top: Option<&str>,
         item: &Address,
-        heads: &[Modes],
-    ) -> Result<Vec<Modes>, Fault>
+        heads: &[KeptRoot],
+    ) -> Result<Vec<KeptRoot>, Fault>
         requires others { NoOtherFault description.now.items item.now }
-        requires heads { AreCleanHeads description.now.items heads.now }
+        requires heads { AreKnownIn description.now.items self.old heads.now }
         ensures layouts { OnOk result (AreOf description.now.items self.new) }
         ensures top { OnOk result (self.new.top ≡ option_copied top.entry) }
         ensures placed { OnOk result (self.new.placed ≤ 3 * all_instances description.now.items) }
         ensures few { OnOk result (PlacesWhatChanged self.old description.now.items self.new) }
         ensures reached { OnOk result (PlacesWhatIsInReach self.old description.now.items self.new) }
         ensures still { OnOk result ((old : Items) → AreOf old self.old → skeleton old ≡ skeleton description.now.items → self.new.placed ≡ 0) }
-        ensures heads { IfOk result (λ heads. AreCleanHeads description.now.items heads.items) }
+        ensures heads { IfOk result (λ heads. AreKnownIn description.now.items self.new heads.items) }
         ensures refused { IfErr result (λ fault. (elaborated description.now.items (option_copied top.entry) ≡ Err fault) ⊎ (fault ≡ out_of_memory)) }
         ensures err { OnErr result (self.new ≡ self.old) }
     {
@@ -265,8 +264,8 @@ impl Kept {
     }
 
     /// Lays out this description as `relay` does, where no item may have a fault but those inside these items of the root: of
-    /// the items those alone are judged. The size of the description may be known. Modes that are known to be clean are as in
-    /// `relay_item`.
+    /// the items those alone are judged. The size of the description may be known. What is known of the definitions of the
+    /// root is as in `relay_item`.
     pub fn relay_roots(
         &mut self,
         alloc: Global,
@@ -274,18 +273,18 @@ impl Kept {
         top: Option<&str>,
         asked: &[bool],
         size: Option<Size>,
-        heads: &[Modes],
-    ) -> Result<Vec<Modes>, Fault>
+        heads: &[KeptRoot],
+    ) -> Result<Vec<KeptRoot>, Fault>
         requires others { NoFaultOutside description.now.items asked.now }
         requires size { IfSome size (IsSizeOf description.now.items) }
-        requires heads { AreCleanHeads description.now.items heads.now }
+        requires heads { AreKnownIn description.now.items self.old heads.now }
         ensures layouts { OnOk result (AreOf description.now.items self.new) }
         ensures top { OnOk result (self.new.top ≡ option_copied top.entry) }
         ensures placed { OnOk result (self.new.placed ≤ 3 * all_instances description.now.items) }
         ensures few { OnOk result (PlacesWhatChanged self.old description.now.items self.new) }
         ensures reached { OnOk result (PlacesWhatIsInReach self.old description.now.items self.new) }
         ensures still { OnOk result ((old : Items) → AreOf old self.old → skeleton old ≡ skeleton description.now.items → self.new.placed ≡ 0) }
-        ensures heads { IfOk result (λ heads. AreCleanHeads description.now.items heads.items) }
+        ensures heads { IfOk result (λ heads. AreKnownIn description.now.items self.new heads.items) }
         ensures refused { IfErr result (λ fault. (elaborated description.now.items (option_copied top.entry) ≡ Err fault) ⊎ (fault ≡ out_of_memory)) }
         ensures err { OnErr result (self.new ≡ self.old) }
     {
@@ -297,26 +296,28 @@ impl Kept {
     }
 
     /// Lays out this description as `relay` does, where it is known to have rows with this top, as one that was laid out before.
-    /// It is not judged again, so this fails for memory alone.
+    /// It is not judged again, so this fails for memory alone. What is known of the definitions of the root is as in `relay_item`.
     pub fn relay_known(
         &mut self,
         alloc: Global,
         description: &Description,
         top: Option<&str>,
-        _bodies: &[Address],
-    ) -> Result<(), AllocError>
-        requires { HasRows description.now.items (option_copied top) }
+        heads: &[KeptRoot],
+    ) -> Result<Vec<KeptRoot>, AllocError>
+        requires rows { HasRows description.now.items (option_copied top) }
+        requires heads { AreKnownIn description.now.items self.old heads.now }
         ensures layouts { OnOk result (AreOf description.now.items self.new) }
         ensures top { OnOk result (self.new.top ≡ option_copied top.entry) }
         ensures placed { OnOk result (self.new.placed ≤ 3 * all_instances description.now.items) }
         ensures few { OnOk result (PlacesWhatChanged self.old description.now.items self.new) }
         ensures reached { OnOk result (PlacesWhatIsInReach self.old description.now.items self.new) }
         ensures still { OnOk result ((old : Items) → AreOf old self.old → skeleton old ≡ skeleton description.now.items → self.new.placed ≡ 0) }
+        ensures heads { IfOk result (λ heads. AreKnownIn description.now.items self.new heads.items) }
         ensures err { OnErr result (self.new ≡ self.old) }
     {
         let found = known_top(description, top);
-        match self.follow(alloc, description, &found, top, Judgement::Known, &[])? {
-            Ok(_heads) => Ok(()),
+        match self.follow(alloc, description, &found, top, Judgement::Known, heads)? {
+            Ok(heads) => Ok(heads),
             Err(_) => unreachable!(),
         }
     }
@@ -336,27 +337,28 @@ impl Kept {
         ensures layouts { AreOf _description.now.items self.new }
         ensures top { self.new.top ≡ self.old.top }
         ensures placed { self.new.placed ≡ 0 }
+        ensures still { StandsStill self.old self.new }
     {
         self.stored.stay();
     }
 
     /// Keeps the layouts as they are for this description, which has the same skeleton, if it has rows. No item of it but the
-    /// one at this address may have a fault. Nothing changes if the map has one. Modes that are known to be clean are as in
-    /// `relay_item`.
+    /// one at this address may have a fault. Nothing changes if the map has one. What is known of the definitions of the
+    /// root is as in `relay_item`.
     pub fn stay_judged(
         &mut self,
         alloc: Global,
         description: &Description,
         item: &Address,
-        heads: &[Modes],
-    ) -> Result<Vec<Modes>, Fault>
+        heads: &[KeptRoot],
+    ) -> Result<Vec<KeptRoot>, Fault>
         requires skeleton { HasSameSkeleton description.now.items self.old }
         requires others { NoOtherFault description.now.items item.now }
-        requires heads { AreCleanHeads description.now.items heads.now }
+        requires heads { AreKnownIn description.now.items self.old heads.now }
         ensures layouts { OnOk result (AreOf description.now.items self.new) }
         ensures top { OnOk result (self.new.top ≡ self.old.top) }
         ensures placed { OnOk result (self.new.placed ≡ 0) }
-        ensures heads { IfOk result (λ heads. AreCleanHeads description.now.items heads.items) }
+        ensures heads { IfOk result (λ heads. AreKnownIn description.now.items self.new heads.items) }
         ensures refused { IfErr result (λ fault. (elaborated description.now.items self.old.top ≡ Err fault) ⊎ (fault ≡ out_of_memory)) }
         ensures err { OnErr result (self.new ≡ self.old) }
     {
@@ -386,6 +388,7 @@ impl Kept {
         ensures layouts { OnOk result (AreOf description.now.items self.new) }
         ensures top { OnOk result (self.new.top ≡ self.old.top) }
         ensures placed { OnOk result (self.new.placed ≡ 0) }
+        ensures still { OnOk result (StandsStill self.old self.new) }
         ensures refused { IfErr result (λ fault. (elaborated description.now.items self.old.top ≡ Err fault) ⊎ (fault ≡ out_of_memory)) }
         ensures err { OnErr result (self.new ≡ self.old) }
     {
@@ -406,6 +409,7 @@ impl Kept {
         ensures layouts { OnOk result (AreOf description.now.items self.new) }
         ensures top { OnOk result (self.new.top ≡ self.old.top) }
         ensures placed { OnOk result (self.new.placed ≡ 0) }
+        ensures still { OnOk result (StandsStill self.old self.new) }
         ensures refused { IfErr result (λ fault. (elaborated description.now.items self.old.top ≡ Err fault) ⊎ (fault ≡ out_of_memory)) }
         ensures err { OnErr result (self.new ≡ self.old) }
     {
@@ -430,6 +434,7 @@ impl Kept {
         ensures layouts { OnOk result (AreOf description.now.items self.new) }
         ensures top { OnOk result (self.new.top ≡ self.old.top) }
         ensures placed { OnOk result (self.new.placed ≡ 0) }
+        ensures still { OnOk result (StandsStill self.old self.new) }
         ensures refused { IfErr result (λ fault. (elaborated description.now.items self.old.top ≡ Err fault) ⊎ (fault ≡ out_of_memory)) }
         ensures err { OnErr result (self.new ≡ self.old) }
     {

@@ -20,8 +20,9 @@ ghost use Rattle.rdl_kept.specs.declared.roots.RootFacts.{RootFacts};
 ghost use Rattle.rdl_kept.specs.RootFacts.{IsKnownRoot, ChangesOnly};
 ghost use Rattle.rdl_kept.specs.StillFaultless.{is_asked_again, AskedAgainHaveNone, fault_of_asked};
 ghost use Rattle.rdl_elab.specs.Known.{HasRows};
-ghost use Rattle.rdl_elab.specs.declared.rows.clean.Modes.{Modes};
-ghost use Rattle.rdl_elab.specs.CleanHeads.{AreCleanHeads};
+ghost use Rattle.rdl_elab.specs.Kept.{Layouts};
+ghost use Rattle.rdl_elab.specs.declared.kept_root.KeptRoot.{KeptRoot};
+ghost use Rattle.rdl_elab.specs.Runs.{AreKeptRoots};
 ghost use Rattle.rdl_kept.specs.UnreachedHeads.{KeepsUnreached};
 ghost use Rattle.rdl_kept.specs.Harmless.{IsHarmless};
 ghost use Rattle.rdl_kept.specs.Renaming.{IsRenaming};
@@ -101,7 +102,8 @@ pub fn renamed_instances_keep_rows()
     ensures { (at : List ℕ) (u : Shell) (d : Items) (wanted : Option (List ℕ)) → HasRows d wanted → fault_of (patched (Exchange at (OfShell u)) d) ≡ None → IsRenaming at u d → HasRows (patched (Exchange at (OfShell u)) d) wanted }
 {}
 
-/// Where a definition of the root is out of reach of the bodies that a step changes, it is as clean after the step as it was before.
-pub fn unreached_definitions_stay_clean()
-    ensures { (t : Tracked) (heads kept : List Modes) → fault_of (old_of t) ≡ None → AreCleanHeads (old_of t) heads → KeepsUnreached t heads kept → AreCleanHeads (new_of t) kept }
+/// What is known of definitions of the root that a step doesn't reach is true after it: in which modes they are clean, what is
+/// kept of them, and that the words and layouts of all components inside them are the same.
+pub fn unreached_definitions_stay_known()
+    ensures { (t : Tracked) (words : List (List ℕ)) (layouts : List Layouts) (roots kept : List KeptRoot) → fault_of (old_of t) ≡ None → AreKeptRoots (old_of t) words layouts roots → KeepsUnreached t roots kept → AreKeptRoots (new_of t) words layouts kept }
 {}

@@ -1,5 +1,5 @@
 //! What is known of each item of the root by itself, and which of them have to be judged again by it.
-ghost use Rattle.std.specs.Prelude.{◌≡◌, ◌↔◌, ℕ, List, Some, None, true, IfOk, IfSome, OnOk, length, option_copied, slice_get, if◌then◌else◌};
+ghost use Rattle.std.specs.Prelude.{◌≡◌, ◌↔◌, ℕ, List, Some, None, true, false, IfOk, IfSome, OnOk, length, option_copied, slice_get, if◌then◌else◌};
 ghost use Rattle.std.specs.List.{Contains};
 ghost use Rattle.rdl_tree.specs.Items.{no_items};
 ghost use Rattle.rdl_tree.specs.View.{add, list_of};
@@ -9,9 +9,10 @@ ghost use Rattle.rdl_scope.specs.ByName.{value_under};
 ghost use Rattle.rdl_scope.specs.Types.{last_definition};
 ghost use Rattle.rdl_scope.specs.Walk.{is_definition};
 ghost use Rattle.rdl_kept.specs.RootFacts.{IsKnownRoot, AreFactsOf, is_declared, holds_definitions, AreReached, AreAsked, AsksEnough, ReachesEnough};
+ghost use Rattle.rdl_elab.specs.Runs.{unknown_root};
 ghost use Rattle.rdl_kept.specs.UnreachedHeads.{IsUnreached};
 
-use rdl_elab::rows::clean::Modes;
+use rdl_elab::kept_root::KeptRoot;
 use rdl_scope::by_name::ByName;
 use rdl_scope::size::{Size, item_size};
 use rdl_text::name::Name;
@@ -335,13 +336,21 @@ pub fn size_of(
     Some(size)
 }
 
-/// Forgets in which modes the definitions of the root that are reached were found clean.
-pub fn forget_reached(heads: &mut Vec<Modes>, reached: &[bool])
-    ensures { IsUnreached heads.old.items reached.now heads.new.items }
+/// Forgets what is known of a definition of the root if it is reached.
+fn forget_if(root: &mut KeptRoot, is_reached: bool)
+    ensures forgotten { is_reached ≡ true → root.new ≡ unknown_root }
+    ensures kept { is_reached ≡ false → root.new ≡ root.old }
 {
-    for (j, head) in heads.iter_mut().enumerate() {
-        if is_marked(reached, j) {
-            *head = Modes::none();
-        }
+    if is_reached {
+        *root = KeptRoot::none();
+    }
+}
+
+/// Forgets what is known of the definitions of the root that are reached.
+pub fn forget_reached(roots: &mut Vec<KeptRoot>, reached: &[bool])
+    ensures { IsUnreached roots.old.items reached.now roots.new.items }
+{
+    for (j, root) in roots.iter_mut().enumerate() {
+        forget_if(root, is_marked(reached, j));
     }
 }

@@ -55,6 +55,11 @@ impl Modes {
         }
     }
 
+    /// Whether no mode is among them.
+    pub(crate) fn is_empty(self) -> bool {
+        !self.compact && !self.regalign && !self.fullalign
+    }
+
     fn insert(&mut self, mode: Mode) {
         match mode {
             Mode::Compact => self.compact = true,

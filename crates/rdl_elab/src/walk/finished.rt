@@ -3,6 +3,7 @@ use crate::layout::{Layout, LayoutValues, Mode};
 use crate::row_values::ComponentValues;
 use crate::walk::laid_out::{LaidOut, SharedLayouts};
 use crate::walk::part_list::PartList;
+use crate::walk::passed::Passed;
 use crate::walk::reaches::Assignment;
 use crate::walk::shared::{InstanceAddress, SharedAddress};
 use rdl_tree::address::Address;
@@ -232,4 +233,8 @@ pub(crate) struct Finished<'a> {
     pub rows: usize,
     /// The first instance below it of a register file or address map without instances.
     pub first_empty: Option<SharedAddress>,
+    /// Whether the instances of this component and of all below it are held.
+    pub whole: bool,
+    /// Where it was passed over, what it is. Its instances aren't held then.
+    pub passed: Option<Passed>,
 }

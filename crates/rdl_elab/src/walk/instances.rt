@@ -1,13 +1,12 @@
 //! What a component takes of its instances, of whose components all is kept.
 ghost use Rattle.std.specs.Prelude.{◌≡◌, min, map, true, IfOk, Some, option_copied};
-ghost use Rattle.std.specs.Option.{option_or};
 ghost use Rattle.rdl_elab.specs.declared.layout.Mode.{Mode};
 ghost use Rattle.rdl_elab.specs.declared.layout.Mode.TheVariants.{Compact};
 ghost use Rattle.rdl_tree.specs.declared.shell.Kind.TheVariants.{Regfile, Reg};
 ghost use Rattle.rdl_elab.specs.Layouts.{placement, field_bits, member, mode_inside, laid_out};
 ghost use Rattle.rdl_elab.specs.Capped.{capped_layout, IsAlignment};
 ghost use Rattle.rdl_elab.specs.Finished.{under};
-ghost use Rattle.rdl_elab.specs.Inside.{counted, shown_placement, kept_parts, kept_levels, finished_rows, lacks_parts, part_empty, kept_empty};
+ghost use Rattle.rdl_elab.specs.Inside.{counted, shown_placement, kept_parts, kept_levels, finished_rows, lacks_rows, part_empty, kept_empty, is_whole, are_whole};
 
 use crate::layout::bits::bits;
 use crate::layout::component::{field, register};
@@ -254,12 +253,34 @@ pub(crate) fn rows(parts: &[Part], components: &[Finished]) -> usize
     rows
 }
 
-fn is_empty(kind: Kind, parts: &[Part]) -> bool
-    ensures { result ≡ lacks_parts kind parts.now }
+/// Whether a component of this kind with so many rows below it is one that must not be without instances.
+fn is_empty(kind: Kind, rows: usize) -> bool
+    ensures { result ≡ lacks_rows kind rows }
 {
     match kind {
-        Kind::Addrmap | Kind::Regfile => parts.is_empty(),
+        Kind::Addrmap | Kind::Regfile => rows == 0,
         Kind::Reg | Kind::Field => false,
+    }
+}
+
+/// Whether all below the components of these instances is held.
+pub(crate) fn are_whole(parts: &[Part], components: &[Finished]) -> bool
+    ensures { result ≡ are_whole components.now parts.now }
+{
+    for part in parts {
+        if !is_whole(part.component(components)) {
+            return false;
+        }
+    }
+    true
+}
+
+fn is_whole(finished: Option<&Finished>) -> bool
+    ensures { result ≡ is_whole (option_copied finished.entry) }
+{
+    match finished {
+        Some(finished) => finished.whole,
+        None => true,
     }
 }
 
@@ -281,7 +302,7 @@ fn empty_part(
 ) -> Result<Option<SharedAddress>, AllocError>
     ensures { IfOk result (λ empty. empty ≡ part_empty part.now (Some finished.now)) }
 {
-    if is_empty(finished.kind, finished.parts.as_slice()) {
+    if is_empty(finished.kind, finished.rows) {
         Ok(Some(SharedAddress::new(alloc, part.at())?))
     } else {
         shared(finished.first_empty.as_ref())

@@ -100,6 +100,16 @@ impl LaidOut {
     ghost use Rattle.std.specs.Prelude.{◌≡◌, IfOk};
     ghost use Rattle.rdl_elab.specs.Words.{AreMadeOf, IsMade};
 
+    /// The same, for one more.
+    pub(crate) fn share(&self) -> Result<LaidOut, AllocError>
+        ensures { IfOk result (λ shared. shared ≡ self.now) }
+    {
+        Ok(LaidOut {
+            words: self.words.share()?,
+            layouts: self.layouts.share()?,
+        })
+    }
+
     /// Its layouts, for one more.
     pub(crate) fn layouts(&self) -> Result<SharedLayouts, AllocError>
         ensures made { IfOk result (AreMadeOf self.now.words) }

@@ -87,7 +87,7 @@ fn part_at<'p, 'a>(parts: &'p [Part<'a>], place: Option<usize>) -> Option<&'p Pa
 }
 
 impl<'a> PartList<'a> {
-    ghost use Rattle.std.specs.Prelude.{◌≡◌, IfOk, option_copied};
+    ghost use Rattle.std.specs.Prelude.{◌≡◌, [], IfOk, option_copied};
     ghost use Rattle.rdl_elab.specs.PartNames.{part_named};
 
     /// These instances. If targets look them up, the names of many are put in order.
@@ -104,6 +104,16 @@ impl<'a> PartList<'a> {
             None
         };
         Ok(PartList { items, names })
+    }
+
+    /// No instances.
+    pub(crate) fn none(alloc: Global) -> PartList<'a>
+        ensures { result.items ≡ [] }
+    {
+        PartList {
+            items: Vec::new(alloc),
+            names: None,
+        }
     }
 
     pub(crate) fn as_slice(&self) -> &[Part<'a>]

@@ -1,4 +1,5 @@
-use Rattle.std.proofs.Common.{◌∙◌, ap, sym, subst, option_copied}
+use Rattle.std.proofs.Common.{◌∙◌, [], refl, ap, sym, subst, option_copied}
+use Rattle.rdl_edit.proofs.KnownRoots.{no-heads}
 use Rattle.std.specs.List.{list_all}
 use Rattle.rdl_elab.specs.Known.{HasRows}
 use Rattle.rdl_edit.specs.Ways.{is_empty}
@@ -28,9 +29,13 @@ returns-then-stays-clause-laid_out c =
 pub relay_known-requires : goal.relay_known-requires
 relay_known-requires c =
     let rows = has-rows (record { description = c.args.description.now.items; option = option_copied c.args.name }) c.args.kept.now c.requires.laid_out.keeps in
-    subst (λ d. HasRows d (option_copied c.args.name)) (sym (c.in-Ok-come_back.ensures.home
-    ∙ home-there c.args.steps.items c.args.description.now.items c.go.new.description.items _ c.in-Ok.ways.items c.in-Ok.ensures.fits c.requires.nesting c.in-Ok.ensures.there c.in-Ok.ensures.ways))
-    (record { rows = rows.rows; are = rows.are })
+    record {
+      rows =
+          subst (λ d. HasRows d (option_copied c.args.name)) (sym (c.in-Ok-come_back.ensures.home
+          ∙ home-there c.args.steps.items c.args.description.now.items c.go.new.description.items _ c.in-Ok.ways.items c.in-Ok.ensures.fits c.requires.nesting c.in-Ok.ensures.there c.in-Ok.ensures.ways))
+          (record { rows = rows.rows; are = rows.are });
+      heads = no-heads c.come_back.new.description.items c.go.new.kept [] refl;
+    }
 
 pub returns-in-Ok-relay_known-clause-home : goal.returns-in-Ok-relay_known-clause-home
 returns-in-Ok-relay_known-clause-home c =

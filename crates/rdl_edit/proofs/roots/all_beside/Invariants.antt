@@ -1,4 +1,3 @@
-use Rattle.std.proofs.Common.{◌≡◌, ℕ, Bool, List, Option}
 use Rattle.rdl_kept.specs.RootFacts.{AreFactsOf}
 use Rattle.rdl_edit.specs.RootSteps.{AreKnownBeside}
 use Rattle.rdl_edit.proofs.roots.all_beside.Given as goal

@@ -1,4 +1,4 @@
-use Rattle.std.proofs.Common.{◌≡◌, Some, sym, subst}
+use Rattle.std.proofs.Common.{◌≡◌, Some, subst}
 use Rattle.std.specs.Prelude.{slice_get, slice_set}
 use Rattle.rdl_edit.proofs.KnownRoots.{others-known}
 use Rattle.rdl_edit.proofs.roots.take_known.Goals as goal

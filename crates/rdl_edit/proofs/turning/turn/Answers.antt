@@ -1,15 +1,14 @@
 use Rattle.std.proofs.Common.{◌≡◌, None, refl, rules, sym, subst, ◌∙◌, option_copied}
 use Rattle.std.specs.Prelude.{IfSome}
 use Rattle.rdl_scope.specs.ItemFaults.{fault_of}
-use Rattle.rdl_elab.specs.CleanHeads.{AreCleanHeads}
+use Rattle.rdl_kept.specs.AllKept.{AreKnownIn}
 use Rattle.rdl_edit.specs.RootSteps.{IsStepInside, AreRootsOf}
 use Rattle.rdl_edit.specs.Touching.{IsTouched}
 use Rattle.rdl_edit.proofs.KnownRoots.{roots-made}
 use Rattle.rdl_edit.proofs.KnownSteps.{known-behind}
 use Rattle.rdl_tree.specs.Patch.{image}
-use Rattle.rdl_edit.proofs.Placings.{back-keeps, few-placed, none-placed, keeps-made, judged-made}
+use Rattle.rdl_edit.proofs.Placings.{back-keeps, few-placed, none-placed, keeps-made}
 use Rattle.rdl_edit.proofs.WaysBack.{way-back, cheap}
-use Rattle.rdl_edit.specs.Step.{IsJudged}
 use Rattle.rdl_edit.proofs.turning.turn.Goals as goal
 
 pub returns-in-Ok-lay_out-clause-back : goal.returns-in-Ok-lay_out-clause-back
@@ -50,16 +49,16 @@ lay_out-requires-clause-known c =
     known-behind c.args.patches.items c.args.description.now.items c.description-new.result.now.items c.args.kept.now made c.requires.kept.layouts c.touched_with-touched.result touched
 
 -- what is known of the items of the root behind the step
-behind : (c : goal.After-as_ref-2) → AreRootsOf c.description-new.result.now.items c.arrive-asked.new.self
+behind : (c : goal.After-as_ref-2) → AreRootsOf c.description-new.result.now.items c.args.kept.now c.arrive-asked.new.self
 behind c =
     let old = c.args.description.now.items in
     let new = c.description-new.result.now.items in
     let accepted : fault_of old ≡ None = search rules in
     let inside : IfSome (option_copied c.as_ref.result) (λ roots. IsStepInside roots.items old new) = search rules in
-    c.arrive-asked.ensures.behind old accepted inside c.leave-changed.ensures.roots
+    c.arrive-asked.ensures.behind old c.args.kept.now accepted inside (c.leave-changed.ensures.roots c.args.kept.now c.requires.roots)
 
 pub lay_out-requires-clause-heads : goal.lay_out-requires-clause-heads
-lay_out-requires-clause-heads c = subst (λ heads. AreCleanHeads c.description-new.result.now.items heads) (sym c.as_slice-heads.ensures.value) (behind c).heads
+lay_out-requires-clause-heads c = subst (λ heads. AreKnownIn c.description-new.result.now.items c.args.kept.now heads) (sym c.as_slice-heads.ensures.value) (behind c).heads
 
 pub returns-in-Ok-lay_out-clause-roots : goal.returns-in-Ok-lay_out-clause-roots
 returns-in-Ok-lay_out-clause-roots c =
@@ -68,10 +67,17 @@ returns-in-Ok-lay_out-clause-roots c =
     let made : new ≡ image c.args.patches.items old = search rules in
     let accepted : fault_of old ≡ None = search rules in
     let inside : IfSome (option_copied c.as_ref.result) (λ roots. IsStepInside roots.items old new) = search rules in
-    let known : AreRootsOf new c.arrive-asked.new.self = c.arrive-asked.ensures.behind old accepted inside c.leave-changed.ensures.roots in
-    roots-made new _ (image c.args.patches.items old) c.renew.new.self made (search rules) (c.renew.ensures new known c.in-Ok-lay_out.ensures.heads)
+    let known : AreRootsOf new c.args.kept.now c.arrive-asked.new.self = c.arrive-asked.ensures.behind old c.args.kept.now accepted inside (c.leave-changed.ensures.roots c.args.kept.now c.requires.roots) in
+    roots-made new _ (image c.args.patches.items old) c.lay_out.new.kept c.renew.new.self made (search rules) (c.renew.ensures new c.args.kept.now c.lay_out.new.kept known c.in-Ok-lay_out.ensures.heads)
 
 pub returns-clause-roots : goal.returns-clause-roots
 returns-clause-roots c =
     let old = c.args.description.now.items in
-    roots-made old _ old c.arrive-asked.new.self refl (search rules) (c.arrive-asked.ensures.before old c.leave-changed.ensures.roots)
+    let known : AreRootsOf old c.args.kept.now c.arrive-asked.new.self = c.arrive-asked.ensures.before old c.args.kept.now (c.leave-changed.ensures.roots c.args.kept.now c.requires.roots) in
+    let same : c.lay_out.new.kept ≡ c.args.kept.now = search rules in
+    roots-made old _ old c.lay_out.new.kept c.arrive-asked.new.self refl (search rules) (subst (λ k. AreRootsOf old k c.arrive-asked.new.self) (sym same) known)
+
+pub returns-in_default-clause-roots : goal.returns-in_default-clause-roots
+returns-in_default-clause-roots c =
+    let old = c.args.description.now.items in
+    roots-made old _ old c.args.kept.now c.leave-changed.new.self refl (search rules) (c.leave-changed.ensures.roots c.args.kept.now c.requires.roots)

@@ -1,4 +1,4 @@
-use Rattle.std.proofs.Common.{rules, ◌≡◌, ◌∙◌, ap, sym, Err, None, option_copied}
+use Rattle.std.proofs.Common.{◌∙◌, ap, sym, Err, option_copied}
 use Rattle.rdl_elab.specs.Faults.{with_top}
 use Rattle.rdl_elab.proofs.KeptAnswers.{judged-top}
 use Rattle.rdl_elab.proofs.elaborate.top_of.Goals as goal

@@ -1,4 +1,4 @@
-use Rattle.std.proofs.Common.{[], refl, sym, ap, ◌∙◌}
+use Rattle.std.proofs.Common.{[], sym, ap, ◌∙◌}
 use Rattle.rdl_elab.specs.Reaches.{values_along}
 use Rattle.rdl_elab.proofs.KeptValues.{kept-passing}
 use Rattle.rdl_elab.proofs.rows.values.Goals as goal

@@ -1,4 +1,4 @@
-use Rattle.std.proofs.Common.{◌≡◌, ℕ, ◌∷◌, ◌+◌, ◌-◌, ◌*◌, ◌<◌, List, [], length, take, drop, ◌++◌, refl, ap, sym, subst, ◌∙◌, arith}
+use Rattle.std.proofs.Common.{◌≡◌, ℕ, ◌∷◌, ◌+◌, ◌-◌, ◌*◌, ◌<◌, List, [], length, take, drop, ◌++◌, refl, ap, sym, subst, ◌∙◌, arith, length-append}
 use Rattle.std.specs.Prelude.{IfSome}
 use Rattle.rdl_tree.specs.View.{items_of}
 use Rattle.rdl_tree.proofs.Rounds.{items_of-list_of}
@@ -9,12 +9,13 @@ use Rattle.rdl_tree.specs.declared.description.Item.TheVariants.{Instance}
 use Rattle.rdl_scope.specs.Closed.{parts, standing}
 use Rattle.rdl_elab.specs.Kept.{Part}
 use Rattle.rdl_elab.specs.declared.walk.Walk.{Walk}
-use Rattle.rdl_elab.specs.Finished.{AreParts, IsFinished}
+use Rattle.rdl_elab.specs.Ready.{AreReadyParts, IsReady}
+use Rattle.rdl_elab.specs.Inside.{are_whole}
 use Rattle.rdl_elab.specs.Stands.{made_at, after_item, item_parts, in_list, placed, Stands}
-use Rattle.rdl_elab.proofs.Goings.{append_nil, grows-on, grows-push, item-room, body-room, stands-grow, stands-define, finished-part, named-part, made-last, stands-next, parts-next, behind-on}
+use Rattle.rdl_elab.proofs.Goings.{append_nil, grows-on, grows-push, item-room, body-room, stands-grow, stands-define, ready-part, named-part, made-last, whole-on, whole-last, stands-next, parts-next, behind-on}
 use Rattle.rdl_elab.proofs.Writing.{finishes-next, finishes-made, laid-out}
 use Rattle.rdl_elab.proofs.walk.+walk.Goals as goal
-use Rattle.rdl_elab.proofs.walk.+walk.Goals.{walk_items-in-Some+in_ok-reserve_first+in_ok-around+in_ok-push, walk_items-in_default}
+use Rattle.rdl_elab.proofs.walk.+walk.Goals.{walk_items-in-Some+in_ok-reserve_first+in_ok-around+in_ok-push_part, walk_items-in_default}
 
 abbrev part-at : ℕ → Shell → ℕ → List ℕ → Part
 part-at i s k b = record { at = b ++ i ∷ []; shell = s; component = k }
@@ -33,18 +34,36 @@ finish-returns-clause-made t c = λ e h.
     let defaults = c.truncate-2.ensures ∙ ap (λ n. drop (length long - n) long) c.len-defaults.ensures ∙ behind.defaults.same ∙ h.defaults in
     let same = c.in_ok-finished.ensures.parts in
     let stays : c.finished_component.new.walk.components.items ≡ mid = ap (λ (w : Walk). w.components.items) c.in_ok-finished.ensures.walk in
-    let pushed = c.in_ok-push.ensures.items ∙ ap (λ fs. fs ++ c.in_ok-finished.finished ∷ []) stays in
-    let number : c.len-number.result ≡ length mid = omega (arith, ap length stays) in
-    made-last d c.args.at.now c.args.component.now e mid c.push.new.self.items c.len-number.result c.in_ok-finished.finished c.as_slice.result.now c.as_slice.ensures number pushed
-    (subst (λ (ps : List Part). AreParts d mid (length mid) ps (parts e c.args.at.now 0 (items_of c.as_slice.result.now))) (sym same) (c.in_ok-parts.ensures.parts e h))
-    (λ inside n are. c.in_ok-finished.ensures.kept e inside n defaults (subst (λ (ps : List Part). AreParts d mid n ps inside) same are))
+    let pushed = c.in_ok-push_finished.ensures.items ∙ ap (λ fs. fs ++ c.in_ok-finished.finished ∷ []) stays in
+    let number : c.in_ok-push_finished.field-0 ≡ length mid = c.in_ok-push_finished.ensures.number ∙ ap length stays in
+    made-last d c.args.at.now c.args.component.now e mid c.push_finished.new.components.items c.in_ok-push_finished.field-0 c.in_ok-finished.finished c.as_slice.result.now c.as_slice.ensures number pushed
+    (subst (λ (ps : List Part). AreReadyParts d mid (length mid) ps (parts e c.args.at.now 0 (items_of c.as_slice.result.now))) (sym same) (c.in_ok-parts.ensures.parts e h))
+    (λ inside n are. c.in_ok-finished.ensures.kept e inside n defaults (subst (λ (ps : List Part). AreReadyParts d mid n ps inside) same are))
+    (λ inside n are. c.in_ok-finished.ensures.whole e inside n defaults (subst (λ (ps : List Part). AreReadyParts d mid n ps inside) same are))
+    (c.in_ok-finished.ensures.all ∙ ap (are_whole mid) (sym same)) c.in_ok-finished.ensures.held c.in_ok-finished.ensures.assigned
+
+pub finish-returns-clause-last : goal.finish-returns-clause-last
+finish-returns-clause-last t c =
+    let mid = c.walk_items.new.walk.components.items in
+    let stays : c.finished_component.new.walk.components.items ≡ mid = ap (λ (w : Walk). w.components.items) c.in_ok-finished.ensures.walk in
+    let f = c.in_ok-finished.finished in
+    omega (arith, c.in_ok-push_finished.ensures.number, ap length c.in_ok-push_finished.ensures.items, length-append c.finished_component.new.walk.components.items (f ∷ []))
+
+pub finish-returns-clause-whole : goal.finish-returns-clause-whole
+finish-returns-clause-whole t c =
+    let mid = c.walk_items.new.walk.components.items in
+    let f = c.in_ok-finished.finished in
+    let stays : c.finished_component.new.walk.components.items ≡ mid = ap (λ (w : Walk). w.components.items) c.in_ok-finished.ensures.walk in
+    let pushed = c.in_ok-push_finished.ensures.items ∙ ap (λ fs. fs ++ f ∷ []) stays in
+    let all = c.in_ok-finished.ensures.all ∙ ap (are_whole mid) (sym c.in_ok-finished.ensures.parts) in
+    whole-on c.args.walk.now.components.items mid c.push_finished.new.components.items c.in_ok-parts.ensures.behind.whole (whole-last mid c.push_finished.new.components.items f pushed all)
 
 pub finish-returns-clause-components : goal.finish-returns-clause-components
 finish-returns-clause-components t c =
     let mid = c.walk_items.new.walk.components.items in
     let stays : c.finished_component.new.walk.components.items ≡ mid = ap (λ (w : Walk). w.components.items) c.in_ok-finished.ensures.walk in
-    let pushed = c.in_ok-push.ensures.items ∙ ap (λ fs. fs ++ c.in_ok-finished.finished ∷ []) stays in
-    grows-on c.args.walk.now.components.items mid c.push.new.self.items c.in_ok-parts.ensures.behind.components (grows-push mid c.push.new.self.items c.in_ok-finished.finished pushed)
+    let pushed = c.in_ok-push_finished.ensures.items ∙ ap (λ fs. fs ++ c.in_ok-finished.finished ∷ []) stays in
+    grows-on c.args.walk.now.components.items mid c.push_finished.new.components.items c.in_ok-parts.ensures.behind.components (grows-push mid c.push_finished.new.components.items c.in_ok-finished.finished pushed)
 
 pub walk_items-walk_item-requires : goal.walk_items-walk_item-requires
 walk_items-walk_item-requires t c =
@@ -61,8 +80,8 @@ walk_item-returns-in_ok-push-in-Define-clause-stands t c = λ e h.
     let new : Walk = record { types = c.push.new.self; defaults = mid.defaults; components = mid.components; built_ins = mid.built_ins; by_name = mid.by_name } in
     let k = c.in_ok-component-in-Define.component in
     let all = c.in_ok-component-in-Define.ensures in
-    let made : IsFinished d mid.components.items k (made_at e at c.in-Define.component) =
-    subst (λ (a : List ℕ). IsFinished d mid.components.items k (made_at e a c.in-Define.component)) c.inside.ensures (all.made e h) in
+    let made : IsReady d mid.components.items k (made_at e at c.in-Define.component) =
+    subst (λ (a : List ℕ). IsReady d mid.components.items k (made_at e a c.in-Define.component)) c.inside.ensures (all.made e h) in
     subst (λ (x : Item). Stands d new (after_item at x e)) (sym c.in-Define.is)
     (stands-define d old new e at c.in-Define.name k c.in-Define.component (c.in_ok-push-in-Define.ensures ∙ ap (λ ts. (c.in-Define.name, k) ∷ ts) all.types) all.defaults all.components made h)
 
@@ -78,15 +97,15 @@ walk_items-loop-i-preserved t c =
     let done = c.loop-i.parts.items in
     let after : c.match-branch-2.parts.items ≡ done ++ in_list (placed at c.in_ok-found.field-0) =
     elim c.match-branch-2.branch [
-      | walk_items-in-Some+in_ok-reserve_first+in_ok-around+in_ok-push w ↦
-          ap (λ v. v.items) w.parts-is ∙ w.in_ok-push.ensures.items ∙ ap (λ (ps : List Part). ps ++ w.new.result ∷ []) w.in_ok-reserve_first.ensures
+      | walk_items-in-Some+in_ok-reserve_first+in_ok-around+in_ok-push_part w ↦
+          ap (λ v. v.items) w.parts-is ∙ w.in_ok-push_part.ensures ∙ ap (λ (ps : List Part). ps ++ w.new.result ∷ []) w.in_ok-reserve_first.ensures
           ∙ ap (λ (p : Part). done ++ p ∷ []) (w.new.ensures ∙ ap (part-at i w.in-Some.found.shell.now w.in-Some.found.component) w.in_ok-around.ensures.address)
           ∙ ap (λ o. done ++ in_list (placed at o)) (sym w.in-Some.is)
       | walk_items-in_default w ↦ ap (λ v. v.items) w.parts-is ∙ sym (append_nil done) ∙ ap (λ o. done ++ in_list (placed at o)) (sym w.in_default.is)
     ] in
     let shared : IfSome c.match-branch-2.shared (λ a. a ≡ b) =
     elim c.match-branch-2.branch [
-      | walk_items-in-Some+in_ok-reserve_first+in_ok-around+in_ok-push w ↦ subst (λ o. IfSome o (λ a. a ≡ b)) (sym w.shared-is) w.share.ensures.shared
+      | walk_items-in-Some+in_ok-reserve_first+in_ok-around+in_ok-push_part w ↦ subst (λ o. IfSome o (λ a. a ≡ b)) (sym w.shared-is) w.share.ensures.shared
       | walk_items-in_default w ↦ subst (λ o. IfSome o (λ a. a ≡ b)) (sym w.shared-is) c.loop-i.invariant.shared
     ] in
     record {
@@ -113,9 +132,9 @@ walk_instance-returns-in_ok-component-in-Anonymous-clause-part t c = λ e h.
     let k = c.in_ok-component-in-Anonymous.component in
     let all = c.in_ok-component-in-Anonymous.ensures in
     let p : Part = record { at = at; shell = c.args.shell.now; component = k } in
-    let here : IsFinished d new k (made_at e at made) = subst (λ (a : List ℕ). IsFinished d new k (made_at e a made)) c.inside.ensures (all.made e h) in
-    subst (λ (o : Of). AreParts d new (length new) (p ∷ []) (item_parts e at (Instance c.args.shell.now o))) (sym c.in-Anonymous.is)
-    (finished-part d new k (made_at e at made) at c.args.shell.now p here refl refl refl)
+    let here : IsReady d new k (made_at e at made) = subst (λ (a : List ℕ). IsReady d new k (made_at e a made)) c.inside.ensures (all.made e h) in
+    subst (λ (o : Of). AreReadyParts d new (length new) (p ∷ []) (item_parts e at (Instance c.args.shell.now o))) (sym c.in-Anonymous.is)
+    (ready-part d new k (made_at e at made) at c.args.shell.now p here refl refl refl)
 
 pub walk_instance-returns-in_ok-component-in-Anonymous-clause-stands :
     goal.walk_instance-returns-in_ok-component-in-Anonymous-clause-stands
@@ -128,7 +147,7 @@ walk_instance-returns-in-Named-clause-part t c = λ e h.
     let d = c.args.description.now.items in
     let at = c.args.at.now ++ c.args.number ∷ [] in
     let fs = c.args.walk.now.components.items in
-    subst (λ (o : Of). AreParts d fs (length fs) (in_list (placed at c.named_part.result)) (item_parts e at (Instance c.args.shell.now o))) (sym c.in-Named.is)
+    subst (λ (o : Of). AreReadyParts d fs (length fs) (in_list (placed at c.named_part.result)) (item_parts e at (Instance c.args.shell.now o))) (sym c.in-Named.is)
     (named-part d fs at c.args.shell.now c.in-Named.name c.named_part.result c.args.walk.now.types e.types h.types c.named_part.ensures)
 
 pub finish-returns-clause-finishes : goal.finish-returns-clause-finishes
@@ -143,8 +162,8 @@ finish-returns-clause-finishes t c = λ e h.
     let behind = c.in_ok-parts.ensures.behind in
     let long = c.walk_items.new.walk.defaults in
     let defaults = c.truncate-2.ensures ∙ ap (λ n. drop (length long - n) long) c.len-defaults.ensures ∙ behind.defaults.same ∙ h.defaults in
-    let are = subst (λ t. AreParts d mid (length mid) c.in_ok-parts.parts.items (parts e at 0 t)) (ap items_of c.as_slice.ensures ∙ items_of-list_of k.body) (c.in_ok-parts.ensures.parts e h) in
+    let are = subst (λ t. AreReadyParts d mid (length mid) c.in_ok-parts.parts.items (parts e at 0 t)) (ap items_of c.as_slice.ensures ∙ items_of-list_of k.body) (c.in_ok-parts.ensures.parts e h) in
     let stays : c.finished_component.new.walk.components.items ≡ mid = ap (λ (w : Walk). w.components.items) c.in_ok-finished.ensures.walk in
-    let pushed = c.in_ok-push.ensures.items ∙ ap (λ fs. fs ++ f ∷ []) stays in
-    finishes-made before c.args.walk.now.components.items mid c.push.new.self.items at k e xs f c.as_slice.ensures pushed (c.in_ok-parts.ensures.finishes e h)
-    (laid-out before d f (made_at e at k) (c.in_ok-finished.ensures.kept e (parts e at 0 k.body) (length mid) defaults are) (c.in_ok-finished.ensures.words e (parts e at 0 k.body) (length mid) defaults are) c.in_ok-finished.ensures.same c.in_ok-finished.ensures.stood c.in_ok-finished.ensures.taken)
+    let pushed = c.in_ok-push_finished.ensures.items ∙ ap (λ fs. fs ++ f ∷ []) stays in
+    finishes-made before c.args.walk.now.components.items mid c.push_finished.new.components.items at k e xs f c.as_slice.ensures pushed (c.in_ok-parts.ensures.finishes e h)
+    (laid-out before f (made_at e at k) (c.in_ok-finished.ensures.kept e (parts e at 0 k.body) (length mid) defaults are) c.in_ok-finished.ensures.held (c.in_ok-finished.ensures.words e (parts e at 0 k.body) (length mid) defaults are) c.in_ok-finished.ensures.same c.in_ok-finished.ensures.stood c.in_ok-finished.ensures.taken)

@@ -1,5 +1,4 @@
-use Rattle.std.proofs.Common.{◌≡◌, ◌<◌, ◌≤◌, ◌^◌, true, false, sym, ◌∙◌, arith}
-use Rattle.std.specs.Prelude.{not, nat_le}
+use Rattle.std.proofs.Common.{◌≤◌, ◌^◌, arith}
 use Rattle.std.proofs.Math.Pow.{pow_mono}
 use Rattle.rdl_kept.specs.Harmless.{bits_said}
 use Rattle.rdl_kept.proofs.Wider.{not-wider}

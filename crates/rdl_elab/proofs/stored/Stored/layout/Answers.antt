@@ -6,6 +6,7 @@ use Rattle.rdl_elab.specs.Kept.{Layouts, Stored}
 use Rattle.rdl_elab.specs.Entries.{layouts_at, slot_layouts}
 use Rattle.rdl_elab.specs.Stored.{all_under}
 use Rattle.rdl_elab.proofs.Storing.{layout-at}
+use Rattle.rdl_elab.proofs.StoredRuns.{held-under}
 use Rattle.rdl_elab.proofs.stored.Stored.layout.Goals as goal
 
 abbrev shown : Candidate → Layouts
@@ -17,7 +18,7 @@ returns-in-Some c =
     let m = c.args.mode in
     let entries = c.self.inside.entries in
     let keys = c.self.inside.keys.items in
-    let here = c.numbered.ensures ∙ ap (λ (ks : List ℕ). option_and_then (layouts_at entries) (slice_get ks n)) c.as_slice.ensures.value ∙ layout-at entries keys (all_under (slot_layouts entries) keys) n c.self.invariant.0 in
+    let here = c.numbered.ensures ∙ ap (λ (ks : List ℕ). option_and_then (layouts_at entries) (slice_get ks n)) c.as_slice.ensures.value ∙ layout-at entries keys (all_under (slot_layouts entries) keys) n (held-under entries keys c.self.invariant.0) in
     ap Some c.under.ensures ∙ ap (option_map (under m)) (sym (ap (option_map shown) c.in-Some.is) ∙ here)
     ∙ ap (λ (s : Stored). option_map (under m) (slice_get (all_under s.slots s.keys) n)) c.self.view_is
 
@@ -27,6 +28,6 @@ returns-in-None c =
     let m = c.args.mode in
     let entries = c.self.inside.entries in
     let keys = c.self.inside.keys.items in
-    let here = c.numbered.ensures ∙ ap (λ (ks : List ℕ). option_and_then (layouts_at entries) (slice_get ks n)) c.as_slice.ensures.value ∙ layout-at entries keys (all_under (slot_layouts entries) keys) n c.self.invariant.0 in
+    let here = c.numbered.ensures ∙ ap (λ (ks : List ℕ). option_and_then (layouts_at entries) (slice_get ks n)) c.as_slice.ensures.value ∙ layout-at entries keys (all_under (slot_layouts entries) keys) n (held-under entries keys c.self.invariant.0) in
     ap (option_map (under m)) (sym (ap (option_map shown) c.in-None.is) ∙ here)
     ∙ ap (λ (s : Stored). option_map (under m) (slice_get (all_under s.slots s.keys) n)) c.self.view_is

@@ -5,6 +5,7 @@ use Rattle.rdl_elab.specs.Anew.{AreFoundBut, instances_at}
 use Rattle.rdl_elab.specs.Faults.{fault_in}
 use Rattle.rdl_elab.specs.Faults.{elaborated, with_top}
 use Rattle.rdl_elab.specs.Stored.{all_under}
+use Rattle.rdl_elab.specs.Runs.{all_spelled}
 use Rattle.rdl_elab.specs.Words.{AreFoundAgain}
 use Rattle.rdl_elab.specs.Written.{all_layouts}
 use Rattle.rdl_kept.specs.Reach.{in_reach}
@@ -32,6 +33,7 @@ returns-in-Ok-clause-layouts c =
     let there = rows-there (with_top d top) (sym c.in_ok-answer.ensures.judged ∙ ap fault_in c.in-Ok.is) in
     record {
       layouts = subst (λ answer. OnOk answer (all_under new.slots new.keys ≡ all_layouts d)) c.in-Ok.is c.in_ok-answer.ensures.layouts;
+      spelled = subst (λ answer. OnOk answer (new.spelled ≡ all_spelled d)) c.in-Ok.is c.in_ok-answer.ensures.spelled;
       found = subst (λ answer. OnOk answer (AreFoundAgain d new.words)) c.in-Ok.is c.in_ok-answer.ensures.found;
       rows = there.0;
       faultless = ap (elaborated d) c.in_ok-wanted.ensures ∙ judged-top d (option_copied c.args.wanted) top c.requires.faultless c.requires.top ∙ there.1;

@@ -8,4 +8,4 @@ pub unreachable-requires : goal.unreachable-requires
 unreachable-requires c =
     let d = c.args.description.now.items in
     let top = option_copied c.args.top in
-    no-fault d top c.requires c.in-Err.field-0 (subst (λ answer. IfErr answer (λ fault. elaborated d top ≡ Err fault)) c.in-Err.is c.in_ok-_heads.ensures.refused)
+    no-fault d top c.requires.rows c.in-Err.field-0 (subst (λ answer. IfErr answer (λ fault. elaborated d top ≡ Err fault)) c.in-Err.is c.in_ok-heads.ensures.refused)

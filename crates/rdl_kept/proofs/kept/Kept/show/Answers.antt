@@ -1,6 +1,4 @@
-use Rattle.std.proofs.Common.{◌≡◌, ℕ, ◌≤◌, ◌*◌, Bool, List, Some, option_copied, ap, sym, subst, ◌∙◌}
-use Rattle.rdl_elab.specs.Faults.{elaborated, with_top}
-use Rattle.rdl_elab.proofs.KeptAnswers.{judged-top}
+use Rattle.std.proofs.Common.{option_copied}
 use Rattle.rdl_elab.proofs.TopTypes.{top-type}
 use Rattle.rdl_kept.proofs.kept.Kept.show.Goals as goal
 

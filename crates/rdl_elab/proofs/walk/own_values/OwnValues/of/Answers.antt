@@ -1,4 +1,4 @@
-use Rattle.std.proofs.Common.{◌≡◌, option_copied, ◌≤◌, ◌+◌, length, take, ap, sym, ◌∙◌, add-one, arith}
+use Rattle.std.proofs.Common.{option_copied, ◌≤◌, length, take, ap, sym, ◌∙◌, add-one, arith}
 use Rattle.std.specs.Prelude.{◌||◌}
 use Rattle.std.specs.List.{list_any}
 use Rattle.std.specs.Option.{option_or}
