@@ -106,3 +106,43 @@ fn an_edit_inside_one_definition_is_judged_where_it_reaches(rt: HostRuntime) -> 
     }
     Ok(())
 }
+
+/// Two blocks of twenty registers each, which are 80 bytes: neither is looked at where the other one is edited.
+const LARGE: &str = "reg T { field {} f[8] = 1; };
+addrmap A {
+    T a0; T a1; T a2; T a3; T a4; T a5; T a6; T a7; T a8; T a9;
+    T a10; T a11; T a12; T a13; T a14; T a15; T a16; T a17; T a18; T a19;
+};
+addrmap B {
+    T b0; T b1; T b2; T b3; T b4; T b5; T b6; T b7; T b8; T b9;
+    T b10; T b11; T b12; T b13; T b14; T b15; T b16; T b17; T b18; T b19;
+};
+addrmap top { A a; B b; };
+";
+
+/// Lines, and whether each is made: no block may begin in the other, and 256 needs nine bits.
+const PLACES: [(&str, bool); 13] = [
+    ("address /$top/b 0x50", true),
+    ("address /$top/b 0x4C", false),
+    ("add /$A last T more;", false),
+    ("address /$top/b 0x54", true),
+    ("add /$A last T more;", true),
+    ("address /$top/b 0x50", false),
+    ("undo", true),
+    ("address /$top/b 0x50", true),
+    ("resize /$B/b0 [2]", true),
+    ("assign /$top a.a3.f reset 256", false),
+    ("assign /$top a.a3.f reset 255", true),
+    ("resize /$T/f [4]", false),
+    ("undo", true),
+];
+
+#[test]
+fn what_is_kept_of_a_definition_is_judged_as_it_was(rt: HostRuntime) -> Result<(), Fail> {
+    let mut journal = opened(rt.alloc(), LARGE, 100)?;
+    for (line, made) in PLACES.iter() {
+        let is = is_made(rt.alloc(), &mut journal, line)?;
+        assert_holds(&rt, is == *made, line);
+    }
+    Ok(())
+}
