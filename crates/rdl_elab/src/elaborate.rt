@@ -317,20 +317,22 @@ pub fn checked_top<'a>(
 }
 
 /// The top of a description in which no item but the one at this address may have a fault, or the first fault of an item, or
-/// that there is no top.
+/// that there is no top. The size may be known.
 pub fn checked_top_but<'a>(
     alloc: Global,
     description: &'a Description,
     wanted: Option<&str>,
     item: &Address,
+    size: Option<Size>,
 ) -> Result<Top<'a>, Fault>
-    requires { NoOtherFault description.now.items item.now }
+    requires others { NoOtherFault description.now.items item.now }
+    requires size { IfSome size (IsSizeOf description.now.items) }
     ensures faultless { OnOk result (fault_of description.now.items ≡ None) }
     ensures nesting { OnOk result (depth description.now.items ≤ 16) }
     ensures top { IfOk result (λ top. top_from (option_copied wanted.entry) 0 description.now.items ≡ Some top) }
     ensures err { IfErr result (λ fault. (elaborated description.now.items (option_copied wanted.entry) ≡ Err fault) ⊎ (fault ≡ out_of_memory)) }
 {
-    check_item(alloc, description, item)?;
+    check_item(alloc, description, item, size)?;
     top_of(description, wanted)
 }
 

@@ -14,7 +14,7 @@ use Rattle.rdl_kept.specs.declared.roots.RootFacts.{RootFacts}
 use Rattle.rdl_scope.specs.Roots.{NoFaultOutside, IsSizeOf}
 use Rattle.rdl_kept.specs.Tracked.{Tracked, old_of, new_of}
 use Rattle.rdl_kept.specs.EditedBodies.{is_changed_at}
-use Rattle.rdl_kept.specs.Reach.{in_reach}
+use Rattle.rdl_kept.specs.Reach.{in_reach, IsInReach}
 
 -- ---- One item of the root.
 
@@ -84,3 +84,9 @@ abbrev pub ReachesEnough : Items → (changed reached : List Bool) → Type 0
 ReachesEnough d changed reached =
     (t : Tracked) → fault_of (old_of t) ≡ None → new_of t ≡ d → ChangesOnly changed t → (j : ℕ) (a : List ℕ) → in_reach (λ b. is_changed_at b t) d (j ∷ a) ≡ true
     → slice_get reached j ≡ Some true
+
+-- ---- What leads into some items of the root.
+
+-- each body in reach of bodies inside the changed items of the root is inside one that is reached
+abbrev pub ReachesWhatLeads : Items → (changed reached : List Bool) → Type 0
+ReachesWhatLeads d changed reached = (edited : List ℕ → Bool) → ((a : List ℕ) → edited a ≡ true → IsInside changed a) → (a : List ℕ) → IsInReach edited d a → IsInside reached a

@@ -242,9 +242,11 @@ impl Kept {
         description: &Description,
         top: Option<&str>,
         item: &Address,
+        size: Option<Size>,
         heads: &[KeptRoot],
     ) -> Result<Vec<KeptRoot>, Fault>
         requires others { NoOtherFault description.now.items item.now }
+        requires size { IfSome size (IsSizeOf description.now.items) }
         requires heads { AreKnownIn description.now.items self.old heads.now }
         ensures layouts { OnOk result (AreOf description.now.items self.new) }
         ensures top { OnOk result (self.new.top ≡ option_copied top.entry) }
@@ -256,7 +258,7 @@ impl Kept {
         ensures refused { IfErr result (λ fault. (elaborated description.now.items (option_copied top.entry) ≡ Err fault) ⊎ (fault ≡ out_of_memory)) }
         ensures err { OnErr result (self.new ≡ self.old) }
     {
-        let found = checked_top_but(alloc, description, top, item)?;
+        let found = checked_top_but(alloc, description, top, item, size)?;
         match self.follow(alloc, description, &found, top, Judgement::Needed, heads) {
             Ok(answer) => answer,
             Err(_) => Err(no_memory()),
@@ -343,17 +345,19 @@ impl Kept {
     }
 
     /// Keeps the layouts as they are for this description, which has the same skeleton, if it has rows. No item of it but the
-    /// one at this address may have a fault. Nothing changes if the map has one. What is known of the definitions of the
-    /// root is as in `relay_item`.
+    /// one at this address may have a fault. Nothing changes if the map has one. The size of the description may be known. What
+    /// is known of the definitions of the root is as in `relay_item`.
     pub fn stay_judged(
         &mut self,
         alloc: Global,
         description: &Description,
         item: &Address,
+        size: Option<Size>,
         heads: &[KeptRoot],
     ) -> Result<Vec<KeptRoot>, Fault>
         requires skeleton { HasSameSkeleton description.now.items self.old }
         requires others { NoOtherFault description.now.items item.now }
+        requires size { IfSome size (IsSizeOf description.now.items) }
         requires heads { AreKnownIn description.now.items self.old heads.now }
         ensures layouts { OnOk result (AreOf description.now.items self.new) }
         ensures top { OnOk result (self.new.top ≡ self.old.top) }
@@ -363,7 +367,7 @@ impl Kept {
         ensures err { OnErr result (self.new ≡ self.old) }
     {
         let top = self.asked();
-        let found = checked_top_but(alloc, description, top, item)?;
+        let found = checked_top_but(alloc, description, top, item, size)?;
         match fault_with_top(alloc, &self.stored, description, &found, heads) {
             Ok(Ok(heads)) => {
                 self.stored.stay();
@@ -381,9 +385,11 @@ impl Kept {
         alloc: Global,
         description: &Description,
         item: &Address,
+        size: Option<Size>,
     ) -> Result<(), Fault>
         requires skeleton { HasSameSkeleton description.now.items self.old }
         requires others { NoOtherFault description.now.items item.now }
+        requires size { IfSome size (IsSizeOf description.now.items) }
         requires rows { fault_of description.now.items ≡ None → HasRows description.now.items self.old.top }
         ensures layouts { OnOk result (AreOf description.now.items self.new) }
         ensures top { OnOk result (self.new.top ≡ self.old.top) }
@@ -392,7 +398,7 @@ impl Kept {
         ensures refused { IfErr result (λ fault. (elaborated description.now.items self.old.top ≡ Err fault) ⊎ (fault ≡ out_of_memory)) }
         ensures err { OnErr result (self.new ≡ self.old) }
     {
-        check_item(alloc, description, item)?;
+        check_item(alloc, description, item, size)?;
         self.stay(description);
         Ok(())
     }

@@ -8,7 +8,7 @@ ghost use Rattle.rdl_kept.specs.declared.roots.RootFacts.{RootFacts};
 ghost use Rattle.rdl_scope.specs.ByName.{value_under};
 ghost use Rattle.rdl_scope.specs.Types.{last_definition};
 ghost use Rattle.rdl_scope.specs.Walk.{is_definition};
-ghost use Rattle.rdl_kept.specs.RootFacts.{IsKnownRoot, AreFactsOf, is_declared, holds_definitions, AreReached, AreAsked, AsksEnough, ReachesEnough};
+ghost use Rattle.rdl_kept.specs.RootFacts.{IsKnownRoot, AreFactsOf, is_declared, holds_definitions, AreReached, AreAsked, AsksEnough, ReachesEnough, ReachesWhatLeads};
 ghost use Rattle.rdl_elab.specs.Runs.{unknown_root};
 ghost use Rattle.rdl_kept.specs.UnreachedHeads.{IsUnreached};
 
@@ -291,6 +291,7 @@ pub fn reach_of(
     requires { AreFactsOf description.now.items facts.now }
     ensures asked { IfOk result (λ answer. IfSome answer (λ reach. AsksEnough description.now.items changed.now reach.asked.items)) }
     ensures reached { IfOk result (λ answer. IfSome answer (λ reach. ReachesEnough description.now.items changed.now reach.reached.items)) }
+    ensures leading { IfOk result (λ answer. IfSome answer (λ reach. ReachesWhatLeads description.now.items changed.now reach.reached.items)) }
 {
     let body = &description.items;
     if facts.len() != body.len() || changed.len() != facts.len() || !holds_definitions(body) {

@@ -345,7 +345,7 @@ fn first_fault<'a>(
 }
 
 /// Whether nesting, items or weight are over the limits.
-pub(crate) fn is_too_large(description: &Description) -> bool
+fn is_too_large(description: &Description) -> bool
     ensures { result ≡ is_too_large description.now.items }
 {
     is_over(description, &body_size(&description.items))

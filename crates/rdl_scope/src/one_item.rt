@@ -1,5 +1,5 @@
 //! The fault of one item, where no other item can have one.
-ghost use Rattle.std.specs.Prelude.{◌≡◌, ◌∷◌, ℕ, true, false, ◌≤◌, ◌<◌, length, Option, Some, None, IfOk, IfErr, OnOk, ◌⊎◌, bytes_eq};
+ghost use Rattle.std.specs.Prelude.{◌≡◌, ◌∷◌, ℕ, true, false, ◌≤◌, ◌<◌, length, Option, Some, None, IfOk, IfErr, IfSome, OnOk, ◌⊎◌, bytes_eq};
 ghost use Rattle.std.specs.Option.{is_some};
 ghost use Rattle.std.specs.Cmp.Lexicographic.{pointwise};
 ghost use Rattle.rdl_tree.specs.Depth.{depth};
@@ -11,12 +11,14 @@ ghost use Rattle.rdl_scope.specs.Keys.{has_key, key_before};
 ghost use Rattle.rdl_scope.specs.ItemFaults.{reached_before, is_excluded, excluded_by, own_fault, item_fault, fault_of, out_of_memory, is_too_large};
 ghost use Rattle.rdl_scope.specs.Noted.{IsNewItem, IsNewAt};
 ghost use Rattle.rdl_scope.specs.OneItem.{fault_of_item, NoOtherFault};
+ghost use Rattle.rdl_scope.specs.Roots.{IsSizeOf};
 
 use crate::apart::begin_apart;
 use crate::assignments::{default_fault, dynamic_fault, own_fault, rivals};
-use crate::faults::{check, instance_kind, is_set, is_too_large, kind_at, names_kind};
+use crate::faults::{check, instance_kind, is_over, is_set, kind_at, names_kind};
 use crate::kinds::define_fault;
 use crate::shells::instance_fault;
+use crate::size::{Size, size_of};
 use crate::targets::instance_before;
 use crate::types::last_definition;
 use crate::values::{last_default, own_before};
@@ -183,26 +185,38 @@ fn fault_of_item(
 }
 
 /// Whether the description is within the limits, and the item at this address has no fault.
-fn is_clear(alloc: Global, description: &Description, at: &Address) -> Result<bool, AllocError>
-    requires { NoOtherFault description.now.items at.now }
+fn is_clear(
+    alloc: Global,
+    description: &Description,
+    at: &Address,
+    size: Option<Size>,
+) -> Result<bool, AllocError>
+    requires others { NoOtherFault description.now.items at.now }
+    requires size { IfSome size (IsSizeOf description.now.items) }
     ensures clear { IfOk result (λ clear. clear ≡ true → fault_of description.now.items ≡ None) }
     ensures levels { IfOk result (λ clear. clear ≡ true → depth description.now.items ≤ 16) }
 {
-    if is_too_large(description) {
+    if is_over(description, &size_of(description, size)) {
         return Ok(false);
     }
     Ok(fault_of_item(alloc, description, at, Novelty::Unknown)?.is_none())
 }
 
 /// Does the same as `check`, where no item but the one at this address can have a fault: that one is judged alone, and
-/// the others only if it has a fault.
-pub fn check_item(alloc: Global, description: &Description, at: &Address) -> Result<(), Fault>
-    requires { NoOtherFault description.now.items at.now }
+/// the others only if it has a fault. Where the size is known, no walk over all items is made for it.
+pub fn check_item(
+    alloc: Global,
+    description: &Description,
+    at: &Address,
+    size: Option<Size>,
+) -> Result<(), Fault>
+    requires others { NoOtherFault description.now.items at.now }
+    requires size { IfSome size (IsSizeOf description.now.items) }
     ensures ok { OnOk result (fault_of description.now.items ≡ None) }
     ensures levels { OnOk result (depth description.now.items ≤ 16) }
     ensures err { IfErr result (λ fault. (fault_of description.now.items ≡ Some fault) ⊎ (fault ≡ out_of_memory)) }
 {
-    match is_clear(alloc, description, at) {
+    match is_clear(alloc, description, at, size) {
         Ok(true) => Ok(()),
         Ok(false) => check(alloc, description),
         Err(_) => Err(Fault {

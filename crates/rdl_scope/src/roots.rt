@@ -10,7 +10,7 @@ ghost use Rattle.rdl_scope.specs.Roots.{AreClear, NoFaultOutside, IsSizeOf};
 
 use crate::faults::{check, inside_fault, is_over};
 use crate::names::Names;
-use crate::size::{Size, body_size};
+use crate::size::{Size, size_of};
 use crate::types::own_component;
 use rdl_tree::address::Address;
 use rdl_tree::description::{Description, Item};
@@ -84,17 +84,6 @@ fn are_clear(alloc: Global, description: &Description, asked: &[bool]) -> Result
         definitions.put_definition(item, i)?;
     }
     Ok(true)
-}
-
-/// The size of a description: this one, if it is known, and else found in one walk.
-fn size_of(description: &Description, known: Option<Size>) -> Size
-    requires { IfSome known (IsSizeOf description.now.items) }
-    ensures { IsSizeOf description.now.items result }
-{
-    match known {
-        Some(size) => size,
-        None => body_size(&description.items),
-    }
 }
 
 /// Whether the description is within the limits, and no item inside the items of the root that are asked has a fault.

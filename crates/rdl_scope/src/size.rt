@@ -1,5 +1,5 @@
 //! How large a body is at most, in one walk that reads no names of targets.
-ghost use Rattle.std.specs.Prelude.{◌≡◌, ◌≤◌, ◌+◌, length, sum_by};
+ghost use Rattle.std.specs.Prelude.{◌≡◌, ◌≤◌, ◌+◌, IfSome, length, sum_by};
 ghost use Rattle.rdl_tree.specs.Items.{no_items};
 ghost use Rattle.rdl_tree.specs.Weight.{capped};
 ghost use Rattle.rdl_tree.specs.ItemWeight.{item_weight};
@@ -8,7 +8,7 @@ ghost use Rattle.rdl_tree.specs.declared.description.Item.{Item};
 ghost use Rattle.rdl_scope.specs.Roots.{IsSizeOf};
 
 use rdl_text::name::Name;
-use rdl_tree::description::{Body, Item, Of};
+use rdl_tree::description::{Body, Description, Item, Of};
 use rdl_tree::target::Target;
 use rdl_tree::value::Value;
 
@@ -123,4 +123,15 @@ pub(crate) fn body_size(body: &Body) -> Size
         size = size.beside(item_size(item));
     }
     size
+}
+
+/// The size of a description: this one, if it is known, and else found in one walk.
+pub(crate) fn size_of(description: &Description, known: Option<Size>) -> Size
+    requires { IfSome known (IsSizeOf description.now.items) }
+    ensures { IsSizeOf description.now.items result }
+{
+    match known {
+        Some(size) => size,
+        None => body_size(&description.items),
+    }
 }
