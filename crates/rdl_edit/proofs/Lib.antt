@@ -21,3 +21,4 @@ pub mod WaysBack
 pub mod RootSteps
 pub mod KnownRoots
 pub mod KnownSteps
+pub mod LeadingRoots

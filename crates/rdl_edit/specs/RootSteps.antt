@@ -1,7 +1,8 @@
 -- Steps that change nothing but the bodies inside some items of the root.
 -- own: SystemRDL 2.0 has no edits.
-use Rattle.std.specs.Prelude.{◌≡◌, ◌≢◌, ℕ, Bool, true, false, List, [], ◌∷◌, Option, Some, None, IfSome, unwrap_or, slice_get}
+use Rattle.std.specs.Prelude.{◌≡◌, ◌≢◌, ℕ, Bool, true, false, List, [], ◌∷◌, Option, Some, None, Ok, IfSome, unwrap_or, slice_get}
 use Rattle.std.specs.Global.{Vec}
+use Rattle.rdl_tree.specs.Find.{find}
 use Rattle.rdl_tree.specs.Items.{Items}
 use Rattle.rdl_tree.specs.Patch.{image}
 use Rattle.rdl_tree.specs.declared.patch.Patch.{Patch}
@@ -13,6 +14,8 @@ use Rattle.rdl_kept.specs.declared.roots.RootFacts.{RootFacts}
 use Rattle.rdl_kept.specs.Tracked.{Tracked, old_of, new_of}
 use Rattle.rdl_elab.specs.declared.kept_root.KeptRoot.{KeptRoot}
 use Rattle.rdl_kept.specs.AllKept.{AreKnownIn, KeptLayouts, StandsStill}
+use Rattle.rdl_rewrite.specs.Rewritten.{path_of}
+use Rattle.rdl_rewrite.specs.declared.edit.Edit.{Edit}
 use Rattle.rdl_edit.specs.declared.roots.Asked.{Asked}
 use Rattle.rdl_edit.specs.declared.roots.Roots.{Roots}
 
@@ -73,3 +76,15 @@ pub record AreRootsOf (d : Items) (k : KeptLayouts) (roots : Roots) : Type 0 whe
 abbrev pub AreAnswered : Items → (old new : KeptLayouts) → Option (Vec KeptRoot) → Type 0
 AreAnswered d old new None = StandsStill old new
 AreAnswered d old new (Some heads) = AreKnownIn d new heads.items
+
+-- what is at an address stands inside this item of the root
+pub record StandsInside (root : ℕ) (at : List ℕ) : Type 0 where
+  pub next : ℕ
+  pub rest : List ℕ
+  pub is : at ≡ root ∷ next ∷ rest
+
+-- the path of an edit leads to what stands inside this item of the root
+pub record IsEditInside (d : Items) (e : Edit) (root : ℕ) : Type 0 where
+  pub way : List ℕ
+  pub leads : find (path_of e) d ≡ Ok way
+  pub stands : StandsInside root way

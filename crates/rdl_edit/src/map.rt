@@ -28,6 +28,7 @@ use journal_core::invertible::Invertible;
 use rdl_elab::row::Rows;
 use rdl_kept::kept::Kept;
 use rdl_rewrite::edit::Edit;
+use rdl_rewrite::known::Known;
 use rdl_rewrite::rewrite::patches_known;
 use rdl_text::name::Name;
 use rdl_tree::address::Address;
@@ -286,7 +287,13 @@ impl Invertible for Map {
     {
         let notes = foretold(&self.description, self.notes.take(), edit);
         let is_new = is_foretold(&self.description, edit, notes.as_ref());
-        let patches = patches_known(alloc, &self.description, edit, is_new)?;
+        let leading = self.roots.leading(alloc, &self.description, edit);
+        let known = Known {
+            is_new,
+            is_shallow: true,
+            leading: leading.as_slice(),
+        };
+        let patches = patches_known(alloc, &self.description, edit, known)?;
         let outlook = outlook_of(&self.description, notes, edit, patches.as_slice());
         let way = assigned_in(edit, patches.as_slice());
         let name = top_text(self.name.as_ref());

@@ -1,5 +1,5 @@
 //! What a map knows of the items of its root, so that a step inside some of them is judged by what it can change.
-ghost use Rattle.std.specs.Prelude.{◌≡◌, ◌≤◌, ◌++◌, ◌∷◌, [], ℕ, true, length, Option, None, Some, slice_get, option_copied, All, IfOk, IfSome, OnOk};
+ghost use Rattle.std.specs.Prelude.{◌≡◌, ◌≤◌, ◌<◌, ◌++◌, ◌∷◌, [], ℕ, true, length, Option, None, Some, slice_get, option_copied, All, IfOk, IfSome, OnOk};
 ghost use Rattle.std.specs.List.{list_all};
 ghost use Rattle.rdl_tree.specs.Address.{holder_of};
 ghost use Rattle.rdl_tree.specs.Items.{Items};
@@ -8,10 +8,11 @@ ghost use Rattle.rdl_scope.specs.ItemFaults.{fault_of};
 ghost use Rattle.rdl_scope.specs.Roots.{NoFaultOutside};
 ghost use Rattle.rdl_kept.specs.RootFacts.{AreFactsOf, IsKnownRoot};
 ghost use Rattle.rdl_kept.specs.declared.roots.RootFacts.{RootFacts as Facts};
-ghost use Rattle.rdl_edit.specs.RootSteps.{address_of, is_patch_inside, IsKnownBeside, AreKnownBeside, AreAskedOf};
+ghost use Rattle.rdl_edit.specs.RootSteps.{address_of, is_patch_inside, IsKnownBeside, AreKnownBeside, AreAskedOf, IsEditInside, StandsInside};
 
 use rdl_elab::kept_root::KeptRoot;
 use rdl_kept::roots::{RootFacts, facts_of, forget_reached, reach_of, size_of};
+use rdl_rewrite::edit::Edit;
 use rdl_scope::size::Size;
 use rdl_tree::address::Address;
 use rdl_tree::description::Description;
@@ -168,6 +169,50 @@ fn all_beside(
     Ok(known)
 }
 
+/// The item of the root inside which stands what is at this address, if it stands inside one.
+fn root_around(at: &Address) -> Option<usize>
+    ensures { IfSome result (λ root. StandsInside root at.now) }
+{
+    match at.as_slice() {
+        [] | [_] => None,
+        [root, _, ..] => Some(*root),
+    }
+}
+
+/// The item of the root inside which the edit removes or renames an item, if it does that.
+fn root_of(description: &Description, edit: &Edit) -> Option<usize>
+    ensures { IfSome result (IsEditInside description.now.items edit.now) }
+{
+    if !matches!(edit, Edit::Remove(_) | Edit::Rename(_, _)) {
+        return None;
+    }
+    let way = description.find(edit.path()).ok()?;
+    root_around(&way)
+}
+
+/// Marks of so many items of the root, of which this one alone is set. None where there is no such item, or memory is wanted.
+fn one_mark(alloc: Global, count: usize, root: usize) -> Option<Vec<bool>>
+    ensures { IfSome result (λ marks. slice_get marks.items root ≡ Some true) }
+{
+    let mut one = marks(alloc, count).ok()?;
+    *one.get_mut(root)? = true;
+    Some(one)
+}
+
+/// What is known of all items of the root, those asked of which nothing was known.
+fn all_known(
+    alloc: Global,
+    description: &Description,
+    facts: &mut Vec<Option<RootFacts>>,
+) -> Result<Vec<Option<RootFacts>>, AllocError>
+    requires { AreFactsOf description.now.items facts.old.items }
+    ensures { IfOk result (λ known. AreFactsOf description.now.items known.items) }
+{
+    let none = marks(alloc, description.items.len())?;
+    let known = all_beside(alloc, description, facts, none.as_slice(), true)?;
+    Ok(known)
+}
+
 /// What has to be judged where no item has a fault but those inside these items of the root, if that is wanted.
 fn asked_in(
     description: &Description,
@@ -188,12 +233,15 @@ fn asked_in(
 }
 
 impl Roots {
-    ghost use Rattle.std.specs.Prelude.{◌≡◌, [], None, IfSome, option_copied};
+    ghost use Rattle.std.specs.Prelude.{◌≡◌, ℕ, List, [], None, Ok, IfSome, option_copied};
     ghost use Rattle.rdl_tree.specs.Items.{Items};
     ghost use Rattle.rdl_tree.specs.Patch.{image};
     ghost use Rattle.rdl_scope.specs.ItemFaults.{fault_of};
     ghost use Rattle.rdl_kept.specs.AllKept.{KeptLayouts};
     ghost use Rattle.rdl_kept.specs.RootFacts.{AreFactsOf};
+    ghost use Rattle.rdl_tree.specs.Find.{find};
+    ghost use Rattle.rdl_rewrite.specs.Known.{AreLeading};
+    ghost use Rattle.rdl_rewrite.specs.Rewritten.{path_of};
     ghost use Rattle.rdl_edit.specs.RootSteps.{AreAnswered, IsStepInside, IsBehindStep, AreAskedOf, AreRootsOf};
 
     /// Nothing is known.
@@ -204,6 +252,52 @@ impl Roots {
         Roots {
             facts: Vec::new(alloc),
             heads: Vec::new(alloc),
+        }
+    }
+
+    /// Asks for what the items of the root say of which nothing is known. Where memory is wanted, nothing is known.
+    fn know_all(&mut self, alloc: Global, description: &Description)
+        requires { AreFactsOf description.now.items self.old.facts.items }
+        ensures facts { AreFactsOf description.now.items self.new.facts.items }
+        ensures heads { self.new.heads ≡ self.old.heads }
+    {
+        match all_known(alloc, description, &mut self.facts) {
+            Ok(known) => self.facts = known,
+            Err(_) => self.facts.clear(),
+        }
+    }
+
+    /// Which items of the root may be the one that the edit removes or renames, or lead to it, if that is known. What they say is
+    /// asked for where it helps.
+    pub(crate) fn leading(
+        &mut self,
+        alloc: Global,
+        description: &Description,
+        edit: &Edit,
+    ) -> Vec<bool>
+        requires { AreFactsOf description.now.items self.old.facts.items }
+        ensures roots { (k : KeptLayouts) → AreRootsOf description.now.items k self.old → AreRootsOf description.now.items k self.new }
+        ensures leading { (way : List ℕ) → find (path_of edit.now) description.now.items ≡ Ok way → AreLeading description.now.items way result.items }
+    {
+        let Some(root) = root_of(description, edit) else {
+            return Vec::new(alloc);
+        };
+        let count = description.items.len();
+        if count > MAX_ROOTS {
+            return Vec::new(alloc);
+        }
+        self.know_all(alloc, description);
+        let Some(changed) = one_mark(alloc, count, root) else {
+            return Vec::new(alloc);
+        };
+        match reach_of(
+            alloc,
+            description,
+            self.facts.as_slice(),
+            changed.as_slice(),
+        ) {
+            Ok(Some(reach)) => reach.reached,
+            Ok(None) | Err(_) => Vec::new(alloc),
         }
     }
 

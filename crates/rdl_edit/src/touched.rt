@@ -38,9 +38,9 @@ pub(crate) enum Touched {
 }
 
 impl Touched {
-    /// Whether any item may have a fault.
-    pub(crate) fn is_anywhere(&self) -> bool {
-        matches!(self, Touched::Any | Touched::Renamed)
+    /// Whether it helps to know the size of the description behind the step.
+    pub(crate) fn needs_size(&self) -> bool {
+        !matches!(self, Touched::Light(_))
     }
 }
 

@@ -3,6 +3,7 @@ ghost use Rattle.std.specs.Prelude.{◌≡◌, ◌⊎◌, ◌≤◌, ◌*◌, �
 ghost use Rattle.rdl_tree.specs.Items.{Items};
 ghost use Rattle.rdl_scope.specs.ItemFaults.{fault_of, out_of_memory};
 ghost use Rattle.rdl_scope.specs.OneItem.{NoOtherFault};
+ghost use Rattle.rdl_scope.specs.Roots.{IsSizeOf};
 ghost use Rattle.rdl_edit.specs.RootSteps.{AreAnswered, AreAskedOf, AreRootsOf};
 ghost use Rattle.rdl_kept.specs.AllKept.{AreKnownIn, AreOf, StandsStill};
 ghost use Rattle.rdl_elab.specs.Anew.{all_instances};
@@ -28,6 +29,7 @@ use crate::touched::{Touched, keeps_skeleton, touched_with};
 use rdl_elab::kept_root::KeptRoot;
 use rdl_kept::kept::Kept;
 use rdl_scope::one_item::check_new_item;
+use rdl_scope::size::Size;
 use rdl_tree::address::Address;
 use rdl_tree::description::Description;
 use rdl_tree::fault::Fault;
@@ -127,6 +129,13 @@ fn stay_renamed(
     }
 }
 
+/// The size of a description of which this is asked, if it is known.
+fn known_size(asked: Option<&Asked>) -> Option<Size>
+    ensures { (d : Items) → IfSome (option_copied asked.entry) (AreAskedOf d) → IfSome result (IsSizeOf d) }
+{
+    asked?.size
+}
+
 /// Lays out a description behind a step of which this is known, and judges no more than that leaves open: where any item may
 /// have a fault, those inside the items of the root that are asked, if these are known. What is known of definitions of the root
 /// that are clean spares work, and the answer is what is known of them now, if more is. Nothing changes if the map has a fault.
@@ -157,16 +166,20 @@ pub(crate) fn lay_out(
             Ok(heads) => Ok(Some(heads)),
             Err(fault) => Err(fault),
         },
-        Touched::One(item) => match kept.relay_item(alloc, description, name, item, heads) {
-            Ok(heads) => Ok(Some(heads)),
-            Err(fault) => Err(fault),
-        },
-        Touched::Still(item) => match kept.stay_judged(alloc, description, item, heads) {
-            Ok(heads) => Ok(Some(heads)),
-            Err(fault) => Err(fault),
-        },
+        Touched::One(item) => {
+            match kept.relay_item(alloc, description, name, item, known_size(asked), heads) {
+                Ok(heads) => Ok(Some(heads)),
+                Err(fault) => Err(fault),
+            }
+        }
+        Touched::Still(item) => {
+            match kept.stay_judged(alloc, description, item, known_size(asked), heads) {
+                Ok(heads) => Ok(Some(heads)),
+                Err(fault) => Err(fault),
+            }
+        }
         Touched::Harmless(item) => {
-            kept.stay_checked(alloc, description, item)?;
+            kept.stay_checked(alloc, description, item, known_size(asked))?;
             Ok(None)
         }
         Touched::Light(item) => {
@@ -237,7 +250,7 @@ pub(crate) fn turn(
     ensures roots { AreRootsOf description.new.items kept.new roots.new }
 {
     let touched = touched_with(alloc, description, patches.as_slice(), outlook);
-    let wanted = touched.is_anywhere();
+    let wanted = touched.needs_size();
     let changed = roots.leave(alloc, description, patches.as_slice(), wanted);
     let Ok(mut turned) = description.turn(alloc, patches) else {
         return Err(Refusal::Memory);

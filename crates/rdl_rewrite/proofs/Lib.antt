@@ -1,3 +1,4 @@
+pub mod Apart
 pub mod Assignments
 pub mod Deep
 pub mod Defined

@@ -5,6 +5,7 @@ pub mod Change
 pub mod Dynamics
 pub mod Fates
 pub mod Firsts
+pub mod Known
 pub mod Led
 pub mod Names
 pub mod NewAssignment

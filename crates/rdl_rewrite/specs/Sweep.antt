@@ -4,6 +4,7 @@ use Rattle.std.specs.Prelude.{◌≡◌, option_copied}
 use Rattle.rdl_tree.specs.ItemAt.{item_at}
 use Rattle.rdl_tree.specs.Address.{holder_of}
 use Rattle.rdl_scope.specs.Types.{items_in}
+use Rattle.rdl_rewrite.specs.Known.{AreLeading}
 use Rattle.rdl_rewrite.specs.declared.sweep.Sweep.{Sweep}
 
 pub record Knows (r : Sweep) : Type 0 where
@@ -11,3 +12,4 @@ pub record Knows (r : Sweep) : Type 0 where
   pub place : r.place ≡ holder_of r.way.now
   pub holder : option_copied r.holder ≡ item_at (holder_of r.way.now) r.whole.now.items
   pub siblings : r.siblings ≡ items_in (holder_of r.way.now) r.whole.now.items
+  pub leading : AreLeading r.whole.now.items r.way.now r.leading.now

@@ -7,6 +7,7 @@ ghost use Rattle.rdl_tree.specs.View.{add};
 ghost use Rattle.rdl_tree.specs.Address.{body_at, holder_of, number_of};
 ghost use Rattle.rdl_tree.specs.Depth.{depth};
 ghost use Rattle.rdl_scope.specs.Types.{type_of};
+ghost use Rattle.rdl_rewrite.specs.Known.{AreLeading};
 ghost use Rattle.rdl_rewrite.specs.Addresses.{leads_to, addresses};
 ghost use Rattle.rdl_rewrite.specs.Led.{IsLed};
 ghost use Rattle.rdl_rewrite.specs.Firsts.{AreFirsts, is_dynamic};
@@ -19,9 +20,10 @@ ghost use Rattle.rdl_rewrite.specs.declared.edit.PatchRefusal.{PatchRefusal};
 use crate::edit::PatchRefusal;
 use crate::fate::Fate;
 use crate::firsts::Firsts;
+use crate::known::Known;
 use crate::leads::{leads_to, led_behind};
 use crate::passed::passed;
-use crate::sweep::Sweep;
+use crate::sweep::{Sweep, is_too_deep};
 use rdl_tree::address::Address;
 use rdl_tree::description::{Body, Description, Item};
 use rdl_tree::patch::Patch;
@@ -131,17 +133,20 @@ pub fn remove<'a>(
     alloc: Global,
     whole: &'a Description,
     way: &'a Address,
+    known: Known<'a>,
 ) -> Result<Vec<Patch>, PatchRefusal>
+    requires shallow { known.is_shallow ≡ true → depth whole.now.items ≤ 16 }
+    requires leading { AreLeading whole.now.items way.now known.leading.now }
     ensures which { IfOk result (λ ps. ps.items ≡ fate_patches (fate whole.now.items way.now None) [] 0 whole.now.items) }
     ensures accepted { IfOk result (λ _. is_ok (removed whole.now.items way.now) ≡ true) }
     ensures level { IfOk result (λ _. depth whole.now.items ≤ 16) }
     ensures too_deep { IsErrOf result PatchRefusal.TooDeep → 16 < depth whole.now.items }
     ensures refused { IfErr result (λ refusal. RefusesEdit whole.now.items (removed whole.now.items way.now) refusal) }
 {
-    if whole.depth() > 16 {
+    if is_too_deep(whole, known.is_shallow) {
         return Err(PatchRefusal::TooDeep);
     }
-    let sweep = Sweep::new(whole, way, None);
+    let sweep = Sweep::new(whole, way, None, known.leading);
     if is_in_use(&sweep) {
         return Err(PatchRefusal::InUse);
     }

@@ -1,10 +1,12 @@
 //! The patches that make an edit.
 ghost use Rattle.std.specs.Prelude.{◌≡◌, ◌<◌, ◌≤◌, Ok, IfOk, IfErr, IsErrOf, true, is_ok, length};
 ghost use Rattle.rdl_tree.specs.Address.{body_at};
+ghost use Rattle.rdl_tree.specs.Depth.{depth};
 ghost use Rattle.rdl_tree.specs.Weight.{capped};
 ghost use Rattle.rdl_tree.specs.Patch.{image, AllFit};
 ghost use Rattle.rdl_rewrite.specs.Change.{edited_body};
-ghost use Rattle.rdl_rewrite.specs.NewAssignment.{IsNew, IsNewOn};
+ghost use Rattle.rdl_rewrite.specs.Known.{AreLeading, IsKnown, IsKnownOn};
+ghost use Rattle.rdl_rewrite.specs.NewAssignment.{IsNewOn};
 ghost use Rattle.rdl_rewrite.specs.Patches.{patches, patches_on, item_edit_patches, patches_in, level, level_on, item_edit_level, level_in};
 ghost use Rattle.rdl_rewrite.specs.Rewritten.{at_body, of_item, by_way, rewritten};
 ghost use Rattle.rdl_rewrite.specs.Refuses.{RefusesEdit};
@@ -12,6 +14,7 @@ ghost use Rattle.rdl_rewrite.specs.declared.edit.PatchRefusal.{PatchRefusal};
 
 use crate::body::body_patches;
 use crate::edit::{Edit, PatchRefusal};
+use crate::known::Known;
 use crate::removal::remove;
 use crate::renaming::rename;
 use rdl_tree::address::Address;
@@ -34,18 +37,19 @@ pub fn patches(
     ensures too_deep { IsErrOf result PatchRefusal.TooDeep → 16 < level description.now.items edit.now }
     ensures refused { IfErr result (λ refusal. RefusesEdit description.now.items (rewritten description.now.items edit.now) refusal) }
 {
-    patches_known(alloc, description, edit, false)
+    patches_known(alloc, description, edit, Known::nothing())
 }
 
-/// The same patches, or the same refusal. It may be known that the edit assigns what no item of its body assigns: the body
-/// isn't searched then.
+/// The same patches, or the same refusal. By what is known less of the description is looked at: not the body, where an
+/// assignment is new there, and of the items of the root, for what follows an item that is removed or renamed, only those
+/// that may lead to it.
 pub fn patches_known(
     alloc: Global,
     description: &Description,
     edit: &Edit,
-    is_new: bool,
+    known: Known,
 ) -> Result<Vec<Patch>, PatchRefusal>
-    requires { is_new ≡ true → IsNew description.now.items edit.now }
+    requires { IsKnown description.now.items edit.now known }
     ensures made { IfOk result (λ ps. rewritten description.now.items edit.now ≡ Ok (image ps.items description.now.items)) }
     ensures fit { IfOk result (λ ps. AllFit ps.items description.now.items) }
     ensures which { IfOk result (λ ps. ps.items ≡ patches description.now.items edit.now) }
@@ -54,7 +58,7 @@ pub fn patches_known(
     ensures refused { IfErr result (λ refusal. RefusesEdit description.now.items (rewritten description.now.items edit.now) refusal) }
 {
     let way = description.find(edit.path())?;
-    patches_on(alloc, description, &way, edit, is_new)
+    patches_on(alloc, description, &way, edit, known)
 }
 
 /// The patches, where the edit's path leads to this address.
@@ -63,9 +67,9 @@ fn patches_on(
     whole: &Description,
     way: &Address,
     edit: &Edit,
-    is_new: bool,
+    known: Known,
 ) -> Result<Vec<Patch>, PatchRefusal>
-    requires { is_new ≡ true → IsNewOn way.now whole.now.items edit.now }
+    requires { IsKnownOn whole.now.items way.now edit.now known }
     ensures which { IfOk result (λ ps. ps.items ≡ patches_on (Ok way.now) whole.now.items edit.now) }
     ensures accepted { IfOk result (λ _. is_ok (by_way (Ok way.now) whole.now.items edit.now) ≡ true) }
     ensures level { IfOk result (λ _. level_on (Ok way.now) whole.now.items edit.now ≤ 16) }
@@ -73,12 +77,12 @@ fn patches_on(
     ensures refused { IfErr result (λ refusal. RefusesEdit whole.now.items (by_way (Ok way.now) whole.now.items edit.now) refusal) }
 {
     if !edit.is_of_item() {
-        return patches_in(alloc, whole, way, 0, edit, is_new);
+        return patches_in(alloc, whole, way, 0, edit, known.is_new);
     }
     if way.is_empty() {
         return Err(PatchRefusal::NotAnInstance);
     }
-    item_edit_patches(alloc, whole, way, edit)
+    item_edit_patches(alloc, whole, way, edit, known)
 }
 
 /// The patches of an edit of the item at the address.
@@ -87,8 +91,11 @@ fn item_edit_patches(
     whole: &Description,
     way: &Address,
     edit: &Edit,
+    known: Known,
 ) -> Result<Vec<Patch>, PatchRefusal>
     requires item { 0 < length way.now }
+    requires shallow { known.is_shallow ≡ true → depth whole.now.items ≤ 16 }
+    requires leading { AreLeading whole.now.items way.now known.leading.now }
     ensures which { IfOk result (λ ps. ps.items ≡ item_edit_patches whole.now.items way.now edit.now) }
     ensures accepted { IfOk result (λ _. is_ok (of_item way.now whole.now.items edit.now) ≡ true) }
     ensures level { IfOk result (λ _. item_edit_level whole.now.items way.now edit.now ≤ 16) }
@@ -96,8 +103,8 @@ fn item_edit_patches(
     ensures refused { IfErr result (λ refusal. RefusesEdit whole.now.items (of_item way.now whole.now.items edit.now) refusal) }
 {
     match edit {
-        Edit::Remove(_) => remove(alloc, whole, way),
-        Edit::Rename(_, name) => rename(alloc, whole, way, name),
+        Edit::Remove(_) => remove(alloc, whole, way, known),
+        Edit::Rename(_, name) => rename(alloc, whole, way, name, known),
         _ => patches_in(alloc, whole, &way.holder(), way.number(), edit, false),
     }
 }

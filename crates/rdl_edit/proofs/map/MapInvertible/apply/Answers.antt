@@ -1,5 +1,6 @@
-use Rattle.std.proofs.Common.{◌≡◌, inr, None, Ok, sym, ap, ◌∙◌, subst, rules}
+use Rattle.std.proofs.Common.{◌≡◌, inr, None, Ok, IfSome, sym, ap, ◌∙◌, subst, rules}
 use Rattle.rdl_edit.specs.Backs.{Fits}
+use Rattle.rdl_edit.specs.Noting.{AreNotes}
 use Rattle.rdl_edit.specs.Step.{State, HasRows}
 use Rattle.rdl_tree.specs.Patch.{AllFit, image, inverses}
 use Rattle.rdl_scope.specs.ItemFaults.{fault_of}
@@ -74,3 +75,10 @@ returns-clause-own c =
     let rows : HasRows old = subst HasRows same (has-rows (record { description = c.self.inside.description.items; option = c.self.inside.name }) c.self.inside.kept c.self.invariant.keeps) in
     let inverse : c.new.result.patches ≡ inverses (patches old.description c.args.edit.now) old.description = search rules in
     inr (record { edit = c.args.edit.now; old = old; has_rows = rows; led = search rules; are = inverse })
+
+pub turn-requires-clause-roots : goal.turn-requires-clause-roots
+turn-requires-clause-roots c = c.leading-leading.ensures.roots c.self.inside.kept c.self.invariant.known
+
+pub invariant_of-self : goal.invariant_of-self
+invariant_of-self c =
+    record { keeps = c.self.invariant.keeps; notes = subst (λ o. IfSome o (AreNotes c.self.inside.description.items)) (sym c.take.ensures.after) tt; known = c.leading-leading.ensures.roots c.self.inside.kept c.self.invariant.known }
