@@ -1,18 +1,18 @@
--- The names around a row, and the text of them with two underscores behind each.
-use Rattle.std.proofs.Common.{◌≡◌, ◌<◌, ◌+◌, ℕ, List, [], ◌∷◌, ◌++◌, length, get_or, map, take, ap, sym, ◌∙◌, append_assoc, append-nil, codes, arith}
+-- The names around a row, and the text of them with the same end behind each.
+use Rattle.std.proofs.Common.{◌≡◌, ◌<◌, ◌+◌, ℕ, List, [], ◌∷◌, ◌++◌, length, get_or, map, take, ap, sym, ◌∙◌, append_assoc, append-nil, arith}
 use Rattle.std.proofs.lemmas.List.{take_more, get_or-map, length-map, map_push}
 use Rattle.std.proofs.lemmas.List.Concat.{flat_map-append}
 use Rattle.std.specs.List.{flat_map}
 
 -- the text of one name more
-pub joined_more : (text joined name : List ℕ) (more names : List (List ℕ)) → text ≡ joined ++ name ++ codes "__" → joined ≡ flat_map (λ n. n ++ codes "__") names → more ≡ names ++ name ∷ [] → text ≡ flat_map (λ n. n ++ codes "__") more
-joined_more text joined name more names is before all =
+pub text_more : (end text before name : List ℕ) (more names : List (List ℕ)) → text ≡ before ++ name ++ end → before ≡ flat_map (λ n. n ++ end) names → more ≡ names ++ name ∷ [] → text ≡ flat_map (λ n. n ++ end) more
+text_more end text before name more names is was all =
     is
-    ∙ append_assoc joined name (codes "__")
-    ∙ ap (λ t. t ++ (name ++ codes "__")) before
-    ∙ ap (λ t. flat_map (λ n. n ++ codes "__") names ++ t) (sym (append-nil (name ++ codes "__")))
-    ∙ sym (flat_map-append (λ n. n ++ codes "__") names (name ∷ []))
-    ∙ ap (flat_map (λ n. n ++ codes "__")) (sym all)
+    ∙ append_assoc before name end
+    ∙ ap (λ t. t ++ (name ++ end)) was
+    ∙ ap (λ t. flat_map (λ n. n ++ end) names ++ t) (sym (append-nil (name ++ end)))
+    ∙ sym (flat_map-append (λ n. n ++ end) names (name ∷ []))
+    ∙ ap (flat_map (λ n. n ++ end)) (sym all)
 
 -- one name more that is shared
 pub shared_more : {A : Type 0} (name_of : A → List ℕ) (more names : List A) (copy item : A) (i : ℕ) → i < length names → item ≡ get_or names i item → name_of copy ≡ name_of item → map name_of more ≡ take i (map name_of names)

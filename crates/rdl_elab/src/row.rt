@@ -19,7 +19,10 @@ use std::rc::Rc;
 #[derive(Debug, Drop)]
 pub struct NamesAround {
     names: Vec<Rc<Name>>,
+    /// With two underscores behind each.
     joined: String,
+    /// With a dot behind each.
+    dotted: String,
 }
 
 impl Model for NamesAround {
@@ -30,7 +33,7 @@ impl Model for NamesAround {
 
     ghost view = { λ around. map (λ name. name.value) around.names.items };
 
-    ghost invariant = { λ around. string_bytes around.joined ≡ flat_map (λ name. name ++ codes "__") (map (λ name. name.value) around.names.items) };
+    ghost invariant = { λ around. (string_bytes around.joined ≡ flat_map (λ name. name ++ codes "__") (map (λ name. name.value) around.names.items)) × (string_bytes around.dotted ≡ flat_map (λ name. name ++ codes ".") (map (λ name. name.value) around.names.items)) };
 }
 
 impl NamesAround {
@@ -44,17 +47,19 @@ impl NamesAround {
         NamesAround {
             names: Vec::new(alloc),
             joined: String::new(alloc),
+            dotted: String::new(alloc),
         }
     }
 
     /// Of what stands in the component of this name.
-    #[tactic(auto, using(crate::proofs::NamesAround::joined_more))]
+    #[tactic(auto, using(crate::proofs::NamesAround::text_more))]
     pub fn inside(&self, alloc: Global, name: &Name) -> Result<NamesAround, AllocError>
         ensures { IfOk result (λ around. around ≡ self.now ++ name.now ∷ []) }
     {
         Ok(NamesAround {
             names: longer(alloc, self.names.as_slice(), name)?,
-            joined: joined_with(alloc, self.joined.as_str(), name)?,
+            joined: text_with(alloc, self.joined.as_str(), name, "__")?,
+            dotted: text_with(alloc, self.dotted.as_str(), name, ".")?,
         })
     }
 
@@ -69,6 +74,13 @@ impl NamesAround {
         ensures { result.now ≡ flat_map (λ name. name ++ codes "__") self.now }
     {
         self.joined.as_str()
+    }
+
+    /// The names with a dot behind each.
+    pub fn dotted(&self) -> &str
+        ensures { result.now ≡ flat_map (λ name. name ++ codes ".") self.now }
+    {
+        self.dotted.as_str()
     }
 }
 
@@ -90,16 +102,19 @@ fn longer(alloc: Global, names: &[Rc<Name>], name: &Name) -> Result<Vec<Rc<Name>
     Ok(more)
 }
 
-/// The text with a name and two underscores behind it.
-fn joined_with(alloc: Global, joined: &str, name: &Name) -> Result<String, AllocError>
-    ensures { IfOk result (λ text. string_bytes text ≡ joined.now ++ name.now ++ codes "__") }
+/// The text with a name behind it, and this end behind that.
+fn text_with(alloc: Global, text: &str, name: &Name, end: &str) -> Result<String, AllocError>
+    ensures { IfOk result (λ longer. string_bytes longer ≡ text.now ++ name.now ++ end.now) }
 {
-    let room = joined.len().saturating_add(name.len()).saturating_add(2);
-    let mut text = String::with_capacity(alloc, room)?;
-    text.push_str(joined)?;
-    text.push_str(name.as_str())?;
-    text.push_str("__")?;
-    Ok(text)
+    let room = text
+        .len()
+        .saturating_add(name.len())
+        .saturating_add(end.len());
+    let mut longer = String::with_capacity(alloc, room)?;
+    longer.push_str(text)?;
+    longer.push_str(name.as_str())?;
+    longer.push_str(end)?;
+    Ok(longer)
 }
 
 /// The names that lead to a row, from the top down. That of a register stands apart from those around it, so that the

@@ -25,18 +25,25 @@ dots_behind name_of [] = refl
 dots_behind name_of (x ∷ xs) = ap (λ t. (name_of x ++ codes ".") ++ t) (dots_behind name_of xs)
 
 -- the text with the names around the register, then with the register, and then with the last
-pub path-pushed : {A : Type 0} (name_of : A → List ℕ) (old first second new : List ℕ) (around : List A) (register : List (List ℕ)) (last : List ℕ) (i : ℕ) → length around ≤ i → first ≡ old ++ flat_map (λ n. name_of n ++ codes ".") (take i around)
-    → second ≡ first ++ flat_map (λ n. n ++ codes ".") register → new ≡ second ++ last → new ≡ old ++ path_text ((map name_of around ++ register) ++ last ∷ [])
-path-pushed name_of old first second new around register last i all f g h =
+pub path_whole : (old first second new : List ℕ) (around register : List (List ℕ)) (last : List ℕ) → first ≡ old ++ flat_map (λ n. n ++ codes ".") around → second ≡ first ++ flat_map (λ n. n ++ codes ".") register
+    → new ≡ second ++ last → new ≡ old ++ path_text ((around ++ register) ++ last ∷ [])
+path_whole old first second new around register last f g h =
     let of = flat_map (λ n. n ++ codes ".") in
     h
     ∙ ap (λ t. t ++ last)
     (g
-    ∙ ap (λ t. t ++ of register) (f ∙ ap (λ ns. old ++ flat_map (λ n. name_of n ++ codes ".") ns) (take_all i around all) ∙ ap (λ t. old ++ t) (dots_behind name_of around))
-    ∙ append_assoc old (of (map name_of around)) (of register)
-    ∙ ap (λ t. old ++ t) (sym (flat_map-append (λ n. n ++ codes ".") (map name_of around) register)))
-    ∙ append_assoc old (of (map name_of around ++ register)) last
-    ∙ ap (λ t. old ++ t) (sym (ends (map name_of around ++ register) last))
+    ∙ ap (λ t. t ++ of register) f
+    ∙ append_assoc old (of around) (of register)
+    ∙ ap (λ t. old ++ t) (sym (flat_map-append (λ n. n ++ codes ".") around register)))
+    ∙ append_assoc old (of (around ++ register)) last
+    ∙ ap (λ t. old ++ t) (sym (ends (around ++ register) last))
+
+-- the same of names that something has, of which so many are put
+pub path-pushed : {A : Type 0} (name_of : A → List ℕ) (old first second new : List ℕ) (around : List A) (register : List (List ℕ)) (last : List ℕ) (i : ℕ) → length around ≤ i → first ≡ old ++ flat_map (λ n. name_of n ++ codes ".") (take i around)
+    → second ≡ first ++ flat_map (λ n. n ++ codes ".") register → new ≡ second ++ last → new ≡ old ++ path_text ((map name_of around ++ register) ++ last ∷ [])
+path-pushed name_of old first second new around register last i all f g h =
+    path_whole old first second new (map name_of around) register last
+    (f ∙ ap (λ ns. old ++ flat_map (λ n. name_of n ++ codes ".") ns) (take_all i around all) ∙ ap (λ t. old ++ t) (dots_behind name_of around)) g h
 
 -- without so many of the first names, which all stand before the others
 dropped : {A : Type 0} (name_of : A → List ℕ) (around : List A) (register : List (List ℕ)) (last : List ℕ) (n : ℕ) → n ≤ length around → (map name_of (drop n around) ++ register) ++ last ∷ [] ≡ drop n ((map name_of around ++ register) ++ last ∷ [])

@@ -2,15 +2,16 @@
 ghost use Rattle.std.specs.Prelude.{◌≡◌, ◌<◌, ◌++◌, ◌∷◌, [], codes, drop, map, option_copied, string_bytes, OnOk};
 ghost use Rattle.std.specs.List.{flat_map};
 ghost use Rattle.std.specs.Option.{option_to_list};
-ghost use Rattle.rdl_list.specs.ListText.{path_text, part_text, stride_text, reset_text, head_text, extent_text, bytes_line, span_text, bits_line, line_of};
+ghost use Rattle.rdl_write.specs.Texts.{hexadecimal};
+ghost use Rattle.rdl_list.specs.ListText.{path_text, stride_text, reset_text, head_text, extent_text, bytes_line, span_text, bits_line, line_of};
 
 use rdl_elab::layout::Span;
-use rdl_elab::row::{Extent, Location, Row, RowPath};
+use rdl_elab::row::{Extent, Location, PathParts, Row, RowPath};
 use rdl_text::name::Name;
 use rdl_text::token::Number;
 use rdl_tree::dims::Dims;
 use rdl_tree::property::Property;
-use rdl_write::{kind_text, push_dims, push_hexadecimal};
+use rdl_write::{kind_text, push_decimal, push_dims, push_hexadecimal};
 use std::alloc::AllocError;
 use std::rc::Rc;
 
@@ -61,11 +62,24 @@ fn push_end(
     }
 }
 
+/// Appends a whole path with these parts.
+#[tactic(auto, using(crate::proofs::Paths::path_whole))]
+fn push_whole(text: &mut String, parts: &PathParts) -> Result<(), AllocError>
+    ensures { OnOk result (string_bytes text.new ≡ string_bytes text.old ++ path_text ((parts.now.around.now ++ option_to_list (option_copied parts.now.register)) ++ parts.now.last.now ∷ [])) }
+{
+    text.push_str(parts.around.dotted())?;
+    push_register(text, parts.register)?;
+    text.push_str(parts.last.as_str())
+}
+
 /// Appends the names of a path with dots between them, but for so many of the first. Where none is left it appends a dot.
 pub fn push_path(text: &mut String, path: &RowPath, left_out: usize) -> Result<(), AllocError>
     ensures { OnOk result (string_bytes text.new ≡ string_bytes text.old ++ path_text (drop left_out path.now)) }
 {
     let parts = path.parts();
+    if left_out == 0 {
+        return push_whole(text, &parts);
+    }
     let around = parts.around.as_slice();
     if left_out > around.len() {
         return push_end(text, parts.register, parts.last, left_out - around.len());
@@ -73,10 +87,11 @@ pub fn push_path(text: &mut String, path: &RowPath, left_out: usize) -> Result<(
     push_names(text, &around[left_out..], parts.register, parts.last)
 }
 
+/// Appends a number behind its word, which has a space on both sides.
 fn push_part(text: &mut String, word: &str, number: Number) -> Result<(), AllocError>
-    ensures { OnOk result (string_bytes text.new ≡ string_bytes text.old ++ part_text word.now number) }
+    ensures { OnOk result (string_bytes text.new ≡ string_bytes text.old ++ word.now ++ hexadecimal number) }
 {
-    write!(text, " {word} ")?;
+    text.push_str(word)?;
     push_hexadecimal(text, number)
 }
 
@@ -85,7 +100,7 @@ fn push_stride(text: &mut String, dims: &Dims, stride: Number) -> Result<(), All
 {
     match dims.as_slice() {
         [] => Ok(()),
-        [_, ..] => push_part(text, "stride", stride),
+        [_, ..] => push_part(text, " stride ", stride),
     }
 }
 
@@ -93,7 +108,7 @@ fn push_reset(text: &mut String, reset: Option<Number>) -> Result<(), AllocError
     ensures { OnOk result (string_bytes text.new ≡ string_bytes text.old ++ reset_text reset) }
 {
     match reset {
-        Some(number) => push_part(text, "reset", number),
+        Some(number) => push_part(text, " reset ", number),
         None => Ok(()),
     }
 }
@@ -103,7 +118,9 @@ fn push_head(text: &mut String, row: &Row, left_out: usize) -> Result<(), AllocE
     ensures { OnOk result (string_bytes text.new ≡ string_bytes text.old ++ head_text (path_text (drop left_out row.now.names)) row.now) }
 {
     push_hexadecimal(text, Number::from(row.base))?;
-    write!(text, " {} ", kind_text(row.kind))?;
+    text.push_str(" ")?;
+    text.push_str(kind_text(row.kind))?;
+    text.push_str(" ")?;
     push_path(text, &row.names, left_out)
 }
 
@@ -112,7 +129,7 @@ fn push_extent(text: &mut String, extent: &Extent) -> Result<(), AllocError>
     ensures { OnOk result (string_bytes text.new ≡ string_bytes text.old ++ extent_text extent.now) }
 {
     push_dims(text, extent.dims.as_slice())?;
-    push_part(text, "size", Number::from(extent.size))?;
+    push_part(text, " size ", Number::from(extent.size))?;
     push_stride(text, &extent.dims, extent.stride)
 }
 
@@ -134,7 +151,11 @@ pub fn push_span(text: &mut String, span: &Span) -> Result<(), AllocError>
     ensures { OnOk result (string_bytes text.new ≡ string_bytes text.old ++ span_text span.now) }
 {
     let high = span.end.saturating_sub(1);
-    write!(text, "[{high}:{}]", span.start)
+    text.push_str("[")?;
+    push_decimal(text, Number::from(high))?;
+    text.push_str(":")?;
+    push_decimal(text, Number::from(span.start))?;
+    text.push_str("]")
 }
 
 #[tactic(auto, unfolding(crate::specs::ListText::bits_line))]

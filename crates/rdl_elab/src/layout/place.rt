@@ -75,7 +75,7 @@ pub fn place(
     requires { IsAlignment alignment }
     ensures { IfOk result (λ l. l ≡ capped_layout (container alignment mode items.now)) }
 {
-    let mut spans = Vec::new(alloc);
+    let mut spans = Vec::with_capacity(alloc, items.len())?;
     let mut end = 0u64;
     let mut size = 0u64;
     let mut access = 0u64;
