@@ -146,3 +146,38 @@ fn what_is_kept_of_a_definition_is_judged_as_it_was(rt: HostRuntime) -> Result<(
     }
     Ok(())
 }
+
+/// A block with an instance that another block assigns through, and one that only has another of the same name.
+const LED: &str = "reg T { field {} f[8]; };
+addrmap A { T t; T u; };
+addrmap B { A a; a.t.f->reset = 3; };
+addrmap C { A a; T t; t.f->reset = 4; };
+addrmap top { B b; C c; };
+";
+
+/// Lines, and whether each is made: a name in a target follows the instance for which it stands, and no other of its name.
+const FOLLOWED: [(&str, bool); 13] = [
+    ("rename /$A/t x", true),
+    ("assign /$B a.t.f reset 1", false),
+    ("assign /$B a.x.f reset 5", true),
+    ("assign /$C t.f reset 6", true),
+    ("rename /$C/t y", true),
+    ("assign /$C y.f reset 7", true),
+    ("rename /$T/f h", true),
+    ("assign /$C y.f reset 8", false),
+    ("assign /$C y.h reset 8", true),
+    ("remove /$A/x", true),
+    ("unassign /$B a.x.h reset", false),
+    ("undo", true),
+    ("unassign /$B a.x.h reset", true),
+];
+
+#[test]
+fn what_leads_to_an_item_from_other_definitions_follows_it(rt: HostRuntime) -> Result<(), Fail> {
+    let mut journal = opened(rt.alloc(), LED, 100)?;
+    for (line, made) in FOLLOWED.iter() {
+        let is = is_made(rt.alloc(), &mut journal, line)?;
+        assert_holds(&rt, is == *made, line);
+    }
+    Ok(())
+}
