@@ -207,16 +207,3 @@ clean-answer fs at name f h c =
 pub clean-answers : (fs : List Finished) (at name : List ℕ) (f : Finished) → finished_map_fault at f ≡ None → (found : Option Finished) → found ≡ Some f
     → AreClean fs (mode_inside f.kind f.values Regalign) 0 f.assignments.items f.layouts.regalign.spans f.parts.items → fault_in (finished_answer fs at name found) ≡ None
 clean-answers fs at name f h found e c = ap (λ o. fault_in (finished_answer fs at name o)) e ∙ clean-answer fs at name f h c
-
--- a row is seen by its software access, and judged by its reset
-pub seen-same : (span : Span) (xs ys : List PropertyValue) → value_under Sw xs ≡ value_under Sw ys → seen span xs ≡ seen span ys
-seen-same span xs ys h = ap (λ v. record { span = span; is_read_only = is_read_only v; is_write_only = is_write_only v }) h
-
-pub fault-same : (k : Kind) (v : LayoutValues) (bits : ℕ) (s : Shell) (size : ℕ) (a b : Sibling) (before : List Sibling) (xs ys : List PropertyValue) → a ≡ b → value_under Reset xs ≡ value_under Reset ys
-    → finished_fault k v bits s size a before xs ≡ finished_fault k v bits s size b before ys
-fault-same Field v bits s size a b before xs ys e h =
-    ap (λ x. finished_fault Field v bits s size x before xs) e
-    ∙ ap (λ o. first_of ((nat_lt bits b.span.end, FieldPastRegister) ∷ (clashes_before b before, FieldOverlap) ∷ (is_reset_too_wide (number_in o) b.span, ResetTooWide) ∷ [])) h
-fault-same Reg v bits s size a b before xs ys e h = ap (λ x. finished_fault Reg v bits s size x before xs) e
-fault-same Regfile v bits s size a b before xs ys e h = ap (λ x. finished_fault Regfile v bits s size x before xs) e
-fault-same Addrmap v bits s size a b before xs ys e h = ap (λ x. finished_fault Addrmap v bits s size x before xs) e

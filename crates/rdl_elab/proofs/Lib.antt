@@ -19,6 +19,7 @@ pub mod Cleaning
 pub mod Counting
 pub mod EachMember
 pub mod Insides
+pub mod Bare
 pub mod InstanceLists
 pub mod Making
 pub mod Goings

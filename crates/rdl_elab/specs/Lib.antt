@@ -13,6 +13,7 @@ pub mod InstanceValues
 pub mod Kept
 pub mod EachMode
 pub mod EachMember
+pub mod Bare
 pub mod Finished
 pub mod PartNames
 pub mod KeptTargets

@@ -7,6 +7,7 @@ ghost use Rattle.rdl_elab.specs.Onward.{IsOnward};
 ghost use Rattle.rdl_elab.specs.Reaches.{Reach, behind, value_under, values_along};
 ghost use Rattle.rdl_tree.specs.declared.property.Property.TheVariants.{Sw, Reset};
 ghost use Rattle.rdl_tree.specs.declared.shell.Kind.{Kind};
+ghost use Rattle.rdl_tree.specs.declared.shell.Kind.TheVariants.{Field};
 ghost use Rattle.rdl_elab.specs.declared.row.PropertyValue.{PropertyValue};
 ghost use Rattle.rdl_elab.specs.Finished.{under};
 ghost use Rattle.rdl_elab.specs.FinishedRows.{finished_base, finished_values, finished_row, seen, finished_fault, field_fault, extent_fault, judged, surroundings_inside, level_rows, finished_rows, finished_rows_below, told_one, told};
@@ -120,18 +121,49 @@ pub(crate) fn values(
     Ok(RowValues::with_reset(own, kind, reset))
 }
 
-/// Those of the values of the row on which its faults depend.
-pub(crate) fn values_judged(
+/// What the faults of a row depend on: how its later siblings see it, and the reset of a field.
+#[derive(Clone, Copy, Debug)]
+pub(crate) struct Judged {
+    pub sibling: Sibling,
+    pub reset: Option<Number>,
+}
+
+/// The reset of a row that has the values of its component, if it is a field.
+fn own_reset(kind: Kind, own: &ComponentValues) -> Option<Number>
+    ensures { kind ≡ Field → result ≡ number_in (value_under Reset own.now) }
+{
+    if kind != Kind::Field {
+        return None;
+    }
+    match own.get(Property::Reset) {
+        Some(Value::Number(number)) => Some(*number),
+        _ => None,
+    }
+}
+
+/// What the faults depend on of the row of an instance with this reset, whose component has these values by itself.
+pub(crate) fn judged_row(
     alloc: Global,
     kind: Kind,
+    span: Span,
     reset: Option<Number>,
     reaching: &[Assignment],
     own: &ComponentValues,
-) -> Result<RowValues, AllocError>
-    ensures sw { IfOk result (λ values. value_under Sw values ≡ value_under Sw (finished_values kind reset reaching.now own.now)) }
-    ensures reset { IfOk result (λ values. value_under Reset values ≡ value_under Reset (finished_values kind reset reaching.now own.now)) }
+) -> Result<Judged, AllocError>
+    ensures sibling { IfOk result (λ judged. judged.sibling ≡ seen span (finished_values kind reset reaching.now own.now)) }
+    ensures reset { IfOk result (λ judged. kind ≡ Field → judged.reset ≡ number_in (value_under Reset (finished_values kind reset reaching.now own.now))) }
 {
-    values(alloc, kind, reset, reaching, own)
+    if is_alone(reset, reaching) {
+        return Ok(Judged {
+            sibling: as_sibling(span, own.get(Property::Sw)),
+            reset: own_reset(kind, own),
+        });
+    }
+    let values = values(alloc, kind, reset, reaching, own)?;
+    Ok(Judged {
+        sibling: seen(span, &values),
+        reset: values.number(Property::Reset),
+    })
 }
 
 /// The assignments whose targets pass this instance.
@@ -173,15 +205,17 @@ fn row(
     })
 }
 
-fn is_stride_too_small(shell: &Shell, size: u64) -> bool
-    ensures { result ≡ nat_lt (unwrap_or shell.now.stride size) size }
+fn is_stride_too_small(stride: Option<Number>, size: u64) -> bool
+    ensures { result ≡ nat_lt (unwrap_or stride size) size }
 {
-    let size = Number::from(size);
-    shell.stride.get().unwrap_or(size) < size
+    match stride {
+        Some(stride) => stride < Number::from(size),
+        None => false,
+    }
 }
 
 /// A row as its later siblings see it.
-pub(crate) fn seen(span: Span, values: &RowValues) -> Sibling
+fn seen(span: Span, values: &RowValues) -> Sibling
     ensures { result ≡ seen span values.now }
 {
     as_sibling(span, values.get(Property::Sw))
@@ -192,15 +226,15 @@ fn field_fault(
     bits: u64,
     field: Sibling,
     before: &Siblings,
-    values: &RowValues,
+    reset: Option<Number>,
 ) -> Option<FaultKind>
-    ensures { result ≡ field_fault bits field before.now values.now }
+    ensures { (values : List PropertyValue) → reset ≡ number_in (value_under Reset values) → result ≡ field_fault bits field before.now values }
 {
     if bits < field.span.end {
         Some(FaultKind::FieldPastRegister)
     } else if before.clash(field) {
         Some(FaultKind::FieldOverlap)
-    } else if is_reset_too_wide(values.number(Property::Reset), field.span) {
+    } else if is_reset_too_wide(reset, field.span) {
         Some(FaultKind::ResetTooWide)
     } else {
         None
@@ -208,10 +242,10 @@ fn field_fault(
 }
 
 /// What is wrong with the bytes of an instance.
-fn extent_fault(shell: &Shell, size: u64, span: Span, before: &Siblings) -> Option<FaultKind>
-    ensures { result ≡ extent_fault shell.now size span before.now }
+fn extent_fault(part: &Part, size: u64, span: Span, before: &Siblings) -> Option<FaultKind>
+    ensures { result ≡ extent_fault part.now.shell size span before.now }
 {
-    if is_stride_too_small(shell, size) {
+    if is_stride_too_small(part.stride(), size) {
         Some(FaultKind::StrideTooSmall)
     } else if before.overlap(span) {
         Some(FaultKind::AddressOverlap)
@@ -224,21 +258,21 @@ fn extent_fault(shell: &Shell, size: u64, span: Span, before: &Siblings) -> Opti
 pub(crate) fn fault_kind(
     mode: Mode,
     bits: u64,
-    shell: &Shell,
+    part: &Part,
     component: &Finished,
     sibling: Sibling,
     before: &Siblings,
-    values: &RowValues,
+    reset: Option<Number>,
 ) -> Option<FaultKind>
-    ensures { result ≡ finished_fault component.now.kind component.now.values bits shell.now (under mode component.now.layouts).size sibling before.now values.now }
+    ensures { (values : List PropertyValue) → (component.now.kind ≡ Field → reset ≡ number_in (value_under Reset values)) → result ≡ finished_fault component.now.kind component.now.values bits part.now.shell (under mode component.now.layouts).size sibling before.now values }
 {
     let size = component.layouts.under(mode).size;
     match component.kind {
-        Kind::Field => field_fault(bits, sibling, before, values),
+        Kind::Field => field_fault(bits, sibling, before, reset),
         Kind::Reg if component.values.regwidth < component.values.accesswidth => {
             Some(FaultKind::AccessTooWide)
         }
-        _ => extent_fault(shell, size, sibling.span, before),
+        _ => extent_fault(part, size, sibling.span, before),
     }
 }
 
@@ -259,11 +293,11 @@ fn add_row(
     let fault = fault_kind(
         around.mode,
         around.bits,
-        part.shell(),
+        part,
         component,
         sibling,
         siblings,
-        &row.values,
+        row.values.number(Property::Reset),
     );
     if let Some(kind) = fault {
         return Ok(Some(Fault {
@@ -349,7 +383,7 @@ pub(crate) fn add_rows<'a>(
         return Ok(None);
     }
     let onward = Onward::of(alloc, around.reaching.as_slice())?;
-    let mut siblings = Siblings::new(alloc);
+    let mut siblings = Siblings::with_room(alloc, parts.len())?;
     for (i, part) in parts.iter().enumerate() {
         let Some(span) = span_at(spans, i) else {
             return Ok(None);

@@ -55,7 +55,7 @@ use crate::walk::passed::{passed_component, summary_at};
 use crate::walk::reaches::assignments_if;
 use crate::walk::shared::share;
 use crate::walk::stop::Stop;
-use crate::walk::targets::goes_further;
+use crate::walk::targets::Further;
 use crate::walk::types::Types;
 use crate::walk::values::{layout_values, shown_values};
 use rdl_scope::types::own_component;
@@ -94,7 +94,7 @@ struct Walk<'a> {
     components: Vec<Finished<'a>>,
     built_ins: BuiltIns,
     /// Whether targets go on inside the instances of a body, so that these are looked up by their names.
-    by_name: bool,
+    further: Further,
 }
 
 /// An instance in the body that is walked, and the number of its component among the finished ones.
@@ -145,11 +145,13 @@ fn finished_component<'a>(
     let own = OwnValues::of(alloc, body)?;
     let values = layout_values(&own, &mut walk.defaults);
     let shown = shown_values(alloc, kind, &own, &mut walk.defaults, &walk.built_ins)?;
+    let has_dynamic = own.has_dynamic();
+    let by_name = walk.further.looks_up(description, has_dynamic, parts.len());
+    let parts = PartList::of(alloc, parts, by_name)?;
     let components = walk.components.as_slice();
-    let parts = PartList::of(alloc, parts, walk.by_name || own.has_dynamic())?;
     let whole = are_whole(parts.as_slice(), components);
-    require_whole(own.has_dynamic(), whole)?;
-    let assignments = assignments_if(alloc, own.has_dynamic(), components, &parts, body)?;
+    require_whole(has_dynamic, whole)?;
+    let assignments = assignments_if(alloc, has_dynamic, components, &parts, body)?;
     let room = &mut walk.built_ins;
     let taken = take_layouts(
         alloc,
@@ -379,11 +381,11 @@ impl<'a> Walk<'a> {
         ensures components { IfOk result (λ walk. walk.components.items ≡ []) }
     {
         Ok(Walk {
-            types: Types::with_room(alloc, description.items.len())?,
+            types: Types::with_room(alloc, description.items.len().max(16))?,
             defaults: Defaults::new(alloc),
             components: Vec::with_capacity(alloc, room)?,
             built_ins: BuiltIns::new(alloc)?,
-            by_name: goes_further(&description.items),
+            further: Further::unknown(),
         })
     }
 }

@@ -70,7 +70,7 @@ fn definitions_before<'a>(
 ) -> Result<ByName<'a, usize>, AllocError>
     ensures { IfOk result (λ definitions. (q : List ℕ) → value_under definitions q ≡ last_definition q number body.now) }
 {
-    let mut definitions = ByName::with_room(alloc, number.min(body.len()))?;
+    let mut definitions = ByName::with_room(alloc, number.min(body.len()).max(16))?;
     for i in 0..number {
         put_definition(&mut definitions, body.item(i), i)?;
     }

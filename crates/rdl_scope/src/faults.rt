@@ -284,7 +284,7 @@ fn no_definitions<'a>(
 {
     match around {
         Some(_) => Ok(Names::new(alloc)),
-        None => Names::with_room(alloc, body.len()),
+        None => Names::with_room(alloc, body.len().max(16)),
     }
 }
 

@@ -66,7 +66,7 @@ fn are_clear(alloc: Global, description: &Description, asked: &[bool]) -> Result
     ensures { IfOk result (λ clear. clear ≡ true → AreClear asked.now description.now.items) }
 {
     let mut levels = Vec::new(alloc);
-    let mut definitions = Names::with_room(alloc, description.items.len())?;
+    let mut definitions = Names::with_room(alloc, description.items.len().max(16))?;
     'items: for (i, item) in description.items.as_slice().iter().enumerate() {
         let here = is_asked(asked, i);
         let clear = is_clear_inside(

@@ -57,6 +57,9 @@ fn end_of(start: u64, item: Placement) -> u64
     ensures { result ≡ capped (end_of start item) }
 {
     let size = Number::from(item.size);
+    if item.elements == 1 {
+        return capped(Number::from(start).saturating_add(size));
+    }
     let stride = item.stride.unwrap_or(size);
     let before = item.elements.saturating_sub(1).saturating_mul(stride);
     let last = Number::from(start).saturating_add(before);

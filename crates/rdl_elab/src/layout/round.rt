@@ -27,6 +27,9 @@ fn common_step(first: u64, second: Number) -> u64
     ensures whole { result < 2 ^ 40 + 1 → result % second ≡ 0 }
     ensures bound { result < 2 ^ 42 }
 {
+    if second == 1 {
+        return first;
+    }
     let mut step = first;
     while step < LIMIT {
         if Number::from(step) % second == 0 {

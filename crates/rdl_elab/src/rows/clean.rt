@@ -10,7 +10,7 @@ ghost use Rattle.rdl_elab.specs.Layouts.{mode_inside};
 use crate::elaborate::{Top, finished_at, map_fault};
 use crate::layout::{Mode, Span};
 use crate::rows::siblings::Siblings;
-use crate::rows::{behind_part, fault_kind, seen, span_at, values_judged};
+use crate::rows::{behind_part, fault_kind, judged_row, span_at};
 use crate::walk::finished::{Finished, Part};
 use crate::walk::instances::mode_inside;
 use crate::walk::reaches::{Assignment, Onward, have_ended, with_own};
@@ -170,7 +170,7 @@ fn is_clean_level<'a>(
         return Ok(false);
     }
     let onward = Onward::of(alloc, level.reaching.as_slice())?;
-    let mut siblings = Siblings::new(alloc);
+    let mut siblings = Siblings::with_room(alloc, parts.len())?;
     for (i, part) in parts.iter().enumerate() {
         let Some(span) = span_at(spans, i) else {
             return Ok(true);
@@ -180,12 +180,17 @@ fn is_clean_level<'a>(
         };
         let passed = behind_part(alloc, part, &onward)?;
         let reaching = passed.as_slice();
-        let shell = part.shell();
-        let kind = component.kind;
-        let values = values_judged(alloc, kind, shell.reset.get(), reaching, &component.shown)?;
-        let sibling = seen(span, &values);
+        let shown = &component.shown;
+        let judged = judged_row(alloc, component.kind, span, part.reset(), reaching, shown)?;
+        let sibling = judged.sibling;
         let fault = fault_kind(
-            level.mode, level.bits, shell, component, sibling, &siblings, &values,
+            level.mode,
+            level.bits,
+            part,
+            component,
+            sibling,
+            &siblings,
+            judged.reset,
         );
         if fault.is_some() {
             return Ok(false);

@@ -101,16 +101,17 @@ impl Siblings {
     ghost use Rattle.rdl_elab.specs.FinishedRows.{overlaps_before, clashes_before};
     ghost use Rattle.rdl_elab.specs.SiblingRanges.{AreApart, AreRangesIfKept};
 
-    pub(crate) fn new(alloc: Global) -> Siblings
-        ensures { result ≡ [] }
+    /// None, with room for so many.
+    pub(crate) fn with_room(alloc: Global, count: usize) -> Result<Siblings, AllocError>
+        ensures { IfOk result (λ siblings. siblings ≡ []) }
     {
-        Siblings {
+        Ok(Siblings {
             alloc,
-            items: Vec::new(alloc),
+            items: Vec::with_capacity(alloc, count)?,
             end: 0,
             are_apart: true,
             ranges: None,
-        }
+        })
     }
 
     /// The ranges to be kept with one more sibling, if no two overlap then.

@@ -1,4 +1,6 @@
 //! Components that are laid out.
+ghost use Rattle.std.specs.Prelude.{◌≡◌, [], true, None};
+
 use crate::layout::{Layout, LayoutValues, Mode};
 use crate::row_values::ComponentValues;
 use crate::walk::laid_out::{LaidOut, SharedLayouts};
@@ -6,10 +8,28 @@ use crate::walk::part_list::PartList;
 use crate::walk::passed::Passed;
 use crate::walk::reaches::Assignment;
 use crate::walk::shared::{InstanceAddress, SharedAddress};
+use rdl_text::token::Number;
 use rdl_tree::address::Address;
 use rdl_tree::shell::{Kind, Shell};
 use std::alloc::{AllocError, Global};
 use std::marker::Model;
+
+/// Whether the instance with this shell says nothing but its name.
+fn is_bare(shell: &Shell) -> bool
+    ensures dims { result ≡ true → shell.now.dims ≡ [] }
+    ensures range { result ≡ true → shell.now.range ≡ None }
+    ensures reset { result ≡ true → shell.now.reset ≡ None }
+    ensures address { result ≡ true → shell.now.address ≡ None }
+    ensures stride { result ≡ true → shell.now.stride ≡ None }
+    ensures align { result ≡ true → shell.now.align ≡ None }
+{
+    shell.dims.as_slice().is_empty()
+        && shell.range.get().is_none()
+        && shell.reset.get().is_none()
+        && shell.address.get().is_none()
+        && shell.stride.get().is_none()
+        && shell.align.get().is_none()
+}
 
 /// An instance, and the number of its component among the finished ones. A contract sees the record of specs/, with the
 /// address of the instance.
@@ -21,21 +41,25 @@ pub(crate) struct Part<'a> {
     number: usize,
     shell: &'a Shell,
     component: usize,
+    /// Whether it says nothing but its name, so that its shell needn't be looked at again.
+    bare: bool,
 }
 
 impl<'a> Model for Part<'a> {
-    ghost use Rattle.std.specs.Prelude.{◌++◌, ◌∷◌, ◌<◌, [], length};
+    ghost use Rattle.std.specs.Prelude.{◌≡◌, ◌++◌, ◌∷◌, ◌<◌, [], length, true};
+    ghost use Rattle.rdl_elab.specs.Bare.{IsBare};
     ghost use Rattle.rdl_elab.specs.Kept.{Part};
 
     ghost Value = { Part };
 
     ghost view = { λ p. record { at = p.around ++ p.number ∷ []; shell = p.shell.now; component = p.component } };
 
-    ghost invariant = { λ p. length p.around < 17 };
+    ghost invariant = { λ p. (length p.around < 17) × (p.bare ≡ true → IsBare p.shell.now) };
 }
 
 impl<'a> Part<'a> {
-    ghost use Rattle.std.specs.Prelude.{◌≡◌, ◌<◌, ◌++◌, ◌∷◌, [], length, IfOk, option_copied, slice_get};
+    ghost use Rattle.std.specs.Prelude.{◌≡◌, ◌<◌, ◌++◌, ◌∷◌, [], length, true, IfOk, option_copied, slice_get};
+    ghost use Rattle.rdl_elab.specs.Bare.{IsBare};
     ghost use Rattle.rdl_tree.specs.Address.{number_of};
 
     pub(crate) fn new(
@@ -47,11 +71,13 @@ impl<'a> Part<'a> {
         requires { length around < 17 }
         ensures { result ≡ record { at = around ++ number ∷ []; shell = shell.now; component = component } }
     {
+        let bare = is_bare(shell);
         Part {
             around,
             number,
             shell,
             component,
+            bare,
         }
     }
 
@@ -80,6 +106,35 @@ impl<'a> Part<'a> {
         ensures { result.now ≡ self.now.shell }
     {
         self.shell
+    }
+
+    /// Whether it says nothing but its name.
+    pub(crate) fn is_bare(&self) -> bool
+        ensures { result ≡ true → IsBare self.now.shell }
+    {
+        self.bare
+    }
+
+    /// The number behind its `=`.
+    pub(crate) fn reset(&self) -> Option<Number>
+        ensures { result ≡ self.now.shell.reset }
+    {
+        if self.bare {
+            None
+        } else {
+            self.shell.reset.get()
+        }
+    }
+
+    /// The number behind its `+=`.
+    pub(crate) fn stride(&self) -> Option<Number>
+        ensures { result ≡ self.now.shell.stride }
+    {
+        if self.bare {
+            None
+        } else {
+            self.shell.stride.get()
+        }
     }
 
     /// The number of its component among the finished ones.

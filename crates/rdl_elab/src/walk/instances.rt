@@ -40,6 +40,24 @@ fn placement(shell: &Shell, layout: &Layout) -> Placement
     }
 }
 
+/// The same of an instance.
+fn placement_of(part: &Part, layout: &Layout) -> Placement
+    ensures { result ≡ counted (placement (part.now.shell, layout.now)) }
+{
+    if !part.is_bare() {
+        return placement(part.shell(), layout);
+    }
+    Placement {
+        size: layout.size,
+        access: layout.access,
+        elements: 1,
+        is_array: false,
+        address: None,
+        stride: None,
+        align: None,
+    }
+}
+
 fn field_bits(shell: &Shell, layout: &Layout) -> FieldBits
     ensures { result ≡ field_bits (shell.now, layout.now) }
 {
@@ -65,7 +83,7 @@ fn placements(
     let mut placements = Vec::with_capacity(alloc, parts.len())?;
     for part in parts {
         if let Some(finished) = part.component(components) {
-            placements.push(placement(part.shell(), finished.layouts.under(mode)))?;
+            placements.push(placement_of(part, finished.layouts.under(mode)))?;
         }
     }
     Ok(placements)

@@ -9,7 +9,7 @@ use std::alloc::{AllocError, Global};
 use std::marker::Model;
 
 /// How few instances are looked through for a name.
-const FEW: usize = 8;
+pub(crate) const FEW: usize = 8;
 
 /// The number of the first instance of each name.
 #[derive(Drop)]

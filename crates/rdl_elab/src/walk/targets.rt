@@ -3,17 +3,18 @@ ghost use Rattle.std.specs.Prelude.{◌≡◌, Some, None, IfOk, option_map, if�
 ghost use Rattle.rdl_elab.specs.KeptTargets.{after, kept_from, kept_target};
 
 use crate::walk::finished::{Finished, Part};
-use crate::walk::part_list::PartList;
+use crate::walk::part_list::{FEW, PartList};
 use crate::walk::shared::InstanceAddress;
 use rdl_scope::types::own_component;
 use rdl_text::name::Name;
 use rdl_tree::address::Address;
-use rdl_tree::description::{Body, Item};
+use rdl_tree::description::{Body, Description, Item};
 use std::alloc::{AllocError, Global};
+use std::marker::Model;
 
 /// Whether the target of an item of the body, or of an item inside it, passes more than one instance.
 #[cycle(further)]
-pub(crate) fn goes_further(body: &Body) -> bool {
+fn goes_further(body: &Body) -> bool {
     for item in body.as_slice() {
         if item_goes_further(item) {
             return true;
@@ -30,6 +31,49 @@ fn item_goes_further(item: &Item) -> bool {
             Some(component) => goes_further(&component.body),
             None => false,
         },
+    }
+}
+
+/// Whether a target of the description that is walked passes more than one instance, once that was asked. A contract sees
+/// nothing of it.
+#[derive(Drop)]
+pub(crate) struct Further {
+    answer: Option<bool>,
+}
+
+impl Model for Further {
+    ghost Value = { Unit {0} };
+
+    ghost view = { λ f. tt };
+}
+
+impl Further {
+    ghost use Rattle.std.specs.Prelude.{◌≡◌};
+
+    /// It wasn't asked yet.
+    pub(crate) fn unknown() -> Further {
+        Further { answer: None }
+    }
+
+    /// Whether targets may look up the instances of a body, which has so many, and dynamic assignments of its own or none. It
+    /// isn't asked where there are few.
+    pub(crate) fn looks_up(
+        &mut self,
+        description: &Description,
+        has_dynamic: bool,
+        instances: usize,
+    ) -> bool
+        ensures { self.new ≡ self.old }
+    {
+        if has_dynamic || instances <= FEW {
+            return has_dynamic;
+        }
+        if let Some(answer) = self.answer {
+            return answer;
+        }
+        let answer = goes_further(&description.items);
+        self.answer = Some(answer);
+        answer
     }
 }
 

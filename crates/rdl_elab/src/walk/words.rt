@@ -10,7 +10,7 @@ use crate::walk::each_member::{Extent, Extents, Said};
 use crate::walk::finished::{Finished, Part};
 use crate::walk::laid_out::SharedLayouts;
 use rdl_text::token::Number;
-use rdl_tree::shell::{Kind, Shell};
+use rdl_tree::shell::Kind;
 use std::alloc::AllocError;
 
 fn kind_word(kind: Kind) -> Number
@@ -221,12 +221,48 @@ fn put_extents(bytes: &mut Vec<u8>, extents: Extents) -> Result<(), AllocError>
     Ok(())
 }
 
-/// Puts the words of what is taken of an instance with this shell, whose component has these layouts.
-fn put_member(bytes: &mut Vec<u8>, shell: &Shell, layouts: &SharedLayouts) -> Result<(), AllocError>
-    ensures { OnOk result (Puts (member_words (shown_each shell.now layouts.now)) bytes.old.items bytes.new.items) }
+/// Puts the words of what is taken of an instance that says nothing but its name, whose component is so large.
+fn put_bare_member(bytes: &mut Vec<u8>, extents: Extents) -> Result<(), AllocError>
+    ensures { OnOk result (Puts (λ rest. 1 ∷ 0 ∷ 0 ∷ 0 ∷ 0 ∷ 0 ∷ extents_words extents rest) bytes.old.items bytes.new.items) }
 {
-    put_said(bytes, Said::of(shell))?;
-    put_extents(bytes, Extents::of(layouts))?;
+    let Extents {
+        compact,
+        regalign,
+        fullalign,
+    } = extents;
+    if is_small(compact) && is_small(regalign) && is_small(fullalign) {
+        let words = [
+            1,
+            0,
+            0,
+            0,
+            0,
+            0,
+            compact.size as u8,
+            compact.access as u8,
+            regalign.size as u8,
+            regalign.access as u8,
+            fullalign.size as u8,
+            fullalign.access as u8,
+        ];
+        return put_small(bytes, &words);
+    }
+    put_small(bytes, &[1, 0, 0, 0, 0, 0])?;
+    put_extents(bytes, extents)?;
+    Ok(())
+}
+
+/// Puts the words of what is taken of an instance whose component has these layouts.
+fn put_member(bytes: &mut Vec<u8>, part: &Part, layouts: &SharedLayouts) -> Result<(), AllocError>
+    ensures { OnOk result (Puts (member_words (shown_each part.now.shell layouts.now)) bytes.old.items bytes.new.items) }
+{
+    let extents = Extents::of(layouts);
+    if part.is_bare() {
+        put_bare_member(bytes, extents)?;
+        return Ok(());
+    }
+    put_said(bytes, Said::of(part.shell()))?;
+    put_extents(bytes, extents)?;
     Ok(())
 }
 
@@ -245,7 +281,7 @@ pub(crate) fn spell(
     put_values(bytes, kind, values)?;
     for part in parts {
         if let Some(finished) = part.component(components) {
-            put_member(bytes, part.shell(), &finished.layouts)?;
+            put_member(bytes, part, &finished.layouts)?;
         }
     }
     Ok(())

@@ -8,7 +8,7 @@ use Rattle.rdl_elab.proofs.Telling.{told-end, deeper, level-rows, no-part, no-sp
 use Rattle.rdl_elab.proofs.rows.+rows.Goals as goal
 
 pub add_rows-loop-i-init : goal.add_rows-loop-i-init
-add_rows-loop-i-init t c = sym (ap (told c.args.rows.now.items) (level-rows c.args.levels c.args.components.now c.args.around.now c.new-siblings.result c.args.spans.now c.args.parts.now c.if-levels-eq0.false c.new-siblings.ensures))
+add_rows-loop-i-init t c = sym (ap (told c.args.rows.now.items) (level-rows c.args.levels c.args.components.now c.args.around.now c.in_ok-siblings.siblings c.args.spans.now c.args.parts.now c.if-levels-eq0.false c.in_ok-siblings.ensures))
 
 pub add_rows-returns-in_default : goal.add_rows-returns-in_default
 add_rows-returns-in_default t c =

@@ -77,7 +77,7 @@ walk_item-returns-in_ok-push-in-Define-clause-stands t c = λ e h.
     let at = c.args.at.now ++ c.args.number ∷ [] in
     let old = c.args.walk.now in
     let mid = c.finish.new.walk in
-    let new : Walk = record { types = c.push.new.self; defaults = mid.defaults; components = mid.components; built_ins = mid.built_ins; by_name = mid.by_name } in
+    let new : Walk = record { types = c.push.new.self; defaults = mid.defaults; components = mid.components; built_ins = mid.built_ins; further = mid.further } in
     let k = c.in_ok-component-in-Define.component in
     let all = c.in_ok-component-in-Define.ensures in
     let made : IsReady d mid.components.items k (made_at e at c.in-Define.component) =

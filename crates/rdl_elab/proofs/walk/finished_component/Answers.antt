@@ -83,5 +83,5 @@ pub returns-clause-assigned : goal.returns-clause-assigned
 returns-clause-assigned c = λ w.
     let d = c.args.description.now.items in
     let body = c.args.component.now.body in
-    let none : any_dynamic body ≡ false = ap any_dynamic (sym c.in_ok-own.ensures) ∙ sym c.has_dynamic-2.ensures ∙ c.in_ok-require_whole.ensures w in
+    let none : any_dynamic body ≡ false = ap any_dynamic (sym c.in_ok-own.ensures) ∙ sym c.has_dynamic-has_dynamic.ensures ∙ c.in_ok-require_whole.ensures w in
     (c.in_ok-assignments.ensures ∙ no-dynamic _ 0 body none, no-dynamic _ 0 body none)

@@ -1,13 +1,15 @@
 use Rattle.std.proofs.lemmas.Option.{slice_get_read}
-use Rattle.std.proofs.Common.{rules, refl, sym, ◌++◌, ◌∷◌, [], true, ◌≡◌, ◌≤◌, length, ap, ◌∙◌, arith, Some, None, slice_get}
+use Rattle.std.proofs.Common.{rules, refl, sym, ◌++◌, ◌∷◌, [], true, Option, ◌≡◌, ◌≤◌, length, ap, ◌∙◌, arith, Some, None, slice_get}
 use Rattle.std.specs.Option.{is_none}
+use Rattle.rdl_tree.specs.declared.fault.FaultKind.{FaultKind}
+use Rattle.rdl_elab.specs.declared.rows.siblings.Sibling.{Sibling}
 use Rattle.rdl_elab.specs.Clean.{AreClean}
 use Rattle.rdl_elab.specs.Finished.{under}
 use Rattle.rdl_elab.specs.FinishedRows.{finished_values, finished_fault, seen}
-use Rattle.rdl_elab.specs.Layouts.{mode_inside}
+use Rattle.rdl_elab.specs.Layouts.{mode_inside, number_in}
 use Rattle.rdl_tree.specs.declared.property.Property.TheVariants.{Sw, Reset}
 use Rattle.rdl_elab.specs.Reaches.{behind, value_under}
-use Rattle.rdl_elab.proofs.Cleaning.{ends-parts, ends-spans, ends-finished, goes-further, nothing-further, seen-same, fault-same}
+use Rattle.rdl_elab.proofs.Cleaning.{ends-parts, ends-spans, ends-finished, goes-further, nothing-further}
 use Rattle.rdl_elab.proofs.rows.clean.+clean.Goals as goal
 
 pub is_clean_below-returns-then-have_ended : goal.is_clean_below-returns-then-have_ended
@@ -38,14 +40,16 @@ is_clean_level-loop-i-preserved t c =
     let there : slice_get fs p.component ≡ Some f = search rules in
     let reached : c.as_slice-reaching.result.now ≡ behind p.at c.args.level.now.reaching.items = search rules in
     let values = finished_values f.kind p.shell.reset c.as_slice-reaching.result.now f.shown in
-    let sw : value_under Sw c.in_ok-values.values ≡ value_under Sw values = search rules in
-    let reset : value_under Reset c.in_ok-values.values ≡ value_under Reset values = search rules in
-    let same : seen c.in-Some.span c.in_ok-values.values ≡ seen c.in-Some.span values = seen-same c.in-Some.span c.in_ok-values.values values sw in
-    let none : is_none (finished_fault f.kind f.values c.args.level.now.bits p.shell (under m f.layouts).size (seen c.in-Some.span c.in_ok-values.values) c.loop-i.siblings c.in_ok-values.values) ≡ true = search rules in
-    let kept : is_none (finished_fault f.kind f.values c.args.level.now.bits p.shell (under m f.layouts).size (seen c.in-Some.span values) c.loop-i.siblings values) ≡ true =
-    ap is_none (sym (fault-same f.kind f.values c.args.level.now.bits p.shell (under m f.layouts).size (seen c.in-Some.span c.in_ok-values.values) (seen c.in-Some.span values) c.loop-i.siblings c.in_ok-values.values values same reset)) ∙ none in
+    let same : c.in_ok-judged.judged.sibling ≡ seen c.in-Some.span values =
+    c.in_ok-judged.ensures.sibling ∙ ap (λ r. seen c.in-Some.span (finished_values f.kind r c.as_slice-reaching.result.now f.shown)) c.reset.ensures in
+    let fault : Sibling → Option FaultKind = λ a. finished_fault f.kind f.values c.args.level.now.bits p.shell (under m f.layouts).size a c.loop-i.siblings values in
+    let judged : c.fault_kind-fault.result ≡ fault c.in_ok-judged.judged.sibling =
+    c.fault_kind-fault.ensures values (λ is. c.in_ok-judged.ensures.reset is ∙ ap (λ r. number_in (value_under Reset (finished_values f.kind r c.as_slice-reaching.result.now f.shown))) c.reset.ensures) in
+    let clear : is_none c.fault_kind-fault.result ≡ true = search rules in
+    let none : is_none (fault c.in_ok-judged.judged.sibling) ≡ true = ap is_none (sym judged) ∙ clear in
+    let kept : is_none (fault (seen c.in-Some.span values)) ≡ true = ap (λ a. is_none (fault a)) (sym same) ∙ none in
     let below : AreClean fs (mode_inside f.kind f.values m) f.values.regwidth (c.as_slice-reaching.result.now ++ f.assignments.items) (under m f.layouts).spans f.parts.items = search rules in
-    let pushed : c.push.new.self ≡ c.loop-i.siblings ++ seen c.in-Some.span c.in_ok-values.values ∷ [] = search rules in
+    let pushed : c.push.new.self ≡ c.loop-i.siblings ++ c.in_ok-judged.judged.sibling ∷ [] = search rules in
     let after : c.push.new.self ≡ c.loop-i.siblings ++ seen c.in-Some.span values ∷ [] = pushed ∙ ap (λ x. c.loop-i.siblings ++ x ∷ []) same in
     goes-further fs m c.args.level.now.bits c.args.level.now.reaching.items c.args.spans.now c.args.parts.now c.loop-i.siblings c.loop-i.i c.in-Some.span p f c.as_slice-reaching.result.now values c.push.new.self span part there reached refl kept below after c.loop-i.invariant
 

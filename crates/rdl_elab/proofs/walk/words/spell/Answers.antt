@@ -27,7 +27,6 @@ loop-part-preserved c =
       | in-Some+in_ok-put_member w ↦
           let f = w.in-Some.finished.now in
           ap (λ v. v.items ++ coded (members_words rest)) w.bytes-is ∙ w.in_ok-put_member.ensures (members_words rest)
-          ∙ ap (λ s. done ++ coded (member_words (shown_each s f.layouts) (members_words rest))) w.shell.ensures
           ∙ sym (ap (λ (ms : List EachMember). done ++ coded (members_words ms)) (member-some fs i ps p c.loop-part-test.true c.part-item.is f (sym w.in-Some.ensures)))
           ∙ c.loop-part.invariant
       | in_default w ↦
