@@ -11,6 +11,7 @@ pub mod OwnSteps
 pub mod OwnLayouts
 pub mod Placings
 pub mod Staying
+pub mod ScannedBodies
 pub mod SteppedBodies
 pub mod StillEdits
 pub mod Touching

@@ -1,19 +1,23 @@
 //! What is known of a step before it is taken.
 ghost use Rattle.std.specs.Prelude.{◌≡◌, ◌≤◌, ◌∷◌, [], true, None, IfSome};
+ghost use Rattle.std.specs.Option.{is_none};
+ghost use Rattle.std.specs.List.{list_all};
 ghost use Rattle.rdl_tree.specs.Depth.{depth};
 ghost use Rattle.rdl_tree.specs.Patch.{patched, image};
+ghost use Rattle.rdl_tree.specs.View.{own_body};
 ghost use Rattle.rdl_scope.specs.ItemFaults.{fault_of};
 ghost use Rattle.rdl_scope.specs.OneItem.{NoOtherFault};
 ghost use Rattle.rdl_kept.specs.Skeleton.{skeleton, lays_out};
 ghost use Rattle.rdl_edit.specs.Noting.{IsLight};
 ghost use Rattle.rdl_edit.specs.Still.{is_still, IsStill, IsStillPart};
-ghost use Rattle.rdl_edit.specs.Touching.{IsTouched, IsStillShell, IsNamesake, IsValue, IsAlone, is_dynamic};
+ghost use Rattle.rdl_edit.specs.Touching.{IsTouched, IsStillShell, IsNamesake, IsValue, IsAlone, is_dynamic, is_new_name, are_plain_from, IsNewAt, IsNewInstance, is_of_named_type, MovesPastInstances};
 
 use crate::notes::Outlook;
 use rdl_kept::harmless::{is_harmless, is_last, is_renaming, says_the_same};
+use rdl_scope::targets::is_instance;
 use rdl_text::name::Name;
 use rdl_tree::address::Address;
-use rdl_tree::description::{Description, Item};
+use rdl_tree::description::{Body, Description, Item, Of};
 use rdl_tree::part::Part;
 use rdl_tree::patch::Patch;
 use rdl_tree::properties::property;
@@ -149,6 +153,82 @@ fn is_dynamic(item: &Item) -> bool
     matches!(item, Item::Dynamic(_, _, _))
 }
 
+/// Whether no instance in the body has the name.
+fn is_new_name(name: &Name, body: &Body) -> bool
+    ensures { result ≡ is_new_name name.now body.now }
+{
+    body.as_slice()
+        .iter()
+        .all(|item| !is_instance(Some(item), name))
+}
+
+fn is_plain(item: &Item) -> bool
+    ensures { result ≡ is_none (own_body item.now) }
+{
+    item.own_body().is_none()
+}
+
+/// Whether no item from this number on has a body of its own.
+fn are_plain_from(number: usize, body: &Body) -> bool
+    ensures { result ≡ are_plain_from number body.now }
+{
+    body.as_slice().iter().skip(number).all(is_plain)
+}
+
+/// Whether no instance in the body of this address has the name, and no item from there on has a body of its own.
+fn is_new_at(description: &Description, name: &Name, at: &Address) -> bool
+    ensures { result ≡ true → IsNewAt name.now at.now description.now.items }
+{
+    if at.is_empty() {
+        return false;
+    }
+    match description.body(&at.holder()) {
+        Some(body) => {
+            at.number() <= body.len()
+                && is_new_name(name, body)
+                && are_plain_from(at.number(), body)
+        }
+        None => false,
+    }
+}
+
+/// Whether the item is an instance of a named type, whose name is new at this address.
+fn is_new_instance(description: &Description, at: &Address, item: &Item) -> bool
+    ensures { result ≡ true → IsNewInstance at.now item.now description.now.items }
+{
+    match item {
+        Item::Instance(shell, Of::Named(_)) => is_new_at(description, &shell.name, at),
+        _ => false,
+    }
+}
+
+fn is_of_named_type(item: &Item) -> bool
+    ensures { result ≡ is_of_named_type item.now }
+{
+    matches!(item, Item::Instance(_, Of::Named(_)))
+}
+
+fn are_of_named_types(items: &[Item]) -> bool
+    ensures { result ≡ list_all is_of_named_type items.now }
+{
+    items.iter().all(is_of_named_type)
+}
+
+/// Whether the item at this address, and each up to the number to which it moves, are instances of named types.
+fn moves_past_instances(description: &Description, at: &Address, to: usize) -> bool
+    ensures { result ≡ true → MovesPastInstances at.now to description.now.items }
+{
+    if at.is_empty() {
+        return false;
+    }
+    let first = at.number().min(to);
+    let last = at.number().max(to);
+    match description.body(&at.holder()) {
+        Some(body) if last < body.len() => are_of_named_types(&body.as_slice()[first..last + 1]),
+        _ => false,
+    }
+}
+
 /// The item that alone may have a fault behind this patch, if it is known.
 fn touched_item(description: &Description, patch: &Patch) -> Option<Address>
     requires { fault_of description.now.items ≡ None }
@@ -162,6 +242,8 @@ fn touched_item(description: &Description, patch: &Patch) -> Option<Address>
         Patch::Insert(at, item) if is_dynamic(item) && is_last(description, at) => {
             Some(at.copy())
         }
+        Patch::Insert(at, item) if is_new_instance(description, at, item) => Some(at.copy()),
+        Patch::Shift(at, to) if moves_past_instances(description, at, *to) => Some(at.copy()),
         _ => None,
     }
 }

@@ -20,7 +20,7 @@ use Rattle.rdl_kept.proofs.FramedChanges.{leads-same}
 -- ---- Bodies along an address at which one is changed.
 
 -- the numbers are the same, or what is inside the other item stays
-apart : (i k : ℕ) → (i ≡ k) ⊎ ((f : Items → Items) (t : Items) → inner k (map_inner i f t) ≡ inner k t)
+pub apart : (i k : ℕ) → (i ≡ k) ⊎ ((f : Items → Items) (t : Items) → inner k (map_inner i f t) ≡ inner k t)
 apart zero zero = inl refl
 apart zero (suc k) = inr other
   where
@@ -45,7 +45,7 @@ apart (suc i) (suc k) = by (apart i k)
         other f (plain p rest) = h f rest
         other f (holder z body rest) = h f rest
 
-inner-changed : (i : ℕ) (f : Items → Items) (t s : Items) → inner i t ≡ Some s → inner i (map_inner i f t) ≡ Some (f s)
+pub inner-changed : (i : ℕ) (f : Items → Items) (t s : Items) → inner i t ≡ Some s → inner i (map_inner i f t) ≡ Some (f s)
 inner-changed i f no_items s e = cc
 inner-changed zero f (plain p rest) s e = cc
 inner-changed zero f (holder h body rest) s e = let same : body ≡ s = cc in ap (λ b. Some (f b)) same

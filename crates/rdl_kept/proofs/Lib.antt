@@ -36,6 +36,11 @@ pub mod SameItems
 pub mod SameTargets
 pub mod OtherItems
 pub mod AskedFaults
+pub mod Renumbered
+pub mod PutIn
+pub mod NewInstances
+pub mod Swapped
+pub mod MovedInstances
 pub mod CleanStays
 pub mod Noting
 pub mod KnownRoots

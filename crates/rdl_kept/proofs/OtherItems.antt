@@ -29,7 +29,7 @@ use Rattle.rdl_kept.proofs.SameTargets.{target-kind-same, root-kind-same}
 -- ---- Before the step.
 
 -- an item of a description without a fault has none, whichever body it stands in
-clear-item : (d : Items) (b : List ℕ) (body : Items) (n : ℕ) → fault_of d ≡ None → body_at b d ≡ Some body → option_and_then (item_fault d (kind_at d b) b body n) (slice_get (list_of body) n) ≡ None
+pub clear-item : (d : Items) (b : List ℕ) (body : Items) (n : ℕ) → fault_of d ≡ None → body_at b d ≡ Some body → option_and_then (item_fault d (kind_at d b) b body n) (slice_get (list_of body) n) ≡ None
 clear-item d b body n clear held = by (slice_get (list_of body) n) refl
   where
     inside : (b : List ℕ) (body : Items) → body_at b d ≡ Some body → (x : Item) → slice_get (list_of body) n ≡ Some x → item_fault d (kind_at d b) b body n x ≡ None
