@@ -222,19 +222,15 @@ fn seen(span: Span, values: &RowValues) -> Sibling
 }
 
 /// What is wrong with a field, in a register of so many bits.
-fn field_fault(
-    bits: u64,
-    field: Sibling,
-    before: &Siblings,
-    reset: Option<Number>,
-) -> Option<FaultKind>
-    ensures { (values : List PropertyValue) → reset ≡ number_in (value_under Reset values) → result ≡ field_fault bits field before.now values }
+fn field_fault(bits: u64, judged: Judged, before: &Siblings) -> Option<FaultKind>
+    ensures { (values : List PropertyValue) → judged.reset ≡ number_in (value_under Reset values) → result ≡ field_fault bits judged.sibling before.now values }
 {
+    let field = judged.sibling;
     if bits < field.span.end {
         Some(FaultKind::FieldPastRegister)
     } else if before.clash(field) {
         Some(FaultKind::FieldOverlap)
-    } else if is_reset_too_wide(reset, field.span) {
+    } else if is_reset_too_wide(judged.reset, field.span) {
         Some(FaultKind::ResetTooWide)
     } else {
         None
@@ -260,19 +256,18 @@ pub(crate) fn fault_kind(
     bits: u64,
     part: &Part,
     component: &Finished,
-    sibling: Sibling,
+    judged: Judged,
     before: &Siblings,
-    reset: Option<Number>,
 ) -> Option<FaultKind>
-    ensures { (values : List PropertyValue) → (component.now.kind ≡ Field → reset ≡ number_in (value_under Reset values)) → result ≡ finished_fault component.now.kind component.now.values bits part.now.shell (under mode component.now.layouts).size sibling before.now values }
+    ensures { (values : List PropertyValue) → (component.now.kind ≡ Field → judged.reset ≡ number_in (value_under Reset values)) → result ≡ finished_fault component.now.kind component.now.values bits part.now.shell (under mode component.now.layouts).size judged.sibling before.now values }
 {
     let size = component.layouts.under(mode).size;
     match component.kind {
-        Kind::Field => field_fault(bits, sibling, before, reset),
+        Kind::Field => field_fault(bits, judged, before),
         Kind::Reg if component.values.regwidth < component.values.accesswidth => {
             Some(FaultKind::AccessTooWide)
         }
-        _ => extent_fault(part, size, sibling.span, before),
+        _ => extent_fault(part, size, judged.sibling.span, before),
     }
 }
 
@@ -290,15 +285,9 @@ fn add_row(
     ensures siblings { IfOk result (λ fault. fault ≡ None → siblings.new ≡ siblings.old ++ seen span row.values ∷ []) }
 {
     let sibling = seen(span, &row.values);
-    let fault = fault_kind(
-        around.mode,
-        around.bits,
-        part,
-        component,
-        sibling,
-        siblings,
-        row.values.number(Property::Reset),
-    );
+    let reset = row.values.number(Property::Reset);
+    let judged = Judged { sibling, reset };
+    let fault = fault_kind(around.mode, around.bits, part, component, judged, siblings);
     if let Some(kind) = fault {
         return Ok(Some(Fault {
             kind,

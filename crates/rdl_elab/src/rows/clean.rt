@@ -182,20 +182,11 @@ fn is_clean_level<'a>(
         let reaching = passed.as_slice();
         let shown = &component.shown;
         let judged = judged_row(alloc, component.kind, span, part.reset(), reaching, shown)?;
-        let sibling = judged.sibling;
-        let fault = fault_kind(
-            level.mode,
-            level.bits,
-            part,
-            component,
-            sibling,
-            &siblings,
-            judged.reset,
-        );
+        let fault = fault_kind(level.mode, level.bits, part, component, judged, &siblings);
         if fault.is_some() {
             return Ok(false);
         }
-        siblings.push(sibling)?;
+        siblings.push(judged.sibling)?;
         if !is_clean_below(
             alloc,
             components,
