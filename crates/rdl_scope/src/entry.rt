@@ -3,6 +3,8 @@ ghost use Rattle.std.specs.Prelude.{◌≡◌};
 ghost use Rattle.rdl_scope.specs.Front;
 ghost use Rattle.rdl_scope.specs.Spot.{slot_of, spot};
 
+use rdl_text::is_same;
+
 /// A name and what stands under it, which is nothing once it has been taken away.
 #[derive(Drop)]
 pub(crate) struct Entry<'a, V> {
@@ -50,7 +52,7 @@ pub(crate) fn spot_of<'a, V>(
     }
     let number = (*number - 1) as usize;
     match entries.get(number) {
-        Some(entry) if entry.front == front && entry.name == name => Spot::Own(number),
+        Some(entry) if entry.front == front && is_same(entry.name, name) => Spot::Own(number),
         _ => Spot::Other,
     }
 }

@@ -12,7 +12,9 @@ mod piece;
 mod places;
 pub mod raw;
 mod rows;
+mod same;
 pub mod token;
 
 pub use cut::tokens;
 pub use places::{byte_place, place};
+pub use same::is_same;

@@ -4,6 +4,7 @@ ghost use Rattle.std.specs.List.{list_all};
 ghost use Rattle.rdl_text.specs.Name.{IsName, is_letter, is_rest, is_identifier};
 ghost use Rattle.rdl_text.specs.declared.name.NameFault.{NameFault};
 
+use crate::same::is_same;
 use arrayvec::ArrayString;
 use std::alloc::{AllocError, Global};
 use std::fmt;
@@ -189,7 +190,7 @@ impl PartialEq for Name {
     ghost laws = { Prim.search (comparing, rules) };
 
     fn eq(&self, other: &Name) -> bool {
-        self.text.as_str() == other.text.as_str()
+        is_same(self.text.as_str(), other.text.as_str())
     }
 }
 

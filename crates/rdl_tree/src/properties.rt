@@ -3,6 +3,7 @@ ghost use Rattle.std.specs.Prelude.{◌≡◌, find, bytes_eq};
 ghost use Rattle.rdl_tree.specs.Properties.{row, property_of};
 
 use crate::property::Property;
+use rdl_text::is_same;
 
 /// The property of this name.
 #[tactic(auto, unfolding(crate::specs::Properties::property_of))]
@@ -12,12 +13,11 @@ pub fn property(name: &str) -> Option<Property>
     named(name, &Property::ALL)
 }
 
-/// Whether the property has this name. Most others have a name of another length.
+/// Whether the property has this name.
 fn is_named(property: Property, name: &str) -> bool
     ensures { result ≡ bytes_eq name.now (row property).name }
 {
-    let own = property.name();
-    own.len() == name.len() && name == own
+    is_same(name, property.name())
 }
 
 fn named(name: &str, properties: &[Property]) -> Option<Property>
