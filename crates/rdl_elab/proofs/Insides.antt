@@ -12,6 +12,7 @@ use Rattle.rdl_scope.specs.Closed.{Head, Parts, no_parts, part}
 use Rattle.rdl_elab.specs.declared.layout.Mode.{Mode}
 use Rattle.rdl_elab.specs.declared.layout.Mode.TheVariants.{Compact}
 use Rattle.rdl_elab.specs.declared.layout.Layout.{Layout}
+use Rattle.rdl_elab.specs.declared.layout.Placement.{Placement}
 use Rattle.rdl_elab.specs.Kept.{Part}
 use Rattle.rdl_elab.specs.declared.walk.finished.Finished.{Finished}
 use Rattle.rdl_elab.specs.Faults.{levels, count, is_empty, first_empty}
@@ -19,7 +20,7 @@ use Rattle.rdl_elab.specs.Finished.{under, AreParts}
 use Rattle.rdl_elab.specs.Ready.{IsReadyPart, AreReadyParts, AreAllWhole}
 use Rattle.rdl_elab.specs.EachMember.{shown_each}
 use Rattle.rdl_elab.specs.LaidOut.{kept_member, kept_members}
-use Rattle.rdl_elab.specs.Inside.{kept_part, kept_parts, part_levels, kept_levels, part_rows, finished_rows, lacks_rows, part_empty, kept_empty, is_whole, are_whole}
+use Rattle.rdl_elab.specs.Inside.{shown_placement, kept_part, kept_parts, part_levels, kept_levels, part_rows, finished_rows, lacks_rows, part_empty, kept_empty, is_whole, are_whole}
 
 pub or-assoc : {X : Type 0} (a b c : Option X) → option_or (option_or a b) c ≡ option_or a (option_or b c)
 or-assoc None b c = refl
@@ -199,6 +200,32 @@ module _ {X : Type 0} (g : Shell × Layout → X) (m : Mode) (fs : List Finished
       ∙ ap (λ o. cons_option (option_map (λ (f : Finished). (p.shell, under m f.layouts)) o) rest) found in
       ap (λ xs. xs ++ map g rest) same ∙ sym (ap (λ xs. done ++ map g xs) one) ∙ inv
 
+-- one more instance that is placed, with its component and without one, for what comes of all that are left
+abbrev unplaced : Mode → List Finished → List Part → ℕ → List Placement
+unplaced m fs ps n = map shown_placement (kept_parts m fs (drop n ps))
+
+module _ (m : Mode) (fs : List Finished) (i : ℕ) (ps : List Part) (p : Part) (h : i < length ps) (is : p ≡ get_or ps i p) where
+  pub placed-some : {L : Type 0} (before after : List Placement → L) (f : Finished) (whole : L) → slice_get fs p.component ≡ Some f
+      → ((behind : List Placement) → before (shown_placement (p.shell, under m f.layouts) ∷ behind) ≡ after behind) → before (unplaced m fs ps i) ≡ whole → after (unplaced m fs ps (i + 1)) ≡ whole
+  placed-some before after f whole found put inv =
+      let rest = kept_parts m fs (drop (i + 1) ps) in
+      let one : kept_parts m fs (drop i ps) ≡ (p.shell, under m f.layouts) ∷ rest =
+      kept-next m fs i ps p h ∙ ap (λ (q : Part). cons_option (kept_part m fs q) rest) (sym is)
+      ∙ ap (λ o. cons_option (option_map (λ (f : Finished). (p.shell, under m f.layouts)) o) rest) found in
+      sym (put (map shown_placement rest)) ∙ sym (ap (λ xs. before (map shown_placement xs)) one) ∙ inv
+
+  pub placed-none : {L : Type 0} (before : List Placement → L) (whole : L) → slice_get fs p.component ≡ None → before (unplaced m fs ps i) ≡ whole → before (unplaced m fs ps (i + 1)) ≡ whole
+  placed-none before whole found inv =
+      let rest = kept_parts m fs (drop (i + 1) ps) in
+      let one : kept_parts m fs (drop i ps) ≡ rest =
+      kept-next m fs i ps p h ∙ ap (λ (q : Part). cons_option (kept_part m fs q) rest) (sym is)
+      ∙ ap (λ o. cons_option (option_map (λ (f : Finished). (p.shell, under m f.layouts)) o) rest) found in
+      sym (ap (λ xs. before (map shown_placement xs)) one) ∙ inv
+
+pub placed-all : {L : Type 0} (last : List Placement → L) (m : Mode) (fs : List Finished) (i : ℕ) (ps : List Part) (whole : L) → length ps ≤ i
+    → last (map shown_placement (kept_parts m fs (drop i ps))) ≡ whole → last [] ≡ whole
+placed-all last m fs i ps whole done inv = sym (ap (λ xs. last (map shown_placement xs)) (kept-none m fs i ps done)) ∙ inv
+
 -- what is taken of the instances from one on, with its component and without one
 module _ (fs : List Finished) (i : ℕ) (ps : List Part) (p : Part) (h : i < length ps) (is : p ≡ get_or ps i p) where
   members-next : kept_members fs (drop i ps) ≡ cons_option (kept_member fs p) (kept_members fs (drop (i + 1) ps))
@@ -222,6 +249,14 @@ whole-next fs i ps p b h is e =
     ap (are_whole fs) (next i ps p h)
     ∙ ap (λ (q : Part). is_whole (slice_get fs q.component) && are_whole fs (drop (i + 1) ps)) (sym is)
     ∙ ap (λ w. w && are_whole fs (drop (i + 1) ps)) e
+
+and-assoc : (a b c : Bool) → ((a && b) && c) ≡ (a && (b && c))
+and-assoc true b c = refl
+and-assoc false b c = refl
+
+pub and-one : (b : Bool) → b ≡ (b && true)
+and-one true = refl
+and-one false = refl
 
 -- one more instance for the levels, the rows, and the instances that must not be empty
 module _ (fs : List Finished) (i : ℕ) (ps : List Part) (p : Part) (o : Option Finished) (h : i < length ps) (is : p ≡ get_or ps i p) (found : slice_get fs p.component ≡ o) where
@@ -251,3 +286,12 @@ module _ (fs : List Finished) (i : ℕ) (ps : List Part) (p : Part) (o : Option 
       let one : kept_empty fs (drop i ps) ≡ option_or (part_empty p o) r =
       empty-next fs i ps p h ∙ ap (λ (q : Part). option_or (part_empty q (slice_get fs q.component)) r) (sym is) ∙ ap (λ x. option_or (part_empty p x) r) found in
       ap (λ x. option_or x r) g ∙ sym one ∙ inv
+
+  pub whole-more : (so_far more whole : Bool) → more ≡ (so_far && is_whole o) → (so_far && are_whole fs (drop i ps)) ≡ whole → (more && are_whole fs (drop (i + 1) ps)) ≡ whole
+  whole-more so_far more whole e inv =
+      let r = are_whole fs (drop (i + 1) ps) in
+      ap (λ b. b && r) e ∙ and-assoc so_far (is_whole o) r ∙ ap (λ b. so_far && b) (sym (whole-next fs i ps p (is_whole o) h is (ap is_whole found))) ∙ inv
+
+-- an instance that isn't empty, and below which none is
+pub full-part : (p : Part) (f : Finished) → lacks_rows f.kind f.rows ≡ false → f.first_empty ≡ None → part_empty p (Some f) ≡ None
+full-part p f e g = ap (λ b. option_or (if b then Some p.at else None) f.first_empty) e ∙ g

@@ -6,6 +6,8 @@ use Rattle.std.specs.Prelude.{max, unwrap_or}
 use Rattle.rdl_elab.specs.declared.layout.Mode.{Mode}
 use Rattle.rdl_elab.specs.declared.layout.Placement.{Placement}
 use Rattle.rdl_elab.specs.declared.layout.Layout.{Layout}
+use Rattle.rdl_elab.specs.declared.layout.placing.Placing.{Placing}
+use Rattle.rdl_elab.specs.Placing.{with_behind}
 use Rattle.rdl_elab.specs.declared.layout.Span.{Span}
 use Rattle.rdl_elab.specs.Size.{end_of, greatest_end, greatest_access}
 use Rattle.rdl_elab.specs.Start.{mode_alignment, start_of, start_by, aligned_start, spans_from}
@@ -67,51 +69,51 @@ greatest_capped (s ∷ ss) = ap (λ x. max (capped s.end) x) (greatest_capped ss
     both : (x y : ℕ) → max (capped x) (capped y) ≡ capped (max x y)
     both x y = omega arith
 
-module _ (all : Option ℕ) (m : Mode) (e from to i : ℕ) (items : List Placement) (d : Placement) (within : i < length items) (h : from ≡ capped (start_of all m e (get_or items i d))) (g : to ≡ capped (end_of from (get_or items i d))) where
-  one_more : map capped_span (spans_from all m e (drop i items)) ≡ to_span from to ∷ map capped_span (spans_from all m to (drop (i + 1) items))
-  one_more =
-      let j : suc i ≡ i + 1 = omega arith in
-      ap (λ ps. map capped_span (spans_from all m e ps)) (drop-cons items i d within) ∙ spans_step all m e from to (get_or items i d) (drop (suc i) items) h g
-      ∙ ap (λ k. to_span from to ∷ map capped_span (spans_from all m to (drop k items))) j
+-- what a component has where nothing is placed yet
+pub behind-none : (all : Option ℕ) (m : Mode) (kept : List Span) (ps : List Placement) → kept ≡ []
+    → ◌≡◌ {A = Layout} (record { size = max 0 (greatest_end (map capped_span (spans_from all m 0 ps))); access = max 0 (greatest_access ps); spans = kept ++ map capped_span (spans_from all m 0 ps) }) (capped_layout (container all m ps))
+behind-none all m kept ps none =
+    let largest : max 0 (greatest_end (map capped_span (spans_from all m 0 ps))) ≡ capped (greatest_end (spans_from all m 0 ps)) = zero (greatest_end (map capped_span (spans_from all m 0 ps))) ∙ greatest_capped (spans_from all m 0 ps) in
+    λ i. record { size = largest i; access = zero (greatest_access ps) i; spans = none i ++ map capped_span (spans_from all m 0 ps) }
+  where
+    zero : (x : ℕ) → max 0 x ≡ x
+    zero x = omega arith
 
-  pub more_placed : (whole before after : List Span) → whole ≡ before ++ map capped_span (spans_from all m e (drop i items)) → after ≡ before ++ to_span from to ∷ [] → whole ≡ after ++ map capped_span (spans_from all m to (drop (i + 1) items))
-  more_placed whole before after w p =
-      w ∙ ap (λ xs. before ++ xs) one_more ∙ sym (append_assoc before (to_span from to ∷ []) (map capped_span (spans_from all m to (drop (i + 1) items))))
-      ∙ ap (λ xs. xs ++ map capped_span (spans_from all m to (drop (i + 1) items))) (sym p)
-
-  pub more_size : (whole s t : ℕ) → whole ≡ max s (greatest_end (map capped_span (spans_from all m e (drop i items)))) → t ≡ max s to → whole ≡ max t (greatest_end (map capped_span (spans_from all m to (drop (i + 1) items))))
-  more_size whole s t w p =
-      w ∙ ap (λ xs. max s (greatest_end xs)) one_more ∙ again s to (greatest_end (map capped_span (spans_from all m to (drop (i + 1) items)))) t p
-    where
-      again : (s x y t : ℕ) → t ≡ max s x → max s (max x y) ≡ max t y
-      again s x y t p = omega arith
-
-pub more_access : (i : ℕ) (items : List Placement) (d : Placement) (whole s t : ℕ) → i < length items → whole ≡ max s (greatest_access (drop i items)) → t ≡ max s (get_or items i d).access → whole ≡ max t (greatest_access (drop (i + 1) items))
-more_access i items d whole s t within w p =
-    let j : suc i ≡ i + 1 = omega arith in
-    w ∙ ap (λ ps. max s (greatest_access ps)) (drop-cons items i d within) ∙ again s (get_or items i d).access (greatest_access (drop (suc i) items)) t p ∙ ap (λ k. max t (greatest_access (drop k items))) j
+-- one more instance that is placed
+pub behind-one : (all : Option ℕ) (m : Mode) (end size access : ℕ) (kept : List Span) (p : Placement) (from to largest widest : ℕ) (more : List Span)
+    → from ≡ capped (start_of all m end p) → to ≡ capped (end_of from p) → largest ≡ max size to → widest ≡ max access p.access → more ≡ kept ++ to_span from to ∷ [] → (ps : List Placement)
+    → ◌≡◌ {A = Layout} (record { size = max size (greatest_end (map capped_span (spans_from all m end (p ∷ ps)))); access = max access (max p.access (greatest_access ps)); spans = kept ++ map capped_span (spans_from all m end (p ∷ ps)) })
+      (record { size = max largest (greatest_end (map capped_span (spans_from all m to ps))); access = max widest (greatest_access ps); spans = more ++ map capped_span (spans_from all m to ps) })
+behind-one all m end size access kept p from to largest widest more h g f e d ps =
+    let rest = map capped_span (spans_from all m to ps) in
+    let one : map capped_span (spans_from all m end (p ∷ ps)) ≡ to_span from to ∷ rest = spans_step all m end from to p ps h g in
+    let sizes : max size (greatest_end (map capped_span (spans_from all m end (p ∷ ps)))) ≡ max largest (greatest_end rest) =
+    ap (λ ss. max size (greatest_end ss)) one ∙ again size to (greatest_end rest) largest f in
+    let lists : kept ++ map capped_span (spans_from all m end (p ∷ ps)) ≡ more ++ rest =
+    ap (λ ss. kept ++ ss) one ∙ sym (append_assoc kept (to_span from to ∷ []) rest) ∙ ap (λ ss. ss ++ rest) (sym d) in
+    λ i. record { size = sizes i; access = again access p.access (greatest_access ps) widest e i; spans = lists i }
   where
     again : (s x y t : ℕ) → t ≡ max s x → max s (max x y) ≡ max t y
-    again s x y t p = omega arith
+    again s x y t e = omega arith
 
--- what is placed once no instance is left
-pub all_placed : (all : Option ℕ) (m : Mode) (e i : ℕ) (items : List Placement) (ss kept : List Span) (size access : ℕ) → kept ≡ ss → length items ≤ i
-    → map capped_span (spans_from all m 0 items) ≡ ss ++ map capped_span (spans_from all m e (drop i items))
-    → greatest_end (map capped_span (spans_from all m 0 items)) ≡ max size (greatest_end (map capped_span (spans_from all m e (drop i items))))
-    → greatest_access items ≡ max access (greatest_access (drop i items))
-    → ◌≡◌ {A = Layout} (record { size = size; access = access; spans = kept }) (capped_layout (container all m items))
-all_placed all m e i items ss kept size access same done p q r =
-    let none : drop i items ≡ [] = drop_all i items done in
-    let placed : kept ≡ map capped_span (spans_from all m 0 items) = same ∙ sym (p ∙ ap (λ ps. ss ++ map capped_span (spans_from all m e ps)) none ∙ append_nil ss) in
-    let largest : size ≡ capped (greatest_end (spans_from all m 0 items)) = zero size (ap (λ ps. max size (greatest_end (map capped_span (spans_from all m e ps)))) none) ∙ sym q ∙ greatest_capped (spans_from all m 0 items) in
-    let widest : access ≡ greatest_access items = zero access (ap (λ ps. max access (greatest_access ps)) none) ∙ sym r in
-    λ k. record { size = largest k; access = widest k; spans = placed k }
+-- what a component has where no instance is left
+pub behind-all : (placing : Placing) (spans : List Span) → spans ≡ placing.spans.items → ◌≡◌ {A = Layout} (record { size = placing.size; access = placing.access; spans = spans }) (with_behind placing [])
+behind-all placing spans e =
+    λ i. record { size = none placing.size i; access = none placing.access i; spans = (e ∙ sym (append_nil placing.spans.items)) i }
   where
+    none : (x : ℕ) → x ≡ max x 0
+    none x = omega arith
+
     append_nil : {X : Type 0} (xs : List X) → xs ++ [] ≡ xs
     append_nil [] = refl
     append_nil (x ∷ xs) = ap (λ ys. x ∷ ys) (append_nil xs)
 
-    zero : (x : ℕ) {y : ℕ} → y ≡ max x 0 → x ≡ y
-    zero x e = omega arith
+-- one more of the instances that are to be placed
+pub next-placed : (old new : Placing) (i : ℕ) (items : List Placement) (d : Placement) (whole : Layout) → i < length items → ((behind : List Placement) → with_behind old (get_or items i d ∷ behind) ≡ with_behind new behind)
+    → with_behind old (drop i items) ≡ whole → with_behind new (drop (i + 1) items) ≡ whole
+next-placed old new i items d whole within put inv =
+    let j : suc i ≡ i + 1 = omega arith in
+    sym (put (drop (i + 1) items)) ∙ ap (λ k. with_behind old (get_or items i d ∷ drop k items)) (sym j) ∙ sym (ap (λ ps. with_behind old ps) (drop-cons items i d within)) ∙ inv
 
-pub ruleset placings = (spans_step, greatest_capped)
+pub last-placed : (placing : Placing) (i : ℕ) (items : List Placement) (whole : Layout) → length items ≤ i → with_behind placing (drop i items) ≡ whole → with_behind placing [] ≡ whole
+last-placed placing i items whole done inv = sym (ap (λ ps. with_behind placing ps) (drop_all i items done)) ∙ inv

@@ -2,6 +2,7 @@ pub mod Rounding
 pub mod Size
 pub mod Start
 pub mod Bits
+pub mod Placing
 pub mod Layouts
 pub mod Capped
 pub mod Rows
@@ -11,6 +12,7 @@ pub mod Reaches
 pub mod Onward
 pub mod InstanceValues
 pub mod Kept
+pub mod HeldAddress
 pub mod EachMode
 pub mod EachMember
 pub mod Bare

@@ -1,6 +1,6 @@
 -- What layouts are made of as one list of numbers, its words, and these as bytes, by which they are found again.
 -- own: how they are kept.
-use Rattle.std.specs.Prelude.{◌≡◌, ℕ, Bool, true, List, [], ◌∷◌, ◌++◌, Option, Some, None, bytes_eq}
+use Rattle.std.specs.Prelude.{◌≡◌, ◌<◌, ℕ, Bool, true, List, [], ◌∷◌, ◌++◌, Option, Some, None, bytes_eq}
 use Rattle.std.specs.List.{list_any, AllByRecursion}
 use Rattle.rdl_tree.specs.Items.{Items}
 use Rattle.rdl_tree.specs.declared.shell.Kind.{Kind}
@@ -14,6 +14,7 @@ use Rattle.rdl_elab.specs.declared.walk.each_member.Extent.{Extent}
 use Rattle.rdl_elab.specs.declared.walk.each_member.Extents.{Extents}
 use Rattle.rdl_elab.specs.Coded.{coded}
 use Rattle.rdl_elab.specs.Kept.{Layouts, EachMember, MadeOf}
+use Rattle.rdl_elab.specs.EachMember.{extents_of}
 use Rattle.rdl_elab.specs.MadeOf.{made_of, layouts_made}
 
 -- ---- The words of each part, and behind them the rest.
@@ -51,6 +52,14 @@ extents_words e rest = extent_words e.compact (extent_words e.regalign (extent_w
 
 abbrev pub member_words : EachMember → List ℕ → List ℕ
 member_words m rest = said_words m.said (extents_words m.extents rest)
+
+-- those of an instance that says nothing but its name, whose component has these layouts
+abbrev pub bare_member_words : Layouts → List ℕ → List ℕ
+bare_member_words l rest = 1 ∷ 0 ∷ 0 ∷ 0 ∷ 0 ∷ 0 ∷ extents_words (extents_of l) rest
+
+-- they are these, each of them one byte
+abbrev pub AreBareWords : Layouts → List ℕ → Type 0
+AreBareWords l ws = AllByRecursion (λ word. word < 255) ws × ((rest : List ℕ) → ws ++ rest ≡ bare_member_words l rest)
 
 abbrev pub members_words : List EachMember → List ℕ
 members_words [] = []

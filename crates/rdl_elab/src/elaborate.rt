@@ -125,7 +125,7 @@ pub(crate) fn map_fault(at: &Address, top: &Finished) -> Option<Fault>
         return Some(fault_at(at, FaultKind::TooManyRows));
     }
     match &top.first_empty {
-        Some(first) => Some(fault_at(first.as_address(), FaultKind::EmptyComponent)),
+        Some(first) => Some(fault_at(&first.address(), FaultKind::EmptyComponent)),
         None if top.layouts.under(Mode::Regalign).size > MAX_SIZE => Some(fault_at(
             at,
             FaultKind::MapTooLarge,

@@ -3,6 +3,7 @@
 pub(crate) mod bits;
 pub(crate) mod component;
 pub(crate) mod place;
+pub(crate) mod placing;
 pub(crate) mod round;
 
 use rdl_text::token::Number;

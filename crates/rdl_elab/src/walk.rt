@@ -47,7 +47,7 @@ use crate::walk::built_ins::BuiltIns;
 use crate::walk::defaults::Defaults;
 use crate::walk::finished::{Finished, Part};
 use crate::walk::heads::head_numbers;
-use crate::walk::instances::{are_whole, first_empty, levels, rows};
+use crate::walk::instances::{contents_of, first_empty_if};
 use crate::walk::laid_out::take_layouts;
 use crate::walk::own_values::OwnValues;
 use crate::walk::part_list::PartList;
@@ -149,8 +149,8 @@ fn finished_component<'a>(
     let by_name = walk.further.looks_up(description, has_dynamic, parts.len());
     let parts = PartList::of(alloc, parts, by_name)?;
     let components = walk.components.as_slice();
-    let whole = are_whole(parts.as_slice(), components);
-    require_whole(has_dynamic, whole)?;
+    let contents = contents_of(parts.as_slice(), components);
+    require_whole(has_dynamic, contents.whole)?;
     let assignments = assignments_if(alloc, has_dynamic, components, &parts, body)?;
     let room = &mut walk.built_ins;
     let taken = take_layouts(
@@ -163,7 +163,7 @@ fn finished_component<'a>(
         before,
     )?;
     let layouts = taken.laid_out.layouts()?;
-    let first_empty = first_empty(alloc, parts.as_slice(), components)?;
+    let first_empty = first_empty_if(alloc, contents.has_empty, parts.as_slice(), components)?;
     Ok(Finished {
         kind,
         values,
@@ -172,11 +172,11 @@ fn finished_component<'a>(
         layouts,
         laid_out: taken.laid_out,
         key: taken.key,
-        levels: levels(parts.as_slice(), components),
-        rows: rows(parts.as_slice(), components),
+        levels: contents.levels,
+        rows: contents.rows,
         first_empty,
         parts,
-        whole,
+        whole: contents.whole,
         passed: None,
     })
 }

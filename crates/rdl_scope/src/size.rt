@@ -5,10 +5,12 @@ ghost use Rattle.rdl_tree.specs.Weight.{capped};
 ghost use Rattle.rdl_tree.specs.ItemWeight.{item_weight};
 ghost use Rattle.rdl_tree.specs.View.{add};
 ghost use Rattle.rdl_tree.specs.declared.description.Item.{Item};
+ghost use Rattle.rdl_tree.specs.declared.description.Of.{Of};
 ghost use Rattle.rdl_scope.specs.Roots.{IsSizeOf};
 
 use rdl_text::name::Name;
 use rdl_tree::description::{Body, Description, Item, Of};
+use rdl_tree::shell::Shell;
 use rdl_tree::target::Target;
 use rdl_tree::value::Value;
 
@@ -90,6 +92,16 @@ fn most_weight(target: &Target, property: &Name, value: &Value) -> u64
         .saturating_add(1)
 }
 
+/// The weight of an instance of a type.
+#[inline]
+fn named_weight(shell: &Shell, name: &Name) -> u64
+    ensures { capped (item_weight (Item.Instance shell.now (Of.Named name.now))) ≤ result }
+{
+    (shell.name.len() as u64)
+        .saturating_add(name.len() as u64)
+        .saturating_add(1)
+}
+
 /// The size of an item with all inside it, in one walk that reads no names of targets.
 #[cycle(size)]
 pub fn item_size(item: &Item) -> Size
@@ -105,7 +117,12 @@ pub fn item_size(item: &Item) -> Size
             count: 1,
             weight: most_weight(target, property, value),
         },
-        Item::Instance(_, Of::Named(_)) | Item::Own(_, _) | Item::Default(_, _) => Size {
+        Item::Instance(shell, Of::Named(name)) => Size {
+            depth: 0,
+            count: 1,
+            weight: named_weight(shell, name),
+        },
+        Item::Own(_, _) | Item::Default(_, _) => Size {
             depth: 0,
             count: 1,
             weight: item.weight(),

@@ -13,11 +13,12 @@ pub fn property(name: &str) -> Option<Property>
     named(name, &Property::ALL)
 }
 
-/// Whether the property has this name.
+/// Whether the property has this name. Most others have a name of another length.
 fn is_named(property: Property, name: &str) -> bool
     ensures { result ≡ bytes_eq name.now (row property).name }
 {
-    is_same(name, property.name())
+    let own = property.name();
+    own.len() == name.len() && is_same(name, own)
 }
 
 fn named(name: &str, properties: &[Property]) -> Option<Property>

@@ -5,8 +5,9 @@ ghost use Rattle.rdl_elab.specs.Start.{full_alignment, mode_alignment, start_of}
 ghost use Rattle.rdl_elab.specs.Layouts.{container};
 ghost use Rattle.rdl_elab.specs.Capped.{capped, capped_layout, IsAlignment};
 
+use crate::layout::placing::Placing;
 use crate::layout::round::{LIMIT, capped, next_multiple};
-use crate::layout::{Layout, Mode, Placement, Span, Spans};
+use crate::layout::{Layout, Mode, Placement};
 use rdl_text::token::Number;
 use std::alloc::{AllocError, Global};
 
@@ -35,7 +36,7 @@ fn mode_alignment(mode: Mode, item: Placement) -> u64
 
 /// The start of an instance, in a component with this `alignment`, where the instance before it ends here.
 #[tactic(auto, using(crate::proofs::CappedNumbers::caps))]
-fn start_of(alignment: Option<Number>, mode: Mode, end: u64, item: Placement) -> u64
+pub(crate) fn start_of(alignment: Option<Number>, mode: Mode, end: u64, item: Placement) -> u64
     requires alignment { IsAlignment alignment }
     requires end { end ≤ 2 ^ 40 + 1 }
     ensures { result ≡ capped (start_of alignment mode end item) }
@@ -53,7 +54,7 @@ fn start_of(alignment: Option<Number>, mode: Mode, end: u64, item: Placement) ->
 }
 
 #[tactic(auto, using(crate::proofs::CappedNumbers::caps))]
-fn end_of(start: u64, item: Placement) -> u64
+pub(crate) fn end_of(start: u64, item: Placement) -> u64
     ensures { result ≡ capped (end_of start item) }
 {
     let size = Number::from(item.size);
@@ -68,8 +69,7 @@ fn end_of(start: u64, item: Placement) -> u64
 
 /// An address map or a register file with these instances in it, one after the other. Numbers over 2^40 are kept as
 /// 2^40 + 1.
-#[tactic(auto, using(crate::proofs::Placing::placings))]
-pub fn place(
+pub(crate) fn place(
     alloc: Global,
     alignment: Option<Number>,
     mode: Mode,
@@ -78,20 +78,9 @@ pub fn place(
     requires { IsAlignment alignment }
     ensures { IfOk result (λ l. l ≡ capped_layout (container alignment mode items.now)) }
 {
-    let mut spans = Vec::with_capacity(alloc, items.len())?;
-    let mut end = 0u64;
-    let mut size = 0u64;
-    let mut access = 0u64;
+    let mut placing = Placing::with_room(alloc, alignment, mode, items.len())?;
     for item in items {
-        let start = start_of(alignment, mode, end, *item);
-        end = end_of(start, *item);
-        spans.push(Span { start, end })?;
-        size = size.max(end);
-        access = access.max(item.access);
+        placing.put(*item)?;
     }
-    Ok(Layout {
-        size,
-        access,
-        spans: Spans::from_vec(spans),
-    })
+    Ok(placing.layout())
 }

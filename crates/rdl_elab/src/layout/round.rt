@@ -40,6 +40,21 @@ fn common_step(first: u64, second: Number) -> u64
     step
 }
 
+/// What is left of a number behind the last multiple of a step. For the steps of most registers it takes no division.
+#[inline]
+fn remainder(end: u64, step: u64) -> u64
+    requires { 0 < step }
+    ensures { result ≡ end % step }
+{
+    if step == 4 {
+        end % 4
+    } else if step == 8 {
+        end % 8
+    } else {
+        end % step
+    }
+}
+
 #[tactic(auto, using(crate::proofs::Rounding::rounds))]
 /// The least number at or above `end` that is a multiple of both.
 pub fn next_multiple(end: u64, first: u64, second: Number) -> u64
@@ -57,7 +72,7 @@ pub fn next_multiple(end: u64, first: u64, second: Number) -> u64
     if step >= LIMIT {
         return LIMIT;
     }
-    let over = end % step;
+    let over = remainder(end, step);
     if over == 0 {
         end
     } else {

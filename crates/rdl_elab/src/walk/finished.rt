@@ -84,7 +84,7 @@ impl<'a> Part<'a> {
     pub(crate) fn at(&self) -> Address
         ensures { result ≡ self.now.at }
     {
-        self.around.as_address().inside(self.number)
+        self.around.inside(self.number)
     }
 
     /// Its address, that of the body around it being shared.

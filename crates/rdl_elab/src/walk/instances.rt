@@ -1,16 +1,19 @@
 //! What a component takes of its instances, of whose components all is kept.
-ghost use Rattle.std.specs.Prelude.{◌≡◌, min, map, true, IfOk, Some, option_copied};
+ghost use Rattle.std.specs.Prelude.{◌≡◌, ◌∷◌, List, min, map, true, false, IfOk, OnOk, Some, None, option_copied};
 ghost use Rattle.rdl_elab.specs.declared.layout.Mode.{Mode};
 ghost use Rattle.rdl_elab.specs.declared.layout.Mode.TheVariants.{Compact};
 ghost use Rattle.rdl_tree.specs.declared.shell.Kind.TheVariants.{Regfile, Reg};
 ghost use Rattle.rdl_elab.specs.Layouts.{placement, field_bits, member, mode_inside, laid_out};
 ghost use Rattle.rdl_elab.specs.Capped.{capped_layout, IsAlignment};
+ghost use Rattle.rdl_elab.specs.declared.layout.Placement.{Placement};
+ghost use Rattle.rdl_elab.specs.Bare.{IsBare};
+ghost use Rattle.rdl_elab.specs.Placing.{with_behind};
 ghost use Rattle.rdl_elab.specs.Finished.{under};
 ghost use Rattle.rdl_elab.specs.Inside.{counted, shown_placement, kept_parts, kept_levels, finished_rows, lacks_rows, part_empty, kept_empty, is_whole, are_whole};
 
 use crate::layout::bits::bits;
 use crate::layout::component::{field, register};
-use crate::layout::place::place;
+use crate::layout::placing::Placing;
 use crate::layout::{FieldBits, Layout, LayoutValues, Mode, Placement};
 use crate::walk::finished::{Finished, Layouts, Part, ThreeLayouts};
 use crate::walk::shared::SharedAddress;
@@ -40,13 +43,13 @@ fn placement(shell: &Shell, layout: &Layout) -> Placement
     }
 }
 
-/// The same of an instance.
-fn placement_of(part: &Part, layout: &Layout) -> Placement
-    ensures { result ≡ counted (placement (part.now.shell, layout.now)) }
+/// The same of an instance that says nothing but its name.
+#[inline(always)]
+fn bare_placement(part: &Part, layout: &Layout) -> Placement
+    requires { IsBare part.now.shell }
+    ensures { result ≡ shown_placement (part.now.shell, layout.now) }
 {
-    if !part.is_bare() {
-        return placement(part.shell(), layout);
-    }
+    let _part = part;
     Placement {
         size: layout.size,
         access: layout.access,
@@ -55,6 +58,19 @@ fn placement_of(part: &Part, layout: &Layout) -> Placement
         address: None,
         stride: None,
         align: None,
+    }
+}
+
+/// Places this instance, whose component has this layout, behind those that are placed.
+fn put_part(placing: &mut Placing, part: &Part, layout: &Layout) -> Result<(), AllocError>
+    requires { IsAlignment placing.old.alignment }
+    ensures alignment { placing.new.alignment ≡ placing.old.alignment }
+    ensures one { OnOk result ((behind : List Placement) → with_behind placing.old (shown_placement (part.now.shell, layout.now) ∷ behind) ≡ with_behind placing.new behind) }
+{
+    if part.is_bare() {
+        placing.put(bare_placement(part, layout))
+    } else {
+        placing.put(placement(part.shell(), layout))
     }
 }
 
@@ -69,24 +85,6 @@ fn field_bits(shell: &Shell, layout: &Layout) -> FieldBits
         width,
         range: shell.range.get(),
     }
-}
-
-#[tactic(auto, using(crate::proofs::Insides::steps))]
-fn placements(
-    alloc: Global,
-    mode: Mode,
-    parts: &[Part],
-    components: &[Finished],
-) -> Result<Vec<Placement>, AllocError>
-    ensures { IfOk result (λ ps. ps.items ≡ map shown_placement (kept_parts mode components.now parts.now)) }
-{
-    let mut placements = Vec::with_capacity(alloc, parts.len())?;
-    for part in parts {
-        if let Some(finished) = part.component(components) {
-            placements.push(placement_of(part, finished.layouts.under(mode)))?;
-        }
-    }
-    Ok(placements)
 }
 
 #[tactic(auto, using(crate::proofs::Insides::steps))]
@@ -128,8 +126,13 @@ fn container(
     requires { IsAlignment values.alignment }
     ensures { IfOk result (λ l. l ≡ capped_layout (laid_out Regfile values mode (map member (kept_parts mode components.now parts.now)))) }
 {
-    let items = placements(alloc, mode, parts, components)?;
-    place(alloc, values.alignment, mode, items.as_slice())
+    let mut placing = Placing::with_room(alloc, values.alignment, mode, parts.len())?;
+    for part in parts {
+        if let Some(finished) = part.component(components) {
+            put_part(&mut placing, part, finished.layouts.under(mode))?;
+        }
+    }
+    Ok(placing.layout())
 }
 
 fn register_of(
@@ -240,37 +243,6 @@ pub(crate) fn layouts(
     }
 }
 
-/// The names of the longest path below a component with these instances, at most 16.
-#[tactic(auto, using(crate::proofs::Insides::steps))]
-pub(crate) fn levels(parts: &[Part], components: &[Finished]) -> usize
-    ensures { result ≡ min (kept_levels components.now parts.now) 16 }
-{
-    let mut levels = 0usize;
-    for part in parts {
-        if let Some(finished) = part.component(components) {
-            levels = levels
-                .max(finished.levels.saturating_add(1))
-                .min(MAX_LEVELS);
-        }
-    }
-    levels
-}
-
-/// The rows below a component with these instances, at most 65,536.
-#[tactic(auto, using(crate::proofs::Insides::steps))]
-pub(crate) fn rows(parts: &[Part], components: &[Finished]) -> usize
-    ensures { result ≡ min (finished_rows components.now parts.now) 65536 }
-{
-    let mut rows = 0usize;
-    for part in parts {
-        if let Some(finished) = part.component(components) {
-            let more = finished.rows.saturating_add(1);
-            rows = rows.saturating_add(more).min(MAX_ROWS);
-        }
-    }
-    rows
-}
-
 /// Whether a component of this kind with so many rows below it is one that must not be without instances.
 fn is_empty(kind: Kind, rows: usize) -> bool
     ensures { result ≡ lacks_rows kind rows }
@@ -281,25 +253,70 @@ fn is_empty(kind: Kind, rows: usize) -> bool
     }
 }
 
-/// Whether all below the components of these instances is held.
-pub(crate) fn are_whole(parts: &[Part], components: &[Finished]) -> bool
-    ensures { result ≡ are_whole components.now parts.now }
-{
-    for part in parts {
-        if !is_whole(part.component(components)) {
-            return false;
-        }
-    }
-    true
+/// What is below a component.
+#[derive(Clone, Copy)]
+pub(crate) struct Contents {
+    /// The names of the longest path, at most 16.
+    pub levels: usize,
+    /// The rows, at most 65,536.
+    pub rows: usize,
+    /// Whether all of it is held.
+    pub whole: bool,
+    /// Whether a register file or address map without instances may be among it.
+    pub has_empty: bool,
 }
 
-fn is_whole(finished: Option<&Finished>) -> bool
-    ensures { result ≡ is_whole (option_copied finished.entry) }
-{
-    match finished {
-        Some(finished) => finished.whole,
-        None => true,
+impl Contents {
+    ghost use Rattle.std.specs.Prelude.{◌≡◌, ◌≤◌, ◌&&◌, ◌||◌, ◌+◌, false, None, min, max};
+    ghost use Rattle.rdl_elab.specs.Inside.{lacks_rows};
+
+    /// Nothing.
+    fn nothing() -> Contents
+        ensures { result ≡ record { levels = 0; rows = 0; whole = true; has_empty = false } }
+    {
+        Contents {
+            levels: 0,
+            rows: 0,
+            whole: true,
+            has_empty: false,
+        }
     }
+
+    /// This, with one more instance, of this component.
+    fn with(self, finished: &Finished) -> Contents
+        ensures levels { result.levels ≡ min (max self.levels (finished.now.levels + 1)) 16 }
+        ensures rows { result.rows ≡ min (self.rows + (finished.now.rows + 1)) 65536 }
+        ensures whole { result.whole ≡ (self.whole && finished.now.whole) }
+        ensures before { result.has_empty ≡ false → self.has_empty ≡ false }
+        ensures empty { result.has_empty ≡ false → lacks_rows finished.now.kind finished.now.rows ≡ false }
+        ensures inside { result.has_empty ≡ false → finished.now.first_empty ≡ None }
+    {
+        let rows = self.rows.saturating_add(finished.rows.saturating_add(1));
+        Contents {
+            levels: self.levels.max(finished.levels.saturating_add(1)).min(MAX_LEVELS),
+            rows: rows.min(MAX_ROWS),
+            whole: self.whole && finished.whole,
+            has_empty: self.has_empty
+                || finished.first_empty.is_some()
+                || is_empty(finished.kind, finished.rows),
+        }
+    }
+}
+
+/// What is below a component with these instances.
+pub(crate) fn contents_of(parts: &[Part], components: &[Finished]) -> Contents
+    ensures levels { result.levels ≡ min (kept_levels components.now parts.now) 16 }
+    ensures rows { result.rows ≡ min (finished_rows components.now parts.now) 65536 }
+    ensures whole { result.whole ≡ are_whole components.now parts.now }
+    ensures empty { result.has_empty ≡ false → kept_empty components.now parts.now ≡ None }
+{
+    let mut contents = Contents::nothing();
+    for part in parts {
+        if let Some(finished) = part.component(components) {
+            contents = contents.with(finished);
+        }
+    }
+    contents
 }
 
 fn shared(address: Option<&SharedAddress>) -> Result<Option<SharedAddress>, AllocError>
@@ -329,7 +346,7 @@ fn empty_part(
 
 /// The first of these instances, or below them, of a register file or address map without instances.
 #[tactic(auto, using(crate::proofs::Insides::steps))]
-pub(crate) fn first_empty(
+fn first_empty(
     alloc: Global,
     parts: &[Part],
     components: &[Finished],
@@ -344,4 +361,21 @@ pub(crate) fn first_empty(
         }
     }
     Ok(None)
+}
+
+/// The same, where it is known whether there may be one.
+pub(crate) fn first_empty_if(
+    alloc: Global,
+    has_empty: bool,
+    parts: &[Part],
+    components: &[Finished],
+) -> Result<Option<SharedAddress>, AllocError>
+    requires { has_empty ≡ false → kept_empty components.now parts.now ≡ None }
+    ensures { IfOk result (λ empty. empty ≡ kept_empty components.now parts.now) }
+{
+    if has_empty {
+        first_empty(alloc, parts, components)
+    } else {
+        Ok(None)
+    }
 }

@@ -12,7 +12,7 @@ use crate::walk::built_ins::BuiltIns;
 use crate::walk::finished::{Finished, Layouts, Part};
 use crate::walk::instances::layouts;
 use crate::walk::shared_words::SharedWords;
-use crate::walk::words::spell;
+use crate::walk::words::{bare_words, spell};
 use rdl_tree::shell::Kind;
 use std::alloc::{AllocError, Global};
 use std::marker::Model;
@@ -22,18 +22,27 @@ use std::rc::Rc;
 #[derive(Debug, Drop)]
 pub(crate) struct SharedLayouts {
     layouts: Rc<Layouts>,
+    /// The words of an instance that says nothing but its name, if each is one byte.
+    bare: Option<[u8; 12]>,
 }
 
 impl Model for SharedLayouts {
     ghost use Rattle.rdl_elab.specs.Kept.{Layouts};
 
+    ghost use Rattle.std.specs.Prelude.{IfSome};
+
     ghost Value = { Layouts };
 
+    ghost use Rattle.rdl_elab.specs.Words.{AreBareWords};
+
     ghost view = { λ s. s.layouts.value };
+
+    ghost invariant = { λ s. IfSome s.bare (AreBareWords s.layouts.value) };
 }
 
 impl SharedLayouts {
-    ghost use Rattle.std.specs.Prelude.{◌≡◌, ◌≤◌, true, IfOk};
+    ghost use Rattle.std.specs.Prelude.{◌≡◌, ◌≤◌, true, IfOk, IfSome, option_copied};
+    ghost use Rattle.rdl_elab.specs.Words.{AreBareWords};
     ghost use Rattle.rdl_elab.specs.Anew.{all_spans};
     ghost use Rattle.rdl_elab.specs.declared.layout.Mode.{Mode};
     ghost use Rattle.rdl_elab.specs.declared.layout.Mode.TheVariants.{Compact};
@@ -42,9 +51,12 @@ impl SharedLayouts {
     fn new(alloc: Global, layouts: Layouts) -> Result<SharedLayouts, AllocError>
         ensures { IfOk result (λ shared. shared ≡ layouts) }
     {
-        Ok(SharedLayouts {
+        let mut shared = SharedLayouts {
             layouts: Rc::new(alloc, layouts)?,
-        })
+            bare: None,
+        };
+        shared.bare = bare_words(&shared);
+        Ok(shared)
     }
 
     /// The same layouts, for one more.
@@ -53,6 +65,7 @@ impl SharedLayouts {
     {
         Ok(SharedLayouts {
             layouts: self.layouts.clone()?,
+            bare: self.bare,
         })
     }
 
@@ -60,6 +73,16 @@ impl SharedLayouts {
         ensures { result.now ≡ under mode self.now }
     {
         self.layouts.as_ref().under(mode)
+    }
+
+    /// The words of an instance that says nothing but its name, whose component has these layouts, if each is one byte.
+    pub(crate) fn bare_words(&self) -> Option<&[u8]>
+        ensures { IfSome (option_copied result) (AreBareWords self.now) }
+    {
+        match &self.bare {
+            Some(words) => Some(&words[..]),
+            None => None,
+        }
     }
 
     /// How many instances were placed for them.

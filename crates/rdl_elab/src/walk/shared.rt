@@ -6,10 +6,18 @@ use std::alloc::{AllocError, Global};
 use std::marker::Model;
 use std::rc::Rc;
 
-/// An address that several share. A contract sees the list of its numbers.
+/// How an address is held.
+#[derive(Drop)]
+enum HeldAddress {
+    /// That of an item of the root, by its number.
+    OfRoot(usize),
+    Shared(Rc<Address>),
+}
+
+/// An address that several share. That of an item of the root takes no memory. A contract sees the list of its numbers.
 #[derive(Drop)]
 pub(crate) struct SharedAddress {
-    address: Rc<Address>,
+    held: HeldAddress,
 }
 
 impl Model for SharedAddress {
@@ -17,33 +25,65 @@ impl Model for SharedAddress {
 
     ghost Value = { List ℕ };
 
-    ghost view = { λ a. a.address.value };
+    ghost use Rattle.rdl_elab.specs.HeldAddress.{held_numbers};
+
+    ghost view = { λ a. held_numbers a.held };
 }
 
 impl SharedAddress {
-    ghost use Rattle.std.specs.Prelude.{◌≡◌, IfOk};
+    ghost use Rattle.std.specs.Prelude.{◌≡◌, ◌<◌, ◌++◌, ◌∷◌, [], length, nat_eq, IfOk};
+    ghost use Rattle.std.specs.Cmp.Lexicographic.{pointwise};
 
     pub(crate) fn new(alloc: Global, address: Address) -> Result<SharedAddress, AllocError>
         ensures { IfOk result (λ shared. shared ≡ address) }
     {
-        Ok(SharedAddress {
-            address: Rc::new(alloc, address)?,
-        })
+        let held = match address.as_slice() {
+            [number] => HeldAddress::OfRoot(*number),
+            _ => HeldAddress::Shared(Rc::new(alloc, address)?),
+        };
+        Ok(SharedAddress { held })
     }
 
     /// The same address, for one more.
+    #[inline]
     pub(crate) fn share(&self) -> Result<SharedAddress, AllocError>
         ensures { IfOk result (λ shared. shared ≡ self.now) }
     {
-        Ok(SharedAddress {
-            address: self.address.clone()?,
-        })
+        let held = match &self.held {
+            HeldAddress::OfRoot(number) => HeldAddress::OfRoot(*number),
+            HeldAddress::Shared(address) => HeldAddress::Shared(address.clone()?),
+        };
+        Ok(SharedAddress { held })
     }
 
-    pub(crate) fn as_address(&self) -> &Address
-        ensures { result.now ≡ self.now }
+    pub(crate) fn address(&self) -> Address
+        ensures { result ≡ self.now }
     {
-        self.address.as_ref()
+        match &self.held {
+            HeldAddress::OfRoot(number) => Address::new().inside(*number),
+            HeldAddress::Shared(address) => address.as_ref().copy(),
+        }
+    }
+
+    /// The address of an item of the body at this address.
+    pub(crate) fn inside(&self, number: usize) -> Address
+        requires { length self.now < 17 }
+        ensures { result ≡ self.now ++ number ∷ [] }
+    {
+        match &self.held {
+            HeldAddress::OfRoot(root) => Address::new().inside(*root).inside(number),
+            HeldAddress::Shared(address) => address.as_ref().inside(number),
+        }
+    }
+
+    /// Whether it is the same address.
+    fn is(&self, other: &SharedAddress) -> bool
+        ensures { result ≡ pointwise nat_eq self.now other.now }
+    {
+        match (&self.held, &other.held) {
+            (HeldAddress::OfRoot(first), HeldAddress::OfRoot(second)) => first == second,
+            _ => self.address() == other.address(),
+        }
     }
 }
 
@@ -84,7 +124,7 @@ impl InstanceAddress {
     pub(crate) fn is(&self, other: &InstanceAddress) -> bool
         ensures { result ≡ pointwise nat_eq self.now other.now }
     {
-        self.number == other.number && self.around.as_address() == other.around.as_address()
+        self.number == other.number && self.around.is(&other.around)
     }
 }
 

@@ -1,9 +1,9 @@
 //! The words of what layouts are made of, as bytes, by which they are found again.
-ghost use Rattle.std.specs.Prelude.{◌≡◌, ◌<◌, ◌∷◌, ◌++◌, ℕ, List, true, None, OnOk};
+ghost use Rattle.std.specs.Prelude.{◌≡◌, ◌<◌, ◌∷◌, ◌++◌, ℕ, List, true, None, IfSome, OnOk};
 ghost use Rattle.std.specs.List.{AllByRecursion};
 ghost use Rattle.rdl_elab.specs.EachMember.{shown_each};
 ghost use Rattle.rdl_elab.specs.LaidOut.{kept_members};
-ghost use Rattle.rdl_elab.specs.Words.{kind_word, mode_word, number_words, range_words, values_words, said_words, extent_words, extents_words, member_words, spelling, Puts};
+ghost use Rattle.rdl_elab.specs.Words.{kind_word, mode_word, number_words, range_words, values_words, said_words, extent_words, extents_words, member_words, bare_member_words, spelling, AreBareWords, Puts};
 
 use crate::layout::{LayoutValues, Mode};
 use crate::walk::each_member::{Extent, Extents, Said};
@@ -221,34 +221,45 @@ fn put_extents(bytes: &mut Vec<u8>, extents: Extents) -> Result<(), AllocError>
     Ok(())
 }
 
-/// Puts the words of what is taken of an instance that says nothing but its name, whose component is so large.
-fn put_bare_member(bytes: &mut Vec<u8>, extents: Extents) -> Result<(), AllocError>
-    ensures { OnOk result (Puts (λ rest. 1 ∷ 0 ∷ 0 ∷ 0 ∷ 0 ∷ 0 ∷ extents_words extents rest) bytes.old.items bytes.new.items) }
+/// The words of what is taken of an instance that says nothing but its name, whose component has these layouts, if each is
+/// one byte.
+pub(crate) fn bare_words(layouts: &SharedLayouts) -> Option<[u8; 12]>
+    ensures { IfSome result (AreBareWords layouts.now) }
 {
     let Extents {
         compact,
         regalign,
         fullalign,
-    } = extents;
-    if is_small(compact) && is_small(regalign) && is_small(fullalign) {
-        let words = [
-            1,
-            0,
-            0,
-            0,
-            0,
-            0,
-            compact.size as u8,
-            compact.access as u8,
-            regalign.size as u8,
-            regalign.access as u8,
-            fullalign.size as u8,
-            fullalign.access as u8,
-        ];
-        return put_small(bytes, &words);
+    } = Extents::of(layouts);
+    if !(is_small(compact) && is_small(regalign) && is_small(fullalign)) {
+        return None;
+    }
+    Some([
+        1,
+        0,
+        0,
+        0,
+        0,
+        0,
+        compact.size as u8,
+        compact.access as u8,
+        regalign.size as u8,
+        regalign.access as u8,
+        fullalign.size as u8,
+        fullalign.access as u8,
+    ])
+}
+
+/// Puts the words of what is taken of an instance that says nothing but its name, whose component has these layouts.
+fn put_bare_member(bytes: &mut Vec<u8>, layouts: &SharedLayouts) -> Result<(), AllocError>
+    ensures { OnOk result (Puts (bare_member_words layouts.now) bytes.old.items bytes.new.items) }
+{
+    if let Some(words) = layouts.bare_words() {
+        put_small(bytes, words)?;
+        return Ok(());
     }
     put_small(bytes, &[1, 0, 0, 0, 0, 0])?;
-    put_extents(bytes, extents)?;
+    put_extents(bytes, Extents::of(layouts))?;
     Ok(())
 }
 
@@ -256,11 +267,11 @@ fn put_bare_member(bytes: &mut Vec<u8>, extents: Extents) -> Result<(), AllocErr
 fn put_member(bytes: &mut Vec<u8>, part: &Part, layouts: &SharedLayouts) -> Result<(), AllocError>
     ensures { OnOk result (Puts (member_words (shown_each part.now.shell layouts.now)) bytes.old.items bytes.new.items) }
 {
-    let extents = Extents::of(layouts);
     if part.is_bare() {
-        put_bare_member(bytes, extents)?;
+        put_bare_member(bytes, layouts)?;
         return Ok(());
     }
+    let extents = Extents::of(layouts);
     put_said(bytes, Said::of(part.shell()))?;
     put_extents(bytes, extents)?;
     Ok(())

@@ -49,8 +49,8 @@ returns-clause-kept c = λ e inside n same are.
       values = c.layout_values-values.ensures.values h (sym c.in_ok-own.ensures) (sym same);
       shown = c.in_ok-shown.ensures.values h refl (sym c.in_ok-own.ensures) (sym same ∙ sym c.layout_values-values.ensures.stays);
       layouts = λ m. sym (ap (under m) (c.in_ok-layouts.ensures.made (made_of made) (sym (returns-clause-words c e inside n same are)))) ∙ ap (under m) (layouts-made made) ∙ under-kept m made;
-      levels = c.levels.ensures ∙ levels-kept d fs n c.as_slice-4.result.now inside (moved c.as_slice-4.result.now (c.as_slice-4.ensures ∙ c.in_ok-parts.ensures));
-      rows = c.rows.ensures ∙ rows-kept d fs n c.as_slice-5.result.now inside (moved c.as_slice-5.result.now (c.as_slice-5.ensures ∙ c.in_ok-parts.ensures));
+      levels = c.contents_of-contents.ensures.levels ∙ levels-kept d fs n c.as_slice.result.now inside (moved c.as_slice.result.now (c.as_slice.ensures ∙ c.in_ok-parts.ensures));
+      rows = c.contents_of-contents.ensures.rows ∙ rows-kept d fs n c.as_slice.result.now inside (moved c.as_slice.result.now (c.as_slice.ensures ∙ c.in_ok-parts.ensures));
       first_empty = c.in_ok-first_empty.ensures ∙ empty-kept d fs n c.as_slice-3.result.now inside (moved c.as_slice-3.result.now (c.as_slice-3.ensures ∙ c.in_ok-parts.ensures));
     }
 
@@ -64,7 +64,7 @@ returns-clause-whole c = λ e inside n same are w.
     let alone = returns-clause-kept c e inside n same are in
     let here = subst (λ (gs : List Finished). AreReadyParts d gs n ps inside) (sym c.as_slice-components.ensures.value)
     (subst (λ (qs : List Part). AreReadyParts d c.args.walk.now.components.items n qs inside) (sym c.in_ok-parts.ensures) are) in
-    let held = ap (are_whole fs) (sym c.as_slice.ensures) ∙ sym c.are_whole-whole.ensures ∙ w in
+    let held = ap (are_whole fs) (sym c.as_slice.ensures) ∙ sym c.contents_of-contents.ensures.whole ∙ w in
     let parts = whole-parts d fs n ps inside here held in
     record {
       kind = alone.kind;

@@ -1,11 +1,9 @@
-use Rattle.std.proofs.Common.{◌++◌, ◌∷◌, ap, sym, ◌∙◌}
+use Rattle.std.proofs.Common.{◌++◌, ap, sym, ◌∙◌}
 use Rattle.rdl_elab.specs.Coded.{coded}
-use Rattle.rdl_elab.specs.Words.{extents_words}
 use Rattle.rdl_elab.proofs.Bare.{bare-member}
 use Rattle.rdl_elab.proofs.walk.words.put_member.Goals as goal
 
 pub returns-then-is_bare : goal.returns-then-is_bare
 returns-then-is_bare c = λ rest.
     c.in_ok-put_bare_member.ensures rest
-    ∙ ap (λ e. c.args.bytes.now.items ++ coded (1 ∷ 0 ∷ 0 ∷ 0 ∷ 0 ∷ 0 ∷ extents_words e rest)) c.of-extents.ensures
     ∙ sym (ap (λ ws. c.args.bytes.now.items ++ coded ws) (bare-member c.args.part.now.shell c.args.layouts.now rest (c.is_bare.ensures c.if-is_bare.true)))

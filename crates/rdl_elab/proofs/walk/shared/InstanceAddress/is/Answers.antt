@@ -10,8 +10,7 @@ returns-then-self-other c =
     let a = c.self.inside in
     let b = c.other.inside in
     let same : nat_eq a.number b.number ≡ true = eq-eqb a.number b.number c.if-self-other.true in
-    let eq : c.eq.result ≡ pointwise nat_eq a.around b.around = search rules in
-    eq
+    c.is.ensures
     ∙ ap (λ t. t && pointwise nat_eq a.around b.around) (sym same)
     ∙ sym (same-instance a.around b.around a.number b.number)
     ∙ (λ i. pointwise nat_eq (c.self.view_is i) (c.other.view_is i))

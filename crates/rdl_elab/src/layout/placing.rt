@@ -1,0 +1,77 @@
+//! Instances of an address map or a register file that are placed one after the other.
+ghost use Rattle.std.specs.Prelude.{◌≤◌, ◌+◌, ◌^◌};
+
+use crate::layout::place::{end_of, start_of};
+use crate::layout::{Layout, Mode, Placement, Span, Spans};
+use rdl_text::token::Number;
+use std::alloc::{AllocError, Global};
+
+/// The instances that are placed so far. Numbers over 2^40 are kept as 2^40 + 1.
+#[derive(Drop)]
+pub(crate) struct Placing {
+    alignment: Option<Number>,
+    mode: Mode,
+    spans: Vec<Span>,
+    /// Where the last of them ends.
+    end: u64,
+    /// The greatest end.
+    size: u64,
+    /// The widest access.
+    access: u64,
+    ghost near: { end ≤ 2 ^ 40 + 1 },
+}
+
+impl Placing {
+    ghost use Rattle.std.specs.Prelude.{◌≡◌, ◌∷◌, [], List, IfOk, OnOk};
+    ghost use Rattle.rdl_elab.specs.Capped.{capped_layout, IsAlignment};
+    ghost use Rattle.rdl_elab.specs.Layouts.{container};
+    ghost use Rattle.rdl_elab.specs.Placing.{with_behind};
+    ghost use Rattle.rdl_elab.specs.declared.layout.Placement.{Placement};
+
+    /// None yet, in a component with this `alignment`, with room for so many.
+    pub(crate) fn with_room(
+        alloc: Global,
+        alignment: Option<Number>,
+        mode: Mode,
+        count: usize,
+    ) -> Result<Placing, AllocError>
+        ensures alignment { IfOk result (λ placing. placing.alignment ≡ alignment) }
+        ensures none { IfOk result (λ placing. (behind : List Placement) → with_behind placing behind ≡ capped_layout (container alignment mode behind)) }
+    {
+        Ok(Placing {
+            alignment,
+            mode,
+            spans: Vec::with_capacity(alloc, count)?,
+            end: 0,
+            size: 0,
+            access: 0,
+        })
+    }
+
+    /// Places one more.
+    #[inline(always)]
+    pub(crate) fn put(&mut self, item: Placement) -> Result<(), AllocError>
+        requires { IsAlignment self.old.alignment }
+        ensures alignment { self.new.alignment ≡ self.old.alignment }
+        ensures one { OnOk result ((behind : List Placement) → with_behind self.old (item ∷ behind) ≡ with_behind self.new behind) }
+    {
+        let start = start_of(self.alignment, self.mode, self.end, item);
+        let end = end_of(start, item);
+        self.spans.push(Span { start, end })?;
+        self.end = end;
+        self.size = self.size.max(end);
+        self.access = self.access.max(item.access);
+        Ok(())
+    }
+
+    /// The component with these instances in it.
+    pub(crate) fn layout(self) -> Layout
+        ensures { result ≡ with_behind self [] }
+    {
+        Layout {
+            size: self.size,
+            access: self.access,
+            spans: Spans::from_vec(self.spans),
+        }
+    }
+}
