@@ -9,6 +9,7 @@ pub mod Faults
 pub mod Shown
 pub mod Reaches
 pub mod Onward
+pub mod Access
 pub mod InstanceValues
 pub mod Kept
 pub mod EachMode
@@ -19,6 +20,7 @@ pub mod PartNames
 pub mod KeptTargets
 pub mod FinishedRows
 pub mod Clean
+pub mod CleanParts
 pub mod SiblingRanges
 pub mod Inside
 pub mod LaidOut
