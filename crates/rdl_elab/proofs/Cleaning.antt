@@ -8,7 +8,6 @@ use Rattle.rdl_tree.specs.declared.shell.Kind.{Kind}
 use Rattle.rdl_tree.specs.declared.shell.Kind.TheVariants.{Addrmap, Regfile, Reg, Field}
 use Rattle.rdl_tree.specs.declared.shell.Shell.{Shell}
 use Rattle.rdl_tree.specs.declared.fault.FaultKind.{FaultKind}
-use Rattle.rdl_tree.specs.declared.fault.FaultKind.TheVariants.{FieldPastRegister, FieldOverlap, ResetTooWide}
 use Rattle.rdl_tree.specs.declared.fault.Fault.{Fault}
 use Rattle.rdl_scope.specs.ItemFaults.{first_of, fault_at}
 use Rattle.rdl_elab.specs.declared.rows.clean.Modes.{Modes}
@@ -27,10 +26,10 @@ use Rattle.rdl_elab.specs.Finished.{under}
 use Rattle.rdl_elab.specs.Reaches.{Reach, behind}
 use Rattle.rdl_elab.specs.FinishedRows.{Surroundings, FinishedRow, finished_row, finished_values, seen, finished_fault, field_fault, judged, surroundings_inside, level_rows, finished_rows, told_one, told, finished_top_row, finished_around_top, told_below, rows_unless, fault_or, finished_map_fault, finished_answer}
 use Rattle.rdl_elab.specs.FinishedRows.{clashes_before}
-use Rattle.rdl_elab.specs.Faults.{is_read_only, is_write_only, is_reset_too_wide}
+use Rattle.rdl_elab.specs.Faults.{is_reset_too_wide}
 use Rattle.rdl_elab.specs.Layouts.{number_in}
 use Rattle.rdl_elab.specs.Reaches.{value_under}
-use Rattle.rdl_tree.specs.declared.property.Property.TheVariants.{Reset, Sw}
+use Rattle.rdl_tree.specs.declared.property.Property.TheVariants.{Reset}
 use Rattle.rdl_elab.specs.Clean.{are_faultless, IsAround, AreClean, bits_inside, IsCleanIn, has_mode, AreCleanIn}
 use Rattle.rdl_elab.proofs.Telling.{one-left, no-part, no-span, no-finished}
 use Rattle.rdl_elab.proofs.Onward.{behind-append}

@@ -16,6 +16,8 @@ pub mod RangeSearches
 pub mod RangesKept
 pub mod Telling
 pub mod Cleaning
+pub mod CleanAlone
+pub mod Accesses
 pub mod Counting
 pub mod EachMember
 pub mod Insides

@@ -12,7 +12,7 @@ use Rattle.std.specs.Option.{option_or}
 use Rattle.rdl_tree.specs.Address.{number_of}
 use Rattle.rdl_elab.specs.Reaches.{Reach, passed, behind}
 use Rattle.rdl_elab.specs.declared.walk.reaches.Onward.{Onward}
-use Rattle.rdl_elab.specs.Onward.{list_or_none, going_to, IsOnward}
+use Rattle.rdl_elab.specs.Onward.{list_or_none, stored_under, is_marked, going_to, IsMarked, IsOnward}
 use Rattle.rdl_elab.proofs.ValueLists.{behind-none}
 
 pub first-dropped : {X : Type 0} (n : ℕ) (xs : List X) → slice_get (drop n xs) 0 ≡ slice_get xs n
@@ -52,6 +52,17 @@ passed-apart a x r e apart = passed-next a r r.path x e ∙ by (pointwise nat_eq
 
 pub behind-append : (a : List ℕ) (xs ys : List Reach) → behind a (xs ++ ys) ≡ behind a xs ++ behind a ys
 behind-append a xs ys = filter_map-append (λ (r : Reach). passed a r r.path) xs ys
+
+-- where nothing stands under any number, nothing goes on
+pub nothing-onward : (onward : Onward) → ((k : ℕ) → stored_under onward k ≡ []) → IsOnward onward []
+nothing-onward onward none a = ap (behind a) (by (is_marked onward (number_of a)))
+  where
+    by : (b : Bool) → (if b then stored_under onward (number_of a) else []) ≡ []
+    by true = none (number_of a)
+    by false = refl
+
+pub nothing-marked : (onward : Onward) → ((k : ℕ) → stored_under onward k ≡ []) → IsMarked onward
+nothing-marked onward none k e = none k
 
 -- one more, under the number of its next instance
 module _ (old new : Onward) (n : ℕ) (r : Reach) (rs : List Reach) (x : List ℕ) (first : slice_get r.path 0 ≡ Some x) (number : n ≡ number_of x)

@@ -10,6 +10,7 @@ pub mod Faults
 pub mod Shown
 pub mod Reaches
 pub mod Onward
+pub mod Access
 pub mod InstanceValues
 pub mod Kept
 pub mod HeldAddress
@@ -21,6 +22,7 @@ pub mod PartNames
 pub mod KeptTargets
 pub mod FinishedRows
 pub mod Clean
+pub mod CleanParts
 pub mod SiblingRanges
 pub mod Inside
 pub mod LaidOut

@@ -1,13 +1,39 @@
 //! The values of rows.
+ghost use Rattle.std.specs.Prelude.{◌≡◌, option_copied};
+ghost use Rattle.rdl_elab.specs.Access.{access_of};
+
 use crate::row::PropertyValue;
 use crate::walk::values::{under_either, value_under};
 use rdl_text::token::Number;
 use rdl_tree::property::Property;
 use rdl_tree::shell::Kind;
-use rdl_tree::value::Value;
+use rdl_tree::value::{Value, Word};
 use std::alloc::{AllocError, Global};
 use std::marker::Model;
 use std::rc::Rc;
+
+/// Whether software only reads a component, or only writes it.
+#[derive(Clone, Copy, Debug)]
+pub(crate) struct Access {
+    pub is_read_only: bool,
+    pub is_write_only: bool,
+}
+
+/// How software accesses a component with this value of `sw`.
+pub(crate) fn access_of(sw: Option<&Value>) -> Access
+    ensures { result ≡ access_of (option_copied sw.entry) }
+{
+    match sw {
+        Some(Value::Word(word)) => Access {
+            is_read_only: *word == Word::R,
+            is_write_only: *word == Word::W || *word == Word::W1,
+        },
+        _ => Access {
+            is_read_only: false,
+            is_write_only: false,
+        },
+    }
+}
 
 /// The values of a component, which its rows share. A contract sees the list of all, in the order of the table of
 /// properties.
@@ -18,21 +44,30 @@ use std::rc::Rc;
 pub(crate) struct ComponentValues {
     stated: Option<Rc<Vec<PropertyValue>>>,
     built_ins: Rc<Vec<PropertyValue>>,
+    /// What their `sw` says, which is asked of each instance.
+    access: Access,
 }
 
 impl Model for ComponentValues {
-    ghost use Rattle.std.specs.Prelude.{List, option_map};
+    ghost use Rattle.std.specs.Prelude.{◌≡◌, List, option_map};
+    ghost use Rattle.rdl_tree.specs.declared.property.Property.TheVariants.{Sw};
     ghost use Rattle.rdl_elab.specs.declared.row.PropertyValue.{PropertyValue};
+    ghost use Rattle.rdl_elab.specs.Access.{access_of};
+    ghost use Rattle.rdl_elab.specs.Reaches.{value_under};
     ghost use Rattle.rdl_elab.specs.StatedValues.{over};
 
     ghost Value = { List PropertyValue };
 
     ghost view = { λ values. over (option_map (λ stated. stated.value.items) values.stated) values.built_ins.value.items };
+
+    ghost invariant = { λ values. values.access ≡ access_of (value_under Sw (over (option_map (λ stated. stated.value.items) values.stated) values.built_ins.value.items)) };
 }
 
 impl ComponentValues {
     ghost use Rattle.std.specs.Prelude.{◌≡◌, Some, IfOk, option_copied};
     ghost use Rattle.rdl_tree.specs.declared.property.Property.{Property};
+    ghost use Rattle.rdl_tree.specs.declared.property.Property.TheVariants.{Sw};
+    ghost use Rattle.rdl_elab.specs.Access.{access_of};
     ghost use Rattle.rdl_elab.specs.Reaches.{value_under};
     ghost use Rattle.rdl_elab.specs.StatedValues.{over, under_either};
 
@@ -40,9 +75,11 @@ impl ComponentValues {
     pub(crate) fn built_in(built_ins: Rc<Vec<PropertyValue>>) -> ComponentValues
         ensures { result ≡ built_ins.value.items }
     {
+        let access = access_of(value_under(Property::Sw, built_ins.as_slice()));
         ComponentValues {
             stated: None,
             built_ins,
+            access,
         }
     }
 
@@ -54,10 +91,13 @@ impl ComponentValues {
     ) -> Result<ComponentValues, AllocError>
         ensures { IfOk result (λ values. values ≡ over (Some stated.items) built_ins.value.items) }
     {
+        let sw = under_either(Property::Sw, stated.as_slice(), built_ins.as_slice());
+        let access = access_of(sw);
         let stated = Rc::new(alloc, stated)?;
         Ok(ComponentValues {
             stated: Some(stated),
             built_ins,
+            access,
         })
     }
 
@@ -79,6 +119,13 @@ impl ComponentValues {
         under_either(property, stated, built_ins)
     }
 
+    /// How software accesses a component with these values.
+    pub(crate) fn access(&self) -> Access
+        ensures { result ≡ access_of (value_under Sw self.now) }
+    {
+        self.access
+    }
+
     /// The same values once more, which costs no memory.
     pub(crate) fn share(&self) -> Result<ComponentValues, AllocError>
         ensures { IfOk result (λ values. values ≡ self.now) }
@@ -88,7 +135,11 @@ impl ComponentValues {
             None => None,
         };
         let built_ins = self.built_ins.clone()?;
-        Ok(ComponentValues { stated, built_ins })
+        Ok(ComponentValues {
+            stated,
+            built_ins,
+            access: self.access,
+        })
     }
 }
 

@@ -18,7 +18,7 @@ pub mod siblings;
 
 use crate::layout::{Mode, Span};
 use crate::row::{Extent, LeadingNames, Location, Row, RowPath};
-use crate::row_values::{ComponentValues, RowValues};
+use crate::row_values::{ComponentValues, RowValues, access_of};
 use crate::rows::siblings::{Sibling, Siblings, as_sibling, is_reset_too_wide};
 use crate::walk::finished::{Finished, Part};
 use crate::walk::instances::mode_inside;
@@ -155,7 +155,7 @@ pub(crate) fn judged_row(
 {
     if is_alone(reset, reaching) {
         return Ok(Judged {
-            sibling: as_sibling(span, own.get(Property::Sw)),
+            sibling: as_sibling(span, own.access()),
             reset: own_reset(kind, own),
         });
     }
@@ -218,7 +218,7 @@ fn is_stride_too_small(stride: Option<Number>, size: u64) -> bool
 fn seen(span: Span, values: &RowValues) -> Sibling
     ensures { result ≡ seen span values.now }
 {
-    as_sibling(span, values.get(Property::Sw))
+    as_sibling(span, access_of(values.get(Property::Sw)))
 }
 
 /// What is wrong with a field, in a register of so many bits.
@@ -371,7 +371,7 @@ pub(crate) fn add_rows<'a>(
     if levels == 0 {
         return Ok(None);
     }
-    let onward = Onward::of(alloc, around.reaching.as_slice())?;
+    let onward = Onward::of(alloc, around.reaching.as_slice(), parts.len())?;
     let mut siblings = Siblings::with_room(alloc, parts.len())?;
     for (i, part) in parts.iter().enumerate() {
         let Some(span) = span_at(spans, i) else {

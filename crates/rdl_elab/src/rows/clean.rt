@@ -1,15 +1,18 @@
 //! Components below which no row has a fault, each judged once for all its instances.
-ghost use Rattle.std.specs.Prelude.{◌≡◌, ◌++◌, ◌∷◌, [], List, true, Some, None, IfOk, option_and_then, slice_get};
+ghost use Rattle.std.specs.Prelude.{◌≡◌, ℕ, ◌++◌, ◌∷◌, [], List, true, false, Some, None, IfOk, option_and_then, slice_get};
 ghost use Rattle.rdl_elab.specs.Faults.{fault_in};
 ghost use Rattle.rdl_elab.specs.Clean.{AreClean, AreCleanIn, HaveNoModes, IsCleanIn, IsCleanUnder, bits_inside, has_mode, modes_at};
+ghost use Rattle.rdl_elab.specs.CleanParts.{IsSound, IsClean};
 ghost use Rattle.rdl_elab.specs.Finished.{under};
 ghost use Rattle.rdl_elab.specs.declared.walk.finished.Finished.{Finished};
 ghost use Rattle.rdl_elab.specs.FinishedRows.{finished_answer};
 ghost use Rattle.rdl_elab.specs.Layouts.{mode_inside};
+ghost use Rattle.rdl_elab.specs.Onward.{IsOnward};
+ghost use Rattle.rdl_elab.specs.Reaches.{Reach};
 
 use crate::elaborate::{Top, finished_at, map_fault};
 use crate::layout::{Mode, Span};
-use crate::rows::siblings::Siblings;
+use crate::rows::siblings::{Siblings, as_sibling};
 use crate::rows::{behind_part, fault_kind, judged_row, span_at};
 use crate::walk::finished::{Finished, Part};
 use crate::walk::instances::mode_inside;
@@ -152,6 +155,83 @@ fn is_clean_below<'a>(
     is_clean_level(alloc, components, clean, &level, spans, parts, levels)
 }
 
+/// Whether the instance says nothing on which its values or its faults depend.
+fn is_plain(part: &Part) -> bool
+    ensures reset { result ≡ true → part.now.shell.reset ≡ None }
+    ensures stride { result ≡ true → part.now.shell.stride ≡ None }
+{
+    part.is_bare() || part.reset().is_none() && part.stride().is_none()
+}
+
+/// Whether nothing is wrong with an instance of the component that states no stride, if it overlaps none before it. Of
+/// fields that isn't known.
+fn is_sound(component: &Finished) -> bool
+    ensures { result ≡ true → IsSound component.now }
+{
+    match component.kind {
+        Kind::Field => false,
+        Kind::Reg => component.values.accesswidth <= component.values.regwidth,
+        Kind::Regfile | Kind::Addrmap => true,
+    }
+}
+
+/// Puts the instance behind those before it if it is seen at once that no assignment reaches it, and that it has no fault,
+/// nor a row below it.
+fn is_clean_alone(
+    clean: &[Modes],
+    mode: Mode,
+    onward: &Onward,
+    span: Span,
+    part: &Part,
+    component: &Finished,
+    siblings: &mut Siblings,
+) -> Result<bool, AllocError>
+    ensures clean { IfOk result (λ answer. answer ≡ true → (fs : List Finished) (least : ℕ) (rs : List Reach) → AreCleanIn fs clean.now → slice_get fs part.now.component ≡ Some component.now → IsOnward onward.now rs → IsClean fs mode least rs span part.now component.now siblings.old siblings.new) }
+    ensures left { IfOk result (λ answer. answer ≡ false → siblings.new ≡ siblings.old) }
+{
+    if !onward.passes_by(part) || !is_plain(part) || !is_sound(component) {
+        return Ok(false);
+    }
+    if !component.parts.as_slice().is_empty() && !is_known(clean, part.number(), mode) {
+        return Ok(false);
+    }
+    let is_behind = siblings.push_behind(as_sibling(span, component.shown.access()))?;
+    Ok(is_behind)
+}
+
+/// Whether neither the instance nor a row below it is found to have a fault. If so, it is put behind those before it.
+#[cycle(clean)]
+fn is_clean_part<'a>(
+    alloc: Global,
+    components: &[Finished<'a>],
+    clean: &[Modes],
+    level: &Level<'a>,
+    onward: &Onward<'a>,
+    span: Span,
+    part: &Part<'a>,
+    component: &Finished<'a>,
+    siblings: &mut Siblings,
+    levels: usize,
+) -> Result<bool, AllocError>
+    requires clean { AreCleanIn components.now clean.now }
+    requires component { slice_get components.now part.now.component ≡ Some component.now }
+    requires onward { IsOnward onward.now level.now.reaching.items }
+    ensures { IfOk result (λ answer. answer ≡ true → IsClean components.now level.now.mode level.now.bits level.now.reaching.items span part.now component.now siblings.old siblings.new) }
+{
+    let passed = behind_part(alloc, part, onward)?;
+    let reaching = passed.as_slice();
+    let shown = &component.shown;
+    let judged = judged_row(alloc, component.kind, span, part.reset(), reaching, shown)?;
+    let fault = fault_kind(level.mode, level.bits, part, component, judged, siblings);
+    if fault.is_some() {
+        return Ok(false);
+    }
+    siblings.push(judged.sibling)?;
+    is_clean_below(
+        alloc, components, clean, level.mode, part, component, reaching, levels,
+    )
+}
+
 /// Whether no row of these instances and below them is found to have a fault, so many levels deep.
 #[cycle(clean)]
 fn is_clean_level<'a>(
@@ -169,7 +249,7 @@ fn is_clean_level<'a>(
     if levels == 0 {
         return Ok(false);
     }
-    let onward = Onward::of(alloc, level.reaching.as_slice())?;
+    let onward = Onward::of(alloc, level.reaching.as_slice(), parts.len())?;
     let mut siblings = Siblings::with_room(alloc, parts.len())?;
     for (i, part) in parts.iter().enumerate() {
         let Some(span) = span_at(spans, i) else {
@@ -178,23 +258,27 @@ fn is_clean_level<'a>(
         let Some(component) = part.component(components) else {
             return Ok(true);
         };
-        let passed = behind_part(alloc, part, &onward)?;
-        let reaching = passed.as_slice();
-        let shown = &component.shown;
-        let judged = judged_row(alloc, component.kind, span, part.reset(), reaching, shown)?;
-        let fault = fault_kind(level.mode, level.bits, part, component, judged, &siblings);
-        if fault.is_some() {
-            return Ok(false);
+        if is_clean_alone(
+            clean,
+            level.mode,
+            &onward,
+            span,
+            part,
+            component,
+            &mut siblings,
+        )? {
+            continue;
         }
-        siblings.push(judged.sibling)?;
-        if !is_clean_below(
+        if !is_clean_part(
             alloc,
             components,
             clean,
-            level.mode,
+            level,
+            &onward,
+            span,
             part,
             component,
-            reaching,
+            &mut siblings,
             levels - 1,
         )? {
             return Ok(false);
@@ -310,14 +394,24 @@ fn need(needed: &mut [Modes], number: usize, mode: Mode) {
     }
 }
 
+/// Takes the mode among those that are needed of the components of these instances.
+fn need_in(needed: &mut [Modes], parts: &[Part], mode: Mode) {
+    let mut last = None;
+    for part in parts {
+        let number = part.number();
+        if last != Some(number) {
+            need(needed, number, mode);
+            last = Some(number);
+        }
+    }
+}
+
 /// Takes the modes in which the instances of a component are placed that is needed in these modes.
 fn need_parts(needed: &mut [Modes], component: &Finished, modes: Modes) {
     for mode in [Mode::Compact, Mode::Regalign, Mode::Fullalign] {
         if modes.has(mode) {
             let inside = mode_inside(component.kind, component.values, mode);
-            for part in component.parts.as_slice() {
-                need(needed, part.number(), inside);
-            }
+            need_in(needed, component.parts.as_slice(), inside);
         }
     }
 }

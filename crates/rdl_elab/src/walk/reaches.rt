@@ -216,22 +216,30 @@ fn behind<'a>(
     Ok(list)
 }
 
+/// By how many remainders numbers are told apart.
+const REMAINDERS: usize = 64;
+
+/// So many assignments go on by small numbers alone, where these are few.
+const FEW: usize = 32;
+
 /// The assignments that go on from a level, under the number that the next instance of each has in its body.
 #[derive(Drop)]
 pub(crate) struct Onward<'a> {
     /// Those under small numbers.
     lists: Vec<Vec<Assignment<'a>>>,
     others: BTreeMap<usize, Vec<Assignment<'a>>>,
+    /// Whether some may stand under a number that leaves this remainder.
+    marks: [bool; 64],
 }
 
 impl<'a> Onward<'a> {
-    ghost use Rattle.std.specs.Prelude.{◌≡◌, ◌≢◌, ℕ, ◌++◌, ◌∷◌, [], List, IfOk, OnOk, option_copied};
-    ghost use Rattle.rdl_elab.specs.Onward.{IsOnward, going_to, list_or_none};
+    ghost use Rattle.std.specs.Prelude.{◌≡◌, ◌≢◌, ℕ, ◌++◌, ◌∷◌, [], List, true, IfOk, OnOk, option_copied};
+    ghost use Rattle.rdl_elab.specs.Onward.{IsMarked, IsOnward, going_to, stored_under, list_or_none};
     ghost use Rattle.rdl_elab.specs.Reaches.{Reach, behind};
 
     /// None under any number. So many numbers are small.
     fn with_room(alloc: Global, small: usize) -> Result<Onward<'a>, AllocError>
-        ensures { IfOk result (λ onward. (k : ℕ) → going_to onward k ≡ []) }
+        ensures { IfOk result (λ onward. (k : ℕ) → stored_under onward k ≡ []) }
     {
         let mut lists = Vec::with_capacity(alloc, small)?;
         for _ in 0..small {
@@ -240,13 +248,14 @@ impl<'a> Onward<'a> {
         Ok(Onward {
             lists,
             others: BTreeMap::new(alloc),
+            marks: [false; 64],
         })
     }
 
-    /// Puts one more behind those under this number.
-    fn put(&mut self, number: usize, assignment: Assignment<'a>) -> Result<(), AllocError>
-        ensures there { OnOk result (going_to self.new number ≡ going_to self.old number ++ assignment.entry ∷ []) }
-        ensures others { OnOk result ((k : ℕ) → k ≢ number → going_to self.new k ≡ going_to self.old k) }
+    fn store(&mut self, number: usize, assignment: Assignment<'a>) -> Result<(), AllocError>
+        ensures there { OnOk result (stored_under self.new number ≡ stored_under self.old number ++ assignment.entry ∷ []) }
+        ensures others { OnOk result ((k : ℕ) → k ≢ number → stored_under self.new k ≡ stored_under self.old k) }
+        ensures marks { self.new.marks ≡ self.old.marks }
     {
         match self.lists.get_mut(number) {
             Some(list) => list.push(assignment)?,
@@ -255,9 +264,20 @@ impl<'a> Onward<'a> {
         Ok(())
     }
 
-    /// Those under this number.
-    fn get(&self, number: usize) -> Option<&Vec<Assignment<'a>>>
-        ensures { list_or_none (option_copied result) ≡ going_to self.now number }
+    /// Puts one more behind those under this number.
+    fn put(&mut self, number: usize, assignment: Assignment<'a>) -> Result<(), AllocError>
+        requires { IsMarked self.old }
+        ensures marked { OnOk result (IsMarked self.new) }
+        ensures there { OnOk result (going_to self.new number ≡ going_to self.old number ++ assignment.entry ∷ []) }
+        ensures others { OnOk result ((k : ℕ) → k ≢ number → going_to self.new k ≡ going_to self.old k) }
+    {
+        self.store(number, assignment)?;
+        self.marks[number % REMAINDERS] = true;
+        Ok(())
+    }
+
+    fn stored(&self, number: usize) -> Option<&Vec<Assignment<'a>>>
+        ensures { list_or_none (option_copied result) ≡ stored_under self.now number }
     {
         match self.lists.get(number) {
             Some(list) => Some(list),
@@ -265,17 +285,47 @@ impl<'a> Onward<'a> {
         }
     }
 
-    /// Those of these that go on.
-    pub(crate) fn of(alloc: Global, reaching: &[Assignment<'a>]) -> Result<Onward<'a>, AllocError>
+    /// Those under this number.
+    fn get(&self, number: usize) -> Option<&Vec<Assignment<'a>>>
+        ensures { list_or_none (option_copied result) ≡ going_to self.now number }
+    {
+        if self.marks[number % REMAINDERS] {
+            self.stored(number)
+        } else {
+            None
+        }
+    }
+
+    /// Those of these that go on, from a level with so many instances.
+    pub(crate) fn of(
+        alloc: Global,
+        reaching: &[Assignment<'a>],
+        count: usize,
+    ) -> Result<Onward<'a>, AllocError>
         ensures { IfOk result (λ onward. IsOnward onward reaching.now) }
     {
-        let mut onward = Onward::with_room(alloc, reaching.len())?;
+        let small = if reaching.len() < FEW {
+            reaching.len()
+        } else {
+            reaching.len().max(count)
+        };
+        let mut onward = Onward::with_room(alloc, small)?;
         for assignment in reaching {
             if let Some(next) = assignment.next() {
                 onward.put(next.number(), assignment.share()?)?;
             }
         }
         Ok(onward)
+    }
+
+    /// Whether no target passes this instance, or any other of its number.
+    pub(crate) fn passes_by(&self, part: &Part) -> bool
+        ensures { result ≡ true → (reaching : List Reach) → IsOnward self.now reaching → behind part.now.at reaching ≡ [] }
+    {
+        match self.get(part.place()) {
+            Some(list) => list.is_empty(),
+            None => true,
+        }
     }
 
     /// Those whose targets pass this instance.
