@@ -1,10 +1,12 @@
 -- The types before an item as a stack, with an index of the nearest of each name.
 -- own: how the types are kept. Which of them a name means `lookup` says.
-use Rattle.std.specs.Prelude.{◌≡◌, ℕ, List, [], ◌∷◌, map, Option, None}
+use Rattle.std.specs.Prelude.{◌≡◌, ℕ, List, [], ◌∷◌, map, Option, None, Some, IfSome}
 use Rattle.rdl_scope.specs.ByName.{value_under}
 use Rattle.rdl_scope.specs.Closed.{lookup}
 use Rattle.rdl_elab.specs.declared.walk.types.TypeEntry.{TypeEntry}
 use Rattle.rdl_elab.specs.declared.walk.types.TypeIndex.{TypeIndex}
+use Rattle.rdl_elab.specs.declared.walk.types.FoundType.{FoundType}
+use Rattle.rdl_elab.specs.declared.walk.types.LastFound.{LastFound}
 
 -- the names with the numbers of their components
 abbrev pub pairs : List TypeEntry → List (List ℕ × ℕ)
@@ -26,3 +28,11 @@ Uncovers name hidden old new = (types : List (List ℕ × ℕ)) (component : ℕ
 -- no type of this name is in the index
 abbrev pub Lacks : List ℕ → TypeIndex → Type 0
 Lacks name index = (types : List (List ℕ × ℕ)) → IsIndex index types → lookup name types ≡ None
+
+-- a look-up among these types finds this
+abbrev pub IsFound : FoundType → List (List ℕ × ℕ) → Type 0
+IsFound f types = lookup f.name.now types ≡ Some f.component
+
+-- and what was looked up last is found again
+abbrev pub AreFound : LastFound → List (List ℕ × ℕ) → Type 0
+AreFound found types = IfSome found.last (λ f. IsFound f types) × IfSome found.before (λ f. IsFound f types)

@@ -232,16 +232,18 @@ fn finish<'a>(
 }
 
 /// The instance of a type, if the type stands.
-#[tactic(auto, using(crate::proofs::Goings::goings, crate::proofs::Writing::writings))]
-fn named_part<'a>(shell: &'a Shell, name: &'a Name, types: &Types<'a>) -> Option<Found<'a>>
-    ensures { LeadsTo shell.now (lookup name.now types.now) result }
+#[inline(always)]
+fn named_part<'a>(shell: &'a Shell, name: &'a Name, walk: &mut Walk<'a>) -> Option<Found<'a>>
+    ensures part { LeadsTo shell.now (lookup name.now walk.old.types) result }
+    ensures same { walk.new ≡ walk.old }
 {
-    let component = types.get(name)?;
+    let component = walk.types.find(name)?;
     Some(Found { shell, component })
 }
 
 /// Lays out the component of the instance that is this item of the body at this address, if it has one of its own.
 #[cycle(walk)]
+#[inline(always)]
 #[tactic(auto, using(crate::proofs::Goings::goings, crate::proofs::Writing::writings))]
 fn walk_instance<'a>(
     alloc: Global,
@@ -272,12 +274,13 @@ fn walk_instance<'a>(
             )?;
             Ok(Some(Found { shell, component }))
         }
-        Of::Named(name) => Ok(named_part(shell, name, &walk.types)),
+        Of::Named(name) => Ok(named_part(shell, name, walk)),
     }
 }
 
 /// Lays out what this item of the body at this address holds, and goes on behind it. What is found is an instance.
 #[cycle(walk)]
+#[inline(always)]
 #[tactic(auto, using(crate::proofs::Goings::goings, crate::proofs::Writing::writings))]
 fn walk_item<'a>(
     alloc: Global,

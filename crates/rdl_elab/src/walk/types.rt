@@ -1,8 +1,10 @@
 //! The types before an item.
 use rdl_scope::by_name::ByName;
+use rdl_text::is_same;
 use rdl_text::name::Name;
 use std::alloc::{AllocError, Global};
 use std::marker::Model;
+use std::mem;
 
 /// A type, the number of its component among the finished ones, and that of the type whose name it hides.
 #[derive(Drop)]
@@ -18,12 +20,28 @@ pub(crate) struct TypeIndex<'a> {
     components: ByName<'a, usize>,
 }
 
+/// A name, and the component of the nearest type of the name.
+#[derive(Drop)]
+struct FoundType<'a> {
+    name: &'a str,
+    component: usize,
+}
+
+/// What was looked up last, and what before that, while the types have stayed the same.
+#[derive(Drop)]
+pub(crate) struct LastFound<'a> {
+    last: Option<FoundType<'a>>,
+    before: Option<FoundType<'a>>,
+}
+
 /// The types that stand before an item, those of the bodies around it included. A contract sees their list, the
 /// nearest first.
 #[derive(Drop)]
 pub(crate) struct Types<'a> {
     items: Vec<TypeEntry<'a>>,
     nearest: TypeIndex<'a>,
+    /// Most instances have the type of one shortly before them.
+    found: LastFound<'a>,
 }
 
 impl<'a> TypeIndex<'a> {
@@ -71,15 +89,64 @@ impl<'a> TypeIndex<'a> {
     }
 }
 
+impl<'a> FoundType<'a> {
+    ghost use Rattle.std.specs.Prelude.{◌≡◌, ℕ, List, IfSome, Some};
+    ghost use Rattle.rdl_scope.specs.Closed.{lookup};
+    ghost use Rattle.rdl_elab.specs.TypeStacks.{IsFound};
+
+    /// The component, if it is that of a type of this name.
+    fn component_of(found: &Option<FoundType<'a>>, name: &str) -> Option<usize>
+        ensures { (types : List (List ℕ × ℕ)) → IfSome found.now (λ f. IsFound f types) → IfSome result (λ component. lookup name.now types ≡ Some component) }
+    {
+        match found {
+            Some(found) if is_same(found.name, name) => Some(found.component),
+            _ => None,
+        }
+    }
+}
+
+impl<'a> LastFound<'a> {
+    ghost use Rattle.std.specs.Prelude.{◌≡◌, ℕ, List, IfSome, Some};
+    ghost use Rattle.rdl_scope.specs.Closed.{lookup};
+    ghost use Rattle.rdl_elab.specs.TypeStacks.{AreFound};
+
+    fn nothing() -> LastFound<'a>
+        ensures { (types : List (List ℕ × ℕ)) → AreFound result types }
+    {
+        LastFound {
+            last: None,
+            before: None,
+        }
+    }
+
+    /// The component of the nearest type of the name, if that was looked up.
+    fn get(&self, name: &str) -> Option<usize>
+        ensures { (types : List (List ℕ × ℕ)) → AreFound self.now types → IfSome result (λ component. lookup name.now types ≡ Some component) }
+    {
+        match FoundType::component_of(&self.last, name) {
+            Some(component) => Some(component),
+            None => FoundType::component_of(&self.before, name),
+        }
+    }
+
+    /// One more, in place of what was found before the last.
+    fn put(&mut self, name: &'a str, component: usize)
+        ensures { (types : List (List ℕ × ℕ)) → AreFound self.old types → lookup name.now types ≡ Some component → AreFound self.new types }
+    {
+        let found = FoundType { name, component };
+        self.before = mem::replace(&mut self.last, Some(found));
+    }
+}
+
 impl<'a> Model for Types<'a> {
     ghost use Rattle.std.specs.Prelude.{ℕ, List, reverse};
-    ghost use Rattle.rdl_elab.specs.TypeStacks.{pairs, Hides, IsIndex};
+    ghost use Rattle.rdl_elab.specs.TypeStacks.{pairs, AreFound, Hides, IsIndex};
 
     ghost Value = { List (List ℕ × ℕ) };
 
     ghost view = { λ s. pairs (reverse s.items.items) };
 
-    ghost invariant = { λ s. Hides (reverse s.items.items) × IsIndex s.nearest (pairs (reverse s.items.items)) };
+    ghost invariant = { λ s. Hides (reverse s.items.items) × IsIndex s.nearest (pairs (reverse s.items.items)) × AreFound s.found (pairs (reverse s.items.items)) };
 }
 
 impl<'a> Types<'a> {
@@ -93,6 +160,7 @@ impl<'a> Types<'a> {
         Ok(Types {
             items: Vec::new(alloc),
             nearest: TypeIndex::with_room(alloc, types)?,
+            found: LastFound::nothing(),
         })
     }
 
@@ -106,6 +174,7 @@ impl<'a> Types<'a> {
         ensures { OnOk result (self.new ≡ (name.now, component) ∷ self.old) }
     {
         let hidden = self.get(name);
+        self.found = LastFound::nothing();
         self.items.push(TypeEntry {
             name,
             component,
@@ -125,6 +194,7 @@ impl<'a> Types<'a> {
         let Some(nearest) = self.items.pop() else {
             return Ok(());
         };
+        self.found = LastFound::nothing();
         self.nearest.uncover(nearest.name.as_str(), nearest.hidden)
     }
 
@@ -144,5 +214,28 @@ impl<'a> Types<'a> {
         ensures { result ≡ lookup name.now self.now }
     {
         self.nearest.get(name.as_str())
+    }
+
+    /// The same, kept for the next time.
+    fn look_up(&mut self, name: &'a str) -> Option<usize>
+        ensures found { result ≡ lookup name.now self.old }
+        ensures same { self.new ≡ self.old }
+    {
+        let component = self.nearest.get(name)?;
+        self.found.put(name, component);
+        Some(component)
+    }
+
+    /// The same, where it is likely to be asked again.
+    #[inline(always)]
+    pub(crate) fn find(&mut self, name: &'a Name) -> Option<usize>
+        ensures found { result ≡ lookup name.now self.old }
+        ensures same { self.new ≡ self.old }
+    {
+        let name = name.as_str();
+        match self.found.get(name) {
+            Some(component) => Some(component),
+            None => self.look_up(name),
+        }
     }
 }

@@ -147,8 +147,11 @@ walk_instance-returns-in-Named-clause-part t c = λ e h.
     let d = c.args.description.now.items in
     let at = c.args.at.now ++ c.args.number ∷ [] in
     let fs = c.args.walk.now.components.items in
-    subst (λ (o : Of). AreReadyParts d fs (length fs) (in_list (placed at c.named_part.result)) (item_parts e at (Instance c.args.shell.now o))) (sym c.in-Named.is)
-    (named-part d fs at c.args.shell.now c.in-Named.name c.named_part.result c.args.walk.now.types e.types h.types c.named_part.ensures)
+    let found = c.named_part.result in
+    let here =
+    subst (λ (o : Of). AreReadyParts d fs (length fs) (in_list (placed at found)) (item_parts e at (Instance c.args.shell.now o))) (sym c.in-Named.is)
+    (named-part d fs at c.args.shell.now c.in-Named.name found c.args.walk.now.types e.types h.types c.named_part.ensures.part) in
+    subst (λ (w : Walk). AreReadyParts d w.components.items (length w.components.items) (in_list (placed at found)) (item_parts e at (Instance c.args.shell.now c.args.of.now))) (sym c.named_part.ensures.same) here
 
 pub finish-returns-clause-finishes : goal.finish-returns-clause-finishes
 finish-returns-clause-finishes t c = λ e h.
