@@ -17,7 +17,7 @@ ghost use Rattle.rdl_scope.specs.Roots.{IsSizeOf};
 ghost use Rattle.rdl_tree.specs.View.{list_of};
 
 use crate::assignments::{default_fault, dynamic_fault, own_fault, rivals};
-use crate::keys::target_key;
+use crate::key_spot::Key;
 use crate::kinds::define_fault;
 use crate::names::Names;
 use crate::passed::Passed;
@@ -214,7 +214,7 @@ fn item_fault<'a>(
         }
         Item::Dynamic(target, name, value) => {
             let kind = target_kind(alloc, description, at, n, target.names(), &passed.places)?;
-            let twice = passed.dynamics.note(target_key(alloc, target, name)?)?;
+            let twice = passed.dynamics.note(alloc, Key { target, name })?;
             Ok(dynamic_fault(twice, property(name.as_str()), value, kind))
         }
     }
