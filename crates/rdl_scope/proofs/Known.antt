@@ -22,7 +22,7 @@ use Rattle.rdl_scope.specs.Target.{instance_before}
 use Rattle.rdl_scope.specs.Value.{own_before, last_default}
 use Rattle.rdl_scope.specs.Walk.{found, is_instance, owned_by, defaulted_by}
 use Rattle.rdl_scope.specs.ItemFaults.{kind_at, instance_kind, instance_fault}
-use Rattle.rdl_scope.specs.Keys.{Holds, has_key, key_before, texts}
+use Rattle.rdl_scope.specs.Keys.{Holds, has_key, key_before}
 use Rattle.rdl_scope.specs.declared.keys.Keys.{Keys}
 use Rattle.rdl_scope.specs.declared.names.Names.{Names}
 use Rattle.rdl_scope.specs.declared.places.VisibleItem.{VisibleItem}
@@ -92,7 +92,7 @@ know-define d b body n p m c e got k =
       instances = λ q. k.instances q ∙ sym (instances-next q n body (Define m c) got);
       owns = λ q. k.owns q ∙ sym (owns-next q n body (Define m c) got);
       defaults = λ q. k.defaults q ∙ sym (defaults-next q n body (Define m c) got);
-      dynamics = λ q. k.dynamics q ∙ sym (keys-next (texts q) n body (Define m c) got);
+      dynamics = λ q. k.dynamics q ∙ sym (keys-next q n body (Define m c) got);
     }
 
 pub know-own : (d : Items) (b : List ℕ) (body : Items) (n : ℕ) (p : Passed) (name : List ℕ) (v : Value) (owns : Names) → body_at b d ≡ Some body → slice_get (list_of body) n ≡ Some (Own name v)
@@ -105,7 +105,7 @@ know-own d b body n p name v owns e got h k =
           noted q name n p.owns owns (h q) ∙ ap (λ t. bytes_eq name q || t) (k.owns q) ∙ ap (λ t. t || is_some (own_before q n body)) (sym (some-only (bytes_eq name q) v))
           ∙ sym (owns-next q n body (Own name v) got);
       defaults = λ q. k.defaults q ∙ sym (defaults-next q n body (Own name v) got);
-      dynamics = λ q. k.dynamics q ∙ sym (keys-next (texts q) n body (Own name v) got);
+      dynamics = λ q. k.dynamics q ∙ sym (keys-next q n body (Own name v) got);
     }
 
 pub know-default : (d : Items) (b : List ℕ) (body : Items) (n : ℕ) (p : Passed) (name : List ℕ) (v : Value) (defaults : Names) → body_at b d ≡ Some body → slice_get (list_of body) n ≡ Some (Default name v)
@@ -118,7 +118,7 @@ know-default d b body n p name v defaults e got h k =
       defaults = λ q.
           noted q name n p.defaults defaults (h q) ∙ ap (λ t. bytes_eq name q || t) (k.defaults q) ∙ ap (λ t. t || is_some (last_default q n body)) (sym (some-only (bytes_eq name q) v))
           ∙ sym (defaults-next q n body (Default name v) got);
-      dynamics = λ q. k.dynamics q ∙ sym (keys-next (texts q) n body (Default name v) got);
+      dynamics = λ q. k.dynamics q ∙ sym (keys-next q n body (Default name v) got);
     }
 
 pub know-dynamic : (d : Items) (b : List ℕ) (body : Items) (n : ℕ) (p : Passed) (t : List (List ℕ)) (name : List ℕ) (v : Value) (dynamics : Keys) → body_at b d ≡ Some body → slice_get (list_of body) n ≡ Some (Dynamic t name v)
@@ -129,7 +129,7 @@ know-dynamic d b body n p t name v dynamics e got h k =
       instances = λ q. k.instances q ∙ sym (instances-next q n body (Dynamic t name v) got);
       owns = λ q. k.owns q ∙ sym (owns-next q n body (Dynamic t name v) got);
       defaults = λ q. k.defaults q ∙ sym (defaults-next q n body (Dynamic t name v) got);
-      dynamics = λ q. h q ∙ sym (keys-next (texts q) n body (Dynamic t name v) got);
+      dynamics = λ q. h q ∙ sym (keys-next q n body (Dynamic t name v) got);
     }
 
 -- the place of an instance's component
@@ -189,5 +189,5 @@ know-instance d around b body n p s o (Some c) places e got at fine h k =
           ap is_some (h q) ∙ some-cond (bytes_eq s.name q) c (place_under p.places q) ∙ ap (λ t. bytes_eq s.name q || t) (k.instances q) ∙ sym (instances-next q n body (Instance s o) got);
       owns = λ q. k.owns q ∙ sym (owns-next q n body (Instance s o) got);
       defaults = λ q. k.defaults q ∙ sym (defaults-next q n body (Instance s o) got);
-      dynamics = λ q. k.dynamics q ∙ sym (keys-next (texts q) n body (Instance s o) got);
+      dynamics = λ q. k.dynamics q ∙ sym (keys-next q n body (Instance s o) got);
     }

@@ -10,6 +10,7 @@ pub mod Fronts
 pub mod Holds
 pub mod InstanceKinds
 pub mod Instances
+pub mod KeySpots
 pub mod Known
 pub mod Levelled
 pub mod NewItems

@@ -1,5 +1,5 @@
 -- Maps by name: what a change at one name leaves at any.
-use Rattle.std.proofs.Common.{◌≡◌, ◌⊎◌, inl, inr, ◌==◌, ℕ, zero, suc, ◌<◌, refl, sym, ap, ◌∙◌, subst, Bool, true, false, ◌&&◌, List, [], ◌∷◌, ◌++◌, length, Option, Some, None, cond, ⊎_elim, arith, get_or}
+use Rattle.std.proofs.Common.{◌≡◌, ◌⊎◌, inl, inr, ◌==◌, ℕ, zero, suc, refl, sym, ap, ◌∙◌, subst, Bool, true, false, ◌&&◌, List, [], ◌∷◌, ◌++◌, length, Option, Some, None, cond, ⊎_elim, get_or}
 use Rattle.std.specs.Option.{is_none}
 use Rattle.std.specs.Result.{OnOk, OnErr}
 use Rattle.std.specs.declared.result.Result.{Result}
@@ -13,7 +13,6 @@ use Rattle.std.proofs.lemmas.Option.{get_or_from_slice_get}
 use Rattle.rdl_scope.specs.Front.{front}
 use Rattle.rdl_scope.specs.Spot.{slot_of, slot, is_own, spot_in, spot_under, spot, value_in, value_at}
 use Rattle.rdl_scope.specs.declared.entry.Entry.{Entry}
-use Rattle.rdl_scope.specs.declared.entry.Spot.{Spot}
 use Rattle.rdl_scope.specs.declared.entry.Spot.TheVariants.{Free, Own, Other}
 
 and-right : (a b : Bool) → a && b ≡ true → b ≡ true
@@ -107,12 +106,12 @@ and-no : (a : Bool) → a && false ≡ false
 and-no true = refl
 and-no false = refl
 
-set_same : (l : List ℕ) (s k : ℕ) → slice_get l s ≡ Some 0 → slice_get (slice_set l s k) s ≡ Some k
+pub set_same : (l : List ℕ) (s k : ℕ) → slice_get l s ≡ Some 0 → slice_get (slice_set l s k) s ≡ Some k
 set_same [] s k h = absurd cc
 set_same (x ∷ l) zero k h = refl
 set_same (x ∷ l) (suc s) k h = set_same l s k h
 
-set_any : (l : List ℕ) (s i k : ℕ) → slice_get l s ≡ Some 0
+pub set_any : (l : List ℕ) (s i k : ℕ) → slice_get l s ≡ Some 0
     → ((slice_get (slice_set l s k) i ≡ Some k) × (slice_get l i ≡ Some 0)) ⊎ (slice_get (slice_set l s k) i ≡ slice_get l i)
 set_any [] s i k h = absurd cc
 set_any (x ∷ l) zero zero k h = inl (refl, h)

@@ -3,22 +3,29 @@ use Rattle.std.proofs.Common.{◌≡◌, ℕ, suc, ◌+◌, ◌<◌, Bool, true,
 use Rattle.std.specs.Prelude.{option_and_then, slice_get, bytes_eq}
 use Rattle.std.specs.Option.{option_or, is_some}
 use Rattle.std.proofs.lemmas.Slice.Eq.{bytes_eq-Decides}
+use Rattle.rdl_tree.specs.ItemAt.{item_at}
 use Rattle.rdl_tree.specs.Items.{Items}
 use Rattle.rdl_tree.specs.View.{list_of}
 use Rattle.rdl_tree.specs.Address.{body_at}
+use Rattle.rdl_tree.specs.Component.{own_component}
 use Rattle.rdl_tree.specs.declared.shell.Kind.{Kind}
 use Rattle.rdl_tree.specs.declared.shell.Shell.{Shell}
 use Rattle.rdl_tree.specs.declared.fault.Fault.{Fault}
 use Rattle.rdl_tree.specs.declared.fault.FaultKind.{FaultKind}
+use Rattle.rdl_tree.specs.declared.description.Component.{Component}
 use Rattle.rdl_tree.specs.declared.description.Of.{Of}
+use Rattle.rdl_tree.specs.declared.description.Of.TheVariants.{Named, Anonymous}
 use Rattle.rdl_tree.specs.declared.description.Item.{Item}
 use Rattle.rdl_tree.specs.declared.description.Item.TheVariants.{Instance}
-use Rattle.rdl_scope.specs.Types.{component_of, items_in}
+use Rattle.rdl_scope.specs.Types.{held_by, component_of, items_in}
 use Rattle.rdl_scope.specs.Target.{passes, instance_in, instance_before}
 use Rattle.rdl_scope.specs.ItemFaults.{kind_at, instance_kind, target_kind, last_of, instance_fault, fault_at}
 use Rattle.rdl_scope.specs.Walk.{is_instance}
-use Rattle.rdl_scope.specs.Scopes.{kind_below, instance_component}
+use Rattle.rdl_scope.specs.Scopes.{kind_below, kind_of_instance, instance_component}
+use Rattle.rdl_scope.proofs.Depths.{depth-body_at}
 use Rattle.rdl_scope.proofs.Instances.{instance-suc}
+use Rattle.rdl_scope.proofs.InstanceKinds.{component-anonymous}
+use Rattle.rdl_scope.proofs.Levelled.{item-deeper}
 
 -- a target that is found passes an instance
 passes-some : (d : Items) (c : List ℕ) (n : ℕ) (name : List ℕ) (names : List (List ℕ)) → passes d c n (name ∷ names) ≡ Some [] → ⊥
@@ -70,6 +77,53 @@ below-empty d names c e = ap (λ ns. kind_below d ns c) e
 pub below-more : (d : Items) (names : List (List ℕ)) (c : List ℕ) → 0 < length names → kind_below d names c ≡ target_kind d c (items_in c d) names
 below-more d [] c h = absurd (omega arith)
 below-more d (name ∷ names) c h = refl
+
+-- one name
+below-found : (d : Items) (name c : List ℕ) → kind_below d (name ∷ []) c ≡ option_and_then (instance_kind d) (option_map (λ k. c ++ k ∷ []) (option_and_then (instance_before name (items_in c d)) (body_at c d)))
+below-found d name c = into (option_map (λ k. c ++ k ∷ []) (option_and_then (instance_before name (items_in c d)) (body_at c d)))
+  where
+    into : (o : Option (List ℕ)) → option_and_then (instance_kind d) (option_and_then last_of (option_map (λ a. a ∷ []) o)) ≡ option_and_then (instance_kind d) o
+    into None = refl
+    into (Some a) = refl
+
+abbrev kind_numbered : Items → List ℕ → Option ℕ → Option Kind
+kind_numbered d c o = option_and_then (instance_kind d) (option_map (λ k. c ++ k ∷ []) o)
+
+below-at : (d : Items) (name c : List ℕ) (o : Option Items) → body_at c d ≡ o
+    → kind_below d (name ∷ []) c ≡ kind_numbered d c (option_and_then (λ b. instance_before name (length (list_of b)) b) o)
+below-at d name c None e = below-found d name c ∙ ap (λ o. kind_numbered d c (option_and_then (instance_before name (items_in c d)) o)) e
+below-at d name c (Some b) e =
+    below-found d name c ∙ ap (λ o. kind_numbered d c (option_and_then (instance_before name (items_in c d)) o)) e
+    ∙ ap (λ o. kind_numbered d c (instance_before name (elim o [ None ↦ 0 | Some t ↦ length (list_of t) ]) b)) e
+
+pub below-no-body : (d : Items) (name c : List ℕ) → body_at c d ≡ None → kind_below d (name ∷ []) c ≡ None
+below-no-body d name c e = below-at d name c None e
+
+pub below-absent : (d : Items) (name c : List ℕ) (b : Items) → body_at c d ≡ Some b → instance_before name (length (list_of b)) b ≡ None → kind_below d (name ∷ []) c ≡ None
+below-absent d name c b e h = below-at d name c (Some b) e ∙ ap (kind_numbered d c) h
+
+pub below-number : (d : Items) (name c : List ℕ) (b : Items) (k : ℕ) → body_at c d ≡ Some b → instance_before name (length (list_of b)) b ≡ Some k → kind_below d (name ∷ []) c ≡ instance_kind d (c ++ k ∷ [])
+below-number d name c b k e h = below-at d name c (Some b) e ∙ ap (kind_numbered d c) h
+
+no-item : (d : Items) (a : List ℕ) → item_at a d ≡ None → instance_kind d a ≡ None
+no-item d a e = ap (λ o. option_and_then (kind_at d) (option_and_then (held_by d a) o)) e
+
+pub below-no-item : (d : Items) (name c : List ℕ) (b : Items) (k : ℕ) → body_at c d ≡ Some b → instance_before name (length (list_of b)) b ≡ Some k → slice_get (list_of b) k ≡ None → kind_below d (name ∷ []) c ≡ None
+below-no-item d name c b k e h g = below-number d name c b k e h ∙ no-item d (c ++ k ∷ []) (item-deeper c k d b e ∙ g)
+
+pub ruleset one_name = (below-no-body, below-absent, below-number, below-no-item, item-deeper, depth-body_at)
+
+-- the kind of an instance
+pub kind-instance : (d : Items) (a : List ℕ) (s : Shell) (o : Of) → item_at a d ≡ Some (Instance s o) → instance_kind d a ≡ kind_of_instance d a o
+kind-instance d a s (Named t) e = refl
+kind-instance d a s (Anonymous c) e =
+    ap (option_and_then (kind_at d)) (component-anonymous d a s c e) ∙ ap (λ x. option_map (λ (k : Component). k.kind) (option_and_then own_component x)) e
+
+-- and of no other item
+pub kind-other : (d : Items) (a : List ℕ) (x : Item) → item_at a d ≡ Some x → held_by d a x ≡ None → instance_kind d a ≡ None
+kind-other d a x e h = ap (λ o. option_and_then (kind_at d) (option_and_then (held_by d a) o)) e ∙ ap (option_and_then (kind_at d)) h
+
+pub ruleset kinds = (kind-instance, kind-other)
 
 pub ruleset below = (below-empty, below-more)
 

@@ -3,6 +3,7 @@ pub mod ByName
 pub mod Closed
 pub mod Front
 pub mod ItemFaults
+pub mod KeySpot
 pub mod Keys
 pub mod Noted
 pub mod OneItem

@@ -10,7 +10,7 @@ use Rattle.rdl_tree.specs.declared.description.Of.TheVariants.{Named, Anonymous}
 use Rattle.rdl_scope.specs.Types.{component_of, items_in}
 use Rattle.rdl_scope.specs.Target.{instance_before, instance_in}
 use Rattle.rdl_scope.specs.Value.{own_before, last_default}
-use Rattle.rdl_scope.specs.ItemFaults.{kind_at, target_kind}
+use Rattle.rdl_scope.specs.ItemFaults.{kind_at, instance_kind, target_kind}
 use Rattle.rdl_scope.specs.ByName.{value_under}
 use Rattle.rdl_scope.specs.Keys.{Holds, key_before}
 use Rattle.rdl_scope.specs.declared.names.Names.{Names}
@@ -66,6 +66,11 @@ instance_component d b n q = option_and_then (component_of d) (instance_in d b n
 abbrev pub kind_below : Items → List (List ℕ) → List ℕ → Option Kind
 kind_below d [] c = kind_at d c
 kind_below d (name ∷ names) c = target_kind d c (items_in c d) (name ∷ names)
+
+-- the kind of the component of the instance at this address, which is one of this
+abbrev pub kind_of_instance : Items → List ℕ → Of → Option Kind
+kind_of_instance d a (Named t) = instance_kind d a
+kind_of_instance d a (Anonymous c) = Some c.kind
 
 -- what is kept of the first n items of the body at b
 pub record Knows (d : Items) (b : List ℕ) (body : Items) (n : ℕ) (p : Passed) : Type 0 where

@@ -19,7 +19,7 @@ fn front_with(number: u64, name: &Name) -> u64
 
 /// A number by which two assignments are mostly told apart.
 #[tactic(auto, unfolding(crate::specs::Noted::assigned_front))]
-fn assigned_front(target: &[Name], property: &Name) -> u64
+pub(crate) fn assigned_front(target: &[Name], property: &Name) -> u64
     ensures { result ≡ assigned_front target.now property.now }
 {
     let mut number = 0u64;

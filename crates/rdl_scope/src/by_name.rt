@@ -9,10 +9,10 @@ use std::collections::BTreeMap;
 use std::mem;
 
 /// How few names are put in an order alone.
-const FEW: usize = 16;
+pub(crate) const FEW: usize = 16;
 
 /// How many slots there are for each name that is awaited.
-const SLOTS: usize = 4;
+pub(crate) const SLOTS: usize = 4;
 
 /// Values under names, one under each.
 ///
@@ -28,7 +28,7 @@ pub struct ByName<'a, V> {
 }
 
 /// One more than the number of the entry behind so many.
-fn number_behind(len: usize) -> Option<u32>
+pub(crate) fn number_behind(len: usize) -> Option<u32>
     ensures { IfSome result (λ n. n ≡ len + 1) }
 {
     u32::try_from(len).ok()?.checked_add(1)

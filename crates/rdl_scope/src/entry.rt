@@ -26,7 +26,7 @@ pub(crate) enum Spot {
 
 /// The slot of a name of this front, of so many.
 #[tactic(auto, unfolding(crate::specs::Spot::slot_of))]
-fn slot_of(front: u64, count: usize) -> usize
+pub(crate) fn slot_of(front: u64, count: usize) -> usize
     ensures { result ≡ slot_of front count }
 {
     let mixed = front.wrapping_mul(0x9E37_79B9_7F4A_7C15) >> 32;

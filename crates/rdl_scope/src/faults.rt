@@ -7,29 +7,31 @@ ghost use Rattle.rdl_tree.specs.Component.{own_component};
 ghost use Rattle.rdl_tree.specs.Depth.{depth};
 ghost use Rattle.rdl_tree.specs.Properties.{property_of, row};
 ghost use Rattle.rdl_tree.specs.Address.{body_at};
+ghost use Rattle.rdl_tree.specs.ItemAt.{item_at};
 ghost use Rattle.rdl_scope.specs.Types.{last_definition};
 ghost use Rattle.rdl_scope.specs.Value.{own_before};
-ghost use Rattle.rdl_scope.specs.Scopes.{number_under, scope_found, level_found, address_under, instance_component, kind_below, Knows};
-ghost use Rattle.rdl_scope.specs.Target.{instance_in};
+ghost use Rattle.rdl_scope.specs.Scopes.{number_under, scope_found, level_found, along_place, address_under, instance_component, kind_below, kind_of_instance, Knows};
 ghost use Rattle.rdl_scope.specs.Walk.{found};
 ghost use Rattle.rdl_scope.specs.ItemFaults.{kind_at, instance_kind, target_kind, is_set, is_excluded, excluded_by, item_fault, fault_at, first_fault, inside_fault, is_too_large, fault_of, out_of_memory};
 ghost use Rattle.rdl_scope.specs.Roots.{IsSizeOf};
 ghost use Rattle.rdl_tree.specs.View.{list_of};
 
 use crate::assignments::{default_fault, dynamic_fault, own_fault, rivals};
-use crate::keys::target_key;
+use crate::key_spot::Key;
 use crate::kinds::define_fault;
 use crate::names::Names;
 use crate::passed::Passed;
-use crate::places::{Places, address_of, kind_of, place_of};
+use crate::places::{
+    Places, VisibleItem, address_of, body_of_place, kind_of, kind_of_place, place_of,
+};
 use crate::shells::instance_fault;
 use crate::size::{Size, body_size};
-use crate::targets::{instance_in, passes};
+use crate::targets::{instance_before, passes};
 use crate::types::{component_at, component_of, items_in, own_component};
 use crate::values::{is_false, own_before};
 use rdl_text::name::Name;
 use rdl_tree::address::Address;
-use rdl_tree::description::{Body, Component, Description, Item};
+use rdl_tree::description::{Body, Component, Description, Item, Of};
 use rdl_tree::fault::{Fault, FaultKind};
 use rdl_tree::properties::property;
 use rdl_tree::property::Property;
@@ -51,16 +53,6 @@ pub(crate) fn instance_kind(description: &Description, address: &Address) -> Opt
     ensures { result ≡ instance_kind description.now.items address.now }
 {
     kind_at(description, &component_of(description, address)?)
-}
-
-/// The kind of the component to which one name leads, that of an instance among the first `n` items of the body at this
-/// address.
-fn name_kind(description: &Description, body: &Address, n: usize, name: &Name) -> Option<Kind>
-    requires { depth description.now.items ≤ 16 }
-    ensures { result ≡ option_and_then (instance_kind description.now.items) (instance_in description.now.items body.now n name.now) }
-{
-    let instance = instance_in(description, body, n, name)?;
-    instance_kind(description, &instance)
 }
 
 /// The kind of the component to which names lead, the first of them among the first `n` items of the body at this
@@ -85,22 +77,82 @@ pub(crate) fn names_kind(
     }
 }
 
-/// The kind of the component to which names lead from the component at this address.
+/// The kind of the component of the instance of this number in the body of the component at the place, which is one of this.
+fn kind_of_instance(
+    description: &Description,
+    at: &Address,
+    place: VisibleItem,
+    number: usize,
+    of: &Of,
+) -> Option<Kind>
+    requires at { length at.now < 17 }
+    requires place { length (along_place at.now place) < 17 }
+    ensures { result ≡ kind_of_instance description.now.items (along_place at.now place ++ number ∷ []) of.now }
+{
+    match of {
+        Of::Anonymous(component) => Some(component.kind),
+        Of::Named(_) => instance_kind(description, &address_of(at, place).inside(number)),
+    }
+}
+
+/// The kind of the component of the item of this number in the body of the component at the place, if it is an instance.
+#[tactic(auto, using(crate::proofs::TargetKinds::kinds))]
+fn kind_of_item(
+    description: &Description,
+    at: &Address,
+    place: VisibleItem,
+    number: usize,
+    item: &Item,
+) -> Option<Kind>
+    requires at { length at.now < 17 }
+    requires place { length (along_place at.now place) < 17 }
+    requires item { item_at (along_place at.now place ++ number ∷ []) description.now.items ≡ Some item.now }
+    ensures { result ≡ instance_kind description.now.items (along_place at.now place ++ number ∷ []) }
+{
+    match item {
+        Item::Instance(_, of) => kind_of_instance(description, at, place, number, of),
+        Item::Define(..) | Item::Own(..) | Item::Default(..) | Item::Dynamic(..) => None,
+    }
+}
+
+/// The kind of the component to which one name leads from the component at the place.
+#[tactic(auto, using(crate::proofs::TargetKinds::one_name))]
+fn name_kind(
+    description: &Description,
+    at: &Address,
+    place: VisibleItem,
+    name: &Name,
+) -> Option<Kind>
+    requires nesting { depth description.now.items ≤ 16 }
+    requires room { length at.now < 17 }
+    ensures { result ≡ kind_below description.now.items (name.now ∷ []) (along_place at.now place) }
+{
+    let body = body_of_place(description, at, place)?;
+    let number = instance_before(body, body.len(), name)?;
+    kind_of_item(description, at, place, number, body.item(number)?)
+}
+
+/// The kind of the component to which names lead from the component at the place.
 #[tactic(auto, using(crate::proofs::TargetKinds::below))]
 fn kind_below(
     alloc: Global,
     description: &Description,
-    component: &Address,
+    at: &Address,
+    place: VisibleItem,
     names: &[Name],
 ) -> Result<Option<Kind>, AllocError>
-    requires { depth description.now.items ≤ 16 }
-    ensures { IfOk result (λ kind. kind ≡ kind_below description.now.items names.now component.now) }
+    requires nesting { depth description.now.items ≤ 16 }
+    requires room { length at.now < 17 }
+    ensures { IfOk result (λ kind. kind ≡ kind_below description.now.items names.now (along_place at.now place)) }
 {
-    let n = items_in(description, component);
     match names {
-        [] => Ok(kind_at(description, component)),
-        [name] => Ok(name_kind(description, component, n, name)),
-        _ => names_kind(alloc, description, component, n, names),
+        [] => Ok(kind_of_place(description, at, place)),
+        [name] => Ok(name_kind(description, at, place, name)),
+        _ => {
+            let component = address_of(at, place);
+            let n = items_in(description, &component);
+            names_kind(alloc, description, &component, n, names)
+        }
     }
 }
 
@@ -124,7 +176,7 @@ fn target_kind<'a>(
         return Ok(None);
     };
     match places.get(first.as_str()) {
-        Some(place) => kind_below(alloc, description, &address_of(at, place), rest),
+        Some(place) => kind_below(alloc, description, at, place, rest),
         None => Ok(None),
     }
 }
@@ -214,7 +266,7 @@ fn item_fault<'a>(
         }
         Item::Dynamic(target, name, value) => {
             let kind = target_kind(alloc, description, at, n, target.names(), &passed.places)?;
-            let twice = passed.dynamics.note(target_key(alloc, target, name)?)?;
+            let twice = passed.dynamics.note(alloc, Key { target, name })?;
             Ok(dynamic_fault(twice, property(name.as_str()), value, kind))
         }
     }

@@ -9,6 +9,7 @@ pub mod by_name;
 mod entry;
 pub mod faults;
 mod front;
+mod key_spot;
 mod keys;
 mod kinds;
 pub mod laws;

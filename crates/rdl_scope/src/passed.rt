@@ -30,7 +30,7 @@ impl<'a> Passed<'a> {
             places: Places::with_room(alloc, items)?,
             owns: Names::new(alloc),
             defaults: Names::new(alloc),
-            dynamics: Keys::new(alloc),
+            dynamics: Keys::with_room(alloc, items),
         })
     }
 }

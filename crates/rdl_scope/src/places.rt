@@ -1,5 +1,6 @@
 //! Where the components of instances stand.
 ghost use Rattle.std.specs.Prelude.{◌≡◌, ◌<◌, ◌++◌, ◌∷◌, [], length, take, option_copied};
+ghost use Rattle.rdl_tree.specs.Address.{body_at};
 ghost use Rattle.rdl_tree.specs.ItemAt.{item_at};
 ghost use Rattle.rdl_scope.specs.ItemFaults.{kind_at};
 ghost use Rattle.rdl_scope.specs.Scopes.{along_place, place_held, kind_held, scope_found};
@@ -82,7 +83,34 @@ fn item_along<'a>(body: &'a Body, path: &[usize], depth: usize, number: usize) -
     }
 }
 
-fn kind_at(description: &Description, at: &Address, place: VisibleItem) -> Option<Kind>
+/// The body of the component of this number in the body that is so deep along the path.
+fn body_along<'a>(body: &'a Body, path: &[usize], depth: usize, number: usize) -> Option<&'a Body>
+    ensures { option_copied result ≡ body_at (take depth path.now ++ number ∷ []) body.now }
+{
+    match path {
+        [first, rest @ ..] if depth > 0 => {
+            body_along(body.inner(*first)?, rest, depth - 1, number)
+        }
+        _ => body.inner(number),
+    }
+}
+
+/// The body of the component at this place.
+pub(crate) fn body_of_place<'a>(
+    description: &'a Description,
+    at: &Address,
+    place: VisibleItem,
+) -> Option<&'a Body>
+    ensures { option_copied result ≡ body_at (along_place at.now place) description.now.items }
+{
+    body_along(&description.items, at.as_slice(), place.depth, place.number)
+}
+
+pub(crate) fn kind_of_place(
+    description: &Description,
+    at: &Address,
+    place: VisibleItem,
+) -> Option<Kind>
     ensures { result ≡ kind_at description.now.items (along_place at.now place) }
 {
     let item = item_along(&description.items, at.as_slice(), place.depth, place.number)?;
@@ -121,7 +149,7 @@ pub(crate) fn kind_of(
     ensures { result ≡ kind_held description.now.items at.now of.now place }
 {
     match of {
-        Of::Named(_) => kind_at(description, at, place?),
+        Of::Named(_) => kind_of_place(description, at, place?),
         Of::Anonymous(component) => Some(component.kind),
     }
 }

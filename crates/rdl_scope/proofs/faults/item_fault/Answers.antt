@@ -1,12 +1,11 @@
 use Rattle.std.proofs.Common.{◌≡◌, ◌∷◌, ◌++◌, [], cond, Some, ap, sym, ◌∙◌, option_map}
-use Rattle.std.specs.Prelude.{◌||◌, bytes_eq}
-use Rattle.std.specs.Cmp.Lexicographic.{pointwise}
+use Rattle.std.specs.Prelude.{bytes_eq}
 use Rattle.std.specs.Option.{is_some}
 use Rattle.rdl_tree.specs.ItemAt.{item_at}
 use Rattle.rdl_tree.specs.View.{list_of}
 use Rattle.rdl_tree.specs.Properties.{property_of}
 use Rattle.rdl_tree.specs.declared.description.Item.TheVariants.{Instance}
-use Rattle.rdl_scope.specs.Keys.{key_before, texts}
+use Rattle.rdl_scope.specs.Keys.{key_before}
 use Rattle.rdl_scope.specs.ItemFaults.{dynamic_fault, item_fault, reached_before, target_kind}
 use Rattle.rdl_scope.specs.Scopes.{number_under, scope_found, place_under, place_put, along_place}
 use Rattle.rdl_scope.proofs.Levelled.{item-deeper}
@@ -78,7 +77,7 @@ returns-in_ok-twice-in-Dynamic-clause-fault c =
     let reached = reached_before t name n body in
     c.dynamic_fault.ensures
     ∙ ap (λ z. dynamic_fault z c.property-in-Dynamic.result v kind)
-    (c.in_ok-twice-in-Dynamic.ensures.twice (λ key. key_before key n (list_of body)) c.requires.passed.dynamics ∙ ap (λ key. key_before key n (list_of body)) c.in_ok-target_key-in-Dynamic.ensures ∙ dynamic-key t name n body)
+    (c.in_ok-twice-in-Dynamic.ensures.twice (λ key. key_before key n (list_of body)) c.requires.passed.dynamics ∙ dynamic-key t name n body)
     ∙ ap (λ p. dynamic_fault reached p v kind) (c.property-in-Dynamic.ensures ∙ ap property_of c.as_str-in-Dynamic.ensures)
     ∙ ap (dynamic_fault reached (property_of name) v) (c.in_ok-kind-in-Dynamic.ensures ∙ ap (target_kind d b n) c.names.ensures)
     ∙ sym (ap (item_fault d c.args.around b body n) c.in-Dynamic.is)
@@ -90,5 +89,5 @@ returns-in_ok-twice-in-Dynamic-clause-passed c = λ none.
     let n = c.args.n in
     know-dynamic c.args.description.now.items c.args.at.now body n c.args.passed.now c.in-Dynamic.target c.in-Dynamic.name c.in-Dynamic.value c.note-in-Dynamic.new.self
     c.requires.here (c.requires.item ∙ ap Some c.in-Dynamic.is)
-    (λ q. c.in_ok-twice-in-Dynamic.ensures.noted (λ key. key_before key n (list_of body)) c.requires.passed.dynamics q ∙ ap (λ k. pointwise bytes_eq k (texts q) || key_before (texts q) n (list_of body)) c.in_ok-target_key-in-Dynamic.ensures)
+    (c.in_ok-twice-in-Dynamic.ensures.noted (λ key. key_before key n (list_of body)) c.requires.passed.dynamics)
     c.requires.passed
