@@ -1,5 +1,5 @@
 -- New names in a set, of which none stands twice, and how they clash with old ones.
-use Rattle.std.proofs.Common.{◌≡◌, ◌≤◌, ◌<◌, ◌+◌, ℕ, Bool, true, false, cond, ◌||◌, List, [], ◌∷◌, ◌++◌, length, get_or, take, drop, map, Option, Some, None, refl, ap, sym, ◌∙◌, inl, inr, subst, take_all}
+use Rattle.std.proofs.Common.{arith, ◌≡◌, ◌≤◌, ◌<◌, ◌+◌, ℕ, Bool, true, false, cond, ◌||◌, List, [], ◌∷◌, ◌++◌, length, get_or, take, drop, map, Option, Some, None, refl, ap, sym, ◌∙◌, inl, inr, subst, take_all}
 use Rattle.std.proofs.lemmas.Bool.{or_parts, or_cases, or_left, or_right}
 use Rattle.std.proofs.lemmas.List.{map-append, take_more, drop_more, take-append-drop}
 use Rattle.std.proofs.lemmas.List.Folds.{list_any-append}
@@ -44,6 +44,14 @@ has-more m ns (o ∷ old) =
     ap (λ b. (b || has_name o ns) || list_any (λ n. has_name n (m ∷ ns)) old) (bytes-swap m o)
     ∙ ap (λ b. (bytes_eq o m || has_name o ns) || b) (has-more m ns old)
     ∙ or-swap (bytes_eq o m) (has_name o ns) (has_name m old) (list_any (λ n. has_name n ns) old)
+
+-- a new name alone clashes where it is an old one
+pub clash_one : (n : List ℕ) (old : List (List ℕ)) → has_name n old ≡ clash (n ∷ []) old
+clash_one n old = by (has_name n old)
+  where
+    by : (b : Bool) → b ≡ (b || false || false)
+    by true = refl
+    by false = refl
 
 -- new names of which none stands twice clash where an old one is among them
 clash-distinct : (new old : List (List ℕ)) → is_twice new ≡ false → clash new old ≡ list_any (λ n. has_name n new) old
@@ -167,3 +175,9 @@ among_one set next key name names same none updates =
     itself : (b : Bool) → cond b true false ≡ b
     itself true = refl
     itself false = refl
+
+-- a new name that is the only one
+pub clash_only : (names : List (Bor (List ℕ))) (n : Bor (List ℕ)) (new old : List (List ℕ)) → 1 ≤ length names → length names < 2 → n ≡ get_or names 0 n → texts names ≡ new → has_name n.now old ≡ clash new old
+clash_only [] n new old few one is same = absurd (omega (arith, few))
+clash_only (m ∷ []) n new old few one is same = ap (λ (x : Bor (List ℕ)). has_name x.now old) is ∙ clash_one m.now old ∙ ap (λ ns. clash ns old) same
+clash_only (m ∷ k ∷ names) n new old few one is same = absurd (omega (arith, one))

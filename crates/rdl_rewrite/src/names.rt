@@ -137,6 +137,9 @@ pub fn instance_taken(alloc: Global, added: &Body, body: &Body) -> Result<bool, 
     if new.is_empty() {
         return Ok(false);
     }
+    if let [name] = new.as_slice() {
+        return Ok(is_instantiated(name, body));
+    }
     match distinct(alloc, new.as_slice())? {
         Some(names) => Ok(instantiates_any(&names, body)),
         None => Ok(true),
