@@ -92,14 +92,41 @@ fn most_weight(target: &Target, property: &Name, value: &Value) -> u64
         .saturating_add(1)
 }
 
-/// The weight of an instance of a type.
-#[inline]
-fn named_weight(shell: &Shell, name: &Name) -> u64
-    ensures { capped (item_weight (Item.Instance shell.now (Of.Named name.now))) ≤ result }
+/// The size of an instance of a type.
+#[inline(always)]
+fn named_size(shell: &Shell, name: &Name) -> Size
+    ensures { IsSizeOf (add (Item.Instance shell.now (Of.Named name.now)) no_items) result }
 {
-    (shell.name.len() as u64)
-        .saturating_add(name.len() as u64)
-        .saturating_add(1)
+    let names = (shell.name.len() as u64).saturating_add(name.len() as u64);
+    Size {
+        depth: 0,
+        count: 1,
+        weight: names.saturating_add(1),
+    }
+}
+
+/// The size of an instance of this, if it is one of a type.
+#[inline(always)]
+fn size_of_named(shell: &Shell, of: &Of) -> Option<Size>
+    ensures { IfSome result (IsSizeOf (add (Item.Instance shell.now of.now) no_items)) }
+{
+    match of {
+        Of::Named(name) => Some(named_size(shell, name)),
+        Of::Anonymous(_) => None,
+    }
+}
+
+/// The size of an item, if it is an instance of a type, as most items of a large body are.
+#[inline(always)]
+fn size_if_named(item: &Item) -> Option<Size>
+    ensures { IfSome result (IsSizeOf (add item.now no_items)) }
+{
+    match item {
+        Item::Instance(shell, of) => size_of_named(shell, of),
+        Item::Define(_, _) | Item::Own(_, _) | Item::Default(_, _) | Item::Dynamic(_, _, _) => {
+            None
+        }
+    }
 }
 
 /// The size of an item with all inside it, in one walk that reads no names of targets.
@@ -117,11 +144,7 @@ pub fn item_size(item: &Item) -> Size
             count: 1,
             weight: most_weight(target, property, value),
         },
-        Item::Instance(shell, Of::Named(name)) => Size {
-            depth: 0,
-            count: 1,
-            weight: named_weight(shell, name),
-        },
+        Item::Instance(shell, Of::Named(name)) => named_size(shell, name),
         Item::Own(_, _) | Item::Default(_, _) => Size {
             depth: 0,
             count: 1,
@@ -137,7 +160,11 @@ pub(crate) fn body_size(body: &Body) -> Size
 {
     let mut size = Size::nothing();
     for item in body.as_slice() {
-        size = size.beside(item_size(item));
+        let more = match size_if_named(item) {
+            Some(size) => size,
+            None => item_size(item),
+        };
+        size = size.beside(more);
     }
     size
 }
