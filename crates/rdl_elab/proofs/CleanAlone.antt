@@ -15,9 +15,8 @@ use Rattle.rdl_elab.specs.declared.rows.siblings.Sibling.{Sibling}
 use Rattle.rdl_elab.specs.declared.walk.finished.Finished.{Finished}
 use Rattle.rdl_elab.specs.Clean.{AreClean, IsCleanUnder}
 use Rattle.rdl_elab.specs.CleanParts.{IsSound, IsClean, in_order, part_values}
-use Rattle.rdl_elab.specs.Faults.{overlap}
 use Rattle.rdl_elab.specs.Finished.{under}
-use Rattle.rdl_elab.specs.FinishedRows.{finished_values, finished_fault, extent_fault, overlaps_before, seen}
+use Rattle.rdl_elab.specs.FinishedRows.{finished_fault, extent_fault, overlaps_before, seen}
 use Rattle.rdl_elab.specs.Kept.{Part}
 use Rattle.rdl_elab.specs.Reaches.{Reach, behind}
 use Rattle.rdl_elab.proofs.Cleaning.{GoesOn, begins, goes-further, ends-parts, ends-spans, ends-finished}
