@@ -13,7 +13,7 @@ and-false : (x : Bool) → (x && false) ≡ false
 and-false true = refl
 and-false false = refl
 
-apart : (a b : Span) (end : ℕ) → b.end ≤ end → end ≤ a.start → overlap a b ≡ false
+pub apart : (a b : Span) (end : ℕ) → b.end ≤ end → end ≤ a.start → overlap a b ≡ false
 apart a b end h g =
     ap (λ x. nat_lt a.start a.end && nat_lt b.start b.end && x && nat_lt b.start a.end) (le-ltb a.start b.end (omega (arith, h, g)))
     ∙ ap (λ x. x && nat_lt b.start a.end) (and-false (nat_lt a.start a.end && nat_lt b.start b.end))

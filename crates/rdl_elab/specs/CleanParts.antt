@@ -1,6 +1,6 @@
 -- Instances that have no fault, nor one below them.
 -- own: SystemRDL 2.0 has no rows. Which of them has a fault `FinishedRows` says.
-use Rattle.std.specs.Prelude.{◌≡◌, ℕ, false, List, [], ◌∷◌, ◌++◌, None}
+use Rattle.std.specs.Prelude.{◌≡◌, ℕ, ◌&&◌, nat_lt, nat_le, max, Bool, true, false, List, [], ◌∷◌, ◌++◌, None, unwrap_or}
 use Rattle.rdl_tree.specs.declared.shell.Shell.{Shell}
 use Rattle.rdl_elab.specs.declared.layout.Mode.{Mode}
 use Rattle.rdl_elab.specs.declared.layout.Span.{Span}
@@ -13,10 +13,15 @@ use Rattle.rdl_elab.specs.Finished.{under}
 use Rattle.rdl_elab.specs.FinishedRows.{finished_values, finished_fault, seen, overlaps_before}
 use Rattle.rdl_elab.specs.Clean.{IsCleanUnder}
 
--- nothing is wrong with an instance that states no stride and overlaps none before it
+-- each span begins where those before it end, or behind that
+abbrev pub in_order : ℕ → List Span → Bool
+in_order end [] = true
+in_order end (span ∷ spans) = nat_le end span.start && in_order (max end span.end) spans
+
+-- nothing is wrong with an instance whose stride isn't too small, and which overlaps none before it
 abbrev pub IsSound : Finished → Type 0
 IsSound f =
-    (bits size : ℕ) (s : Shell) (a : Sibling) (before : List Sibling) (values : List PropertyValue) → s.stride ≡ None → overlaps_before a.span before ≡ false
+    (bits size : ℕ) (s : Shell) (a : Sibling) (before : List Sibling) (values : List PropertyValue) → nat_lt (unwrap_or s.stride size) size ≡ false → overlaps_before a.span before ≡ false
     → finished_fault f.kind f.values bits s size a before values ≡ None
 
 -- the values of an instance that these assignments may reach

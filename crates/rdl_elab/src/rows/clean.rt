@@ -1,19 +1,19 @@
 //! Components below which no row has a fault, each judged once for all its instances.
-ghost use Rattle.std.specs.Prelude.{◌≡◌, ℕ, ◌++◌, ◌∷◌, [], List, true, false, Some, None, IfOk, option_and_then, slice_get};
+ghost use Rattle.std.specs.Prelude.{◌≡◌, ℕ, ◌++◌, ◌∷◌, [], List, nat_lt, unwrap_or, true, false, Some, None, IfOk, option_and_then, slice_get};
 ghost use Rattle.rdl_elab.specs.Faults.{fault_in};
 ghost use Rattle.rdl_elab.specs.Clean.{AreClean, AreCleanIn, HaveNoModes, IsCleanIn, IsCleanUnder, bits_inside, has_mode, modes_at};
-ghost use Rattle.rdl_elab.specs.CleanParts.{IsSound, IsClean};
+ghost use Rattle.rdl_elab.specs.CleanParts.{IsSound, IsClean, in_order};
 ghost use Rattle.rdl_elab.specs.Finished.{under};
 ghost use Rattle.rdl_elab.specs.declared.walk.finished.Finished.{Finished};
 ghost use Rattle.rdl_elab.specs.FinishedRows.{finished_answer};
 ghost use Rattle.rdl_elab.specs.Layouts.{mode_inside};
 ghost use Rattle.rdl_elab.specs.Onward.{IsOnward};
-ghost use Rattle.rdl_elab.specs.Reaches.{Reach};
+ghost use Rattle.rdl_elab.specs.Reaches.{Reach, behind};
 
 use crate::elaborate::{Top, finished_at, map_fault};
 use crate::layout::{Mode, Span};
-use crate::rows::siblings::{Siblings, as_sibling};
-use crate::rows::{behind_part, fault_kind, judged_row, span_at};
+use crate::rows::siblings::Siblings;
+use crate::rows::{behind_part, fault_kind, is_stride_too_small, judged_row, span_at};
 use crate::walk::finished::{Finished, Part};
 use crate::walk::instances::mode_inside;
 use crate::walk::reaches::{Assignment, Onward, have_ended, with_own};
@@ -155,16 +155,32 @@ fn is_clean_below<'a>(
     is_clean_level(alloc, components, clean, &level, spans, parts, levels)
 }
 
-/// Whether the instance says nothing on which its values or its faults depend.
-fn is_plain(part: &Part) -> bool
-    ensures reset { result ≡ true → part.now.shell.reset ≡ None }
-    ensures stride { result ≡ true → part.now.shell.stride ≡ None }
+/// Whether each of the spans begins where those before it end, or behind that.
+fn is_in_order(spans: &[Span]) -> bool
+    ensures { result ≡ in_order 0 spans.now }
 {
-    part.is_bare() || part.reset().is_none() && part.stride().is_none()
+    let mut end = 0;
+    for span in spans {
+        if span.start < end {
+            return false;
+        }
+        end = end.max(span.end);
+    }
+    true
 }
 
-/// Whether nothing is wrong with an instance of the component that states no stride, if it overlaps none before it. Of
-/// fields that isn't known.
+/// Whether the stride of the instance is stated, and too small.
+fn has_small_stride(mode: Mode, part: &Part, component: &Finished) -> bool
+    ensures { result ≡ false → nat_lt (unwrap_or part.now.shell.stride (under mode component.now.layouts).size) (under mode component.now.layouts).size ≡ false }
+{
+    if part.is_bare() {
+        return false;
+    }
+    is_stride_too_small(part.stride(), component.layouts.under(mode).size)
+}
+
+/// Whether nothing is wrong with an instance of the component whose stride isn't too small, if it overlaps none before it.
+/// Of fields that isn't known.
 fn is_sound(component: &Finished) -> bool
     ensures { result ≡ true → IsSound component.now }
 {
@@ -175,28 +191,79 @@ fn is_sound(component: &Finished) -> bool
     }
 }
 
-/// Puts the instance behind those before it if it is seen at once that no assignment reaches it, and that it has no fault,
-/// nor a row below it.
-fn is_clean_alone(
+/// Whether no row below this instance is found to have a fault.
+#[cycle(clean)]
+fn is_clean_behind<'a>(
+    alloc: Global,
+    components: &[Finished<'a>],
     clean: &[Modes],
     mode: Mode,
-    onward: &Onward,
-    span: Span,
-    part: &Part,
-    component: &Finished,
-    siblings: &mut Siblings,
+    onward: &Onward<'a>,
+    part: &Part<'a>,
+    component: &Finished<'a>,
+    levels: usize,
 ) -> Result<bool, AllocError>
-    ensures clean { IfOk result (λ answer. answer ≡ true → (fs : List Finished) (least : ℕ) (rs : List Reach) → AreCleanIn fs clean.now → slice_get fs part.now.component ≡ Some component.now → IsOnward onward.now rs → IsClean fs mode least rs span part.now component.now siblings.old siblings.new) }
-    ensures left { IfOk result (λ answer. answer ≡ false → siblings.new ≡ siblings.old) }
+    requires clean { AreCleanIn components.now clean.now }
+    requires component { slice_get components.now part.now.component ≡ Some component.now }
+    ensures { IfOk result (λ answer. answer ≡ true → (rs : List Reach) → IsOnward onward.now rs → IsCleanUnder components.now mode (behind part.now.at rs) component.now) }
 {
-    if !onward.passes_by(part) || !is_plain(part) || !is_sound(component) {
-        return Ok(false);
+    if onward.passes_by(part) && is_known(clean, part.number(), mode) {
+        return Ok(true);
     }
-    if !component.parts.as_slice().is_empty() && !is_known(clean, part.number(), mode) {
-        return Ok(false);
+    let passed = behind_part(alloc, part, onward)?;
+    let reaching = passed.as_slice();
+    is_clean_below(
+        alloc, components, clean, mode, part, component, reaching, levels,
+    )
+}
+
+/// Whether no row of these instances, which are no fields and stand in order, and below them is found to have a fault, so
+/// many levels deep. Their values make no difference.
+#[cycle(clean)]
+fn is_clean_container<'a>(
+    alloc: Global,
+    components: &[Finished<'a>],
+    clean: &[Modes],
+    level: &Level<'a>,
+    onward: &Onward<'a>,
+    spans: &[Span],
+    parts: &[Part<'a>],
+    levels: usize,
+) -> Result<bool, AllocError>
+    requires clean { AreCleanIn components.now clean.now }
+    requires onward { IsOnward onward.now level.now.reaching.items }
+    requires order { in_order 0 spans.now ≡ true }
+    ensures { IfOk result (λ answer. answer ≡ true → AreClean components.now level.now.mode level.now.bits level.now.reaching.items spans.now parts.now) }
+{
+    let mode = level.mode;
+    for (i, part) in parts.iter().enumerate() {
+        let Some(_) = span_at(spans, i) else {
+            return Ok(true);
+        };
+        let Some(component) = part.component(components) else {
+            return Ok(true);
+        };
+        if !is_sound(component) || has_small_stride(mode, part, component) {
+            return Ok(false);
+        }
+        if !is_clean_behind(
+            alloc, components, clean, mode, onward, part, component, levels,
+        )? {
+            return Ok(false);
+        }
     }
-    let is_behind = siblings.push_behind(as_sibling(span, component.shown.access()))?;
-    Ok(is_behind)
+    Ok(true)
+}
+
+/// Whether the first of these instances is a field.
+fn are_fields(components: &[Finished], parts: &[Part]) -> bool {
+    match parts.first() {
+        Some(part) => match part.component(components) {
+            Some(component) => component.kind == Kind::Field,
+            None => false,
+        },
+        None => false,
+    }
 }
 
 /// Whether neither the instance nor a row below it is found to have a fault. If so, it is put behind those before it.
@@ -234,6 +301,49 @@ fn is_clean_part<'a>(
 
 /// Whether no row of these instances and below them is found to have a fault, so many levels deep.
 #[cycle(clean)]
+fn are_clean_parts<'a>(
+    alloc: Global,
+    components: &[Finished<'a>],
+    clean: &[Modes],
+    level: &Level<'a>,
+    onward: &Onward<'a>,
+    spans: &[Span],
+    parts: &[Part<'a>],
+    levels: usize,
+) -> Result<bool, AllocError>
+    requires clean { AreCleanIn components.now clean.now }
+    requires onward { IsOnward onward.now level.now.reaching.items }
+    ensures { IfOk result (λ answer. answer ≡ true → AreClean components.now level.now.mode level.now.bits level.now.reaching.items spans.now parts.now) }
+{
+    let mut siblings = Siblings::with_room(alloc, parts.len())?;
+    for (i, part) in parts.iter().enumerate() {
+        let Some(span) = span_at(spans, i) else {
+            return Ok(true);
+        };
+        let Some(component) = part.component(components) else {
+            return Ok(true);
+        };
+        if !is_clean_part(
+            alloc,
+            components,
+            clean,
+            level,
+            onward,
+            span,
+            part,
+            component,
+            &mut siblings,
+            levels,
+        )? {
+            return Ok(false);
+        }
+    }
+    Ok(true)
+}
+
+/// Whether no row of these instances and below them is found to have a fault, so many levels deep. Only fields, and
+/// instances out of order, are compared with those before them.
+#[cycle(clean)]
 fn is_clean_level<'a>(
     alloc: Global,
     components: &[Finished<'a>],
@@ -249,42 +359,16 @@ fn is_clean_level<'a>(
     if levels == 0 {
         return Ok(false);
     }
+    let levels = levels - 1;
     let onward = Onward::of(alloc, level.reaching.as_slice(), parts.len())?;
-    let mut siblings = Siblings::with_room(alloc, parts.len())?;
-    for (i, part) in parts.iter().enumerate() {
-        let Some(span) = span_at(spans, i) else {
-            return Ok(true);
-        };
-        let Some(component) = part.component(components) else {
-            return Ok(true);
-        };
-        if is_clean_alone(
-            clean,
-            level.mode,
-            &onward,
-            span,
-            part,
-            component,
-            &mut siblings,
-        )? {
-            continue;
-        }
-        if !is_clean_part(
-            alloc,
-            components,
-            clean,
-            level,
-            &onward,
-            span,
-            part,
-            component,
-            &mut siblings,
-            levels - 1,
-        )? {
-            return Ok(false);
-        }
+    if !are_fields(components, parts) && is_in_order(spans) {
+        return is_clean_container(
+            alloc, components, clean, level, &onward, spans, parts, levels,
+        );
     }
-    Ok(true)
+    are_clean_parts(
+        alloc, components, clean, level, &onward, spans, parts, levels,
+    )
 }
 
 /// Whether this component is found to be clean in the mode, where it is asked for or has no instances. Those of its

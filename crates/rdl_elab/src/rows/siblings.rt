@@ -152,7 +152,7 @@ impl Siblings {
     }
 
     /// Takes one more if it is seen at once that it overlaps none of them.
-    pub(crate) fn push_behind(&mut self, sibling: Sibling) -> Result<bool, AllocError>
+    fn push_behind(&mut self, sibling: Sibling) -> Result<bool, AllocError>
         ensures taken { IfOk result (λ taken. taken ≡ true → self.new ≡ self.old ++ sibling ∷ []) }
         ensures apart { IfOk result (λ taken. taken ≡ true → overlaps_before sibling.span self.old ≡ false) }
         ensures left { IfOk result (λ taken. taken ≡ false → self.new ≡ self.old) }

@@ -234,7 +234,7 @@ pub(crate) struct Onward<'a> {
 
 impl<'a> Onward<'a> {
     ghost use Rattle.std.specs.Prelude.{◌≡◌, ◌≢◌, ℕ, ◌++◌, ◌∷◌, [], List, true, IfOk, OnOk, option_copied};
-    ghost use Rattle.rdl_elab.specs.Onward.{IsMarked, IsOnward, going_to, stored_under, list_or_none};
+    ghost use Rattle.rdl_elab.specs.Onward.{IsMarked, IsOnward, is_marked, going_to, stored_under, list_or_none};
     ghost use Rattle.rdl_elab.specs.Reaches.{Reach, behind};
 
     /// None under any number. So many numbers are small.
@@ -285,11 +285,19 @@ impl<'a> Onward<'a> {
         }
     }
 
+    /// Whether some may stand under this number.
+    #[inline]
+    fn is_marked(&self, number: usize) -> bool
+        ensures { result ≡ is_marked self.now number }
+    {
+        self.marks[number % REMAINDERS]
+    }
+
     /// Those under this number.
     fn get(&self, number: usize) -> Option<&Vec<Assignment<'a>>>
         ensures { list_or_none (option_copied result) ≡ going_to self.now number }
     {
-        if self.marks[number % REMAINDERS] {
+        if self.is_marked(number) {
             self.stored(number)
         } else {
             None
@@ -322,6 +330,9 @@ impl<'a> Onward<'a> {
     pub(crate) fn passes_by(&self, part: &Part) -> bool
         ensures { result ≡ true → (reaching : List Reach) → IsOnward self.now reaching → behind part.now.at reaching ≡ [] }
     {
+        if !self.is_marked(part.place()) {
+            return true;
+        }
         match self.get(part.place()) {
             Some(list) => list.is_empty(),
             None => true,
