@@ -1,5 +1,5 @@
 //! The first fault of the items of a description.
-ghost use Rattle.std.specs.Prelude.{◌≡◌, ◌==◌, ◌||◌, ◌&&◌, ℕ, ◌+◌, ◌<◌, ◌≤◌, ◌++◌, ◌∷◌, [], length, List, Option, Some, None, IfOk, IfErr, OnOk, ◌⊎◌, option_copied, option_and_then, slice_get, bytes_eq};
+ghost use Rattle.std.specs.Prelude.{◌≡◌, ◌==◌, ◌||◌, ◌&&◌, ℕ, ◌+◌, ◌<◌, ◌≤◌, ◌++◌, ◌∷◌, [], length, List, Option, Some, None, IfOk, IfErr, OnOk, ◌⊎◌, option_copied, slice_get, bytes_eq};
 ghost use Rattle.std.specs.Option.{is_some};
 ghost use Rattle.std.specs.List.{list_any};
 ghost use Rattle.rdl_tree.specs.Items.{Items};
