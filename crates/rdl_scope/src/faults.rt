@@ -1,5 +1,5 @@
 //! The first fault of the items of a description.
-ghost use Rattle.std.specs.Prelude.{◌≡◌, ◌==◌, ◌||◌, ◌&&◌, ℕ, ◌+◌, ◌<◌, ◌≤◌, ◌++◌, ◌∷◌, [], length, List, Option, Some, None, IfOk, IfErr, OnOk, ◌⊎◌, option_copied, option_and_then, slice_get, bytes_eq};
+ghost use Rattle.std.specs.Prelude.{◌≡◌, ◌==◌, ◌||◌, ◌&&◌, ℕ, ◌+◌, ◌<◌, ◌≤◌, ◌++◌, ◌∷◌, [], length, List, Option, Some, None, IfOk, IfErr, OnOk, ◌⊎◌, option_copied, slice_get, bytes_eq};
 ghost use Rattle.std.specs.Option.{is_some};
 ghost use Rattle.std.specs.List.{list_any};
 ghost use Rattle.rdl_tree.specs.Items.{Items};
@@ -313,6 +313,38 @@ pub(crate) fn inside_fault<'a>(
     if component.body.is_empty() {
         return Ok(None);
     }
+    component_fault(
+        alloc,
+        description,
+        at,
+        number,
+        component,
+        levels,
+        definitions,
+    )
+}
+
+/// The first fault inside this item of the body at this address, which has the component. Where there is none, the levels
+/// and the definitions before it stay.
+#[cycle(walk)]
+fn component_fault<'a>(
+    alloc: Global,
+    description: &Description,
+    at: &Address,
+    number: usize,
+    component: &'a Component,
+    levels: &mut Vec<Names<'a>>,
+    definitions: &mut Names<'a>,
+) -> Result<Option<Fault>, AllocError>
+    requires nesting { depth description.now.items ≤ 16 }
+    requires room { length at.now + depth component.now.body < 16 }
+    requires here { body_at (at.now ++ number ∷ []) description.now.items ≡ Some component.now.body }
+    requires count { length levels.old.items ≡ length at.now }
+    requires scope { (q : List ℕ) → scope_found levels.old.items definitions.old q ≡ found (at.now ++ number ∷ []) description.now.items q }
+    ensures fault { IfOk result (λ fault. fault ≡ inside_fault description.now.items (at.now ++ number ∷ []) (Some component.entry.now)) }
+    ensures levels { IfOk result (λ fault. fault ≡ None → levels.new.items ≡ levels.old.items) }
+    ensures definitions { IfOk result (λ fault. fault ≡ None → definitions.new ≡ definitions.old) }
+{
     let address = at.inside(number);
     levels.push(mem::replace(definitions, Names::new(alloc)))?;
     let kind = Some(component.kind);

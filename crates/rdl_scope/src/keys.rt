@@ -1,5 +1,5 @@
 //! The dynamic assignments that were passed in a body.
-ghost use Rattle.std.specs.Prelude.{◌≡◌, ◌∷◌, IfOk};
+ghost use Rattle.std.specs.Prelude.{◌≡◌, IfOk};
 ghost use Rattle.rdl_scope.specs.KeySpot.{FreeHaveNone, names, texts};
 
 use crate::by_name::{FEW, SLOTS, number_behind};

@@ -20,17 +20,17 @@ first_fault-returns-clause-fault t c =
     ∙ ap (λ ys. first_fault d c.args.around c.args.at.now body c.items.i (items_of (drop c.items.i ys))) (sym c.as_slice-item-items.ensures)
     ∙ first-none d c.args.around c.args.at.now body c.items.i c.as_slice-item-items.result.now c.items-test.false)
 
-pub inside_fault-returns-in-Some-pop-clause-levels :
-    goal.inside_fault-returns-in-Some-pop-clause-levels
-inside_fault-returns-in-Some-pop-clause-levels t c = λ none.
-    let same = sym c.in-Some-pop.ensures.items ∙ c.in_ok-fault.ensures.levels none ∙ c.in_ok-push.ensures.items in
-    (ends_same c.pop.new.self.items c.args.levels.now.items c.in-Some-pop.outer c.replace.result same).0
+pub component_fault-returns-in-Some-clause-levels :
+    goal.component_fault-returns-in-Some-clause-levels
+component_fault-returns-in-Some-clause-levels t c = λ none.
+    let same = sym c.in-Some.ensures.items ∙ c.in_ok-fault.ensures.levels none ∙ c.in_ok-push.ensures.items in
+    (ends_same c.pop.new.self.items c.args.levels.now.items c.in-Some.outer c.replace.result same).0
 
-pub inside_fault-returns-in-Some-pop-clause-definitions :
-    goal.inside_fault-returns-in-Some-pop-clause-definitions
-inside_fault-returns-in-Some-pop-clause-definitions t c = λ none.
-    let same = sym c.in-Some-pop.ensures.items ∙ c.in_ok-fault.ensures.levels none ∙ c.in_ok-push.ensures.items in
-    (ends_same c.pop.new.self.items c.args.levels.now.items c.in-Some-pop.outer c.replace.result same).1 ∙ c.replace.ensures.value
+pub component_fault-returns-in-Some-clause-definitions :
+    goal.component_fault-returns-in-Some-clause-definitions
+component_fault-returns-in-Some-clause-definitions t c = λ none.
+    let same = sym c.in-Some.ensures.items ∙ c.in_ok-fault.ensures.levels none ∙ c.in_ok-push.ensures.items in
+    (ends_same c.pop.new.self.items c.args.levels.now.items c.in-Some.outer c.replace.result same).1 ∙ c.replace.ensures.value
 
 pub first_fault-items-init : goal.first_fault-items-init
 first_fault-items-init t c =
@@ -63,7 +63,7 @@ first_fault-inside_fault-requires t c =
     let room = room_inside c.args.at.now c.items.i c.args.body.now c.as_slice-item-items.result.now c.item-item.result (option_copied c.own_component-component.result)
     c.as_slice-item-items.ensures c.items-test.true c.item-item.is c.own_component-component.ensures c.requires.room in
     let got = item_got c.args.body.now c.items.i c.as_slice-item-items.result.now c.item-item.result c.as_slice-item-items.ensures c.items-test.true c.item-item.is in
-    let less : 2 * (16 - length c.args.at.now) + 1 < t = omega (arith, c.decreases, c.requires.room) in (
+    let less : 3 * (16 - length c.args.at.now) + 2 < t = omega (arith, c.decreases, c.requires.room) in (
       less,
       (
         c.requires.nesting,
@@ -111,29 +111,42 @@ inside_fault-returns-then-is_empty-clause-fault t c =
     empty_inside c.args.description.now.items (c.args.at.now ++ c.args.number ∷ []) (option_copied c.args.component) c.in-Some.component.now (ap option_copied c.in-Some.is)
     (eqb-true _ _ (sym c.is_empty.ensures ∙ c.if-is_empty.true))
 
-pub inside_fault-inside-address-requires : goal.inside_fault-inside-address-requires
-inside_fault-inside-address-requires t c = omega (arith, c.requires.room c.in-Some.component.now (ap option_copied c.in-Some.is))
+pub component_fault-inside-address-requires : goal.component_fault-inside-address-requires
+component_fault-inside-address-requires t c = omega (arith, c.requires.room)
 
-pub inside_fault-first_fault-requires : goal.inside_fault-first_fault-requires
-inside_fault-first_fault-requires t c =
-    let some = ap option_copied c.in-Some.is in
+pub component_fault-first_fault-requires : goal.component_fault-first_fault-requires
+component_fault-first_fault-requires t c =
     let at = c.inside-address.ensures in
     let own : c.replace.result ≡ c.args.definitions.now = c.replace.ensures.value in
     let pushed : c.push.new.self.items ≡ c.args.levels.now.items ++ c.args.definitions.now ∷ [] = c.in_ok-push.ensures.items ∙ ap (λ m. c.args.levels.now.items ++ m ∷ []) own in
     let longer : length c.inside-address.result ≡ length c.args.at.now + 1 = ap length at ∙ simp length-append refl in
-    let less : 2 * (17 - length c.inside-address.result) < t = omega (arith, c.decreases) in (
+    let less : 3 * (17 - length c.inside-address.result) < t = omega (arith, c.decreases) in (
       less,
       (
         c.requires.nesting,
         (
-          omega (arith, c.requires.room c.in-Some.component.now some),
+          omega (arith, c.requires.room),
           (
-            ap (λ a. body_at a c.args.description.now.items) at ∙ c.requires.here c.in-Some.component.now some,
+            ap (λ a. body_at a c.args.description.now.items) at ∙ c.requires.here,
             (
               ap length pushed ∙ simp length-append (ap (λ n. n + 1) c.requires.count ∙ sym longer),
               (λ q. ap (λ ls. level_found 0 ls q) pushed ∙ level-push c.args.levels.now.items c.args.definitions.now q ∙ c.requires.scope q ∙ ap (λ a. found a c.args.description.now.items q) (sym at)),
             ),
           ),
+        ),
+      ),
+    )
+
+pub inside_fault-component_fault-requires : goal.inside_fault-component_fault-requires
+inside_fault-component_fault-requires t c =
+    let some = ap option_copied c.in-Some.is in
+    let less : 3 * (16 - length c.args.at.now) + 1 < t = omega (arith, c.decreases) in (
+      less,
+      (
+        c.requires.nesting,
+        (
+          c.requires.room c.in-Some.component.now some,
+          (c.requires.here c.in-Some.component.now some, (c.requires.count, c.requires.scope)),
         ),
       ),
     )

@@ -6,10 +6,13 @@ use Rattle.rdl_scope.specs.Scopes.{number_under, Knows}
 use Rattle.rdl_scope.proofs.faults.+walk.Given as goal
 
 abbrev pub decreases-first_fault : goal.decreases-first_fault
-decreases-first_fault l = 2 * (17 - length l.at.now)
+decreases-first_fault l = 3 * (17 - length l.at.now)
 
 abbrev pub decreases-inside_fault : goal.decreases-inside_fault
-decreases-inside_fault l = 2 * (16 - length l.at.now) + 1
+decreases-inside_fault l = 3 * (16 - length l.at.now) + 2
+
+abbrev pub decreases-component_fault : goal.decreases-component_fault
+decreases-component_fault l = 3 * (16 - length l.at.now) + 1
 
 abbrev pub invariant-first_fault-items : goal.invariant-first_fault-items
 invariant-first_fault-items l = record {
