@@ -18,6 +18,7 @@ pub mod EachMode
 pub mod EachMember
 pub mod Bare
 pub mod Finished
+pub mod NameMarks
 pub mod PartNames
 pub mod KeptTargets
 pub mod FinishedRows

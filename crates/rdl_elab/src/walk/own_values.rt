@@ -113,6 +113,12 @@ impl<'a> OwnValues<'a> {
         })
     }
 
+    pub(crate) fn body(&self) -> &'a Body
+        ensures { result.now ≡ self.now }
+    {
+        self.body
+    }
+
     /// Whether the body has dynamic assignments.
     pub(crate) fn has_dynamic(&self) -> bool
         ensures { result ≡ any_dynamic self.now }

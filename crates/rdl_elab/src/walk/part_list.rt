@@ -3,6 +3,7 @@ ghost use Rattle.std.specs.Prelude.{◌≡◌, option_and_then, option_copied, s
 ghost use Rattle.rdl_elab.specs.PartNames.{part_named};
 
 use crate::walk::finished::Part;
+use crate::walk::name_marks::NameMarks;
 use rdl_scope::by_name::ByName;
 use rdl_text::name::Name;
 use std::alloc::{AllocError, Global};
@@ -11,9 +12,22 @@ use std::marker::Model;
 /// How few instances are looked through for a name.
 pub(crate) const FEW: usize = 8;
 
-/// The number of the first instance of each name.
+/// How many names are awaited at least.
+const SOME: usize = 16;
+
+/// Which instances of a component are looked up by their names.
+#[derive(Drop)]
+pub(crate) enum LookUps {
+    None,
+    /// Those of the names that are marked.
+    Marked(NameMarks),
+    All,
+}
+
+/// The number of the first instance of each name, or of each that is marked.
 #[derive(Drop)]
 pub(crate) struct PartNames<'a> {
+    marks: Option<NameMarks>,
     places: ByName<'a, usize>,
 }
 
@@ -26,22 +40,56 @@ pub(crate) struct PartList<'a> {
 }
 
 impl<'a> PartNames<'a> {
-    ghost use Rattle.std.specs.Prelude.{◌≡◌, ℕ, List, Some, IfOk, OnOk, bytes_eq, if◌then◌else◌};
-    ghost use Rattle.rdl_elab.specs.PartNames.{AreNamed, place_under};
+    ghost use Rattle.std.specs.Prelude.{◌≡◌, ℕ, List, Some, IfOk, OnOk, true, bytes_eq, if◌then◌else◌};
+    ghost use Rattle.rdl_elab.specs.PartNames.{AreNamed, has_name, place_under};
 
-    fn put(&mut self, name: &'a str, place: usize) -> Result<(), AllocError>
-        ensures { OnOk result ((q : List ℕ) → place_under self.new q ≡ (if bytes_eq name.now q then Some place else place_under self.old q)) }
+    /// None yet, with room for those of so many instances that are marked.
+    fn with_room(
+        alloc: Global,
+        marks: Option<NameMarks>,
+        parts: usize,
+    ) -> Result<PartNames<'a>, AllocError>
+        ensures { IfOk result (λ names. (q : List ℕ) → place_under names q ≡ None) }
     {
-        self.places.put(name, place)?;
+        let room = match &marks {
+            Some(marks) => marks.len().saturating_add(SOME),
+            None => parts,
+        };
+        Ok(PartNames {
+            marks,
+            places: ByName::with_room(alloc, room)?,
+        })
+    }
+
+    /// Whether the name is one of those that are put in.
+    fn has(&self, name: &str) -> bool
+        ensures { result ≡ has_name self.now.marks name.now }
+    {
+        match &self.marks {
+            Some(marks) => marks.has(name),
+            None => true,
+        }
+    }
+
+    /// One more instance in front of the others.
+    fn put(&mut self, name: &'a str, place: usize) -> Result<(), AllocError>
+        ensures marks { OnOk result (self.new.marks ≡ self.old.marks) }
+        ensures places { OnOk result ((q : List ℕ) → has_name self.old.marks q ≡ true → place_under self.new q ≡ (if bytes_eq name.now q then Some place else place_under self.old q)) }
+    {
+        if self.has(name) {
+            self.places.put(name, place)?;
+        }
         Ok(())
     }
 
-    fn of(alloc: Global, parts: &[Part<'a>]) -> Result<PartNames<'a>, AllocError>
+    fn of(
+        alloc: Global,
+        parts: &[Part<'a>],
+        marks: Option<NameMarks>,
+    ) -> Result<PartNames<'a>, AllocError>
         ensures { IfOk result (λ names. AreNamed names parts.now) }
     {
-        let mut names = PartNames {
-            places: ByName::with_room(alloc, parts.len())?,
-        };
+        let mut names = PartNames::with_room(alloc, marks, parts.len())?;
         for i in (0..parts.len()).rev() {
             names.put(parts[i].shell().name.as_str(), i)?;
         }
@@ -90,18 +138,18 @@ impl<'a> PartList<'a> {
     ghost use Rattle.std.specs.Prelude.{◌≡◌, [], IfOk, option_copied};
     ghost use Rattle.rdl_elab.specs.PartNames.{part_named};
 
-    /// These instances. If targets look them up, the names of many are put in order.
+    /// These instances. The names of many are put in order, as far as they are looked up.
     pub(crate) fn of(
         alloc: Global,
         items: Vec<Part<'a>>,
-        by_name: bool,
+        look_ups: LookUps,
     ) -> Result<PartList<'a>, AllocError>
         ensures { IfOk result (λ parts. parts.items ≡ items.entry.items) }
     {
-        let names = if by_name && items.len() > FEW {
-            Some(PartNames::of(alloc, items.as_slice())?)
-        } else {
-            None
+        let names = match look_ups {
+            LookUps::None => None,
+            LookUps::Marked(marks) => Some(PartNames::of(alloc, items.as_slice(), Some(marks))?),
+            LookUps::All => Some(PartNames::of(alloc, items.as_slice(), None)?),
         };
         Ok(PartList { items, names })
     }
@@ -127,9 +175,10 @@ impl<'a> PartList<'a> {
         ensures { option_copied result ≡ part_named name.now self.now.items }
     {
         let parts = self.items.as_slice();
+        let text = name.as_str();
         match &self.names {
-            Some(names) => part_at(parts, names.get(name.as_str())),
-            None => first_named(parts, name),
+            Some(names) if names.has(text) => part_at(parts, names.get(text)),
+            _ => first_named(parts, name),
         }
     }
 }

@@ -3,7 +3,9 @@ ghost use Rattle.std.specs.Prelude.{◌≡◌, Some, None, IfOk, option_map, if�
 ghost use Rattle.rdl_elab.specs.KeptTargets.{after, kept_from, kept_target};
 
 use crate::walk::finished::{Finished, Part};
-use crate::walk::part_list::{FEW, PartList};
+use crate::walk::name_marks::NameMarks;
+use crate::walk::own_values::OwnValues;
+use crate::walk::part_list::{FEW, LookUps, PartList};
 use crate::walk::shared::InstanceAddress;
 use rdl_scope::types::own_component;
 use rdl_text::name::Name;
@@ -11,6 +13,9 @@ use rdl_tree::address::Address;
 use rdl_tree::description::{Body, Description, Item};
 use std::alloc::{AllocError, Global};
 use std::marker::Model;
+
+/// How many dynamic assignments in a body are so many that marks don't tell the names that their targets begin with from others.
+const MANY: usize = 256;
 
 /// Whether the target of an item of the body, or of an item inside it, passes more than one instance.
 #[cycle(further)]
@@ -34,11 +39,40 @@ fn item_goes_further(item: &Item) -> bool {
     }
 }
 
-/// Whether a target of the description that is walked passes more than one instance, once that was asked. A contract sees
-/// nothing of it.
+/// The last item of the root, from this one on and before that end, of which a target passes more than one instance.
+fn last_further(description: &Description, from: usize, end: usize) -> Option<usize> {
+    for number in (from..end).rev() {
+        match description.items.item(number) {
+            Some(item) if item_goes_further(item) => return Some(number),
+            _ => {}
+        }
+    }
+    None
+}
+
+/// The marks of the names that the targets of the body's own items begin with, if they aren't too many to tell names apart.
+fn first_names(alloc: Global, body: &Body) -> Result<Option<NameMarks>, AllocError> {
+    let mut marks = NameMarks::none(alloc)?;
+    for item in body.as_slice() {
+        if let Item::Dynamic(target, _, _) = item {
+            if marks.len() >= MANY {
+                return Ok(None);
+            }
+            if let Some(name) = target.names().first() {
+                marks.put(name.as_str());
+            }
+        }
+    }
+    Ok(Some(marks))
+}
+
+/// The last item of the root of which a target passes more than one instance, as far as that was asked, from the last item
+/// on. A contract sees nothing of it.
 #[derive(Drop)]
 pub(crate) struct Further {
-    answer: Option<bool>,
+    /// The first item that was asked.
+    asked: usize,
+    last: Option<usize>,
 }
 
 impl Model for Further {
@@ -50,30 +84,61 @@ impl Model for Further {
 impl Further {
     ghost use Rattle.std.specs.Prelude.{◌≡◌};
 
-    /// It wasn't asked yet.
+    /// Nothing was asked yet.
     pub(crate) fn unknown() -> Further {
-        Further { answer: None }
+        Further {
+            asked: usize::MAX,
+            last: None,
+        }
     }
 
-    /// Whether targets may look up the instances of a body, which has so many, and dynamic assignments of its own or none. It
-    /// isn't asked where there are few.
-    pub(crate) fn looks_up(
-        &mut self,
-        description: &Description,
-        has_dynamic: bool,
-        instances: usize,
-    ) -> bool
+    /// Whether a target in an item of the root from this one on passes more than one instance.
+    fn is_from(&mut self, description: &Description, from: usize) -> bool
         ensures { self.new ≡ self.old }
     {
-        if has_dynamic || instances <= FEW {
-            return has_dynamic;
+        if self.last.is_none() && from < self.asked {
+            let end = self.asked.min(description.items.len());
+            self.last = last_further(description, from, end);
+            self.asked = from;
         }
-        if let Some(answer) = self.answer {
-            return answer;
+        match self.last {
+            Some(last) => from <= last,
+            None => false,
         }
-        let answer = goes_further(&description.items);
-        self.answer = Some(answer);
-        answer
+    }
+
+    /// Which instances of a body, that of the component at this address with so many of them, are looked up by their names.
+    ///
+    /// Targets of bodies that are finished later may go on inside it and look up any. Otherwise those are looked up that its
+    /// own targets begin with.
+    pub(crate) fn look_ups(
+        &mut self,
+        alloc: Global,
+        description: &Description,
+        at: &Address,
+        own: &OwnValues,
+        instances: usize,
+    ) -> Result<LookUps, AllocError>
+        ensures { self.new ≡ self.old }
+    {
+        if instances <= FEW {
+            return Ok(LookUps::None);
+        }
+        let from = match at.as_slice() {
+            [root] => root.saturating_add(1),
+            [root, ..] => *root,
+            [] => 0,
+        };
+        if self.is_from(description, from) {
+            return Ok(LookUps::All);
+        }
+        if !own.has_dynamic() {
+            return Ok(LookUps::None);
+        }
+        match first_names(alloc, own.body())? {
+            Some(marks) => Ok(LookUps::Marked(marks)),
+            None => Ok(LookUps::All),
+        }
     }
 }
 
