@@ -1,6 +1,7 @@
 -- The reserved words with what each is to the grammar, as a table, and those of one length.
 -- SystemRDL 2.0, keywords and reserved words; the list is own.
-use Rattle.std.specs.Prelude.{ℕ, true, false, nat_eq, if◌then◌else◌, List, [], ◌∷◌, length, codes, bytes_eq}
+use Rattle.std.specs.Prelude.{ℕ, true, false, nat_eq, if◌then◌else◌, List, [], ◌∷◌, length, map, codes, bytes_eq}
+use denote.Ref.{Bor}
 use Rattle.rdl_tree.specs.declared.shell.Kind.TheVariants.{Addrmap, Regfile, Reg, Field}
 use Rattle.rdl_tree.specs.declared.shell.Outside.TheVariants.{External, Internal}
 use Rattle.rdl_tree.specs.declared.value.Word.TheVariants as value
@@ -35,6 +36,10 @@ reserved =
 abbrev pub look : List ℕ → Table → Class
 look n [] = Name
 look n (e ∷ es) = if bytes_eq n e.0 then e.1 else look n es
+
+-- a table as the code holds it
+abbrev pub table_of : List (Bor (List ℕ) × Class) → Table
+table_of words = map (λ w. (w.0.now, w.1)) words
 
 -- the words of so many letters
 abbrev pub of_length : ℕ → Table → Table

@@ -1,9 +1,11 @@
 //! What the grammar sees of an identifier.
 ghost use Rattle.std.specs.Prelude.{◌≡◌};
+ghost use Rattle.rdl_parse.specs.Reserved.{table_of};
 ghost use Rattle.rdl_parse.specs.Class.{class};
 ghost use Rattle.rdl_parse.specs.Reserved.{reserved, look, of_length, by_length};
 ghost use Rattle.rdl_parse.specs.Symbol.{property_text};
 
+use rdl_text::is_same;
 use rdl_tree::shell::{Kind, Outside};
 use rdl_tree::value::Word;
 
@@ -37,122 +39,137 @@ pub enum Class {
     Name,
 }
 
+/// What an identifier is by these words.
+fn look(identifier: &str, words: &[(&str, Class)]) -> Class
+    ensures { result ≡ look identifier.now (table_of words.now) }
+{
+    for word in words {
+        if is_same(identifier, word.0) {
+            return word.1;
+        }
+    }
+    Class::Name
+}
+
 /// What an identifier of two letters is.
 fn of_two(identifier: &str) -> Class
     ensures { result ≡ look identifier.now (of_length 2 reserved) }
 {
-    match identifier {
-        "sw" => Class::Property(ReservedProperty::Sw),
-        "hw" => Class::Property(ReservedProperty::Hw),
-        "rw" => Class::Word(Word::Rw),
-        "wr" => Class::Word(Word::Wr),
-        "w1" => Class::Word(Word::W1),
-        "na" => Class::Word(Word::Na),
-        _ => Class::Name,
-    }
+    let words = [
+        ("sw", Class::Property(ReservedProperty::Sw)),
+        ("hw", Class::Property(ReservedProperty::Hw)),
+        ("rw", Class::Word(Word::Rw)),
+        ("wr", Class::Word(Word::Wr)),
+        ("w1", Class::Word(Word::W1)),
+        ("na", Class::Word(Word::Na)),
+    ];
+    look(identifier, &words)
 }
 
 /// What an identifier of three letters is.
 fn of_three(identifier: &str) -> Class
     ensures { result ≡ look identifier.now (of_length 3 reserved) }
 {
-    match identifier {
-        "reg" => Class::Kind(Kind::Reg),
-        "rw1" => Class::Word(Word::Rw1),
-        "wot" => Class::Word(Word::Wot),
-        "wzs" => Class::Word(Word::Wzs),
-        "wzc" => Class::Word(Word::Wzc),
-        "wzt" => Class::Word(Word::Wzt),
-        "mem" => Class::Reserved,
-        _ => Class::Name,
-    }
+    let words = [
+        ("reg", Class::Kind(Kind::Reg)),
+        ("rw1", Class::Word(Word::Rw1)),
+        ("wot", Class::Word(Word::Wot)),
+        ("wzs", Class::Word(Word::Wzs)),
+        ("wzc", Class::Word(Word::Wzc)),
+        ("wzt", Class::Word(Word::Wzt)),
+        ("mem", Class::Reserved),
+    ];
+    look(identifier, &words)
 }
 
 /// What an identifier of four letters is.
 fn of_four(identifier: &str) -> Class
     ensures { result ≡ look identifier.now (of_length 4 reserved) }
 {
-    match identifier {
-        "true" => Class::Truth(true),
-        "rclr" => Class::Property(ReservedProperty::Rclr),
-        "rset" => Class::Property(ReservedProperty::Rset),
-        "wclr" => Class::Word(Word::Wclr),
-        "wset" => Class::Word(Word::Wset),
-        "enum" => Class::Reserved,
-        _ => Class::Name,
-    }
+    let words = [
+        ("true", Class::Truth(true)),
+        ("rclr", Class::Property(ReservedProperty::Rclr)),
+        ("rset", Class::Property(ReservedProperty::Rset)),
+        ("wclr", Class::Word(Word::Wclr)),
+        ("wset", Class::Word(Word::Wset)),
+        ("enum", Class::Reserved),
+    ];
+    look(identifier, &words)
 }
 
 /// What an identifier of five letters is.
 fn of_five(identifier: &str) -> Class
     ensures { result ≡ look identifier.now (of_length 5 reserved) }
 {
-    match identifier {
-        "field" => Class::Kind(Kind::Field),
-        "false" => Class::Truth(false),
-        "woset" => Class::Property(ReservedProperty::Woset),
-        "woclr" => Class::Property(ReservedProperty::Woclr),
-        "ruser" => Class::Word(Word::Ruser),
-        "wuser" => Class::Word(Word::Wuser),
-        "alias" => Class::Reserved,
-        _ => Class::Name,
-    }
+    let words = [
+        ("field", Class::Kind(Kind::Field)),
+        ("false", Class::Truth(false)),
+        ("woset", Class::Property(ReservedProperty::Woset)),
+        ("woclr", Class::Property(ReservedProperty::Woclr)),
+        ("ruser", Class::Word(Word::Ruser)),
+        ("wuser", Class::Word(Word::Wuser)),
+        ("alias", Class::Reserved),
+    ];
+    look(identifier, &words)
 }
 
 /// What an identifier of six letters is.
 fn of_six(identifier: &str) -> Class
     ensures { result ≡ look identifier.now (of_length 6 reserved) }
 {
-    match identifier {
-        "signal" | "struct" | "encode" => Class::Reserved,
-        _ => Class::Name,
-    }
+    let words = [
+        ("signal", Class::Reserved),
+        ("struct", Class::Reserved),
+        ("encode", Class::Reserved),
+    ];
+    look(identifier, &words)
 }
 
 /// What an identifier of seven letters is.
 fn of_seven(identifier: &str) -> Class
     ensures { result ≡ look identifier.now (of_length 7 reserved) }
 {
-    match identifier {
-        "addrmap" => Class::Kind(Kind::Addrmap),
-        "regfile" => Class::Kind(Kind::Regfile),
-        "default" => Class::Default,
-        "compact" => Class::Word(Word::Compact),
-        _ => Class::Name,
-    }
+    let words = [
+        ("addrmap", Class::Kind(Kind::Addrmap)),
+        ("regfile", Class::Kind(Kind::Regfile)),
+        ("default", Class::Default),
+        ("compact", Class::Word(Word::Compact)),
+    ];
+    look(identifier, &words)
 }
 
 /// What an identifier of eight letters is.
 fn of_eight(identifier: &str) -> Class
     ensures { result ≡ look identifier.now (of_length 8 reserved) }
 {
-    match identifier {
-        "external" => Class::Outside(Outside::External),
-        "internal" => Class::Outside(Outside::Internal),
-        "regalign" => Class::Word(Word::Regalign),
-        "property" | "abstract" => Class::Reserved,
-        _ => Class::Name,
-    }
+    let words = [
+        ("external", Class::Outside(Outside::External)),
+        ("internal", Class::Outside(Outside::Internal)),
+        ("regalign", Class::Word(Word::Regalign)),
+        ("property", Class::Reserved),
+        ("abstract", Class::Reserved),
+    ];
+    look(identifier, &words)
 }
 
 /// What an identifier of nine letters is.
 fn of_nine(identifier: &str) -> Class
     ensures { result ≡ look identifier.now (of_length 9 reserved) }
 {
-    match identifier {
-        "fullalign" => Class::Word(Word::Fullalign),
-        _ => Class::Name,
-    }
+    let words = [
+        ("fullalign", Class::Word(Word::Fullalign)),
+    ];
+    look(identifier, &words)
 }
 
 /// What an identifier of ten letters is.
 fn of_ten(identifier: &str) -> Class
     ensures { result ≡ look identifier.now (of_length 10 reserved) }
 {
-    match identifier {
-        "constraint" => Class::Reserved,
-        _ => Class::Name,
-    }
+    let words = [
+        ("constraint", Class::Reserved),
+    ];
+    look(identifier, &words)
 }
 
 /// What an identifier is by its length: no reserved word has another one.
