@@ -265,7 +265,10 @@ impl Stored {
     ghost use Rattle.rdl_elab.specs.Words.{AreMadeOf, IsSpelled, is_among};
 
     /// Nothing is kept.
-    pub fn empty(alloc: Global) -> Stored {
+    pub fn empty(alloc: Global) -> Stored
+        ensures keys { result.keys ≡ [] }
+        ensures placed { result.placed ≡ 0 }
+    {
         Stored {
             entries: Entries::new(alloc),
             keys: Vec::new(alloc),

@@ -1,4 +1,4 @@
-use Rattle.std.proofs.Common.{rules, ◌≡◌, ℕ, None, Some}
+use Rattle.std.proofs.Common.{rules, ◌≡◌, ◌∙◌, ℕ, None, Some, sym}
 use Rattle.slab.specs.Slab.{get}
 use Rattle.rdl_elab.specs.WordIndex.{IsLed, LeadsMore}
 use Rattle.rdl_elab.proofs.Adding.{on-err}
@@ -29,3 +29,10 @@ returns-clause-tied c =
     let none : get s key ≡ None = search rules in
     let here : get c.insert.new.self key ≡ Some e = search rules in
     tied-put s c.insert.new.self key (search rules) j e led (back-more s i j e.words key c.requires.tied more) mine none here
+
+pub returns-in_err-insert-clause-led : goal.returns-in_err-insert-clause-led
+returns-in_err-insert-clause-led c =
+    let s = c.args.slab.now in
+    let led = c.lead.ensures.others s c.requires.none c.requires.tied.led in
+    let same : (k : ℕ) → get c.insert.new.self k ≡ get s k = search rules in
+    on-err c.from_residual-in_err-insert.result (λ k e h. led k e (sym (same k) ∙ h))
