@@ -233,6 +233,33 @@ fn finish<'a>(
     Ok(push_finished(&mut walk.components, finished)?)
 }
 
+/// Lays out the component of item `number` of the body at this address.
+#[cycle(walk)]
+#[inline(never)]
+#[tactic(auto, using(crate::proofs::Goings::goings, crate::proofs::Writing::writings))]
+fn finish_inside<'a>(
+    alloc: Global,
+    description: &'a Description,
+    at: &Address,
+    number: usize,
+    component: &'a Component,
+    walk: &mut Walk<'a>,
+    before: &Stored,
+) -> Result<usize, Stop>
+    requires nesting { depth description.now.items ≤ 16 }
+    requires room { length at.now + 1 + depth component.now.body ≤ 16 }
+    ensures made { IfOk result (λ k. (e : Standing) → Stands description.now.items walk.old e → IsReady description.now.items walk.new.components.items k (made_at e (at.now ++ number ∷ []) component.now)) }
+    ensures last { IfOk result (λ k. length walk.new.components.items ≡ k + 1) }
+    ensures whole { OnOk result (KeepsWhole walk.old.components.items walk.new.components.items) }
+    ensures types { IfOk result (λ k. walk.new.types ≡ walk.old.types) }
+    ensures defaults { IfOk result (λ k. walk.new.defaults ≡ walk.old.defaults) }
+    ensures components { IfOk result (λ k. Grows walk.old.components.items walk.new.components.items) }
+    ensures finishes { IfOk result (λ k. FinishesAll description.now.items before.now walk.old walk.new (λ e. written e (at.now ++ number ∷ []) 0 component.now.body ++ made_at e (at.now ++ number ∷ []) component.now ∷ [])) }
+{
+    let below = at.inside(number);
+    finish(alloc, description, &below, component, walk, before)
+}
+
 /// The instance of a type, if the type stands.
 #[inline(always)]
 fn named_part<'a>(shell: &'a Shell, name: &'a Name, walk: &mut Walk<'a>) -> Option<Found<'a>>
@@ -266,14 +293,7 @@ fn walk_instance<'a>(
 {
     match of {
         Of::Anonymous(component) => {
-            let component = finish(
-                alloc,
-                description,
-                &at.inside(number),
-                component,
-                walk,
-                before,
-            )?;
+            let component = finish_inside(alloc, description, at, number, component, walk, before)?;
             Ok(Some(Found { shell, component }))
         }
         Of::Named(name) => Ok(named_part(shell, name, walk)),
@@ -303,14 +323,7 @@ fn walk_item<'a>(
 {
     match item {
         Item::Define(name, component) => {
-            let component = finish(
-                alloc,
-                description,
-                &at.inside(number),
-                component,
-                walk,
-                before,
-            )?;
+            let component = finish_inside(alloc, description, at, number, component, walk, before)?;
             walk.types.push(name, component)?;
             Ok(None)
         }

@@ -95,6 +95,7 @@ impl<'a> FoundType<'a> {
     ghost use Rattle.rdl_elab.specs.TypeStacks.{IsFound};
 
     /// The component, if it is that of a type of this name.
+    #[inline(always)]
     fn component_of(found: &Option<FoundType<'a>>, name: &str) -> Option<usize>
         ensures { (types : List (List ℕ × ℕ)) → IfSome found.now (λ f. IsFound f types) → IfSome result (λ component. lookup name.now types ≡ Some component) }
     {
@@ -120,6 +121,7 @@ impl<'a> LastFound<'a> {
     }
 
     /// The component of the nearest type of the name, if that was looked up.
+    #[inline(always)]
     fn get(&self, name: &str) -> Option<usize>
         ensures { (types : List (List ℕ × ℕ)) → AreFound self.now types → IfSome result (λ component. lookup name.now types ≡ Some component) }
     {

@@ -1,16 +1,18 @@
 use Rattle.std.proofs.Common.{◌≡◌, ℕ, ◌∷◌, ◌+◌, ◌-◌, ◌*◌, ◌<◌, List, [], length, take, drop, ◌++◌, refl, ap, sym, subst, ◌∙◌, arith, length-append}
-use Rattle.std.specs.Prelude.{IfSome}
+use Rattle.std.specs.Prelude.{IfOk, IfSome}
 use Rattle.rdl_tree.specs.View.{items_of}
 use Rattle.rdl_tree.proofs.Rounds.{items_of-list_of}
 use Rattle.rdl_tree.specs.declared.shell.Shell.{Shell}
 use Rattle.rdl_tree.specs.declared.description.Item.{Item}
 use Rattle.rdl_tree.specs.declared.description.Of.{Of}
 use Rattle.rdl_tree.specs.declared.description.Item.TheVariants.{Instance}
-use Rattle.rdl_scope.specs.Closed.{parts, standing}
+use Rattle.rdl_scope.specs.Closed.{Standing, parts, standing}
 use Rattle.rdl_elab.specs.Kept.{Part}
 use Rattle.rdl_elab.specs.declared.walk.Walk.{Walk}
 use Rattle.rdl_elab.specs.Ready.{AreReadyParts, IsReady}
 use Rattle.rdl_elab.specs.Inside.{are_whole}
+use Rattle.rdl_elab.specs.Written.{written}
+use Rattle.rdl_elab.specs.Finishes.{FinishesAll}
 use Rattle.rdl_elab.specs.Stands.{made_at, after_item, item_parts, in_list, placed, Stands}
 use Rattle.rdl_elab.proofs.Goings.{append_nil, grows-on, grows-push, item-room, body-room, stands-grow, stands-define, ready-part, named-part, made-last, whole-on, whole-last, stands-next, parts-next, behind-on}
 use Rattle.rdl_elab.proofs.Writing.{finishes-next, finishes-made, laid-out}
@@ -22,7 +24,7 @@ part-at i s k b = record { at = b ++ i ∷ []; shell = s; component = k }
 
 pub finish-walk_items-requires : goal.finish-walk_items-requires
 finish-walk_items-requires t c =
-    let less : 4 * (17 - length c.args.at.now) + 3 < t = omega (arith, c.decreases) in
+    let less : 5 * (17 - length c.args.at.now) + 4 < t = omega (arith, c.decreases) in
     (less, (c.requires.nesting, body-room c.args.at.now c.args.component.now.body c.as_slice.result.now c.as_slice.ensures c.requires.room))
 
 pub finish-returns-clause-made : goal.finish-returns-clause-made
@@ -65,9 +67,21 @@ finish-returns-clause-components t c =
     let pushed = c.in_ok-push_finished.ensures.items ∙ ap (λ fs. fs ++ c.in_ok-finished.finished ∷ []) stays in
     grows-on c.args.walk.now.components.items mid c.push_finished.new.components.items c.in_ok-parts.ensures.behind.components (grows-push mid c.push_finished.new.components.items c.in_ok-finished.finished pushed)
 
+pub finish_inside-returns-clause-made : goal.finish_inside-returns-clause-made
+finish_inside-returns-clause-made t c =
+    let d = c.args.description.now.items in
+    let new = c.finish.new.walk.components.items in
+    subst (λ (a : List ℕ). IfOk c.finish.result (λ k. (e : Standing) → Stands d c.args.walk.now e → IsReady d new k (made_at e a c.args.component.now))) c.inside-below.ensures c.finish.ensures.made
+
+pub finish_inside-returns-clause-finishes : goal.finish_inside-returns-clause-finishes
+finish_inside-returns-clause-finishes t c =
+    let d = c.args.description.now.items in
+    let k = c.args.component.now in
+    subst (λ (a : List ℕ). IfOk c.finish.result (λ n. FinishesAll d c.args.before.now c.args.walk.now c.finish.new.walk (λ e. written e a 0 k.body ++ made_at e a k ∷ []))) c.inside-below.ensures c.finish.ensures.finishes
+
 pub walk_items-walk_item-requires : goal.walk_items-walk_item-requires
 walk_items-walk_item-requires t c =
-    let less : 4 * (17 - length c.args.at.now) + 2 < t = omega (arith, c.decreases) in
+    let less : 5 * (17 - length c.args.at.now) + 3 < t = omega (arith, c.decreases) in
     (less, (c.requires.nesting, item-room c.args.at.now c.loop-i.i c.args.items.now c.index-items-i.result c.loop-i-test.true c.index-items-i.is c.requires.room))
 
 pub walk_item-returns-in_ok-push-in-Define-clause-stands :
@@ -76,12 +90,11 @@ walk_item-returns-in_ok-push-in-Define-clause-stands t c = λ e h.
     let d = c.args.description.now.items in
     let at = c.args.at.now ++ c.args.number ∷ [] in
     let old = c.args.walk.now in
-    let mid = c.finish.new.walk in
+    let mid = c.finish_inside.new.walk in
     let new : Walk = record { types = c.push.new.self; defaults = mid.defaults; components = mid.components; built_ins = mid.built_ins; further = mid.further } in
     let k = c.in_ok-component-in-Define.component in
     let all = c.in_ok-component-in-Define.ensures in
-    let made : IsReady d mid.components.items k (made_at e at c.in-Define.component) =
-    subst (λ (a : List ℕ). IsReady d mid.components.items k (made_at e a c.in-Define.component)) c.inside.ensures (all.made e h) in
+    let made : IsReady d mid.components.items k (made_at e at c.in-Define.component) = all.made e h in
     subst (λ (x : Item). Stands d new (after_item at x e)) (sym c.in-Define.is)
     (stands-define d old new e at c.in-Define.name k c.in-Define.component (c.in_ok-push-in-Define.ensures ∙ ap (λ ts. (c.in-Define.name, k) ∷ ts) all.types) all.defaults all.components made h)
 
@@ -128,11 +141,11 @@ walk_instance-returns-in_ok-component-in-Anonymous-clause-part t c = λ e h.
     let d = c.args.description.now.items in
     let at = c.args.at.now ++ c.args.number ∷ [] in
     let made = c.in-Anonymous.component in
-    let new = c.finish.new.walk.components.items in
+    let new = c.finish_inside.new.walk.components.items in
     let k = c.in_ok-component-in-Anonymous.component in
     let all = c.in_ok-component-in-Anonymous.ensures in
     let p : Part = record { at = at; shell = c.args.shell.now; component = k } in
-    let here : IsReady d new k (made_at e at made) = subst (λ (a : List ℕ). IsReady d new k (made_at e a made)) c.inside.ensures (all.made e h) in
+    let here : IsReady d new k (made_at e at made) = all.made e h in
     subst (λ (o : Of). AreReadyParts d new (length new) (p ∷ []) (item_parts e at (Instance c.args.shell.now o))) (sym c.in-Anonymous.is)
     (ready-part d new k (made_at e at made) at c.args.shell.now p here refl refl refl)
 
@@ -140,7 +153,7 @@ pub walk_instance-returns-in_ok-component-in-Anonymous-clause-stands :
     goal.walk_instance-returns-in_ok-component-in-Anonymous-clause-stands
 walk_instance-returns-in_ok-component-in-Anonymous-clause-stands t c = λ e h.
     let all = c.in_ok-component-in-Anonymous.ensures in
-    stands-grow c.args.description.now.items c.args.walk.now c.finish.new.walk e all.types all.defaults all.components h
+    stands-grow c.args.description.now.items c.args.walk.now c.finish_inside.new.walk e all.types all.defaults all.components h
 
 pub walk_instance-returns-in-Named-clause-part : goal.walk_instance-returns-in-Named-clause-part
 walk_instance-returns-in-Named-clause-part t c = λ e h.

@@ -9,16 +9,19 @@ use Rattle.rdl_elab.specs.Finishes.{Finishes}
 use Rattle.rdl_elab.proofs.walk.+walk.Given as goal
 
 abbrev pub decreases-walk_items : goal.decreases-walk_items
-decreases-walk_items l = 4 * (17 - length l.at.now) + 3
+decreases-walk_items l = 5 * (17 - length l.at.now) + 4
 
 abbrev pub decreases-walk_item : goal.decreases-walk_item
-decreases-walk_item l = 4 * (17 - length l.at.now) + 2
+decreases-walk_item l = 5 * (17 - length l.at.now) + 3
 
 abbrev pub decreases-walk_instance : goal.decreases-walk_instance
-decreases-walk_instance l = 4 * (17 - length l.at.now) + 1
+decreases-walk_instance l = 5 * (17 - length l.at.now) + 2
+
+abbrev pub decreases-finish_inside : goal.decreases-finish_inside
+decreases-finish_inside l = 5 * (17 - length l.at.now) + 1
 
 abbrev pub decreases-finish : goal.decreases-finish
-decreases-finish l = 4 * (17 - length l.at.now) + 4
+decreases-finish l = 5 * (17 - length l.at.now) + 5
 
 abbrev pub invariant-walk_items-loop-i : goal.invariant-walk_items-loop-i
 invariant-walk_items-loop-i l = record {
