@@ -83,7 +83,7 @@ behind-none all m kept ps none =
 pub behind-one : (all : Option ℕ) (m : Mode) (end size access : ℕ) (kept : List Span) (p : Placement) (from to largest widest : ℕ) (more : List Span)
     → from ≡ capped (start_of all m end p) → to ≡ capped (end_of from p) → largest ≡ max size to → widest ≡ max access p.access → more ≡ kept ++ to_span from to ∷ [] → (ps : List Placement)
     → ◌≡◌ {A = Layout} (record { size = max size (greatest_end (map capped_span (spans_from all m end (p ∷ ps)))); access = max access (max p.access (greatest_access ps)); spans = kept ++ map capped_span (spans_from all m end (p ∷ ps)) })
-      (record { size = max largest (greatest_end (map capped_span (spans_from all m to ps))); access = max widest (greatest_access ps); spans = more ++ map capped_span (spans_from all m to ps) })
+    (record { size = max largest (greatest_end (map capped_span (spans_from all m to ps))); access = max widest (greatest_access ps); spans = more ++ map capped_span (spans_from all m to ps) })
 behind-one all m end size access kept p from to largest widest more h g f e d ps =
     let rest = map capped_span (spans_from all m to ps) in
     let one : map capped_span (spans_from all m end (p ∷ ps)) ≡ to_span from to ∷ rest = spans_step all m end from to p ps h g in

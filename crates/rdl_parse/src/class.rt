@@ -156,9 +156,7 @@ fn of_eight(identifier: &str) -> Class
 fn of_nine(identifier: &str) -> Class
     ensures { result ≡ look identifier.now (of_length 9 reserved) }
 {
-    let words = [
-        ("fullalign", Class::Word(Word::Fullalign)),
-    ];
+    let words = [("fullalign", Class::Word(Word::Fullalign))];
     look(identifier, &words)
 }
 
@@ -166,9 +164,7 @@ fn of_nine(identifier: &str) -> Class
 fn of_ten(identifier: &str) -> Class
     ensures { result ≡ look identifier.now (of_length 10 reserved) }
 {
-    let words = [
-        ("constraint", Class::Reserved),
-    ];
+    let words = [("constraint", Class::Reserved)];
     look(identifier, &words)
 }
 

@@ -293,7 +293,10 @@ impl Contents {
     {
         let rows = self.rows.saturating_add(finished.rows.saturating_add(1));
         Contents {
-            levels: self.levels.max(finished.levels.saturating_add(1)).min(MAX_LEVELS),
+            levels: self
+                .levels
+                .max(finished.levels.saturating_add(1))
+                .min(MAX_LEVELS),
             rows: rows.min(MAX_ROWS),
             whole: self.whole && finished.whole,
             has_empty: self.has_empty

@@ -28,7 +28,6 @@ pub(crate) struct SharedLayouts {
 
 impl Model for SharedLayouts {
     ghost use Rattle.rdl_elab.specs.Kept.{Layouts};
-
     ghost use Rattle.std.specs.Prelude.{IfSome};
 
     ghost Value = { Layouts };

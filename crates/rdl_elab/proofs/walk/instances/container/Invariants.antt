@@ -9,5 +9,5 @@ abbrev pub invariant-loop-part : goal.invariant-loop-part
 invariant-loop-part l = record {
   around : l.placing.alignment ≡ l.fn.values.alignment;
   left : with_behind l.placing (map shown_placement (kept_parts l.mode l.components (drop l.part-index l.parts)))
-    ≡ capped_layout (container l.fn.values.alignment l.mode (map shown_placement (kept_parts l.mode l.components l.parts)));
+      ≡ capped_layout (container l.fn.values.alignment l.mode (map shown_placement (kept_parts l.mode l.components l.parts)));
 }
