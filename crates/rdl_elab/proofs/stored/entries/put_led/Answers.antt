@@ -33,6 +33,6 @@ returns-clause-tied c =
 pub returns-in_err-insert-clause-led : goal.returns-in_err-insert-clause-led
 returns-in_err-insert-clause-led c =
     let s = c.args.slab.now in
-    let led = c.lead.ensures.others s c.requires.none c.requires.tied.led in
+    let led = c.lead.ensures.others s (search rules) c.requires.tied.led in
     let same : (k : ℕ) → get c.insert.new.self k ≡ get s k = search rules in
     on-err c.from_residual-in_err-insert.result (λ k e h. led k e (sym (same k) ∙ h))
