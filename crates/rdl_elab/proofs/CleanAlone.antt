@@ -1,5 +1,5 @@
 -- Instances that have no fault, whatever their values are.
-use Rattle.std.proofs.Common.{◌≡◌, ℕ, subst, ◌≤◌, ◌+◌, List, [], ◌∷◌, ◌++◌, Bool, true, false, Option, Some, None, refl, ap, sym, ◌∙◌, arith, zero, suc, take, length}
+use Rattle.std.proofs.Common.{◌≡◌, ℕ, subst, ◌≤◌, ◌+◌, List, [], ◌∷◌, ◌++◌, Bool, true, false, Some, None, refl, ap, sym, ◌∙◌, arith, zero, suc, take, length}
 use Rattle.std.specs.Prelude.{nat_lt, nat_le, max, map, slice_get, unwrap_or, ◌&&◌, ◌||◌, if◌then◌else◌}
 use Rattle.std.specs.Option.{is_none}
 use Rattle.std.proofs.lemmas.Bool.{le-ltb, leb-true}

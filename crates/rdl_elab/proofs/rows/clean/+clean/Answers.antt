@@ -1,5 +1,5 @@
 use Rattle.std.proofs.lemmas.Option.{slice_get_read}
-use Rattle.std.proofs.Common.{rules, refl, Option, ◌≡◌, ◌≤◌, length, ap, ◌∙◌, arith, Some, None, slice_get}
+use Rattle.std.proofs.Common.{rules, refl, ◌≡◌, ◌≤◌, length, ap, ◌∙◌, arith, Some, None, slice_get}
 use Rattle.rdl_elab.specs.Clean.{IsCleanUnder}
 use Rattle.rdl_elab.specs.CleanParts.{IsClean, IsSound}
 use Rattle.rdl_elab.specs.Reaches.{behind}

@@ -1,4 +1,4 @@
-use Rattle.std.proofs.Common.{true, None, Some, refl, ap, sym, ◌∙◌, arith}
+use Rattle.std.proofs.Common.{None, Some, refl, ap, sym, ◌∙◌, arith}
 use Rattle.std.specs.Prelude.{◌&&◌}
 use Rattle.rdl_elab.proofs.Insides.{levels-more, rows-more, whole-more, whole-end, and-one, empty-more, full-part, levels-none, rows-none, empty-none}
 use Rattle.rdl_elab.proofs.walk.instances.contents_of.Goals as goal

@@ -1,4 +1,4 @@
-use Rattle.std.proofs.Common.{◌≡◌, ◌≤◌, ◌+◌, false, None, drop}
+use Rattle.std.proofs.Common.{◌≡◌, ◌≤◌, ◌+◌, false, drop}
 use Rattle.std.specs.Prelude.{◌&&◌, min, max}
 use Rattle.rdl_elab.specs.Inside.{kept_levels, finished_rows, are_whole, kept_empty}
 use Rattle.rdl_elab.proofs.walk.instances.contents_of.Given as goal

@@ -1,9 +1,8 @@
 use Rattle.std.proofs.Common.{ℕ, ◌++◌, ◌+◌, List, drop, ap, sym, ◌∙◌}
 use Rattle.rdl_elab.specs.Kept.{EachMember}
 use Rattle.rdl_elab.specs.Coded.{coded}
-use Rattle.rdl_elab.specs.EachMember.{shown_each}
 use Rattle.rdl_elab.specs.LaidOut.{kept_members}
-use Rattle.rdl_elab.specs.Words.{members_words, member_words, values_words}
+use Rattle.rdl_elab.specs.Words.{members_words, values_words}
 use Rattle.rdl_elab.proofs.Coding.{coded-none}
 use Rattle.rdl_elab.proofs.Goings.{append_nil}
 use Rattle.rdl_elab.proofs.Insides.{member-some, member-none, members-none}
