@@ -40,7 +40,7 @@ along-instance k reset rs own values all =
     each properties
 
 -- one assignment more
-reached-append : (name : List ℕ) (xs ys : List Reach) → reached name (xs ++ ys) ≡ option_or (reached name xs) (reached name ys)
+pub reached-append : (name : List ℕ) (xs ys : List Reach) → reached name (xs ++ ys) ≡ option_or (reached name xs) (reached name ys)
 reached-append name [] ys = refl
 reached-append name (x ∷ xs) ys =
     elim (has_ended x.path && bytes_eq x.property name) as (λ b. (if b then Some x.value else reached name (xs ++ ys)) ≡ option_or (if b then Some x.value else reached name xs) (reached name ys)) [

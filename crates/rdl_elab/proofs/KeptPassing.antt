@@ -1,5 +1,5 @@
 -- Steps along the names of a target, by what is kept of the components.
-use Rattle.std.proofs.Common.{◌≡◌, ℕ, true, List, [], ◌∷◌, ◌++◌, Some, None, Option, refl, ap, sym, ◌∙◌, append_assoc, option_map}
+use Rattle.std.proofs.Common.{◌≡◌, ◌≤◌, ◌<◌, length, get_or, arith, ℕ, true, List, [], ◌∷◌, ◌++◌, Some, None, Option, refl, ap, sym, ◌∙◌, append_assoc, option_map}
 use Rattle.std.specs.Prelude.{option_and_then, slice_get, nat_lt, if◌then◌else◌}
 use Rattle.rdl_tree.specs.Address.{number_of}
 use Rattle.rdl_elab.specs.Kept.{Part}
@@ -41,3 +41,9 @@ module _ (fs : List Finished) where
   -- which stands before item n
   pub target-path : (ps : List Part) (n : ℕ) (name : List ℕ) (names : List (List ℕ)) (p : Part) → part_named name ps ≡ Some p → nat_lt (number_of p.at) n ≡ true → kept_target fs ps n (name ∷ names) ≡ kept_from fs p names
   target-path ps n name names p e before = target-from ps n name names p e ∙ ap (λ b. if b then kept_from fs p names else None) before
+
+-- a list of one name
+pub one-name : (names : List (List ℕ)) (x : List ℕ) → 1 ≤ length names → length names < 2 → x ≡ get_or names 0 x → x ∷ [] ≡ names
+one-name [] x l h e = absurd (omega (arith, l))
+one-name (y ∷ []) x l h e = ap (λ z. z ∷ []) e
+one-name (y ∷ z ∷ zs) x l h e = absurd (omega (arith, h))

@@ -14,6 +14,7 @@ pub mod WideNumbers
 pub mod Watermarks
 pub mod RangeSearches
 pub mod RangesKept
+pub mod ReachedAt
 pub mod Telling
 pub mod Cleaning
 pub mod CleanAlone

@@ -1,6 +1,6 @@
 -- The instances that a target has yet to pass, and the assignments under the number of the next one.
-use Rattle.std.proofs.Common.{◌≡◌, ℕ, zero, suc, ◌+◌, ◌<◌, List, [], ◌∷◌, ◌++◌, length, take, drop, get_or, Bool, true, false, Option, Some, None, refl, ap, sym, ◌∙◌, ◌⊎◌, inl, inr, append-nil, subst}
-use Rattle.std.specs.Prelude.{nat_eq, slice_get, if◌then◌else◌}
+use Rattle.std.proofs.Common.{◌≡◌, ℕ, zero, suc, ◌+◌, ◌<◌, List, [], ◌∷◌, ◌++◌, length, take, drop, get_or, Bool, true, false, Option, Some, None, refl, ap, sym, ◌∙◌, ◌⊎◌, inl, inr, append-nil, subst, arith}
+use Rattle.std.specs.Prelude.{◌&&◌, nat_eq, slice_get, if◌then◌else◌}
 use Rattle.std.specs.List.{cons_option}
 use Rattle.std.specs.Cmp.Lexicographic.{pointwise}
 use Rattle.std.proofs.lemmas.Bool.{cases_eq}
@@ -8,9 +8,10 @@ use Rattle.std.proofs.lemmas.List.{take_more, drop-drop}
 use Rattle.std.proofs.lemmas.List.Elements.{filter_map-append}
 use Rattle.std.proofs.lemmas.Slice.Eq.{bytes_eq-Decides}
 use Rattle.std.specs.Global.{Vec}
-use Rattle.std.specs.Option.{option_or}
+use Rattle.std.specs.Option.{is_none, option_or}
 use Rattle.rdl_tree.specs.Address.{number_of}
-use Rattle.rdl_elab.specs.Reaches.{Reach, passed, behind}
+use Rattle.rdl_elab.specs.ReachedAt.{ends_at}
+use Rattle.rdl_elab.specs.Reaches.{Reach, passed, behind, has_ended}
 use Rattle.rdl_elab.specs.declared.walk.reaches.Onward.{Onward}
 use Rattle.rdl_elab.specs.Onward.{list_or_none, stored_under, is_marked, going_to, IsMarked, IsOnward}
 use Rattle.rdl_elab.proofs.ValueLists.{behind-none}
@@ -41,6 +42,31 @@ left-next a r n path x e f =
     ∙ ap (λ p. Some (record r { path = p })) (drop-drop 1 n path)
 
 pub ruleset passing = (left-gone, left-other, left-next)
+
+-- whether the next instance is the last
+pub ends-gone : (a : List ℕ) (n : ℕ) (path : List (List ℕ)) → slice_get path n ≡ None → ends_at a (drop n path) ≡ false
+ends-gone a zero [] e = refl
+ends-gone a (suc n) [] e = refl
+ends-gone a zero (b ∷ path) e = absurd cc
+ends-gone a (suc n) (b ∷ path) e = ends-gone a n path e
+
+pub ends-other : (a : List ℕ) (n : ℕ) (path : List (List ℕ)) (x : List ℕ) → slice_get path n ≡ Some x → pointwise nat_eq x a ≡ false → ends_at a (drop n path) ≡ false
+ends-other a zero [] x e f = absurd cc
+ends-other a (suc n) [] x e f = absurd cc
+ends-other a zero (b ∷ path) x e f = let same : b ≡ x = cc in ap (λ y. pointwise nat_eq y a && has_ended path) same ∙ ap (λ t. t && has_ended path) f
+ends-other a (suc n) (b ∷ path) x e f = ends-other a n path x e f
+
+pub ends-here : (a : List ℕ) (n : ℕ) (path : List (List ℕ)) (x : List ℕ) → slice_get path n ≡ Some x → pointwise nat_eq x a ≡ true → ends_at a (drop n path) ≡ is_none (slice_get path (n + 1))
+ends-here a zero [] x e f = absurd cc
+ends-here a (suc n) [] x e f = absurd cc
+ends-here a zero (b ∷ path) x e f = let same : b ≡ x = cc in ap (λ y. pointwise nat_eq y a && has_ended path) same ∙ ap (λ t. t && has_ended path) f ∙ ended path
+  where
+    ended : (rest : List (List ℕ)) → has_ended rest ≡ is_none (slice_get rest 0)
+    ended [] = refl
+    ended (y ∷ rest) = refl
+ends-here a (suc n) (b ∷ path) x e f = let next : suc (n + 1) ≡ suc n + 1 = omega arith in ends-here a n path x e f ∙ ap (λ j. is_none (slice_get (b ∷ path) j)) next
+
+pub ruleset ending = (ends-gone, ends-other, ends-here)
 
 -- an assignment whose next instance is another one
 passed-apart : (a x : List ℕ) (r : Reach) → slice_get r.path 0 ≡ Some x → (x ≡ a → ⊥) → passed a r r.path ≡ None

@@ -1,9 +1,10 @@
 -- The number under a name leads to the first instance of the name.
 use Rattle.std.proofs.Common.{◌≡◌, ℕ, suc, ◌+◌, ◌<◌, ◌≤◌, List, [], ◌∷◌, length, drop, get_or, Bool, true, false, Option, Some, None, option_map, refl, ap, sym, ◌∙◌, arith, drop-cons, add-one, zero-add}
-use Rattle.std.specs.Prelude.{option_and_then, slice_get, bytes_eq, if◌then◌else◌}
+use Rattle.std.specs.Prelude.{IfSome, option_and_then, slice_get, unwrap_or, bytes_eq, if◌then◌else◌}
 use Rattle.std.proofs.lemmas.List.{drop_all}
+use Rattle.std.proofs.lemmas.Slice.Eq.{bytes_eq-Decides}
 use Rattle.rdl_elab.specs.Kept.{Part}
-use Rattle.rdl_elab.specs.PartNames.{part_named, place_named}
+use Rattle.rdl_elab.specs.PartNames.{IsFirstNamed, part_named, place_named}
 
 pub part-placed : (q : List ℕ) (ps : List Part) → option_and_then (slice_get ps) (place_named q ps) ≡ part_named q ps
 part-placed q [] = refl
@@ -59,3 +60,19 @@ pub named-end : (q : List ℕ) (i : ℕ) (ps : List Part) → length ps ≤ i �
 named-end q i ps h = ap (part_named q) (drop_all i ps h)
 
 pub ruleset naming = (named-here, named-later, named-end)
+
+-- an instance that is found by a name has it
+has-name : (name : List ℕ) (ps : List Part) (p : Part) → part_named name ps ≡ Some p → p.shell.name ≡ name
+has-name name [] p h = absurd cc
+has-name name (q ∷ ps) p h = by (λ g. has-name name ps p g) (bytes_eq q.shell.name name) refl h
+  where
+    by : (part_named name ps ≡ Some p → p.shell.name ≡ name) → (b : Bool) → bytes_eq q.shell.name name ≡ b → (if b then Some q else part_named name ps) ≡ Some p → p.shell.name ≡ name
+    by ih true e g = let same : q ≡ p = ap (λ o. unwrap_or o q) g in ap (λ (x : Part). x.shell.name) (sym same) ∙ (bytes_eq-Decides q.shell.name name).0 e
+    by ih false e g = ih g
+
+-- so it is found by its own
+pub found-again : (name : List ℕ) (ps : List Part) (o : Option Part) → o ≡ part_named name ps → IfSome o (IsFirstNamed ps)
+found-again name ps None e = tt
+found-again name ps (Some p) e = ap (λ x. part_named x ps) (has-name name ps p (sym e)) ∙ sym e
+
+pub ruleset again = (found-again)

@@ -8,12 +8,14 @@ pub mod Capped
 pub mod Rows
 pub mod Faults
 pub mod Shown
+pub mod ReachedAt
 pub mod Reaches
 pub mod Onward
 pub mod Access
 pub mod InstanceValues
 pub mod Kept
 pub mod HeldAddress
+pub mod HeldPath
 pub mod EachMode
 pub mod EachMember
 pub mod Bare

@@ -12,6 +12,10 @@ abbrev pub part_named : List ℕ → List Part → Option Part
 part_named name [] = None
 part_named name (p ∷ ps) = if bytes_eq p.shell.name name then Some p else part_named name ps
 
+-- an instance is the first of its name
+abbrev pub IsFirstNamed : List Part → Part → Type 0
+IsFirstNamed ps p = part_named p.shell.name ps ≡ Some p
+
 -- its number among them
 abbrev pub place_named : List ℕ → List Part → Option ℕ
 place_named name [] = None

@@ -13,6 +13,7 @@ ghost use Rattle.rdl_elab.specs.Finished.{under};
 ghost use Rattle.rdl_elab.specs.FinishedRows.{finished_base, finished_values, finished_row, seen, finished_fault, field_fault, extent_fault, judged, surroundings_inside, level_rows, finished_rows, finished_rows_below, told_one, told};
 
 pub mod clean;
+pub(crate) mod fields;
 pub(crate) mod heads;
 pub mod siblings;
 

@@ -26,6 +26,7 @@ pub(crate) mod defaults;
 pub(crate) mod each_member;
 pub(crate) mod finished;
 pub(crate) mod heads;
+pub(crate) mod instance_path;
 pub(crate) mod instances;
 pub(crate) mod laid_out;
 pub(crate) mod name_marks;

@@ -12,6 +12,7 @@ ghost use Rattle.rdl_elab.specs.Reaches.{Reach, behind};
 
 use crate::elaborate::{Top, finished_at, map_fault};
 use crate::layout::{Mode, Span};
+use crate::rows::fields::are_clean_fields;
 use crate::rows::siblings::Siblings;
 use crate::rows::{behind_part, fault_kind, is_stride_too_small, judged_row, span_at};
 use crate::walk::finished::{Finished, Part};
@@ -146,12 +147,18 @@ fn is_clean_below<'a>(
     if have_ended(reaching) {
         return Ok(is_known(clean, part.number(), mode));
     }
-    let level = Level {
-        mode: mode_inside(component.kind, component.values, mode),
-        bits: component.values.regwidth,
-        reaching: with_own(alloc, reaching, component.assignments.as_slice())?,
-    };
+    let own = component.assignments.as_slice();
     let spans = component.layouts.under(mode).spans.as_slice();
+    let bits = component.values.regwidth;
+    let mode = mode_inside(component.kind, component.values, mode);
+    if are_fields(components, parts) {
+        return are_clean_fields(alloc, components, mode, bits, reaching, own, spans, parts);
+    }
+    let level = Level {
+        mode,
+        bits,
+        reaching: with_own(alloc, reaching, own)?,
+    };
     is_clean_level(alloc, components, clean, &level, spans, parts, levels)
 }
 
@@ -341,8 +348,8 @@ fn are_clean_parts<'a>(
     Ok(true)
 }
 
-/// Whether no row of these instances and below them is found to have a fault, so many levels deep. Only fields, and
-/// instances out of order, are compared with those before them.
+/// Whether no row of these instances, which are no fields, and below them is found to have a fault, so many levels deep. Only
+/// those out of order are compared with those before them.
 #[cycle(clean)]
 fn is_clean_level<'a>(
     alloc: Global,
@@ -361,7 +368,7 @@ fn is_clean_level<'a>(
     }
     let levels = levels - 1;
     let onward = Onward::of(alloc, level.reaching.as_slice(), parts.len())?;
-    if !are_fields(components, parts) && is_in_order(spans) {
+    if is_in_order(spans) {
         return is_clean_container(
             alloc, components, clean, level, &onward, spans, parts, levels,
         );
@@ -391,12 +398,18 @@ fn is_clean_in<'a>(
     if !needed.has(mode) {
         return Ok(false);
     }
-    let level = Level {
-        mode: mode_inside(component.kind, component.values, mode),
-        bits: bits_inside(component.kind, component.values.regwidth),
-        reaching: with_own(alloc, &[], component.assignments.as_slice())?,
-    };
+    let own = component.assignments.as_slice();
     let spans = component.layouts.under(mode).spans.as_slice();
+    let bits = bits_inside(component.kind, component.values.regwidth);
+    let mode = mode_inside(component.kind, component.values, mode);
+    if are_fields(components, parts) {
+        return are_clean_fields(alloc, components, mode, bits, &[], own, spans, parts);
+    }
+    let level = Level {
+        mode,
+        bits,
+        reaching: with_own(alloc, &[], own)?,
+    };
     is_clean_level(alloc, components, clean, &level, spans, parts, LEVELS)
 }
 

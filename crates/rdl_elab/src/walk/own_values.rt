@@ -5,7 +5,7 @@ ghost use Rattle.rdl_tree.specs.Properties.{row};
 ghost use Rattle.rdl_tree.specs.declared.property.Property.{Property};
 ghost use Rattle.rdl_scope.specs.Value.{own_value};
 ghost use Rattle.rdl_scope.specs.Walk.{owned_by};
-ghost use Rattle.rdl_elab.specs.OwnValues.{assigned_to, dynamic_there, any_dynamic};
+ghost use Rattle.rdl_elab.specs.OwnValues.{assigned_to, is_dynamic, any_dynamic};
 ghost use Rattle.rdl_elab.specs.Reaches.{value_under};
 ghost use Rattle.rdl_elab.specs.StatedValues.{shown_on, if_named};
 
@@ -78,20 +78,20 @@ fn add_named<'a>(
     }
 }
 
-fn add_own<'a>(items: &mut Vec<Assigned<'a>>, item: Option<&'a Item>) -> Result<(), AllocError>
-    ensures { OnOk result ((p : Property) → assigned_to p items.new.items ≡ option_or (assigned_to p items.old.items) (owned_by (row p).name (option_copied item.entry))) }
+fn add_own<'a>(items: &mut Vec<Assigned<'a>>, item: &'a Item) -> Result<(), AllocError>
+    ensures { OnOk result ((p : Property) → assigned_to p items.new.items ≡ option_or (assigned_to p items.old.items) (owned_by (row p).name (Some item.now))) }
 {
     match item {
-        Some(Item::Own(name, value)) => add_named(items, name.as_str(), value),
+        Item::Own(name, value) => add_named(items, name.as_str(), value),
         _ => Ok(()),
     }
 }
 
 /// Whether this is a dynamic assignment, or one was met before.
-fn meets_dynamic(before: bool, item: Option<&Item>) -> bool
-    ensures { result ≡ (before || dynamic_there (option_copied item.entry)) }
+fn meets_dynamic(before: bool, item: &Item) -> bool
+    ensures { result ≡ (before || is_dynamic item.now) }
 {
-    before || matches!(item, Some(Item::Dynamic(_, _, _)))
+    before || matches!(item, Item::Dynamic(_, _, _))
 }
 
 impl<'a> OwnValues<'a> {
@@ -101,8 +101,7 @@ impl<'a> OwnValues<'a> {
     {
         let mut items = Vec::new(alloc);
         let mut has_dynamic = false;
-        for i in 0..body.len() {
-            let item = body.item(i);
+        for item in body.as_slice() {
             add_own(&mut items, item)?;
             has_dynamic = meets_dynamic(has_dynamic, item);
         }

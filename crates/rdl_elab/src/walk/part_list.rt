@@ -135,8 +135,8 @@ fn part_at<'p, 'a>(parts: &'p [Part<'a>], place: Option<usize>) -> Option<&'p Pa
 }
 
 impl<'a> PartList<'a> {
-    ghost use Rattle.std.specs.Prelude.{◌≡◌, [], IfOk, option_copied};
-    ghost use Rattle.rdl_elab.specs.PartNames.{part_named};
+    ghost use Rattle.std.specs.Prelude.{◌≡◌, [], IfOk, IfSome, option_copied};
+    ghost use Rattle.rdl_elab.specs.PartNames.{IsFirstNamed, part_named};
 
     /// These instances. The names of many are put in order, as far as they are looked up.
     pub(crate) fn of(
@@ -179,6 +179,23 @@ impl<'a> PartList<'a> {
         match &self.names {
             Some(names) if names.has(text) => part_at(parts, names.get(text)),
             _ => first_named(parts, name),
+        }
+    }
+
+    /// The first instance of this name, which may be the one that was found before.
+    #[tactic(auto, using(crate::proofs::PartPlaces::again))]
+    pub(crate) fn named_again<'p>(
+        &'p self,
+        name: &'a Name,
+        before: Option<&'p Part<'a>>,
+    ) -> Option<&'p Part<'a>>
+        requires { IfSome (option_copied before) (IsFirstNamed self.now.items) }
+        ensures found { option_copied result ≡ part_named name.now self.now.items }
+        ensures again { IfSome (option_copied result) (IsFirstNamed self.now.items) }
+    {
+        match before {
+            Some(part) if &part.shell().name == name => Some(part),
+            _ => self.named(name),
         }
     }
 }

@@ -1,9 +1,10 @@
 //! The dynamic assignments that reach an instance.
-ghost use Rattle.std.specs.Prelude.{◌≡◌, ℕ, ◌++◌, ◌∷◌, List, [], true, IfOk, OnOk, option_copied};
+ghost use Rattle.std.specs.Prelude.{◌≡◌, ℕ, ◌++◌, ◌∷◌, List, [], true, IfOk, IfSome, OnOk, option_copied};
 ghost use Rattle.std.specs.Option.{option_or};
 ghost use Rattle.rdl_tree.specs.Properties.{row};
 ghost use Rattle.rdl_tree.specs.declared.property.Property.{Property};
 ghost use Rattle.rdl_elab.specs.KeptTargets.{kept_target};
+ghost use Rattle.rdl_elab.specs.PartNames.{IsFirstNamed};
 ghost use Rattle.std.specs.List.{list_any};
 ghost use Rattle.rdl_elab.specs.OwnValues.{any_dynamic};
 ghost use Rattle.rdl_elab.specs.Reaches.{Reach, reaches_by, behind, reached, reach_by, has_ended, value_under};
@@ -11,11 +12,13 @@ ghost use Rattle.rdl_elab.specs.StatedValues.{shown_on};
 
 use crate::row::PropertyValue;
 use crate::walk::finished::{Finished, Part};
+use crate::walk::instance_path::InstancePath;
 use crate::walk::part_list::PartList;
 use crate::walk::shared::InstanceAddress;
 use crate::walk::targets::target_path;
 use crate::walk::values::add_assigned;
 use rdl_text::name::Name;
+use rdl_text::is_same;
 use rdl_tree::description::{Body, Item};
 use rdl_tree::properties::property;
 use rdl_tree::property::Property;
@@ -24,13 +27,12 @@ use rdl_tree::value::Value;
 use std::alloc::{AllocError, Global};
 use std::collections::BTreeMap;
 use std::marker::Model;
-use std::rc::Rc;
 
 /// A dynamic assignment, and the instances that its target has yet to pass.
 #[derive(Drop)]
 pub(crate) struct Assignment<'a> {
     /// The instances that its target passes.
-    path: Rc<Vec<InstanceAddress>>,
+    path: InstancePath,
     /// How many of them it has passed.
     passed: usize,
     property: &'a Name,
@@ -43,19 +45,20 @@ impl<'a> Model for Assignment<'a> {
 
     ghost Value = { Reach };
 
-    ghost view = { λ a. record { path = drop a.passed a.path.value.items; property = a.property.now; value = a.value.now } };
+    ghost view = { λ a. record { path = drop a.passed a.path; property = a.property.now; value = a.value.now } };
 }
 
 impl<'a> Assignment<'a> {
-    ghost use Rattle.std.specs.Prelude.{◌≡◌, IfOk, option_copied, slice_get};
+    ghost use Rattle.std.specs.Prelude.{◌≡◌, ◌&&◌, IfOk, bytes_eq, option_copied, slice_get};
     ghost use Rattle.rdl_elab.specs.Reaches.{passed, has_ended};
+    ghost use Rattle.rdl_elab.specs.ReachedAt.{ends_at};
 
     /// The same assignment, for one more.
     fn share(&self) -> Result<Assignment<'a>, AllocError>
         ensures { IfOk result (λ shared. shared ≡ self.now) }
     {
         Ok(Assignment {
-            path: self.path.clone()?,
+            path: self.path.share()?,
             passed: self.passed,
             property: self.property,
             value: self.value,
@@ -66,7 +69,7 @@ impl<'a> Assignment<'a> {
     fn next(&self) -> Option<&InstanceAddress>
         ensures { option_copied result ≡ slice_get self.now.path 0 }
     {
-        self.path.as_slice().get(self.passed)
+        self.path.get(self.passed)
     }
 
     /// The assignment behind an instance, if its target passes that.
@@ -74,9 +77,9 @@ impl<'a> Assignment<'a> {
     fn passed(&self, instance: &InstanceAddress) -> Result<Option<Assignment<'a>>, AllocError>
         ensures { IfOk result (λ behind. behind ≡ passed instance.now self.now self.now.path) }
     {
-        match self.path.as_slice().get(self.passed) {
+        match self.path.get(self.passed) {
             Some(next) if next.is(instance) => Ok(Some(Assignment {
-                path: self.path.clone()?,
+                path: self.path.share()?,
                 passed: self.passed + 1,
                 property: self.property,
                 value: self.value,
@@ -90,23 +93,45 @@ impl<'a> Assignment<'a> {
     {
         self.next().is_none()
     }
+
+    /// Whether its target ends at this instance.
+    #[tactic(auto, using(crate::proofs::Onward::ending))]
+    fn ends_at(&self, instance: &InstanceAddress) -> bool
+        ensures { result ≡ ends_at instance.now self.now.path }
+    {
+        match self.path.get(self.passed) {
+            Some(next) if next.is(instance) => self.path.get(self.passed + 1).is_none(),
+            _ => false,
+        }
+    }
+
+    /// Whether its target is the property of this name of this instance.
+    fn assigns(&self, name: &str, instance: &InstanceAddress) -> bool
+        ensures { result ≡ (ends_at instance.now self.now.path && bytes_eq self.now.property name.now) }
+    {
+        self.ends_at(instance) && is_same(self.property.as_str(), name)
+    }
 }
 
-/// What item `n` of a body with these instances assigns, if its target is there.
-fn dynamic_assignment<'a>(
+/// What item `n` of a body with these instances assigns, if its target is there. The instance that the target passes first
+/// may be the one that the last target passed first.
+fn dynamic_assignment<'p, 'a>(
     alloc: Global,
     components: &[Finished<'a>],
-    parts: &PartList<'a>,
+    parts: &'p PartList<'a>,
     n: usize,
     item: &'a Item,
+    first: &mut Option<&'p Part<'a>>,
 ) -> Result<Option<Assignment<'a>>, AllocError>
-    ensures { IfOk result (λ a. a ≡ reach_by (kept_target components.now parts.now.items n) item.now) }
+    requires first { IfSome (option_copied first.old) (IsFirstNamed parts.now.items) }
+    ensures first { OnOk result (IfSome (option_copied first.new) (IsFirstNamed parts.now.items)) }
+    ensures assignment { IfOk result (λ a. a ≡ reach_by (kept_target components.now parts.now.items n) item.now) }
 {
     match item {
         Item::Dynamic(target, property, value) => {
-            match target_path(alloc, components, parts, n, target.names())? {
+            match target_path(alloc, components, parts, n, target.names(), first)? {
                 Some(path) => Ok(Some(Assignment {
-                    path: Rc::new(alloc, path)?,
+                    path,
                     passed: 0,
                     property,
                     value,
@@ -129,8 +154,10 @@ fn assignments<'a>(
     ensures { IfOk result (λ list. list.items ≡ reaches_by (kept_target components.now parts.now.items) 0 body.now) }
 {
     let mut list = Vec::new(alloc);
+    let mut first = None;
     'items: for (i, item) in body.as_slice().iter().enumerate() {
-        if let Some(assignment) = dynamic_assignment(alloc, components, parts, i, item)? {
+        let found = dynamic_assignment(alloc, components, parts, i, item, &mut first)?;
+        if let Some(assignment) = found {
             list.push(assignment)?;
         }
     }
@@ -196,6 +223,23 @@ pub(crate) fn has_come(reaching: &[Assignment]) -> bool
     ensures { result ≡ list_any (λ (a : Reach). has_ended a.path) reaching.now }
 {
     reaching.iter().any(|assignment| assignment.has_ended())
+}
+
+/// What the first of them assigns to the property of this name, of those whose targets end at this instance.
+#[tactic(auto, using(crate::proofs::ReachedAt::steps))]
+pub(crate) fn reached_at<'a>(
+    name: &str,
+    instance: &InstanceAddress,
+    reaching: &[Assignment<'a>],
+) -> Option<&'a Value>
+    ensures { option_copied result ≡ reached name.now (behind instance.now reaching.now) }
+{
+    for assignment in reaching {
+        if assignment.assigns(name, instance) {
+            return Some(assignment.value);
+        }
+    }
+    None
 }
 
 /// Those whose targets pass this instance.

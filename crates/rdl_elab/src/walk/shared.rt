@@ -103,7 +103,7 @@ impl Model for InstanceAddress {
 }
 
 impl InstanceAddress {
-    ghost use Rattle.std.specs.Prelude.{◌≡◌, ◌++◌, ◌∷◌, [], nat_eq};
+    ghost use Rattle.std.specs.Prelude.{◌≡◌, ◌++◌, ◌∷◌, [], nat_eq, IfOk};
     ghost use Rattle.std.specs.Cmp.Lexicographic.{pointwise};
     ghost use Rattle.rdl_tree.specs.Address.{number_of};
 
@@ -111,6 +111,17 @@ impl InstanceAddress {
         ensures { result ≡ around ++ number ∷ [] }
     {
         InstanceAddress { around, number }
+    }
+
+    /// The same address, for one more.
+    #[inline]
+    pub(crate) fn share(&self) -> Result<InstanceAddress, AllocError>
+        ensures { IfOk result (λ shared. shared ≡ self.now) }
+    {
+        Ok(InstanceAddress {
+            around: self.around.share()?,
+            number: self.number,
+        })
     }
 
     /// The number that the instance has in its body.

@@ -1,8 +1,10 @@
 //! The instances that the target of a dynamic assignment passes, by what is finished.
-ghost use Rattle.std.specs.Prelude.{◌≡◌, Some, None, IfOk, option_map, if◌then◌else◌};
+ghost use Rattle.std.specs.Prelude.{◌≡◌, ◌∷◌, [], Some, None, IfOk, IfSome, OnOk, option_copied, if◌then◌else◌};
 ghost use Rattle.rdl_elab.specs.KeptTargets.{after, kept_from, kept_target};
+ghost use Rattle.rdl_elab.specs.PartNames.{IsFirstNamed};
 
 use crate::walk::finished::{Finished, Part};
+use crate::walk::instance_path::InstancePath;
 use crate::walk::name_marks::NameMarks;
 use crate::walk::own_values::OwnValues;
 use crate::walk::part_list::{FEW, LookUps, PartList};
@@ -165,29 +167,67 @@ fn add_passed<'a>(
     }
 }
 
-/// The instances that the target of item `n` passes. These are those of its body.
-pub(crate) fn target_path<'a>(
+/// This instance, and the one of the name inside it, if that is there.
+fn path_of_two<'a>(
+    components: &[Finished<'a>],
+    part: &Part<'a>,
+    name: &'a Name,
+) -> Result<Option<InstancePath>, AllocError>
+    ensures { IfOk result (λ path. path ≡ kept_from components.now part.now (name.now ∷ [])) }
+{
+    let Some(component) = part.component(components) else {
+        return Ok(None);
+    };
+    match component.parts.named(name) {
+        Some(next) => Ok(Some(InstancePath::of_two(part.instance()?, next.instance()?))),
+        None => Ok(None),
+    }
+}
+
+/// This instance, and those that the names pass inside it, if all are there.
+fn path_of_all<'a>(
     alloc: Global,
     components: &[Finished<'a>],
-    parts: &PartList<'a>,
+    part: &Part<'a>,
+    names: &'a [Name],
+) -> Result<Option<InstancePath>, AllocError>
+    ensures { IfOk result (λ path. path ≡ kept_from components.now part.now names.now) }
+{
+    let count = names.len().saturating_add(1);
+    let mut path = Vec::with_capacity(alloc, count.min(Address::MAX_LEN))?;
+    if add_passed(components, part, names, &mut path)? {
+        Ok(Some(InstancePath::of_all(alloc, path)?))
+    } else {
+        Ok(None)
+    }
+}
+
+/// The instances that the target of item `n` passes. These are those of its body. The one that it passes first is found
+/// faster where the target before passed it first.
+pub(crate) fn target_path<'p, 'a>(
+    alloc: Global,
+    components: &[Finished<'a>],
+    parts: &'p PartList<'a>,
     n: usize,
     names: &'a [Name],
-) -> Result<Option<Vec<InstanceAddress>>, AllocError>
-    ensures { IfOk result (λ path. option_map (λ v. v.items) path ≡ kept_target components.now parts.now.items n names.now) }
+    first: &mut Option<&'p Part<'a>>,
+) -> Result<Option<InstancePath>, AllocError>
+    requires first { IfSome (option_copied first.old) (IsFirstNamed parts.now.items) }
+    ensures first { OnOk result (IfSome (option_copied first.new) (IsFirstNamed parts.now.items)) }
+    ensures path { IfOk result (λ path. path ≡ kept_target components.now parts.now.items n names.now) }
 {
-    let Some((first, rest)) = names.split_first() else {
+    let Some((name, rest)) = names.split_first() else {
         return Ok(None);
     };
-    let Some(part) = parts.named(first) else {
+    let Some(part) = parts.named_again(name, *first) else {
         return Ok(None);
     };
+    *first = Some(part);
     if n <= part.place() {
         return Ok(None);
     }
-    let mut path = Vec::with_capacity(alloc, names.len().min(Address::MAX_LEN))?;
-    if add_passed(components, part, rest, &mut path)? {
-        Ok(Some(path))
-    } else {
-        Ok(None)
+    match rest {
+        [name] => path_of_two(components, part, name),
+        _ => path_of_all(alloc, components, part, rest),
     }
 }

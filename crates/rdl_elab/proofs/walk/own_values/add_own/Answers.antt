@@ -1,4 +1,4 @@
-use Rattle.std.proofs.Common.{◌≡◌, ℕ, List, None, option_copied, rules}
+use Rattle.std.proofs.Common.{◌≡◌, ℕ, List, Some, None, rules}
 use Rattle.rdl_tree.specs.Properties.{row}
 use Rattle.rdl_scope.specs.Walk.{owned_by}
 use Rattle.rdl_elab.specs.OwnValues.{assigned_to}
@@ -7,5 +7,5 @@ use Rattle.rdl_elab.proofs.walk.own_values.add_own.Goals as goal
 
 pub returns-in_default : goal.returns-in_default
 returns-in_default c =
-    let none : (name : List ℕ) → owned_by name (option_copied c.args.item) ≡ None = λ name. search rules in
-    λ p. adds-none (assigned_to p c.args.items.now.items) (owned_by (row p).name (option_copied c.args.item)) (none (row p).name)
+    let none : (name : List ℕ) → owned_by name (Some c.args.item.now) ≡ None = λ name. search rules in
+    λ p. adds-none (assigned_to p c.args.items.now.items) (owned_by (row p).name (Some c.args.item.now)) (none (row p).name)

@@ -8,11 +8,11 @@ pub items-preserved : goal.items-preserved
 items-preserved c =
     let f = kept_target c.args.components.now c.args.parts.now.items in
     let xs = c.as_slice-item-items.result.now in
-    elim c.match-branch-2.branch [
+    (elim c.match-found.branch [
       | in-Some+in_ok-push w ↦
-          goes-some f c.args.body.now xs c.items.i c.item-item.result c.as_slice-item-items.ensures c.items-test.true c.item-item.is c.in_ok-assignment.field-0 c.in_ok-assignment.ensures c.items.list.items c.items.invariant
-          w.in-Some.assignment c.match-branch-2.list.items w.in-Some.is (ap (λ v. v.items) w.list-is ∙ w.in_ok-push.ensures.items)
+          goes-some f c.args.body.now xs c.items.i c.item-item.result c.as_slice-item-items.ensures c.items-test.true c.item-item.is c.in_ok-found.found c.in_ok-found.ensures.assignment c.items.list.items c.items.invariant.0
+          w.in-Some.assignment c.match-found.list.items w.in-Some.is (ap (λ v. v.items) w.list-is ∙ w.in_ok-push.ensures.items)
       | in_default w ↦
-          goes-none f c.args.body.now xs c.items.i c.item-item.result c.as_slice-item-items.ensures c.items-test.true c.item-item.is c.in_ok-assignment.field-0 c.in_ok-assignment.ensures c.items.list.items c.items.invariant
-          c.match-branch-2.list.items w.in_default.is (ap (λ v. v.items) w.list-is)
-    ]
+          goes-none f c.args.body.now xs c.items.i c.item-item.result c.as_slice-item-items.ensures c.items-test.true c.item-item.is c.in_ok-found.found c.in_ok-found.ensures.assignment c.items.list.items c.items.invariant.0
+          c.match-found.list.items w.in_default.is (ap (λ v. v.items) w.list-is)
+    ], c.in_ok-found.ensures.first)

@@ -1,34 +1,30 @@
-use Rattle.std.proofs.Common.{◌≡◌, Some, None, ap, sym, ◌∙◌, rules, true}
-use Rattle.std.specs.Prelude.{nat_lt, option_copied, if◌then◌else◌}
+use Rattle.std.proofs.Common.{◌≡◌, ◌∷◌, [], ap, sym, subst, ◌∙◌, rules, true, option_copied}
+use Rattle.std.specs.Prelude.{nat_lt}
+use Rattle.std.specs.Result.{IfOk}
 use Rattle.rdl_tree.specs.Address.{number_of}
-use Rattle.rdl_elab.specs.KeptTargets.{after, kept_from, kept_target}
-use Rattle.rdl_elab.proofs.KeptPassing.{after-nothing, target-path}
+use Rattle.rdl_elab.specs.KeptTargets.{kept_from, kept_target}
+use Rattle.rdl_elab.proofs.KeptPassing.{target-path, one-name}
 use Rattle.rdl_elab.proofs.walk.targets.target_path.Goals as goal
 
-pub returns-then-branch : goal.returns-then-branch
-returns-then-branch c =
+pub returns-in_default-rest-clause-path : goal.returns-in_default-rest-clause-path
+returns-in_default-rest-clause-path c =
     let fs = c.args.components.now in
     let ps = c.args.parts.now.items in
-    let p = c.in-Some-named.part.now in
+    let p = c.in-Some-named_again.part.now in
     let before : nat_lt (number_of p.at) c.args.n ≡ true = search rules in
-    let way = kept_from fs p c.in-Some.rest.now in
-    ap (λ b. if b then Some c.add_passed.new.path.items else None) (sym c.if-branch.true)
-    ∙ c.in_ok-add_passed.ensures
-    ∙ ap (λ xs. after xs way) c.in_ok-path.ensures.items
-    ∙ after-nothing way
-    ∙ sym (target-path fs ps c.args.n c.in-Some.first.now c.in-Some.rest.now p (sym c.named.ensures ∙ ap option_copied c.in-Some-named.is) before)
-    ∙ ap (kept_target fs ps c.args.n) (sym c.in-Some.ensures.cases.0)
+    let same =
+        sym (target-path fs ps c.args.n c.in-Some.name.now c.in-Some.rest.now p (sym c.named_again.ensures.found ∙ ap option_copied c.in-Some-named_again.is) before)
+        ∙ ap (kept_target fs ps c.args.n) (sym c.in-Some.ensures.cases.0) in
+    subst (λ k. IfOk c.path_of_all.result (λ path. path ≡ k)) same c.path_of_all.ensures
 
-pub returns-else-branch : goal.returns-else-branch
-returns-else-branch c =
+pub returns-in-len1-clause-path : goal.returns-in-len1-clause-path
+returns-in-len1-clause-path c =
     let fs = c.args.components.now in
     let ps = c.args.parts.now.items in
-    let p = c.in-Some-named.part.now in
+    let p = c.in-Some-named_again.part.now in
     let before : nat_lt (number_of p.at) c.args.n ≡ true = search rules in
-    let way = kept_from fs p c.in-Some.rest.now in
-    ap (λ b. if b then Some c.add_passed.new.path.items else None) (sym c.if-branch.false)
-    ∙ c.in_ok-add_passed.ensures
-    ∙ ap (λ xs. after xs way) c.in_ok-path.ensures.items
-    ∙ after-nothing way
-    ∙ sym (target-path fs ps c.args.n c.in-Some.first.now c.in-Some.rest.now p (sym c.named.ensures ∙ ap option_copied c.in-Some-named.is) before)
-    ∙ ap (kept_target fs ps c.args.n) (sym c.in-Some.ensures.cases.0)
+    let same =
+        ap (kept_from fs p) (one-name c.in-Some.rest.now c.name-item.result c.in-len1.len_at_least c.in-len1.len_below c.name-item.is)
+        ∙ sym (target-path fs ps c.args.n c.in-Some.name.now c.in-Some.rest.now p (sym c.named_again.ensures.found ∙ ap option_copied c.in-Some-named_again.is) before)
+        ∙ ap (kept_target fs ps c.args.n) (sym c.in-Some.ensures.cases.0) in
+    subst (λ k. IfOk c.path_of_two.result (λ path. path ≡ k)) same c.path_of_two.ensures
