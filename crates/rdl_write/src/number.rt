@@ -89,3 +89,16 @@ pub fn push_decimal_end(text: &mut String, number: Number) -> Result<(), AllocEr
     short.put(b' ');
     text.push_str(short.as_str())
 }
+
+/// Appends the bits from a low one up to a high one, as `[HIGH:LOW]`.
+pub fn push_high_low(text: &mut String, high: u64, low: u64) -> Result<(), AllocError>
+    ensures { OnOk result (string_bytes text.new ≡ string_bytes text.old ++ codes "[" ++ decimal high ++ codes ":" ++ decimal low ++ codes "]") }
+{
+    let mut short = Backwards::new();
+    short.put(b']');
+    short.put_decimal(low);
+    short.put(b':');
+    short.put_decimal(high);
+    short.put(b'[');
+    text.push_str(short.as_str())
+}
