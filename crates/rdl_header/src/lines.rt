@@ -137,6 +137,7 @@ impl Lines {
 }
 
 /// Notes a place, if places are noted.
+#[inline(always)]
 fn note(names: &mut Vec<Stretch>, are_noted: bool, place: Stretch) -> Result<(), AllocError>
     ensures { OnOk result (names.new.items ≡ names.old.items ++ noted are_noted (place ∷ [])) }
 {
