@@ -137,7 +137,6 @@ impl Lines {
 }
 
 /// Notes a place, if places are noted.
-#[inline(always)]
 fn note(names: &mut Vec<Stretch>, are_noted: bool, place: Stretch) -> Result<(), AllocError>
     ensures { OnOk result (names.new.items ≡ names.old.items ++ noted are_noted (place ∷ [])) }
 {
