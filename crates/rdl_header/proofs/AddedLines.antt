@@ -12,14 +12,26 @@ use Rattle.rdl_header.specs.Lines.{Lines, name_at, names_at, noted, guarded, add
 regroup : (old a b c d e : List ℕ) → ((((old ++ a) ++ b) ++ c) ++ d) ++ e ≡ old ++ (((((a ++ b) ++ c) ++ d) ++ e) ++ [])
 regroup old a b c d e = simp (append_assoc, append-nil)
 
-line : (old front middle text : List ℕ) (m : Macro) → front ≡ old ++ codes "#define " ++ m.name ++ codes " " → middle ≡ front ++ m.value → text ≡ middle ++ newline → text ≡ old ++ flat_map macro_line (m ∷ [])
+line : (old front text : List ℕ) (m : Macro) → front ≡ old ++ codes "#define " ++ m.name → text ≡ front ++ codes " " ++ m.value ++ newline → text ≡ old ++ flat_map macro_line (m ∷ [])
 unfolding macro_line
-line old front middle text m e f g = g ∙ ap (λ t. t ++ newline) (f ∙ ap (λ t. t ++ m.value) e) ∙ regroup old (codes "#define ") m.name (codes " ") m.value newline
+line old front text m e f = f ∙ ap (λ t. t ++ codes " " ++ m.value ++ newline) e ∙ regroup old (codes "#define ") m.name (codes " ") m.value newline
 
-pub line_added : (old : Lines) (m : Macro) (front middle text : List ℕ) (names : List Stretch) → front ≡ old.text ++ codes "#define " ++ m.name ++ codes " " → middle ≡ front ++ m.value → text ≡ middle ++ newline → names ≡ old.names ++ noted old.are_noted (name_at (length old.text) m.name ∷ [])
+pub line_added : (old : Lines) (m : Macro) (front text : List ℕ) (names : List Stretch) → front ≡ old.text ++ codes "#define " ++ m.name → text ≡ front ++ codes " " ++ m.value ++ newline → names ≡ old.names ++ noted old.are_noted (name_at (length old.text) m.name ∷ [])
     → record { text = text; are_noted = old.are_noted; names = names } ≡ added old (m ∷ [])
 unfolding added
-line_added old m front middle text names e f g h = λ i. record { text = line old.text front middle text m e f g i; are_noted = old.are_noted; names = h i }
+line_added old m front text names e f h = λ i. record { text = line old.text front text m e f i; are_noted = old.are_noted; names = h i }
+
+-- the beginning of a line is the head of its row, and the ending of its name
+pub line_begun : (old first text head path ending : List ℕ) → head ≡ codes "#define " ++ path → first ≡ old ++ head → text ≡ first ++ ending → text ≡ old ++ codes "#define " ++ (path ++ ending)
+line_begun old first text head path ending d e f =
+    f ∙ ap (λ t. t ++ ending) (e ∙ ap (λ t. old ++ t) d ∙ sym (append_assoc old (codes "#define ") path)) ∙ append_assoc (old ++ codes "#define ") path ending
+
+pub name_noted : (b : Bool) (old path ending : List ℕ) (start end : ℕ) (names new : List Stretch) → start ≡ length old + 8 → end ≡ length old + (8 + length path) + length ending → new ≡ names ++ noted b (record { start = start; end = end } ∷ [])
+    → new ≡ names ++ noted b (name_at (length old) (path ++ ending) ∷ [])
+name_noted b old path ending start end names new s e n =
+    let place : end ≡ length old + 8 + length (path ++ ending) = omega (arith, e, length-append path ending) in
+    let is : record { start = start; end = end } ≡ name_at (length old) (path ++ ending) = λ i. record { start = s i; end = place i } in
+    n ∙ ap (λ p. names ++ noted b (p ∷ [])) is
 
 -- ---- Macros behind macros.
 

@@ -3,6 +3,7 @@
 
 mod bits;
 mod clashes;
+mod head;
 mod lines;
 mod macros;
 mod mark;

@@ -3,9 +3,10 @@ ghost use Rattle.std.specs.Prelude.{◌≡◌, ◌+◌, ◌++◌, [], ◌∷◌,
 ghost use Rattle.rdl_header.specs.HeaderText.{hexadecimal_macro, decimal_macro};
 ghost use Rattle.rdl_header.specs.Lines.{name_at, noted, no_lines, guarded, added, ended};
 
+use crate::head::Head;
 use crate::stretch::Stretch;
 use rdl_text::token::Number;
-use rdl_write::{push_decimal, push_hexadecimal};
+use rdl_write::{push_decimal_end, push_hexadecimal_end};
 use std::alloc::{AllocError, Global};
 use std::marker::Model;
 
@@ -71,42 +72,40 @@ impl Lines {
     /// Puts the line of a macro behind the others. Its name is the path and the ending, its value `0x` and upper-case digits.
     pub(crate) fn push_hexadecimal(
         &mut self,
-        path: &str,
+        head: &Head,
         ending: &str,
         number: Number,
     ) -> Result<(), AllocError>
-        ensures { OnOk result (self.new ≡ added self.old (hexadecimal_macro path.now ending.now number ∷ [])) }
+        ensures { OnOk result (self.new ≡ added self.old (hexadecimal_macro head.now ending.now number ∷ [])) }
     {
         begin(
             &mut self.text,
             self.are_noted,
             &mut self.names,
-            path,
+            head,
             ending,
         )?;
-        push_hexadecimal(&mut self.text, number)?;
-        self.text.push_str("\n")?;
+        push_hexadecimal_end(&mut self.text, number)?;
         Ok(())
     }
 
     /// Puts the line of a macro behind the others. Its name is the path and the ending, its value decimal.
     pub(crate) fn push_decimal(
         &mut self,
-        path: &str,
+        head: &Head,
         ending: &str,
         number: Number,
     ) -> Result<(), AllocError>
-        ensures { OnOk result (self.new ≡ added self.old (decimal_macro path.now ending.now number ∷ [])) }
+        ensures { OnOk result (self.new ≡ added self.old (decimal_macro head.now ending.now number ∷ [])) }
     {
         begin(
             &mut self.text,
             self.are_noted,
             &mut self.names,
-            path,
+            head,
             ending,
         )?;
-        push_decimal(&mut self.text, number)?;
-        self.text.push_str("\n")?;
+        push_decimal_end(&mut self.text, number)?;
         Ok(())
     }
 
@@ -166,19 +165,22 @@ fn push_name(
     note(names, are_noted, Stretch { start, end })
 }
 
-/// Begins the line of a macro, whose name is the path and the ending.
+/// Begins the line of a macro, whose name is the path and the ending, and notes where the name stands.
 fn begin(
     text: &mut String,
     are_noted: bool,
     names: &mut Vec<Stretch>,
-    path: &str,
+    head: &Head,
     ending: &str,
 ) -> Result<(), AllocError>
-    ensures text { OnOk result (string_bytes text.new ≡ string_bytes text.old ++ codes "#define " ++ (path.now ++ ending.now) ++ codes " ") }
-    ensures name { OnOk result (names.new.items ≡ names.old.items ++ noted are_noted (name_at (length (string_bytes text.old)) (path.now ++ ending.now) ∷ [])) }
+    ensures text { OnOk result (string_bytes text.new ≡ string_bytes text.old ++ codes "#define " ++ (head.now ++ ending.now)) }
+    ensures name { OnOk result (names.new.items ≡ names.old.items ++ noted are_noted (name_at (length (string_bytes text.old)) (head.now ++ ending.now) ∷ [])) }
 {
-    text.push_str("#define ")?;
-    push_name(text, are_noted, names, path, ending)?;
-    text.push_str(" ")?;
+    let line = text.len();
+    text.push_str(head.as_str())?;
+    text.push_str(ending)?;
+    let behind = text.len();
+    let start = line + 8;
+    note(names, are_noted, Stretch { start, end: behind })?;
     Ok(())
 }

@@ -1,17 +1,15 @@
 //! The macros of the rows.
-ghost use Rattle.std.specs.Prelude.{◌≡◌, ◌++◌, [], ◌∷◌, codes, option_copied, string_bytes, IfOk, OnOk};
-ghost use Rattle.std.specs.List.{flat_map};
-ghost use Rattle.std.specs.Option.{option_to_list};
+ghost use Rattle.std.specs.Prelude.{◌≡◌, ◌++◌, [], ◌∷◌, codes, string_bytes, IfOk, OnOk};
 ghost use Rattle.rdl_header.specs.HeaderText.{path_text, array_macros, bytes_macros, word_macros, mask_macros, reset_macros, width_macros, bits_macros, macros_of, register_behind, macros_below, guard, macros};
 ghost use Rattle.rdl_header.specs.Lines.{guarded, added, header_lines};
 ghost use Rattle.std.specs.Fmt.{decimal};
 
 use crate::bits::{mask, width};
+use crate::head::{Head, push_path};
 use crate::lines::Lines;
 use rdl_elab::layout::Span;
 use rdl_elab::row::{Extent, Location, Row, RowPath};
 use rdl_scope::shells::product;
-use rdl_text::name::Name;
 use rdl_text::token::Number;
 use rdl_tree::property::Property;
 use rdl_write::push_decimal;
@@ -19,30 +17,6 @@ use std::alloc::{AllocError, Global};
 
 /// One more than the greatest word of a number that needs several.
 const WORD: Number = 1 << 32;
-
-/// Appends the name of a register, if there is one, and two underscores.
-fn push_register(text: &mut String, register: Option<&Name>) -> Result<(), AllocError>
-    ensures { OnOk result (string_bytes text.new ≡ string_bytes text.old ++ flat_map (λ name. name ++ codes "__") (option_to_list (option_copied register.entry))) }
-{
-    match register {
-        Some(name) => {
-            text.push_str(name.as_str())?;
-            text.push_str("__")
-        }
-        None => Ok(()),
-    }
-}
-
-/// Appends the names from the top with two underscores between them.
-fn push_path(text: &mut String, path: &RowPath) -> Result<(), AllocError>
-    ensures { OnOk result (string_bytes text.new ≡ string_bytes text.old ++ path_text path.now) }
-{
-    let parts = path.parts();
-    text.push_str(parts.around.joined())?;
-    push_register(text, parts.register)?;
-    text.push_str(parts.last.as_str())?;
-    Ok(())
-}
 
 /// The ending with the number of a word behind it.
 fn numbered(alloc: Global, ending: &str, index: u64) -> Result<String, AllocError>
@@ -56,31 +30,31 @@ fn numbered(alloc: Global, ending: &str, index: u64) -> Result<String, AllocErro
 #[tactic(auto, using(crate::proofs::AddedLines::added_lines))]
 fn add_array(
     lines: &mut Lines,
-    path: &str,
+    head: &Head,
     dims: &[Number],
     stride: Number,
 ) -> Result<(), AllocError>
-    ensures { OnOk result (lines.new ≡ added lines.old (array_macros path.now dims.now stride)) }
+    ensures { OnOk result (lines.new ≡ added lines.old (array_macros head.now dims.now stride)) }
 {
     if dims.is_empty() {
         return Ok(());
     }
     let count = product(dims);
-    lines.push_decimal(path, "_count", count)?;
-    lines.push_hexadecimal(path, "_stride", stride)?;
+    lines.push_decimal(head, "_count", count)?;
+    lines.push_hexadecimal(head, "_stride", stride)?;
     Ok(())
 }
 
 /// The macros of an instance that has bytes.
 #[tactic(auto, using(crate::proofs::AddedLines::added_lines), unfolding(crate::specs::HeaderText::bytes_macros))]
-fn add_bytes(lines: &mut Lines, path: &str, base: u64, extent: &Extent) -> Result<(), AllocError>
-    ensures { OnOk result (lines.new ≡ added lines.old (bytes_macros path.now base extent.now)) }
+fn add_bytes(lines: &mut Lines, head: &Head, base: u64, extent: &Extent) -> Result<(), AllocError>
+    ensures { OnOk result (lines.new ≡ added lines.old (bytes_macros head.now base extent.now)) }
 {
-    lines.push_hexadecimal(path, "_base", Number::from(base))?;
-    lines.push_hexadecimal(path, "_offset", Number::from(extent.offset))?;
-    lines.push_hexadecimal(path, "_size", Number::from(extent.size))?;
+    lines.push_hexadecimal(head, "_base", Number::from(base))?;
+    lines.push_hexadecimal(head, "_offset", Number::from(extent.offset))?;
+    lines.push_hexadecimal(head, "_size", Number::from(extent.size))?;
     let dims = extent.dims.as_slice();
-    add_array(lines, path, dims, extent.stride)
+    add_array(lines, head, dims, extent.stride)
 }
 
 /// The macros of the first words of a number, of 32 bits each, the lowest first.
@@ -88,17 +62,17 @@ fn add_bytes(lines: &mut Lines, path: &str, base: u64, extent: &Extent) -> Resul
 fn add_words(
     alloc: Global,
     lines: &mut Lines,
-    path: &str,
+    head: &Head,
     ending: &str,
     number: Number,
     count: u64,
 ) -> Result<(), AllocError>
-    ensures { OnOk result (lines.new ≡ added lines.old (word_macros path.now ending.now number count)) }
+    ensures { OnOk result (lines.new ≡ added lines.old (word_macros head.now ending.now number count)) }
 {
     let mut rest = number;
     'words: for index in 0..count {
         let numbered = numbered(alloc, ending, index)?;
-        lines.push_hexadecimal(path, numbered.as_str(), rest % WORD)?;
+        lines.push_hexadecimal(head, numbered.as_str(), rest % WORD)?;
         rest /= WORD;
     }
     Ok(())
@@ -108,16 +82,16 @@ fn add_words(
 fn add_mask(
     alloc: Global,
     lines: &mut Lines,
-    path: &str,
+    head: &Head,
     register: u64,
     span: &Span,
 ) -> Result<(), AllocError>
-    ensures { OnOk result (lines.new ≡ added lines.old (mask_macros path.now register span.now)) }
+    ensures { OnOk result (lines.new ≡ added lines.old (mask_macros head.now register span.now)) }
 {
     if register > 8 {
-        add_words(alloc, lines, path, "_bm", mask(span), 4)
+        add_words(alloc, lines, head, "_bm", mask(span), 4)
     } else {
-        lines.push_hexadecimal(path, "_bm", mask(span))
+        lines.push_hexadecimal(head, "_bm", mask(span))
     }
 }
 
@@ -126,17 +100,17 @@ fn add_mask(
 fn add_reset(
     alloc: Global,
     lines: &mut Lines,
-    path: &str,
+    head: &Head,
     width: u64,
     reset: Option<Number>,
 ) -> Result<(), AllocError>
-    ensures { OnOk result (lines.new ≡ added lines.old (reset_macros path.now width reset)) }
+    ensures { OnOk result (lines.new ≡ added lines.old (reset_macros head.now width reset)) }
 {
     match reset {
         Some(number) if width > 64 => {
-            add_words(alloc, lines, path, "_reset", number, width.div_ceil(32))
+            add_words(alloc, lines, head, "_reset", number, width.div_ceil(32))
         }
-        Some(number) => lines.push_hexadecimal(path, "_reset", number),
+        Some(number) => lines.push_hexadecimal(head, "_reset", number),
         None => Ok(()),
     }
 }
@@ -146,16 +120,16 @@ fn add_reset(
 fn add_width(
     alloc: Global,
     lines: &mut Lines,
-    path: &str,
+    head: &Head,
     span: &Span,
     reset: Option<Number>,
 ) -> Result<(), AllocError>
-    ensures { OnOk result (lines.new ≡ added lines.old (width_macros path.now span.now reset)) }
+    ensures { OnOk result (lines.new ≡ added lines.old (width_macros head.now span.now reset)) }
 {
     let width = width(span);
-    lines.push_decimal(path, "_bp", Number::from(span.start))?;
-    lines.push_decimal(path, "_bw", Number::from(width))?;
-    add_reset(alloc, lines, path, width, reset)
+    lines.push_decimal(head, "_bp", Number::from(span.start))?;
+    lines.push_decimal(head, "_bw", Number::from(width))?;
+    add_reset(alloc, lines, head, width, reset)
 }
 
 /// The macros of a field.
@@ -163,35 +137,33 @@ fn add_width(
 fn add_bits(
     alloc: Global,
     lines: &mut Lines,
-    path: &str,
+    head: &Head,
     register: u64,
     span: &Span,
     reset: Option<Number>,
 ) -> Result<(), AllocError>
-    ensures { OnOk result (lines.new ≡ added lines.old (bits_macros path.now register span.now reset)) }
+    ensures { OnOk result (lines.new ≡ added lines.old (bits_macros head.now register span.now reset)) }
 {
-    add_mask(alloc, lines, path, register, span)?;
-    add_width(alloc, lines, path, span, reset)
+    add_mask(alloc, lines, head, register, span)?;
+    add_width(alloc, lines, head, span, reset)
 }
 
-/// Puts the macros of a row behind the others. A field stands in a register of so many bytes. What the path held goes.
+/// Puts the macros of a row, which has this path, behind the others. A field stands in a register of so many bytes.
 fn add_row(
     alloc: Global,
     lines: &mut Lines,
-    path: &mut String,
+    head: &Head,
     register: u64,
     row: &Row,
 ) -> Result<(), AllocError>
+    requires { head.now ≡ path_text row.now.names }
     ensures { OnOk result (lines.new ≡ added lines.old (macros_of register row.now)) }
 {
-    path.clear();
-    push_path(path, &row.names)?;
-    let path = path.as_str();
     match &row.location {
-        Location::Bytes(extent) => add_bytes(lines, path, row.base, extent),
+        Location::Bytes(extent) => add_bytes(lines, head, row.base, extent),
         Location::Bits(span) => {
             let reset = row.values.number(Property::Reset);
-            add_bits(alloc, lines, path, register, span, reset)
+            add_bits(alloc, lines, head, register, span, reset)
         }
     }
 }
@@ -211,10 +183,11 @@ fn register_behind(register: u64, location: &Location) -> u64
 fn add_rows(alloc: Global, lines: &mut Lines, rows: &[Row]) -> Result<(), AllocError>
     ensures { OnOk result (lines.new ≡ added lines.old (macros_below 0 rows.now)) }
 {
-    let mut path = String::new(alloc);
+    let mut head = Head::new(alloc)?;
     let mut register = 0u64;
     'rows: for row in rows {
-        add_row(alloc, lines, &mut path, register, row)?;
+        head = head.of(&row.names)?;
+        add_row(alloc, lines, &head, register, row)?;
         register = register_behind(register, &row.location);
     }
     Ok(())

@@ -2,16 +2,16 @@
 ghost use Rattle.std.specs.Prelude.{◌≡◌, ◌<◌, ◌++◌, ◌∷◌, [], codes, drop, map, option_copied, string_bytes, OnOk};
 ghost use Rattle.std.specs.List.{flat_map};
 ghost use Rattle.std.specs.Option.{option_to_list};
-ghost use Rattle.rdl_write.specs.Texts.{hexadecimal};
-ghost use Rattle.rdl_list.specs.ListText.{path_text, stride_text, reset_text, head_text, extent_text, bytes_line, span_text, bits_line, line_of};
+ghost use Rattle.rdl_write.specs.Texts.{hexadecimal, kind_text, newline};
+ghost use Rattle.rdl_list.specs.ListText.{path_text, reset_text, head_text, extent_text, bytes_line, span_text, bits_line, line_of};
 
 use rdl_elab::layout::Span;
 use rdl_elab::row::{Extent, Location, PathParts, Row, RowPath};
 use rdl_text::name::Name;
 use rdl_text::token::Number;
-use rdl_tree::dims::Dims;
 use rdl_tree::property::Property;
-use rdl_write::{kind_text, push_decimal, push_dims, push_hexadecimal};
+use rdl_tree::shell::Kind;
+use rdl_write::{push_dims, push_hexadecimal, push_hexadecimal_end, push_high_low};
 use std::alloc::AllocError;
 use std::rc::Rc;
 
@@ -95,21 +95,33 @@ fn push_part(text: &mut String, word: &str, number: Number) -> Result<(), AllocE
     push_hexadecimal(text, number)
 }
 
-fn push_stride(text: &mut String, dims: &Dims, stride: Number) -> Result<(), AllocError>
-    ensures { OnOk result (string_bytes text.new ≡ string_bytes text.old ++ stride_text dims.now stride) }
+/// Ends a line with a number behind its word, which has a space before it.
+fn push_part_end(text: &mut String, word: &str, number: Number) -> Result<(), AllocError>
+    ensures { OnOk result (string_bytes text.new ≡ string_bytes text.old ++ word.now ++ codes " " ++ hexadecimal number ++ newline) }
 {
-    match dims.as_slice() {
-        [] => Ok(()),
-        [_, ..] => push_part(text, " stride ", stride),
+    text.push_str(word)?;
+    push_hexadecimal_end(text, number)
+}
+
+/// Ends the line of a field.
+fn push_reset_end(text: &mut String, reset: Option<Number>) -> Result<(), AllocError>
+    ensures { OnOk result (string_bytes text.new ≡ string_bytes text.old ++ reset_text reset ++ newline) }
+{
+    match reset {
+        Some(number) => push_part_end(text, " reset", number),
+        None => text.push_str("\n"),
     }
 }
 
-fn push_reset(text: &mut String, reset: Option<Number>) -> Result<(), AllocError>
-    ensures { OnOk result (string_bytes text.new ≡ string_bytes text.old ++ reset_text reset) }
+/// The word for a kind of component, between spaces.
+fn kind_between(kind: Kind) -> &'static str
+    ensures { result.now ≡ codes " " ++ kind_text kind ++ codes " " }
 {
-    match reset {
-        Some(number) => push_part(text, " reset ", number),
-        None => Ok(()),
+    match kind {
+        Kind::Addrmap => " addrmap ",
+        Kind::Regfile => " regfile ",
+        Kind::Reg => " reg ",
+        Kind::Field => " field ",
     }
 }
 
@@ -118,19 +130,22 @@ fn push_head(text: &mut String, row: &Row, left_out: usize) -> Result<(), AllocE
     ensures { OnOk result (string_bytes text.new ≡ string_bytes text.old ++ head_text (path_text (drop left_out row.now.names)) row.now) }
 {
     push_hexadecimal(text, Number::from(row.base))?;
-    text.push_str(" ")?;
-    text.push_str(kind_text(row.kind))?;
-    text.push_str(" ")?;
+    text.push_str(kind_between(row.kind))?;
     push_path(text, &row.names, left_out)
 }
 
+/// Ends the line of what has bytes.
 #[tactic(auto, unfolding(crate::specs::ListText::extent_text))]
-fn push_extent(text: &mut String, extent: &Extent) -> Result<(), AllocError>
-    ensures { OnOk result (string_bytes text.new ≡ string_bytes text.old ++ extent_text extent.now) }
+fn push_extent_end(text: &mut String, extent: &Extent) -> Result<(), AllocError>
+    ensures { OnOk result (string_bytes text.new ≡ string_bytes text.old ++ extent_text extent.now ++ newline) }
 {
-    push_dims(text, extent.dims.as_slice())?;
+    let dims = extent.dims.as_slice();
+    if dims.is_empty() {
+        return push_part_end(text, " size", Number::from(extent.size));
+    }
+    push_dims(text, dims)?;
     push_part(text, " size ", Number::from(extent.size))?;
-    push_stride(text, &extent.dims, extent.stride)
+    push_part_end(text, " stride", extent.stride)
 }
 
 fn push_bytes(
@@ -142,8 +157,7 @@ fn push_bytes(
     ensures { OnOk result (string_bytes text.new ≡ string_bytes text.old ++ bytes_line (path_text (drop left_out row.now.names)) row.now extent.now) }
 {
     push_head(text, row, left_out)?;
-    push_extent(text, extent)?;
-    text.push_str("\n")
+    push_extent_end(text, extent)
 }
 
 /// Appends the bits of a field, `[HIGH:LOW]`.
@@ -151,11 +165,7 @@ pub fn push_span(text: &mut String, span: &Span) -> Result<(), AllocError>
     ensures { OnOk result (string_bytes text.new ≡ string_bytes text.old ++ span_text span.now) }
 {
     let high = span.end.saturating_sub(1);
-    text.push_str("[")?;
-    push_decimal(text, Number::from(high))?;
-    text.push_str(":")?;
-    push_decimal(text, Number::from(span.start))?;
-    text.push_str("]")
+    push_high_low(text, high, span.start)
 }
 
 #[tactic(auto, unfolding(crate::specs::ListText::bits_line))]
@@ -165,8 +175,7 @@ fn push_bits(text: &mut String, row: &Row, span: &Span, left_out: usize) -> Resu
     push_span(text, span)?;
     text.push_str(" field ")?;
     push_path(text, &row.names, left_out)?;
-    push_reset(text, row.values.number(Property::Reset))?;
-    text.push_str("\n")
+    push_reset_end(text, row.values.number(Property::Reset))
 }
 
 /// Appends the line of a row, whose PATH is the names of the row but for so many of the first.

@@ -2,6 +2,7 @@
 #![tactic(auto)]
 
 mod assignment;
+mod backwards;
 mod instance;
 mod map;
 mod number;
@@ -9,4 +10,6 @@ mod number;
 pub use assignment::{push_names, push_value};
 pub use instance::{kind_text, push_dims};
 pub use map::{push_dynamic, push_item, push_named, push_own, rdl};
-pub use number::{push_decimal, push_hexadecimal};
+pub use number::{
+    push_decimal, push_decimal_end, push_hexadecimal, push_hexadecimal_end, push_high_low,
+};

@@ -1,7 +1,7 @@
 use Rattle.std.proofs.Common.{string_bytes, option_copied, rules}
 use Rattle.std.specs.Option.{option_to_list}
 use Rattle.rdl_header.proofs.Paths.{path_pushed}
-use Rattle.rdl_header.proofs.macros.push_path.Goals as goal
+use Rattle.rdl_header.proofs.head.push_path.Goals as goal
 
 pub returns : goal.returns
 returns c =
