@@ -17,6 +17,7 @@ pub mod RangesKept
 pub mod Telling
 pub mod Cleaning
 pub mod CleanAlone
+pub mod SiblingsBefore
 pub mod Accesses
 pub mod Counting
 pub mod EachMember
