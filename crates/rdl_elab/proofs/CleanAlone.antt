@@ -70,11 +70,19 @@ all-apart span (b ∷ before) h =
     ap (λ x. x || overlaps_before span before) (apart span b.span span.start h.0 (omega arith)) ∙ all-apart span before h.1
 
 -- these are before an instance, as far as their places say
-abbrev ArePlaced : List Span → ℕ → List Sibling → Type 0
+abbrev pub ArePlaced : List Span → ℕ → List Sibling → Type 0
 ArePlaced spans i before = map (λ (b : Sibling). b.span) before ≡ take i spans
 
-none-overlap : (spans : List Span) (i : ℕ) (span : Span) (before : List Sibling) → in_order 0 spans ≡ true → slice_get spans i ≡ Some span → ArePlaced spans i before → overlaps_before span before ≡ false
+pub none-overlap : (spans : List Span) (i : ℕ) (span : Span) (before : List Sibling) → in_order 0 spans ≡ true → slice_get spans i ≡ Some span → ArePlaced spans i before → overlaps_before span before ≡ false
 none-overlap spans i span before e s placed = all-apart span before (subst (EndBefore span.start) (sym placed) (ordered 0 spans e i span s).1)
+
+-- one more instance is before the next one
+pub one-placed : (spans : List Span) (i : ℕ) (before : List Sibling) (b : Sibling) → slice_get spans i ≡ Some b.span → ArePlaced spans i before → ArePlaced spans (i + 1) (before ++ b ∷ [])
+one-placed spans i before b s placed =
+    map-append (λ (x : Sibling). x.span) before (b ∷ [])
+    ∙ ap (λ xs. xs ++ b.span ∷ []) placed
+    ∙ ap (λ x. take i spans ++ x ∷ []) (sym (get_or_from_slice_get spans i b.span b.span s))
+    ∙ sym (take_more spans i b.span (slice_get_within spans i b.span s))
 
 -- the instances of a level before one have no fault, wherever it is
 pub record AreJudged (fs : List Finished) (m : Mode) (least : ℕ) (rs : List Reach) (spans : List Span) (parts : List Part) (i : ℕ) : Type 0 where
@@ -105,11 +113,7 @@ module _ (fs : List Finished) (m : Mode) (least : ℕ) (rs : List Reach) (spans 
           let clear = sound least (under m f.layouts).size p.shell (seen span values) judged.siblings values stride none in
           record {
             siblings = judged.siblings ++ seen span values ∷ [];
-            placed =
-                map-append (λ (b : Sibling). b.span) judged.siblings (seen span values ∷ [])
-                ∙ ap (λ xs. xs ++ span ∷ []) judged.placed
-                ∙ ap (λ x. take i spans ++ x ∷ []) (sym (get_or_from_slice_get spans i span span s))
-                ∙ sym (take_more spans i span (slice_get_within spans i span s));
+            placed = one-placed spans i judged.siblings (seen span values) s judged.placed;
             goes =
                 goes-further fs m least rs spans parts judged.siblings i span p f (behind p.at rs) values (judged.siblings ++ seen span values ∷ []) s t h refl refl (ap is_none clear) below refl judged.goes;
           }

@@ -18,6 +18,7 @@ pub mod ReachedAt
 pub mod Telling
 pub mod Cleaning
 pub mod CleanAlone
+pub mod SiblingsBefore
 pub mod Accesses
 pub mod Counting
 pub mod EachMember

@@ -27,6 +27,7 @@ pub mod FinishedRows
 pub mod Clean
 pub mod CleanParts
 pub mod SiblingRanges
+pub mod SiblingsBefore
 pub mod Inside
 pub mod LaidOut
 pub mod Written

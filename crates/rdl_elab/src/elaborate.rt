@@ -188,7 +188,7 @@ fn rows_below<'a>(
     let spans = top.layouts.under(Mode::Regalign).spans.as_slice();
     let parts = top.parts.as_slice();
     match add_rows(alloc, components, &around, spans, parts, 16, &mut rows)? {
-        Some(fault) => Ok(Err(fault)),
+        Some(fault) => Ok(Err(fault.to_fault())),
         None => Ok(Ok(Rows::from_vec(rows))),
     }
 }

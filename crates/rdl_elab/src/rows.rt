@@ -4,13 +4,14 @@ ghost use Rattle.rdl_scope.specs.ItemFaults.{fault_at};
 ghost use Rattle.rdl_elab.specs.Layouts.{number_in};
 ghost use Rattle.rdl_elab.specs.Rows.{location_of};
 ghost use Rattle.rdl_elab.specs.Onward.{IsOnward};
+ghost use Rattle.rdl_elab.specs.SiblingsBefore.{AreBefore, AreFirst, with_one};
 ghost use Rattle.rdl_elab.specs.Reaches.{Reach, behind, value_under, values_along};
 ghost use Rattle.rdl_tree.specs.declared.property.Property.TheVariants.{Sw, Reset};
 ghost use Rattle.rdl_tree.specs.declared.shell.Kind.{Kind};
 ghost use Rattle.rdl_tree.specs.declared.shell.Kind.TheVariants.{Field};
 ghost use Rattle.rdl_elab.specs.declared.row.PropertyValue.{PropertyValue};
 ghost use Rattle.rdl_elab.specs.Finished.{under};
-ghost use Rattle.rdl_elab.specs.FinishedRows.{finished_base, finished_values, finished_row, seen, finished_fault, field_fault, extent_fault, judged, surroundings_inside, level_rows, finished_rows, finished_rows_below, told_one, told};
+ghost use Rattle.rdl_elab.specs.FinishedRows.{finished_base, finished_values, finished_row, seen, finished_fault, field_fault, extent_fault, judged, surroundings_inside, level_rows, finished_rows, finished_rows_below, told_one, told, overlaps_before};
 
 pub mod clean;
 pub(crate) mod fields;
@@ -20,16 +21,18 @@ pub mod siblings;
 use crate::layout::{Mode, Span};
 use crate::row::{Extent, LeadingNames, Location, Row, RowPath};
 use crate::row_values::{ComponentValues, RowValues, access_of};
+use crate::rows::clean::is_in_order;
 use crate::rows::siblings::{Sibling, Siblings, as_sibling, is_reset_too_wide};
 use crate::walk::finished::{Finished, Part};
 use crate::walk::instances::mode_inside;
 use crate::walk::reaches::{Assignment, Onward, has_come, with_own};
+use crate::walk::shared::SharedAddress;
 use crate::walk::values::row_values;
 use rdl_text::token::Number;
-use rdl_tree::address::Address;
+use rdl_tree::dims::Dims;
 use rdl_tree::fault::{Fault, FaultKind};
 use rdl_tree::property::Property;
-use rdl_tree::shell::{Kind, Shell};
+use rdl_tree::shell::Kind;
 use rdl_tree::value::Value;
 use std::alloc::{AllocError, Global};
 use std::marker::Model;
@@ -56,6 +59,34 @@ impl<'a> Model for Around<'a> {
     ghost view = { λ a. record { mode = a.mode; names = a.names; base = a.base; bits = a.bits; reaching = a.reaching.items } };
 }
 
+/// What is wrong with a row, whose address takes memory of its own. A contract sees the fault.
+#[derive(Drop)]
+pub(crate) struct RowFault {
+    kind: FaultKind,
+    at: SharedAddress,
+}
+
+impl Model for RowFault {
+    ghost use Rattle.rdl_tree.specs.declared.fault.Fault.{Fault};
+
+    ghost Value = { Fault };
+
+    ghost view = { λ f. record { kind = f.kind; address = f.at } };
+}
+
+impl RowFault {
+    ghost use Rattle.std.specs.Prelude.{◌≡◌};
+
+    pub(crate) fn to_fault(&self) -> Fault
+        ensures { result ≡ self.now }
+    {
+        Fault {
+            kind: self.kind,
+            address: self.at.address(),
+        }
+    }
+}
+
 fn base(kind: Kind, around: u64, span: Span) -> u64
     ensures { result ≡ finished_base kind around span }
 {
@@ -65,29 +96,44 @@ fn base(kind: Kind, around: u64, span: Span) -> u64
     }
 }
 
-fn extent(alloc: Global, shell: &Shell, span: Span, size: u64) -> Result<Extent, AllocError>
-    ensures { IfOk result (λ e. e ≡ record { offset = span.start; size = size; dims = shell.now.dims; stride = unwrap_or shell.now.stride size }) }
+/// The sizes of an instance between its brackets.
+fn dims(alloc: Global, part: &Part) -> Result<Dims, AllocError>
+    ensures { IfOk result (λ dims. dims ≡ part.now.shell.dims) }
+{
+    if part.is_bare() {
+        Ok(Dims::new(alloc))
+    } else {
+        part.shell().dims.try_copy(alloc)
+    }
+}
+
+fn extent(alloc: Global, part: &Part, span: Span, size: u64) -> Result<Extent, AllocError>
+    ensures { IfOk result (λ e. e ≡ record { offset = span.start; size = size; dims = part.now.shell.dims; stride = unwrap_or part.now.shell.stride size }) }
 {
     Ok(Extent {
         offset: span.start,
         size,
-        dims: shell.dims.try_copy(alloc)?,
-        stride: shell.stride.get().unwrap_or(Number::from(size)),
+        dims: dims(alloc, part)?,
+        stride: part.stride().unwrap_or(Number::from(size)),
     })
 }
 
+/// Where the row of an instance lies that is placed in this mode.
 fn location(
     alloc: Global,
-    kind: Kind,
-    shell: &Shell,
+    mode: Mode,
+    part: &Part,
+    component: &Finished,
     span: Span,
-    size: u64,
 ) -> Result<Location, AllocError>
-    ensures { IfOk result (λ location. location ≡ location_of kind shell.now span size) }
+    ensures { IfOk result (λ location. location ≡ location_of component.now.kind part.now.shell span (under mode component.now.layouts).size) }
 {
-    match kind {
+    match component.kind {
         Kind::Field => Ok(Location::Bits(span)),
-        _ => Ok(Location::Bytes(extent(alloc, shell, span, size)?)),
+        _ => {
+            let size = component.layouts.under(mode).size;
+            Ok(Location::Bytes(extent(alloc, part, span, size)?))
+        }
     }
 }
 
@@ -178,34 +224,6 @@ pub(crate) fn behind_part<'a>(
     onward.behind(alloc, part)
 }
 
-fn row(
-    alloc: Global,
-    around: &Around,
-    span: Span,
-    part: &Part,
-    component: &Finished,
-    reaching: &[Assignment],
-) -> Result<Row, AllocError>
-    requires { reaching.now ≡ behind part.now.at around.now.reaching }
-    ensures { IfOk result (λ row. row ≡ finished_row around.now span part.now component.now) }
-{
-    let shell = part.shell();
-    let size = component.layouts.under(around.mode).size;
-    Ok(Row {
-        names: RowPath::new(around.names.share()?, shell.name.try_copy(alloc)?),
-        kind: component.kind,
-        base: base(component.kind, around.base, span),
-        location: location(alloc, component.kind, shell, span, size)?,
-        values: values(
-            alloc,
-            component.kind,
-            shell.reset.get(),
-            reaching,
-            &component.shown,
-        )?,
-    })
-}
-
 fn is_stride_too_small(stride: Option<Number>, size: u64) -> bool
     ensures { result ≡ nat_lt (unwrap_or stride size) size }
 {
@@ -272,32 +290,133 @@ pub(crate) fn fault_kind(
     }
 }
 
-/// Judges a row, and puts it behind the others and among the siblings if nothing is wrong with it.
-fn add_row(
+/// What is wrong with a field that no sibling before it overlaps, in a register of so many bits.
+fn field_fault_alone(bits: u64, span: Span, values: &RowValues) -> Option<FaultKind>
+    ensures { (before : List Sibling) → overlaps_before span before ≡ false → result ≡ field_fault bits (seen span values.now) before values.now }
+{
+    if bits < span.end {
+        Some(FaultKind::FieldPastRegister)
+    } else if is_reset_too_wide(values.number(Property::Reset), span) {
+        Some(FaultKind::ResetTooWide)
+    } else {
+        None
+    }
+}
+
+/// What is wrong with the bytes of an instance that is placed in this mode and overlaps no sibling before it.
+fn extent_fault_alone(mode: Mode, part: &Part, component: &Finished) -> Option<FaultKind>
+    ensures { (span : Span) (before : List Sibling) → overlaps_before span before ≡ false → result ≡ extent_fault part.now.shell (under mode component.now.layouts).size span before }
+{
+    if part.is_bare() {
+        return None;
+    }
+    if is_stride_too_small(part.stride(), component.layouts.under(mode).size) {
+        Some(FaultKind::StrideTooSmall)
+    } else {
+        None
+    }
+}
+
+/// What is wrong with an instance that no sibling before it overlaps.
+fn fault_alone(
     around: &Around,
     part: &Part,
     component: &Finished,
     span: Span,
-    row: Row,
-    siblings: &mut Siblings,
-    rows: &mut Vec<Row>,
-) -> Result<Option<Fault>, AllocError>
-    ensures told { IfOk result (λ fault. record { fault = fault; rows = rows.new.items } ≡ told rows.old.items (judged around.now siblings.old span part.now component.now row ∷ [])) }
-    ensures siblings { IfOk result (λ fault. fault ≡ None → siblings.new ≡ siblings.old ++ seen span row.values ∷ []) }
+    values: &RowValues,
+) -> Option<FaultKind>
+    ensures { (before : List Sibling) → overlaps_before span before ≡ false → result ≡ finished_fault component.now.kind component.now.values around.now.bits part.now.shell (under around.now.mode component.now.layouts).size (seen span values.now) before values.now }
 {
-    let sibling = seen(span, &row.values);
-    let reset = row.values.number(Property::Reset);
-    let judged = Judged { sibling, reset };
-    let fault = fault_kind(around.mode, around.bits, part, component, judged, siblings);
-    if let Some(kind) = fault {
-        return Ok(Some(Fault {
-            kind,
-            address: part.at(),
-        }));
+    match component.kind {
+        Kind::Field => field_fault_alone(around.bits, span, values),
+        Kind::Reg if component.values.regwidth < component.values.accesswidth => {
+            Some(FaultKind::AccessTooWide)
+        }
+        _ => extent_fault_alone(around.mode, part, component),
     }
-    siblings.push(sibling)?;
-    rows.push(row)?;
+}
+
+/// What is wrong with an instance whose row has these values. If nothing is, it is put among its siblings, where these
+/// are kept.
+fn judge(
+    around: &Around,
+    part: &Part,
+    component: &Finished,
+    span: Span,
+    values: &RowValues,
+    siblings: &mut Option<Siblings>,
+) -> Result<Option<FaultKind>, AllocError>
+    ensures fault { IfOk result (λ fault. (before : List Sibling) → AreBefore siblings.old span before → fault ≡ finished_fault component.now.kind component.now.values around.now.bits part.now.shell (under around.now.mode component.now.layouts).size (seen span values.now) before values.now) }
+    ensures siblings { IfOk result (λ fault. fault ≡ None → siblings.new ≡ with_one siblings.old (seen span values.now)) }
+{
+    let Some(kept) = siblings else {
+        return Ok(fault_alone(around, part, component, span, values));
+    };
+    let sibling = seen(span, values);
+    let reset = values.number(Property::Reset);
+    let judged = Judged { sibling, reset };
+    let fault = fault_kind(around.mode, around.bits, part, component, judged, kept);
+    if fault.is_none() {
+        kept.push(sibling)?;
+    }
+    Ok(fault)
+}
+
+/// Judges an instance, and puts its row behind the others if nothing is wrong with it.
+fn add_row(
+    alloc: Global,
+    around: &Around,
+    part: &Part,
+    component: &Finished,
+    span: Span,
+    reaching: &[Assignment],
+    siblings: &mut Option<Siblings>,
+    rows: &mut Vec<Row>,
+) -> Result<Option<RowFault>, AllocError>
+    requires { reaching.now ≡ behind part.now.at around.now.reaching }
+    ensures told { IfOk result (λ fault. (before : List Sibling) → AreBefore siblings.old span before → record { fault = fault; rows = rows.new.items } ≡ told rows.old.items (judged around.now before span part.now component.now (finished_row around.now span part.now component.now) ∷ [])) }
+    ensures siblings { IfOk result (λ fault. fault ≡ None → siblings.new ≡ with_one siblings.old (seen span (finished_row around.now span part.now component.now).values)) }
+{
+    let kind = component.kind;
+    let values = values(alloc, kind, part.reset(), reaching, &component.shown)?;
+    if let Some(kind) = judge(around, part, component, span, &values, siblings)? {
+        let at = SharedAddress::new(alloc, part.at())?;
+        return Ok(Some(RowFault { kind, at }));
+    }
+    let name = part.shell().name.try_copy(alloc)?;
+    rows.push(Row {
+        names: RowPath::new(around.names.share()?, name),
+        kind,
+        base: base(kind, around.base, span),
+        location: location(alloc, around.mode, part, component, span)?,
+        values,
+    })?;
     Ok(None)
+}
+
+/// The assignments that have come this far and those of the component that stands here, which mostly are none.
+fn reaching_inside<'a>(
+    alloc: Global,
+    reaching: &[Assignment<'a>],
+    own: &[Assignment<'a>],
+) -> Result<Vec<Assignment<'a>>, AllocError>
+    ensures { IfOk result (λ list. list.items ≡ reaching.now ++ own.now) }
+{
+    if reaching.is_empty() && own.is_empty() {
+        return Ok(Vec::new(alloc));
+    }
+    with_own(alloc, reaching, own)
+}
+
+/// No siblings, with room for those of so many instances. Where all stand in order none are kept: no instance overlaps
+/// one before it.
+fn siblings_of(alloc: Global, spans: &[Span], count: usize) -> Result<Option<Siblings>, AllocError>
+    ensures { IfOk result (λ siblings. AreFirst siblings spans.now) }
+{
+    if is_in_order(spans) {
+        return Ok(None);
+    }
+    Ok(Some(Siblings::with_room(alloc, count)?))
 }
 
 /// What stands around the instances of the component of a row.
@@ -319,7 +438,7 @@ fn inside<'a>(
             .inside(alloc, component.kind, &part.shell().name)?,
         base: base(component.kind, around.base, span),
         bits: component.values.regwidth,
-        reaching: with_own(alloc, reaching, component.assignments.as_slice())?,
+        reaching: reaching_inside(alloc, reaching, component.assignments.as_slice())?,
     })
 }
 
@@ -342,7 +461,7 @@ fn add_below<'a>(
     reaching: &[Assignment<'a>],
     levels: usize,
     rows: &mut Vec<Row>,
-) -> Result<Option<Fault>, AllocError>
+) -> Result<Option<RowFault>, AllocError>
     requires { reaching.now ≡ behind part.now.at around.now.reaching }
     ensures { IfOk result (λ fault. record { fault = fault; rows = rows.new.items } ≡ told rows.old.items (finished_rows_below levels components.now around.now span part.now component.now)) }
 {
@@ -366,14 +485,14 @@ pub(crate) fn add_rows<'a>(
     parts: &[Part<'a>],
     levels: usize,
     rows: &mut Vec<Row>,
-) -> Result<Option<Fault>, AllocError>
+) -> Result<Option<RowFault>, AllocError>
     ensures { IfOk result (λ fault. record { fault = fault; rows = rows.new.items } ≡ told rows.old.items (finished_rows levels components.now around.now spans.now parts.now)) }
 {
     if levels == 0 {
         return Ok(None);
     }
     let onward = Onward::of(alloc, around.reaching.as_slice(), parts.len())?;
-    let mut siblings = Siblings::with_room(alloc, parts.len())?;
+    let mut kept = siblings_of(alloc, spans, parts.len())?;
     for (i, part) in parts.iter().enumerate() {
         let Some(span) = span_at(spans, i) else {
             return Ok(None);
@@ -381,13 +500,14 @@ pub(crate) fn add_rows<'a>(
         let Some(component) = part.component(components) else {
             return Ok(None);
         };
-        let reaching = behind_part(alloc, part, &onward)?;
-        let row = row(alloc, around, span, part, component, reaching.as_slice())?;
-        let fault = add_row(around, part, component, span, row, &mut siblings, rows)?;
+        let passed = behind_part(alloc, part, &onward)?;
+        let reaching = passed.as_slice();
+        let fault = add_row(
+            alloc, around, part, component, span, reaching, &mut kept, rows,
+        )?;
         if fault.is_some() {
             return Ok(fault);
         }
-        let reaching = reaching.as_slice();
         let fault = add_below(
             alloc,
             components,

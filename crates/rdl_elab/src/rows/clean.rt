@@ -163,7 +163,7 @@ fn is_clean_below<'a>(
 }
 
 /// Whether each of the spans begins where those before it end, or behind that.
-fn is_in_order(spans: &[Span]) -> bool
+pub(crate) fn is_in_order(spans: &[Span]) -> bool
     ensures { result ≡ in_order 0 spans.now }
 {
     let mut end = 0;
