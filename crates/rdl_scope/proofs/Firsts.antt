@@ -1,6 +1,7 @@
 -- Steps of the search for the first fault.
-use Rattle.std.proofs.Common.{◌≡◌, ℕ, zero, suc, ◌+◌, ◌-◌, ◌<◌, ◌≤◌, List, [], ◌∷◌, ◌++◌, length, drop, get_or, Some, None, Option, refl, ap, sym, ◌∙◌, arith, length-append}
-use Rattle.std.specs.Option.{option_or}
+use Rattle.std.proofs.Common.{◌≡◌, ℕ, zero, suc, ◌+◌, ◌-◌, ◌<◌, ◌≤◌, List, [], ◌∷◌, ◌++◌, length, drop, get_or, Bool, true, cond, true≢false, Some, None, Option, refl, ap, sym, ◌∙◌, arith, length-append}
+use Rattle.std.specs.Prelude.{not}
+use Rattle.std.specs.Option.{option_or, is_some}
 use Rattle.rdl_tree.specs.Items.{Items, no_items, plain, holder}
 use Rattle.rdl_tree.specs.View.{add, items_of, list_of}
 use Rattle.rdl_tree.specs.Component.{own_component}
@@ -14,6 +15,7 @@ use Rattle.rdl_tree.specs.declared.description.Item.TheVariants.{Define, Instanc
 use Rattle.rdl_tree.specs.declared.description.Of.TheVariants.{Named, Anonymous}
 use Rattle.rdl_tree.proofs.Rests.{rest-next, rest-none, rest-all}
 use Rattle.rdl_tree.proofs.Rounds.{items_of-list_of}
+use Rattle.rdl_scope.specs.Walk.{is_definition}
 use Rattle.rdl_scope.specs.ItemFaults.{last_of, item_fault, fault_at, first_fault, inside_fault}
 
 pub last_of-end : (path : List (List ℕ)) (a : List ℕ) → 0 < length path → last_of path ≡ Some (get_or path (length path - 1) a)
@@ -47,6 +49,21 @@ pub first-none : (d : Items) (around : Option Kind) (b : List ℕ) (body : Items
 first-none d around b body i xs h = ap (first_fault d around b body i) (rest-none i xs h)
 
 pub ruleset walks = (first-next, first-none, rest-all)
+
+-- an item without a component of its own has nothing inside, and is no definition
+pub none_there : {X : Type 0} (o : Option X) (b : Bool) → is_some o ≡ not b → b ≡ true → o ≡ None
+none_there None b e h = refl
+none_there (Some x) b e h = absurd (true≢false (e ∙ ap not h))
+
+pub nothing_inside : (d : Items) (a : List ℕ) (o : Option Component) → o ≡ None → None ≡ inside_fault d a o
+nothing_inside d a o e = sym (ap (inside_fault d a) e)
+
+pub undefined_here : (x : Item) (q : List ℕ) (i : ℕ) (o : Option ℕ) → own_component x ≡ None → o ≡ cond (is_definition q (Some x)) (Some i) o
+undefined_here (Define m c) q i o e = cc
+undefined_here (Instance s t) q i o e = refl
+undefined_here (Own p v) q i o e = refl
+undefined_here (Default p v) q i o e = refl
+undefined_here (Dynamic t p v) q i o e = refl
 
 -- a component is less deep than the body that holds it
 depth-add : (x : Item) (rest : Items) (c : Component) → own_component x ≡ Some c → depth c.body + 1 ≤ depth (add x rest)

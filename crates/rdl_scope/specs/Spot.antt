@@ -11,7 +11,7 @@ use denote.Ref.{Bor}
 
 -- the slot of a name of this front, of so many
 unfoldable pub slot_of : ℕ → ℕ → ℕ
-slot_of n count = (((((n * 11400714819323198485) % 2 ^ 64) / 2 ^ 32) * count) % 2 ^ 64) / 2 ^ 32
+slot_of n count = (((((n * 12540220313503443765) % 2 ^ 64) / 2 ^ 32) * count) % 2 ^ 64) / 2 ^ 32
 
 -- the slot of a name
 abbrev pub slot : List ℕ → List ℕ → ℕ

@@ -29,7 +29,7 @@ pub(crate) enum Spot {
 pub(crate) fn slot_of(front: u64, count: usize) -> usize
     ensures { result ≡ slot_of front count }
 {
-    let mixed = front.wrapping_mul(0x9E37_79B9_7F4A_7C15) >> 32;
+    let mixed = front.wrapping_mul(0xAE07_CFEF_2782_AB35) >> 32;
     (mixed.wrapping_mul(count as u64) >> 32) as usize
 }
 

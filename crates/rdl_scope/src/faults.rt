@@ -372,6 +372,25 @@ fn no_definitions<'a>(
     }
 }
 
+/// How many of the items are instances. Only how much room is awaited rests on it.
+fn instances(items: &[Item]) -> usize {
+    let mut count = 0usize;
+    for item in items {
+        if let Item::Instance(..) = item {
+            count = count.saturating_add(1);
+        }
+    }
+    count
+}
+
+/// What stands before the first item of the body.
+fn nothing_passed<'a>(alloc: Global, body: &Body) -> Result<Passed<'a>, AllocError>
+    ensures { IfOk result (λ passed. (d : Items) (b : List ℕ) (t : Items) → Knows d b t 0 passed) }
+{
+    let instances = instances(body.as_slice());
+    Passed::new(alloc, instances, body.len().saturating_sub(instances))
+}
+
 /// The first fault of the items of the body at this address. Where there is none, the levels stay.
 #[cycle(walk)]
 #[tactic(auto, using(crate::proofs::Firsts::walks))]
@@ -392,7 +411,7 @@ fn first_fault<'a>(
     ensures levels { IfOk result (λ fault. fault ≡ None → levels.new.items ≡ levels.old.items) }
 {
     let mut definitions = no_definitions(alloc, around, body)?;
-    let mut passed = Passed::new(alloc, body.len())?;
+    let mut passed = nothing_passed(alloc, body)?;
     'items: for (i, item) in body.as_slice().iter().enumerate() {
         let scope = levels.as_slice();
         let kind = item_fault(
@@ -411,6 +430,9 @@ fn first_fault<'a>(
             return Ok(Some(fault));
         }
         let component = own_component(item);
+        if component.is_none() {
+            continue;
+        }
         let inside = inside_fault(
             alloc,
             description,

@@ -22,15 +22,19 @@ impl<'a> Passed<'a> {
     ghost use Rattle.std.specs.Prelude.{ℕ, List, IfOk};
     ghost use Rattle.rdl_scope.specs.Scopes.{Knows};
 
-    /// Nothing was passed yet of a body with so many items.
-    pub(crate) fn new(alloc: Global, items: usize) -> Result<Passed<'a>, AllocError>
+    /// Nothing was passed yet of a body with so many instances and so many other items.
+    pub(crate) fn new(
+        alloc: Global,
+        instances: usize,
+        others: usize,
+    ) -> Result<Passed<'a>, AllocError>
         ensures { IfOk result (λ passed. (d : Items) (b : List ℕ) (body : Items) → Knows d b body 0 passed) }
     {
         Ok(Passed {
-            places: Places::with_room(alloc, items)?,
+            places: Places::with_room(alloc, instances)?,
             owns: Names::new(alloc),
             defaults: Names::new(alloc),
-            dynamics: Keys::with_room(alloc, items),
+            dynamics: Keys::with_room(alloc, others),
         })
     }
 }

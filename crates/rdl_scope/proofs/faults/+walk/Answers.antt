@@ -1,4 +1,4 @@
-use Rattle.std.proofs.Common.{arith, length, drop, [], ◌∷◌, ◌++◌, ◌+◌, ◌-◌, ◌*◌, ◌<◌, ◌≡◌, refl, ap, sym, ◌∙◌, length-append}
+use Rattle.std.proofs.Common.{arith, length, drop, None, [], ◌∷◌, ◌++◌, ◌+◌, ◌-◌, ◌*◌, ◌<◌, ◌≡◌, refl, ap, sym, ◌∙◌, length-append}
 use Rattle.std.proofs.lemmas.Bool.{eqb-true}
 use Rattle.std.specs.Option.{option_copied}
 use Rattle.rdl_tree.specs.View.{items_of}
@@ -8,7 +8,7 @@ use Rattle.rdl_scope.specs.Scopes.{number_under, level_found}
 use Rattle.rdl_scope.proofs.TargetKinds.{no-fault-at}
 use Rattle.rdl_tree.proofs.Rests.{rest-all}
 use Rattle.rdl_scope.specs.ItemFaults.{first_fault}
-use Rattle.rdl_scope.proofs.Firsts.{ends_same, first-none, first_met, none_met, inside_met, no_some, room_inside, empty_inside}
+use Rattle.rdl_scope.proofs.Firsts.{ends_same, first-none, first_met, none_met, inside_met, no_some, none_there, nothing_inside, undefined_here, room_inside, empty_inside}
 use Rattle.rdl_scope.proofs.Levelled.{scope-found, level-push, body-inside, item_got, definition-next}
 use Rattle.rdl_scope.proofs.faults.+walk.Goals as goal
 
@@ -87,6 +87,23 @@ first_fault-returns-in-Some-inside-clause-fault t c =
     inside_met c.args.description.now.items c.args.around c.args.at.now c.args.body.now c.items.i c.as_slice-item-items.result.now c.item-item.result c.in_ok-kind.kind c.fault_at.result c.in_ok-inside.inside (option_copied c.own_component-component.result) c.in-Some-inside.fault _
     c.as_slice-item-items.ensures c.items-test.true c.item-item.is c.in_ok-kind.ensures.fault c.fault_at.ensures (no_some c.fault_at.result (λ f e. c.in_default.not-Some f e))
     c.own_component-component.ensures c.in_ok-inside.ensures.fault c.in-Some-inside.is c.items.invariant.first
+
+pub first_fault-items-preserved-then-is_none :
+    goal.first_fault-items-preserved-then-is_none
+first_fault-items-preserved-then-is_none t c =
+    let clear = no_some c.fault_at.result (λ f e. c.in_default.not-Some f e) in
+    let absent = ap option_copied (none_there c.own_component-component.result c.is_none.result c.is_none.ensures c.if-is_none.true) in
+    let got = item_got c.args.body.now c.items.i c.as_slice-item-items.result.now c.item-item.result c.as_slice-item-items.ensures c.items-test.true c.item-item.is in
+    record {
+      first = none_met c.args.description.now.items c.args.around c.args.at.now c.args.body.now c.items.i c.as_slice-item-items.result.now c.item-item.result c.in_ok-kind.kind c.fault_at.result None (option_copied c.own_component-component.result) _
+          c.as_slice-item-items.ensures c.items-test.true c.item-item.is c.in_ok-kind.ensures.fault c.fault_at.ensures clear
+          c.own_component-component.ensures (nothing_inside c.args.description.now.items (c.args.at.now ++ c.items.i ∷ []) _ absent) refl c.items.invariant.first;
+      levels = c.items.invariant.levels;
+      definitions = λ q.
+          definition-next q c.items.i c.args.body.now c.item-item.result (number_under c.items.definitions q) (number_under c.items.definitions q) got
+          (c.items.invariant.definitions q) (undefined_here c.item-item.result q c.items.i _ (sym c.own_component-component.ensures ∙ absent));
+      passed = c.in_ok-kind.ensures.passed (no-fault-at (c.args.at.now ++ c.items.i ∷ []) c.in_ok-kind.kind c.fault_at.result c.fault_at.ensures clear);
+    }
 
 pub first_fault-items-preserved : goal.first_fault-items-preserved
 first_fault-items-preserved t c =
