@@ -1,4 +1,4 @@
-use Rattle.std.proofs.Common.{◌++◌, ap, sym, ◌∙◌, option_copied}
+use Rattle.std.proofs.Common.{ap, sym, ◌∙◌, option_copied}
 use Rattle.std.specs.Option.{option_or}
 use Rattle.rdl_elab.specs.Reaches.{behind, reached}
 use Rattle.rdl_elab.proofs.ReachedAt.{of-both}

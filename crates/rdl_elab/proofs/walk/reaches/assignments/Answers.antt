@@ -7,12 +7,14 @@ use Rattle.rdl_elab.proofs.walk.reaches.assignments.Goals.{in-Some+in_ok-push, i
 pub items-preserved : goal.items-preserved
 items-preserved c =
     let f = kept_target c.args.components.now c.args.parts.now.items in
-    let xs = c.as_slice-item-items.result.now in
-    (elim c.match-found.branch [
-      | in-Some+in_ok-push w ↦
-          goes-some f c.args.body.now xs c.items.i c.item-item.result c.as_slice-item-items.ensures c.items-test.true c.item-item.is c.in_ok-found.found c.in_ok-found.ensures.assignment c.items.list.items c.items.invariant.0
-          w.in-Some.assignment c.match-found.list.items w.in-Some.is (ap (λ v. v.items) w.list-is ∙ w.in_ok-push.ensures.items)
-      | in_default w ↦
-          goes-none f c.args.body.now xs c.items.i c.item-item.result c.as_slice-item-items.ensures c.items-test.true c.item-item.is c.in_ok-found.found c.in_ok-found.ensures.assignment c.items.list.items c.items.invariant.0
-          c.match-found.list.items w.in_default.is (ap (λ v. v.items) w.list-is)
-    ], c.in_ok-found.ensures.first)
+    let xs = c.as_slice-item-items.result.now in (
+      elim c.match-found.branch [
+        | in-Some+in_ok-push w ↦
+            goes-some f c.args.body.now xs c.items.i c.item-item.result c.as_slice-item-items.ensures c.items-test.true c.item-item.is c.in_ok-found.found c.in_ok-found.ensures.assignment c.items.list.items c.items.invariant.0
+            w.in-Some.assignment c.match-found.list.items w.in-Some.is (ap (λ v. v.items) w.list-is ∙ w.in_ok-push.ensures.items)
+        | in_default w ↦
+            goes-none f c.args.body.now xs c.items.i c.item-item.result c.as_slice-item-items.ensures c.items-test.true c.item-item.is c.in_ok-found.found c.in_ok-found.ensures.assignment c.items.list.items c.items.invariant.0
+            c.match-found.list.items w.in_default.is (ap (λ v. v.items) w.list-is)
+      ],
+      c.in_ok-found.ensures.first,
+    )
