@@ -23,7 +23,7 @@ use Rattle.rdl_scope.proofs.Levelled.{item-deeper}
 use Rattle.rdl_scope.proofs.Searches.{last-suc, type_of-reference}
 use Rattle.rdl_rewrite.specs.Addresses.{same, leads_to, passes_by}
 use Rattle.rdl_rewrite.specs.Passed.{may_hold, may_pass, passes_from, if_passed}
-use Rattle.rdl_rewrite.proofs.Leading.{holder-inside}
+use Rattle.rdl_rewrite.proofs.Leading.{holder-inside, number-inside}
 
 -- an address where a test holds is none where it fails
 same-apart : (p : List ℕ → Bool) (at way : List ℕ) → p at ≡ true → p way ≡ false → same at way ≡ false
@@ -173,7 +173,7 @@ unpassed-next d way b n name a c g holds stands =
     ap (λ x. may_hold (item_at x d) name) (sym ((bytes_eq-Decides c (holder_of way)).0 stands)) ∙ holder-may_hold d a c name (item_at a d) refl (instance-in d b n name a g) holds
 
 -- names that may not pass it don't
-unpassed-names : (d : Items) (way b : List ℕ) (n : ℕ) (inside : Bool) (names : List (List ℕ)) → (same b (holder_of way) ≡ true → inside ≡ true) → may_pass (item_at way d) (item_at (holder_of way) d) inside names ≡ false
+pub unpassed-names : (d : Items) (way b : List ℕ) (n : ℕ) (inside : Bool) (names : List (List ℕ)) → (same b (holder_of way) ≡ true → inside ≡ true) → may_pass (item_at way d) (item_at (holder_of way) d) inside names ≡ false
     → passes_by way (passes d b n names) ≡ false
 unpassed-names d way b n inside [] stands e = refl
 unpassed-names d way b n inside (name ∷ []) stands e = by_case (instance_in d b n name) refl
@@ -234,6 +234,11 @@ passes_inside d a c (next ∷ names) h e = ap (λ o. option_map (λ more. a ∷ 
 pub through-passes : (d : Items) (at : List ℕ) (x : Item) (t : List (List ℕ)) (p : List ℕ) (v : Value) → item_at at d ≡ Some x → x ≡ Dynamic t p v → through d at ≡ passes d (holder_of at) (address.number_of at) t
 through-passes d at x t p v e is =
     ap (option_and_then (through_of d at)) (e ∙ ap Some is) ∙ ap (λ b. passes d b (number_of at) t) (body_of-take at) ∙ ap (λ n. passes d (holder_of at) n t) (number_of-last at)
+
+-- the same by the body and the number
+pub through-inside : (d : Items) (b : List ℕ) (n : ℕ) (x : Item) (t : List (List ℕ)) (p : List ℕ) (v : Value) → item_at (b ++ n ∷ []) d ≡ Some x → x ≡ Dynamic t p v → through d (b ++ n ∷ []) ≡ passes d b n t
+through-inside d b n x t p v e is =
+    through-passes d (b ++ n ∷ []) x t p v e is ∙ ap (λ c. passes d c (address.number_of (b ++ n ∷ [])) t) (holder-inside b n) ∙ ap (λ k. passes d b k t) (number-inside b n)
 
 -- ---- A path that passes the item on the way.
 

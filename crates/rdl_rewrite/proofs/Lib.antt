@@ -1,5 +1,6 @@
 pub mod Apart
 pub mod Assignments
+pub mod Before
 pub mod Deep
 pub mod Defined
 pub mod Examples

@@ -1,13 +1,13 @@
 -- The instances that a target passes, from its first on, and whether it may pass the item on the way, as the names say.
 -- own: no part of what a target passes; `passes` (Target of rdl_scope) says that by a search through whole bodies.
-use Rattle.std.specs.Prelude.{ℕ, Bool, true, false, ◌&&◌, ◌||◌, if◌then◌else◌, bytes_eq, List, [], ◌∷◌, Option, Some, None, option_map, option_and_then}
+use Rattle.std.specs.Prelude.{◌≡◌, ℕ, Bool, true, false, ◌&&◌, ◌||◌, if◌then◌else◌, bytes_eq, List, [], ◌∷◌, Option, Some, None, option_map, option_and_then}
 use Rattle.rdl_tree.specs.Items.{Items}
 use Rattle.rdl_tree.specs.declared.description.Item.{Item}
 use Rattle.rdl_tree.specs.declared.description.Item.TheVariants.{Define, Instance, Own, Default, Dynamic}
 use Rattle.rdl_scope.specs.Types.{component_of, items_in}
 use Rattle.rdl_scope.specs.Target.{passes}
 use Rattle.rdl_scope.specs.Walk.{is_instance}
-use Rattle.rdl_rewrite.specs.Addresses.{passes_by}
+use Rattle.rdl_rewrite.specs.Addresses.{same, passes_by}
 
 -- an instance of this name may have the component that the item holds
 abbrev pub may_hold : Option Item → List ℕ → Bool
@@ -31,3 +31,12 @@ passes_from d a (next ∷ names) = option_map (λ more. a ∷ more) (option_and_
 -- a path, if it passes the item on the way
 abbrev pub if_passed : (way : List ℕ) → Option (List (List ℕ)) → Option (List (List ℕ))
 if_passed way path = if passes_by way path then path else None
+
+-- for the n-th item of the body at b, the first of two names stands for another instance than the item on the way, and the
+-- second for that
+pub record IsBefore (d : Items) (way b : List ℕ) (n : ℕ) (first : List ℕ) (names : List (List ℕ)) : Type 0 where
+  pub second : List ℕ
+  pub instance : List ℕ
+  pub two : names ≡ first ∷ second ∷ []
+  pub apart : same instance way ≡ false
+  pub path : passes d b n names ≡ Some (instance ∷ way ∷ [])

@@ -1,5 +1,5 @@
 //! What becomes of an item where an edit reaches every body.
-ghost use Rattle.std.specs.Prelude.{◌≡◌, ◌++◌, [], reverse, IfOk};
+ghost use Rattle.std.specs.Prelude.{◌≡◌, ◌<◌, ◌++◌, ◌∷◌, [], length, reverse, IfOk};
 ghost use Rattle.rdl_rewrite.specs.Fates.{is_dropped, item_patches};
 
 use rdl_tree::address::Address;
@@ -30,14 +30,20 @@ impl Fate {
         }
     }
 
-    /// The item's own patch behind the others, if there is one.
-    pub(crate) fn push_to(self, at: &Address, patches: &mut Vec<Patch>) -> Result<(), AllocError>
-        ensures { IfOk result (λ _. reverse patches.new.items ≡ item_patches at.now self [] ++ reverse patches.old.items) }
+    /// Puts the own patch of the item of this number in the body at the address behind the others, if there is one.
+    pub(crate) fn push_to(
+        self,
+        at: &Address,
+        number: usize,
+        patches: &mut Vec<Patch>,
+    ) -> Result<(), AllocError>
+        requires { length at.now < 17 }
+        ensures { IfOk result (λ _. reverse patches.new.items ≡ item_patches (at.now ++ number ∷ []) self [] ++ reverse patches.old.items) }
     {
         match self {
             Fate::Kept => Ok(()),
-            Fate::Dropped => Ok(patches.push(Patch::Delete(at.copy()))?),
-            Fate::Given(part) => Ok(patches.push(Patch::Exchange(at.copy(), part))?),
+            Fate::Dropped => Ok(patches.push(Patch::Delete(at.inside(number)))?),
+            Fate::Given(part) => Ok(patches.push(Patch::Exchange(at.inside(number), part))?),
         }
     }
 }

@@ -1,5 +1,5 @@
 //! What leads to an item: references and targets.
-ghost use Rattle.std.specs.Prelude.{◌≡◌, ◌<◌, ◌++◌, ◌∷◌, ◌&&◌, [], length, option_copied};
+ghost use Rattle.std.specs.Prelude.{◌≡◌, ◌++◌, ◌∷◌, ◌&&◌, [], option_copied};
 ghost use Rattle.std.specs.List.{list_any};
 ghost use Rattle.rdl_rewrite.specs.Addresses.{same, leads_to};
 ghost use Rattle.rdl_rewrite.specs.Led.{refers_to, led_behind};
@@ -16,6 +16,17 @@ pub(crate) fn is_at(way: &Address, at: Option<&Address>) -> bool
     match at {
         Some(at) => at == way,
         None => false,
+    }
+}
+
+/// Whether the way leads to the item of this number in the body at the address.
+#[tactic(auto, using(crate::proofs::Before::ending))]
+pub(crate) fn ends_at(way: &Address, at: &Address, number: usize) -> bool
+    ensures { result ≡ same (at.now ++ number ∷ []) way.now }
+{
+    match way.as_slice() {
+        [body @ .., last] => *last == number && body == at.as_slice(),
+        [] => false,
     }
 }
 
@@ -46,13 +57,12 @@ pub(crate) fn led_behind(
     number: usize,
     found: &Item,
 ) -> bool
-    requires { length at.now < 17 }
     ensures { result ≡ led_behind way.now (option_copied taken.entry) (at.now ++ number ∷ []) found.now led }
 {
     match found {
         Item::Define(name, _) => {
             if defines(taken, name) {
-                &at.inside(number) == way
+                ends_at(way, at, number)
             } else {
                 led
             }
@@ -71,13 +81,12 @@ pub(crate) fn is_inside(
     number: usize,
     found: &Item,
 ) -> bool
-    requires { length at.now < 17 }
     ensures { result ≡ is_inside place.now (option_copied holder.entry) (at.now ++ number ∷ []) led found.now }
 {
     match found {
         Item::Instance(_, of) => match of {
             Of::Named(name) => led && defines(holder, name),
-            Of::Anonymous(_) => &at.inside(number) == place,
+            Of::Anonymous(_) => ends_at(place, at, number),
         },
         _ => false,
     }

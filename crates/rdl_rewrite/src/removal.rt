@@ -4,7 +4,7 @@ ghost use Rattle.std.specs.List.{list_any};
 ghost use Rattle.rdl_tree.specs.ItemAt.{item_at};
 ghost use Rattle.rdl_tree.specs.Items.{no_items};
 ghost use Rattle.rdl_tree.specs.View.{add};
-ghost use Rattle.rdl_tree.specs.Address.{body_at, holder_of, number_of};
+ghost use Rattle.rdl_tree.specs.Address.{body_at, holder_of};
 ghost use Rattle.rdl_tree.specs.Depth.{depth};
 ghost use Rattle.rdl_scope.specs.Types.{type_of};
 ghost use Rattle.rdl_rewrite.specs.Known.{AreLeading};
@@ -21,8 +21,8 @@ use crate::edit::PatchRefusal;
 use crate::fate::Fate;
 use crate::firsts::Firsts;
 use crate::known::Known;
-use crate::leads::{leads_to, led_behind};
-use crate::passed::passed;
+use crate::leads::{ends_at, leads_to, led_behind};
+use crate::passed::passes_taken;
 use crate::sweep::{Sweep, is_too_deep};
 use rdl_tree::address::Address;
 use rdl_tree::description::{Body, Description, Item};
@@ -80,47 +80,50 @@ fn is_in_use(sweep: &Sweep) -> bool
     }
 }
 
-/// Whether this item, at its address, is the taken one, or an assignment behind these instances whose target passes that.
+/// Whether this item, of this number in the body at the address, is the taken one, or an assignment behind these instances
+/// whose target passes that.
 fn goes<'a>(
     alloc: Global,
     sweep: &Sweep<'a>,
     at: &Address,
+    number: usize,
     found: &'a Item,
     firsts: &Firsts<'a>,
 ) -> Result<bool, AllocError>
     requires nesting { depth sweep.now.whole.now.items ≤ 16 }
     requires known { Knows sweep.now }
-    requires here { item_at at.now sweep.now.whole.now.items ≡ Some found.now }
-    requires firsts { is_dynamic found.now ≡ true → AreFirsts sweep.now.whole.now.items (holder_of sweep.now.way.now) (holder_of at.now) (number_of at.now) firsts.now }
-    ensures { IfOk result (λ answer. answer ≡ goes sweep.now.whole.now.items sweep.now.way.now at.now) }
+    requires room { length at.now < 17 }
+    requires here { item_at (at.now ++ number ∷ []) sweep.now.whole.now.items ≡ Some found.now }
+    requires firsts { is_dynamic found.now ≡ true → AreFirsts sweep.now.whole.now.items (holder_of sweep.now.way.now) at.now number firsts.now }
+    ensures { IfOk result (λ answer. answer ≡ goes sweep.now.whole.now.items sweep.now.way.now (at.now ++ number ∷ [])) }
 {
-    if at == sweep.way {
+    if ends_at(sweep.way, at, number) {
         return Ok(true);
     }
     match found {
-        Item::Dynamic(target, ..) => {
-            let path = passed(alloc, sweep, at, target.names(), firsts)?;
-            Ok(path.is_some())
-        }
+        Item::Dynamic(target, ..) => passes_taken(alloc, sweep, at, number, target.names(), firsts),
         _ => Ok(false),
     }
 }
 
-/// What becomes of this item, at its address behind these instances, where the one on the way is taken out.
+/// What becomes of this item, of this number in the body at the address, behind these instances, where the one on the way
+/// is taken out.
 pub(crate) fn fate<'a>(
     alloc: Global,
     sweep: &Sweep<'a>,
     at: &Address,
+    number: usize,
     found: &'a Item,
     firsts: &Firsts<'a>,
 ) -> Result<Fate, AllocError>
     requires nesting { depth sweep.now.whole.now.items ≤ 16 }
     requires known { Knows sweep.now }
-    requires here { item_at at.now sweep.now.whole.now.items ≡ Some found.now }
-    requires firsts { is_dynamic found.now ≡ true → AreFirsts sweep.now.whole.now.items (holder_of sweep.now.way.now) (holder_of at.now) (number_of at.now) firsts.now }
-    ensures { IfOk result (λ fate. fate ≡ fate_in_removal sweep.now.whole.now.items sweep.now.way.now at.now) }
+    requires room { length at.now < 17 }
+    requires here { item_at (at.now ++ number ∷ []) sweep.now.whole.now.items ≡ Some found.now }
+    requires firsts { is_dynamic found.now ≡ true → AreFirsts sweep.now.whole.now.items (holder_of sweep.now.way.now) at.now number firsts.now }
+    ensures { IfOk result (λ fate. fate ≡ fate_in_removal sweep.now.whole.now.items sweep.now.way.now (at.now ++ number ∷ [])) }
 {
-    if goes(alloc, sweep, at, found, firsts)? {
+    if goes(alloc, sweep, at, number, found, firsts)? {
         Ok(Fate::Dropped)
     } else {
         Ok(Fate::Kept)

@@ -1,7 +1,7 @@
 //! What follows the name of an item.
-ghost use Rattle.std.specs.Prelude.{◌≡◌, ◌≤◌, ◌<◌, [], length, true, is_ok, Some, IfOk, IfErr, IsErrOf, option_copied, if◌then◌else◌};
+ghost use Rattle.std.specs.Prelude.{◌≡◌, ◌≤◌, ◌<◌, ◌++◌, ◌∷◌, [], length, true, is_ok, Some, IfOk, IfErr, IsErrOf, option_copied, if◌then◌else◌};
 ghost use Rattle.rdl_tree.specs.ItemAt.{item_at};
-ghost use Rattle.rdl_tree.specs.Address.{holder_of, number_of};
+ghost use Rattle.rdl_tree.specs.Address.{holder_of};
 ghost use Rattle.rdl_tree.specs.Depth.{depth};
 ghost use Rattle.rdl_scope.specs.Target.{passes};
 ghost use Rattle.rdl_rewrite.specs.Known.{AreLeading};
@@ -19,9 +19,9 @@ use crate::edit::PatchRefusal;
 use crate::fate::Fate;
 use crate::firsts::Firsts;
 use crate::known::Known;
-use crate::leads::{is_at, leads_to};
+use crate::leads::{ends_at, is_at, leads_to};
 use crate::names::{is_defined, is_instantiated};
-use crate::passed::passed;
+use crate::passed::{before_taken, passed};
 use crate::sweep::{Sweep, is_too_deep};
 use rdl_parse::class::Class;
 use rdl_text::name::Name;
@@ -89,24 +89,39 @@ fn shell_fate(alloc: Global, name: &Name, shell: &Shell) -> Result<Fate, AllocEr
     Ok(Fate::Given(Part::OfShell(new)))
 }
 
-/// The target of the assignment at this address, behind these instances, gets the name where it passes the item on the
-/// way.
+/// The names of a target of two, the second of which stands for the item on the way.
+fn with_second(alloc: Global, name: &Name, first: &Name) -> Result<Vec<Name>, AllocError>
+    ensures { IfOk result (λ new. new.items ≡ first.now ∷ name.now ∷ []) }
+{
+    let mut new = Vec::with_capacity(alloc, 2)?;
+    new.push(first.try_copy(alloc)?)?;
+    new.push(name.try_copy(alloc)?)?;
+    Ok(new)
+}
+
+/// The target of the assignment of this number in the body at the address, behind these instances, gets the name where it
+/// passes the item on the way.
+#[tactic(auto, using(crate::proofs::Before::before_renamed))]
 fn target_fate<'a>(
     alloc: Global,
     sweep: &Sweep<'a>,
     name: &Name,
     at: &Address,
+    number: usize,
     target: &'a Target,
     firsts: &Firsts<'a>,
 ) -> Result<Fate, AllocError>
     requires nesting { depth sweep.now.whole.now.items ≤ 16 }
     requires known { Knows sweep.now }
-    requires stands { 0 < length at.now }
-    requires room { length at.now ≤ 17 }
-    requires firsts { AreFirsts sweep.now.whole.now.items (holder_of sweep.now.way.now) (holder_of at.now) (number_of at.now) firsts.now }
-    ensures { IfOk result (λ fate. fate ≡ fate_of_target sweep.now.way.now name.now target.now (if_passed sweep.now.way.now (passes sweep.now.whole.now.items (holder_of at.now) (number_of at.now) target.now))) }
+    requires room { length at.now < 17 }
+    requires firsts { AreFirsts sweep.now.whole.now.items (holder_of sweep.now.way.now) at.now number firsts.now }
+    ensures { IfOk result (λ fate. fate ≡ fate_of_target sweep.now.way.now name.now target.now (if_passed sweep.now.way.now (passes sweep.now.whole.now.items at.now number target.now))) }
 {
-    match passed(alloc, sweep, at, target.names(), firsts)? {
+    if let Some(first) = before_taken(sweep, at, target.names(), firsts) {
+        let names = with_second(alloc, name, first)?;
+        return Ok(Fate::Given(Part::OfTarget(Target::from_vec(names))));
+    }
+    match passed(alloc, sweep, at, number, target.names(), firsts)? {
         Some(path) => {
             let names = renamed_names(alloc, sweep.way, name, path.as_slice(), target.names())?;
             Ok(Fate::Given(Part::OfTarget(Target::from_vec(names))))
@@ -115,28 +130,30 @@ fn target_fate<'a>(
     }
 }
 
-/// What becomes of this item, at its address behind these instances, where the one on the way gets the name. `led` says
-/// whether a reference to the old name leads to that here.
+/// What becomes of this item, of this number in the body at the address, behind these instances, where the one on the way
+/// gets the name. `led` says whether a reference to the old name leads to that here.
 pub(crate) fn fate<'a>(
     alloc: Global,
     sweep: &Sweep<'a>,
     name: &Name,
     at: &Address,
+    number: usize,
     found: &'a Item,
     led: bool,
     firsts: &Firsts<'a>,
 ) -> Result<Fate, AllocError>
     requires nesting { depth sweep.now.whole.now.items ≤ 16 }
     requires known { Knows sweep.now }
-    requires here { item_at at.now sweep.now.whole.now.items ≡ Some found.now }
-    requires led { IsLed sweep.now.whole.now.items sweep.now.way.now at.now led }
-    requires firsts { is_dynamic found.now ≡ true → AreFirsts sweep.now.whole.now.items (holder_of sweep.now.way.now) (holder_of at.now) (number_of at.now) firsts.now }
-    ensures { IfOk result (λ fate. fate ≡ fate_in_renaming sweep.now.whole.now.items sweep.now.way.now name.now at.now found.now) }
+    requires room { length at.now < 17 }
+    requires here { item_at (at.now ++ number ∷ []) sweep.now.whole.now.items ≡ Some found.now }
+    requires led { IsLed sweep.now.whole.now.items sweep.now.way.now (at.now ++ number ∷ []) led }
+    requires firsts { is_dynamic found.now ≡ true → AreFirsts sweep.now.whole.now.items (holder_of sweep.now.way.now) at.now number firsts.now }
+    ensures { IfOk result (λ fate. fate ≡ fate_in_renaming sweep.now.whole.now.items sweep.now.way.now name.now (at.now ++ number ∷ []) found.now) }
 {
     match found {
-        Item::Define(..) => definition_fate(alloc, at == sweep.way, name),
+        Item::Define(..) => definition_fate(alloc, ends_at(sweep.way, at, number), name),
         Item::Instance(shell, of) => {
-            if at == sweep.way {
+            if ends_at(sweep.way, at, number) {
                 return shell_fate(alloc, name, shell);
             }
             match of {
@@ -144,7 +161,7 @@ pub(crate) fn fate<'a>(
                 Of::Anonymous(_) => Ok(Fate::Kept),
             }
         }
-        Item::Dynamic(target, ..) => target_fate(alloc, sweep, name, at, target, firsts),
+        Item::Dynamic(target, ..) => target_fate(alloc, sweep, name, at, number, target, firsts),
         Item::Own(..) => Ok(Fate::Kept),
         Item::Default(..) => Ok(Fate::Kept),
     }

@@ -1,8 +1,8 @@
 //! The patches of an edit that reaches every body.
-ghost use Rattle.std.specs.Prelude.{◌≡◌, ◌≤◌, ◌<◌, ◌++◌, ◌∷◌, [], ℕ, List, true, false, length, nat_lt, reverse, Some, IfOk, OnOk, option_copied, slice_get};
+ghost use Rattle.std.specs.Prelude.{◌≡◌, ◌≤◌, ◌<◌, ◌++◌, ◌∷◌, [], ℕ, List, take, true, false, length, nat_lt, reverse, Some, None, IfOk, OnOk, option_copied, slice_get};
 ghost use Rattle.std.specs.List.{list_any};
 ghost use Rattle.rdl_tree.specs.ItemAt.{item_at};
-ghost use Rattle.rdl_tree.specs.Items.{no_items};
+ghost use Rattle.rdl_tree.specs.Items.{Items, no_items};
 ghost use Rattle.rdl_tree.specs.View.{add, list_of};
 ghost use Rattle.rdl_tree.specs.Address.{body_at, holder_of, number_of};
 ghost use Rattle.rdl_tree.specs.Depth.{depth};
@@ -10,7 +10,7 @@ ghost use Rattle.rdl_scope.specs.Types.{items_in};
 ghost use Rattle.rdl_scope.specs.Walk.{is_definition};
 ghost use Rattle.rdl_rewrite.specs.Addresses.{same, addresses};
 ghost use Rattle.rdl_rewrite.specs.Assigning.{assigns_at};
-ghost use Rattle.rdl_rewrite.specs.Firsts.{AreFirsts, NotesItem, is_inside, is_dynamic};
+ghost use Rattle.rdl_rewrite.specs.Firsts.{AreFirsts, NotesItem, first_under, is_inside, is_dynamic};
 ghost use Rattle.rdl_rewrite.specs.Known.{AreLeading};
 ghost use Rattle.rdl_rewrite.specs.Led.{IsLed};
 ghost use Rattle.rdl_rewrite.specs.Sweep.{Knows};
@@ -19,6 +19,7 @@ ghost use Rattle.rdl_rewrite.specs.Fates.{fate, fate_patches};
 use crate::fate::Fate;
 use crate::firsts::Firsts;
 use crate::leads::{is_inside, leads_to, led_behind};
+use crate::passed::may_pass_anywhere;
 use crate::spared::{assigns, is_no_type, may_lead_into};
 use crate::{removal, renaming};
 use rdl_text::name::Name;
@@ -41,6 +42,8 @@ pub(crate) struct Sweep<'a> {
     pub holder: Option<&'a Item>,
     /// How many items that has.
     pub siblings: usize,
+    /// Those of them that stand before it.
+    pub before: &'a [Item],
     /// None where the item is taken out.
     pub name: Option<&'a Name>,
     /// For items of the root, whether there may be patches for them, or for what is inside.
@@ -54,6 +57,29 @@ fn has_dynamic(body: &Body) -> bool
     body.as_slice()
         .iter()
         .any(|item| matches!(item, Item::Dynamic(..)))
+}
+
+/// How many of the items are instances. Only how much room is awaited rests on it.
+fn instances(items: &[Item]) -> usize {
+    let mut count = 0usize;
+    for item in items {
+        if let Item::Instance(..) = item {
+            count = count.saturating_add(1);
+        }
+    }
+    count
+}
+
+/// No instances before the first item of the body. They are awaited only where one of its items assigns anything to what is
+/// inside them.
+fn no_firsts<'a>(alloc: Global, assigns: bool, body: &Body) -> Result<Firsts<'a>, AllocError>
+    ensures { IfOk result (λ firsts. (q : List ℕ) → first_under firsts q ≡ None) }
+{
+    if assigns {
+        Firsts::with_room(alloc, instances(body.as_slice()))
+    } else {
+        Firsts::with_room(alloc, 0)
+    }
 }
 
 /// The address of the body in which the item on the way stands.
@@ -74,6 +100,27 @@ fn items_in(whole: &Description, place: &Address) -> usize
     match whole.body(place) {
         Some(body) => body.len(),
         None => 0,
+    }
+}
+
+/// Those of the items that stand before the number of the way.
+#[tactic(auto, using(std::proofs::lemmas::List::take_min))]
+fn before<'a>(way: &Address, items: &'a [Item]) -> &'a [Item]
+    ensures { result.now ≡ take (number_of way.now) items.now }
+{
+    if way.is_empty() {
+        return &[];
+    }
+    &items[..way.number().min(items.len())]
+}
+
+/// The items before the one on the way in the body at this address.
+fn items_before<'a>(whole: &'a Description, way: &Address, place: &Address) -> &'a [Item]
+    ensures { (body : Items) → body_at place.now whole.now.items ≡ Some body → result.now ≡ take (number_of way.now) (list_of body) }
+{
+    match whole.body(place) {
+        Some(body) => before(way, body.as_slice()),
+        None => &[],
     }
 }
 
@@ -102,6 +149,7 @@ impl<'a> Sweep<'a> {
         let place = place_of(way);
         let holder = item_at(&whole.items, place.as_slice());
         let siblings = items_in(whole, &place);
+        let before = items_before(whole, way, &place);
         Sweep {
             whole,
             way,
@@ -109,31 +157,34 @@ impl<'a> Sweep<'a> {
             place,
             holder,
             siblings,
+            before,
             name,
             leading,
         }
     }
 
-    /// What becomes of this item, at its address behind these instances. `led` says whether a reference to the taken item's
-    /// name leads to it here.
+    /// What becomes of this item, of this number in the body at the address, behind these instances. `led` says whether a
+    /// reference to the taken item's name leads to it here.
     fn fate(
         &self,
         alloc: Global,
         at: &Address,
+        number: usize,
         found: &'a Item,
         led: bool,
         firsts: &Firsts<'a>,
     ) -> Result<Fate, AllocError>
         requires nesting { depth self.now.whole.now.items ≤ 16 }
         requires known { Knows self.now }
-        requires here { item_at at.now self.now.whole.now.items ≡ Some found.now }
-        requires led { IsLed self.now.whole.now.items self.now.way.now at.now led }
-        requires firsts { is_dynamic found.now ≡ true → AreFirsts self.now.whole.now.items (holder_of self.now.way.now) (holder_of at.now) (number_of at.now) firsts.now }
-        ensures { IfOk result (λ new. new ≡ fate self.now.whole.now.items self.now.way.now (option_copied self.now.name) at.now found.now) }
+        requires room { length at.now < 17 }
+        requires here { item_at (at.now ++ number ∷ []) self.now.whole.now.items ≡ Some found.now }
+        requires led { IsLed self.now.whole.now.items self.now.way.now (at.now ++ number ∷ []) led }
+        requires firsts { is_dynamic found.now ≡ true → AreFirsts self.now.whole.now.items (holder_of self.now.way.now) at.now number firsts.now }
+        ensures { IfOk result (λ new. new ≡ fate self.now.whole.now.items self.now.way.now (option_copied self.now.name) (at.now ++ number ∷ []) found.now) }
     {
         match self.name {
-            Some(name) => renaming::fate(alloc, self, name, at, found, led, firsts),
-            None => removal::fate(alloc, self, at, found, firsts),
+            Some(name) => renaming::fate(alloc, self, name, at, number, found, led, firsts),
+            None => removal::fate(alloc, self, at, number, found, firsts),
         }
     }
 
@@ -148,7 +199,6 @@ impl<'a> Sweep<'a> {
         inside_led: bool,
         firsts: &mut Firsts<'a>,
     ) -> Result<(), AllocError>
-        requires { length at.now < 17 }
         ensures { OnOk result (assigns ≡ true → NotesItem firsts.old firsts.new found.now number (is_inside self.now.place (option_copied self.now.holder) (at.now ++ number ∷ []) inside_led found.now)) }
     {
         if !assigns {
@@ -212,7 +262,9 @@ impl<'a> Sweep<'a> {
                 Of::Anonymous(component) => self.spares(at, number, &component.body),
             },
             Item::Define(_, component) => self.spares(at, number, &component.body),
-            Item::Dynamic(..) => false,
+            Item::Dynamic(target, ..) => {
+                self.is_apart(number) && !may_pass_anywhere(self, target.names())
+            }
         }
     }
 
@@ -237,7 +289,7 @@ impl<'a> Sweep<'a> {
         ensures { IfOk result (λ _. reverse patches.new.items ≡ fate_patches (fate self.now.whole.now.items self.now.way.now (option_copied self.now.name)) at.now 0 body.now ++ reverse patches.old.items) }
     {
         let assigns = has_dynamic(body);
-        let mut firsts = Firsts::with_room(alloc, if assigns { body.len() } else { 0 })?;
+        let mut firsts = no_firsts(alloc, assigns, body)?;
         'items: for (number, found) in body.as_slice().iter().enumerate() {
             self.push_item(alloc, at, number, found, led, inside_led, &firsts, patches)?;
             self.note(assigns, at, number, found, inside_led, &mut firsts)?;
@@ -274,15 +326,16 @@ impl<'a> Sweep<'a> {
         if self.stays(at, number, found, led) {
             return Ok(());
         }
-        let address = at.inside(number);
-        let fate = self.fate(alloc, &address, found, led, firsts)?;
+        let fate = self.fate(alloc, at, number, found, led, firsts)?;
         let goes = fate.is_dropped();
-        fate.push_to(&address, patches)?;
+        fate.push_to(at, number, patches)?;
         if goes {
             return Ok(());
         }
         match found.own_body() {
-            Some(body) => self.push_body(alloc, &address, body, led, inside_led, patches),
+            Some(body) => {
+                self.push_body(alloc, &at.inside(number), body, led, inside_led, patches)
+            }
             None => Ok(()),
         }
     }

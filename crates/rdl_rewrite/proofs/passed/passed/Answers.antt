@@ -1,8 +1,7 @@
-use Rattle.std.proofs.Common.{◌≡◌, ◌∷◌, ◌++◌, [], Some, false, length, ap, sym, ◌∙◌, arith, length-take, option_copied}
-use Rattle.std.proofs.lemmas.Bool.{not-true}
+use Rattle.std.proofs.Common.{◌≡◌, ◌∷◌, ◌++◌, [], Some, false, ap, sym, ◌∙◌, option_copied}
 use Rattle.std.specs.Prelude.{option_and_then}
 use Rattle.rdl_tree.specs.ItemAt.{item_at}
-use Rattle.rdl_tree.specs.Address.{holder_of, number_of}
+use Rattle.rdl_tree.specs.Address.{holder_of}
 use Rattle.rdl_scope.specs.Target.{passes}
 use Rattle.rdl_rewrite.specs.Addresses.{same, passes_by}
 use Rattle.rdl_rewrite.specs.Firsts.{first_under}
@@ -11,25 +10,21 @@ use Rattle.rdl_rewrite.proofs.FirstInstances.{first_some}
 use Rattle.rdl_rewrite.proofs.Found.{unpassed_from, passes-first, none_passed}
 use Rattle.rdl_rewrite.proofs.passed.passed.Goals as goal
 
-pub inside-instance-requires : goal.inside-instance-requires
-inside-instance-requires c = omega (arith, ap length c.holder.ensures, length-take {A = Prim.Native.Nat.ℕ}, c.requires.room, c.requires.stands)
-
 pub returns-then-not-may_pass : goal.returns-then-not-may_pass
 returns-then-not-may_pass c =
     let sweep = c.args.sweep.now in
     let d = sweep.whole.now.items in
     let way = sweep.way.now in
     let place = holder_of way in
-    let b = holder_of c.args.at.now in
-    let n = number_of c.args.at.now in
+    let b = c.args.at.now in
+    let n = c.args.number in
     let name = c.in-Some.name.now in
     let rest = c.in-Some.rest.now in
-    let k = c.in-Some-get.number in
+    let k = c.in-Some-get.first in
     let inside = c.in-Some-get.is_inside in
     let got : first_under c.args.firsts.now name ≡ Some (k, inside) = ap (first_under c.args.firsts.now) (sym c.as_str.ensures) ∙ sym c.get.ensures ∙ c.in-Some-get.is in
     let first = first_some d place b n c.args.firsts.now name k inside c.requires.firsts got in
-    let here = c.inside-instance.ensures ∙ ap (λ p. p ++ k ∷ []) c.holder.ensures in
-    let apart : same (b ++ k ∷ []) way ≡ false = ap (λ a. same a way) (sym here) ∙ not-true (same c.inside-instance.result way) (sym c.ne.ensures ∙ c.if-ne.true) in
+    let apart : same (b ++ k ∷ []) way ≡ false = sym c.ends_at.ensures ∙ c.if-not-ends_at.true in
     let may : may_pass (item_at way d) (item_at place d) inside rest ≡ false =
     ap (λ o. may_pass o (item_at place d) inside rest) (sym c.requires.known.taken) ∙ ap (λ o. may_pass (option_copied sweep.taken) o inside rest) (sym c.requires.known.holder)
     ∙ sym c.may_pass.ensures ∙ c.if-not-may_pass.true in

@@ -27,9 +27,6 @@ is_used-is_used_by-requires t c =
     let here = item_met c.args.at.now c.items.number d c.args.body.now c.as_slice-found-items.result.now c.found-item.result c.requires.here c.as_slice-found-items.ensures c.items-test.true c.found-item.is in
     (less, (c.requires.nesting, (c.requires.known, (room, (here, c.items.invariant.led)))))
 
-pub is_used-led_behind-led-requires : goal.is_used-led_behind-led-requires
-is_used-led_behind-led-requires t c = omega (arith, depth-body_at c.args.at.now c.args.sweep.now.whole.now.items c.args.body.now c.requires.here, c.requires.nesting)
-
 pub is_used-items-preserved : goal.is_used-items-preserved
 is_used-items-preserved t c =
     let d = c.args.sweep.now.whole.now.items in

@@ -28,15 +28,6 @@ push_body-push_item-requires t c =
     let got = item_got body c.items.number xs x c.as_slice-found-items.ensures c.items-test.true c.found-item.is in
     (less, (c.requires.nesting, (c.requires.known, (room, (item_met at c.items.number d body xs x c.requires.here c.as_slice-found-items.ensures c.items-test.true c.found-item.is, (c.items.invariant.led, (c.items.invariant.inside_led, λ h. c.items.invariant.firsts (c.has_dynamic-assigns.ensures ∙ dynamic_among (list_of body) c.items.number x got h))))))))
 
-pub push_body-led_behind-led-requires : goal.push_body-led_behind-led-requires
-push_body-led_behind-led-requires t c = omega (arith, depth-body_at c.args.at.now c.args.self.now.whole.now.items c.args.body.now c.requires.here, c.requires.nesting)
-
-pub push_body-note-requires : goal.push_body-note-requires
-push_body-note-requires t c = omega (arith, depth-body_at c.args.at.now c.args.self.now.whole.now.items c.args.body.now c.requires.here, c.requires.nesting)
-
-pub push_body-led_behind-inside_led-requires : goal.push_body-led_behind-inside_led-requires
-push_body-led_behind-inside_led-requires t c = omega (arith, depth-body_at c.args.at.now c.args.self.now.whole.now.items c.args.body.now c.requires.here, c.requires.nesting)
-
 pub push_body-items-init : goal.push_body-items-init
 push_body-items-init t c = record {
   reached = reached_first (fate c.args.self.now.whole.now.items c.args.self.now.way.now (option_copied c.args.self.now.name)) c.args.at.now c.args.body.now c.as_slice-found-items.result.now
@@ -66,19 +57,10 @@ push_body-items-preserved t c =
           (inside_same d _ _ _ here x c.items.inside_led _ met c.items.invariant.inside_led refl c.requires.known.place c.requires.known.holder) (c.in_ok-note.ensures h);
     }
 
-pub push_item-fate-requires-clause-led : goal.push_item-fate-requires-clause-led
-push_item-fate-requires-clause-led t c = led_here _ _ _ _ _ c.inside-address.ensures c.requires.led
-
-pub push_item-fate-requires-clause-firsts : goal.push_item-fate-requires-clause-firsts
-push_item-fate-requires-clause-firsts t c =
-    let at = c.args.at.now in
-    let n = c.args.number in
-    λ h. firsts_here _ _ _ _ _ _ _ (ap holder_of c.inside-address.ensures ∙ holder-inside at n) (ap number_of c.inside-address.ensures ∙ number-inside at n) (c.requires.firsts h)
-
 pub push_item-push_body-requires : goal.push_item-push_body-requires
 push_item-push_body-requires t c =
     let d = c.args.self.now.whole.now.items in
     let held = sym c.in-Some.ensures in
     let h = count-own c.args.found.now c.in-Some.body.now held in
     let less : 2 * count c.in-Some.body.now + 1 < t = omega (arith, h, c.decreases) in
-    (less, (c.requires.nesting, (c.requires.known, (ap (λ a. body_at a d) c.inside-address.ensures ∙ body_at-item _ d c.args.found.now c.requires.here ∙ held, (led_here _ _ _ _ _ c.inside-address.ensures c.requires.led, led_here _ _ _ _ _ c.inside-address.ensures c.requires.inside_led)))))
+    (less, (c.requires.nesting, (c.requires.known, (ap (λ a. body_at a d) c.inside.ensures ∙ body_at-item _ d c.args.found.now c.requires.here ∙ held, (led_here _ _ _ _ _ c.inside.ensures c.requires.led, led_here _ _ _ _ _ c.inside.ensures c.requires.inside_led)))))

@@ -1,14 +1,17 @@
-use Rattle.std.proofs.Common.{◌≡◌, ℕ, List, false, ◌++◌, ◌∷◌, [], ◌&&◌, option_copied, ap, sym, ◌∙◌}
+use Rattle.std.proofs.Common.{◌≡◌, ℕ, List, true, false, ◌++◌, ◌∷◌, [], ◌&&◌, option_copied, ap, sym, ◌∙◌}
 use Rattle.std.proofs.lemmas.Bool.{not-true}
 use Rattle.rdl_tree.specs.ItemAt.{item_at}
 use Rattle.rdl_tree.specs.Items.{no_items}
 use Rattle.rdl_tree.specs.View.{add, own_body}
+use Rattle.rdl_tree.specs.Address.{holder_of}
 use Rattle.rdl_tree.specs.declared.description.Item.TheVariants.{Instance}
 use Rattle.rdl_tree.specs.declared.description.Of.TheVariants.{Anonymous}
 use Rattle.rdl_scope.specs.Walk.{is_definition}
 use Rattle.rdl_rewrite.specs.Fates.{fate, fate_patches}
 use Rattle.rdl_rewrite.specs.Led.{refers_to}
+use Rattle.rdl_rewrite.specs.Passed.{may_pass}
 use Rattle.rdl_rewrite.proofs.Apart.{unpatched_apart}
+use Rattle.rdl_rewrite.proofs.Before.{nothing_passed}
 use Rattle.rdl_rewrite.proofs.Led.{led_type}
 use Rattle.rdl_rewrite.proofs.Located.{body_at-item}
 use Rattle.rdl_rewrite.proofs.Staying.{nothing_named}
@@ -60,3 +63,15 @@ spares-requires-clause-here c =
 
 pub spares-requires-in-Define-clause-here : goal.spares-requires-in-Define-clause-here
 spares-requires-in-Define-clause-here c = body_at-item _ c.args.self.now.whole.now.items c.args.found.now c.requires.here ∙ ap own_body c.in-Define.is
+
+pub returns-then-is_apart-2 : goal.returns-then-is_apart-2
+returns-then-is_apart-2 c = λ h.
+    let d = c.args.self.now.whole.now.items in
+    let way = c.args.self.now.way.now in
+    let b = c.args.at.now in
+    let n = c.args.number in
+    let x = c.args.found.now in
+    let none : may_pass (item_at way d) (item_at (holder_of way) d) true c.in-Dynamic.target ≡ false =
+    ap (λ o. may_pass o (item_at (holder_of way) d) true c.in-Dynamic.target) (sym c.requires.known.taken) ∙ ap (λ o. may_pass (option_copied c.args.self.now.taken) o true c.in-Dynamic.target) (sym c.requires.known.holder)
+    ∙ ap (may_pass (option_copied c.args.self.now.taken) (option_copied c.args.self.now.holder) true) (sym c.names.ensures) ∙ sym c.may_pass_anywhere.ensures ∙ not-true c.may_pass_anywhere.result h in
+    nothing_passed d way (option_copied c.args.self.now.name) b n x c.in-Dynamic.target c.in-Dynamic.field-1 c.in-Dynamic.field-2 c.in-Dynamic.is c.requires.here (c.is_apart-in-Dynamic.ensures c.if-is_apart-2.true b) none
