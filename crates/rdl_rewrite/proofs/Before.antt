@@ -5,7 +5,7 @@ use Rattle.std.proofs.lemmas.List.{take_all, take_more}
 use Rattle.std.proofs.lemmas.Bool.Decides.{Decides-eqb}
 use Rattle.std.proofs.lemmas.Option.{slice_get_within}
 use Rattle.std.proofs.lemmas.Slice.Eq.{bytes_eq-Decides}
-use Rattle.std.specs.Prelude.{slice_get, option_and_then, bytes_eq}
+use Rattle.std.specs.Prelude.{option_and_then, bytes_eq}
 use Rattle.std.specs.List.{list_any}
 use Rattle.rdl_tree.specs.ItemAt.{item_at}
 use Rattle.rdl_tree.specs.Items.{Items, no_items, plain, holder, named, own, default, dynamic, define, anonymous}
@@ -20,13 +20,12 @@ use Rattle.rdl_scope.specs.Types.{component_of, items_in}
 use Rattle.rdl_scope.specs.Target.{instance_before, instance_in, passes, through}
 use Rattle.rdl_scope.specs.Walk.{is_instance}
 use Rattle.rdl_scope.proofs.Instances.{instance-found}
-use Rattle.rdl_rewrite.specs.Addresses.{same, leads_to, passes_by}
+use Rattle.rdl_rewrite.specs.Addresses.{same, passes_by}
 use Rattle.rdl_rewrite.specs.Fates.{given_if, fate_of_target, fate, item_patches, fate_patches}
 use Rattle.rdl_rewrite.specs.Firsts.{first_under, AreFirsts}
 use Rattle.rdl_rewrite.specs.Passed.{may_pass, if_passed, IsBefore}
 use Rattle.rdl_rewrite.specs.Removal.{goes}
 use Rattle.rdl_rewrite.specs.Renaming.{renamed_names, renamed_target}
-use Rattle.rdl_rewrite.specs.declared.fate.Fate.{Fate}
 use Rattle.rdl_rewrite.specs.declared.fate.Fate.TheVariants.{Kept, Dropped, Given}
 use Rattle.rdl_rewrite.specs.declared.firsts.Firsts.{Firsts}
 use Rattle.rdl_rewrite.proofs.FirstInstances.{first_some}

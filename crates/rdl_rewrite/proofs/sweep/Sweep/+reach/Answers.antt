@@ -1,5 +1,5 @@
 use Rattle.std.proofs.Common.{◌*◌, ◌+◌, ◌<◌, ◌++◌, ◌∷◌, [], length, reverse, option_copied, refl, ap, sym, ◌∙◌, arith}
-use Rattle.rdl_tree.specs.Address.{body_at, holder_of, number_of}
+use Rattle.rdl_tree.specs.Address.{body_at, holder_of}
 use Rattle.rdl_tree.specs.Items.{count}
 use Rattle.rdl_tree.specs.View.{list_of}
 use Rattle.rdl_tree.proofs.Sizes.{item_count}
@@ -7,8 +7,7 @@ use Rattle.rdl_scope.proofs.Depths.{depth-body_at}
 use Rattle.rdl_scope.proofs.Levelled.{item_got}
 use Rattle.rdl_rewrite.specs.Fates.{fate}
 use Rattle.rdl_rewrite.proofs.Defined.{count-item}
-use Rattle.rdl_rewrite.proofs.FirstInstances.{firsts_none, firsts_next, firsts_here, inside_same}
-use Rattle.rdl_rewrite.proofs.Leading.{holder-inside, number-inside}
+use Rattle.rdl_rewrite.proofs.FirstInstances.{firsts_none, firsts_next, inside_same}
 use Rattle.rdl_rewrite.proofs.Led.{led_first, led_next, led_here, led_same}
 use Rattle.rdl_rewrite.proofs.Located.{body_at-item, item_met, count-own}
 use Rattle.rdl_rewrite.proofs.Staying.{dynamic_among}
