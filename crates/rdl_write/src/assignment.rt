@@ -31,7 +31,8 @@ pub fn push_value(text: &mut String, value: &Value) -> Result<(), AllocError>
 pub fn push_assignment(text: &mut String, property: &str, value: &Value) -> Result<(), AllocError>
     ensures { OnOk result (string_bytes text.new ≡ string_bytes text.old ++ assignment_text property.now value.now) }
 {
-    write!(text, "{property} = ")?;
+    text.push_str(property)?;
+    text.push_str(" = ")?;
     push_value(text, value)?;
     Ok(())
 }
@@ -45,7 +46,8 @@ pub fn push_names(text: &mut String, names: &[Name]) -> Result<(), AllocError>
         [first, others @ ..] => {
             text.push_str(first.as_str())?;
             'names: for name in others {
-                write!(text, ".{name}")?;
+                text.push_str(".")?;
+                text.push_str(name.as_str())?;
             }
             Ok(())
         }

@@ -32,7 +32,10 @@ pub fn push_named(
 ) -> Result<(), AllocError>
     ensures { OnOk result (string_bytes text.new ≡ string_bytes text.old ++ statement_line indent.now (named shell.now of.now)) }
 {
-    write!(text, "{indent}{}{of} ", outside_text(shell.outside))?;
+    text.push_str(indent)?;
+    text.push_str(outside_text(shell.outside))?;
+    text.push_str(of)?;
+    text.push_str(" ")?;
     push_shell(text, shell)?;
     text.push_str(";\n")?;
     Ok(())
