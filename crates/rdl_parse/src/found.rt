@@ -42,13 +42,16 @@ impl Found {
             left,
             inside: inner.len(),
         })?;
-        self.spots.extend_from_slice(inner)?;
+        if !inner.is_empty() {
+            self.spots.extend_from_slice(inner)?;
+        }
         Ok(())
     }
 
     /// Where nothing was found before, the room of the others is taken over.
     pub fn append(&mut self, other: &mut Found) -> Result<(), AllocError>
-        ensures { OnOk result (seen self.new ≡ joined (seen self.old) (seen other.old)) }
+        ensures joined { OnOk result (seen self.new ≡ joined (seen self.old) (seen other.old)) }
+        ensures emptied { OnOk result (seen other.new ≡ nothing) }
     {
         if self.items.is_empty() {
             mem::swap(&mut self.items, &mut other.items);
