@@ -30,6 +30,14 @@ impl Found {
         }
     }
 
+    /// Forgets what was found, and keeps the room for it.
+    pub fn clear(&mut self)
+        ensures { seen self.new ≡ nothing }
+    {
+        self.items.clear();
+        self.spots.clear();
+    }
+
     /// Most statements have one item, and an item is large: so the first takes no room for more.
     pub fn push(&mut self, item: Item, left: usize, inner: &[Spot]) -> Result<(), AllocError>
         ensures { OnOk result (seen self.new ≡ joined (seen self.old) (single item left inner.now)) }
@@ -50,8 +58,7 @@ impl Found {
 
     /// Where nothing was found before, the room of the others is taken over.
     pub fn append(&mut self, other: &mut Found) -> Result<(), AllocError>
-        ensures joined { OnOk result (seen self.new ≡ joined (seen self.old) (seen other.old)) }
-        ensures emptied { OnOk result (seen other.new ≡ nothing) }
+        ensures { OnOk result (seen self.new ≡ joined (seen self.old) (seen other.old)) }
     {
         if self.items.is_empty() {
             mem::swap(&mut self.items, &mut other.items);

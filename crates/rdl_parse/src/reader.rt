@@ -22,7 +22,6 @@ pub(crate) struct Reader<'a> {
     pub(crate) rest: Words<'a>,
     /// Room for the items of a statement, which most need no more of than the one before.
     pub(crate) spare: Found,
-    ghost empty: { seen spare ≡ nothing },
 }
 
 /// Words that don't go on as they must.
@@ -51,7 +50,9 @@ impl<'a> Reader<'a> {
         ensures found { seen result ≡ nothing }
         ensures rest { self.new.rest ≡ self.old.rest }
     {
-        mem::replace(&mut self.spare, Found::new(alloc))
+        let mut found = mem::replace(&mut self.spare, Found::new(alloc));
+        found.clear();
+        found
     }
 
     #[tactic(auto, using(crate::proofs::Words::begins_first))]
