@@ -36,7 +36,7 @@ impl<'a> Reader<'a> {
     {
         let (body, spots) = self.body(alloc, levels, room)?;
         let of = Of::Named(name.try_copy(alloc)?);
-        let mut found = Found::new(alloc);
+        let mut found = self.no_items(alloc);
         found.push(Item::Define(name, Component { kind, body }), left, &spots)?;
         self.defined(alloc, room, front, of, found)
     }
@@ -55,7 +55,8 @@ impl<'a> Reader<'a> {
     {
         let (body, spots) = self.body(alloc, levels, room)?;
         let of = Of::Anonymous(Component { kind, body });
-        self.late_insts(alloc, room, front, of, &spots, Found::new(alloc))
+        let found = self.no_items(alloc);
+        self.late_insts(alloc, room, front, of, &spots, found)
     }
 
     /// What stands behind a kind, where so many words begin with the first of the statement.
@@ -106,7 +107,8 @@ impl<'a> Reader<'a> {
             Class::Name => {
                 self.rest = rest;
                 let of = Of::Named(new_name(alloc, word.source())?);
-                self.insts(alloc, room, outside, of, &[], Found::new(alloc))
+                let found = self.no_items(alloc);
+                self.insts(alloc, room, outside, of, &[], found)
             }
             _ => Err(wrong(&self.rest)),
         }
@@ -179,6 +181,7 @@ impl<'a> Reader<'a> {
         'turns: while self.goes_on() {
             let mut gathered = self.statement(alloc, levels, room)?;
             found.append(&mut gathered.found)?;
+            self.spare = gathered.found;
             room = gathered.room;
         }
         Ok(found)

@@ -30,6 +30,14 @@ impl Found {
         }
     }
 
+    /// Forgets what was found, and keeps the room for it.
+    pub fn clear(&mut self)
+        ensures { seen self.new ≡ nothing }
+    {
+        self.items.clear();
+        self.spots.clear();
+    }
+
     /// Most statements have one item, and an item is large: so the first takes no room for more.
     pub fn push(&mut self, item: Item, left: usize, inner: &[Spot]) -> Result<(), AllocError>
         ensures { OnOk result (seen self.new ≡ joined (seen self.old) (single item left inner.now)) }
@@ -42,7 +50,9 @@ impl Found {
             left,
             inside: inner.len(),
         })?;
-        self.spots.extend_from_slice(inner)?;
+        if !inner.is_empty() {
+            self.spots.extend_from_slice(inner)?;
+        }
         Ok(())
     }
 

@@ -3,20 +3,25 @@ ghost use Rattle.rdl_parse.specs.Reading as spec;
 ghost use Rattle.rdl_parse.specs.Reading.{Gives};
 ghost use Rattle.rdl_parse.specs.Symbol.{symbols};
 ghost use Rattle.rdl_parse.specs.declared.fault.Stop.{Stop};
+ghost use Rattle.rdl_parse.specs.Finds.{seen, nothing};
 ghost use Rattle.std.specs.Prelude.{◌≡◌};
 
 use crate::fault::{Fault, Stop};
+use crate::found::Found;
 use crate::word::{name_of, new_name, number_of, prop_of, value_of};
 use rdl_text::list::Words;
 use rdl_text::name::Name;
 use rdl_text::token::{Mark, Number};
 use rdl_tree::value::Value;
 use std::alloc::Global;
+use std::mem;
 
 /// The words that are left.
 #[derive(Drop)]
 pub(crate) struct Reader<'a> {
     pub(crate) rest: Words<'a>,
+    /// Room for the items of a statement, which most need no more of than the one before.
+    pub(crate) spare: Found,
 }
 
 /// Words that don't go on as they must.
@@ -31,6 +36,25 @@ pub(crate) fn wrong(words: &Words<'_>) -> Stop
 }
 
 impl<'a> Reader<'a> {
+    pub(crate) fn new(alloc: Global, words: Words<'a>) -> Reader<'a>
+        ensures { result.rest ≡ words.entry }
+    {
+        Reader {
+            rest: words,
+            spare: Found::new(alloc),
+        }
+    }
+
+    /// No items yet, of a statement.
+    pub(crate) fn no_items(&mut self, alloc: Global) -> Found
+        ensures found { seen result ≡ nothing }
+        ensures rest { self.new.rest ≡ self.old.rest }
+    {
+        let mut found = mem::replace(&mut self.spare, Found::new(alloc));
+        found.clear();
+        found
+    }
+
     #[tactic(auto, using(crate::proofs::Words::begins_first))]
     pub(crate) fn begins(&self, mark: Mark) -> bool
         ensures { result ≡ spec.begins mark (symbols self.now.rest) }

@@ -50,7 +50,7 @@ impl<'a> Reader<'a> {
     ) -> Result<Gathered, Stop>
         ensures { Gives (λ g. (finished g, symbols self.new.rest)) result (spec.finish_at room (single item left []) (symbols self.old.rest)) }
     {
-        let mut found = Found::new(alloc);
+        let mut found = self.no_items(alloc);
         found.push(item, left, &[])?;
         self.finish(room, found)
     }
@@ -166,7 +166,7 @@ impl<'a> Reader<'a> {
     ) -> Result<Gathered, Stop>
         ensures { Gives (λ g. (finished g, symbols self.new.rest)) result (spec.dynamic_at room left first (symbols self.old.rest)) }
     {
-        let mut names = Vec::new(alloc);
+        let mut names = Vec::with_capacity(alloc, 2)?;
         names.push(first)?;
         self.dots(alloc, &mut names)?;
         self.mark(Mark::Arrow)?;
@@ -193,8 +193,8 @@ impl<'a> Reader<'a> {
         if self.begins(Mark::Equals) || self.begins(Mark::Semicolon) {
             return self.own(alloc, room, left, name);
         }
-        let of = Of::Named(name);
-        self.insts(alloc, room, Outside::Unsaid, of, &[], Found::new(alloc))
+        let found = self.no_items(alloc);
+        self.insts(alloc, room, Outside::Unsaid, Of::Named(name), &[], found)
     }
 
     /// `external` or `internal` before the first instance, if none stands at the front.

@@ -35,7 +35,7 @@ impl<'a> Reader<'a> {
 pub(crate) fn text(alloc: Global, words: Words<'_>) -> Result<(Description, Vec<Spot>), Stop>
     ensures { Gives parsed result (text_at 16 limit (symbols words.entry)) }
 {
-    let mut reader = Reader { rest: words };
+    let mut reader = Reader::new(alloc, words);
     let Found { items, spots } = reader.statements(alloc, LEVELS, WHOLE)?;
     reader.end()?;
     let items = Body::from_vec(items);
@@ -47,7 +47,7 @@ pub(crate) fn text(alloc: Global, words: Words<'_>) -> Result<(Description, Vec<
 pub(crate) fn items(alloc: Global, words: Words<'_>) -> Result<Vec<Item>, Stop>
     ensures { Gives (λ xs. xs.items) result (items_at 16 limit (symbols words.entry)) }
 {
-    let mut reader = Reader { rest: words };
+    let mut reader = Reader::new(alloc, words);
     let gathered = reader.statement(alloc, LEVELS, WHOLE)?;
     reader.end()?;
     Ok(gathered.found.items)
