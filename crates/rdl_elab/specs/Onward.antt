@@ -31,3 +31,8 @@ going_to onward k = if is_marked onward k then stored_under onward k else []
 -- whatever the instance, those of these assignments that pass it stand under its number, in the same order
 abbrev pub IsOnward : Onward → List Reach → Type 0
 IsOnward onward reaching = (a : List ℕ) → behind a (going_to onward (number_of a)) ≡ behind a reaching
+
+-- the same of a level that keeps nothing where no assignment reaches it
+abbrev pub AreOnward : Option Onward → List Reach → Type 0
+AreOnward None reaching = reaching ≡ []
+AreOnward (Some onward) reaching = IsOnward onward reaching

@@ -1,6 +1,11 @@
 //! The values of rows.
-ghost use Rattle.std.specs.Prelude.{◌≡◌, option_copied};
+ghost use Rattle.std.specs.Prelude.{◌≡◌, [], ◌∷◌, None, option_copied, if◌then◌else◌};
+ghost use Rattle.std.specs.Option.{option_or};
+ghost use Rattle.rdl_tree.specs.Properties.{on};
+ghost use Rattle.rdl_tree.specs.declared.property.Property.TheVariants.{Reset};
 ghost use Rattle.rdl_elab.specs.Access.{access_of};
+ghost use Rattle.rdl_elab.specs.Reaches.{value_under};
+ghost use Rattle.rdl_elab.specs.Shown.{valued};
 
 use crate::row::PropertyValue;
 use crate::walk::values::{under_either, value_under};
@@ -143,53 +148,67 @@ impl ComponentValues {
     }
 }
 
-/// What an instance has in the place of values of its component.
-#[derive(Debug, Drop)]
-pub(crate) enum Replaced {
-    /// The number behind its `=`, if there is one.
-    Reset(Option<Value>),
-    /// What is assigned to it from outside, and the number behind its `=` where nothing is assigned to its reset.
-    Assigned(Vec<PropertyValue>),
-}
-
-impl Replaced {
-    ghost use Rattle.std.specs.Prelude.{◌≡◌, option_copied};
-    ghost use Rattle.rdl_elab.specs.InstanceValues.{replaced};
-    ghost use Rattle.rdl_elab.specs.Reaches.{value_under};
-
-    /// The value of the property among these.
-    fn get(&self, property: Property) -> Option<&Value>
-        ensures { option_copied result ≡ value_under property (replaced self.now) }
-    {
-        match self {
-            Replaced::Reset(value) if property == Property::Reset => value.as_ref(),
-            Replaced::Reset(_) => None,
-            Replaced::Assigned(values) => value_under(property, values.as_slice()),
-        }
+/// The value of a property of an instance of this kind, where this stands before what its component has.
+fn before_own<'v>(
+    kind: Kind,
+    property: Property,
+    first: Option<&'v Value>,
+    own: &'v ComponentValues,
+) -> Option<&'v Value>
+    ensures { option_copied result ≡ (if on property kind then option_or (option_copied first.entry) (value_under property own.now) else None) }
+{
+    if !property.on(kind) {
+        return None;
+    }
+    match first {
+        Some(value) => Some(value),
+        None => own.get(property),
     }
 }
 
-/// The values that an instance of a component of this kind has in the place of those of the component.
-#[derive(Debug, Drop)]
-pub(crate) struct InstanceValues {
-    kind: Kind,
-    replaced: Replaced,
+/// The value of the property where no more than a reset has one.
+fn if_reset(property: Property, value: &Value) -> Option<&Value>
+    ensures { option_copied result ≡ value_under property (valued Reset value.now ∷ []) }
+{
+    if property == Property::Reset {
+        Some(value)
+    } else {
+        None
+    }
 }
 
-impl InstanceValues {
+/// What an instance has in the place of values of its component, which is of this kind.
+#[derive(Debug, Drop)]
+pub(crate) enum Instead {
+    /// Nothing: it has all values of its component.
+    Own,
+    /// Nothing, but it has no value that its kind doesn't take.
+    Nothing(Kind),
+    /// The number behind its `=`.
+    Reset(Kind, Value),
+    /// What is assigned to it from outside, and the number behind its `=` where nothing is assigned to its reset.
+    Assigned(Kind, Vec<PropertyValue>),
+}
+
+impl Instead {
     ghost use Rattle.std.specs.Prelude.{◌≡◌, option_copied};
-    ghost use Rattle.rdl_elab.specs.InstanceValues.{replaced, instance_value};
+    ghost use Rattle.rdl_elab.specs.InstanceValues.{with_instance};
+    ghost use Rattle.rdl_elab.specs.Reaches.{value_under};
 
     /// The value of a property of the instance, whose component has these values.
     fn get<'v>(&'v self, own: &'v ComponentValues, property: Property) -> Option<&'v Value>
-        ensures { option_copied result ≡ instance_value self.now.kind (replaced self.now.replaced) own.now property }
+        ensures { option_copied result ≡ value_under property (with_instance self.now own.now) }
     {
-        if !property.on(self.kind) {
-            return None;
-        }
-        match self.replaced.get(property) {
-            Some(value) => Some(value),
-            None => own.get(property),
+        match self {
+            Instead::Own => own.get(property),
+            Instead::Nothing(kind) => before_own(*kind, property, None, own),
+            Instead::Reset(kind, value) => {
+                before_own(*kind, property, if_reset(property, value), own)
+            }
+            Instead::Assigned(kind, values) => {
+                let first = value_under(property, values.as_slice());
+                before_own(*kind, property, first, own)
+            }
         }
     }
 }
@@ -200,7 +219,7 @@ impl InstanceValues {
 #[derive(Debug, Drop)]
 pub struct RowValues {
     own: ComponentValues,
-    instance: Option<InstanceValues>,
+    instance: Instead,
 }
 
 impl Model for RowValues {
@@ -232,7 +251,7 @@ impl RowValues {
     {
         RowValues {
             own,
-            instance: None,
+            instance: Instead::Own,
         }
     }
 
@@ -240,13 +259,11 @@ impl RowValues {
     pub(crate) fn with_reset(own: ComponentValues, kind: Kind, reset: Option<Number>) -> RowValues
         ensures { result ≡ values_along kind reset [] own }
     {
-        RowValues {
-            own,
-            instance: Some(InstanceValues {
-                kind,
-                replaced: Replaced::Reset(reset.map(Value::Number)),
-            }),
-        }
+        let instance = match reset {
+            Some(number) => Instead::Reset(kind, Value::Number(number)),
+            None => Instead::Nothing(kind),
+        };
+        RowValues { own, instance }
     }
 
     /// Those of an instance that has these values in the place of those of its component, which is of this kind.
@@ -259,10 +276,7 @@ impl RowValues {
     {
         RowValues {
             own,
-            instance: Some(InstanceValues {
-                kind,
-                replaced: Replaced::Assigned(assigned),
-            }),
+            instance: Instead::Assigned(kind, assigned),
         }
     }
 
@@ -270,10 +284,7 @@ impl RowValues {
     pub fn get(&self, property: Property) -> Option<&Value>
         ensures { option_copied result ≡ value_under property self.now }
     {
-        match &self.instance {
-            Some(instance) => instance.get(&self.own, property),
-            None => self.own.get(property),
-        }
+        self.instance.get(&self.own, property)
     }
 
     /// The value of the property, if that is a number.

@@ -3,7 +3,7 @@ ghost use Rattle.std.specs.Prelude.{◌≡◌, ℕ, ◌+◌, ◌^◌, ◌-◌, �
 ghost use Rattle.rdl_scope.specs.ItemFaults.{fault_at};
 ghost use Rattle.rdl_elab.specs.Layouts.{number_in};
 ghost use Rattle.rdl_elab.specs.Rows.{location_of};
-ghost use Rattle.rdl_elab.specs.Onward.{IsOnward};
+ghost use Rattle.rdl_elab.specs.Onward.{AreOnward, IsOnward};
 ghost use Rattle.rdl_elab.specs.SiblingsBefore.{AreBefore, AreFirst, with_one};
 ghost use Rattle.rdl_elab.specs.Reaches.{Reach, behind, value_under, values_along};
 ghost use Rattle.rdl_tree.specs.declared.property.Property.TheVariants.{Sw, Reset};
@@ -222,6 +222,34 @@ pub(crate) fn behind_part<'a>(
     ensures { IfOk result (λ list. (reaching : List Reach) → IsOnward onward.now reaching → list.items ≡ behind part.now.at reaching) }
 {
     onward.behind(alloc, part)
+}
+
+/// Those of these assignments that go on from a level with so many instances, if there is any assignment.
+fn onward_of<'a>(
+    alloc: Global,
+    reaching: &[Assignment<'a>],
+    count: usize,
+) -> Result<Option<Onward<'a>>, AllocError>
+    ensures { IfOk result (λ onward. AreOnward onward reaching.now) }
+{
+    if reaching.is_empty() {
+        return Ok(None);
+    }
+    Ok(Some(Onward::of(alloc, reaching, count)?))
+}
+
+/// The assignments whose targets pass this instance, of a level that mostly has none.
+fn behind_if_any<'a>(
+    alloc: Global,
+    part: &Part,
+    onward: Option<&Onward<'a>>,
+) -> Result<Vec<Assignment<'a>>, AllocError>
+    ensures { IfOk result (λ list. (reaching : List Reach) → AreOnward (option_copied onward.entry) reaching → list.items ≡ behind part.now.at reaching) }
+{
+    match onward {
+        Some(onward) => behind_part(alloc, part, onward),
+        None => Ok(Vec::new(alloc)),
+    }
 }
 
 fn is_stride_too_small(stride: Option<Number>, size: u64) -> bool
@@ -491,7 +519,8 @@ pub(crate) fn add_rows<'a>(
     if levels == 0 {
         return Ok(None);
     }
-    let onward = Onward::of(alloc, around.reaching.as_slice(), parts.len())?;
+    let going = onward_of(alloc, around.reaching.as_slice(), parts.len())?;
+    let onward = going.as_ref();
     let mut kept = siblings_of(alloc, spans, parts.len())?;
     for (i, part) in parts.iter().enumerate() {
         let Some(span) = span_at(spans, i) else {
@@ -500,7 +529,7 @@ pub(crate) fn add_rows<'a>(
         let Some(component) = part.component(components) else {
             return Ok(None);
         };
-        let passed = behind_part(alloc, part, &onward)?;
+        let passed = behind_if_any(alloc, part, onward)?;
         let reaching = passed.as_slice();
         let fault = add_row(
             alloc, around, part, component, span, reaching, &mut kept, rows,
