@@ -20,7 +20,7 @@ use Rattle.rdl_elab.specs.Finished.{under, AreParts}
 use Rattle.rdl_elab.specs.Ready.{IsReadyPart, AreReadyParts, AreAllWhole}
 use Rattle.rdl_elab.specs.EachMember.{shown_each}
 use Rattle.rdl_elab.specs.LaidOut.{kept_member, kept_members}
-use Rattle.rdl_elab.specs.Inside.{shown_placement, kept_part, kept_parts, part_levels, kept_levels, part_rows, finished_rows, lacks_rows, part_empty, kept_empty, is_whole, are_whole}
+use Rattle.rdl_elab.specs.Inside.{shown_placement, kept_part, kept_parts, part_levels, kept_levels, part_rows, finished_rows, lacks_rows, part_empty, kept_empty, is_whole, are_whole, IsCounted}
 
 pub or-assoc : {X : Type 0} (a b c : Option X) → option_or (option_or a b) c ≡ option_or a (option_or b c)
 or-assoc None b c = refl
@@ -295,3 +295,28 @@ module _ (fs : List Finished) (i : ℕ) (ps : List Part) (p : Part) (o : Option 
 -- an instance that isn't empty, and below which none is
 pub full-part : (p : Part) (f : Finished) → lacks_rows f.kind f.rows ≡ false → f.first_empty ≡ None → part_empty p (Some f) ≡ None
 full-part p f e g = ap (λ b. option_or (if b then Some p.at else None) f.first_empty) e ∙ g
+
+-- ---- What is counted again.
+
+-- an instance without a component brings nothing
+pub nothing-counted : (levels : ℕ) (whole has_empty : Bool) → levels ≤ 16 → IsCounted None levels whole has_empty 0
+nothing-counted levels whole has_empty h = record { deep = omega arith; many = refl; held = sym (and-one whole); full = λ e p. refl }
+
+and-twice : (a b : Bool) → ((a && b) && b) ≡ (a && b)
+and-twice true true = refl
+and-twice true false = refl
+and-twice false b = refl
+
+-- an instance that is counted brings only its rows a second time
+pub once-counted :
+    (f : Finished) (before levels : ℕ) (so_far whole has_empty : Bool) (rows : ℕ)
+    → levels ≡ min (max before (f.levels + 1)) 16 → min rows 65536 ≡ min (f.rows + 1) 65536 → whole ≡ (so_far && f.whole)
+    → (has_empty ≡ false → lacks_rows f.kind f.rows ≡ false) → (has_empty ≡ false → f.first_empty ≡ None)
+    → IsCounted (Some f) levels whole has_empty rows
+once-counted f before levels so_far whole has_empty rows l r w e g =
+    record {
+      deep = omega arith;
+      many = r;
+      held = ap (λ b. b && f.whole) w ∙ and-twice so_far f.whole ∙ sym w;
+      full = λ none p. full-part p f (e none) (g none);
+    }

@@ -1,6 +1,6 @@
 -- What a component takes of its instances, by what is kept of their components.
 -- own: SystemRDL 2.0 has no limits; levels, rows and elements are counted as far as they are told apart.
-use Rattle.std.specs.Prelude.{ℕ, zero, ◌+◌, ◌-◌, ◌^◌, ◌&&◌, min, max, Bool, true, false, List, [], ◌∷◌, Option, Some, None, option_map, slice_get, if◌then◌else◌}
+use Rattle.std.specs.Prelude.{◌≡◌, ℕ, zero, ◌+◌, ◌-◌, ◌^◌, ◌&&◌, min, max, Bool, true, false, List, [], ◌∷◌, Option, Some, None, option_map, slice_get, if◌then◌else◌}
 use Rattle.std.specs.Option.{option_or}
 use Rattle.std.specs.List.{filter_map}
 use Rattle.rdl_tree.specs.declared.shell.Kind.{Kind}
@@ -70,3 +70,10 @@ is_whole (Some f) = f.whole
 abbrev pub are_whole : List Finished → List Part → Bool
 are_whole fs [] = true
 are_whole fs (p ∷ ps) = is_whole (slice_get fs p.component) && are_whole fs ps
+
+-- such an instance brings no more than its rows to what these levels and marks were gathered of
+pub record IsCounted (o : Option Finished) (levels : ℕ) (whole has_empty : Bool) (rows : ℕ) : Type 0 where
+  pub deep : min (max levels (part_levels o)) 16 ≡ levels
+  pub many : min rows 65536 ≡ min (part_rows o) 65536
+  pub held : (whole && is_whole o) ≡ whole
+  pub full : has_empty ≡ false → (p : Part) → part_empty p o ≡ None

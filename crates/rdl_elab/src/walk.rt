@@ -25,6 +25,7 @@ pub(crate) mod built_ins;
 pub(crate) mod defaults;
 pub(crate) mod each_member;
 pub(crate) mod finished;
+pub(crate) mod gathered;
 pub(crate) mod heads;
 pub(crate) mod instance_path;
 pub(crate) mod instances;

@@ -1,5 +1,5 @@
 //! What a component takes of its instances, of whose components all is kept.
-ghost use Rattle.std.specs.Prelude.{◌≡◌, ◌∷◌, List, min, map, true, false, IfOk, OnOk, Some, None, option_copied};
+ghost use Rattle.std.specs.Prelude.{◌≡◌, ◌≤◌, ◌+◌, ◌&&◌, ◌∷◌, List, min, max, map, slice_get, true, false, IfOk, OnOk, Some, None, option_copied};
 ghost use Rattle.rdl_elab.specs.declared.layout.Mode.{Mode};
 ghost use Rattle.rdl_elab.specs.declared.layout.Mode.TheVariants.{Compact};
 ghost use Rattle.rdl_tree.specs.declared.shell.Kind.TheVariants.{Regfile, Reg};
@@ -9,7 +9,7 @@ ghost use Rattle.rdl_elab.specs.declared.layout.Placement.{Placement};
 ghost use Rattle.rdl_elab.specs.Bare.{IsBare};
 ghost use Rattle.rdl_elab.specs.Placing.{with_behind};
 ghost use Rattle.rdl_elab.specs.Finished.{under};
-ghost use Rattle.rdl_elab.specs.Inside.{counted, shown_placement, kept_parts, kept_levels, finished_rows, lacks_rows, part_empty, kept_empty, is_whole, are_whole};
+ghost use Rattle.rdl_elab.specs.Inside.{counted, shown_placement, kept_parts, part_levels, kept_levels, part_rows, finished_rows, lacks_rows, part_empty, kept_empty, is_whole, are_whole, IsCounted};
 
 use crate::layout::bits::bits;
 use crate::layout::component::{field, register};
@@ -282,6 +282,18 @@ impl Contents {
         }
     }
 
+    /// This, with one more instance of a component that is among it already, which has so many rows.
+    fn again(self, rows: usize) -> Contents
+        ensures { result ≡ record { levels = self.levels; rows = min (self.rows + rows) 65536; whole = self.whole; has_empty = self.has_empty } }
+    {
+        Contents {
+            levels: self.levels,
+            rows: self.rows.saturating_add(rows).min(MAX_ROWS),
+            whole: self.whole,
+            has_empty: self.has_empty,
+        }
+    }
+
     /// This, with one more instance, of this component.
     fn with(self, finished: &Finished) -> Contents
         ensures levels { result.levels ≡ min (max self.levels (finished.now.levels + 1)) 16 }
@@ -306,6 +318,42 @@ impl Contents {
     }
 }
 
+/// The component of the instance that was counted last, and its rows with one more.
+#[derive(Clone, Copy)]
+struct Counted {
+    number: usize,
+    rows: usize,
+}
+
+/// This, with one more instance. Of a component that was counted last no more than its rows are looked at.
+fn with_part(
+    contents: Contents,
+    last: &mut Counted,
+    part: &Part,
+    components: &[Finished],
+) -> Contents
+    requires few { contents.rows ≤ 65536 }
+    requires last { IsCounted (slice_get components.now last.old.number) contents.levels contents.whole contents.has_empty last.old.rows }
+    ensures levels { result.levels ≡ min (max contents.levels (part_levels (slice_get components.now part.now.component))) 16 }
+    ensures rows { result.rows ≡ min (contents.rows + part_rows (slice_get components.now part.now.component)) 65536 }
+    ensures whole { result.whole ≡ (contents.whole && is_whole (slice_get components.now part.now.component)) }
+    ensures before { result.has_empty ≡ false → contents.has_empty ≡ false }
+    ensures empty { result.has_empty ≡ false → part_empty part.now (slice_get components.now part.now.component) ≡ None }
+    ensures last { IsCounted (slice_get components.now last.new.number) result.levels result.whole result.has_empty last.new.rows }
+{
+    if part.number() == last.number {
+        return contents.again(last.rows);
+    }
+    let Some(finished) = part.component(components) else {
+        return contents;
+    };
+    *last = Counted {
+        number: part.number(),
+        rows: finished.rows.saturating_add(1),
+    };
+    contents.with(finished)
+}
+
 /// What is below a component with these instances.
 pub(crate) fn contents_of(parts: &[Part], components: &[Finished]) -> Contents
     ensures levels { result.levels ≡ min (kept_levels components.now parts.now) 16 }
@@ -314,10 +362,12 @@ pub(crate) fn contents_of(parts: &[Part], components: &[Finished]) -> Contents
     ensures empty { result.has_empty ≡ false → kept_empty components.now parts.now ≡ None }
 {
     let mut contents = Contents::nothing();
+    let mut last = Counted {
+        number: components.len(),
+        rows: 0,
+    };
     for part in parts {
-        if let Some(finished) = part.component(components) {
-            contents = contents.with(finished);
-        }
+        contents = with_part(contents, &mut last, part, components);
     }
     contents
 }

@@ -75,11 +75,11 @@ impl SharedLayouts {
     }
 
     /// The words of an instance that says nothing but its name, whose component has these layouts, if each is one byte.
-    pub(crate) fn bare_words(&self) -> Option<&[u8]>
+    pub(crate) fn bare_words(&self) -> Option<&[u8; 12]>
         ensures { IfSome (option_copied result) (AreBareWords self.now) }
     {
         match &self.bare {
-            Some(words) => Some(&words[..]),
+            Some(words) => Some(words),
             None => None,
         }
     }

@@ -8,6 +8,7 @@ ghost use Rattle.rdl_elab.specs.Words.{kind_word, mode_word, number_words, range
 use crate::layout::{LayoutValues, Mode};
 use crate::walk::each_member::{Extent, Extents, Said};
 use crate::walk::finished::{Finished, Part};
+use crate::walk::gathered::Gathered;
 use crate::walk::laid_out::SharedLayouts;
 use rdl_text::token::Number;
 use rdl_tree::shell::Kind;
@@ -255,7 +256,7 @@ fn put_bare_member(bytes: &mut Vec<u8>, layouts: &SharedLayouts) -> Result<(), A
     ensures { OnOk result (Puts (bare_member_words layouts.now) bytes.old.items bytes.new.items) }
 {
     if let Some(words) = layouts.bare_words() {
-        put_small(bytes, words)?;
+        put_small(bytes, &words[..])?;
         return Ok(());
     }
     put_small(bytes, &[1, 0, 0, 0, 0, 0])?;
@@ -277,6 +278,28 @@ fn put_member(bytes: &mut Vec<u8>, part: &Part, layouts: &SharedLayouts) -> Resu
     Ok(())
 }
 
+/// Gathers the words of what is taken of an instance that says nothing but its name, whose component has these layouts. Those
+/// of any other are put behind what is gathered.
+#[inline(always)]
+fn gather_member(
+    bytes: &mut Vec<u8>,
+    gathered: &mut Gathered,
+    part: &Part,
+    layouts: &SharedLayouts,
+) -> Result<(), AllocError>
+    ensures { OnOk result (Puts (member_words (shown_each part.now.shell layouts.now)) (bytes.old.items ++ gathered.old) (bytes.new.items ++ gathered.new)) }
+{
+    if part.is_bare() {
+        if let Some(words) = layouts.bare_words() {
+            gathered.gather(words, bytes)?;
+            return Ok(());
+        }
+    }
+    gathered.put_behind(bytes)?;
+    put_member(bytes, part, layouts)?;
+    Ok(())
+}
+
 /// Puts the words, as bytes, of what the layouts of a component of this kind with these values and these instances are made
 /// of, in the place of what was there.
 pub(crate) fn spell(
@@ -290,10 +313,12 @@ pub(crate) fn spell(
 {
     bytes.clear();
     put_values(bytes, kind, values)?;
+    let mut gathered = Gathered::nothing();
     for part in parts {
         if let Some(finished) = part.component(components) {
-            put_member(bytes, part, &finished.layouts)?;
+            gather_member(bytes, &mut gathered, part, &finished.layouts)?;
         }
     }
+    gathered.put_behind(bytes)?;
     Ok(())
 }

@@ -1,8 +1,26 @@
-use Rattle.std.proofs.Common.{None, Some, refl, ap, sym, ◌∙◌, arith}
-use Rattle.std.specs.Prelude.{◌&&◌}
-use Rattle.rdl_elab.proofs.Insides.{levels-more, rows-more, whole-more, whole-end, and-one, empty-more, full-part, levels-none, rows-none, empty-none}
+use Rattle.std.proofs.Common.{Option, None, true, false, length, refl, ap, sym, subst, ◌∙◌, arith}
+use Rattle.std.specs.Prelude.{◌&&◌, slice_get}
+use Rattle.std.proofs.lemmas.Option.{slice_get_past}
+use Rattle.rdl_elab.specs.declared.walk.finished.Finished.{Finished}
+use Rattle.rdl_elab.specs.declared.walk.instances.Contents.{Contents}
+use Rattle.rdl_elab.specs.Inside.{are_whole, IsCounted}
+use Rattle.rdl_elab.proofs.Insides.{levels-more, rows-more, whole-more, whole-end, and-one, empty-more, levels-none, rows-none, empty-none, nothing-counted}
 use Rattle.rdl_elab.proofs.walk.instances.contents_of.Goals as goal
-use Rattle.rdl_elab.proofs.walk.instances.contents_of.Goals.{in-Some, in_default}
+
+pub loop-part-init : goal.loop-part-init
+loop-part-init c =
+    let fs = c.args.components.now in
+    let first = c.nothing-contents.ensures in
+    record {
+      levels = omega (arith, ap (λ x. x.levels) first);
+      shallow = omega (arith, ap (λ x. x.levels) first);
+      last = subst (λ (x : Contents). IsCounted (slice_get fs (length fs)) x.levels x.whole x.has_empty 0) (sym first)
+          (subst (λ (o : Option Finished). IsCounted o 0 true false 0) (sym (slice_get_past fs (length fs) (omega arith))) (nothing-counted 0 true false (omega arith)));
+      rows = omega (arith, ap (λ x. x.rows) first);
+      few = omega (arith, ap (λ x. x.rows) first);
+      whole = ap (λ x. x.whole && are_whole fs c.args.parts.now) first;
+      empty = λ e. refl;
+    }
 
 pub loop-part-preserved : goal.loop-part-preserved
 loop-part-preserved c =
@@ -11,35 +29,18 @@ loop-part-preserved c =
     let i = c.loop-part.part-index in
     let p = c.part-item.result in
     let old = c.loop-part.contents in
-    let new = c.match-component.contents in
+    let new = c.with_part-contents.result in
+    let more = c.with_part-contents.ensures in
     let inv = c.loop-part.invariant in
-    elim c.match-component.branch [
-      | in-Some w ↦
-          let f = w.in-Some.finished.now in
-          let there = sym w.in-Some.ensures in
-          let more = w.with-contents.ensures in
-          record {
-            levels = levels-more fs i ps p (Some f) c.loop-part-test.true c.part-item.is there old.levels new.levels _ (omega (arith, ap (λ x. x.levels) w.contents-is ∙ more.levels)) inv.levels;
-            shallow = omega (arith, ap (λ x. x.levels) w.contents-is ∙ more.levels);
-            rows = rows-more fs i ps p (Some f) c.loop-part-test.true c.part-item.is there old.rows new.rows _ (omega (arith, ap (λ x. x.rows) w.contents-is ∙ more.rows)) inv.rows;
-            few = omega (arith, ap (λ x. x.rows) w.contents-is ∙ more.rows);
-            whole = whole-more fs i ps p (Some f) c.loop-part-test.true c.part-item.is there old.whole new.whole _ (ap (λ x. x.whole) w.contents-is ∙ more.whole) inv.whole;
-            empty = λ e.
-                let none = sym (ap (λ x. x.has_empty) w.contents-is) ∙ e in
-                empty-more fs i ps p (Some f) c.loop-part-test.true c.part-item.is there None _ (sym (full-part p f (more.empty none) (more.inside none))) (inv.empty (more.before none));
-          }
-      | in_default w ↦
-          let there = sym w.in_default.ensures in
-          let same = w.contents-is in
-          record {
-            levels = levels-more fs i ps p None c.loop-part-test.true c.part-item.is there old.levels new.levels _ (omega (arith, ap (λ x. x.levels) same)) inv.levels;
-            shallow = omega (arith, ap (λ x. x.levels) same);
-            rows = rows-more fs i ps p None c.loop-part-test.true c.part-item.is there old.rows new.rows _ (omega (arith, ap (λ x. x.rows) same)) inv.rows;
-            few = omega (arith, ap (λ x. x.rows) same);
-            whole = whole-more fs i ps p None c.loop-part-test.true c.part-item.is there old.whole new.whole _ (ap (λ x. x.whole) same ∙ and-one old.whole) inv.whole;
-            empty = λ e. empty-more fs i ps p None c.loop-part-test.true c.part-item.is there None _ refl (inv.empty (sym (ap (λ x. x.has_empty) same) ∙ e));
-          }
-    ]
+    record {
+      levels = levels-more fs i ps p _ c.loop-part-test.true c.part-item.is refl old.levels new.levels _ (omega (arith, more.levels)) inv.levels;
+      shallow = omega (arith, more.levels);
+      last = more.last;
+      rows = rows-more fs i ps p _ c.loop-part-test.true c.part-item.is refl old.rows new.rows _ (omega (arith, more.rows)) inv.rows;
+      few = omega (arith, more.rows);
+      whole = whole-more fs i ps p _ c.loop-part-test.true c.part-item.is refl old.whole new.whole _ more.whole inv.whole;
+      empty = λ e. empty-more fs i ps p _ c.loop-part-test.true c.part-item.is refl None _ (sym (more.empty e)) (inv.empty (more.before e));
+    }
 
 pub returns : goal.returns
 returns c =

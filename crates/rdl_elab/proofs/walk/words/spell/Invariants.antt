@@ -6,5 +6,5 @@ use Rattle.rdl_elab.proofs.walk.words.spell.Given as goal
 
 abbrev pub invariant-loop-part : goal.invariant-loop-part
 invariant-loop-part l =
-    l.bytes.items ++ coded (members_words (kept_members l.components (drop l.part-index l.parts)))
+    (l.bytes.items ++ l.gathered) ++ coded (members_words (kept_members l.components (drop l.part-index l.parts)))
     ≡ spelling (record { kind = l.fn.kind; values = l.fn.values; members = kept_members l.components l.parts })
