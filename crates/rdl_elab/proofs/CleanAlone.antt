@@ -1,6 +1,6 @@
 -- Instances that have no fault, whatever their values are.
-use Rattle.std.proofs.Common.{◌≡◌, ℕ, subst, ◌≤◌, ◌+◌, List, [], ◌∷◌, ◌++◌, Bool, true, false, Some, None, refl, ap, sym, ◌∙◌, arith, zero, suc, take, length}
-use Rattle.std.specs.Prelude.{nat_lt, nat_le, max, map, slice_get, unwrap_or, ◌&&◌, ◌||◌, if◌then◌else◌}
+use Rattle.std.proofs.Common.{◌≡◌, ℕ, subst, ◌≤◌, ◌+◌, List, [], ◌∷◌, ◌++◌, Bool, true, false, Option, Some, None, refl, ap, sym, ◌∙◌, arith, zero, suc, take, length}
+use Rattle.std.specs.Prelude.{nat_lt, nat_le, max, map, slice_get, unwrap_or, IsSomeAnd, ◌&&◌, ◌||◌, if◌then◌else◌}
 use Rattle.std.specs.Option.{is_none}
 use Rattle.std.proofs.lemmas.Bool.{le-ltb, leb-true}
 use Rattle.std.proofs.lemmas.List.{map-append, take_more}
@@ -13,13 +13,14 @@ use Rattle.rdl_elab.specs.declared.layout.Mode.{Mode}
 use Rattle.rdl_elab.specs.declared.layout.Span.{Span}
 use Rattle.rdl_elab.specs.declared.rows.siblings.Sibling.{Sibling}
 use Rattle.rdl_elab.specs.declared.walk.finished.Finished.{Finished}
-use Rattle.rdl_elab.specs.Clean.{AreClean, IsCleanUnder}
-use Rattle.rdl_elab.specs.CleanParts.{IsSound, IsClean, in_order, part_values}
+use Rattle.rdl_elab.specs.Clean.{AreClean, IsCleanIn, IsCleanUnder}
+use Rattle.rdl_elab.specs.Bare.{IsBare}
+use Rattle.rdl_elab.specs.CleanParts.{IsSound, IsClean, IsCleanAlone, IsKnownClean, in_order, part_values}
 use Rattle.rdl_elab.specs.Finished.{under}
 use Rattle.rdl_elab.specs.FinishedRows.{finished_fault, extent_fault, overlaps_before, seen}
 use Rattle.rdl_elab.specs.Kept.{Part}
 use Rattle.rdl_elab.specs.Reaches.{Reach, behind}
-use Rattle.rdl_elab.proofs.Cleaning.{GoesOn, begins, goes-further, ends-parts, ends-spans, ends-finished}
+use Rattle.rdl_elab.proofs.Cleaning.{GoesOn, begins, goes-further, ends-parts, ends-spans, ends-finished, nothing-further}
 use Rattle.rdl_elab.proofs.Watermarks.{apart}
 
 -- nothing is wrong with the bytes of an instance whose stride isn't too small and which overlaps none before it
@@ -124,3 +125,29 @@ pub part-goes-on : (fs : List Finished) (m : Mode) (least : ℕ) (rs : List Reac
     → GoesOn fs m least rs spans parts siblings i → GoesOn fs m least rs spans parts after (i + 1)
 part-goes-on fs m least rs spans parts siblings i span p f after s t h c g =
     goes-further fs m least rs spans parts siblings i span p f (behind p.at rs) (part_values rs p f) after s t h refl refl (ap is_none c.here) c.below c.behind g
+
+-- a component of which it is known
+pub known-clean : (fs : List Finished) (m : Mode) (k : ℕ) (f : Finished) → slice_get fs k ≡ Some f → IsSound f → IsCleanIn fs f m → IsKnownClean fs m k
+known-clean fs m k f e sound clean = subst (λ o. IsSomeAnd o (λ f. IsSound f × IsCleanIn fs f m)) (sym e) (sound, clean)
+
+-- an instance of such a component
+pub clean-alone : (fs : List Finished) (m : Mode) (rs : List Reach) (p : Part) → IsBare p.shell → behind p.at rs ≡ [] → IsKnownClean fs m p.component → IsSomeAnd (slice_get fs p.component) (IsCleanAlone fs m rs p)
+clean-alone fs m rs p bare none known = by (slice_get fs p.component) known
+  where
+    by : (o : Option Finished) → IsSomeAnd o (λ f. IsSound f × IsCleanIn fs f m) → IsSomeAnd o (IsCleanAlone fs m rs p)
+    by None h = absurd h
+    by (Some f) h = record {
+      sound = h.0;
+      stride = no-stride p.shell (under m f.layouts).size bare.stride;
+      below = subst (λ xs. IsCleanUnder fs m xs f) (sym none) (nothing-further fs f m [] (λ a. refl) h.1);
+    }
+
+-- with it one more instance is judged
+pub alone-judged : (fs : List Finished) (m : Mode) (least : ℕ) (rs : List Reach) (spans : List Span) (parts : List Part) (i : ℕ) → AreJudged fs m least rs spans parts i
+    → (span : Span) (p : Part) → slice_get spans i ≡ Some span → slice_get parts i ≡ Some p → in_order 0 spans ≡ true → IsSomeAnd (slice_get fs p.component) (IsCleanAlone fs m rs p)
+    → AreJudged fs m least rs spans parts (i + 1)
+alone-judged fs m least rs spans parts i judged span p s t order some = by (slice_get fs p.component) refl some
+  where
+    by : (o : Option Finished) → slice_get fs p.component ≡ o → IsSomeAnd o (IsCleanAlone fs m rs p) → AreJudged fs m least rs spans parts (i + 1)
+    by None e h = absurd h
+    by (Some f) e h = one-judged fs m least rs spans parts i judged span p s t f e order h.sound h.stride h.below

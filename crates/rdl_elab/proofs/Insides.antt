@@ -120,7 +120,7 @@ all-whole fs (p ∷ ps) h = by (slice_get fs p.component) refl (all-whole fs ps 
     by (Some f) e rest = ap (λ b. b && are_whole fs ps) (h p.component f e) ∙ rest
 
 -- steps of the loops over the instances
-next : (i : ℕ) (ps : List Part) (p : Part) → i < length ps → drop i ps ≡ get_or ps i p ∷ drop (i + 1) ps
+pub next : (i : ℕ) (ps : List Part) (p : Part) → i < length ps → drop i ps ≡ get_or ps i p ∷ drop (i + 1) ps
 next i ps p h = rw add-one (drop-cons ps i p h)
 
 pub kept-next : (m : Mode) (fs : List Finished) (i : ℕ) (ps : List Part) (p : Part) → i < length ps → kept_parts m fs (drop i ps) ≡ cons_option (kept_part m fs (get_or ps i p)) (kept_parts m fs (drop (i + 1) ps))
@@ -200,28 +200,7 @@ module _ {X : Type 0} (g : Shell × Layout → X) (m : Mode) (fs : List Finished
       ∙ ap (λ o. cons_option (option_map (λ (f : Finished). (p.shell, under m f.layouts)) o) rest) found in
       ap (λ xs. xs ++ map g rest) same ∙ sym (ap (λ xs. done ++ map g xs) one) ∙ inv
 
--- one more instance that is placed, with its component and without one, for what comes of all that are left
-abbrev unplaced : Mode → List Finished → List Part → ℕ → List Placement
-unplaced m fs ps n = map shown_placement (kept_parts m fs (drop n ps))
-
-module _ (m : Mode) (fs : List Finished) (i : ℕ) (ps : List Part) (p : Part) (h : i < length ps) (is : p ≡ get_or ps i p) where
-  pub placed-some : {L : Type 0} (before after : List Placement → L) (f : Finished) (whole : L) → slice_get fs p.component ≡ Some f
-      → ((behind : List Placement) → before (shown_placement (p.shell, under m f.layouts) ∷ behind) ≡ after behind) → before (unplaced m fs ps i) ≡ whole → after (unplaced m fs ps (i + 1)) ≡ whole
-  placed-some before after f whole found put inv =
-      let rest = kept_parts m fs (drop (i + 1) ps) in
-      let one : kept_parts m fs (drop i ps) ≡ (p.shell, under m f.layouts) ∷ rest =
-      kept-next m fs i ps p h ∙ ap (λ (q : Part). cons_option (kept_part m fs q) rest) (sym is)
-      ∙ ap (λ o. cons_option (option_map (λ (f : Finished). (p.shell, under m f.layouts)) o) rest) found in
-      sym (put (map shown_placement rest)) ∙ sym (ap (λ xs. before (map shown_placement xs)) one) ∙ inv
-
-  pub placed-none : {L : Type 0} (before : List Placement → L) (whole : L) → slice_get fs p.component ≡ None → before (unplaced m fs ps i) ≡ whole → before (unplaced m fs ps (i + 1)) ≡ whole
-  placed-none before whole found inv =
-      let rest = kept_parts m fs (drop (i + 1) ps) in
-      let one : kept_parts m fs (drop i ps) ≡ rest =
-      kept-next m fs i ps p h ∙ ap (λ (q : Part). cons_option (kept_part m fs q) rest) (sym is)
-      ∙ ap (λ o. cons_option (option_map (λ (f : Finished). (p.shell, under m f.layouts)) o) rest) found in
-      sym (ap (λ xs. before (map shown_placement xs)) one) ∙ inv
-
+-- no instance is left to be placed
 pub placed-all : {L : Type 0} (last : List Placement → L) (m : Mode) (fs : List Finished) (i : ℕ) (ps : List Part) (whole : L) → length ps ≤ i
     → last (map shown_placement (kept_parts m fs (drop i ps))) ≡ whole → last [] ≡ whole
 placed-all last m fs i ps whole done inv = sym (ap (λ xs. last (map shown_placement xs)) (kept-none m fs i ps done)) ∙ inv

@@ -4,6 +4,7 @@ pub mod KeptValues
 pub mod Rounding
 pub mod CappedNumbers
 pub mod Placing
+pub mod BarePlaces
 pub mod FieldRuns
 pub mod Members
 pub mod KeptLayouts
@@ -23,6 +24,7 @@ pub mod Accesses
 pub mod Counting
 pub mod EachMember
 pub mod Insides
+pub mod PlacedParts
 pub mod Bare
 pub mod InstanceLists
 pub mod Making

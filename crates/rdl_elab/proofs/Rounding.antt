@@ -1,6 +1,6 @@
 -- The least multiple of two numbers: found, alone, and reached by a division.
 use Rattle.std.proofs.Common.{◌≡◌, ℕ, zero, suc, ◌+◌, ◌-◌, ◌*◌, ◌/◌, ◌%◌, ◌^◌, ◌<◌, ◌≤◌, Bool, true, false, refl, ap, sym, subst, ◌∙◌, arith, ◌⊎◌, inl, inr}
-use Rattle.std.specs.Prelude.{◌&&◌, nat_eq}
+use Rattle.std.specs.Prelude.{◌&&◌, nat_eq, min}
 use Rattle.std.proofs.Math.Nat.{add-mul, mul-add, mul_assoc, mul_comm, pow-suc, suc-mul, zero-mul, dvd-mul_left}
 use Rattle.std.proofs.lemmas.Nat.{div-add-mod', mod_below, mul-le}
 use Rattle.std.proofs.lemmas.Nat.Gcd.{mod-eq-zero_of_dvd}
@@ -228,5 +228,40 @@ round_next e a b s h g t w z =
   where
     over : (m : ℕ) → (m ≡ 0 → ⊥) → m < s → e + (s - m) < e + s
     over m z r = omega arith
+
+-- one step alone does as well as the two numbers that it is for
+pub step_alone : (e w b s r : ℕ) → 0 < w → 0 < b → IsStep w b s → (s < 2 ^ 40 + 1 → s % b ≡ 0) → r ≡ min s (2 ^ 40 + 1) → capped (next_multiple e r 1) ≡ capped (next_multiple e w b)
+step_alone e w b s r h g t whole f = by_size (cases_lt s (2 ^ 40 + 1))
+  where
+    one : 0 < 1
+    one = omega arith
+
+    pos : 0 < r
+    pos = let p = t.positive in omega arith
+
+    near : s % b ≡ 0 → r ≡ s → next_multiple e r 1 ≡ next_multiple e w b
+    near whole same =
+        let n = next_multiple-is e r 1 pos one in
+        let mult : next_multiple e r 1 % s ≡ 0 = subst (λ z. next_multiple e r 1 % z ≡ 0) same n.first in
+        next_same e w b (next_multiple e r 1) (next_multiple e w b) (record {
+          above = n.above;
+          first = multiple_trans w s (next_multiple e r 1) t.multiple mult;
+          second = multiple_trans b s (next_multiple e r 1) whole mult;
+          least = λ m k p q. n.least m k (subst (λ z. m % z ≡ 0) (sym same) (t.common m p q)) (zero_mod 1 m (m, omega arith));
+        }) (next_multiple-is e w b h g)
+
+    far : (e : ℕ) → 2 ^ 40 + 1 ≤ s → r ≡ 2 ^ 40 + 1 → capped (next_multiple e r 1) ≡ capped (next_multiple e w b)
+    far zero l same = ap capped (next_zero r 1 pos one ∙ sym (next_zero w b h g))
+    far (suc e) l same =
+        let first : r ≤ next_multiple (suc e) r 1 = next_far (suc e) r 1 r pos one (omega arith) (step_first r 1 pos) in
+        let second : s ≤ next_multiple (suc e) w b = next_far (suc e) w b s h g (omega arith) t in
+        both (next_multiple (suc e) r 1) (next_multiple (suc e) w b) (omega (arith, first)) (omega (arith, second))
+      where
+        both : (x y : ℕ) → 2 ^ 40 + 1 ≤ x → 2 ^ 40 + 1 ≤ y → capped x ≡ capped y
+        both x y a b = omega arith
+
+    by_size : ((s < 2 ^ 40 + 1) ⊎ (2 ^ 40 + 1 ≤ s)) → capped (next_multiple e r 1) ≡ capped (next_multiple e w b)
+    by_size (inl l) = ap capped (near (whole l) (omega arith))
+    by_size (inr l) = far e l (omega arith)
 
 pub ruleset rounds = (step_first, step_on, round_zero, round_far, round_same, round_next)

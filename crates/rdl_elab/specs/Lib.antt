@@ -18,7 +18,9 @@ pub mod HeldAddress
 pub mod HeldPath
 pub mod EachMode
 pub mod EachMember
+pub mod AlikeParts
 pub mod Bare
+pub mod BarePlaces
 pub mod Finished
 pub mod NameMarks
 pub mod PartNames

@@ -28,7 +28,7 @@ place_under names q = value_under names.places q
 -- a name is put in: each name, or those that are marked
 abbrev pub has_name : Option NameMarks → List ℕ → Bool
 has_name None q = true
-has_name (Some marks) q = is_marked marks.words.items q
+has_name (Some marks) q = is_marked marks.words q
 
 -- under each name that is put in stands the number of its first instance
 abbrev pub AreNamed : PartNames → List Part → Type 0

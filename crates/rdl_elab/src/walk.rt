@@ -150,7 +150,7 @@ fn finished_component<'a>(
     let shown = shown_values(alloc, kind, &own, &mut walk.defaults, &walk.built_ins)?;
     let has_dynamic = own.has_dynamic();
     let further = &mut walk.further;
-    let look_ups = further.look_ups(alloc, description, at, &own, parts.len())?;
+    let look_ups = further.look_ups(description, at, &own, parts.len());
     let parts = PartList::of(alloc, parts, look_ups)?;
     let components = walk.components.as_slice();
     let contents = contents_of(parts.as_slice(), components);

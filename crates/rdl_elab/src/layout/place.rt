@@ -1,12 +1,13 @@
 //! The layout of an address map or a register file, from the layouts of its instances' components.
-ghost use Rattle.std.specs.Prelude.{◌≡◌, ◌+◌, ◌^◌, ◌≤◌, IfOk};
+ghost use Rattle.std.specs.Prelude.{◌≡◌, ◌+◌, ◌^◌, ◌<◌, ◌≤◌, IfOk};
 ghost use Rattle.rdl_elab.specs.Size.{end_of};
 ghost use Rattle.rdl_elab.specs.Start.{full_alignment, mode_alignment, start_of};
+ghost use Rattle.rdl_elab.specs.BarePlaces.{IsBareStep, bare_alignment};
 ghost use Rattle.rdl_elab.specs.Layouts.{container};
 ghost use Rattle.rdl_elab.specs.Capped.{capped, capped_layout, IsAlignment};
 
 use crate::layout::placing::Placing;
-use crate::layout::round::{LIMIT, capped, next_multiple};
+use crate::layout::round::{LIMIT, capped, common_step, next_multiple};
 use crate::layout::{Layout, Mode, Placement};
 use rdl_text::token::Number;
 use std::alloc::{AllocError, Global};
@@ -51,6 +52,29 @@ pub(crate) fn start_of(alignment: Option<Number>, mode: Mode, end: u64, item: Pl
             }
         },
     }
+}
+
+/// What an instance that says nothing but its name takes of its component's layout.
+fn bare_alignment(mode: Mode, layout: &Layout) -> u64
+    ensures { result ≡ capped (bare_alignment mode layout.now) }
+{
+    match mode {
+        Mode::Compact => layout.access.min(LIMIT),
+        Mode::Regalign | Mode::Fullalign => layout.size.min(LIMIT),
+    }
+}
+
+/// A number of which instances of this layout that say nothing but their names begin at the next multiple, in a component with
+/// this `alignment`.
+#[tactic(auto, using(crate::proofs::CappedNumbers::caps))]
+pub(crate) fn bare_step(alignment: Option<Number>, mode: Mode, layout: &Layout) -> u64
+    requires { IsAlignment alignment }
+    ensures positive { 0 < result }
+    ensures small { result ≤ 2 ^ 40 + 1 }
+    ensures starts { IsBareStep alignment mode layout.now result }
+{
+    let around = alignment.unwrap_or(1);
+    common_step(bare_alignment(mode, layout).max(1), around).min(LIMIT)
 }
 
 #[tactic(auto, using(crate::proofs::CappedNumbers::caps))]

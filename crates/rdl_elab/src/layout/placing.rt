@@ -1,10 +1,22 @@
 //! Instances of an address map or a register file that are placed one after the other.
-ghost use Rattle.std.specs.Prelude.{◌≤◌, ◌+◌, ◌^◌};
+ghost use Rattle.std.specs.Prelude.{◌<◌, ◌≤◌, ◌+◌, ◌^◌};
 
-use crate::layout::place::{end_of, start_of};
+use crate::layout::place::{bare_step, end_of, start_of};
+use crate::layout::round::{LIMIT, next_multiple};
 use crate::layout::{Layout, Mode, Placement, Span, Spans};
 use rdl_text::token::Number;
 use std::alloc::{AllocError, Global};
+
+/// How instances that say nothing but their names are placed, where their components have one layout.
+#[derive(Clone, Copy)]
+pub(crate) struct BarePlace {
+    size: u64,
+    access: u64,
+    /// Each begins at the next multiple of this.
+    step: u64,
+    ghost positive: { 0 < step },
+    ghost near: { step ≤ 2 ^ 40 + 1 },
+}
 
 /// The instances that are placed so far. Numbers over 2^40 are kept as 2^40 + 1.
 #[derive(Drop)]
@@ -26,6 +38,7 @@ impl Placing {
     ghost use Rattle.rdl_elab.specs.Capped.{capped_layout, IsAlignment};
     ghost use Rattle.rdl_elab.specs.Layouts.{container};
     ghost use Rattle.rdl_elab.specs.Placing.{with_behind};
+    ghost use Rattle.rdl_elab.specs.BarePlaces.{IsBarePlace, IsPlacedSo};
     ghost use Rattle.rdl_elab.specs.declared.layout.Placement.{Placement};
 
     /// None yet, in a component with this `alignment`, with room for so many.
@@ -36,6 +49,7 @@ impl Placing {
         count: usize,
     ) -> Result<Placing, AllocError>
         ensures alignment { IfOk result (λ placing. placing.alignment ≡ alignment) }
+        ensures mode { IfOk result (λ placing. placing.mode ≡ mode) }
         ensures none { IfOk result (λ placing. (behind : List Placement) → with_behind placing behind ≡ capped_layout (container alignment mode behind)) }
     {
         Ok(Placing {
@@ -53,6 +67,7 @@ impl Placing {
     pub(crate) fn put(&mut self, item: Placement) -> Result<(), AllocError>
         requires { IsAlignment self.old.alignment }
         ensures alignment { self.new.alignment ≡ self.old.alignment }
+        ensures mode { self.new.mode ≡ self.old.mode }
         ensures one { OnOk result ((behind : List Placement) → with_behind self.old (item ∷ behind) ≡ with_behind self.new behind) }
     {
         let start = start_of(self.alignment, self.mode, self.end, item);
@@ -61,6 +76,34 @@ impl Placing {
         self.end = end;
         self.size = self.size.max(end);
         self.access = self.access.max(item.access);
+        Ok(())
+    }
+
+    /// How the next instances that say nothing but their names are placed, where their components have this layout.
+    pub(crate) fn bare_place(&self, layout: &Layout) -> BarePlace
+        requires { IsAlignment self.now.alignment }
+        ensures { IsBarePlace self.now.alignment self.now.mode layout.now result }
+    {
+        BarePlace {
+            size: layout.size,
+            access: layout.access,
+            step: bare_step(self.alignment, self.mode, layout),
+        }
+    }
+
+    /// Places one more that says nothing but its name.
+    #[inline(always)]
+    pub(crate) fn put_bare(&mut self, place: BarePlace) -> Result<(), AllocError>
+        ensures alignment { self.new.alignment ≡ self.old.alignment }
+        ensures mode { self.new.mode ≡ self.old.mode }
+        ensures one { OnOk result ((item : Placement) (behind : List Placement) → IsPlacedSo self.old.alignment self.old.mode item place → with_behind self.old (item ∷ behind) ≡ with_behind self.new behind) }
+    {
+        let start = next_multiple(self.end, place.step, 1);
+        let end = start.saturating_add(place.size).min(LIMIT);
+        self.spans.push(Span { start, end })?;
+        self.end = end;
+        self.size = self.size.max(end);
+        self.access = self.access.max(place.access);
         Ok(())
     }
 

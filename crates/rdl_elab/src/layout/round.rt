@@ -18,7 +18,7 @@ pub(crate) fn capped(number: Number) -> u64
 
 #[tactic(auto, using(crate::proofs::Rounding::rounds))]
 /// A number of which each common multiple is a multiple, and which is one itself or beyond the limit.
-fn common_step(first: u64, second: Number) -> u64
+pub(crate) fn common_step(first: u64, second: Number) -> u64
     requires first { 0 < first }
     requires small { first ≤ 2 ^ 40 + 1 }
     requires positive { 0 < second }

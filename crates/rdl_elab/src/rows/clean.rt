@@ -1,8 +1,8 @@
 //! Components below which no row has a fault, each judged once for all its instances.
-ghost use Rattle.std.specs.Prelude.{◌≡◌, ℕ, ◌++◌, ◌∷◌, [], List, nat_lt, unwrap_or, true, false, Some, None, IfOk, option_and_then, slice_get};
+ghost use Rattle.std.specs.Prelude.{◌≡◌, ℕ, ◌++◌, ◌∷◌, [], List, nat_lt, unwrap_or, true, false, Some, None, IfOk, IfSome, IsSomeAnd, option_and_then, slice_get};
 ghost use Rattle.rdl_elab.specs.Faults.{fault_in};
 ghost use Rattle.rdl_elab.specs.Clean.{AreClean, AreCleanIn, HaveNoModes, IsCleanIn, IsCleanUnder, bits_inside, has_mode, modes_at};
-ghost use Rattle.rdl_elab.specs.CleanParts.{IsSound, IsClean, in_order};
+ghost use Rattle.rdl_elab.specs.CleanParts.{IsSound, IsClean, IsCleanAlone, IsKnownClean, in_order};
 ghost use Rattle.rdl_elab.specs.Finished.{under};
 ghost use Rattle.rdl_elab.specs.declared.walk.finished.Finished.{Finished};
 ghost use Rattle.rdl_elab.specs.FinishedRows.{finished_answer};
@@ -198,6 +198,55 @@ fn is_sound(component: &Finished) -> bool
     }
 }
 
+/// Whether nothing can be wrong with instances of this component that say nothing but their names, and which nothing reaches from
+/// outside. It is known afterwards of this component, if so.
+fn learn_clean(
+    components: &[Finished],
+    clean: &[Modes],
+    mode: Mode,
+    known: &mut Option<usize>,
+    number: usize,
+) -> bool
+    requires clean { AreCleanIn components.now clean.now }
+    requires known { IfSome known.old (IsKnownClean components.now mode) }
+    ensures known { IfSome known.new (IsKnownClean components.now mode) }
+    ensures clean { result ≡ true → IsKnownClean components.now mode number }
+{
+    let Some(component) = finished_at(components, number) else {
+        return false;
+    };
+    if !is_sound(component) || !is_known(clean, number, mode) {
+        return false;
+    }
+    *known = Some(number);
+    true
+}
+
+/// Whether this instance says nothing but its name, nothing reaches it from outside, and its component is known to be clean in the
+/// mode. What is known of one component isn't asked again for the next instances of it.
+#[inline(always)]
+fn is_clean_alike<'a>(
+    components: &[Finished<'a>],
+    clean: &[Modes],
+    mode: Mode,
+    onward: &Onward<'a>,
+    known: &mut Option<usize>,
+    part: &Part<'a>,
+) -> bool
+    requires clean { AreCleanIn components.now clean.now }
+    requires known { IfSome known.old (IsKnownClean components.now mode) }
+    ensures known { IfSome known.new (IsKnownClean components.now mode) }
+    ensures clean { result ≡ true → (rs : List Reach) → IsOnward onward.now rs → IsSomeAnd (slice_get components.now part.now.component) (IsCleanAlone components.now mode rs part.now) }
+{
+    if !part.is_bare() || !onward.passes_by(part) {
+        return false;
+    }
+    match *known {
+        Some(number) if number == part.number() => true,
+        _ => learn_clean(components, clean, mode, known, part.number()),
+    }
+}
+
 /// Whether no row below this instance is found to have a fault.
 #[cycle(clean)]
 fn is_clean_behind<'a>(
@@ -243,10 +292,14 @@ fn is_clean_container<'a>(
     ensures { IfOk result (λ answer. answer ≡ true → AreClean components.now level.now.mode level.now.bits level.now.reaching.items spans.now parts.now) }
 {
     let mode = level.mode;
+    let mut known = None;
     for (i, part) in parts.iter().enumerate() {
         let Some(_) = span_at(spans, i) else {
             return Ok(true);
         };
+        if is_clean_alike(components, clean, mode, onward, &mut known, part) {
+            continue;
+        }
         let Some(component) = part.component(components) else {
             return Ok(true);
         };
@@ -484,31 +537,40 @@ fn all_clean_modes(
     Ok(clean)
 }
 
-/// Takes the mode among those that are needed of the component of this number.
-fn need(needed: &mut [Modes], number: usize, mode: Mode) {
-    if let Some(modes) = needed.get_mut(number) {
-        modes.insert(mode);
+/// The modes in which the instances of a component are placed that stands in these modes.
+fn modes_inside(component: &Finished, modes: Modes) -> Modes {
+    let mut inside = Modes::none();
+    for mode in [Mode::Compact, Mode::Regalign, Mode::Fullalign] {
+        if modes.has(mode) {
+            inside.insert(mode_inside(component.kind, component.values, mode));
+        }
+    }
+    inside
+}
+
+/// Takes these modes among those of the component of this number.
+fn add_modes(all: &mut [Modes], number: usize, modes: Modes) {
+    if let Some(before) = all.get_mut(number) {
+        *before = before.with(modes);
     }
 }
 
-/// Takes the mode among those that are needed of the components of these instances.
-fn need_in(needed: &mut [Modes], parts: &[Part], mode: Mode) {
+/// Takes these modes among those that are needed of the components of these instances, and the others among those in which
+/// something passes them.
+fn need_in(
+    needed: &mut [Modes],
+    passed: &mut [Modes],
+    parts: &[Part],
+    inside: Modes,
+    through: Modes,
+) {
     let mut last = None;
     for part in parts {
         let number = part.number();
         if last != Some(number) {
-            need(needed, number, mode);
+            add_modes(needed, number, inside);
+            add_modes(passed, number, through);
             last = Some(number);
-        }
-    }
-}
-
-/// Takes the modes in which the instances of a component are placed that is needed in these modes.
-fn need_parts(needed: &mut [Modes], component: &Finished, modes: Modes) {
-    for mode in [Mode::Compact, Mode::Regalign, Mode::Fullalign] {
-        if modes.has(mode) {
-            let inside = mode_inside(component.kind, component.values, mode);
-            need_in(needed, component.parts.as_slice(), inside);
         }
     }
 }
@@ -532,19 +594,29 @@ fn needed_modes(
 ) -> Result<Vec<Modes>, AllocError> {
     let mut needed = no_modes(alloc, components.len())?;
     let mut passed = no_modes(alloc, components.len())?;
-    need(needed.as_mut_slice(), top, Mode::Regalign);
+    let mut first = Modes::none();
+    first.insert(Mode::Regalign);
+    add_modes(needed.as_mut_slice(), top, first);
     for number in (0..components.len()).rev() {
         let component = &components[number];
         let judged = modes_at(needed.as_slice(), number).without(modes_at(known, number));
         let through = modes_at(passed.as_slice(), number);
         let inside = judged.with(through);
-        need_parts(needed.as_mut_slice(), component, inside);
+        if inside.is_empty() {
+            continue;
+        }
         let reached = if component.assignments.as_slice().is_empty() {
             through
         } else {
             inside
         };
-        need_parts(passed.as_mut_slice(), component, reached);
+        need_in(
+            needed.as_mut_slice(),
+            passed.as_mut_slice(),
+            component.parts.as_slice(),
+            modes_inside(component, inside),
+            modes_inside(component, reached),
+        );
     }
     Ok(needed)
 }

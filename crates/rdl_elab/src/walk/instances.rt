@@ -1,5 +1,5 @@
 //! What a component takes of its instances, of whose components all is kept.
-ghost use Rattle.std.specs.Prelude.{◌≡◌, ◌≤◌, ◌+◌, ◌&&◌, ◌∷◌, List, min, max, map, slice_get, true, false, IfOk, OnOk, Some, None, option_copied};
+ghost use Rattle.std.specs.Prelude.{◌≡◌, ◌≤◌, ◌+◌, ◌&&◌, ◌∷◌, List, min, max, map, slice_get, true, false, IfOk, IfSome, IsSomeAnd, OnOk, Some, None, option_copied};
 ghost use Rattle.rdl_elab.specs.declared.layout.Mode.{Mode};
 ghost use Rattle.rdl_elab.specs.declared.layout.Mode.TheVariants.{Compact};
 ghost use Rattle.rdl_tree.specs.declared.shell.Kind.TheVariants.{Regfile, Reg};
@@ -8,12 +8,15 @@ ghost use Rattle.rdl_elab.specs.Capped.{capped_layout, IsAlignment};
 ghost use Rattle.rdl_elab.specs.declared.layout.Placement.{Placement};
 ghost use Rattle.rdl_elab.specs.Bare.{IsBare};
 ghost use Rattle.rdl_elab.specs.Placing.{with_behind};
+ghost use Rattle.rdl_elab.specs.Kept.{Part};
+ghost use Rattle.rdl_elab.specs.AlikeParts.{AreAlike};
+ghost use Rattle.rdl_elab.specs.BarePlaces.{IsBarePlace};
 ghost use Rattle.rdl_elab.specs.Finished.{under};
 ghost use Rattle.rdl_elab.specs.Inside.{counted, shown_placement, kept_parts, part_levels, kept_levels, part_rows, finished_rows, lacks_rows, part_empty, kept_empty, is_whole, are_whole, IsCounted};
 
 use crate::layout::bits::bits;
 use crate::layout::component::{field, register};
-use crate::layout::placing::Placing;
+use crate::layout::placing::{BarePlace, Placing};
 use crate::layout::{FieldBits, Layout, LayoutValues, Mode, Placement};
 use crate::walk::finished::{Finished, Layouts, Part, ThreeLayouts};
 use crate::walk::shared::SharedAddress;
@@ -43,34 +46,100 @@ fn placement(shell: &Shell, layout: &Layout) -> Placement
     }
 }
 
-/// The same of an instance that says nothing but its name.
-#[inline(always)]
-fn bare_placement(part: &Part, layout: &Layout) -> Placement
-    requires { IsBare part.now.shell }
-    ensures { result ≡ shown_placement (part.now.shell, layout.now) }
+/// How the instances of the component of this number are placed that say nothing but their names.
+#[derive(Clone, Copy)]
+struct Alike {
+    component: usize,
+    place: BarePlace,
+}
+
+/// How this instance is placed, if its component is among these. It is known afterwards of those like it.
+fn learnt_place(
+    placing: &Placing,
+    known: &mut Option<Alike>,
+    part: &Part,
+    mode: Mode,
+    components: &[Finished],
+) -> Option<BarePlace>
+    requires alignment { IsAlignment placing.now.alignment }
+    requires mode { placing.now.mode ≡ mode }
+    requires known { IfSome known.old (AreAlike placing.now.alignment mode components.now) }
+    ensures known { IfSome known.new (AreAlike placing.now.alignment mode components.now) }
+    ensures place { IfSome result (λ place. IsSomeAnd (slice_get components.now part.now.component) (λ f. IsBarePlace placing.now.alignment mode (under mode f.layouts) place)) }
 {
-    let _part = part;
-    Placement {
-        size: layout.size,
-        access: layout.access,
-        elements: 1,
-        is_array: false,
-        address: None,
-        stride: None,
-        align: None,
+    let finished = part.component(components)?;
+    let place = placing.bare_place(finished.layouts.under(mode));
+    *known = Some(Alike {
+        component: part.number(),
+        place,
+    });
+    Some(place)
+}
+
+/// How this instance is placed, if it says nothing but its name, and its component is among these. What is known of those like
+/// it isn't asked again.
+#[inline(always)]
+fn known_place(
+    placing: &Placing,
+    known: &mut Option<Alike>,
+    part: &Part,
+    mode: Mode,
+    components: &[Finished],
+) -> Option<BarePlace>
+    requires alignment { IsAlignment placing.now.alignment }
+    requires mode { placing.now.mode ≡ mode }
+    requires known { IfSome known.old (AreAlike placing.now.alignment mode components.now) }
+    ensures known { IfSome known.new (AreAlike placing.now.alignment mode components.now) }
+    ensures bare { IfSome result (λ place. IsBare part.now.shell) }
+    ensures place { IfSome result (λ place. IsSomeAnd (slice_get components.now part.now.component) (λ f. IsBarePlace placing.now.alignment mode (under mode f.layouts) place)) }
+{
+    if !part.is_bare() {
+        return None;
+    }
+    match *known {
+        Some(alike) if alike.component == part.number() => Some(alike.place),
+        _ => learnt_place(placing, known, part, mode, components),
     }
 }
 
-/// Places this instance, whose component has this layout, behind those that are placed.
-fn put_part(placing: &mut Placing, part: &Part, layout: &Layout) -> Result<(), AllocError>
-    requires { IsAlignment placing.old.alignment }
+/// Places this instance behind those that are placed, if its component is among these.
+fn put_other(
+    placing: &mut Placing,
+    part: &Part,
+    mode: Mode,
+    components: &[Finished],
+) -> Result<(), AllocError>
+    requires alignment { IsAlignment placing.old.alignment }
     ensures alignment { placing.new.alignment ≡ placing.old.alignment }
-    ensures one { OnOk result ((behind : List Placement) → with_behind placing.old (shown_placement (part.now.shell, layout.now) ∷ behind) ≡ with_behind placing.new behind) }
+    ensures mode { placing.new.mode ≡ placing.old.mode }
+    ensures one { OnOk result ((rest : List Part) → with_behind placing.old (map shown_placement (kept_parts mode components.now (part.now ∷ rest))) ≡ with_behind placing.new (map shown_placement (kept_parts mode components.now rest))) }
 {
-    if part.is_bare() {
-        placing.put(bare_placement(part, layout))
-    } else {
-        placing.put(placement(part.shell(), layout))
+    match part.component(components) {
+        Some(finished) => placing.put(placement(part.shell(), finished.layouts.under(mode))),
+        None => Ok(()),
+    }
+}
+
+/// The same, by what is known of those like it.
+#[inline(always)]
+fn put_next(
+    placing: &mut Placing,
+    known: &mut Option<Alike>,
+    part: &Part,
+    mode: Mode,
+    components: &[Finished],
+) -> Result<(), AllocError>
+    requires alignment { IsAlignment placing.old.alignment }
+    requires mode { placing.old.mode ≡ mode }
+    requires known { IfSome known.old (AreAlike placing.old.alignment mode components.now) }
+    ensures alignment { placing.new.alignment ≡ placing.old.alignment }
+    ensures mode { placing.new.mode ≡ placing.old.mode }
+    ensures known { IfSome known.new (AreAlike placing.old.alignment mode components.now) }
+    ensures one { OnOk result ((rest : List Part) → with_behind placing.old (map shown_placement (kept_parts mode components.now (part.now ∷ rest))) ≡ with_behind placing.new (map shown_placement (kept_parts mode components.now rest))) }
+{
+    match known_place(placing, known, part, mode, components) {
+        Some(place) => placing.put_bare(place),
+        None => put_other(placing, part, mode, components),
     }
 }
 
@@ -127,10 +196,9 @@ fn container(
     ensures { IfOk result (λ l. l ≡ capped_layout (laid_out Regfile values mode (map member (kept_parts mode components.now parts.now)))) }
 {
     let mut placing = Placing::with_room(alloc, values.alignment, mode, parts.len())?;
+    let mut known = None;
     for part in parts {
-        if let Some(finished) = part.component(components) {
-            put_part(&mut placing, part, finished.layouts.under(mode))?;
-        }
+        put_next(&mut placing, &mut known, part, mode, components)?;
     }
     Ok(placing.layout())
 }

@@ -53,19 +53,19 @@ fn last_further(description: &Description, from: usize, end: usize) -> Option<us
 }
 
 /// The marks of the names that the targets of the body's own items begin with, if they aren't too many to tell names apart.
-fn first_names(alloc: Global, body: &Body) -> Result<Option<NameMarks>, AllocError> {
-    let mut marks = NameMarks::none(alloc)?;
+fn first_names(body: &Body) -> Option<NameMarks> {
+    let mut marks = NameMarks::none();
     for item in body.as_slice() {
         if let Item::Dynamic(target, _, _) = item {
             if marks.len() >= MANY {
-                return Ok(None);
+                return None;
             }
             if let Some(name) = target.names().first() {
                 marks.put(name.as_str());
             }
         }
     }
-    Ok(Some(marks))
+    Some(marks)
 }
 
 /// The last item of the root of which a target passes more than one instance, as far as that was asked, from the last item
@@ -115,16 +115,15 @@ impl Further {
     /// own targets begin with.
     pub(crate) fn look_ups(
         &mut self,
-        alloc: Global,
         description: &Description,
         at: &Address,
         own: &OwnValues,
         instances: usize,
-    ) -> Result<LookUps, AllocError>
+    ) -> LookUps
         ensures { self.new ≡ self.old }
     {
         if instances <= FEW {
-            return Ok(LookUps::None);
+            return LookUps::None;
         }
         let from = match at.as_slice() {
             [root] => root.saturating_add(1),
@@ -132,14 +131,14 @@ impl Further {
             [] => 0,
         };
         if self.is_from(description, from) {
-            return Ok(LookUps::All);
+            return LookUps::All;
         }
         if !own.has_dynamic() {
-            return Ok(LookUps::None);
+            return LookUps::None;
         }
-        match first_names(alloc, own.body())? {
-            Some(marks) => Ok(LookUps::Marked(marks)),
-            None => Ok(LookUps::All),
+        match first_names(own.body()) {
+            Some(marks) => LookUps::Marked(marks),
+            None => LookUps::All,
         }
     }
 }

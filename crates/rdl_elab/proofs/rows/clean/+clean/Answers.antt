@@ -4,7 +4,7 @@ use Rattle.rdl_elab.specs.Clean.{IsCleanUnder}
 use Rattle.rdl_elab.specs.CleanParts.{IsClean, IsSound}
 use Rattle.rdl_elab.specs.Reaches.{behind}
 use Rattle.rdl_elab.proofs.Cleaning.{ends-parts, ends-spans, ends-finished, nothing-further}
-use Rattle.rdl_elab.proofs.CleanAlone.{none-judged, one-judged, no-more, no-span, no-component, part-goes-on}
+use Rattle.rdl_elab.proofs.CleanAlone.{none-judged, one-judged, alone-judged, no-more, no-span, no-component, part-goes-on}
 use Rattle.rdl_elab.proofs.rows.clean.+clean.Goals as goal
 
 pub is_clean_below-returns-then-have_ended : goal.is_clean_below-returns-then-have_ended
@@ -42,12 +42,15 @@ are_clean_parts-returns t c e =
     ends-parts c.args.components.now c.args.level.now.mode c.args.level.now.bits c.args.level.now.reaching.items c.args.spans.now c.args.parts.now c.loop-i.siblings c.loop-i.i c.loop-i.invariant end
 
 pub is_clean_container-loop-i-init : goal.is_clean_container-loop-i-init
-is_clean_container-loop-i-init t c = none-judged c.args.components.now c.args.level.now.mode c.args.level.now.bits c.args.level.now.reaching.items c.args.spans.now c.args.parts.now
+is_clean_container-loop-i-init t c = record {
+  judged = none-judged c.args.components.now c.args.level.now.mode c.args.level.now.bits c.args.level.now.reaching.items c.args.spans.now c.args.parts.now;
+  known = tt;
+}
 
 pub is_clean_container-returns-in_default : goal.is_clean_container-returns-in_default
 is_clean_container-returns-in_default t c e =
     let none : slice_get c.args.spans.now c.loop-i.i ≡ None = search rules in
-    no-span c.args.components.now c.args.level.now.mode c.args.level.now.bits c.args.level.now.reaching.items c.args.spans.now c.args.parts.now c.loop-i.i c.loop-i.invariant none
+    no-span c.args.components.now c.args.level.now.mode c.args.level.now.bits c.args.level.now.reaching.items c.args.spans.now c.args.parts.now c.loop-i.i c.loop-i.invariant.judged none
 
 pub is_clean_container-returns-in_default-component : goal.is_clean_container-returns-in_default-component
 is_clean_container-returns-in_default-component t c e =
@@ -55,7 +58,7 @@ is_clean_container-returns-in_default-component t c e =
     let span : slice_get c.args.spans.now c.loop-i.i ≡ Some c.in-Some.field-0 = search rules in
     let part : slice_get c.args.parts.now c.loop-i.i ≡ Some p = slice_get_read c.args.parts.now (length c.args.parts.now) c.loop-i.i p refl c.loop-i-test.true c.index-parts-i.is in
     let none : slice_get c.args.components.now p.component ≡ None = search rules in
-    no-component c.args.components.now c.args.level.now.mode c.args.level.now.bits c.args.level.now.reaching.items c.args.spans.now c.args.parts.now c.loop-i.i c.loop-i.invariant c.in-Some.field-0 p span part none
+    no-component c.args.components.now c.args.level.now.mode c.args.level.now.bits c.args.level.now.reaching.items c.args.spans.now c.args.parts.now c.loop-i.i c.loop-i.invariant.judged c.in-Some.field-0 p span part none
 
 pub is_clean_container-loop-i-preserved : goal.is_clean_container-loop-i-preserved
 is_clean_container-loop-i-preserved t c =
@@ -69,9 +72,20 @@ is_clean_container-loop-i-preserved t c =
     let there : slice_get fs p.component ≡ Some f = search rules in
     let sound : IsSound f = c.is_sound.ensures c.if-not-is_sound.false in
     let below : IsCleanUnder fs m (behind p.at rs) f = c.in_ok-is_clean_behind.ensures c.if-not-branch.false rs c.requires.onward in
-    one-judged fs m c.args.level.now.bits rs c.args.spans.now c.args.parts.now c.loop-i.i c.loop-i.invariant c.in-Some.field-0 p span part f there c.requires.order sound (c.has_small_stride.ensures c.if-has_small_stride.false) below
+    let judged = one-judged fs m c.args.level.now.bits rs c.args.spans.now c.args.parts.now c.loop-i.i c.loop-i.invariant.judged c.in-Some.field-0 p span part f there c.requires.order sound (c.has_small_stride.ensures c.if-has_small_stride.false) below in
+    record { judged = judged; known = c.is_clean_alike.ensures.known }
+
+pub is_clean_container-loop-i-preserved-then-is_clean_alike : goal.is_clean_container-loop-i-preserved-then-is_clean_alike
+is_clean_container-loop-i-preserved-then-is_clean_alike t c =
+    let fs = c.args.components.now in
+    let p = c.index-parts-i.result in
+    let rs = c.args.level.now.reaching.items in
+    let span : slice_get c.args.spans.now c.loop-i.i ≡ Some c.in-Some.field-0 = search rules in
+    let part : slice_get c.args.parts.now c.loop-i.i ≡ Some p = slice_get_read c.args.parts.now (length c.args.parts.now) c.loop-i.i p refl c.loop-i-test.true c.index-parts-i.is in
+    let judged = alone-judged fs c.args.level.now.mode c.args.level.now.bits rs c.args.spans.now c.args.parts.now c.loop-i.i c.loop-i.invariant.judged c.in-Some.field-0 p span part c.requires.order (c.is_clean_alike.ensures.clean c.if-is_clean_alike.true rs c.requires.onward) in
+    record { judged = judged; known = c.is_clean_alike.ensures.known }
 
 pub is_clean_container-returns : goal.is_clean_container-returns
 is_clean_container-returns t c e =
     let end : length c.args.parts.now ≤ c.loop-i.i = omega (arith, c.loop-i-test.false) in
-    no-more c.args.components.now c.args.level.now.mode c.args.level.now.bits c.args.level.now.reaching.items c.args.spans.now c.args.parts.now c.loop-i.i c.loop-i.invariant end
+    no-more c.args.components.now c.args.level.now.mode c.args.level.now.bits c.args.level.now.reaching.items c.args.spans.now c.args.parts.now c.loop-i.i c.loop-i.invariant.judged end

@@ -1,4 +1,6 @@
 use Rattle.std.proofs.Common.{◌+◌, ◌*◌}
+use Rattle.std.specs.Prelude.{IfSome}
+use Rattle.rdl_elab.specs.CleanParts.{IsKnownClean}
 use Rattle.rdl_elab.proofs.CleanAlone.{AreJudged}
 use Rattle.rdl_elab.proofs.Cleaning.{GoesOn}
 use Rattle.rdl_elab.proofs.rows.clean.+clean.Given as goal
@@ -25,4 +27,7 @@ abbrev pub invariant-are_clean_parts-loop-i : goal.invariant-are_clean_parts-loo
 invariant-are_clean_parts-loop-i l = GoesOn l.components l.level.mode l.level.bits l.level.reaching.items l.spans l.parts l.siblings l.i
 
 abbrev pub invariant-is_clean_container-loop-i : goal.invariant-is_clean_container-loop-i
-invariant-is_clean_container-loop-i l = AreJudged l.components l.level.mode l.level.bits l.level.reaching.items l.spans l.parts l.i
+invariant-is_clean_container-loop-i l = record {
+  judged : AreJudged l.components l.level.mode l.level.bits l.level.reaching.items l.spans l.parts l.i;
+  known : IfSome l.known (IsKnownClean l.components l.level.mode);
+}
