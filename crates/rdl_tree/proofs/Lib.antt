@@ -15,6 +15,7 @@ pub mod Reached
 pub mod Rests
 pub mod Rounds
 pub mod Runs
+pub mod Shifts
 pub mod Sizes
 pub mod Stepped
 pub mod Steps

@@ -1,11 +1,42 @@
 //! Changes of a body's own items.
-ghost use Rattle.std.specs.Prelude.{◌≡◌, ◌<◌, ◌≤◌, ◌++◌, ◌∷◌, [], length, is_ok, if◌then◌else◌, IfErr, Some, slice_get};
+ghost use Rattle.std.specs.Prelude.{◌≡◌, ◌<◌, ◌≤◌, ◌++◌, ◌∷◌, [], ◌-◌, length, is_ok, if◌then◌else◌, IfErr, Some, slice_get, remove, take, drop};
+ghost use Rattle.std.specs.Option.{option_to_list};
 ghost use Rattle.rdl_tree.specs.View.{list_of, items_of};
-ghost use Rattle.rdl_tree.specs.Edit.{insert_item, remove_item, shift_item, replace_item};
+ghost use Rattle.rdl_tree.specs.Edit.{insert_item, put_back, remove_item, shift_item, replace_item};
 
 use crate::description::{Body, Item};
 use std::alloc::AllocFailed;
 use std::mem;
+
+/// Moves the item of this number behind all others.
+fn to_end(items: &mut [Item], number: usize)
+    requires { number < length items.old }
+    ensures { items.new ≡ remove items.old number ++ option_to_list (slice_get items.old number) }
+{
+    items[number..].rotate_left(1);
+}
+
+/// Moves the last item before that of this number.
+fn from_end(items: &mut [Item], number: usize)
+    requires { number < length items.old }
+    ensures { items.new ≡ take number items.old ++ drop (length items.old - 1) items.old ++ drop number (take (length items.old - 1) items.old) }
+{
+    items[number..].rotate_right(1);
+}
+
+/// Takes the item out and puts it in again where it has the number `to`. No item moves but those from the one number to the
+/// other.
+fn shift_among(items: &mut [Item], from: usize, to: usize)
+    requires from { from < length items.old }
+    requires to { to < length items.old }
+    ensures { items.new ≡ put_back to (remove items.old from) (slice_get items.old from) }
+{
+    if from < to {
+        to_end(&mut items[..to + 1], from);
+    } else {
+        from_end(&mut items[..from + 1], to);
+    }
+}
 
 impl Body {
     /// Puts the item behind all others.
@@ -43,11 +74,7 @@ impl Body {
         requires to_an_item { to < length (list_of self.old) }
         ensures { self.new ≡ shift_item from to self.old }
     {
-        let item = self.items.remove(from);
-        match self.items.insert(to, item) {
-            Ok(()) => {}
-            Err(_) => unreachable!(),
-        }
+        shift_among(self.items.as_mut_slice(), from, to);
     }
 
     /// Puts the item in the place of another, which comes back.
