@@ -8,6 +8,7 @@ pub mod Gaps
 pub mod Held
 pub mod Nesting
 pub mod PatchExamples
+pub mod PatchSizes
 pub mod PatchWeights
 pub mod Patching
 pub mod Places

@@ -36,7 +36,7 @@ depth-remove [] (suc i) = omega arith
 depth-remove (y ∷ ys) zero = omega (arith, depth-add y (items_of ys))
 depth-remove (y ∷ ys) (suc i) = omega (arith, depth-add y (items_of (remove ys i)), depth-add y (items_of ys), depth-remove ys i)
 
-depth-set : (xs : List Item) (i : ℕ) (x y : Item) → slice_get xs i ≡ Some x → item_depth y ≡ item_depth x → depth (items_of (slice_set xs i y)) ≡ depth (items_of xs)
+pub depth-set : (xs : List Item) (i : ℕ) (x y : Item) → slice_get xs i ≡ Some x → item_depth y ≡ item_depth x → depth (items_of (slice_set xs i y)) ≡ depth (items_of xs)
 depth-set [] i x y e h = refl
 depth-set (z ∷ zs) zero x y e h =
     let same : z ≡ x = cc in depth-add y (items_of zs) ∙ ap (λ n. max n (depth (items_of zs))) (h ∙ ap item_depth (sym same)) ∙ sym (depth-add z (items_of zs))
@@ -51,7 +51,7 @@ depth-got (z ∷ zs) (suc i) x e = omega (arith, depth-add z (items_of zs), dept
 pub depth-item : (b : Items) (i : ℕ) (x : Item) → slice_get (list_of b) i ≡ Some x → item_depth x ≤ depth b
 depth-item b i x e = omega (arith, depth-got (list_of b) i x e, ap depth (items_of-list_of b))
 
-depth-part : (new : Part) (x : Item) → item_depth (with_part new x) ≡ item_depth x
+pub depth-part : (new : Part) (x : Item) → item_depth (with_part new x) ≡ item_depth x
 depth-part (OfShell new) (Instance s (Named t)) = refl
 depth-part (OfShell new) (Instance s (Anonymous c)) = refl
 depth-part (OfValue new) (Own p v) = refl
