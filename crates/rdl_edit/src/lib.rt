@@ -9,6 +9,7 @@ pub mod refusal;
 pub mod resume_fault;
 mod resuming;
 mod roots;
+mod sizes;
 mod touched;
 mod turning;
 

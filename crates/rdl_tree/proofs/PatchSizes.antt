@@ -11,6 +11,7 @@ use Rattle.rdl_tree.specs.Depth.{depth}
 use Rattle.rdl_tree.specs.Weight.{weight}
 use Rattle.rdl_tree.specs.ItemWeight.{item_weight}
 use Rattle.rdl_tree.specs.ItemAt.{item_at}
+use Rattle.rdl_tree.specs.Larger.{IsLarger, IsSmaller}
 use Rattle.rdl_tree.specs.Edit.{insert_item, remove_item, shift_item}
 use Rattle.rdl_tree.specs.Part.{with_part, with_part_at}
 use Rattle.rdl_tree.specs.PatchWeight.{part_weight}
@@ -165,12 +166,6 @@ part-size (OfType new) (Instance s (Named t)) = (refl, omega arith)
 part-size (OfDefine new) (Define n c) = (refl, omega arith)
 part-size new x = (refl, omega arith)
 
--- how much larger a description is, where it nests as deep
-pub record IsLarger (old new : Items) (items weight_more : ℕ) : Type 0 where
-  pub levels : depth new ≡ depth old
-  pub count : count new ≡ count old + items
-  pub weight : weight new ≤ weight old + weight_more
-
 pub insert-size : (at : List ℕ) (x : Item) (t : Items) → own_body x ≡ None → IsTrue (fits (Insert at x) t) → IsLarger t (patched (Insert at x) t) 1 (item_weight x)
 insert-size at x t p h =
     let b = place_in (number_of at) (body_at (holder_of at) t) (and_parts (is_level at x) _ h).1 in
@@ -178,19 +173,19 @@ insert-size at x t p h =
     let none = plain-size x p in
     record {
       levels = depth-body (holder_of at) (insert_item (number_of at) x) t b.body b.held (omega (arith, depth-insert xs (number_of at) x, none.0, depth-list b.body));
-      count = sum-insert count item_count counts at x t h ∙ ap (λ n. count t + n) none.1;
-      weight = omega (arith, sum-insert weight item_weight weighs at x t h);
+      items = sum-insert count item_count counts at x t h ∙ ap (λ n. count t + n) none.1;
+      at_most = omega (arith, sum-insert weight item_weight weighs at x t h);
     }
 
-pub delete-size : (at : List ℕ) (x : Item) (t : Items) → own_body x ≡ None → item_at at t ≡ Some x → IsLarger (patched (Delete at) t) t 1 (item_weight x)
+pub delete-size : (at : List ℕ) (x : Item) (t : Items) → own_body x ≡ None → item_at at t ≡ Some x → IsSmaller t (patched (Delete at) t) (item_weight x)
 delete-size at x t p e =
     let s = stands at t x e in
     let xs = list_of s.body in
     let none = plain-size x p in
     record {
-      levels = sym (depth-body (holder_of at) (remove_item (number_of at)) t s.body s.held (omega (arith, depth-remove xs (number_of at) x s.found, none.0, depth-list s.body)));
-      count = sym (sum-delete count item_count counts at x t e) ∙ ap (λ n. count (patched (Delete at) t) + n) none.1;
-      weight = omega (arith, sum-delete weight item_weight weighs at x t e);
+      levels = depth-body (holder_of at) (remove_item (number_of at)) t s.body s.held (omega (arith, depth-remove xs (number_of at) x s.found, none.0, depth-list s.body));
+      items = ap (λ n. count (patched (Delete at) t) + n) (sym none.1) ∙ sum-delete count item_count counts at x t e;
+      exactly = sum-delete weight item_weight weighs at x t e;
     }
 
 pub shift-size : (at : List ℕ) (to : ℕ) (t : Items) → IsTrue (fits (Shift at to) t) → IsLarger t (patched (Shift at to) t) 0 0
@@ -202,8 +197,8 @@ shift-size at to t h =
     record {
       levels = depth-body (holder_of at) (shift_item from to) t s.body s.held
           (omega (arith, ap depth (shift_is from to s.body x.0 s.found), depth-insert (remove xs from) to x.0, depth-remove xs from x.0 s.found, depth-list s.body));
-      count = omega (arith, sum-shift count item_count counts at to t h);
-      weight = omega (arith, sum-shift weight item_weight weighs at to t h);
+      items = omega (arith, sum-shift count item_count counts at to t h);
+      at_most = omega (arith, sum-shift weight item_weight weighs at to t h);
     }
 
 pub exchange-size : (at : List ℕ) (part : Part) (t : Items) → IsTrue (fits (Exchange at part) t) → IsLarger t (patched (Exchange at part) t) 0 (part_weight part)
@@ -215,6 +210,6 @@ exchange-size at part t h =
     record {
       levels = depth-body (holder_of at) (with_part_at n part) t s.body s.held
           (ap depth (exchange_is n part s.body x.0 s.found) ∙ depth-set (list_of s.body) n x.0 (with_part part x.0) s.found (depth-part part x.0) ∙ depth-list s.body);
-      count = omega (arith, sum-exchange count item_count counts at part x.0 t x.1, same.0);
-      weight = omega (arith, sum-exchange weight item_weight weighs at part x.0 t x.1, same.1);
+      items = omega (arith, sum-exchange count item_count counts at part x.0 t x.1, same.0);
+      at_most = omega (arith, sum-exchange weight item_weight weighs at part x.0 t x.1, same.1);
     }

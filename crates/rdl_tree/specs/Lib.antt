@@ -15,6 +15,7 @@ pub mod ItemWeight
 pub mod Items
 pub mod Limits
 pub mod Part
+pub mod Larger
 pub mod Patch
 pub mod PatchWeight
 pub mod Properties
