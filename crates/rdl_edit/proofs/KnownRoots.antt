@@ -103,7 +103,7 @@ heads-answered d old new heads same known =
     subst (λ words. AreKeptRoots d words new.layouts heads) (sym same.spelled) (subst (λ layouts. AreKeptRoots d old.spelled layouts heads) (sym same.layouts) known)
 
 pub roots-answered : (d : Items) (old new : KeptLayouts) (roots : Roots) → AreRootsOf d old roots → StandsStill old new → AreRootsOf d new roots
-roots-answered d old new roots known same = record { facts = known.facts; heads = heads-answered d old new roots.heads.items same known.heads }
+roots-answered d old new roots known same = record { facts = known.facts; heads = heads-answered d old new roots.heads.items same known.heads; size = known.size }
 
 -- no item of a description has a fault whose layouts are kept
 pub was-faultless : (d : Items) (k : KeptLayouts) → AreOf d k → fault_of d ≡ None

@@ -9,6 +9,7 @@ pub mod OrdinaryEdits
 pub mod OrdinarySteps
 pub mod OwnSteps
 pub mod OwnLayouts
+pub mod PassedItems
 pub mod Placings
 pub mod Staying
 pub mod ScannedBodies

@@ -67,10 +67,11 @@ pub record AreAskedOf (d : Items) (asked : Asked) : Type 0 where
   pub others : NoFaultOutside d asked.roots.items
   pub size : IfSome asked.size (IsSizeOf d)
 
--- all that a map knows of the items of its root is true of this description: what each says by itself, in which modes it is clean, and what is kept of it
+-- all that a map knows of the items of its root is true of this description: what each says by itself, in which modes it is clean, and what is kept of it; and so is the size
 pub record AreRootsOf (d : Items) (k : KeptLayouts) (roots : Roots) : Type 0 where
   pub facts : AreFactsOf d roots.facts.items
   pub heads : AreKnownIn d k roots.heads.items
+  pub size : IfSome roots.size (IsSizeOf d)
 
 -- what is known of them now, or nothing new, where all that is kept stands as it stood
 abbrev pub AreAnswered : Items → (old new : KeptLayouts) → Option (Vec KeptRoot) → Type 0

@@ -5,11 +5,12 @@ ghost use Rattle.rdl_tree.specs.Address.{holder_of};
 ghost use Rattle.rdl_tree.specs.Items.{Items};
 ghost use Rattle.rdl_tree.specs.Patch.{image};
 ghost use Rattle.rdl_scope.specs.ItemFaults.{fault_of};
-ghost use Rattle.rdl_scope.specs.Roots.{NoFaultOutside};
+ghost use Rattle.rdl_scope.specs.Roots.{IsSizeOf, NoFaultOutside};
 ghost use Rattle.rdl_kept.specs.RootFacts.{AreFactsOf, IsKnownRoot};
 ghost use Rattle.rdl_kept.specs.declared.roots.RootFacts.{RootFacts as Facts};
 ghost use Rattle.rdl_edit.specs.RootSteps.{address_of, is_patch_inside, IsKnownBeside, AreKnownBeside, AreAskedOf, IsEditInside, StandsInside};
 
+use crate::sizes::size_behind;
 use rdl_elab::kept_root::KeptRoot;
 use rdl_kept::roots::{RootFacts, facts_of, forget_reached, reach_of, size_of};
 use rdl_rewrite::edit::Edit;
@@ -26,6 +27,8 @@ pub(crate) struct Roots {
     pub(crate) facts: Vec<Option<RootFacts>>,
     /// In which modes each is known to be clean, and what is kept of it.
     pub(crate) heads: Vec<KeptRoot>,
+    /// How large the description is.
+    size: Option<Size>,
 }
 
 /// Inside which items of the root all has to be judged, and the size of the description, if it is known.
@@ -213,30 +216,51 @@ fn all_known(
     Ok(known)
 }
 
-/// What has to be judged where no item has a fault but those inside these items of the root, if that is wanted.
+/// The size of the description, if it is known, or if the sizes of the items of the root are but for those that are changed.
+fn size_or_sum(
+    description: &Description,
+    facts: &[Option<RootFacts>],
+    changed: &[bool],
+    size: Option<Size>,
+) -> Option<Size>
+    requires facts { AreFactsOf description.now.items facts.now }
+    requires size { IfSome size (IsSizeOf description.now.items) }
+    ensures { IfSome result (IsSizeOf description.now.items) }
+{
+    match size {
+        Some(size) => Some(size),
+        None => size_of(description, facts, changed),
+    }
+}
+
+/// What has to be judged where no item has a fault but those inside these items of the root, if that is wanted. The size of the
+/// description may be known.
 fn asked_in(
     description: &Description,
     facts: &[Option<RootFacts>],
     changed: &[bool],
+    size: Option<Size>,
     roots: Vec<bool>,
     wanted: bool,
 ) -> Option<Asked>
     requires facts { AreFactsOf description.now.items facts.now }
+    requires size { IfSome size (IsSizeOf description.now.items) }
     requires others { NoFaultOutside description.now.items roots.items }
     ensures { IfSome result (AreAskedOf description.now.items) }
 {
     if !wanted {
         return None;
     }
-    let size = size_of(description, facts, changed);
+    let size = size_or_sum(description, facts, changed, size);
     Some(Asked { roots, size })
 }
 
 impl Roots {
     ghost use Rattle.std.specs.Prelude.{◌≡◌, ℕ, List, [], None, Ok, IfSome, option_copied};
     ghost use Rattle.rdl_tree.specs.Items.{Items};
-    ghost use Rattle.rdl_tree.specs.Patch.{image};
+    ghost use Rattle.rdl_tree.specs.Patch.{AllFit, image};
     ghost use Rattle.rdl_scope.specs.ItemFaults.{fault_of};
+    ghost use Rattle.rdl_scope.specs.Roots.{IsSizeOf};
     ghost use Rattle.rdl_kept.specs.AllKept.{KeptLayouts};
     ghost use Rattle.rdl_kept.specs.RootFacts.{AreFactsOf};
     ghost use Rattle.rdl_tree.specs.Find.{find};
@@ -248,11 +272,26 @@ impl Roots {
     pub(crate) fn unknown(alloc: Global) -> Roots
         ensures facts { result.facts.items ≡ [] }
         ensures heads { result.heads.items ≡ [] }
+        ensures size { result.size ≡ None }
     {
         Roots {
             facts: Vec::new(alloc),
             heads: Vec::new(alloc),
+            size: None,
         }
+    }
+
+    /// Forgets how large the description is. The answer is how large it is behind these patches, if that is known.
+    pub(crate) fn take_size(&mut self, description: &Description, patches: &[Patch]) -> Option<Size>
+        requires known { IfSome self.old.size (IsSizeOf description.now.items) }
+        requires fit { AllFit patches.now description.now.items }
+        ensures size { IfSome result (IsSizeOf (image patches.now description.now.items)) }
+        ensures facts { self.new.facts ≡ self.old.facts }
+        ensures roots { (d : Items) (k : KeptLayouts) → AreRootsOf d k self.old → AreRootsOf d k self.new }
+        ensures forgotten { self.new.size ≡ None }
+    {
+        let size = self.size.take();
+        size_behind(description, size, patches)
     }
 
     /// Asks for what the items of the root say of which nothing is known. Where memory is wanted, nothing is known.
@@ -260,6 +299,7 @@ impl Roots {
         requires { AreFactsOf description.now.items self.old.facts.items }
         ensures facts { AreFactsOf description.now.items self.new.facts.items }
         ensures heads { self.new.heads ≡ self.old.heads }
+        ensures size { self.new.size ≡ self.old.size }
     {
         match all_known(alloc, description, &mut self.facts) {
             Ok(known) => self.facts = known,
@@ -337,15 +377,18 @@ impl Roots {
 
     /// Arrives at this description behind a step that changed bodies inside these items of the root alone, if that is known: it
     /// is forgotten in which modes those were clean that the step reaches. The answer is inside which items of the root all has
-    /// to be judged, if that is known and wanted.
+    /// to be judged, if that is known and wanted. The size of the description may be known.
     pub(crate) fn arrive(
         &mut self,
         alloc: Global,
         description: &Description,
         changed: Option<&Vec<bool>>,
+        size: Option<Size>,
         wanted: bool,
     ) -> Option<Asked>
         requires facts { AreFactsOf description.now.items self.old.facts.items }
+        requires size { IfSome size (IsSizeOf description.now.items) }
+        requires forgotten { self.old.size ≡ None }
         requires step { IfSome (option_copied changed) (λ roots. IsBehindStep roots.items description.now.items) }
         ensures asked { IfSome result (AreAskedOf description.now.items) }
         ensures before { (old : Items) (k : KeptLayouts) → AreRootsOf old k self.old → AreRootsOf old k self.new }
@@ -364,7 +407,14 @@ impl Roots {
             Ok(Some(reach)) => {
                 forget_reached(&mut self.heads, reach.reached.as_slice());
                 let facts = self.facts.as_slice();
-                asked_in(description, facts, changed.as_slice(), reach.asked, wanted)
+                asked_in(
+                    description,
+                    facts,
+                    changed.as_slice(),
+                    size,
+                    reach.asked,
+                    wanted,
+                )
             }
             Ok(None) | Err(_) => {
                 self.heads.clear();
@@ -373,12 +423,13 @@ impl Roots {
         }
     }
 
-    /// Takes what is known now of the definitions of the root, if that has changed.
-    pub(crate) fn renew(&mut self, heads: Option<Vec<KeptRoot>>)
-        ensures { (d : Items) (old new : KeptLayouts) → AreRootsOf d old self.old → AreAnswered d old new heads → AreRootsOf d new self.new }
+    /// Takes what is known now of the definitions of the root, if that has changed, and of the size of the description.
+    pub(crate) fn renew(&mut self, heads: Option<Vec<KeptRoot>>, size: Option<Size>)
+        ensures { (d : Items) (old new : KeptLayouts) → AreRootsOf d old self.old → AreAnswered d old new heads → IfSome size (IsSizeOf d) → AreRootsOf d new self.new }
     {
         if let Some(heads) = heads {
             self.heads = heads;
         }
+        self.size = size;
     }
 }

@@ -1,5 +1,5 @@
 //! How large a description is behind a step, by what its patch says alone.
-ghost use Rattle.std.specs.Prelude.{◌≡◌, None, IsTrue, IfSome, Some};
+ghost use Rattle.std.specs.Prelude.{◌≡◌, true, None, IsTrue, IfSome, Some};
 ghost use Rattle.rdl_tree.specs.Items.{Items};
 ghost use Rattle.rdl_tree.specs.ItemWeight.{item_weight};
 ghost use Rattle.rdl_tree.specs.Larger.{IsLarger, IsSmaller};

@@ -1,11 +1,12 @@
 //! What is known of a step before it is taken.
-ghost use Rattle.std.specs.Prelude.{◌≡◌, ◌≤◌, ◌∷◌, [], true, None, IfSome};
+ghost use Rattle.std.specs.Prelude.{◌≡◌, ◌≤◌, ◌∷◌, ◌&&◌, [], drop, not, take, true, None, Some, IfSome};
 ghost use Rattle.std.specs.Option.{is_none};
 ghost use Rattle.std.specs.List.{list_all};
 ghost use Rattle.rdl_tree.specs.Depth.{depth};
 ghost use Rattle.rdl_tree.specs.Patch.{patched, image};
-ghost use Rattle.rdl_tree.specs.View.{own_body};
+ghost use Rattle.rdl_tree.specs.View.{list_of, own_body};
 ghost use Rattle.rdl_scope.specs.ItemFaults.{fault_of};
+ghost use Rattle.rdl_scope.specs.Walk.{is_instance};
 ghost use Rattle.rdl_scope.specs.OneItem.{NoOtherFault};
 ghost use Rattle.rdl_kept.specs.Skeleton.{skeleton, lays_out};
 ghost use Rattle.rdl_edit.specs.Noting.{IsLight};
@@ -153,26 +154,46 @@ fn is_dynamic(item: &Item) -> bool
     matches!(item, Item::Dynamic(_, _, _))
 }
 
-/// Whether no instance in the body has the name.
-fn is_new_name(name: &Name, body: &Body) -> bool
-    ensures { result ≡ is_new_name name.now body.now }
-{
-    body.as_slice()
-        .iter()
-        .all(|item| !is_instance(Some(item), name))
-}
-
 fn is_plain(item: &Item) -> bool
     ensures { result ≡ is_none (own_body item.now) }
 {
     item.own_body().is_none()
 }
 
-/// Whether no item from this number on has a body of its own.
-fn are_plain_from(number: usize, body: &Body) -> bool
-    ensures { result ≡ are_plain_from number body.now }
+/// Whether the item is no instance of this name.
+fn is_other(name: &Name, item: &Item) -> bool
+    ensures { result ≡ not (is_instance name.now (Some item.now)) }
 {
-    body.as_slice().iter().skip(number).all(is_plain)
+    !is_instance(Some(item), name)
+}
+
+/// Whether no instance among the first items of the body, so many, has the name.
+fn are_others_before(name: &Name, number: usize, body: &Body) -> bool
+    ensures { result ≡ list_all (λ x. not (is_instance name.now (Some x))) (take number (list_of body.now)) }
+{
+    body.as_slice()
+        .iter()
+        .take(number)
+        .all(|item| is_other(name, item))
+}
+
+/// Whether no instance from this number on has the name, and no item from there on has a body of its own.
+fn are_plain_others_from(name: &Name, number: usize, body: &Body) -> bool
+    ensures { result ≡ list_all (λ x. not (is_instance name.now (Some x)) && is_none (own_body x)) (drop number (list_of body.now)) }
+{
+    body.as_slice()
+        .iter()
+        .skip(number)
+        .all(|item| is_other(name, item) && is_plain(item))
+}
+
+/// Whether no instance in the body has the name, and no item from this number on has a body of its own. Each item is looked at
+/// once.
+fn is_new_before_plain(name: &Name, number: usize, body: &Body) -> bool
+    ensures new { result ≡ true → is_new_name name.now body.now ≡ true }
+    ensures plain { result ≡ true → are_plain_from number body.now ≡ true }
+{
+    are_others_before(name, number, body) && are_plain_others_from(name, number, body)
 }
 
 /// Whether no instance in the body of this address has the name, and no item from there on has a body of its own.
@@ -183,11 +204,7 @@ fn is_new_at(description: &Description, name: &Name, at: &Address) -> bool
         return false;
     }
     match description.body(&at.holder()) {
-        Some(body) => {
-            at.number() <= body.len()
-                && is_new_name(name, body)
-                && are_plain_from(at.number(), body)
-        }
+        Some(body) => { at.number() <= body.len() && is_new_before_plain(name, at.number(), body) }
         None => false,
     }
 }

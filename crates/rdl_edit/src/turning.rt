@@ -136,6 +136,16 @@ fn known_size(asked: Option<&Asked>) -> Option<Size>
     asked?.size
 }
 
+/// The size of a description that may be known, or of which this is asked.
+fn size_now(size: Option<Size>, asked: Option<&Asked>) -> Option<Size>
+    ensures { (d : Items) → IfSome size (IsSizeOf d) → IfSome (option_copied asked.entry) (AreAskedOf d) → IfSome result (IsSizeOf d) }
+{
+    match size {
+        Some(size) => Some(size),
+        None => known_size(asked),
+    }
+}
+
 /// Lays out a description behind a step of which this is known, and judges no more than that leaves open: where any item may
 /// have a fault, those inside the items of the root that are asked, if these are known. What is known of definitions of the root
 /// that are clean spares work, and the answer is what is known of them now, if more is. Nothing changes if the map has a fault.
@@ -252,15 +262,16 @@ pub(crate) fn turn(
     let touched = touched_with(alloc, description, patches.as_slice(), outlook);
     let wanted = touched.needs_size();
     let changed = roots.leave(alloc, description, patches.as_slice(), wanted);
+    let size = roots.take_size(description, patches.as_slice());
     let Ok(mut turned) = description.turn(alloc, patches) else {
         return Err(Refusal::Memory);
     };
     let new = turned.description();
-    let asked = roots.arrive(alloc, new, changed.as_ref(), wanted);
+    let asked = roots.arrive(alloc, new, changed.as_ref(), size, wanted);
     let heads = roots.heads.as_slice();
     match lay_out(alloc, new, kept, name, &touched, asked.as_ref(), heads) {
         Ok(heads) => {
-            roots.renew(heads);
+            roots.renew(heads, size_now(size, asked.as_ref()));
             Ok(turned.keep())
         }
         Err(fault) => {
@@ -300,16 +311,17 @@ pub(crate) fn again(
 {
     let still = keeps_skeleton(description, patches.as_slice());
     let changed = roots.leave(alloc, description, patches.as_slice(), false);
+    let size = roots.take_size(description, patches.as_slice());
     let mut turned = match description.turn(alloc, patches) {
         Ok(turned) => turned,
         Err(same) => return Err(same),
     };
     let new = turned.description();
-    roots.arrive(alloc, new, changed.as_ref(), false);
+    roots.arrive(alloc, new, changed.as_ref(), size, false);
     let heads = roots.heads.as_slice();
     match lay_out_known(alloc, new, kept, name, still, heads) {
         Ok(heads) => {
-            roots.renew(heads);
+            roots.renew(heads, size);
             Ok(turned.keep())
         }
         Err(_) => Err(turned.back()),

@@ -1,6 +1,7 @@
 use Rattle.std.proofs.Common.{◌≡◌, None, refl, sym, subst, rules, ◌∙◌, option_copied}
 use Rattle.std.specs.Prelude.{IfSome}
 use Rattle.rdl_scope.specs.ItemFaults.{fault_of}
+use Rattle.rdl_scope.specs.Roots.{IsSizeOf}
 use Rattle.rdl_kept.specs.AllKept.{AreKnownIn}
 use Rattle.rdl_edit.specs.RootSteps.{IsStepInside, AreRootsOf}
 use Rattle.rdl_edit.proofs.KnownRoots.{roots-made, was-faultless}
@@ -53,7 +54,7 @@ lay_out_known-requires-clause-heads c =
     let new = c.description-new.result.now.items in
     let accepted : fault_of old ≡ None = was-faultless old c.args.kept.now c.requires.kept.layouts in
     let inside : IfSome (option_copied c.as_ref.result) (λ roots. IsStepInside roots.items old new) = search rules in
-    let known : AreRootsOf new c.args.kept.now c.arrive.new.self = c.arrive.ensures.behind old c.args.kept.now accepted inside (c.leave-changed.ensures.roots c.args.kept.now c.requires.roots) in
+    let known : AreRootsOf new c.args.kept.now c.arrive.new.self = c.arrive.ensures.behind old c.args.kept.now accepted inside (c.take_size-size.ensures.roots old c.args.kept.now (c.leave-changed.ensures.roots c.args.kept.now c.requires.roots)) in
     subst (λ heads. AreKnownIn new c.args.kept.now heads) (sym c.as_slice-heads.ensures.value) known.heads
 
 pub returns-in-Ok-lay_out_known-clause-roots : goal.returns-in-Ok-lay_out_known-clause-roots
@@ -63,17 +64,21 @@ returns-in-Ok-lay_out_known-clause-roots c =
     let made : new ≡ image c.args.patches.items old = search rules in
     let accepted : fault_of old ≡ None = was-faultless old c.args.kept.now c.requires.kept.layouts in
     let inside : IfSome (option_copied c.as_ref.result) (λ roots. IsStepInside roots.items old new) = search rules in
-    let known : AreRootsOf new c.args.kept.now c.arrive.new.self = c.arrive.ensures.behind old c.args.kept.now accepted inside (c.leave-changed.ensures.roots c.args.kept.now c.requires.roots) in
-    roots-made new _ (image c.args.patches.items old) c.lay_out_known.new.kept c.renew.new.self made (search rules) (c.renew.ensures new c.args.kept.now c.lay_out_known.new.kept known c.in-Ok-lay_out_known.ensures.heads)
+    let known : AreRootsOf new c.args.kept.now c.arrive.new.self = c.arrive.ensures.behind old c.args.kept.now accepted inside (c.take_size-size.ensures.roots old c.args.kept.now (c.leave-changed.ensures.roots c.args.kept.now c.requires.roots)) in
+    let sized : IfSome c.take_size-size.result (IsSizeOf new) = subst (λ d. IfSome c.take_size-size.result (IsSizeOf d)) (sym made) (search rules) in
+    roots-made new _ (image c.args.patches.items old) c.lay_out_known.new.kept c.renew.new.self made (search rules) (c.renew.ensures new c.args.kept.now c.lay_out_known.new.kept known c.in-Ok-lay_out_known.ensures.heads sized)
 
 pub returns-clause-roots : goal.returns-clause-roots
 returns-clause-roots c =
     let old = c.args.description.now.items in
-    let known : AreRootsOf old c.args.kept.now c.arrive.new.self = c.arrive.ensures.before old c.args.kept.now (c.leave-changed.ensures.roots c.args.kept.now c.requires.roots) in
+    let known : AreRootsOf old c.args.kept.now c.arrive.new.self = c.arrive.ensures.before old c.args.kept.now (c.take_size-size.ensures.roots old c.args.kept.now (c.leave-changed.ensures.roots c.args.kept.now c.requires.roots)) in
     let same : c.lay_out_known.new.kept ≡ c.args.kept.now = search rules in
     roots-made old _ old c.lay_out_known.new.kept c.arrive.new.self refl (search rules) (subst (λ k. AreRootsOf old k c.arrive.new.self) (sym same) known)
 
 pub returns-in-Err-clause-roots : goal.returns-in-Err-clause-roots
 returns-in-Err-clause-roots c =
     let old = c.args.description.now.items in
-    roots-made old _ old c.args.kept.now c.leave-changed.new.self refl (search rules) (c.leave-changed.ensures.roots c.args.kept.now c.requires.roots)
+    roots-made old _ old c.args.kept.now c.take_size-size.new.self refl (search rules) (c.take_size-size.ensures.roots old c.args.kept.now (c.leave-changed.ensures.roots c.args.kept.now c.requires.roots))
+
+pub take_size-size-requires-clause-known : goal.take_size-size-requires-clause-known
+take_size-size-requires-clause-known c = (c.leave-changed.ensures.roots c.args.kept.now c.requires.roots).size

@@ -1,8 +1,9 @@
 use Rattle.std.proofs.Common.{◌≡◌, None, refl, rules, sym, subst, ◌∙◌, option_copied}
 use Rattle.std.specs.Prelude.{IfSome}
 use Rattle.rdl_scope.specs.ItemFaults.{fault_of}
+use Rattle.rdl_scope.specs.Roots.{IsSizeOf}
 use Rattle.rdl_kept.specs.AllKept.{AreKnownIn}
-use Rattle.rdl_edit.specs.RootSteps.{IsStepInside, AreRootsOf}
+use Rattle.rdl_edit.specs.RootSteps.{AreAskedOf, IsStepInside, AreRootsOf}
 use Rattle.rdl_edit.specs.Touching.{IsTouched}
 use Rattle.rdl_edit.proofs.KnownRoots.{roots-made}
 use Rattle.rdl_edit.proofs.KnownSteps.{known-behind}
@@ -55,7 +56,7 @@ behind c =
     let new = c.description-new.result.now.items in
     let accepted : fault_of old ≡ None = search rules in
     let inside : IfSome (option_copied c.as_ref.result) (λ roots. IsStepInside roots.items old new) = search rules in
-    c.arrive-asked.ensures.behind old c.args.kept.now accepted inside (c.leave-changed.ensures.roots c.args.kept.now c.requires.roots)
+    c.arrive-asked.ensures.behind old c.args.kept.now accepted inside (c.take_size-size.ensures.roots old c.args.kept.now (c.leave-changed.ensures.roots c.args.kept.now c.requires.roots))
 
 pub lay_out-requires-clause-heads : goal.lay_out-requires-clause-heads
 lay_out-requires-clause-heads c = subst (λ heads. AreKnownIn c.description-new.result.now.items c.args.kept.now heads) (sym c.as_slice-heads.ensures.value) (behind c).heads
@@ -67,17 +68,22 @@ returns-in-Ok-lay_out-clause-roots c =
     let made : new ≡ image c.args.patches.items old = search rules in
     let accepted : fault_of old ≡ None = search rules in
     let inside : IfSome (option_copied c.as_ref.result) (λ roots. IsStepInside roots.items old new) = search rules in
-    let known : AreRootsOf new c.args.kept.now c.arrive-asked.new.self = c.arrive-asked.ensures.behind old c.args.kept.now accepted inside (c.leave-changed.ensures.roots c.args.kept.now c.requires.roots) in
-    roots-made new _ (image c.args.patches.items old) c.lay_out.new.kept c.renew.new.self made (search rules) (c.renew.ensures new c.args.kept.now c.lay_out.new.kept known c.in-Ok-lay_out.ensures.heads)
+    let known : AreRootsOf new c.args.kept.now c.arrive-asked.new.self = c.arrive-asked.ensures.behind old c.args.kept.now accepted inside (c.take_size-size.ensures.roots old c.args.kept.now (c.leave-changed.ensures.roots c.args.kept.now c.requires.roots)) in
+    let sized : IfSome c.take_size-size.result (IsSizeOf new) = subst (λ d. IfSome c.take_size-size.result (IsSizeOf d)) (sym made) (search rules) in
+    let asked : IfSome (option_copied c.as_ref-in-Ok-lay_out.result) (AreAskedOf new) = search rules in
+    roots-made new _ (image c.args.patches.items old) c.lay_out.new.kept c.renew.new.self made (search rules) (c.renew.ensures new c.args.kept.now c.lay_out.new.kept known c.in-Ok-lay_out.ensures.heads (c.size_now.ensures new sized asked))
 
 pub returns-clause-roots : goal.returns-clause-roots
 returns-clause-roots c =
     let old = c.args.description.now.items in
-    let known : AreRootsOf old c.args.kept.now c.arrive-asked.new.self = c.arrive-asked.ensures.before old c.args.kept.now (c.leave-changed.ensures.roots c.args.kept.now c.requires.roots) in
+    let known : AreRootsOf old c.args.kept.now c.arrive-asked.new.self = c.arrive-asked.ensures.before old c.args.kept.now (c.take_size-size.ensures.roots old c.args.kept.now (c.leave-changed.ensures.roots c.args.kept.now c.requires.roots)) in
     let same : c.lay_out.new.kept ≡ c.args.kept.now = search rules in
     roots-made old _ old c.lay_out.new.kept c.arrive-asked.new.self refl (search rules) (subst (λ k. AreRootsOf old k c.arrive-asked.new.self) (sym same) known)
 
 pub returns-in_default-clause-roots : goal.returns-in_default-clause-roots
 returns-in_default-clause-roots c =
     let old = c.args.description.now.items in
-    roots-made old _ old c.args.kept.now c.leave-changed.new.self refl (search rules) (c.leave-changed.ensures.roots c.args.kept.now c.requires.roots)
+    roots-made old _ old c.args.kept.now c.take_size-size.new.self refl (search rules) (c.take_size-size.ensures.roots old c.args.kept.now (c.leave-changed.ensures.roots c.args.kept.now c.requires.roots))
+
+pub take_size-size-requires-clause-known : goal.take_size-size-requires-clause-known
+take_size-size-requires-clause-known c = (c.leave-changed.ensures.roots c.args.kept.now c.requires.roots).size

@@ -11,7 +11,7 @@ around c =
     (subst (λ changed. AreKnownBeside d changed known) c.as_slice-roots.ensures.value c.in-Ok.ensures)
 
 pub returns-in-Ok-clause-roots : goal.returns-in-Ok-clause-roots
-returns-in-Ok-clause-roots c = λ k known. record { facts = (around c).before; heads = known.heads }
+returns-in-Ok-clause-roots c = λ k known. record { facts = (around c).before; heads = known.heads; size = known.size }
 
 pub returns-in-Ok-clause-facts : goal.returns-in-Ok-clause-facts
 returns-in-Ok-clause-facts c = (around c).behind
