@@ -217,7 +217,7 @@ pub(crate) fn judged_row(
 pub(crate) fn behind_part<'a>(
     alloc: Global,
     part: &Part,
-    onward: &Onward<'a>,
+    onward: &Onward<'_, 'a>,
 ) -> Result<Vec<Assignment<'a>>, AllocError>
     ensures { IfOk result (λ list. (reaching : List Reach) → IsOnward onward.now reaching → list.items ≡ behind part.now.at reaching) }
 {
@@ -225,11 +225,11 @@ pub(crate) fn behind_part<'a>(
 }
 
 /// Those of these assignments that go on from a level with so many instances, if there is any assignment.
-fn onward_of<'a>(
+fn onward_of<'r, 'a>(
     alloc: Global,
-    reaching: &[Assignment<'a>],
+    reaching: &'r [Assignment<'a>],
     count: usize,
-) -> Result<Option<Onward<'a>>, AllocError>
+) -> Result<Option<Onward<'r, 'a>>, AllocError>
     ensures { IfOk result (λ onward. AreOnward onward reaching.now) }
 {
     if reaching.is_empty() {
@@ -242,7 +242,7 @@ fn onward_of<'a>(
 fn behind_if_any<'a>(
     alloc: Global,
     part: &Part,
-    onward: Option<&Onward<'a>>,
+    onward: Option<&Onward<'_, 'a>>,
 ) -> Result<Vec<Assignment<'a>>, AllocError>
     ensures { IfOk result (λ list. (reaching : List Reach) → AreOnward (option_copied onward.entry) reaching → list.items ≡ behind part.now.at reaching) }
 {

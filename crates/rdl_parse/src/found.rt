@@ -38,13 +38,9 @@ impl Found {
         self.spots.clear();
     }
 
-    /// Most statements have one item, and an item is large: so the first takes no room for more.
     pub fn push(&mut self, item: Item, left: usize, inner: &[Spot]) -> Result<(), AllocError>
         ensures { OnOk result (seen self.new ≡ joined (seen self.old) (single item left inner.now)) }
     {
-        if self.items.is_empty() {
-            self.items.reserve_exact(1)?;
-        }
         self.items.push(item)?;
         self.spots.push(Spot {
             left,
@@ -56,12 +52,14 @@ impl Found {
         Ok(())
     }
 
-    /// Where nothing was found before, the room of the others is taken over.
+    /// Where nothing was found before, the room of the others is taken over. Most statements have one item, and an item is
+    /// large: so the others get room for one.
     pub fn append(&mut self, other: &mut Found) -> Result<(), AllocError>
         ensures { OnOk result (seen self.new ≡ joined (seen self.old) (seen other.old)) }
     {
         if self.items.is_empty() {
             mem::swap(&mut self.items, &mut other.items);
+            other.items.reserve_exact(1)?;
         } else {
             self.items.append(&mut other.items)?;
         }

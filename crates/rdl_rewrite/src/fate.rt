@@ -1,5 +1,6 @@
 //! What becomes of an item where an edit reaches every body.
-ghost use Rattle.std.specs.Prelude.{◌≡◌, ◌<◌, ◌++◌, ◌∷◌, [], length, reverse, IfOk};
+ghost use Rattle.std.specs.Prelude.{◌≡◌, ◌<◌, ◌++◌, ◌∷◌, [], length, reverse, IfOk, OnOk};
+ghost use Rattle.rdl_tree.specs.declared.patch.Patch.{Patch};
 ghost use Rattle.rdl_rewrite.specs.Fates.{is_dropped, item_patches};
 
 use rdl_tree::address::Address;
@@ -16,6 +17,31 @@ pub enum Fate {
     Dropped,
     /// It gets the part in the place of its own.
     Given(Part),
+}
+
+/// Puts a deletion of the item of this number in the body at the address behind the patches.
+#[inline(never)]
+fn push_deletion(at: &Address, number: usize, patches: &mut Vec<Patch>) -> Result<(), AllocError>
+    requires { length at.now < 17 }
+    ensures { OnOk result (patches.new.items ≡ patches.old.items ++ Patch.Delete (at.now ++ number ∷ []) ∷ []) }
+{
+    patches.push(Patch::Delete(at.inside(number)))?;
+    Ok(())
+}
+
+/// Puts an exchange of the part of the item of this number in the body at the address behind the patches.
+#[inline(never)]
+fn push_exchange(
+    at: &Address,
+    number: usize,
+    part: Part,
+    patches: &mut Vec<Patch>,
+) -> Result<(), AllocError>
+    requires { length at.now < 17 }
+    ensures { OnOk result (patches.new.items ≡ patches.old.items ++ Patch.Exchange (at.now ++ number ∷ []) part ∷ []) }
+{
+    patches.push(Patch::Exchange(at.inside(number), part))?;
+    Ok(())
 }
 
 impl Fate {
@@ -42,8 +68,8 @@ impl Fate {
     {
         match self {
             Fate::Kept => Ok(()),
-            Fate::Dropped => Ok(patches.push(Patch::Delete(at.inside(number)))?),
-            Fate::Given(part) => Ok(patches.push(Patch::Exchange(at.inside(number), part))?),
+            Fate::Dropped => push_deletion(at, number, patches),
+            Fate::Given(part) => push_exchange(at, number, part, patches),
         }
     }
 }

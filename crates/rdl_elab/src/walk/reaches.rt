@@ -1,10 +1,11 @@
 //! The dynamic assignments that reach an instance.
-ghost use Rattle.std.specs.Prelude.{◌≡◌, ℕ, ◌++◌, ◌∷◌, List, [], true, IfOk, IfSome, OnOk, option_copied};
+ghost use Rattle.std.specs.Prelude.{◌≡◌, ◌+◌, ◌-◌, ◌%◌, ◌<◌, ℕ, ◌++◌, ◌∷◌, List, [], true, length, replicate, get_or, slice_set, IfOk, IfSome, OnOk, option_copied};
 ghost use Rattle.std.specs.Option.{option_or};
 ghost use Rattle.rdl_tree.specs.Properties.{row};
 ghost use Rattle.rdl_tree.specs.declared.property.Property.{Property};
 ghost use Rattle.rdl_elab.specs.KeptTargets.{kept_target};
 ghost use Rattle.rdl_elab.specs.PartNames.{IsFirstNamed};
+ghost use Rattle.rdl_elab.specs.Onward.{AreChained, chain};
 ghost use Rattle.std.specs.List.{list_any};
 ghost use Rattle.rdl_elab.specs.OwnValues.{any_dynamic};
 ghost use Rattle.rdl_elab.specs.Reaches.{Reach, reaches_by, behind, reached, reach_by, has_ended, value_under};
@@ -25,7 +26,6 @@ use rdl_tree::property::Property;
 use rdl_tree::shell::Kind;
 use rdl_tree::value::Value;
 use std::alloc::{AllocError, Global};
-use std::collections::BTreeMap;
 use std::marker::Model;
 
 /// A dynamic assignment, and the instances that its target has yet to pass.
@@ -153,7 +153,8 @@ fn assignments<'a>(
 ) -> Result<Vec<Assignment<'a>>, AllocError>
     ensures { IfOk result (λ list. list.items ≡ reaches_by (kept_target components.now parts.now.items) 0 body.now) }
 {
-    let mut list = Vec::new(alloc);
+    let others = body.len().saturating_sub(parts.as_slice().len());
+    let mut list = Vec::with_capacity(alloc, others)?;
     let mut first = None;
     'items: for (i, item) in body.as_slice().iter().enumerate() {
         let found = dynamic_assignment(alloc, components, parts, i, item, &mut first)?;
@@ -242,145 +243,125 @@ pub(crate) fn reached_at<'a>(
     None
 }
 
-/// Those whose targets pass this instance.
-#[tactic(auto, using(crate::proofs::ValueLists::steps))]
+/// So many assignments have no more slots than there are instances, where these are few.
+const FEW: usize = 64;
+
+/// How many slots there are for so many assignments, on a level with so many instances.
+fn slots(assignments: usize, instances: usize) -> usize
+    ensures { 0 < assignments → 0 < result }
+{
+    if assignments < FEW {
+        assignments.max(instances.min(FEW))
+    } else {
+        assignments.max(instances)
+    }
+}
+
+/// Puts assignment `number`, whose next instance has this number in its body, before those of its chain.
+fn put_first(heads: &mut [usize], links: &mut [usize], number: usize, next: usize)
+    requires slots { 0 < length heads.old }
+    requires number { number < length links.old }
+    ensures heads { heads.new ≡ slice_set heads.old (next % length heads.old) number }
+    ensures links { links.new ≡ slice_set links.old number (get_or heads.old (next % length heads.old) 0) }
+{
+    let slot = next % heads.len();
+    links[number] = heads[slot];
+    heads[slot] = number;
+}
+
+/// Puts each of the assignments that go on into the chain of its slot.
+fn put_all(reaching: &[Assignment], heads: &mut [usize], links: &mut [usize])
+    requires slots { 0 < length heads.old }
+    requires heads { heads.old ≡ replicate (length heads.old) (length reaching.now) }
+    requires links { length links.old ≡ length reaching.now }
+    ensures { AreChained heads.new links.new reaching.now }
+{
+    let mut number = reaching.len();
+    'assignments: while number > 0 {
+        number -= 1;
+        if let Some(next) = reaching[number].next() {
+            put_first(heads, links, number, next.number());
+        }
+    }
+}
+
+/// Those of the assignments in the chain that begins with the one of this number whose targets pass this instance.
+#[tactic(auto, using(crate::proofs::Onward::going))]
 fn behind<'a>(
     alloc: Global,
     instance: &InstanceAddress,
     reaching: &[Assignment<'a>],
+    links: &[usize],
+    first: usize,
 ) -> Result<Vec<Assignment<'a>>, AllocError>
-    ensures { IfOk result (λ list. list.items ≡ behind instance.now reaching.now) }
+    ensures { IfOk result (λ list. list.items ≡ behind instance.now (chain 0 links.now reaching.now first)) }
 {
     let mut list = Vec::new(alloc);
-    for assignment in reaching {
-        if let Some(passed) = assignment.passed(instance)? {
+    let mut number = first;
+    'assignments: while number < reaching.len() && number < links.len() {
+        if let Some(passed) = reaching[number].passed(instance)? {
             list.push(passed)?;
         }
+        number = links[number].max(number + 1);
     }
     Ok(list)
 }
 
-/// By how many remainders numbers are told apart.
-const REMAINDERS: usize = 64;
-
-/// So many assignments go on by small numbers alone, where these are few.
-const FEW: usize = 32;
-
-/// The assignments that go on from a level, under the number that the next instance of each has in its body.
+/// The assignments that go on from a level.
+///
+/// Each has a slot, by the number that its next instance has in its body. Those of one slot are a chain, in their order.
 #[derive(Drop)]
-pub(crate) struct Onward<'a> {
-    /// Those under small numbers.
-    lists: Vec<Vec<Assignment<'a>>>,
-    others: BTreeMap<usize, Vec<Assignment<'a>>>,
-    /// Whether some may stand under a number that leaves this remainder.
-    marks: [bool; 64],
+pub(crate) struct Onward<'r, 'a> {
+    reaching: &'r [Assignment<'a>],
+    /// For each slot the number of the first of its chain, and how many they are where it has none.
+    heads: Vec<usize>,
+    /// For each of them the number of the next of its chain.
+    links: Vec<usize>,
 }
 
-impl<'a> Onward<'a> {
-    ghost use Rattle.std.specs.Prelude.{◌≡◌, ◌≢◌, ℕ, ◌++◌, ◌∷◌, [], List, true, IfOk, OnOk, option_copied};
-    ghost use Rattle.rdl_elab.specs.Onward.{IsMarked, IsOnward, is_marked, going_to, stored_under, list_or_none};
+impl<'r, 'a> Onward<'r, 'a> {
+    ghost use Rattle.std.specs.Prelude.{◌≡◌, ℕ, [], List, true, IfOk};
+    ghost use Rattle.rdl_elab.specs.Onward.{IsOnward, first_under};
     ghost use Rattle.rdl_elab.specs.Reaches.{Reach, behind};
-
-    /// None under any number. So many numbers are small.
-    fn with_room(alloc: Global, small: usize) -> Result<Onward<'a>, AllocError>
-        ensures { IfOk result (λ onward. (k : ℕ) → stored_under onward k ≡ []) }
-    {
-        let mut lists = Vec::with_capacity(alloc, small)?;
-        for _ in 0..small {
-            lists.push(Vec::new(alloc))?;
-        }
-        Ok(Onward {
-            lists,
-            others: BTreeMap::new(alloc),
-            marks: [false; 64],
-        })
-    }
-
-    fn store(&mut self, number: usize, assignment: Assignment<'a>) -> Result<(), AllocError>
-        ensures there { OnOk result (stored_under self.new number ≡ stored_under self.old number ++ assignment.entry ∷ []) }
-        ensures others { OnOk result ((k : ℕ) → k ≢ number → stored_under self.new k ≡ stored_under self.old k) }
-        ensures marks { self.new.marks ≡ self.old.marks }
-    {
-        match self.lists.get_mut(number) {
-            Some(list) => list.push(assignment)?,
-            None => self.others.entry(number)?.or_default().push(assignment)?,
-        }
-        Ok(())
-    }
-
-    /// Puts one more behind those under this number.
-    fn put(&mut self, number: usize, assignment: Assignment<'a>) -> Result<(), AllocError>
-        requires { IsMarked self.old }
-        ensures marked { OnOk result (IsMarked self.new) }
-        ensures there { OnOk result (going_to self.new number ≡ going_to self.old number ++ assignment.entry ∷ []) }
-        ensures others { OnOk result ((k : ℕ) → k ≢ number → going_to self.new k ≡ going_to self.old k) }
-    {
-        self.store(number, assignment)?;
-        self.marks[number % REMAINDERS] = true;
-        Ok(())
-    }
-
-    fn stored(&self, number: usize) -> Option<&Vec<Assignment<'a>>>
-        ensures { list_or_none (option_copied result) ≡ stored_under self.now number }
-    {
-        match self.lists.get(number) {
-            Some(list) => Some(list),
-            None => self.others.get(&number),
-        }
-    }
-
-    /// Whether some may stand under this number.
-    #[inline]
-    fn is_marked(&self, number: usize) -> bool
-        ensures { result ≡ is_marked self.now number }
-    {
-        self.marks[number % REMAINDERS]
-    }
-
-    /// Those under this number.
-    fn get(&self, number: usize) -> Option<&Vec<Assignment<'a>>>
-        ensures { list_or_none (option_copied result) ≡ going_to self.now number }
-    {
-        if self.is_marked(number) {
-            self.stored(number)
-        } else {
-            None
-        }
-    }
 
     /// Those of these that go on, from a level with so many instances.
     pub(crate) fn of(
         alloc: Global,
-        reaching: &[Assignment<'a>],
+        reaching: &'r [Assignment<'a>],
         count: usize,
-    ) -> Result<Onward<'a>, AllocError>
+    ) -> Result<Onward<'r, 'a>, AllocError>
         ensures { IfOk result (λ onward. IsOnward onward reaching.now) }
     {
-        let small = if reaching.len() < FEW {
-            reaching.len()
-        } else {
-            reaching.len().max(count)
-        };
-        let mut onward = Onward::with_room(alloc, small)?;
-        for assignment in reaching {
-            if let Some(next) = assignment.next() {
-                onward.put(next.number(), assignment.share()?)?;
-            }
+        let mut heads = Vec::new(alloc);
+        let mut links = Vec::new(alloc);
+        if !reaching.is_empty() {
+            heads.resize(slots(reaching.len(), count), reaching.len())?;
+            links.resize(reaching.len(), 0)?;
+            put_all(reaching, heads.as_mut_slice(), links.as_mut_slice());
         }
-        Ok(onward)
+        Ok(Onward {
+            reaching,
+            heads,
+            links,
+        })
     }
 
-    /// Whether no target passes this instance, or any other of its number.
+    /// The number of the first assignment in the chain of this number.
+    #[inline]
+    fn first_under(&self, number: usize) -> usize
+        ensures { result ≡ first_under self.now number }
+    {
+        if self.heads.is_empty() {
+            return self.reaching.len();
+        }
+        self.heads[number % self.heads.len()]
+    }
+
+    /// Whether no target passes this instance, or any other of its slot.
     pub(crate) fn passes_by(&self, part: &Part) -> bool
         ensures { result ≡ true → (reaching : List Reach) → IsOnward self.now reaching → behind part.now.at reaching ≡ [] }
     {
-        if !self.is_marked(part.place()) {
-            return true;
-        }
-        match self.get(part.place()) {
-            Some(list) => list.is_empty(),
-            None => true,
-        }
+        self.first_under(part.place()) >= self.reaching.len()
     }
 
     /// Those whose targets pass this instance.
@@ -391,10 +372,18 @@ impl<'a> Onward<'a> {
     ) -> Result<Vec<Assignment<'a>>, AllocError>
         ensures { IfOk result (λ list. (reaching : List Reach) → IsOnward self.now reaching → list.items ≡ behind part.now.at reaching) }
     {
-        match self.get(part.place()) {
-            Some(list) => behind(alloc, &part.instance()?, list.as_slice()),
-            None => Ok(Vec::new(alloc)),
+        let first = self.first_under(part.place());
+        if first >= self.reaching.len() {
+            return Ok(Vec::new(alloc));
         }
+        let instance = part.instance()?;
+        behind(
+            alloc,
+            &instance,
+            self.reaching,
+            self.links.as_slice(),
+            first,
+        )
     }
 }
 
