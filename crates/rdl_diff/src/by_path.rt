@@ -8,6 +8,9 @@ use rdl_elab::row::{Row, RowPath};
 use rdl_text::name::Name;
 use std::alloc::{AllocError, Global};
 
+/// Most paths have no more names.
+const USUAL: usize = 8;
+
 /// Appends the name of a register, if there is one, and that of what stands in it.
 fn push_ends<'a>(
     names: &mut Vec<&'a str>,
@@ -46,23 +49,21 @@ pub(crate) fn put_names_below<'a>(
 {
     names.clear();
     let parts = path.parts();
-    match parts.around.as_slice() {
-        [] => push_end_below(names, parts.register, parts.last),
-        [_, between @ ..] => {
-            'names: for name in between {
-                names.push(name.as_str())?;
-            }
-            push_ends(names, parts.register, parts.last)
-        }
+    let mut around = parts.around.names();
+    if around.next().is_none() {
+        return push_end_below(names, parts.register, parts.last);
     }
+    'names: while let Some(name) = around.next() {
+        names.push(name)?;
+    }
+    push_ends(names, parts.register, parts.last)
 }
 
 /// The names below the top.
 fn names_below(alloc: Global, path: &RowPath) -> Result<Vec<&str>, AllocError>
     ensures { IfOk result (λ names. texts names.items ≡ drop 1 path.now) }
 {
-    let around = path.parts().around.as_slice();
-    let mut names = Vec::with_capacity(alloc, around.len().saturating_add(1))?;
+    let mut names = Vec::with_capacity(alloc, USUAL)?;
     put_names_below(&mut names, path)?;
     Ok(names)
 }

@@ -6,6 +6,7 @@ pub mod Placing
 pub mod Layouts
 pub mod Capped
 pub mod Rows
+pub mod Dotted
 pub mod Faults
 pub mod Shown
 pub mod ReachedAt

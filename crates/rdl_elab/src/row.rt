@@ -18,55 +18,56 @@ use std::rc::Rc;
 /// sees the list of the names' bytes.
 #[derive(Debug, Drop)]
 pub struct NamesAround {
-    names: Vec<Rc<Name>>,
     /// With two underscores behind each.
     joined: String,
-    /// With a dot behind each.
+    /// With a dot behind each. No name has a dot, so these are the names.
     dotted: String,
 }
 
 impl Model for NamesAround {
-    ghost use Rattle.std.specs.Prelude.{◌≡◌, ℕ, List, ◌++◌, codes, map, string_bytes};
+    ghost use Rattle.std.specs.Prelude.{◌≡◌, ℕ, List, ◌++◌, codes, string_bytes};
     ghost use Rattle.std.specs.List.{flat_map};
+    ghost use Rattle.rdl_elab.specs.Dotted.{names_in, IsDotted};
 
     ghost Value = { List (List ℕ) };
 
-    ghost view = { λ around. map (λ name. name.value) around.names.items };
+    ghost view = { λ around. names_in (string_bytes around.dotted) };
 
-    ghost invariant = { λ around. (string_bytes around.joined ≡ flat_map (λ name. name ++ codes "__") (map (λ name. name.value) around.names.items)) × (string_bytes around.dotted ≡ flat_map (λ name. name ++ codes ".") (map (λ name. name.value) around.names.items)) };
+    ghost invariant = { λ around. IsDotted (string_bytes around.dotted) × (string_bytes around.joined ≡ flat_map (λ name. name ++ codes "__") (names_in (string_bytes around.dotted))) };
 }
 
 impl NamesAround {
-    ghost use Rattle.std.specs.Prelude.{◌≡◌, [], ◌∷◌, ◌++◌, IfOk, codes, map};
+    ghost use Rattle.std.specs.Prelude.{◌≡◌, [], ◌∷◌, ◌++◌, IfOk, codes};
     ghost use Rattle.std.specs.List.{flat_map};
 
     /// Of the top, around which nothing stands.
+    #[tactic(auto, unfolding(crate::specs::Dotted::names_in))]
     pub fn none(alloc: Global) -> NamesAround
         ensures { result ≡ [] }
     {
         NamesAround {
-            names: Vec::new(alloc),
             joined: String::new(alloc),
             dotted: String::new(alloc),
         }
     }
 
     /// Of what stands in the component of this name.
-    #[tactic(auto, using(crate::proofs::NamesAround::text_more))]
     pub fn inside(&self, alloc: Global, name: &Name) -> Result<NamesAround, AllocError>
         ensures { IfOk result (λ around. around ≡ self.now ++ name.now ∷ []) }
     {
-        Ok(NamesAround {
-            names: longer(alloc, self.names.as_slice(), name)?,
-            joined: text_with(alloc, self.joined.as_str(), name, "__")?,
-            dotted: text_with(alloc, self.dotted.as_str(), name, ".")?,
-        })
+        name.is_name();
+        let joined = text_with(alloc, self.joined.as_str(), name, "__")?;
+        let dotted = text_with(alloc, self.dotted.as_str(), name, ".")?;
+        Ok(NamesAround { joined, dotted })
     }
 
-    pub fn as_slice(&self) -> &[Rc<Name>]
-        ensures { map (λ name. name.value) result.now ≡ self.now }
+    /// The names one after the other.
+    pub fn names(&self) -> DottedNames<'_>
+        ensures { result ≡ self.now }
     {
-        self.names.as_slice()
+        DottedNames {
+            dotted: self.dotted.as_str(),
+        }
     }
 
     /// The names with two underscores behind each.
@@ -84,22 +85,46 @@ impl NamesAround {
     }
 }
 
-fn shared(name: &Rc<Name>) -> Result<Rc<Name>, AllocError>
-    ensures { IfOk result (λ n. n.value ≡ name.now.value) }
-{
-    name.clone()
+/// Names that stand in a text with a dot behind each. A contract sees the list of their bytes.
+#[derive(Debug, Drop)]
+pub struct DottedNames<'a> {
+    dotted: &'a str,
 }
 
-/// The names with one more behind them.
-fn longer(alloc: Global, names: &[Rc<Name>], name: &Name) -> Result<Vec<Rc<Name>>, AllocError>
-    ensures { IfOk result (λ more. map (λ n. n.value) more.items ≡ map (λ n. n.value) names.now ++ name.now ∷ []) }
-{
-    let mut more = Vec::with_capacity(alloc, names.len().saturating_add(1))?;
-    'names: for around in names {
-        more.push(shared(around)?)?;
+impl<'a> Model for DottedNames<'a> {
+    ghost use Rattle.std.specs.Prelude.{ℕ, List};
+    ghost use Rattle.rdl_elab.specs.Dotted.{names_in, IsDotted};
+
+    ghost Value = { List (List ℕ) };
+
+    ghost view = { λ names. names_in names.dotted.now };
+
+    ghost invariant = { λ names. IsDotted names.dotted.now };
+}
+
+impl<'a> DottedNames<'a> {
+    ghost use Rattle.std.specs.Prelude.{◌≡◌, [], ◌∷◌, ◌++◌, codes, MatchOption};
+    ghost use Rattle.std.specs.List.{flat_map};
+
+    /// Takes the first name away, if there is one.
+    pub fn next(&mut self) -> Option<&'a str>
+        ensures { MatchOption result (self.old ≡ [] × self.new ≡ []) (λ name. self.old ≡ name.now ∷ self.new) }
+    {
+        match self.dotted.split_once('.') {
+            Some((name, behind)) => {
+                self.dotted = behind;
+                Some(name)
+            }
+            None => None,
+        }
     }
-    more.push(Rc::new(alloc, name.try_copy(alloc)?)?)?;
-    Ok(more)
+
+    /// The text.
+    pub fn as_str(&self) -> &'a str
+        ensures { result.now ≡ flat_map (λ name. name ++ codes ".") self.now }
+    {
+        self.dotted
+    }
 }
 
 /// The text with a name behind it, and this end behind that.

@@ -2,3 +2,4 @@ pub mod HeaderFaults
 pub mod HeaderText
 pub mod Lines
 pub mod Marks
+pub mod Places

@@ -7,6 +7,7 @@ mod head;
 mod lines;
 mod macros;
 mod mark;
+mod places;
 mod stretch;
 mod text;
 

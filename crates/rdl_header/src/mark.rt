@@ -8,6 +8,7 @@ ghost use Rattle.rdl_header.specs.HeaderText.{path_text, macros, first_clash};
 ghost use Rattle.rdl_header.specs.Marks.{mark_on, mark, is_narrow, row_marks, path_marks};
 
 use crate::bits::width;
+use crate::places::doubtful;
 use rdl_elab::row::{Location, Row, RowPath};
 use rdl_text::name::Name;
 use std::alloc::{AllocError, Global};
@@ -82,8 +83,9 @@ fn path_marks(alloc: Global, rows: &[Row]) -> Result<Vec<u64>, AllocError>
 pub(crate) fn paths_differ(alloc: Global, rows: &[Row]) -> Result<bool, AllocError>
     ensures { IfOk result (λ differ. differ ≡ true → first_clash (macros rows.now) ≡ None) }
 {
-    let mut marks = path_marks(alloc, rows)?;
-    Ok(are_apart(marks.as_mut_slice()))
+    let marks = path_marks(alloc, rows)?;
+    let mut doubtful = doubtful(alloc, marks.as_slice())?;
+    Ok(are_apart(doubtful.as_mut_slice()))
 }
 
 /// Whether these marks are known to differ from each other. They are put in order.

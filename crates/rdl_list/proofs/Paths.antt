@@ -1,8 +1,12 @@
 -- The names of a path with dots between them, the last one apart.
-use Rattle.std.proofs.Common.{◌≡◌, ℕ, List, [], ◌∷◌, ◌++◌, ap, ◌∙◌, sym, codes, append_assoc, append-nil, zero, suc, length, map, take, drop, refl, ◌≤◌, ◌-◌, arith}
-use Rattle.std.proofs.lemmas.List.{take_all, length-drop}
+use Rattle.std.proofs.Common.{◌≡◌, ◌<◌, ◌≤◌, ◌+◌, ◌-◌, ℕ, suc, List, [], ◌∷◌, ◌++◌, ap, ◌∙◌, sym, codes, append_assoc, append-nil, length, drop, arith}
+use Rattle.std.proofs.Math.Seq.{drop-append-add}
+use Rattle.std.proofs.lemmas.List.{drop-append-le, drop-drop, length-append, length-drop}
 use Rattle.std.proofs.lemmas.List.Concat.{flat_map-append}
 use Rattle.std.specs.List.{flat_map}
+use Rattle.std.specs.Borrow.{Bor}
+use Rattle.std.specs.Option.{is_some}
+use Rattle.std.specs.Prelude.{Option, Some, None, MatchOption, true, false}
 use Rattle.rdl_list.specs.ListText.{path_text}
 
 -- a dot before each name but the first, or a dot behind each but the last
@@ -20,10 +24,6 @@ ends : (around : List (List ℕ)) (last : List ℕ) → path_text (around ++ las
 ends [] last = append-nil last
 ends (x ∷ xs) last = dots x xs last
 
-dots_behind : {A : Type 0} (name_of : A → List ℕ) (xs : List A) → flat_map (λ n. name_of n ++ codes ".") xs ≡ flat_map (λ n. n ++ codes ".") (map name_of xs)
-dots_behind name_of [] = refl
-dots_behind name_of (x ∷ xs) = ap (λ t. (name_of x ++ codes ".") ++ t) (dots_behind name_of xs)
-
 -- the text with the names around the register, then with the register, and then with the last
 pub path_whole : (old first second new : List ℕ) (around register : List (List ℕ)) (last : List ℕ) → first ≡ old ++ flat_map (λ n. n ++ codes ".") around → second ≡ first ++ flat_map (λ n. n ++ codes ".") register
     → new ≡ second ++ last → new ≡ old ++ path_text ((around ++ register) ++ last ∷ [])
@@ -38,20 +38,32 @@ path_whole old first second new around register last f g h =
     ∙ append_assoc old (of (around ++ register)) last
     ∙ ap (λ t. old ++ t) (sym (ends (around ++ register) last))
 
--- the same of names that something has, of which so many are put
-pub path-pushed : {A : Type 0} (name_of : A → List ℕ) (old first second new : List ℕ) (around : List A) (register : List (List ℕ)) (last : List ℕ) (i : ℕ) → length around ≤ i → first ≡ old ++ flat_map (λ n. name_of n ++ codes ".") (take i around)
-    → second ≡ first ++ flat_map (λ n. n ++ codes ".") register → new ≡ second ++ last → new ≡ old ++ path_text ((map name_of around ++ register) ++ last ∷ [])
-path-pushed name_of old first second new around register last i all f g h =
-    path_whole old first second new (map name_of around) register last
-    (f ∙ ap (λ ns. old ++ flat_map (λ n. name_of n ++ codes ".") ns) (take_all i around all) ∙ ap (λ t. old ++ t) (dots_behind name_of around)) g h
+-- of names of which so many are taken away, one more is
+pub one_gone : (first : Option (Bor (List ℕ))) (n : ℕ) (names left more : List (List ℕ)) → is_some first ≡ true → MatchOption first ((left ≡ []) × (more ≡ [])) (λ name. left ≡ name.now ∷ more) → left ≡ drop n names
+    → (more ≡ drop (n + 1) names) × (n + 1 ≤ length names)
+one_gone None n names left more h e f = cc
+one_gone (Some name) n names left more h e f =
+    let rest : length names - n ≡ suc (length more) = sym (length-drop n names) ∙ ap length (sym f ∙ e) in
+    (ap (drop 1) (sym e ∙ f) ∙ drop-drop 1 n names, omega arith)
 
--- without so many of the first names, which all stand before the others
-dropped : {A : Type 0} (name_of : A → List ℕ) (around : List A) (register : List (List ℕ)) (last : List ℕ) (n : ℕ) → n ≤ length around → (map name_of (drop n around) ++ register) ++ last ∷ [] ≡ drop n ((map name_of around ++ register) ++ last ∷ [])
-dropped name_of around register last zero h = refl
-dropped name_of [] register last (suc n) h = grind arith
-dropped name_of (x ∷ xs) register last (suc n) h = dropped name_of xs register last n (omega arith)
+-- or there is none left
+pub none_gone : (first : Option (Bor (List ℕ))) (left more : List (List ℕ)) → is_some first ≡ false → MatchOption first ((left ≡ []) × (more ≡ [])) (λ name. left ≡ name.now ∷ more) → left ≡ []
+none_gone None left more h e = e.0
+none_gone (Some name) left more h e = cc
 
-pub left_out : {A : Type 0} (name_of : A → List ℕ) (around : List A) (register : List (List ℕ)) (last : List ℕ) (n : ℕ) → n ≤ length around → (map name_of (take (length around - n) (drop n around)) ++ register) ++ last ∷ [] ≡ drop n ((map name_of around ++ register) ++ last ∷ [])
-left_out name_of around register last n h =
-    let all : length (drop n around) ≤ length around - n = omega (arith, length-drop n around) in
-    ap (λ xs. (map name_of xs ++ register) ++ last ∷ []) (take_all (length around - n) (drop n around) all) ∙ dropped name_of around register last n h
+-- without so many of the first names, which all stand before the register
+pub left_out : (n : ℕ) (around left register ends : List (List ℕ)) → left ≡ drop n around → n ≤ length around → (left ++ register) ++ ends ≡ drop n ((around ++ register) ++ ends)
+left_out n around left register ends e h =
+    let all : n ≤ length (around ++ register) = omega (arith, length-append around register) in
+    ap (λ names. (names ++ register) ++ ends) e
+    ∙ ap (λ names. names ++ ends) (sym (drop-append-le n around register h))
+    ∙ sym (drop-append-le n (around ++ register) ends all)
+
+-- without all names before the register, of which there are k, and some of the others
+pub all_left_out : (n k : ℕ) (around register ends : List (List ℕ)) → [] ≡ drop k around → k ≤ length around → k < n → drop (n - k) (register ++ ends) ≡ drop n ((around ++ register) ++ ends)
+all_left_out n k around register ends e h g =
+    let none : length around - k ≡ 0 = sym (length-drop k around) ∙ ap length (sym e) in
+    let so_many : length around + (n - k) ≡ n = omega arith in
+    sym (drop-append-add around (register ++ ends) (n - k))
+    ∙ ap (λ m. drop m (around ++ (register ++ ends))) so_many
+    ∙ ap (drop n) (sym (append_assoc around register ends))

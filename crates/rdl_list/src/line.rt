@@ -1,19 +1,18 @@
 //! The line of a row.
-ghost use Rattle.std.specs.Prelude.{◌≡◌, ◌<◌, ◌++◌, ◌∷◌, [], codes, drop, map, option_copied, string_bytes, OnOk};
+ghost use Rattle.std.specs.Prelude.{◌≡◌, ◌<◌, ◌++◌, ◌∷◌, [], codes, drop, option_copied, string_bytes, OnOk};
 ghost use Rattle.std.specs.List.{flat_map};
 ghost use Rattle.std.specs.Option.{option_to_list};
 ghost use Rattle.rdl_write.specs.Texts.{hexadecimal, kind_text, newline};
 ghost use Rattle.rdl_list.specs.ListText.{path_text, reset_text, head_text, extent_text, bytes_line, span_text, bits_line, line_of};
 
 use rdl_elab::layout::Span;
-use rdl_elab::row::{Extent, Location, PathParts, Row, RowPath};
+use rdl_elab::row::{DottedNames, Extent, Location, Row, RowPath};
 use rdl_text::name::Name;
 use rdl_text::token::Number;
 use rdl_tree::property::Property;
 use rdl_tree::shell::Kind;
 use rdl_write::{push_dims, push_hexadecimal, push_hexadecimal_end, push_high_low};
 use std::alloc::AllocError;
-use std::rc::Rc;
 
 /// Appends the name of a register, if there is one, and a dot.
 fn push_register(text: &mut String, register: Option<&Name>) -> Result<(), AllocError>
@@ -26,24 +25,6 @@ fn push_register(text: &mut String, register: Option<&Name>) -> Result<(), Alloc
         }
         None => Ok(()),
     }
-}
-
-/// Appends names with dots between them, the register's and the last one apart.
-fn push_names(
-    text: &mut String,
-    around: &[Rc<Name>],
-    register: Option<&Name>,
-    last: &Name,
-) -> Result<(), AllocError>
-    ensures { OnOk result (string_bytes text.new ≡ string_bytes text.old ++ path_text ((map (λ n. n.value) around.now ++ option_to_list (option_copied register.entry)) ++ last.now ∷ [])) }
-{
-    'names: for name in around {
-        text.push_str(name.as_str())?;
-        text.push_str(".")?;
-    }
-    push_register(text, register)?;
-    text.push_str(last.as_str())?;
-    Ok(())
 }
 
 /// Appends the last name where no more than the name of the register before it is left out, or a dot.
@@ -62,14 +43,19 @@ fn push_end(
     }
 }
 
-/// Appends a whole path with these parts.
+/// Appends the last name behind these and that of the register, with dots between them.
 #[tactic(auto, using(crate::proofs::Paths::path_whole))]
-fn push_whole(text: &mut String, parts: &PathParts) -> Result<(), AllocError>
-    ensures { OnOk result (string_bytes text.new ≡ string_bytes text.old ++ path_text ((parts.now.around.now ++ option_to_list (option_copied parts.now.register)) ++ parts.now.last.now ∷ [])) }
+fn push_names(
+    text: &mut String,
+    around: &DottedNames,
+    register: Option<&Name>,
+    last: &Name,
+) -> Result<(), AllocError>
+    ensures { OnOk result (string_bytes text.new ≡ string_bytes text.old ++ path_text ((around.now ++ option_to_list (option_copied register.entry)) ++ last.now ∷ [])) }
 {
-    text.push_str(parts.around.dotted())?;
-    push_register(text, parts.register)?;
-    text.push_str(parts.last.as_str())
+    text.push_str(around.as_str())?;
+    push_register(text, register)?;
+    text.push_str(last.as_str())
 }
 
 /// Appends the names of a path with dots between them, but for so many of the first. Where none is left it appends a dot.
@@ -77,14 +63,13 @@ pub fn push_path(text: &mut String, path: &RowPath, left_out: usize) -> Result<(
     ensures { OnOk result (string_bytes text.new ≡ string_bytes text.old ++ path_text (drop left_out path.now)) }
 {
     let parts = path.parts();
-    if left_out == 0 {
-        return push_whole(text, &parts);
+    let mut around = parts.around.names();
+    'left_out: for passed in 0..left_out {
+        if around.next().is_none() {
+            return push_end(text, parts.register, parts.last, left_out - passed);
+        }
     }
-    let around = parts.around.as_slice();
-    if left_out > around.len() {
-        return push_end(text, parts.register, parts.last, left_out - around.len());
-    }
-    push_names(text, &around[left_out..], parts.register, parts.last)
+    push_names(text, &around, parts.register, parts.last)
 }
 
 /// Appends a number behind its word, which has a space on both sides.
