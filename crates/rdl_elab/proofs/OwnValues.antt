@@ -1,8 +1,8 @@
 -- Steps along the own assignments in a body.
-use Rattle.std.proofs.Common.{◌≡◌, ℕ, zero, suc, ◌+◌, ◌<◌, List, [], ◌∷◌, ◌++◌, length, take, get_or, Bool, true, false, Some, None, Option, refl, ap, sym, ◌∙◌, add-one}
+use Rattle.std.proofs.Common.{◌≡◌, ℕ, zero, suc, ◌+◌, ◌<◌, List, [], ◌∷◌, ◌++◌, length, take, drop, get_or, Bool, true, false, Some, None, Option, refl, ap, sym, ◌∙◌, add-one, arith}
 use Rattle.std.specs.Prelude.{◌||◌, bytes_eq, if◌then◌else◌, slice_get}
 use Rattle.std.specs.List.{list_any}
-use Rattle.std.specs.Option.{option_or}
+use Rattle.std.specs.Option.{option_or, is_some}
 use Rattle.std.proofs.Math.Seq.{take-suc}
 use Rattle.rdl_tree.specs.Properties.{row, property_of}
 use Rattle.rdl_tree.specs.declared.shell.Kind.{Kind}
@@ -10,8 +10,10 @@ use Rattle.rdl_tree.specs.declared.property.Property.{Property}
 use Rattle.rdl_tree.specs.declared.value.Value.{Value}
 use Rattle.rdl_elab.specs.declared.walk.own_values.Assigned.{Assigned}
 use Rattle.rdl_tree.specs.Items.{Items, no_items, plain, holder, named, own, default, dynamic, define, anonymous}
+use Rattle.rdl_tree.specs.View.{items_of, list_of}
+use Rattle.rdl_tree.proofs.Rounds.{items_of-list_of}
 use Rattle.rdl_tree.specs.declared.description.Item.{Item}
-use Rattle.rdl_elab.specs.OwnValues.{assigned_to, is_dynamic, dynamic_there, any_dynamic}
+use Rattle.rdl_elab.specs.OwnValues.{assigned_to, first_met, is_dynamic, dynamic_there, any_dynamic, IsFirstAmong}
 use Rattle.rdl_elab.specs.Reaches.{reaches_by}
 use Rattle.rdl_elab.specs.StatedValues.{shown_on, if_named}
 use Rattle.rdl_elab.proofs.Names.{names-apart}
@@ -68,6 +70,9 @@ dynamic-next (suc i) [] o e = sym (ap dynamic_there e)
 dynamic-next zero (x ∷ xs) o e = or-none (is_dynamic x) ∙ sym (ap dynamic_there e)
 dynamic-next (suc i) (x ∷ xs) o e = ap (λ b. is_dynamic x || b) (dynamic-next i xs o e) ∙ or-assoc-bool (is_dynamic x) (list_any is_dynamic (take i xs)) (dynamic_there o)
 
+one-on : (n i : ℕ) → suc n + i ≡ n + suc i
+one-on n i = omega arith
+
 -- without dynamic assignments nothing is reached
 pub no-dynamic : (f : ℕ → List (List ℕ) → Option (List (List ℕ))) (n : ℕ) (t : Items) → any_dynamic t ≡ false → reaches_by f n t ≡ []
 no-dynamic f n no_items h = refl
@@ -77,3 +82,46 @@ no-dynamic f n (plain (default p v) rest) h = no-dynamic f (suc n) rest h
 no-dynamic f n (plain (dynamic u p v) rest) h = absurd cc
 no-dynamic f n (holder (define m k) body rest) h = no-dynamic f (suc n) rest h
 no-dynamic f n (holder (anonymous s k) body rest) h = no-dynamic f (suc n) rest h
+
+-- a body whose first dynamic assignment isn't there has none
+pub first-none : (o : Option ℕ) (xs : List Item) → is_some o ≡ false → IsFirstAmong o xs → list_any is_dynamic xs ≡ false
+first-none None xs e h = h
+first-none (Some n) xs e h = absurd cc
+
+-- the first dynamic assignment as far as this many items go
+abbrev pub IsFirstWithin : Option ℕ → ℕ → List Item → Type 0
+IsFirstWithin None i xs = list_any is_dynamic (take i xs) ≡ false
+IsFirstWithin (Some n) i xs = (list_any is_dynamic (take n xs) ≡ false) × (list_any is_dynamic (take i xs) ≡ true)
+
+pub first-next : (i : ℕ) (xs : List Item) (x : Item) (o : Option ℕ) → Some x ≡ slice_get xs i → IsFirstWithin o i xs → IsFirstWithin (first_met o i (is_dynamic x)) (suc i) xs
+first-next i xs x o e h = by o (is_dynamic x) (dynamic-next i xs (Some x) e) h
+  where
+    by : (o : Option ℕ) (b : Bool) → list_any is_dynamic (take (suc i) xs) ≡ list_any is_dynamic (take i xs) || b → IsFirstWithin o i xs → IsFirstWithin (first_met o i b) (suc i) xs
+    by None false g h = g ∙ ap (λ a. a || false) h
+    by None true g h = (h, g ∙ ap (λ a. a || true) h)
+    by (Some n) false g h = (h.0, g ∙ ap (λ a. a || false) h.1)
+    by (Some n) true g h = (h.0, g ∙ ap (λ a. a || true) h.1)
+
+pub first-of-all : (i : ℕ) (xs : List Item) (o : Option ℕ) → take i xs ≡ xs → IsFirstWithin o i xs → IsFirstAmong o xs
+first-of-all i xs None e h = ap (list_any is_dynamic) (sym e) ∙ h
+first-of-all i xs (Some n) e h = (h.0, ap (list_any is_dynamic) (sym e) ∙ h.1)
+
+-- what is reached is reached by the items from the first dynamic assignment on
+behind-first : (f : ℕ → List (List ℕ) → Option (List (List ℕ))) (i n : ℕ) (t : Items) → list_any is_dynamic (take i (list_of t)) ≡ false → reaches_by f n t ≡ reaches_by f (n + i) (items_of (drop i (list_of t)))
+behind-first f zero n t h = sym (ap (reaches_by f n) (items_of-list_of t)) ∙ ap (λ k. reaches_by f k (items_of (list_of t))) (none n)
+  where
+    none : (n : ℕ) → n ≡ n + 0
+    none n = omega arith
+behind-first f (suc i) n no_items h = refl
+behind-first f (suc i) n (plain (named s u) rest) h = behind-first f i (suc n) rest h ∙ ap (λ k. reaches_by f k (items_of (drop i (list_of rest)))) (one-on n i)
+behind-first f (suc i) n (plain (own p v) rest) h = behind-first f i (suc n) rest h ∙ ap (λ k. reaches_by f k (items_of (drop i (list_of rest)))) (one-on n i)
+behind-first f (suc i) n (plain (default p v) rest) h = behind-first f i (suc n) rest h ∙ ap (λ k. reaches_by f k (items_of (drop i (list_of rest)))) (one-on n i)
+behind-first f (suc i) n (plain (dynamic u p v) rest) h = absurd cc
+behind-first f (suc i) n (holder (define m k) body rest) h = behind-first f i (suc n) rest h ∙ ap (λ k. reaches_by f k (items_of (drop i (list_of rest)))) (one-on n i)
+behind-first f (suc i) n (holder (anonymous s k) body rest) h = behind-first f i (suc n) rest h ∙ ap (λ k. reaches_by f k (items_of (drop i (list_of rest)))) (one-on n i)
+
+pub from-first : (f : ℕ → List (List ℕ) → Option (List (List ℕ))) (i : ℕ) (t : Items) → list_any is_dynamic (take i (list_of t)) ≡ false → reaches_by f 0 t ≡ reaches_by f i (items_of (drop i (list_of t)))
+from-first f i t h = behind-first f i 0 t h ∙ ap (λ k. reaches_by f k (items_of (drop i (list_of t)))) (same i)
+  where
+    same : (i : ℕ) → 0 + i ≡ i
+    same i = omega arith

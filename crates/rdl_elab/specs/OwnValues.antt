@@ -1,6 +1,6 @@
 -- The own assignments in a body, each with its property.
 -- own: how they are kept. What they are `own_value` says.
-use Rattle.std.specs.Prelude.{◌≡◌, Bool, true, false, List, [], ◌∷◌, Option, None, Some, bytes_eq, if◌then◌else◌}
+use Rattle.std.specs.Prelude.{◌≡◌, ℕ, Bool, true, false, List, [], ◌∷◌, take, Option, None, Some, bytes_eq, if◌then◌else◌}
 use Rattle.std.specs.List.{list_any}
 use Rattle.rdl_tree.specs.View.{list_of}
 use Rattle.rdl_tree.specs.declared.description.Item.{Item}
@@ -35,3 +35,18 @@ dynamic_there (Some x) = is_dynamic x
 -- the body has a dynamic assignment
 abbrev pub any_dynamic : Items → Bool
 any_dynamic body = list_any is_dynamic (list_of body)
+
+-- the first dynamic assignment, with one item more, of this number, which may be one
+abbrev pub first_met : Option ℕ → ℕ → Bool → Option ℕ
+first_met before n false = before
+first_met None n true = Some n
+first_met (Some k) n true = Some k
+
+-- of these items none before this number is a dynamic assignment, and none at all where there is no number
+abbrev pub IsFirstAmong : Option ℕ → List Item → Type 0
+IsFirstAmong None xs = list_any is_dynamic xs ≡ false
+IsFirstAmong (Some n) xs = (list_any is_dynamic (take n xs) ≡ false) × (list_any is_dynamic xs ≡ true)
+
+-- the first dynamic assignment of a body, if there is one
+abbrev pub IsFirstDynamic : Option ℕ → Items → Type 0
+IsFirstDynamic first body = IsFirstAmong first (list_of body)

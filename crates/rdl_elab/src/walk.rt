@@ -148,14 +148,14 @@ fn finished_component<'a>(
     let own = OwnValues::of(alloc, body)?;
     let values = layout_values(&own, &mut walk.defaults);
     let shown = shown_values(alloc, kind, &own, &mut walk.defaults, &walk.built_ins)?;
-    let has_dynamic = own.has_dynamic();
+    let first_dynamic = own.first_dynamic();
     let further = &mut walk.further;
     let look_ups = further.look_ups(description, at, &own, parts.len());
     let parts = PartList::of(alloc, parts, look_ups)?;
     let components = walk.components.as_slice();
     let contents = contents_of(parts.as_slice(), components);
-    require_whole(has_dynamic, contents.whole)?;
-    let assignments = assignments_if(alloc, has_dynamic, components, &parts, body)?;
+    require_whole(first_dynamic.is_some(), contents.whole)?;
+    let assignments = assignments_if(alloc, first_dynamic, components, &parts, body)?;
     let room = &mut walk.built_ins;
     let taken = take_layouts(
         alloc,

@@ -1,11 +1,11 @@
 //! The assignments in the body of a component.
-ghost use Rattle.std.specs.Prelude.{◌≡◌, ◌||◌, true, Some, None, IfOk, OnOk, option_copied};
+ghost use Rattle.std.specs.Prelude.{◌≡◌, true, Some, None, IfOk, OnOk, option_copied};
 ghost use Rattle.std.specs.Option.{option_or};
 ghost use Rattle.rdl_tree.specs.Properties.{row};
 ghost use Rattle.rdl_tree.specs.declared.property.Property.{Property};
 ghost use Rattle.rdl_scope.specs.Value.{own_value};
 ghost use Rattle.rdl_scope.specs.Walk.{owned_by};
-ghost use Rattle.rdl_elab.specs.OwnValues.{assigned_to, is_dynamic, any_dynamic};
+ghost use Rattle.rdl_elab.specs.OwnValues.{assigned_to, first_met, is_dynamic, IsFirstDynamic};
 ghost use Rattle.rdl_elab.specs.Reaches.{value_under};
 ghost use Rattle.rdl_elab.specs.StatedValues.{shown_on, if_named};
 
@@ -26,19 +26,20 @@ pub(crate) struct Assigned<'a> {
     value: &'a Value,
 }
 
-/// The own assignments in a body, each with its property, and whether it has dynamic ones. A contract sees the body.
+/// The own assignments in a body, each with its property, and where its dynamic ones begin. A contract sees the body.
 #[derive(Drop)]
 pub(crate) struct OwnValues<'a> {
     body: &'a Body,
     items: Vec<Assigned<'a>>,
-    has_dynamic: bool,
+    /// The number of the first dynamic assignment.
+    first_dynamic: Option<usize>,
 }
 
 impl<'a> Model for OwnValues<'a> {
     ghost use Rattle.rdl_tree.specs.Codes.{coded_items};
     ghost use Rattle.rdl_tree.specs.Items.{Items};
     ghost use Rattle.std.specs.Prelude.{◌≡◌};
-    ghost use Rattle.rdl_elab.specs.OwnValues.{AreOwn, any_dynamic};
+    ghost use Rattle.rdl_elab.specs.OwnValues.{AreOwn, IsFirstDynamic};
 
     ghost Value = { Items };
 
@@ -46,7 +47,7 @@ impl<'a> Model for OwnValues<'a> {
 
     ghost view = { λ own. own.body.now };
 
-    ghost invariant = { λ own. AreOwn own.items.items own.body.now × (own.has_dynamic ≡ any_dynamic own.body.now) };
+    ghost invariant = { λ own. AreOwn own.items.items own.body.now × IsFirstDynamic own.first_dynamic own.body.now };
 }
 
 /// The first value that is assigned to the property.
@@ -78,6 +79,7 @@ fn add_named<'a>(
     }
 }
 
+#[inline(always)]
 fn add_own<'a>(items: &mut Vec<Assigned<'a>>, item: &'a Item) -> Result<(), AllocError>
     ensures { OnOk result ((p : Property) → assigned_to p items.new.items ≡ option_or (assigned_to p items.old.items) (owned_by (row p).name (Some item.now))) }
 {
@@ -87,11 +89,15 @@ fn add_own<'a>(items: &mut Vec<Assigned<'a>>, item: &'a Item) -> Result<(), Allo
     }
 }
 
-/// Whether this is a dynamic assignment, or one was met before.
-fn meets_dynamic(before: bool, item: &Item) -> bool
-    ensures { result ≡ (before || is_dynamic item.now) }
+/// The first dynamic assignment, if this item, of this number, is one or one was met before.
+#[inline(always)]
+fn first_met(before: Option<usize>, number: usize, item: &Item) -> Option<usize>
+    ensures { result ≡ first_met before number (is_dynamic item.now) }
 {
-    before || matches!(item, Item::Dynamic(_, _, _))
+    match item {
+        Item::Dynamic(_, _, _) => Some(before.unwrap_or(number)),
+        _ => before,
+    }
 }
 
 impl<'a> OwnValues<'a> {
@@ -100,15 +106,15 @@ impl<'a> OwnValues<'a> {
         ensures { IfOk result (λ own. own ≡ body.now) }
     {
         let mut items = Vec::new(alloc);
-        let mut has_dynamic = false;
-        for item in body.as_slice() {
+        let mut first_dynamic = None;
+        for (i, item) in body.as_slice().iter().enumerate() {
             add_own(&mut items, item)?;
-            has_dynamic = meets_dynamic(has_dynamic, item);
+            first_dynamic = first_met(first_dynamic, i, item);
         }
         Ok(OwnValues {
             body,
             items,
-            has_dynamic,
+            first_dynamic,
         })
     }
 
@@ -118,11 +124,11 @@ impl<'a> OwnValues<'a> {
         self.body
     }
 
-    /// Whether the body has dynamic assignments.
-    pub(crate) fn has_dynamic(&self) -> bool
-        ensures { result ≡ any_dynamic self.now }
+    /// The number of the first dynamic assignment of the body.
+    pub(crate) fn first_dynamic(&self) -> Option<usize>
+        ensures { IsFirstDynamic result self.now }
     {
-        self.has_dynamic
+        self.first_dynamic
     }
 
     /// Whether nothing is assigned to a property.

@@ -5,6 +5,7 @@ ghost use Rattle.rdl_elab.specs.PartNames.{part_named};
 use crate::walk::finished::Part;
 use crate::walk::name_marks::NameMarks;
 use rdl_scope::by_name::ByName;
+use rdl_text::is_same;
 use rdl_text::name::Name;
 use std::alloc::{AllocError, Global};
 use std::marker::Model;
@@ -117,11 +118,11 @@ impl<'a> Model for PartList<'a> {
 }
 
 #[tactic(auto, using(crate::proofs::PartPlaces::naming))]
-fn first_named<'p, 'a>(parts: &'p [Part<'a>], name: &Name) -> Option<&'p Part<'a>>
+fn first_named<'p, 'a>(parts: &'p [Part<'a>], name: &str) -> Option<&'p Part<'a>>
     ensures { option_copied result ≡ part_named name.now parts.now }
 {
     for part in parts {
-        if &part.shell().name == name {
+        if is_same(part.shell().name.as_str(), name) {
             return Some(part);
         }
     }
@@ -178,7 +179,7 @@ impl<'a> PartList<'a> {
         let text = name.as_str();
         match &self.names {
             Some(names) if names.has(text) => part_at(parts, names.get(text)),
-            _ => first_named(parts, name),
+            _ => first_named(parts, text),
         }
     }
 

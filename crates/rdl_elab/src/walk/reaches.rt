@@ -1,13 +1,14 @@
 //! The dynamic assignments that reach an instance.
-ghost use Rattle.std.specs.Prelude.{◌≡◌, ◌+◌, ◌-◌, ◌%◌, ◌<◌, ℕ, ◌++◌, ◌∷◌, List, [], true, length, replicate, get_or, slice_set, IfOk, IfSome, OnOk, option_copied};
+ghost use Rattle.std.specs.Prelude.{◌≡◌, ◌+◌, ◌-◌, ◌%◌, ◌<◌, ℕ, ◌++◌, ◌∷◌, List, [], false, true, length, replicate, get_or, slice_set, take, IfOk, IfSome, OnOk, option_copied};
 ghost use Rattle.std.specs.Option.{option_or};
 ghost use Rattle.rdl_tree.specs.Properties.{row};
 ghost use Rattle.rdl_tree.specs.declared.property.Property.{Property};
+ghost use Rattle.rdl_tree.specs.View.{list_of};
 ghost use Rattle.rdl_elab.specs.KeptTargets.{kept_target};
 ghost use Rattle.rdl_elab.specs.PartNames.{IsFirstNamed};
 ghost use Rattle.rdl_elab.specs.Onward.{AreChained, chain};
 ghost use Rattle.std.specs.List.{list_any};
-ghost use Rattle.rdl_elab.specs.OwnValues.{any_dynamic};
+ghost use Rattle.rdl_elab.specs.OwnValues.{is_dynamic, IsFirstDynamic};
 ghost use Rattle.rdl_elab.specs.Reaches.{Reach, reaches_by, behind, reached, reach_by, has_ended, value_under};
 ghost use Rattle.rdl_elab.specs.StatedValues.{shown_on};
 
@@ -143,20 +144,24 @@ fn dynamic_assignment<'p, 'a>(
     }
 }
 
-/// The dynamic assignments of a body with these instances whose targets are there.
+/// The dynamic assignments of a body with these instances whose targets are there. Before this item there is none.
 #[tactic(auto, using(crate::proofs::Assignments::steps))]
 fn assignments<'a>(
     alloc: Global,
     components: &[Finished<'a>],
     parts: &PartList<'a>,
     body: &'a Body,
+    first_dynamic: usize,
 ) -> Result<Vec<Assignment<'a>>, AllocError>
+    requires { list_any is_dynamic (take first_dynamic (list_of body.now)) ≡ false }
     ensures { IfOk result (λ list. list.items ≡ reaches_by (kept_target components.now parts.now.items) 0 body.now) }
 {
+    let all = body.as_slice();
     let others = body.len().saturating_sub(parts.as_slice().len());
     let mut list = Vec::with_capacity(alloc, others)?;
     let mut first = None;
-    'items: for (i, item) in body.as_slice().iter().enumerate() {
+    'items: for i in first_dynamic..all.len() {
+        let item = &all[i];
         let found = dynamic_assignment(alloc, components, parts, i, item, &mut first)?;
         if let Some(assignment) = found {
             list.push(assignment)?;
@@ -165,21 +170,20 @@ fn assignments<'a>(
     Ok(list)
 }
 
-/// The dynamic assignments of a body with these instances whose targets are there, where it is known whether it has any.
+/// The dynamic assignments of a body with these instances whose targets are there, where it is known which of its items is the first.
 pub(crate) fn assignments_if<'a>(
     alloc: Global,
-    has_any: bool,
+    first_dynamic: Option<usize>,
     components: &[Finished<'a>],
     parts: &PartList<'a>,
     body: &'a Body,
 ) -> Result<Vec<Assignment<'a>>, AllocError>
-    requires { has_any ≡ any_dynamic body.now }
+    requires { IsFirstDynamic first_dynamic body.now }
     ensures { IfOk result (λ list. list.items ≡ reaches_by (kept_target components.now parts.now.items) 0 body.now) }
 {
-    if has_any {
-        assignments(alloc, components, parts, body)
-    } else {
-        Ok(Vec::new(alloc))
+    match first_dynamic {
+        Some(first) => assignments(alloc, components, parts, body, first),
+        None => Ok(Vec::new(alloc)),
     }
 }
 

@@ -19,6 +19,10 @@ use std::marker::Model;
 /// How many dynamic assignments in a body are so many that marks don't tell the names that their targets begin with from others.
 const MANY: usize = 256;
 
+/// How few dynamic assignments in a body are so few that all instances are looked through for each of them, in place of being put
+/// in order.
+const SCARCE: usize = 2;
+
 /// Whether the target of an item of the body, or of an item inside it, passes more than one instance.
 #[cycle(further)]
 fn goes_further(body: &Body) -> bool {
@@ -52,11 +56,13 @@ fn last_further(description: &Description, from: usize, end: usize) -> Option<us
     None
 }
 
-/// The marks of the names that the targets of the body's own items begin with, if they aren't too many to tell names apart.
-fn first_names(body: &Body) -> Option<NameMarks> {
+/// The marks of the names that the targets of the body's own items from this one on begin with, if they aren't too many to tell
+/// names apart.
+fn first_names(body: &Body, first: usize) -> Option<NameMarks> {
+    let items = body.as_slice();
     let mut marks = NameMarks::none();
-    for item in body.as_slice() {
-        if let Item::Dynamic(target, _, _) = item {
+    for i in first..items.len() {
+        if let Item::Dynamic(target, _, _) = &items[i] {
             if marks.len() >= MANY {
                 return None;
             }
@@ -133,10 +139,11 @@ impl Further {
         if self.is_from(description, from) {
             return LookUps::All;
         }
-        if !own.has_dynamic() {
+        let Some(first) = own.first_dynamic() else {
             return LookUps::None;
-        }
-        match first_names(own.body()) {
+        };
+        match first_names(own.body(), first) {
+            Some(marks) if marks.len() <= SCARCE => LookUps::None,
             Some(marks) => LookUps::Marked(marks),
             None => LookUps::All,
         }

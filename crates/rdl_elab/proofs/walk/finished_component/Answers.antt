@@ -1,5 +1,6 @@
 use Rattle.std.proofs.Common.{◌≡◌, false, List, [], refl, ap, sym, subst, ◌∙◌}
 use Rattle.rdl_scope.specs.Closed.{Head, Made, head_at, head_value}
+use Rattle.rdl_tree.specs.View.{list_of}
 use Rattle.rdl_elab.specs.declared.layout.LayoutValues.{LayoutValues}
 use Rattle.rdl_elab.specs.Kept.{Part}
 use Rattle.rdl_elab.specs.declared.walk.finished.Finished.{Finished}
@@ -9,12 +10,12 @@ use Rattle.rdl_elab.specs.Ready.{AreReadyParts}
 use Rattle.rdl_elab.specs.Inside.{are_whole}
 use Rattle.rdl_elab.specs.LaidOut.{kept_members}
 use Rattle.rdl_elab.specs.MadeOf.{made_of}
-use Rattle.rdl_elab.specs.OwnValues.{any_dynamic}
+use Rattle.rdl_elab.specs.OwnValues.{any_dynamic, IsFirstDynamic}
 use Rattle.rdl_elab.specs.Reaches.{reaches_by}
 use Rattle.rdl_elab.specs.Words.{spelling}
 use Rattle.rdl_elab.proofs.KeptTargets.{target-same}
 use Rattle.rdl_elab.proofs.Making.{layouts-made, under-kept, members-are}
-use Rattle.rdl_elab.proofs.OwnValues.{no-dynamic}
+use Rattle.rdl_elab.proofs.OwnValues.{no-dynamic, first-none}
 use Rattle.rdl_elab.proofs.Powers.{alignment-power}
 use Rattle.rdl_elab.proofs.Insides.{levels-kept, rows-kept, empty-kept, whole-parts}
 use Rattle.rdl_elab.proofs.walk.finished_component.Goals as goal
@@ -83,5 +84,6 @@ pub returns-clause-assigned : goal.returns-clause-assigned
 returns-clause-assigned c = λ w.
     let d = c.args.description.now.items in
     let body = c.args.component.now.body in
-    let none : any_dynamic body ≡ false = ap any_dynamic (sym c.in_ok-own.ensures) ∙ sym c.has_dynamic-has_dynamic.ensures ∙ c.in_ok-require_whole.ensures w in
+    let first = subst (IsFirstDynamic c.first_dynamic-first_dynamic.result) c.in_ok-own.ensures c.first_dynamic-first_dynamic.ensures in
+    let none : any_dynamic body ≡ false = first-none c.first_dynamic-first_dynamic.result (list_of body) (sym c.is_some.ensures ∙ c.in_ok-require_whole.ensures w) first in
     (c.in_ok-assignments.ensures ∙ no-dynamic _ 0 body none, no-dynamic _ 0 body none)

@@ -1,6 +1,4 @@
-use Rattle.std.proofs.Common.{◌≡◌, ◌≤◌, length, take, ap, sym, ◌∙◌, add-one, refl, Some, slice_get, List, subst}
-use Rattle.std.specs.Prelude.{◌||◌}
-use Rattle.std.specs.List.{list_any}
+use Rattle.std.proofs.Common.{◌≡◌, ◌≤◌, suc, length, ap, sym, ◌∙◌, add-one, refl, Some, slice_get, List, subst}
 use Rattle.std.specs.Option.{option_or}
 use Rattle.std.proofs.lemmas.List.{take_all}
 use Rattle.std.proofs.lemmas.Option.{slice_get_read}
@@ -10,33 +8,30 @@ use Rattle.rdl_tree.specs.declared.description.Item.{Item}
 use Rattle.rdl_scope.specs.Value.{own_before}
 use Rattle.rdl_scope.specs.Walk.{owned_by}
 use Rattle.rdl_scope.proofs.ValueSearches.{own-suc, own-all}
-use Rattle.rdl_elab.specs.OwnValues.{is_dynamic}
-use Rattle.rdl_elab.proofs.OwnValues.{dynamic-next}
+use Rattle.rdl_elab.proofs.OwnValues.{IsFirstWithin, first-next, first-of-all}
 use Rattle.rdl_elab.proofs.walk.own_values.OwnValues.of.Goals as goal
 
-pub loop-item-preserved : goal.loop-item-preserved
-loop-item-preserved c =
+pub loop-i-preserved : goal.loop-i-preserved
+loop-i-preserved c =
     let body = c.args.body.now in
-    let i = c.loop-item.item-index in
+    let i = c.loop-i.i in
     let x = c.item-item.result in
     let xs = c.as_slice-item-items.result.now in
-    let here : slice_get xs i ≡ Some x = slice_get_read xs (length xs) i x refl c.loop-item-test.true c.item-item.is in
+    let here : slice_get xs i ≡ Some x = slice_get_read xs (length xs) i x refl c.loop-i-test.true c.item-item.is in
     let there : Some x ≡ slice_get (list_of body) i = sym here ∙ ap (λ (ys : List Item). slice_get ys i) c.as_slice-item-items.ensures in (
       (λ p.
           let name = (row p).name in
           c.in_ok-add_own.ensures p
-          ∙ (λ j. option_or (c.loop-item.invariant.0 p j) (owned_by name (there j)))
+          ∙ (λ j. option_or (c.loop-i.invariant.0 p j) (owned_by name (there j)))
           ∙ sym (own-suc name i body)
           ∙ ap (λ n. own_before name n body) (sym (add-one i))),
-      c.meets_dynamic-has_dynamic.ensures
-          ∙ ap (λ b. b || is_dynamic x) c.loop-item.invariant.1
-          ∙ sym (dynamic-next i (list_of body) (Some x) there)
-          ∙ ap (λ n. list_any is_dynamic (take n (list_of body))) (sym (add-one i)),
+      subst (λ n. IsFirstWithin c.first_met-first_dynamic.result n (list_of body)) (sym (add-one i))
+          (subst (λ o. IsFirstWithin o (suc i) (list_of body)) (sym c.first_met-first_dynamic.ensures) (first-next i (list_of body) x c.loop-i.first_dynamic there c.loop-i.invariant.1)),
     )
 
 pub invariant_of-result : goal.invariant_of-result
 invariant_of-result c =
-    let past_all : length (list_of c.args.body.now) ≤ c.loop-item.item-index = subst (λ (ys : List Item). length ys ≤ c.loop-item.item-index) c.as_slice-item-items.ensures c.loop-item-test.false in (
-      (λ p. c.loop-item.invariant.0 p ∙ own-all (row p).name c.loop-item.item-index c.args.body.now past_all),
-      c.loop-item.invariant.1 ∙ ap (list_any is_dynamic) (take_all c.loop-item.item-index (list_of c.args.body.now) past_all),
+    let past_all : length (list_of c.args.body.now) ≤ c.loop-i.i = subst (λ (ys : List Item). length ys ≤ c.loop-i.i) c.as_slice-item-items.ensures c.loop-i-test.false in (
+      (λ p. c.loop-i.invariant.0 p ∙ own-all (row p).name c.loop-i.i c.args.body.now past_all),
+      first-of-all c.loop-i.i (list_of c.args.body.now) c.loop-i.first_dynamic (take_all c.loop-i.i (list_of c.args.body.now) past_all) c.loop-i.invariant.1,
     )
