@@ -12,7 +12,7 @@ items-init c =
     let f = kept_target c.args.components.now c.args.parts.now.items in
     let body = c.args.body.now in
     let i = c.args.first_dynamic in
-    (from-first f i body c.requires ∙ ap (λ rs. rs ++ reaches_by f i (items_of (drop i (list_of body)))) (sym c.new-list.ensures.items), tt)
+    (from-first f i body c.requires ∙ ap (λ rs. rs ++ reaches_by f i (items_of (drop i (list_of body)))) (sym c.in_ok-list.ensures.items), tt)
 
 pub items-preserved : goal.items-preserved
 items-preserved c =
