@@ -1,6 +1,6 @@
 -- The own assignments in a body, each with its property.
 -- own: how they are kept. What they are `own_value` says.
-use Rattle.std.specs.Prelude.{◌≡◌, ℕ, Bool, true, false, List, [], ◌∷◌, take, Option, None, Some, bytes_eq, if◌then◌else◌}
+use Rattle.std.specs.Prelude.{◌≡◌, ℕ, Bool, true, false, List, [], ◌∷◌, take, slice_get, Option, None, Some, bytes_eq, if◌then◌else◌}
 use Rattle.std.specs.List.{list_any}
 use Rattle.rdl_tree.specs.View.{list_of}
 use Rattle.rdl_tree.specs.declared.description.Item.{Item}
@@ -9,7 +9,9 @@ use Rattle.rdl_tree.specs.Items.{Items}
 use Rattle.rdl_tree.specs.Properties.{row}
 use Rattle.rdl_tree.specs.declared.property.Property.{Property}
 use Rattle.rdl_tree.specs.declared.value.Value.{Value}
-use Rattle.rdl_scope.specs.Value.{own_value}
+use Rattle.rdl_tree.specs.Address.{number_of}
+use Rattle.rdl_scope.specs.Value.{own_value, own_before}
+use Rattle.rdl_elab.specs.Kept.{Part}
 use Rattle.rdl_elab.specs.declared.walk.own_values.Assigned.{Assigned}
 
 -- the first value that is assigned to the property
@@ -50,3 +52,27 @@ IsFirstAmong (Some n) xs = (list_any is_dynamic (take n xs) ≡ false) × (list_
 -- the first dynamic assignment of a body, if there is one
 abbrev pub IsFirstDynamic : Option ℕ → Items → Type 0
 IsFirstDynamic first body = IsFirstAmong first (list_of body)
+
+-- the first dynamic assignment as far as this many items go
+abbrev pub IsFirstWithin : Option ℕ → ℕ → List Item → Type 0
+IsFirstWithin None i xs = list_any is_dynamic (take i xs) ≡ false
+IsFirstWithin (Some n) i xs = (list_any is_dynamic (take n xs) ≡ false) × (list_any is_dynamic (take i xs) ≡ true)
+
+-- the own assignments among so many items of a body, and the first dynamic one
+pub record AreStatedBefore (n : ℕ) (items : List Assigned) (first : Option ℕ) (body : Items) : Type 0 where
+  pub own : (p : Property) → assigned_to p items ≡ own_before (row p).name n body
+  pub dynamic : IsFirstWithin first n (list_of body)
+
+-- an item that is there is an instance
+abbrev pub IsInstance : Option Item → Type 0
+IsInstance None = ⊥
+IsInstance (Some (Instance s o)) = Unit {0}
+IsInstance (Some (Define m c)) = ⊥
+IsInstance (Some (Own p v)) = ⊥
+IsInstance (Some (Default p v)) = ⊥
+IsInstance (Some (Dynamic t p v)) = ⊥
+
+-- each of these is an instance among the items
+abbrev pub AreOfInstances : List Item → List Part → Type 0
+AreOfInstances xs [] = Unit {0}
+AreOfInstances xs (p ∷ ps) = IsInstance (slice_get xs (number_of p.at)) × AreOfInstances xs ps

@@ -9,6 +9,7 @@ ghost use Rattle.rdl_scope.specs.Closed.{Made, Standing, component, lookup, noth
 ghost use Rattle.rdl_scope.specs.ItemFaults.{fault_of};
 ghost use Rattle.rdl_elab.specs.Finished.{IsFinished, IsKept};
 ghost use Rattle.rdl_elab.specs.Inside.{are_whole};
+ghost use Rattle.rdl_elab.specs.OwnValues.{AreOfInstances, IsInstance};
 ghost use Rattle.rdl_elab.specs.Reaches.{reaches};
 ghost use Rattle.rdl_elab.specs.Ready.{IsKeptAlone, IsReady, IsReadyType, AreReadyParts, AreAllWhole, KeepsWhole};
 ghost use Rattle.rdl_elab.specs.Runs.{AreRootsKept, AreEnds, AreTaken, IsRootKept};
@@ -130,7 +131,8 @@ fn finished_component<'a>(
     walk: &mut Walk<'a>,
     before: &Stored,
 ) -> Result<Finished<'a>, Stop>
-    requires { depth description.now.items ≤ 16 }
+    requires nesting { depth description.now.items ≤ 16 }
+    requires instances { AreOfInstances (list_of component.now.body) parts.items }
     ensures kept { IfOk result (λ f. HoldsAt description.now.items walk.old at.now component.now parts.entry.items (IsKeptAlone f)) }
     ensures whole { IfOk result (λ f. HoldsAt description.now.items walk.old at.now component.now parts.entry.items (λ made. f.whole ≡ true → IsKept description.now.items f made)) }
     ensures all { IfOk result (λ f. f.whole ≡ are_whole walk.old.components.items parts.entry.items) }
@@ -145,7 +147,7 @@ fn finished_component<'a>(
 {
     let kind = component.kind;
     let body = &component.body;
-    let own = OwnValues::of(alloc, body)?;
+    let own = OwnValues::of(alloc, body, &parts)?;
     let values = layout_values(&own, &mut walk.defaults);
     let shown = shown_values(alloc, kind, &own, &mut walk.defaults, &walk.built_ins)?;
     let first_dynamic = own.first_dynamic();
@@ -292,6 +294,7 @@ fn walk_instance<'a>(
     ensures stands { IfOk result (λ f. (e : Standing) → Stands description.now.items walk.old e → Stands description.now.items walk.new e) }
     ensures behind { IfOk result (λ f. IsBehind walk.old walk.new) }
     ensures finishes { IfOk result (λ f. FinishesAll description.now.items before.now walk.old walk.new (λ e. item_written e (at.now ++ number ∷ []) (Instance shell.now of.now))) }
+    ensures instance { IfOk result (λ f. IfSome f (λ found. IsInstance (Some (Instance shell.now of.now)))) }
 {
     match of {
         Of::Anonymous(component) => {
@@ -322,6 +325,7 @@ fn walk_item<'a>(
     ensures behind { IfOk result (λ f. IsBehind walk.old walk.new) }
     ensures finishes { IfOk result (λ f. FinishesAll description.now.items before.now walk.old walk.new (λ e. item_written e (at.now ++ number ∷ []) item.now)) }
     ensures last { IfOk result (λ f. DefinesLast description.now.items walk.old walk.new (at.now ++ number ∷ []) item.now) }
+    ensures instance { IfOk result (λ f. IfSome f (λ found. IsInstance (Some item.now))) }
 {
     match item {
         Item::Define(name, component) => {
@@ -375,6 +379,7 @@ fn walk_items<'a>(
     ensures stands { IfOk result (λ ps. (e : Standing) → Stands description.now.items walk.old e → Stands description.now.items walk.new (standing e at.now 0 (items_of items.now))) }
     ensures behind { IfOk result (λ ps. IsBehind walk.old walk.new) }
     ensures finishes { IfOk result (λ ps. FinishesAll description.now.items before.now walk.old walk.new (λ e. written e at.now 0 (items_of items.now))) }
+    ensures instances { IfOk result (λ ps. AreOfInstances items.now ps.items) }
 {
     let mut parts = Vec::new(alloc);
     let mut shared = None;

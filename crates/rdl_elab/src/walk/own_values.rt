@@ -1,15 +1,17 @@
 //! The assignments in the body of a component.
-ghost use Rattle.std.specs.Prelude.{◌≡◌, true, Some, None, IfOk, OnOk, option_copied};
+ghost use Rattle.std.specs.Prelude.{◌≡◌, ◌≤◌, length, true, Some, None, IfOk, OnOk, option_copied};
 ghost use Rattle.std.specs.Option.{option_or};
 ghost use Rattle.rdl_tree.specs.Properties.{row};
+ghost use Rattle.rdl_tree.specs.View.{list_of};
 ghost use Rattle.rdl_tree.specs.declared.property.Property.{Property};
 ghost use Rattle.rdl_scope.specs.Value.{own_value};
 ghost use Rattle.rdl_scope.specs.Walk.{owned_by};
-ghost use Rattle.rdl_elab.specs.OwnValues.{assigned_to, first_met, is_dynamic, IsFirstDynamic};
+ghost use Rattle.rdl_elab.specs.OwnValues.{assigned_to, first_met, is_dynamic, AreOfInstances, AreStatedBefore, IsFirstDynamic};
 ghost use Rattle.rdl_elab.specs.Reaches.{value_under};
 ghost use Rattle.rdl_elab.specs.StatedValues.{shown_on, if_named};
 
 use crate::row::PropertyValue;
+use crate::walk::finished::Part;
 use crate::walk::values::{add_stated, same_property};
 use rdl_tree::description::{Body, Item};
 use rdl_tree::properties::property;
@@ -100,17 +102,70 @@ fn first_met(before: Option<usize>, number: usize, item: &Item) -> Option<usize>
     }
 }
 
+/// Adds the own assignments among the items of the body from one number on and before another, and tells the first dynamic one.
+fn add_between<'a>(
+    items: &mut Vec<Assigned<'a>>,
+    first_dynamic: &mut Option<usize>,
+    body: &'a Body,
+    from: usize,
+    to: usize,
+) -> Result<(), AllocError>
+    requires order { from ≤ to }
+    requires within { to ≤ length (list_of body.now) }
+    requires before { AreStatedBefore from items.old.items first_dynamic.old body.now }
+    ensures { OnOk result (AreStatedBefore to items.new.items first_dynamic.new body.now) }
+{
+    let all = body.as_slice();
+    for i in from..to {
+        let item = &all[i];
+        add_own(items, item)?;
+        *first_dynamic = first_met(*first_dynamic, i, item);
+    }
+    Ok(())
+}
+
+/// The same, where often there are none between the two numbers.
+#[inline(always)]
+fn add_up_to<'a>(
+    items: &mut Vec<Assigned<'a>>,
+    first_dynamic: &mut Option<usize>,
+    body: &'a Body,
+    from: usize,
+    to: usize,
+) -> Result<(), AllocError>
+    requires order { from ≤ to }
+    requires within { to ≤ length (list_of body.now) }
+    requires before { AreStatedBefore from items.old.items first_dynamic.old body.now }
+    ensures { OnOk result (AreStatedBefore to items.new.items first_dynamic.new body.now) }
+{
+    if from == to {
+        return Ok(());
+    }
+    add_between(items, first_dynamic, body, from, to)
+}
+
 impl<'a> OwnValues<'a> {
-    /// Those of a body.
-    pub(crate) fn of(alloc: Global, body: &'a Body) -> Result<OwnValues<'a>, AllocError>
+    /// Those of a body. The items that are these instances needn't be looked at.
+    pub(crate) fn of(
+        alloc: Global,
+        body: &'a Body,
+        instances: &[Part],
+    ) -> Result<OwnValues<'a>, AllocError>
+        requires { AreOfInstances (list_of body.now) instances.now }
         ensures { IfOk result (λ own. own ≡ body.now) }
     {
+        let len = body.len();
         let mut items = Vec::new(alloc);
         let mut first_dynamic = None;
-        for (i, item) in body.as_slice().iter().enumerate() {
-            add_own(&mut items, item)?;
-            first_dynamic = first_met(first_dynamic, i, item);
+        let mut next = 0;
+        for part in instances {
+            let place = part.place();
+            if next <= place && place < len {
+                add_up_to(&mut items, &mut first_dynamic, body, next, place)?;
+                next = place + 1;
+            }
         }
+        add_up_to(&mut items, &mut first_dynamic, body, next, len)?;
         Ok(OwnValues {
             body,
             items,

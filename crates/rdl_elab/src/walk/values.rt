@@ -237,7 +237,7 @@ pub(crate) fn built_in_values(alloc: Global, kind: Kind) -> Result<Vec<PropertyV
     ensures { IfOk result (λ values. values.items ≡ built_in_values kind) }
 {
     let body = Body::new(alloc);
-    let own = OwnValues::of(alloc, &body)?;
+    let own = OwnValues::of(alloc, &body, &[])?;
     shown_among(alloc, kind, &own, &Defaults::new(alloc), &Property::ALL)
 }
 

@@ -1,5 +1,5 @@
 use Rattle.std.proofs.Common.{◌≡◌, ℕ, ◌∷◌, ◌+◌, ◌-◌, ◌*◌, ◌<◌, List, [], length, take, drop, ◌++◌, refl, ap, sym, subst, ◌∙◌, arith, length-append}
-use Rattle.std.specs.Prelude.{IfOk, IfSome}
+use Rattle.std.specs.Prelude.{IfOk, IfSome, Some}
 use Rattle.rdl_tree.specs.View.{items_of}
 use Rattle.rdl_tree.proofs.Rounds.{items_of-list_of}
 use Rattle.rdl_tree.specs.declared.shell.Shell.{Shell}
@@ -15,6 +15,8 @@ use Rattle.rdl_elab.specs.Written.{written}
 use Rattle.rdl_elab.specs.Finishes.{FinishesAll}
 use Rattle.rdl_elab.specs.Stands.{made_at, after_item, item_parts, in_list, placed, Stands}
 use Rattle.rdl_elab.proofs.Goings.{append_nil, grows-on, grows-push, item-room, body-room, stands-grow, stands-define, ready-part, named-part, made-last, whole-on, whole-last, stands-next, parts-next, behind-on}
+use Rattle.rdl_elab.specs.OwnValues.{AreOfInstances, IsInstance}
+use Rattle.rdl_elab.proofs.OwnValues.{instances-next, instance-found}
 use Rattle.rdl_elab.proofs.Writing.{finishes-next, finishes-made, laid-out}
 use Rattle.rdl_elab.proofs.walk.+walk.Goals as goal
 use Rattle.rdl_elab.proofs.walk.+walk.Goals.{walk_items-in-Some+in_ok-reserve_first+in_ok-around+in_ok-push_part, walk_items-in_default}
@@ -133,6 +135,7 @@ walk_items-loop-i-preserved t c =
           finishes-next c.args.before.now c.args.walk.now.components.items c.loop-i.walk.components.items new.components.items b at xs i c.index-items-i.result c.loop-i-test.true c.index-items-i.is refl e
           (c.loop-i.invariant.finishes e h) (all.finishes (standing e b 0 (items_of (take i xs))) (c.loop-i.invariant.stands e h));
       behind = behind-on c.args.walk.now c.loop-i.walk new c.loop-i.invariant.behind all.behind;
+      instances = instances-next xs b i c.index-items-i.result c.loop-i-test.true c.index-items-i.is done c.match-branch-2.parts.items c.in_ok-found.field-0 after all.instance c.loop-i.invariant.instances;
     }
 
 pub walk_instance-returns-in_ok-component-in-Anonymous-clause-part :
@@ -154,6 +157,16 @@ pub walk_instance-returns-in_ok-component-in-Anonymous-clause-stands :
 walk_instance-returns-in_ok-component-in-Anonymous-clause-stands t c = λ e h.
     let all = c.in_ok-component-in-Anonymous.ensures in
     stands-grow c.args.description.now.items c.args.walk.now c.finish_inside.new.walk e all.types all.defaults all.components h
+
+pub walk_instance-returns-in-Named-clause-instance : goal.walk_instance-returns-in-Named-clause-instance
+walk_instance-returns-in-Named-clause-instance t c = instance-found c.named_part.result c.args.shell.now c.args.of.now
+
+pub walk_item-returns-in-Instance-clause-instance : goal.walk_item-returns-in-Instance-clause-instance
+walk_item-returns-in-Instance-clause-instance t c =
+    subst (λ (x : Item). IfOk c.walk_instance.result (λ f. IfSome f (λ found. IsInstance (Some x)))) (sym c.in-Instance.is) c.walk_instance.ensures.instance
+
+pub finish-finished_component-requires-clause-instances : goal.finish-finished_component-requires-clause-instances
+finish-finished_component-requires-clause-instances t c = subst (λ xs. AreOfInstances xs c.in_ok-parts.parts.items) c.as_slice.ensures c.in_ok-parts.ensures.instances
 
 pub walk_instance-returns-in-Named-clause-part : goal.walk_instance-returns-in-Named-clause-part
 walk_instance-returns-in-Named-clause-part t c = λ e h.

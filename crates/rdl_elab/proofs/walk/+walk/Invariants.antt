@@ -3,6 +3,7 @@ use Rattle.std.specs.Prelude.{IfSome}
 use Rattle.rdl_tree.specs.View.{items_of}
 use Rattle.rdl_scope.specs.Closed.{Standing, parts, standing}
 use Rattle.rdl_elab.specs.Ready.{AreReadyParts}
+use Rattle.rdl_elab.specs.OwnValues.{AreOfInstances}
 use Rattle.rdl_elab.specs.Stands.{Stands, IsBehind}
 use Rattle.rdl_elab.specs.Written.{written}
 use Rattle.rdl_elab.specs.Finishes.{Finishes}
@@ -30,4 +31,5 @@ invariant-walk_items-loop-i l = record {
   shared : IfSome l.shared (λ a. a ≡ l.at);
   finishes : (e : Standing) → Stands l.description.items l.initial.walk e → Finishes l.before l.initial.walk.components.items l.walk.components.items (written e l.at 0 (items_of (take l.i l.items)));
   behind : IsBehind l.initial.walk l.walk;
+  instances : AreOfInstances l.items l.parts.items;
 }

@@ -1,11 +1,7 @@
-use Rattle.std.proofs.Common.{◌≡◌}
+use Rattle.std.proofs.Common.{◌≤◌, length}
 use Rattle.rdl_tree.specs.View.{list_of}
-use Rattle.rdl_tree.specs.Properties.{row}
-use Rattle.rdl_tree.specs.declared.property.Property.{Property}
-use Rattle.rdl_scope.specs.Value.{own_before}
-use Rattle.rdl_elab.specs.OwnValues.{assigned_to}
-use Rattle.rdl_elab.proofs.OwnValues.{IsFirstWithin}
+use Rattle.rdl_elab.specs.OwnValues.{AreStatedBefore}
 use Rattle.rdl_elab.proofs.walk.own_values.OwnValues.of.Given as goal
 
-abbrev pub invariant-loop-i : goal.invariant-loop-i
-invariant-loop-i l = ((p : Property) → assigned_to p l.items.items ≡ own_before (row p).name l.i l.body) × IsFirstWithin l.first_dynamic l.i (list_of l.body)
+abbrev pub invariant-loop-part : goal.invariant-loop-part
+invariant-loop-part l = record { within : l.next ≤ length (list_of l.body); stated : AreStatedBefore l.next l.items.items l.first_dynamic l.body }
