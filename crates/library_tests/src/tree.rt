@@ -223,7 +223,7 @@ fn changes_one_body(rt: HostRuntime) -> Result<(), Fail> {
 
 fn is_instance(item: &Item, name: &str) -> bool {
     match item {
-        Item::Instance(shell, _) => shell.name.as_str() == name,
+        Item::Instance(shell, _) => shell.name().as_str() == name,
         _ => false,
     }
 }

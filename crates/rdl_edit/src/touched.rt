@@ -123,7 +123,7 @@ fn is_namesake(part: &Part, shell: &Shell) -> bool
     ensures { result ≡ true → IsNamesake part.now shell.now }
 {
     match part {
-        Part::OfShell(new) => new.name == shell.name,
+        Part::OfShell(new) => new.name() == shell.name(),
         _ => false,
     }
 }
@@ -214,7 +214,7 @@ fn is_new_instance(description: &Description, at: &Address, item: &Item) -> bool
     ensures { result ≡ true → IsNewInstance at.now item.now description.now.items }
 {
     match item {
-        Item::Instance(shell, Of::Named(_)) => is_new_at(description, &shell.name, at),
+        Item::Instance(shell, Of::Named(_)) => is_new_at(description, shell.name(), at),
         _ => false,
     }
 }

@@ -103,7 +103,7 @@ fn dims(alloc: Global, part: &Part) -> Result<Dims, AllocError>
     if part.is_bare() {
         Ok(Dims::new(alloc))
     } else {
-        part.shell().dims.try_copy(alloc)
+        Ok(Dims::from_vec(Vec::from_slice(alloc, part.shell().dims())?))
     }
 }
 
@@ -411,7 +411,7 @@ fn add_row(
         let at = SharedAddress::new(alloc, part.at())?;
         return Ok(Some(RowFault { kind, at }));
     }
-    let name = part.shell().name.try_copy(alloc)?;
+    let name = part.shell().name().try_copy(alloc)?;
     rows.push(Row {
         names: RowPath::new(around.names.share()?, name),
         kind,
@@ -463,7 +463,7 @@ fn inside<'a>(
         mode: mode_inside(component.kind, component.values, around.mode),
         names: around
             .names
-            .inside(alloc, component.kind, &part.shell().name)?,
+            .inside(alloc, component.kind, part.shell().name())?,
         base: base(component.kind, around.base, span),
         bits: component.values.regwidth,
         reaching: reaching_inside(alloc, reaching, component.assignments.as_slice())?,

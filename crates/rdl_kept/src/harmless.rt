@@ -25,9 +25,9 @@ use std::alloc::{AllocError, Global};
 fn bits_said(shell: &Shell) -> u64
     ensures { result ≤ bits_said shell.now }
 {
-    let bits = match shell.range.get() {
+    let bits = match shell.range() {
         Some((high, low)) => high.saturating_add(1).saturating_sub(low),
-        None => match shell.dims.as_slice() {
+        None => match shell.dims() {
             [size, ..] => *size,
             [] => 1,
         },
@@ -46,18 +46,18 @@ fn is_below(number: Number, shell: &Shell) -> bool
 pub fn says_the_same(shell: &Shell, other: &Shell) -> bool
     ensures { result ≡ true → SaysTheSame shell.now other.now }
 {
-    shell.dims.as_slice() == other.dims.as_slice()
-        && shell.range.get() == other.range.get()
-        && shell.address.get() == other.address.get()
-        && shell.stride.get() == other.stride.get()
-        && shell.align.get() == other.align.get()
+    shell.dims() == other.dims()
+        && shell.range() == other.range()
+        && shell.address() == other.address()
+        && shell.stride() == other.stride()
+        && shell.align() == other.align()
 }
 
 /// Whether another reset of the instance with this shell fits: it is the same, or it is below two to the bits.
 fn fits_reset(shell: &Shell, reset: Option<Number>) -> bool
     ensures { result ≡ true → FitsReset shell.now reset }
 {
-    if reset == shell.reset.get() {
+    if reset == shell.reset() {
         return true;
     }
     match reset {
@@ -72,9 +72,9 @@ fn is_harmless_shell(description: &Description, at: &Address, new: &Shell) -> bo
 {
     match description.item(at) {
         Some(Item::Instance(shell, _)) => {
-            new.name == shell.name
+            new.name() == shell.name()
                 && says_the_same(shell, new)
-                && fits_reset(shell, new.reset.get())
+                && fits_reset(shell, new.reset())
         }
         _ => false,
     }
@@ -260,7 +260,7 @@ fn gets_another_name(description: &Description, at: &Address, new: &Shell) -> bo
 {
     match description.item(at) {
         Some(Item::Instance(shell, _)) => {
-            says_the_same(shell, new) && new.reset.get() == shell.reset.get()
+            says_the_same(shell, new) && new.reset() == shell.reset()
         }
         _ => false,
     }

@@ -33,7 +33,7 @@ fn weigh(items: &[Item]) -> u64
 fn instance_weight(shell: &Shell, of: &Of) -> u64
     ensures { result ≡ capped (item_weight (Item.Instance shell.now of.now)) }
 {
-    let name = (shell.name.len() as u64).saturating_add(1);
+    let name = (shell.name().len() as u64).saturating_add(1);
     match of {
         Of::Named(type_name) => name.saturating_add(type_name.len() as u64),
         Of::Anonymous(component) => name.saturating_add(component.body.weight()),

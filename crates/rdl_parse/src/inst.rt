@@ -8,7 +8,7 @@ use crate::fault::Stop;
 use crate::reader::Reader;
 use rdl_text::token::{Mark, Number};
 use rdl_tree::dims::Dims;
-use rdl_tree::shell::{Outside, Shell};
+use rdl_tree::shell::{Outside, Shell, ShellParts};
 use rdl_tree::stated::{Stated, StatedRange};
 use std::alloc::Global;
 
@@ -89,8 +89,7 @@ impl<'a> Reader<'a> {
         let address = self.part(Mark::At)?;
         let stride = self.part(Mark::PlusEquals)?;
         let align = self.part(Mark::PercentEquals)?;
-        Ok(Shell {
-            name,
+        let parts = ShellParts {
             outside,
             dims,
             range: StatedRange::new(alloc, range)?,
@@ -98,6 +97,7 @@ impl<'a> Reader<'a> {
             address: Stated::new(alloc, address)?,
             stride: Stated::new(alloc, stride)?,
             align: Stated::new(alloc, align)?,
-        })
+        };
+        Ok(Shell::of(alloc, name, parts)?)
     }
 }

@@ -51,7 +51,7 @@ impl<'a> Firsts<'a> {
         ensures { OnOk result (NotesItem self.old self.new found.now number is_inside) }
     {
         match found {
-            Item::Instance(shell, _) => self.put(shell.name.as_str(), number, is_inside),
+            Item::Instance(shell, _) => self.put(shell.name().as_str(), number, is_inside),
             _ => Ok(()),
         }
     }

@@ -51,7 +51,7 @@ fn instance_names(alloc: Global, body: &Body) -> Result<Vec<&Name>, AllocError>
     let mut names = Vec::new(alloc);
     'items: for item in body.as_slice() {
         if let Item::Instance(shell, _) = item {
-            names.push(&shell.name)?;
+            names.push(shell.name())?;
         }
     }
     Ok(names)
@@ -107,7 +107,7 @@ fn instantiates_any(names: &BTreeSet<&str>, body: &Body) -> bool
 {
     'items: for item in body.as_slice() {
         if let Item::Instance(shell, _) = item {
-            if names.contains(shell.name.as_str()) {
+            if names.contains(shell.name().as_str()) {
                 return true;
             }
         }

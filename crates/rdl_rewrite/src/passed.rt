@@ -26,7 +26,7 @@ fn may_hold(holder: Option<&Item>, name: &Name) -> bool
 {
     match holder {
         Some(Item::Define(..)) => true,
-        Some(Item::Instance(shell, _)) => &shell.name == name,
+        Some(Item::Instance(shell, _)) => shell.name() == name,
         _ => false,
     }
 }

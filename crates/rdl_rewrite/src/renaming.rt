@@ -84,9 +84,7 @@ fn type_fate(alloc: Global, is_it: bool, name: &Name) -> Result<Fate, AllocError
 fn shell_fate(alloc: Global, name: &Name, shell: &Shell) -> Result<Fate, AllocError>
     ensures { IfOk result (λ fate. fate ≡ Fate.Given (Part.OfShell (record shell.now { name = name.now }))) }
 {
-    let mut new = shell.try_copy(alloc)?;
-    new.name = name.try_copy(alloc)?;
-    Ok(Fate::Given(Part::OfShell(new)))
+    Ok(Fate::Given(Part::OfShell(shell.renamed(alloc, name)?)))
 }
 
 /// The names of a target of two, the second of which stands for the item on the way.

@@ -20,7 +20,7 @@ use std::alloc::{AllocError, Global};
 fn edited_shell(alloc: Global, edit: &Edit, shell: &Shell) -> Result<Shell, AllocError>
     ensures { IfOk result (λ new. new ≡ edited_shell edit.now shell.now) }
 {
-    let mut new = shell.try_copy(alloc)?;
+    let mut new = shell.parts(alloc)?;
     match edit {
         Edit::Resize(_, dims) => {
             new.dims = dims.try_copy(alloc)?;
@@ -45,7 +45,7 @@ fn edited_shell(alloc: Global, edit: &Edit, shell: &Shell) -> Result<Shell, Allo
         Edit::Remove(..) => {}
         Edit::Rename(..) => {}
     }
-    Ok(new)
+    Shell::of(alloc, shell.name().try_copy(alloc)?, new)
 }
 
 /// Gives the instance of this number in the body on the way the part of its shell.

@@ -251,7 +251,7 @@ fn item_fault<'a>(
         Item::Instance(shell, of) => {
             let place = place_of(at, n, of, levels, definitions);
             let kind = kind_of(description, at, of, place);
-            let twice = passed.places.note(shell.name.as_str(), place)?;
+            let twice = passed.places.note(shell.name().as_str(), place)?;
             Ok(instance_fault(around, twice, shell, kind))
         }
         Item::Own(name, value) => {

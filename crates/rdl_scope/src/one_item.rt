@@ -144,7 +144,7 @@ fn item_fault(
             Ok(define_fault(around, twice, component.kind))
         }
         Item::Instance(shell, _) => {
-            let twice = instance_before(body, n, &shell.name).is_some();
+            let twice = instance_before(body, n, shell.name()).is_some();
             let kind = instance_kind(description, &at.inside(n));
             Ok(instance_fault(around, twice, shell, kind))
         }

@@ -21,14 +21,14 @@ fn wrong_part_of_kind(kind: Kind, shell: &Shell) -> bool
 {
     match kind {
         Kind::Field => {
-            shell.address.is_some()
-                || shell.stride.is_some()
-                || shell.align.is_some()
-                || shell.outside != Outside::Unsaid
-                || shell.dims.as_slice().len() > 1
+            shell.address().is_some()
+                || shell.stride().is_some()
+                || shell.align().is_some()
+                || shell.outside() != Outside::Unsaid
+                || shell.dims().len() > 1
         }
         Kind::Addrmap | Kind::Regfile | Kind::Reg => {
-            shell.range.is_some() || shell.reset.is_some()
+            shell.range().is_some() || shell.reset().is_some()
         }
     }
 }
@@ -38,11 +38,11 @@ fn wrong_part_of_kind(kind: Kind, shell: &Shell) -> bool
 fn wrong_part(kind: Kind, shell: &Shell) -> bool
     ensures { result ≡ wrong_part kind shell.now }
 {
-    let dims = shell.dims.as_slice().len();
+    let dims = shell.dims().len();
     wrong_part_of_kind(kind, shell)
-        || (dims > 0 && shell.range.is_some())
-        || (shell.stride.is_some() && dims == 0)
-        || (shell.address.is_some() && shell.align.is_some())
+        || (dims > 0 && shell.range().is_some())
+        || (shell.stride().is_some() && dims == 0)
+        || (shell.address().is_some() && shell.align().is_some())
         || dims > 4
 }
 
@@ -142,11 +142,11 @@ fn lacks_align(align: Option<Number>) -> bool
 fn wrong_number(kind: Kind, shell: &Shell) -> bool
     ensures { result ≡ wrong_number kind shell.now }
 {
-    !are_dims(kind, shell.dims.as_slice())
-        || lacks_range(shell.range.get())
-        || lacks_address(shell.address.get())
-        || lacks_stride(shell.stride.get())
-        || lacks_align(shell.align.get())
+    !are_dims(kind, shell.dims())
+        || lacks_range(shell.range())
+        || lacks_address(shell.address())
+        || lacks_stride(shell.stride())
+        || lacks_align(shell.align())
 }
 
 /// The fault of an instance, whose component is of this kind, if its type is known. `twice`: one of its name stands

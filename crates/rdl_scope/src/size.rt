@@ -97,7 +97,7 @@ fn most_weight(target: &Target, property: &Name, value: &Value) -> u64
 fn named_size(shell: &Shell, name: &Name) -> Size
     ensures { IsSizeOf (add (Item.Instance shell.now (Of.Named name.now)) no_items) result }
 {
-    let names = (shell.name.len() as u64).saturating_add(name.len() as u64);
+    let names = (shell.name().len() as u64).saturating_add(name.len() as u64);
     Size {
         depth: 0,
         count: 1,
@@ -137,7 +137,7 @@ pub fn item_size(item: &Item) -> Size
     match item {
         Item::Define(name, component) => around(name.len(), body_size(&component.body)),
         Item::Instance(shell, Of::Anonymous(component)) => {
-            around(shell.name.len(), body_size(&component.body))
+            around(shell.name().len(), body_size(&component.body))
         }
         Item::Dynamic(target, property, value) => Size {
             depth: 0,

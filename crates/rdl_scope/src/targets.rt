@@ -16,7 +16,7 @@ pub fn is_instance(item: Option<&Item>, name: &Name) -> bool
     ensures { result ≡ is_instance name.now (option_copied item.entry) }
 {
     match item {
-        Some(Item::Instance(shell, _)) => &shell.name == name,
+        Some(Item::Instance(shell, _)) => shell.name() == name,
         _ => false,
     }
 }

@@ -248,7 +248,7 @@ fn item_reset(item: Option<&Item>) -> Option<Value>
     ensures { result ≡ option_and_then item_reset (option_copied item.entry) }
 {
     match item {
-        Some(Item::Instance(shell, _)) => match shell.reset.get() {
+        Some(Item::Instance(shell, _)) => match shell.reset() {
             Some(number) => Some(Value::Number(number)),
             None => None,
         },

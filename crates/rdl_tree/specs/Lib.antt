@@ -21,6 +21,7 @@ pub mod PatchWeight
 pub mod Properties
 pub mod Room
 pub mod Shell
+pub mod ShellParts
 pub mod Stated
 pub mod Step
 pub mod Turned

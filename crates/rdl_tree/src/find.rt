@@ -49,7 +49,7 @@ impl Segment {
     {
         match (self, item) {
             (Segment::Def(name), Item::Define(defined, _)) => defined == name,
-            (Segment::Inst(name), Item::Instance(shell, _)) => &shell.name == name,
+            (Segment::Inst(name), Item::Instance(shell, _)) => shell.name() == name,
             _ => false,
         }
     }

@@ -42,10 +42,10 @@ impl Item {
                 one_and(name.len() as u64, component.body.weight(), 0)
             }
             Item::Instance(shell, Of::Named(name)) => {
-                one_and(shell.name.len() as u64, name.len() as u64, 0)
+                one_and(shell.name().len() as u64, name.len() as u64, 0)
             }
             Item::Instance(shell, Of::Anonymous(component)) => {
-                one_and(shell.name.len() as u64, component.body.weight(), 0)
+                one_and(shell.name().len() as u64, component.body.weight(), 0)
             }
             Item::Own(property, value) => one_and(property.len() as u64, value.weight(), 0),
             Item::Default(property, value) => one_and(property.len() as u64, value.weight(), 0),
@@ -87,7 +87,7 @@ impl Part {
         ensures { result ≡ capped (part_weight self.now) }
     {
         match self {
-            Part::OfShell(shell) => shell.name.len() as u64,
+            Part::OfShell(shell) => shell.name().len() as u64,
             Part::OfValue(value) => value.weight(),
             Part::OfTarget(target) => target.weight(),
             Part::OfType(name) | Part::OfDefine(name) => name.len() as u64,

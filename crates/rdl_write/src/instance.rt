@@ -77,12 +77,12 @@ fn push_part(text: &mut String, mark: &str, part: Option<Number>) -> Result<(), 
 pub fn push_shell(text: &mut String, shell: &Shell) -> Result<(), AllocError>
     ensures { OnOk result (string_bytes text.new ≡ string_bytes text.old ++ shell_text shell.now) }
 {
-    text.push_str(shell.name.as_str())?;
-    push_dims(text, shell.dims.as_slice())?;
-    push_range(text, shell.range.get())?;
-    push_part(text, "=", shell.reset.get())?;
-    push_part(text, "@", shell.address.get())?;
-    push_part(text, "+=", shell.stride.get())?;
-    push_part(text, "%=", shell.align.get())?;
+    text.push_str(shell.name().as_str())?;
+    push_dims(text, shell.dims())?;
+    push_range(text, shell.range())?;
+    push_part(text, "=", shell.reset())?;
+    push_part(text, "@", shell.address())?;
+    push_part(text, "+=", shell.stride())?;
+    push_part(text, "%=", shell.align())?;
     Ok(())
 }

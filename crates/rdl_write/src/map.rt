@@ -33,7 +33,7 @@ pub fn push_named(
     ensures { OnOk result (string_bytes text.new ≡ string_bytes text.old ++ statement_line indent.now (named shell.now of.now)) }
 {
     text.push_str(indent)?;
-    text.push_str(outside_text(shell.outside))?;
+    text.push_str(outside_text(shell.outside()))?;
     text.push_str(of)?;
     text.push_str(" ")?;
     push_shell(text, shell)?;
@@ -115,7 +115,7 @@ fn open_instance(
     write!(
         text,
         "{indent}{}{} {{\n",
-        outside_text(shell.outside),
+        outside_text(shell.outside()),
         kind_text(kind)
     )
 }

@@ -24,7 +24,7 @@ impl Said {
     pub(crate) fn of(shell: &Shell) -> Said
         ensures { result ≡ said_of shell.now }
     {
-        let dims = shell.dims.as_slice();
+        let dims = shell.dims();
         let size = match dims {
             [] => None,
             [size, ..] => Some(*size),
@@ -32,10 +32,10 @@ impl Said {
         Said {
             elements: product(dims),
             size,
-            address: shell.address.get(),
-            stride: shell.stride.get(),
-            align: shell.align.get(),
-            range: shell.range.get(),
+            address: shell.address(),
+            stride: shell.stride(),
+            align: shell.align(),
+            range: shell.range(),
         }
     }
 }

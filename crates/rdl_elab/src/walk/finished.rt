@@ -23,12 +23,7 @@ fn is_bare(shell: &Shell) -> bool
     ensures stride { result ≡ true → shell.now.stride ≡ None }
     ensures align { result ≡ true → shell.now.align ≡ None }
 {
-    shell.dims.as_slice().is_empty()
-        && shell.range.get().is_none()
-        && shell.reset.get().is_none()
-        && shell.address.get().is_none()
-        && shell.stride.get().is_none()
-        && shell.align.get().is_none()
+    shell.is_bare()
 }
 
 /// An instance, and the number of its component among the finished ones. A contract sees the record of specs/, with the
@@ -122,7 +117,7 @@ impl<'a> Part<'a> {
         if self.bare {
             None
         } else {
-            self.shell.reset.get()
+            self.shell.reset()
         }
     }
 
@@ -133,7 +128,7 @@ impl<'a> Part<'a> {
         if self.bare {
             None
         } else {
-            self.shell.stride.get()
+            self.shell.stride()
         }
     }
 

@@ -34,15 +34,15 @@ const MAX_ROWS: usize = 65_536;
 fn placement(shell: &Shell, layout: &Layout) -> Placement
     ensures { result ≡ counted (placement (shell.now, layout.now)) }
 {
-    let dims = shell.dims.as_slice();
+    let dims = shell.dims();
     Placement {
         size: layout.size,
         access: layout.access,
         elements: product(dims),
         is_array: !dims.is_empty(),
-        address: shell.address.get(),
-        stride: shell.stride.get(),
-        align: shell.align.get(),
+        address: shell.address(),
+        stride: shell.stride(),
+        align: shell.align(),
     }
 }
 
@@ -146,13 +146,13 @@ fn put_next(
 fn field_bits(shell: &Shell, layout: &Layout) -> FieldBits
     ensures { result ≡ field_bits (shell.now, layout.now) }
 {
-    let width = match shell.dims.as_slice() {
+    let width = match shell.dims() {
         [] => Number::from(layout.size),
         [width, ..] => *width,
     };
     FieldBits {
         width,
-        range: shell.range.get(),
+        range: shell.range(),
     }
 }
 

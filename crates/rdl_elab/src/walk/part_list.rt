@@ -92,7 +92,7 @@ impl<'a> PartNames<'a> {
     {
         let mut names = PartNames::with_room(alloc, marks, parts.len())?;
         for i in (0..parts.len()).rev() {
-            names.put(parts[i].shell().name.as_str(), i)?;
+            names.put(parts[i].shell().name().as_str(), i)?;
         }
         Ok(names)
     }
@@ -122,7 +122,7 @@ fn first_named<'p, 'a>(parts: &'p [Part<'a>], name: &str) -> Option<&'p Part<'a>
     ensures { option_copied result ≡ part_named name.now parts.now }
 {
     for part in parts {
-        if is_same(part.shell().name.as_str(), name) {
+        if is_same(part.shell().name().as_str(), name) {
             return Some(part);
         }
     }
@@ -195,7 +195,7 @@ impl<'a> PartList<'a> {
         ensures again { IfSome (option_copied result) (IsFirstNamed self.now.items) }
     {
         match before {
-            Some(part) if &part.shell().name == name => Some(part),
+            Some(part) if part.shell().name() == name => Some(part),
             _ => self.named(name),
         }
     }
