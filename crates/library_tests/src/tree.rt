@@ -178,7 +178,7 @@ fn copies_and_counts(rt: HostRuntime) -> Result<(), Fail> {
 }
 
 fn instance_of(alloc: Global, of: &str, text: &str) -> Result<Item, NameFault> {
-    let shell = Shell::new(alloc, Name::new(alloc, text)?);
+    let shell = Shell::new(Name::new(alloc, text)?);
     Ok(Item::Instance(shell, Of::Named(Name::new(alloc, of)?)))
 }
 

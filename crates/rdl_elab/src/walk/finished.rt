@@ -14,18 +14,6 @@ use rdl_tree::shell::{Kind, Shell};
 use std::alloc::{AllocError, Global};
 use std::marker::Model;
 
-/// Whether the instance with this shell says nothing but its name.
-fn is_bare(shell: &Shell) -> bool
-    ensures dims { result ≡ true → shell.now.dims ≡ [] }
-    ensures range { result ≡ true → shell.now.range ≡ None }
-    ensures reset { result ≡ true → shell.now.reset ≡ None }
-    ensures address { result ≡ true → shell.now.address ≡ None }
-    ensures stride { result ≡ true → shell.now.stride ≡ None }
-    ensures align { result ≡ true → shell.now.align ≡ None }
-{
-    shell.is_bare()
-}
-
 /// An instance, and the number of its component among the finished ones. A contract sees the record of specs/, with the
 /// address of the instance.
 #[derive(Drop)]
@@ -66,7 +54,7 @@ impl<'a> Part<'a> {
         requires { length around < 17 }
         ensures { result ≡ record { at = around ++ number ∷ []; shell = shell.now; component = component } }
     {
-        let bare = is_bare(shell);
+        let bare = shell.is_bare();
         Part {
             around,
             number,
