@@ -31,7 +31,7 @@ returns-in_ok-twice-in-Instance-clause-fault c =
     c.instance_fault.ensures
     ∙ met-instance d c.args.around b c.args.body.now n c.args.passed.now s o c.place_of-place.result c.kind_of-kind.result c.in_ok-twice-in-Instance.twice
     stands (ap (option_map (along_place b)) c.place_of-place.ensures ∙ place-component d b n s o (scope_found c.args.levels.now c.args.definitions.now) stands c.requires.scope)
-    c.kind_of-kind.ensures (c.in_ok-twice-in-Instance.ensures.twice ∙ ap (λ q. is_some (place_under c.args.passed.now.places q)) c.as_str-in-Instance.ensures) c.requires.passed
+    c.kind_of-kind.ensures (c.in_ok-twice-in-Instance.ensures.twice ∙ ap (λ q. is_some (place_under c.args.passed.now.places q)) (c.as_str-in-Instance.ensures ∙ c.name.ensures)) c.requires.passed
     ∙ sym (ap (item_fault d c.args.around b c.args.body.now n) c.in-Instance.is)
 
 pub returns-in_ok-twice-in-Instance-clause-passed :
@@ -48,8 +48,8 @@ returns-in_ok-twice-in-Instance-clause-passed c = λ none.
     know-instance d c.args.around b c.args.body.now n c.args.passed.now s o c.place_of-place.result c.note.new.self c.requires.here got leads
     (sym (c.instance_fault.ensures
     ∙ met-instance d c.args.around b c.args.body.now n c.args.passed.now s o c.place_of-place.result c.kind_of-kind.result c.in_ok-twice-in-Instance.twice stands leads
-    c.kind_of-kind.ensures (c.in_ok-twice-in-Instance.ensures.twice ∙ ap (λ q. is_some (place_under c.args.passed.now.places q)) c.as_str-in-Instance.ensures) c.requires.passed) ∙ none)
-    (λ q. c.in_ok-twice-in-Instance.ensures.noted q ∙ ap (λ m. place_put m q c.place_of-place.result (place_under c.args.passed.now.places q)) c.as_str-in-Instance.ensures)
+    c.kind_of-kind.ensures (c.in_ok-twice-in-Instance.ensures.twice ∙ ap (λ q. is_some (place_under c.args.passed.now.places q)) (c.as_str-in-Instance.ensures ∙ c.name.ensures)) c.requires.passed) ∙ none)
+    (λ q. c.in_ok-twice-in-Instance.ensures.noted q ∙ ap (λ m. place_put m q c.place_of-place.result (place_under c.args.passed.now.places q)) (c.as_str-in-Instance.ensures ∙ c.name.ensures))
     c.requires.passed
 
 pub returns-in_ok-twice-in-Own-clause-passed : goal.returns-in_ok-twice-in-Own-clause-passed
