@@ -42,7 +42,7 @@ pub struct ShellParts {
 }
 
 impl ShellParts {
-    ghost use Rattle.std.specs.Prelude.{◌≡◌, true, IfOk};
+    ghost use Rattle.std.specs.Prelude.{◌≡◌, ◌↔◌, IsTrue, IfOk};
     ghost use Rattle.rdl_tree.specs.ShellParts.{no_parts};
 
     /// No part.
@@ -62,7 +62,7 @@ impl ShellParts {
 
     /// Whether there is none.
     fn are_none(&self) -> bool
-        ensures { result ≡ true → self.now ≡ no_parts }
+        ensures { IsTrue result ↔ (self.now ≡ no_parts) }
     {
         self.outside == Outside::Unsaid
             && self.dims.as_slice().is_empty()
@@ -97,16 +97,18 @@ pub struct Shell {
 }
 
 impl Model for Shell {
-    ghost use Rattle.std.specs.Prelude.{option_map};
-    ghost use Rattle.rdl_tree.specs.ShellParts.{Shell, held};
+    ghost use Rattle.std.specs.Prelude.{◌≢◌, option_map, IfSome};
+    ghost use Rattle.rdl_tree.specs.ShellParts.{Shell, held, no_parts};
 
     ghost Value = { Shell };
 
     ghost view = { λ s. held s.name (option_map (λ parts. parts.value) s.parts) };
+
+    ghost invariant = { λ s. IfSome s.parts (λ parts. parts.value ≢ no_parts) };
 }
 
 impl Shell {
-    ghost use Rattle.std.specs.Prelude.{◌≡◌, true, IfOk};
+    ghost use Rattle.std.specs.Prelude.{◌≡◌, ◌↔◌, IsTrue, IfOk};
     ghost use Rattle.rdl_tree.specs.Shell.{bare_shell};
     ghost use Rattle.rdl_tree.specs.ShellParts.{with_parts};
 
@@ -136,7 +138,7 @@ impl Shell {
 
     /// Whether there is no part but the name.
     pub fn is_bare(&self) -> bool
-        ensures { result ≡ true → self.now ≡ bare_shell self.now.name }
+        ensures { IsTrue result ↔ (self.now ≡ bare_shell self.now.name) }
     {
         self.parts.is_none()
     }
