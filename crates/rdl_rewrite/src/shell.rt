@@ -1,5 +1,6 @@
 //! The shell of an instance, with one part of it changed.
-ghost use Rattle.std.specs.Prelude.{◌≡◌, ◌<◌, ◌++◌, ◌∷◌, [], length, true, is_ok, slice_get, IfOk, IfErr};
+ghost use Rattle.std.specs.Prelude.{◌≡◌, ℕ, List, ◌<◌, ◌++◌, ◌∷◌, [], length, true, is_ok, slice_get, IfOk, IfErr};
+ghost use Rattle.rdl_tree.specs.ShellParts.{with_parts};
 ghost use Rattle.rdl_tree.specs.View.{list_of};
 ghost use Rattle.rdl_rewrite.specs.Patches.{reshape};
 ghost use Rattle.rdl_rewrite.specs.Shell.{edited_shell, reshaped};
@@ -12,28 +13,31 @@ use rdl_tree::description::{Body, Item};
 use rdl_tree::dims::Dims;
 use rdl_tree::part::Part;
 use rdl_tree::patch::Patch;
-use rdl_tree::shell::Shell;
+use rdl_tree::shell::{Shell, ShellParts};
 use rdl_tree::stated::{Stated, StatedRange};
 use std::alloc::{AllocError, Global};
 
-/// The shell with the part that the edit gives it.
-fn edited_shell(alloc: Global, edit: &Edit, shell: &Shell) -> Result<Shell, AllocError>
-    ensures { IfOk result (λ new. new ≡ edited_shell edit.now shell.now) }
+/// The parts of a shell with the one that the edit gives it.
+fn edited_parts(
+    alloc: Global,
+    edit: &Edit,
+    mut parts: ShellParts,
+) -> Result<ShellParts, AllocError>
+    ensures { IfOk result (λ new. (n : List ℕ) → with_parts n new ≡ edited_shell edit.now (with_parts n parts)) }
 {
-    let mut new = shell.parts(alloc)?;
     match edit {
         Edit::Resize(_, dims) => {
-            new.dims = dims.try_copy(alloc)?;
-            new.range = StatedRange::none();
+            parts.dims = dims.try_copy(alloc)?;
+            parts.range = StatedRange::none();
         }
         Edit::SetBits(_, range) => {
-            new.dims = Dims::new(alloc);
-            new.range = StatedRange::new(alloc, *range)?;
+            parts.dims = Dims::new(alloc);
+            parts.range = StatedRange::new(alloc, *range)?;
         }
-        Edit::SetAddress(_, address) => new.address = Stated::new(alloc, *address)?,
-        Edit::SetStride(_, stride) => new.stride = Stated::new(alloc, *stride)?,
-        Edit::SetAlign(_, align) => new.align = Stated::new(alloc, *align)?,
-        Edit::SetReset(_, reset) => new.reset = Stated::new(alloc, *reset)?,
+        Edit::SetAddress(_, address) => parts.address = Stated::new(alloc, *address)?,
+        Edit::SetStride(_, stride) => parts.stride = Stated::new(alloc, *stride)?,
+        Edit::SetAlign(_, align) => parts.align = Stated::new(alloc, *align)?,
+        Edit::SetReset(_, reset) => parts.reset = Stated::new(alloc, *reset)?,
         Edit::Add(..) => {}
         Edit::Move(..) => {}
         Edit::SetOwn(..) => {}
@@ -45,7 +49,16 @@ fn edited_shell(alloc: Global, edit: &Edit, shell: &Shell) -> Result<Shell, Allo
         Edit::Remove(..) => {}
         Edit::Rename(..) => {}
     }
-    Shell::of(alloc, shell.name().try_copy(alloc)?, new)
+    Ok(parts)
+}
+
+/// The shell with the part that the edit gives it.
+fn edited_shell(alloc: Global, edit: &Edit, shell: &Shell) -> Result<Shell, AllocError>
+    ensures { IfOk result (λ new. new ≡ edited_shell edit.now shell.now) }
+{
+    let name = shell.name().try_copy(alloc)?;
+    let parts = edited_parts(alloc, edit, shell.parts(alloc)?)?;
+    Shell::of(alloc, name, parts)
 }
 
 /// Gives the instance of this number in the body on the way the part of its shell.
