@@ -1,6 +1,6 @@
 -- The instances that a target has yet to pass, and the assignments that go on, in chains.
 use Rattle.std.proofs.Common.{◌≡◌, ℕ, zero, suc, ◌+◌, ◌-◌, ◌%◌, ◌<◌, ◌≤◌, List, [], ◌∷◌, ◌++◌, length, take, drop, get_or, Bool, true, false, Option, Some, None, refl, ap, sym, ◌∙◌, ◌⊎◌, inl, inr, subst, add-one, max, arith}
-use Rattle.std.specs.Prelude.{◌&&◌, nat_eq, slice_get, slice_set, replicate, if◌then◌else◌}
+use Rattle.std.specs.Prelude.{◌&&◌, nat_eq, slice_get, slice_set, replicate, if◌then◌else◌, option_map}
 use Rattle.std.specs.List.{cons_option}
 use Rattle.std.specs.Cmp.Lexicographic.{pointwise}
 use Rattle.std.proofs.lemmas.Bool.{cases_eq}
@@ -13,6 +13,7 @@ use Rattle.std.proofs.lemmas.List.Elements.{filter_map-append}
 use Rattle.std.proofs.lemmas.Slice.Eq.{bytes_eq-Decides}
 use Rattle.std.specs.Option.{is_none}
 use Rattle.rdl_tree.specs.Address.{number_of}
+use Rattle.rdl_elab.specs.HeldPath.{has_at}
 use Rattle.rdl_elab.specs.ReachedAt.{ends_at}
 use Rattle.rdl_elab.specs.Reaches.{Reach, passed, behind, has_ended}
 use Rattle.rdl_elab.specs.Onward.{chain, first_in, first_under, AreChained, IsOnward}
@@ -43,7 +44,28 @@ left-next a r n path x e f =
     passed-next a r (drop n path) x (first-dropped n path ∙ e) ∙ ap (λ b. if b then Some (record r { path = drop 1 (drop n path) }) else None) f
     ∙ ap (λ p. Some (record r { path = p })) (drop-drop 1 n path)
 
-pub ruleset passing = (left-gone, left-other, left-next)
+-- the same by whether the next instance is this one
+pub left-away : (a : List ℕ) (r : Reach) (n : ℕ) (path : List (List ℕ)) → has_at a (slice_get path n) ≡ false → passed a r (drop n path) ≡ None
+left-away a r n path f = by (slice_get path n) refl
+  where
+    by : (o : Option (List ℕ)) → slice_get path n ≡ o → passed a r (drop n path) ≡ None
+    by None e = left-gone a r n path e
+    by (Some x) e = left-other a r n path x e (sym (ap (has_at a) e) ∙ f)
+
+pub left-there : (a : List ℕ) (r : Reach) (n : ℕ) (path : List (List ℕ)) → has_at a (slice_get path n) ≡ true → passed a r (drop n path) ≡ Some (record r { path = drop (n + 1) path })
+left-there a r n path t = by (slice_get path n) refl
+  where
+    by : (o : Option (List ℕ)) → slice_get path n ≡ o → passed a r (drop n path) ≡ Some (record r { path = drop (n + 1) path })
+    by None e = let no : false ≡ true = sym (ap (has_at a) e) ∙ t in absurd cc
+    by (Some x) e = left-next a r n path x e (sym (ap (has_at a) e) ∙ t)
+
+pub ruleset passing = (left-away, left-there)
+
+-- the number of the next instance
+pub next-number : (n : ℕ) (path : List (List ℕ)) → option_map number_of (slice_get (drop n path) 0) ≡ option_map number_of (slice_get path n)
+next-number n path = ap (option_map number_of) (first-dropped n path)
+
+pub ruleset dropping = (next-number)
 
 -- whether the next instance is the last
 pub ends-gone : (a : List ℕ) (n : ℕ) (path : List (List ℕ)) → slice_get path n ≡ None → ends_at a (drop n path) ≡ false
@@ -68,7 +90,28 @@ ends-here a zero (b ∷ path) x e f = let same : b ≡ x = cc in ap (λ y. point
     ended (y ∷ rest) = refl
 ends-here a (suc n) (b ∷ path) x e f = let next : suc (n + 1) ≡ suc n + 1 = omega arith in ends-here a n path x e f ∙ ap (λ j. is_none (slice_get (b ∷ path) j)) next
 
-pub ruleset ending = (ends-gone, ends-other, ends-here)
+-- the same by whether the next instance is this one
+pub ends-away : (a : List ℕ) (n : ℕ) (path : List (List ℕ)) → has_at a (slice_get path n) ≡ false → ends_at a (drop n path) ≡ false
+ends-away a n path f = by (slice_get path n) refl
+  where
+    by : (o : Option (List ℕ)) → slice_get path n ≡ o → ends_at a (drop n path) ≡ false
+    by None e = ends-gone a n path e
+    by (Some x) e = ends-other a n path x e (sym (ap (has_at a) e) ∙ f)
+
+pub ends-there : (a : List ℕ) (n : ℕ) (path : List (List ℕ)) → has_at a (slice_get path n) ≡ true → ends_at a (drop n path) ≡ is_none (slice_get path (n + 1))
+ends-there a n path t = by (slice_get path n) refl
+  where
+    by : (o : Option (List ℕ)) → slice_get path n ≡ o → ends_at a (drop n path) ≡ is_none (slice_get path (n + 1))
+    by None e = let no : false ≡ true = sym (ap (has_at a) e) ∙ t in absurd cc
+    by (Some x) e = ends-here a n path x e (sym (ap (has_at a) e) ∙ t)
+
+pub ended-left : (n : ℕ) (path : List (List ℕ)) → has_ended (drop n path) ≡ is_none (slice_get path n)
+ended-left zero [] = refl
+ended-left zero (y ∷ rest) = refl
+ended-left (suc n) [] = refl
+ended-left (suc n) (y ∷ rest) = ended-left n rest
+
+pub ruleset ending = (ends-away, ends-there, ended-left)
 
 -- an assignment whose next instance is another one
 passed-apart : (a x : List ℕ) (r : Reach) → slice_get r.path 0 ≡ Some x → (x ≡ a → ⊥) → passed a r r.path ≡ None
@@ -270,6 +313,16 @@ put-next heads links new_heads new_links rs n m r x some le is long slots first 
     next : (n : ℕ) → 0 < n → n ≡ suc (n - 1)
     next n l = omega arith
 
+-- the same, where the number of its next instance is known
+pub put-numbered : (heads links new_heads new_links : List ℕ) (rs : List Reach) (n m : ℕ) (r : Reach) → 0 < n → n ≤ length rs → r ≡ get_or rs (n - 1) r → length links ≡ length rs → 0 < length heads
+    → option_map number_of (slice_get r.path 0) ≡ Some m → new_heads ≡ slice_set heads (m % length heads) (n - 1) → new_links ≡ slice_set links (n - 1) (get_or heads (m % length heads) 0)
+    → ChainedFrom n heads links rs → ChainedFrom (n - 1) new_heads new_links rs
+put-numbered heads links new_heads new_links rs n m r some le is long slots number hs ls h = by (slice_get r.path 0) refl
+  where
+    by : (o : Option (List ℕ)) → slice_get r.path 0 ≡ o → ChainedFrom (n - 1) new_heads new_links rs
+    by None e = let no : None ≡ Some m = sym (ap (option_map number_of) e) ∙ number in absurd cc
+    by (Some x) e = let is_m : Some (number_of x) ≡ Some m = sym (ap (option_map number_of) e) ∙ number in put-next heads links new_heads new_links rs n m r x some le is long slots e (cc) hs ls h
+
 pub pass-next : (heads links : List ℕ) (rs : List Reach) (n : ℕ) (r : Reach) → 0 < n → n ≤ length rs → r ≡ get_or rs (n - 1) r → length links ≡ length rs → slice_get r.path 0 ≡ None
     → ChainedFrom n heads links rs → ChainedFrom (n - 1) heads links rs
 pass-next heads links rs n r some le is long none h =
@@ -278,6 +331,15 @@ pass-next heads links rs n r some le is long none h =
   where
     next : (n : ℕ) → 0 < n → n ≡ suc (n - 1)
     next n l = omega arith
+
+-- the same, where its next instance has no number
+pub pass-numbered : (heads links : List ℕ) (rs : List Reach) (n : ℕ) (r : Reach) → 0 < n → n ≤ length rs → r ≡ get_or rs (n - 1) r → length links ≡ length rs → option_map number_of (slice_get r.path 0) ≡ None
+    → ChainedFrom n heads links rs → ChainedFrom (n - 1) heads links rs
+pass-numbered heads links rs n r some le is long none h = by (slice_get r.path 0) refl
+  where
+    by : (o : Option (List ℕ)) → slice_get r.path 0 ≡ o → ChainedFrom (n - 1) heads links rs
+    by None e = pass-next heads links rs n r some le is long e h
+    by (Some x) e = let no : Some (number_of x) ≡ None = sym (ap (option_map number_of) e) ∙ none in absurd cc
 
 -- a level in which no assignment stands in the chain of an instance's number
 pub none-behind : (onward : Onward) (a : List ℕ) (k first : ℕ) → k ≡ number_of a → first ≡ first_under onward k → length onward.reaching.now ≤ first

@@ -94,13 +94,13 @@ impl Modes {
 }
 
 /// What stands around the instances of a component, as far as their faults depend on it.
-#[derive(Drop)]
-struct Level<'a> {
+#[derive(Clone, Copy)]
+struct Level<'r, 'a> {
     /// The mode in which the instances are placed.
     mode: Mode,
     /// How many bits there are at least if they are fields.
     bits: u64,
-    reaching: Vec<Assignment<'a>>,
+    reaching: &'r [Assignment<'a>],
 }
 
 /// How many bits the fields of a component have.
@@ -154,10 +154,11 @@ fn is_clean_below<'a>(
     if are_fields(components, parts) {
         return are_clean_fields(alloc, components, mode, bits, reaching, own, spans, parts);
     }
+    let inside = with_own(alloc, reaching, own)?;
     let level = Level {
         mode,
         bits,
-        reaching: with_own(alloc, reaching, own)?,
+        reaching: inside.as_slice(),
     };
     is_clean_level(alloc, components, clean, &level, spans, parts, levels)
 }
@@ -280,16 +281,16 @@ fn is_clean_container<'a>(
     alloc: Global,
     components: &[Finished<'a>],
     clean: &[Modes],
-    level: &Level<'a>,
+    level: &Level<'_, 'a>,
     onward: &Onward<'_, 'a>,
     spans: &[Span],
     parts: &[Part<'a>],
     levels: usize,
 ) -> Result<bool, AllocError>
     requires clean { AreCleanIn components.now clean.now }
-    requires onward { IsOnward onward.now level.now.reaching.items }
+    requires onward { IsOnward onward.now level.now.reaching.now }
     requires order { in_order 0 spans.now ≡ true }
-    ensures { IfOk result (λ answer. answer ≡ true → AreClean components.now level.now.mode level.now.bits level.now.reaching.items spans.now parts.now) }
+    ensures { IfOk result (λ answer. answer ≡ true → AreClean components.now level.now.mode level.now.bits level.now.reaching.now spans.now parts.now) }
 {
     let mode = level.mode;
     let mut known = None;
@@ -332,7 +333,7 @@ fn is_clean_part<'a>(
     alloc: Global,
     components: &[Finished<'a>],
     clean: &[Modes],
-    level: &Level<'a>,
+    level: &Level<'_, 'a>,
     onward: &Onward<'_, 'a>,
     span: Span,
     part: &Part<'a>,
@@ -342,8 +343,8 @@ fn is_clean_part<'a>(
 ) -> Result<bool, AllocError>
     requires clean { AreCleanIn components.now clean.now }
     requires component { slice_get components.now part.now.component ≡ Some component.now }
-    requires onward { IsOnward onward.now level.now.reaching.items }
-    ensures { IfOk result (λ answer. answer ≡ true → IsClean components.now level.now.mode level.now.bits level.now.reaching.items span part.now component.now siblings.old siblings.new) }
+    requires onward { IsOnward onward.now level.now.reaching.now }
+    ensures { IfOk result (λ answer. answer ≡ true → IsClean components.now level.now.mode level.now.bits level.now.reaching.now span part.now component.now siblings.old siblings.new) }
 {
     let passed = behind_part(alloc, part, onward)?;
     let reaching = passed.as_slice();
@@ -365,15 +366,15 @@ fn are_clean_parts<'a>(
     alloc: Global,
     components: &[Finished<'a>],
     clean: &[Modes],
-    level: &Level<'a>,
+    level: &Level<'_, 'a>,
     onward: &Onward<'_, 'a>,
     spans: &[Span],
     parts: &[Part<'a>],
     levels: usize,
 ) -> Result<bool, AllocError>
     requires clean { AreCleanIn components.now clean.now }
-    requires onward { IsOnward onward.now level.now.reaching.items }
-    ensures { IfOk result (λ answer. answer ≡ true → AreClean components.now level.now.mode level.now.bits level.now.reaching.items spans.now parts.now) }
+    requires onward { IsOnward onward.now level.now.reaching.now }
+    ensures { IfOk result (λ answer. answer ≡ true → AreClean components.now level.now.mode level.now.bits level.now.reaching.now spans.now parts.now) }
 {
     let mut siblings = Siblings::with_room(alloc, parts.len())?;
     for (i, part) in parts.iter().enumerate() {
@@ -408,19 +409,19 @@ fn is_clean_level<'a>(
     alloc: Global,
     components: &[Finished<'a>],
     clean: &[Modes],
-    level: &Level<'a>,
+    level: &Level<'_, 'a>,
     spans: &[Span],
     parts: &[Part<'a>],
     levels: usize,
 ) -> Result<bool, AllocError>
     requires { AreCleanIn components.now clean.now }
-    ensures { IfOk result (λ answer. answer ≡ true → AreClean components.now level.now.mode level.now.bits level.now.reaching.items spans.now parts.now) }
+    ensures { IfOk result (λ answer. answer ≡ true → AreClean components.now level.now.mode level.now.bits level.now.reaching.now spans.now parts.now) }
 {
     if levels == 0 {
         return Ok(false);
     }
     let levels = levels - 1;
-    let onward = Onward::of(alloc, level.reaching.as_slice(), parts.len())?;
+    let onward = Onward::of(alloc, level.reaching, parts.len())?;
     if is_in_order(spans) {
         return is_clean_container(
             alloc, components, clean, level, &onward, spans, parts, levels,
@@ -461,7 +462,7 @@ fn is_clean_in<'a>(
     let level = Level {
         mode,
         bits,
-        reaching: with_own(alloc, &[], own)?,
+        reaching: own,
     };
     is_clean_level(alloc, components, clean, &level, spans, parts, LEVELS)
 }

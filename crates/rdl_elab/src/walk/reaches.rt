@@ -50,7 +50,8 @@ impl<'a> Model for Assignment<'a> {
 }
 
 impl<'a> Assignment<'a> {
-    ghost use Rattle.std.specs.Prelude.{◌≡◌, ◌&&◌, IfOk, bytes_eq, option_copied, slice_get};
+    ghost use Rattle.std.specs.Prelude.{◌≡◌, ◌&&◌, IfOk, bytes_eq, option_map, slice_get};
+    ghost use Rattle.rdl_tree.specs.Address.{number_of};
     ghost use Rattle.rdl_elab.specs.Reaches.{passed, has_ended};
     ghost use Rattle.rdl_elab.specs.ReachedAt.{ends_at};
 
@@ -66,11 +67,12 @@ impl<'a> Assignment<'a> {
         })
     }
 
-    /// The next instance that its target has to pass.
-    fn next(&self) -> Option<&InstanceAddress>
-        ensures { option_copied result ≡ slice_get self.now.path 0 }
+    /// The number that the next instance that its target has to pass has in its body.
+    #[tactic(auto, using(crate::proofs::Onward::dropping))]
+    fn next(&self) -> Option<usize>
+        ensures { result ≡ option_map number_of (slice_get self.now.path 0) }
     {
-        self.path.get(self.passed)
+        self.path.number_at(self.passed)
     }
 
     /// The assignment behind an instance, if its target passes that.
@@ -78,21 +80,22 @@ impl<'a> Assignment<'a> {
     fn passed(&self, instance: &InstanceAddress) -> Result<Option<Assignment<'a>>, AllocError>
         ensures { IfOk result (λ behind. behind ≡ passed instance.now self.now self.now.path) }
     {
-        match self.path.get(self.passed) {
-            Some(next) if next.is(instance) => Ok(Some(Assignment {
-                path: self.path.share()?,
-                passed: self.passed + 1,
-                property: self.property,
-                value: self.value,
-            })),
-            _ => Ok(None),
+        if !self.path.is_at(self.passed, instance) {
+            return Ok(None);
         }
+        Ok(Some(Assignment {
+            path: self.path.share()?,
+            passed: self.passed + 1,
+            property: self.property,
+            value: self.value,
+        }))
     }
 
+    #[tactic(auto, using(crate::proofs::Onward::ending))]
     fn has_ended(&self) -> bool
         ensures { result ≡ has_ended self.now.path }
     {
-        self.next().is_none()
+        self.path.is_over(self.passed)
     }
 
     /// Whether its target ends at this instance.
@@ -100,17 +103,17 @@ impl<'a> Assignment<'a> {
     fn ends_at(&self, instance: &InstanceAddress) -> bool
         ensures { result ≡ ends_at instance.now self.now.path }
     {
-        match self.path.get(self.passed) {
-            Some(next) if next.is(instance) => self.path.get(self.passed + 1).is_none(),
-            _ => false,
+        if !self.path.is_at(self.passed, instance) {
+            return false;
         }
+        self.path.is_over(self.passed + 1)
     }
 
     /// Whether its target is the property of this name of this instance.
     fn assigns(&self, name: &str, instance: &InstanceAddress) -> bool
         ensures { result ≡ (ends_at instance.now self.now.path && bytes_eq self.now.property name.now) }
     {
-        self.ends_at(instance) && is_same(self.property.as_str(), name)
+        is_same(self.property.as_str(), name) && self.ends_at(instance)
     }
 }
 
@@ -248,7 +251,7 @@ pub(crate) fn reached_at<'a>(
 }
 
 /// So many assignments have no more slots than there are instances, where these are few.
-const FEW: usize = 64;
+const FEW: usize = 1024;
 
 /// How many slots there are for so many assignments, on a level with so many instances.
 fn slots(assignments: usize, instances: usize) -> usize
@@ -258,6 +261,19 @@ fn slots(assignments: usize, instances: usize) -> usize
         assignments.max(instances.min(FEW))
     } else {
         assignments.max(instances)
+    }
+}
+
+/// The slot of this number. That of most numbers takes no division.
+#[inline(always)]
+fn slot(number: usize, slots: usize) -> usize
+    requires { 0 < slots }
+    ensures { result ≡ number % slots }
+{
+    if number < slots {
+        number
+    } else {
+        number % slots
     }
 }
 
@@ -284,7 +300,7 @@ fn put_all(reaching: &[Assignment], heads: &mut [usize], links: &mut [usize])
     'assignments: while number > 0 {
         number -= 1;
         if let Some(next) = reaching[number].next() {
-            put_first(heads, links, number, next.number());
+            put_first(heads, links, number, next);
         }
     }
 }
@@ -358,7 +374,7 @@ impl<'r, 'a> Onward<'r, 'a> {
         if self.heads.is_empty() {
             return self.reaching.len();
         }
-        self.heads[number % self.heads.len()]
+        self.heads[slot(number, self.heads.len())]
     }
 
     /// Whether no target passes this instance, or any other of its slot.

@@ -30,8 +30,19 @@ impl Model for SharedAddress {
     ghost view = { λ a. held_numbers a.held };
 }
 
+/// The number in four bytes, if it is small enough.
+fn small(number: usize) -> Option<u32>
+    ensures { IfSome result (λ n. n ≡ number) }
+{
+    if number < 4_294_967_296 {
+        Some(number as u32)
+    } else {
+        None
+    }
+}
+
 impl SharedAddress {
-    ghost use Rattle.std.specs.Prelude.{◌≡◌, ◌<◌, ◌++◌, ◌∷◌, [], length, nat_eq, IfOk};
+    ghost use Rattle.std.specs.Prelude.{◌≡◌, ◌<◌, ◌++◌, ◌∷◌, [], length, nat_eq, IfOk, IfSome};
     ghost use Rattle.std.specs.Cmp.Lexicographic.{pointwise};
 
     pub(crate) fn new(alloc: Global, address: Address) -> Result<SharedAddress, AllocError>
@@ -54,6 +65,16 @@ impl SharedAddress {
             HeldAddress::Shared(address) => HeldAddress::Shared(address.clone()?),
         };
         Ok(SharedAddress { held })
+    }
+
+    /// The number of the item of the root that it is the address of, if there is one with a small number.
+    fn of_root(&self) -> Option<u32>
+        ensures { IfSome result (λ n. self.now ≡ n ∷ []) }
+    {
+        match &self.held {
+            HeldAddress::OfRoot(number) => small(*number),
+            HeldAddress::Shared(_) => None,
+        }
     }
 
     pub(crate) fn address(&self) -> Address
@@ -103,7 +124,7 @@ impl Model for InstanceAddress {
 }
 
 impl InstanceAddress {
-    ghost use Rattle.std.specs.Prelude.{◌≡◌, ◌++◌, ◌∷◌, [], nat_eq, IfOk};
+    ghost use Rattle.std.specs.Prelude.{◌≡◌, ◌++◌, ◌∷◌, [], nat_eq, IfOk, IfSome};
     ghost use Rattle.std.specs.Cmp.Lexicographic.{pointwise};
     ghost use Rattle.rdl_tree.specs.Address.{number_of};
 
@@ -111,6 +132,29 @@ impl InstanceAddress {
         ensures { result ≡ around ++ number ∷ [] }
     {
         InstanceAddress { around, number }
+    }
+
+    /// That of the instance of this number in the body of this item of the root.
+    #[inline(always)]
+    pub(crate) fn of_root(root: u32, number: u32) -> InstanceAddress
+        ensures { result ≡ root ∷ number ∷ [] }
+    {
+        InstanceAddress {
+            around: SharedAddress {
+                held: HeldAddress::OfRoot(root as usize),
+            },
+            number: number as usize,
+        }
+    }
+
+    /// The numbers of the item of the root around the instance and of the instance in its body, if there is such an item, and they
+    /// are small.
+    pub(crate) fn in_root(&self) -> Option<(u32, u32)>
+        ensures { IfSome result (λ n. self.now ≡ n.0 ∷ n.1 ∷ []) }
+    {
+        let root = self.around.of_root()?;
+        let number = small(self.number)?;
+        Some((root, number))
     }
 
     /// The same address, for one more.

@@ -175,6 +175,7 @@ fn add_passed<'a>(
 
 /// This instance, and the one of the name inside it, if that is there.
 fn path_of_two<'a>(
+    alloc: Global,
     components: &[Finished<'a>],
     part: &Part<'a>,
     name: &'a Name,
@@ -185,7 +186,10 @@ fn path_of_two<'a>(
         return Ok(None);
     };
     match component.parts.named(name) {
-        Some(next) => Ok(Some(InstancePath::of_two(part.instance()?, next.instance()?))),
+        Some(next) => {
+            let path = InstancePath::of_two(alloc, part.instance()?, next.instance()?)?;
+            Ok(Some(path))
+        }
         None => Ok(None),
     }
 }
@@ -233,7 +237,7 @@ pub(crate) fn target_path<'p, 'a>(
         return Ok(None);
     }
     match rest {
-        [name] => path_of_two(components, part, name),
+        [name] => path_of_two(alloc, components, part, name),
         _ => path_of_all(alloc, components, part, rest),
     }
 }

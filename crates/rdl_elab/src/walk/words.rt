@@ -167,12 +167,21 @@ fn put_bare(
     }
 }
 
-fn put_said(bytes: &mut Vec<u8>, said: Said) -> Result<(), AllocError>
+/// Whether an instance with this first size says nothing of its place but its sizes, and has few elements.
+fn is_array(said: Said, size: Number) -> bool
+    ensures few { result ≡ true → said.elements < 255 }
+    ensures size { result ≡ true → size < 255 }
+    ensures array { result ≡ true → said.size ≡ Some size → (rest : List ℕ) → said_words said rest ≡ said.elements ∷ 1 ∷ size ∷ 0 ∷ 0 ∷ 0 ∷ 0 ∷ rest }
+{
+    if said.elements >= 255 || size >= 255 || said.range.is_some() {
+        return false;
+    }
+    said.address.is_none() && said.stride.is_none() && said.align.is_none()
+}
+
+fn put_each_said(bytes: &mut Vec<u8>, said: Said) -> Result<(), AllocError>
     ensures { OnOk result (Puts (said_words said) bytes.old.items bytes.new.items) }
 {
-    if is_bare(said) {
-        return put_bare(bytes, said.elements as u8, said.range);
-    }
     put_word(bytes, said.elements)?;
     put_number(bytes, said.size)?;
     put_number(bytes, said.address)?;
@@ -180,6 +189,20 @@ fn put_said(bytes: &mut Vec<u8>, said: Said) -> Result<(), AllocError>
     put_number(bytes, said.align)?;
     put_range(bytes, said.range)?;
     Ok(())
+}
+
+/// Puts the words of what an instance says of its place.
+fn put_said(bytes: &mut Vec<u8>, said: Said) -> Result<(), AllocError>
+    ensures { OnOk result (Puts (said_words said) bytes.old.items bytes.new.items) }
+{
+    match said.size {
+        None if is_bare(said) => put_bare(bytes, said.elements as u8, said.range),
+        Some(size) if is_array(said, size) => put_small(
+            bytes,
+            &[said.elements as u8, 1, size as u8, 0, 0, 0, 0],
+        ),
+        _ => put_each_said(bytes, said),
+    }
 }
 
 fn put_extent(bytes: &mut Vec<u8>, extent: Extent) -> Result<(), AllocError>

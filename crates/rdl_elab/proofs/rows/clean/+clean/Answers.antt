@@ -15,21 +15,21 @@ is_clean_below-returns-then-have_ended t c known =
 pub are_clean_parts-returns-in_default : goal.are_clean_parts-returns-in_default
 are_clean_parts-returns-in_default t c e =
     let none : slice_get c.args.spans.now c.loop-i.i ≡ None = search rules in
-    ends-spans c.args.components.now c.args.level.now.mode c.args.level.now.bits c.args.level.now.reaching.items c.args.spans.now c.args.parts.now c.loop-i.siblings c.loop-i.i c.loop-i.invariant none
+    ends-spans c.args.components.now c.args.level.now.mode c.args.level.now.bits c.args.level.now.reaching.now c.args.spans.now c.args.parts.now c.loop-i.siblings c.loop-i.i c.loop-i.invariant none
 
 pub are_clean_parts-returns-in_default-component : goal.are_clean_parts-returns-in_default-component
 are_clean_parts-returns-in_default-component t c e =
     let span : slice_get c.args.spans.now c.loop-i.i ≡ Some c.in-Some.span = search rules in
     let part : slice_get c.args.parts.now c.loop-i.i ≡ Some c.index-parts-i.result = slice_get_read c.args.parts.now (length c.args.parts.now) c.loop-i.i c.index-parts-i.result refl c.loop-i-test.true c.index-parts-i.is in
     let none : slice_get c.args.components.now c.index-parts-i.result.component ≡ None = search rules in
-    ends-finished c.args.components.now c.args.level.now.mode c.args.level.now.bits c.args.level.now.reaching.items c.args.spans.now c.args.parts.now c.loop-i.siblings c.loop-i.i c.in-Some.span c.index-parts-i.result c.loop-i.invariant span part none
+    ends-finished c.args.components.now c.args.level.now.mode c.args.level.now.bits c.args.level.now.reaching.now c.args.spans.now c.args.parts.now c.loop-i.siblings c.loop-i.i c.in-Some.span c.index-parts-i.result c.loop-i.invariant span part none
 
 pub are_clean_parts-loop-i-preserved : goal.are_clean_parts-loop-i-preserved
 are_clean_parts-loop-i-preserved t c =
     let fs = c.args.components.now in
     let p = c.index-parts-i.result in
     let f = c.in-Some-component.component.now in
-    let rs = c.args.level.now.reaching.items in
+    let rs = c.args.level.now.reaching.now in
     let span : slice_get c.args.spans.now c.loop-i.i ≡ Some c.in-Some.span = search rules in
     let part : slice_get c.args.parts.now c.loop-i.i ≡ Some p = slice_get_read c.args.parts.now (length c.args.parts.now) c.loop-i.i p refl c.loop-i-test.true c.index-parts-i.is in
     let there : slice_get fs p.component ≡ Some f = search rules in
@@ -39,18 +39,18 @@ are_clean_parts-loop-i-preserved t c =
 pub are_clean_parts-returns : goal.are_clean_parts-returns
 are_clean_parts-returns t c e =
     let end : length c.args.parts.now ≤ c.loop-i.i = omega (arith, c.loop-i-test.false) in
-    ends-parts c.args.components.now c.args.level.now.mode c.args.level.now.bits c.args.level.now.reaching.items c.args.spans.now c.args.parts.now c.loop-i.siblings c.loop-i.i c.loop-i.invariant end
+    ends-parts c.args.components.now c.args.level.now.mode c.args.level.now.bits c.args.level.now.reaching.now c.args.spans.now c.args.parts.now c.loop-i.siblings c.loop-i.i c.loop-i.invariant end
 
 pub is_clean_container-loop-i-init : goal.is_clean_container-loop-i-init
 is_clean_container-loop-i-init t c = record {
-  judged = none-judged c.args.components.now c.args.level.now.mode c.args.level.now.bits c.args.level.now.reaching.items c.args.spans.now c.args.parts.now;
+  judged = none-judged c.args.components.now c.args.level.now.mode c.args.level.now.bits c.args.level.now.reaching.now c.args.spans.now c.args.parts.now;
   known = tt;
 }
 
 pub is_clean_container-returns-in_default : goal.is_clean_container-returns-in_default
 is_clean_container-returns-in_default t c e =
     let none : slice_get c.args.spans.now c.loop-i.i ≡ None = search rules in
-    no-span c.args.components.now c.args.level.now.mode c.args.level.now.bits c.args.level.now.reaching.items c.args.spans.now c.args.parts.now c.loop-i.i c.loop-i.invariant.judged none
+    no-span c.args.components.now c.args.level.now.mode c.args.level.now.bits c.args.level.now.reaching.now c.args.spans.now c.args.parts.now c.loop-i.i c.loop-i.invariant.judged none
 
 pub is_clean_container-returns-in_default-component : goal.is_clean_container-returns-in_default-component
 is_clean_container-returns-in_default-component t c e =
@@ -58,7 +58,7 @@ is_clean_container-returns-in_default-component t c e =
     let span : slice_get c.args.spans.now c.loop-i.i ≡ Some c.in-Some.field-0 = search rules in
     let part : slice_get c.args.parts.now c.loop-i.i ≡ Some p = slice_get_read c.args.parts.now (length c.args.parts.now) c.loop-i.i p refl c.loop-i-test.true c.index-parts-i.is in
     let none : slice_get c.args.components.now p.component ≡ None = search rules in
-    no-component c.args.components.now c.args.level.now.mode c.args.level.now.bits c.args.level.now.reaching.items c.args.spans.now c.args.parts.now c.loop-i.i c.loop-i.invariant.judged c.in-Some.field-0 p span part none
+    no-component c.args.components.now c.args.level.now.mode c.args.level.now.bits c.args.level.now.reaching.now c.args.spans.now c.args.parts.now c.loop-i.i c.loop-i.invariant.judged c.in-Some.field-0 p span part none
 
 pub is_clean_container-loop-i-preserved : goal.is_clean_container-loop-i-preserved
 is_clean_container-loop-i-preserved t c =
@@ -66,7 +66,7 @@ is_clean_container-loop-i-preserved t c =
     let m = c.args.level.now.mode in
     let p = c.index-parts-i.result in
     let f = c.in-Some-component.component.now in
-    let rs = c.args.level.now.reaching.items in
+    let rs = c.args.level.now.reaching.now in
     let span : slice_get c.args.spans.now c.loop-i.i ≡ Some c.in-Some.field-0 = search rules in
     let part : slice_get c.args.parts.now c.loop-i.i ≡ Some p = slice_get_read c.args.parts.now (length c.args.parts.now) c.loop-i.i p refl c.loop-i-test.true c.index-parts-i.is in
     let there : slice_get fs p.component ≡ Some f = search rules in
@@ -79,7 +79,7 @@ pub is_clean_container-loop-i-preserved-then-is_clean_alike : goal.is_clean_cont
 is_clean_container-loop-i-preserved-then-is_clean_alike t c =
     let fs = c.args.components.now in
     let p = c.index-parts-i.result in
-    let rs = c.args.level.now.reaching.items in
+    let rs = c.args.level.now.reaching.now in
     let span : slice_get c.args.spans.now c.loop-i.i ≡ Some c.in-Some.field-0 = search rules in
     let part : slice_get c.args.parts.now c.loop-i.i ≡ Some p = slice_get_read c.args.parts.now (length c.args.parts.now) c.loop-i.i p refl c.loop-i-test.true c.index-parts-i.is in
     let judged = alone-judged fs c.args.level.now.mode c.args.level.now.bits rs c.args.spans.now c.args.parts.now c.loop-i.i c.loop-i.invariant.judged c.in-Some.field-0 p span part c.requires.order (c.is_clean_alike.ensures.clean c.if-is_clean_alike.true rs c.requires.onward) in
@@ -88,4 +88,4 @@ is_clean_container-loop-i-preserved-then-is_clean_alike t c =
 pub is_clean_container-returns : goal.is_clean_container-returns
 is_clean_container-returns t c e =
     let end : length c.args.parts.now ≤ c.loop-i.i = omega (arith, c.loop-i-test.false) in
-    no-more c.args.components.now c.args.level.now.mode c.args.level.now.bits c.args.level.now.reaching.items c.args.spans.now c.args.parts.now c.loop-i.i c.loop-i.invariant.judged end
+    no-more c.args.components.now c.args.level.now.mode c.args.level.now.bits c.args.level.now.reaching.now c.args.spans.now c.args.parts.now c.loop-i.i c.loop-i.invariant.judged end

@@ -24,10 +24,10 @@ abbrev pub decreases-are_clean_parts : goal.decreases-are_clean_parts
 decreases-are_clean_parts l = 5 * l.levels + 3
 
 abbrev pub invariant-are_clean_parts-loop-i : goal.invariant-are_clean_parts-loop-i
-invariant-are_clean_parts-loop-i l = GoesOn l.components l.level.mode l.level.bits l.level.reaching.items l.spans l.parts l.siblings l.i
+invariant-are_clean_parts-loop-i l = GoesOn l.components l.level.mode l.level.bits l.level.reaching.now l.spans l.parts l.siblings l.i
 
 abbrev pub invariant-is_clean_container-loop-i : goal.invariant-is_clean_container-loop-i
 invariant-is_clean_container-loop-i l = record {
-  judged : AreJudged l.components l.level.mode l.level.bits l.level.reaching.items l.spans l.parts l.i;
+  judged : AreJudged l.components l.level.mode l.level.bits l.level.reaching.now l.spans l.parts l.i;
   known : IfSome l.known (IsKnownClean l.components l.level.mode);
 }
