@@ -102,22 +102,14 @@ impl<'a> Part<'a> {
     pub(crate) fn reset(&self) -> Option<Number>
         ensures { result ≡ self.now.shell.reset }
     {
-        if self.bare {
-            None
-        } else {
-            self.shell.reset()
-        }
+        if self.bare { None } else { self.shell.reset() }
     }
 
     /// The number behind its `+=`.
     pub(crate) fn stride(&self) -> Option<Number>
         ensures { result ≡ self.now.shell.stride }
     {
-        if self.bare {
-            None
-        } else {
-            self.shell.stride()
-        }
+        if self.bare { None } else { self.shell.stride() }
     }
 
     /// The number of its component among the finished ones.

@@ -247,17 +247,32 @@ pub(crate) fn reached_at<'a>(
     None
 }
 
-/// So many assignments have no more slots than there are instances, where these are few.
+/// How many slots there are for fewer assignments than that.
 const FEW: usize = 64;
 
 /// How many slots there are for so many assignments, on a level with so many instances.
 fn slots(assignments: usize, instances: usize) -> usize
-    ensures { 0 < assignments → 0 < result }
+    ensures { 0 < result }
 {
     if assignments < FEW {
-        assignments.max(instances.min(FEW))
+        FEW
     } else {
         assignments.max(instances)
+    }
+}
+
+/// The slot of the instance of this number, of so many slots. For those of most instances it takes no division.
+#[inline]
+fn slot_of(number: usize, slots: usize) -> usize
+    requires { 0 < slots }
+    ensures { result ≡ number % slots }
+{
+    if number < slots {
+        number
+    } else if slots == FEW {
+        number % FEW
+    } else {
+        number % slots
     }
 }
 
@@ -268,7 +283,7 @@ fn put_first(heads: &mut [usize], links: &mut [usize], number: usize, next: usiz
     ensures heads { heads.new ≡ slice_set heads.old (next % length heads.old) number }
     ensures links { links.new ≡ slice_set links.old number (get_or heads.old (next % length heads.old) 0) }
 {
-    let slot = next % heads.len();
+    let slot = slot_of(next, heads.len());
     links[number] = heads[slot];
     heads[slot] = number;
 }
@@ -358,7 +373,7 @@ impl<'r, 'a> Onward<'r, 'a> {
         if self.heads.is_empty() {
             return self.reaching.len();
         }
-        self.heads[number % self.heads.len()]
+        self.heads[slot_of(number, self.heads.len())]
     }
 
     /// Whether no target passes this instance, or any other of its slot.
