@@ -272,6 +272,8 @@ fn slot(number: usize, slots: usize) -> usize
 {
     if number < slots {
         number
+    } else if slots == FEW {
+        number % FEW
     } else {
         number % slots
     }
