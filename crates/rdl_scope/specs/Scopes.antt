@@ -16,6 +16,7 @@ use Rattle.rdl_scope.specs.Keys.{Holds, key_before}
 use Rattle.rdl_scope.specs.declared.names.Names.{Names}
 use Rattle.rdl_scope.specs.declared.places.VisibleItem.{VisibleItem}
 use Rattle.rdl_scope.specs.declared.places.Places.{Places}
+use Rattle.rdl_scope.specs.declared.places.Met.{Met}
 use Rattle.rdl_scope.specs.declared.passed.Passed.{Passed}
 
 -- the number under a name
@@ -34,6 +35,10 @@ scope_found levels m q = option_or (option_map (λ k. (length levels, k)) (numbe
 -- the place under a name
 abbrev pub place_under : Places → List ℕ → Option VisibleItem
 place_under m q = value_under m.places q
+
+-- an instance that was looked up: its place stands under its name
+abbrev pub IsMet : Places → Met → Type 0
+IsMet m met = place_under m met.name.now ≡ Some met.place
 
 -- the address of a place along the address of a body
 abbrev pub along_place : List ℕ → VisibleItem → List ℕ

@@ -1,5 +1,5 @@
 //! The first fault of the items of a description.
-ghost use Rattle.std.specs.Prelude.{◌≡◌, ◌==◌, ◌||◌, ◌&&◌, ℕ, ◌+◌, ◌<◌, ◌≤◌, ◌++◌, ◌∷◌, [], length, List, Option, Some, None, IfOk, IfErr, OnOk, ◌⊎◌, option_copied, slice_get, bytes_eq};
+ghost use Rattle.std.specs.Prelude.{◌≡◌, ◌==◌, ◌||◌, ◌&&◌, ℕ, ◌+◌, ◌<◌, ◌≤◌, ◌++◌, ◌∷◌, [], length, List, Option, Some, None, IfOk, IfErr, IfSome, OnOk, ◌⊎◌, option_copied, slice_get, bytes_eq};
 ghost use Rattle.std.specs.Option.{is_some};
 ghost use Rattle.std.specs.List.{list_any};
 ghost use Rattle.rdl_tree.specs.Items.{Items};
@@ -10,7 +10,7 @@ ghost use Rattle.rdl_tree.specs.Address.{body_at};
 ghost use Rattle.rdl_tree.specs.ItemAt.{item_at};
 ghost use Rattle.rdl_scope.specs.Types.{last_definition};
 ghost use Rattle.rdl_scope.specs.Value.{own_before};
-ghost use Rattle.rdl_scope.specs.Scopes.{number_under, scope_found, level_found, along_place, address_under, instance_component, kind_below, kind_of_instance, Knows};
+ghost use Rattle.rdl_scope.specs.Scopes.{number_under, scope_found, level_found, along_place, address_under, instance_component, kind_below, kind_of_instance, IsMet, Knows};
 ghost use Rattle.rdl_scope.specs.Walk.{found};
 ghost use Rattle.rdl_scope.specs.ItemFaults.{kind_at, instance_kind, target_kind, is_set, is_excluded, excluded_by, item_fault, fault_at, first_fault, inside_fault, is_too_large, fault_of, out_of_memory};
 ghost use Rattle.rdl_scope.specs.Roots.{IsSizeOf};
@@ -22,7 +22,7 @@ use crate::kinds::define_fault;
 use crate::names::Names;
 use crate::passed::Passed;
 use crate::places::{
-    Places, VisibleItem, address_of, body_of_place, kind_of, kind_of_place, place_of,
+    Met, Places, VisibleItem, address_of, body_of_place, kind_of, kind_of_place, place_of,
 };
 use crate::shells::instance_fault;
 use crate::size::{Size, body_size};
@@ -157,7 +157,7 @@ fn kind_below(
 }
 
 /// The kind of the component to which a target leads, from the `n`-th item of the body at this address. These are the
-/// places of the components of the instances before it.
+/// places of the components of the instances before it, of which one was met last.
 #[tactic(auto, using(crate::proofs::TargetKinds::targets))]
 fn target_kind<'a>(
     alloc: Global,
@@ -166,16 +166,19 @@ fn target_kind<'a>(
     n: usize,
     names: &'a [Name],
     places: &Places<'a>,
+    met: &mut Option<Met<'a>>,
 ) -> Result<Option<Kind>, AllocError>
     requires nesting { depth description.now.items ≤ 16 }
     requires room { length at.now < 17 }
     requires places { (q : List ℕ) → address_under at.now places.now q ≡ instance_component description.now.items at.now n q }
-    ensures { IfOk result (λ kind. kind ≡ target_kind description.now.items at.now n names.now) }
+    requires met { IfSome met.old (IsMet places.now) }
+    ensures kind { IfOk result (λ kind. kind ≡ target_kind description.now.items at.now n names.now) }
+    ensures met { IfSome met.new (IsMet places.now) }
 {
     let Some((first, rest)) = names.split_first() else {
         return Ok(None);
     };
-    match places.get(first.as_str()) {
+    match places.meet(first.as_str(), met) {
         Some(place) => kind_below(alloc, description, at, place, rest),
         None => Ok(None),
     }
@@ -232,6 +235,7 @@ fn item_fault<'a>(
     levels: &[Names<'a>],
     definitions: &Names<'a>,
     passed: &mut Passed<'a>,
+    met: &mut Option<Met<'a>>,
 ) -> Result<Option<FaultKind>, AllocError>
     requires nesting { depth description.now.items ≤ 16 }
     requires room { length at.now < 17 }
@@ -240,8 +244,10 @@ fn item_fault<'a>(
     requires scope { (q : List ℕ) → scope_found levels.now definitions.now q ≡ found (at.now ++ n ∷ []) description.now.items q }
     requires definitions { (q : List ℕ) → number_under definitions.now q ≡ last_definition q n body.now }
     requires passed { Knows description.now.items at.now body.now n passed.old }
+    requires met { IfSome met.old (IsMet passed.old.places) }
     ensures fault { IfOk result (λ fault. fault ≡ item_fault description.now.items around at.now body.now n item.now) }
     ensures passed { IfOk result (λ fault. fault ≡ None → Knows description.now.items at.now body.now (n + 1) passed.new) }
+    ensures met { IfOk result (λ fault. IfSome met.new (IsMet passed.new.places)) }
 {
     match item {
         Item::Define(name, component) => {
@@ -251,6 +257,7 @@ fn item_fault<'a>(
         Item::Instance(shell, of) => {
             let place = place_of(at, n, of, levels, definitions);
             let kind = kind_of(description, at, of, place);
+            *met = None;
             let twice = passed.places.note(shell.name().as_str(), place)?;
             Ok(instance_fault(around, twice, shell, kind))
         }
@@ -265,7 +272,8 @@ fn item_fault<'a>(
             Ok(default_fault(twice, property(name.as_str()), value))
         }
         Item::Dynamic(target, name, value) => {
-            let kind = target_kind(alloc, description, at, n, target.names(), &passed.places)?;
+            let names = target.names();
+            let kind = target_kind(alloc, description, at, n, names, &passed.places, met)?;
             let twice = passed.dynamics.note(alloc, Key { target, name })?;
             Ok(dynamic_fault(twice, property(name.as_str()), value, kind))
         }
@@ -412,6 +420,7 @@ fn first_fault<'a>(
 {
     let mut definitions = no_definitions(alloc, around, body)?;
     let mut passed = nothing_passed(alloc, body)?;
+    let mut met = None;
     'items: for (i, item) in body.as_slice().iter().enumerate() {
         let scope = levels.as_slice();
         let kind = item_fault(
@@ -425,6 +434,7 @@ fn first_fault<'a>(
             scope,
             &definitions,
             &mut passed,
+            &mut met,
         )?;
         if let Some(fault) = fault_at(at, i, kind) {
             return Ok(Some(fault));

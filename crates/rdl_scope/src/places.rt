@@ -9,6 +9,7 @@ use crate::by_name::ByName;
 use crate::levels::scope_found;
 use crate::names::Names;
 use crate::types::{own_component, prefix};
+use rdl_text::is_same;
 use rdl_tree::address::Address;
 use rdl_tree::description::{Body, Description, Item, Of};
 use rdl_tree::shell::Kind;
@@ -21,6 +22,13 @@ pub(crate) struct VisibleItem {
     pub(crate) number: usize,
 }
 
+/// The name of an instance that was looked up, and the place of its component.
+#[derive(Clone, Copy)]
+pub(crate) struct Met<'a> {
+    pub(crate) name: &'a str,
+    pub(crate) place: VisibleItem,
+}
+
 /// The places of the components of instances, under the instances' names.
 #[derive(Drop)]
 pub(crate) struct Places<'a> {
@@ -28,9 +36,9 @@ pub(crate) struct Places<'a> {
 }
 
 impl<'a> Places<'a> {
-    ghost use Rattle.std.specs.Prelude.{◌≡◌, ℕ, List, None, IfOk, OnOk};
+    ghost use Rattle.std.specs.Prelude.{◌≡◌, ℕ, List, None, IfOk, IfSome, OnOk};
     ghost use Rattle.std.specs.Option.{is_some};
-    ghost use Rattle.rdl_scope.specs.Scopes.{place_under, place_put};
+    ghost use Rattle.rdl_scope.specs.Scopes.{IsMet, place_under, place_put};
 
     /// No places, where so many are awaited.
     pub(crate) fn with_room(alloc: Global, places: usize) -> Result<Places<'a>, AllocError>
@@ -45,6 +53,22 @@ impl<'a> Places<'a> {
         ensures { result ≡ place_under self.now name.now }
     {
         self.places.get(name)
+    }
+
+    /// The place under the name, which may be the one that was met last. It is met then.
+    pub(crate) fn meet(&self, name: &'a str, met: &mut Option<Met<'a>>) -> Option<VisibleItem>
+        requires { IfSome met.old (IsMet self.now) }
+        ensures place { result ≡ place_under self.now name.now }
+        ensures met { IfSome met.new (IsMet self.now) }
+    {
+        if let Some(met) = met {
+            if is_same(met.name, name) {
+                return Some(met.place);
+            }
+        }
+        let place = self.get(name)?;
+        *met = Some(Met { name, place });
+        Some(place)
     }
 
     /// Puts the place, if there is one, under the name, and answers whether one was there.

@@ -40,6 +40,7 @@ first_fault-items-init t c =
       levels = refl;
       definitions = c.in_ok-definitions.ensures;
       passed = c.in_ok-passed.ensures d c.args.at.now c.args.body.now;
+      met = tt;
     }
 
 pub first_fault-item_fault-requires-clause-item : goal.first_fault-item_fault-requires-clause-item
@@ -103,6 +104,7 @@ first_fault-items-preserved-then-is_none t c =
           definition-next q c.items.i c.args.body.now c.item-item.result (number_under c.items.definitions q) (number_under c.items.definitions q) got
           (c.items.invariant.definitions q) (undefined_here c.item-item.result q c.items.i _ (sym c.own_component-component.ensures ∙ absent));
       passed = c.in_ok-kind.ensures.passed (no-fault-at (c.args.at.now ++ c.items.i ∷ []) c.in_ok-kind.kind c.fault_at.result c.fault_at.ensures clear);
+      met = c.in_ok-kind.ensures.met;
     }
 
 pub first_fault-items-preserved : goal.first_fault-items-preserved
@@ -120,6 +122,7 @@ first_fault-items-preserved t c =
           definition-next q c.items.i c.args.body.now c.item-item.result (number_under c.inside_fault.new.definitions q) (number_under c.put_definition.new.self q) got
           (ap (λ m. number_under m q) stay ∙ c.items.invariant.definitions q) (c.in_ok-put_definition.ensures q);
       passed = c.in_ok-kind.ensures.passed (no-fault-at (c.args.at.now ++ c.items.i ∷ []) c.in_ok-kind.kind c.fault_at.result c.fault_at.ensures clear);
+      met = c.in_ok-kind.ensures.met;
     }
 
 pub inside_fault-returns-then-is_empty-clause-fault :

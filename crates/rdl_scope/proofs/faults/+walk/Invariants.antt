@@ -1,8 +1,8 @@
-use Rattle.std.proofs.Common.{◌≡◌, ℕ, List, length, drop, ◌-◌, ◌*◌, ◌+◌}
+use Rattle.std.proofs.Common.{◌≡◌, ℕ, List, IfSome, length, drop, ◌-◌, ◌*◌, ◌+◌}
 use Rattle.rdl_tree.specs.View.{items_of, list_of}
 use Rattle.rdl_scope.specs.ItemFaults.{first_fault}
 use Rattle.rdl_scope.specs.Types.{last_definition}
-use Rattle.rdl_scope.specs.Scopes.{number_under, Knows}
+use Rattle.rdl_scope.specs.Scopes.{number_under, IsMet, Knows}
 use Rattle.rdl_scope.proofs.faults.+walk.Given as goal
 
 abbrev pub decreases-first_fault : goal.decreases-first_fault
@@ -20,4 +20,5 @@ invariant-first_fault-items l = record {
   levels : l.levels.items ≡ l.initial.levels.items;
   definitions : (q : List ℕ) → number_under l.definitions q ≡ last_definition q l.i l.body;
   passed : Knows l.description.items l.at l.body l.i l.passed;
+  met : IfSome l.met (IsMet l.passed.places);
 }

@@ -79,7 +79,7 @@ returns-in_ok-twice-in-Dynamic-clause-fault c =
     ∙ ap (λ z. dynamic_fault z c.property-in-Dynamic.result v kind)
     (c.in_ok-twice-in-Dynamic.ensures.twice (λ key. key_before key n (list_of body)) c.requires.passed.dynamics ∙ dynamic-key t name n body)
     ∙ ap (λ p. dynamic_fault reached p v kind) (c.property-in-Dynamic.ensures ∙ ap property_of c.as_str-in-Dynamic.ensures)
-    ∙ ap (dynamic_fault reached (property_of name) v) (c.in_ok-kind-in-Dynamic.ensures ∙ ap (target_kind d b n) c.names.ensures)
+    ∙ ap (dynamic_fault reached (property_of name) v) (c.in_ok-kind-in-Dynamic.ensures.kind ∙ ap (target_kind d b n) c.names-names.ensures)
     ∙ sym (ap (item_fault d c.args.around b body n) c.in-Dynamic.is)
 
 pub returns-in_ok-twice-in-Dynamic-clause-passed :
