@@ -19,7 +19,6 @@ use crate::rows::{Around, add_rows};
 use crate::walk::finished::Finished;
 use crate::walk::instances::mode_inside;
 use crate::walk::lay_out_item;
-use crate::walk::reaches::with_own;
 use rdl_scope::faults::check;
 use rdl_scope::one_item::check_item;
 use rdl_scope::roots::check_roots;
@@ -154,7 +153,11 @@ fn top_rows(alloc: Global, name: &Name, top: &Finished) -> Result<Vec<Row>, Allo
     Ok(rows)
 }
 
-fn around_top<'a>(alloc: Global, name: &Name, top: &Finished<'a>) -> Result<Around<'a>, AllocError>
+fn around_top<'r, 'a>(
+    alloc: Global,
+    name: &Name,
+    top: &'r Finished<'a>,
+) -> Result<Around<'r, 'a>, AllocError>
     ensures { IfOk result (λ around. around ≡ finished_around_top name.now top.now) }
 {
     let names = Rc::new(alloc, NamesAround::none(alloc).inside(alloc, name)?)?;
@@ -163,7 +166,7 @@ fn around_top<'a>(alloc: Global, name: &Name, top: &Finished<'a>) -> Result<Arou
         names: LeadingNames::new(names),
         base: 0,
         bits: 0,
-        reaching: with_own(alloc, &[], top.assignments.as_slice())?,
+        reaching: top.assignments.as_slice(),
     })
 }
 

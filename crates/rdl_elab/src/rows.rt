@@ -38,7 +38,7 @@ use std::marker::Model;
 
 /// What stands around the instances of a component. A contract sees `Surroundings`.
 #[derive(Drop)]
-pub(crate) struct Around<'a> {
+pub(crate) struct Around<'r, 'a> {
     /// The mode in which the instances are placed.
     pub mode: Mode,
     /// From the top down to the component.
@@ -47,15 +47,15 @@ pub(crate) struct Around<'a> {
     pub base: u64,
     /// How many bits it has if it is a register.
     pub bits: u64,
-    pub reaching: Vec<Assignment<'a>>,
+    pub reaching: &'r [Assignment<'a>],
 }
 
-impl<'a> Model for Around<'a> {
+impl<'r, 'a> Model for Around<'r, 'a> {
     ghost use Rattle.rdl_elab.specs.FinishedRows.{Surroundings};
 
     ghost Value = { Surroundings };
 
-    ghost view = { λ a. record { mode = a.mode; names = a.names; base = a.base; bits = a.bits; reaching = a.reaching.items } };
+    ghost view = { λ a. record { mode = a.mode; names = a.names; base = a.base; bits = a.bits; reaching = a.reaching.now } };
 }
 
 /// What is wrong with a row, whose address takes memory of its own. A contract sees the fault.
@@ -435,15 +435,15 @@ fn siblings_of(alloc: Global, spans: &[Span], count: usize) -> Result<Option<Sib
 }
 
 /// What stands around the instances of the component of a row.
-fn inside<'a>(
+fn inside<'r, 'a>(
     alloc: Global,
-    around: &Around<'a>,
+    around: &Around<'_, 'a>,
     span: Span,
     part: &Part<'a>,
     component: &Finished<'a>,
-    reaching: &[Assignment<'a>],
-) -> Result<Around<'a>, AllocError>
-    requires { reaching.now ≡ behind part.now.at around.now.reaching }
+    reaching: &'r [Assignment<'a>],
+) -> Result<Around<'r, 'a>, AllocError>
+    requires { reaching.now ≡ behind part.now.at around.now.reaching ++ component.now.assignments.items }
     ensures { IfOk result (λ inside. inside ≡ surroundings_inside around.now part.now component.now (finished_row around.now span part.now component.now)) }
 {
     Ok(Around {
@@ -453,7 +453,7 @@ fn inside<'a>(
             .inside(alloc, component.kind, part.shell().name())?,
         base: base(component.kind, around.base, span),
         bits: component.values.regwidth,
-        reaching: reaching_inside(alloc, reaching, component.assignments.as_slice())?,
+        reaching,
     })
 }
 
@@ -469,7 +469,7 @@ pub(crate) fn span_at(spans: &[Span], number: usize) -> Option<Span>
 fn add_below<'a>(
     alloc: Global,
     components: &[Finished<'a>],
-    around: &Around<'a>,
+    around: &Around<'_, 'a>,
     span: Span,
     part: &Part<'a>,
     component: &Finished<'a>,
@@ -484,7 +484,8 @@ fn add_below<'a>(
     if parts.is_empty() {
         return Ok(None);
     }
-    let inside = inside(alloc, around, span, part, component, reaching)?;
+    let joined = reaching_inside(alloc, reaching, component.assignments.as_slice())?;
+    let inside = inside(alloc, around, span, part, component, joined.as_slice())?;
     let spans = component.layouts.under(around.mode).spans.as_slice();
     add_rows(alloc, components, &inside, spans, parts, levels, rows)
 }
@@ -495,7 +496,7 @@ fn add_below<'a>(
 pub(crate) fn add_rows<'a>(
     alloc: Global,
     components: &[Finished<'a>],
-    around: &Around<'a>,
+    around: &Around<'_, 'a>,
     spans: &[Span],
     parts: &[Part<'a>],
     levels: usize,
@@ -506,7 +507,7 @@ pub(crate) fn add_rows<'a>(
     if levels == 0 {
         return Ok(None);
     }
-    let going = onward_of(alloc, around.reaching.as_slice(), parts.len())?;
+    let going = onward_of(alloc, around.reaching, parts.len())?;
     let onward = going.as_ref();
     let mut kept = siblings_of(alloc, spans, parts.len())?;
     for (i, part) in parts.iter().enumerate() {
