@@ -142,12 +142,12 @@ fn text_with(alloc: Global, text: &str, name: &Name, end: &str) -> Result<String
     Ok(longer)
 }
 
-/// The names that lead to a row, from the top down. That of a register stands apart from those around it, so that the
-/// paths of its fields share the list in which the register stands. A contract sees the list of the names' bytes.
+/// The names that lead to a row, from the top down. That of a register stands apart from those around it, in the path of
+/// each of its fields, so that these share the list in which the register stands. A contract sees the list of the names' bytes.
 #[derive(Debug, Drop)]
 pub struct LeadingNames {
     around: Rc<NamesAround>,
-    register: Option<Rc<Name>>,
+    register: Option<Name>,
 }
 
 impl Model for LeadingNames {
@@ -156,7 +156,7 @@ impl Model for LeadingNames {
 
     ghost Value = { List (List ℕ) };
 
-    ghost view = { λ names. names.around.value ++ option_to_list (option_map (λ name. name.value) names.register) };
+    ghost view = { λ names. names.around.value ++ option_to_list names.register };
 }
 
 impl LeadingNames {
@@ -179,19 +179,18 @@ impl LeadingNames {
     ) -> Result<LeadingNames, AllocError>
         ensures { IfOk result (λ names. names ≡ around.value ++ name.now ∷ []) }
     {
-        let register = Rc::new(alloc, name.try_copy(alloc)?)?;
         Ok(LeadingNames {
             around,
-            register: Some(register),
+            register: Some(name.try_copy(alloc)?),
         })
     }
 
-    /// The same names once more, which costs no memory.
-    pub(crate) fn share(&self) -> Result<LeadingNames, AllocError>
+    /// The same names once more. Only a register's name that is long takes memory.
+    pub(crate) fn share(&self, alloc: Global) -> Result<LeadingNames, AllocError>
         ensures { IfOk result (λ names. names ≡ self.now) }
     {
         let register = match &self.register {
-            Some(register) => Some(register.clone()?),
+            Some(register) => Some(register.try_copy(alloc)?),
             None => None,
         };
         let around = self.around.clone()?;

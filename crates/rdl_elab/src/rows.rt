@@ -400,7 +400,7 @@ fn add_row(
     }
     let name = part.shell().name().try_copy(alloc)?;
     rows.push(Row {
-        names: RowPath::new(around.names.share()?, name),
+        names: RowPath::new(around.names.share(alloc)?, name),
         kind,
         base: base(kind, around.base, span),
         location: location(alloc, around.mode, part, component, span)?,
