@@ -3,7 +3,6 @@ use rdl_elab::row::{Extent, LeadingNames, Location, NamesAround, Row, RowPath};
 use rdl_elab::row_values::RowValues;
 use rdl_text::name::Name;
 use rdl_text::token::Number;
-use rdl_tree::dims::Dims;
 use rdl_tree::shell::Kind;
 use std::alloc::{AllocError, Global};
 use std::rc::Rc;
@@ -20,13 +19,7 @@ fn path(alloc: Global, names: &[&str]) -> Result<RowPath, Fail> {
 }
 
 fn extent(alloc: Global, sizes: &[Number]) -> Result<Extent, AllocError> {
-    let sizes = Vec::from_slice(alloc, sizes)?;
-    Ok(Extent {
-        offset: 0,
-        size: 12,
-        dims: Dims::from_vec(sizes),
-        stride: 32,
-    })
+    Extent::new(alloc, 0, 12, sizes, 32)
 }
 
 fn placed(

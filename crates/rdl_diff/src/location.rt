@@ -10,7 +10,7 @@ pub(crate) fn offset_at(location: &Location) -> Option<Number>
     ensures { result ≡ offset_at location.now }
 {
     match location {
-        Location::Bytes(extent) => Some(Number::from(extent.offset)),
+        Location::Bytes(extent) => Some(Number::from(extent.offset())),
         Location::Bits(_) => None,
     }
 }
@@ -19,7 +19,7 @@ pub(crate) fn size_at(location: &Location) -> Option<Number>
     ensures { result ≡ size_at location.now }
 {
     match location {
-        Location::Bytes(extent) => Some(Number::from(extent.size)),
+        Location::Bytes(extent) => Some(Number::from(extent.size())),
         Location::Bits(_) => None,
     }
 }
@@ -28,7 +28,7 @@ pub(crate) fn dims_at(location: &Location) -> &[Number]
     ensures { result.now ≡ dims_at location.now }
 {
     match location {
-        Location::Bytes(extent) => extent.dims.as_slice(),
+        Location::Bytes(extent) => extent.dims(),
         Location::Bits(_) => &[],
     }
 }
@@ -46,7 +46,7 @@ pub(crate) fn stride_at(location: &Location) -> Option<Number>
     ensures { result ≡ stride_at location.now }
 {
     match location {
-        Location::Bytes(extent) => stride_of(extent.dims.as_slice(), extent.stride),
+        Location::Bytes(extent) => stride_of(extent.dims(), extent.stride()),
         Location::Bits(_) => None,
     }
 }

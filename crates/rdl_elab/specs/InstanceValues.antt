@@ -25,5 +25,5 @@ instance_values k values own = filter_map (λ p. option_map (valued p) (instance
 abbrev pub with_instance : Instead → List PropertyValue → List PropertyValue
 with_instance Own own = own
 with_instance (Nothing k) own = instance_values k [] own
-with_instance (OfReset k v) own = instance_values k (valued Reset v ∷ []) own
-with_instance (Assigned k values) own = instance_values k values.items own
+with_instance (OfReset k v) own = instance_values k (valued Reset v.value ∷ []) own
+with_instance (Assigned k values) own = instance_values k values.value.items own

@@ -5,6 +5,7 @@ pub mod Bits
 pub mod Placing
 pub mod Layouts
 pub mod Capped
+pub mod Extents
 pub mod Rows
 pub mod Dotted
 pub mod Faults

@@ -25,10 +25,8 @@ use rdl_scope::one_item::check_item;
 use rdl_scope::roots::check_roots;
 use rdl_scope::size::Size;
 use rdl_text::name::Name;
-use rdl_text::token::Number;
 use rdl_tree::address::Address;
 use rdl_tree::description::{Description, Item};
-use rdl_tree::dims::Dims;
 use rdl_tree::fault::{Fault, FaultKind};
 use rdl_tree::shell::Kind;
 use std::alloc::{AllocError, Global};
@@ -143,12 +141,7 @@ fn top_row(alloc: Global, name: &Name, top: &Finished) -> Result<Row, AllocError
         names: RowPath::new(LeadingNames::new(around), name.try_copy(alloc)?),
         kind: top.kind,
         base: 0,
-        location: Location::Bytes(Extent {
-            offset: 0,
-            size,
-            dims: Dims::new(alloc),
-            stride: Number::from(size),
-        }),
+        location: Location::Bytes(Extent::single(0, size)),
         values: RowValues::of(top.shown.share()?),
     })
 }

@@ -298,17 +298,101 @@ impl PropertyValue {
     }
 }
 
-/// Where the bytes of a row lie that is no field.
+/// The elements of an array.
+#[derive(Debug, Drop)]
+pub(crate) struct Elements {
+    pub dims: Dims,
+    pub stride: Number,
+}
+
+/// Where the bytes of a row lie that is no field. A contract sees the record of specs/.
+///
+/// What only an array has stands in memory of its own.
 #[derive(Debug, Drop)]
 pub struct Extent {
+    offset: u64,
+    size: u64,
+    elements: Option<Box<Elements>>,
+}
+
+impl Model for Extent {
+    ghost use Rattle.std.specs.Prelude.{option_map};
+    ghost use Rattle.rdl_elab.specs.Extents.{Extent, held_extent};
+
+    ghost Value = { Extent };
+
+    ghost view = { λ e. held_extent e.offset e.size (option_map (λ elements. elements.value) e.elements) };
+}
+
+impl Extent {
+    ghost use Rattle.std.specs.Prelude.{◌≡◌, [], IfOk};
+
+    /// Of a single instance.
+    pub fn single(offset: u64, size: u64) -> Extent
+        ensures { result ≡ record { offset = offset; size = size; dims = []; stride = size } }
+    {
+        Extent {
+            offset,
+            size,
+            elements: None,
+        }
+    }
+
+    /// Of an instance with these sizes, whose elements lie so far apart.
+    pub fn new(
+        alloc: Global,
+        offset: u64,
+        size: u64,
+        dims: &[Number],
+        stride: Number,
+    ) -> Result<Extent, AllocError>
+        ensures { IfOk result (λ extent. extent ≡ record { offset = offset; size = size; dims = dims.now; stride = stride }) }
+    {
+        if dims.is_empty() && stride == Number::from(size) {
+            return Ok(Extent::single(offset, size));
+        }
+        let dims = Dims::from_vec(Vec::from_slice(alloc, dims)?);
+        let elements = Some(Box::new(alloc, Elements { dims, stride })?);
+        Ok(Extent {
+            offset,
+            size,
+            elements,
+        })
+    }
+
     /// In bytes, from the base of the component around it to the first element.
-    pub offset: u64,
+    pub fn offset(&self) -> u64
+        ensures { result ≡ self.now.offset }
+    {
+        self.offset
+    }
+
     /// Of one element, in bytes.
-    pub size: u64,
+    pub fn size(&self) -> u64
+        ensures { result ≡ self.now.size }
+    {
+        self.size
+    }
+
     /// The sizes of an array, the outermost first; none for a single instance.
-    pub dims: Dims,
+    pub fn dims(&self) -> &[Number]
+        ensures { result.now ≡ self.now.dims }
+    {
+        match &self.elements {
+            Some(elements) => elements.dims.as_slice(),
+            None => &[],
+        }
+    }
+
     /// The distance of the elements, in bytes.
-    pub stride: Number,
+    pub fn stride(&self) -> Number
+        ensures { result ≡ self.now.stride }
+    {
+        match &self.elements {
+            Some(elements) => elements.stride,
+            None => Number::from(self.size),
+        }
+    }
 }
 
 /// Where a row lies.

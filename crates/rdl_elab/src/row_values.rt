@@ -40,6 +40,15 @@ pub(crate) fn access_of(sw: Option<&Value>) -> Access
     }
 }
 
+/// The values of a component, in the parts in which they are held.
+#[derive(Debug, Drop)]
+pub(crate) struct HeldValues {
+    stated: Option<Vec<PropertyValue>>,
+    built_ins: Rc<Vec<PropertyValue>>,
+    /// What their `sw` says, which is asked of each instance.
+    access: Access,
+}
+
 /// The values of a component, which its rows share. A contract sees the list of all, in the order of the table of
 /// properties.
 ///
@@ -47,10 +56,7 @@ pub(crate) fn access_of(sw: Option<&Value>) -> Access
 /// in any order.
 #[derive(Debug, Drop)]
 pub(crate) struct ComponentValues {
-    stated: Option<Rc<Vec<PropertyValue>>>,
-    built_ins: Rc<Vec<PropertyValue>>,
-    /// What their `sw` says, which is asked of each instance.
-    access: Access,
+    held: Rc<HeldValues>,
 }
 
 impl Model for ComponentValues {
@@ -63,9 +69,9 @@ impl Model for ComponentValues {
 
     ghost Value = { List PropertyValue };
 
-    ghost view = { λ values. over (option_map (λ stated. stated.value.items) values.stated) values.built_ins.value.items };
+    ghost view = { λ values. over (option_map (λ stated. stated.items) values.held.value.stated) values.held.value.built_ins.value.items };
 
-    ghost invariant = { λ values. values.access ≡ access_of (value_under Sw (over (option_map (λ stated. stated.value.items) values.stated) values.built_ins.value.items)) };
+    ghost invariant = { λ values. values.held.value.access ≡ access_of (value_under Sw (over (option_map (λ stated. stated.items) values.held.value.stated) values.held.value.built_ins.value.items)) };
 }
 
 impl ComponentValues {
@@ -77,15 +83,20 @@ impl ComponentValues {
     ghost use Rattle.rdl_elab.specs.StatedValues.{over, under_either};
 
     /// Those of a component that states none.
-    pub(crate) fn built_in(built_ins: Rc<Vec<PropertyValue>>) -> ComponentValues
-        ensures { result ≡ built_ins.value.items }
+    pub(crate) fn built_in(
+        alloc: Global,
+        built_ins: Rc<Vec<PropertyValue>>,
+    ) -> Result<ComponentValues, AllocError>
+        ensures { IfOk result (λ values. values ≡ built_ins.value.items) }
     {
         let access = access_of(value_under(Property::Sw, built_ins.as_slice()));
-        ComponentValues {
+        let values = HeldValues {
             stated: None,
             built_ins,
             access,
-        }
+        };
+        let held = Rc::new(alloc, values)?;
+        Ok(ComponentValues { held })
     }
 
     /// Those that the component states, over those that its kind has built in.
@@ -98,21 +109,23 @@ impl ComponentValues {
     {
         let sw = under_either(Property::Sw, stated.as_slice(), built_ins.as_slice());
         let access = access_of(sw);
-        let stated = Rc::new(alloc, stated)?;
-        Ok(ComponentValues {
+        let values = HeldValues {
             stated: Some(stated),
             built_ins,
             access,
-        })
+        };
+        let held = Rc::new(alloc, values)?;
+        Ok(ComponentValues { held })
     }
 
     /// The values that the component states, and those that its kind has built in.
     pub(crate) fn parts<'v>(&'v self) -> (&'v [PropertyValue], &'v [PropertyValue])
         ensures { (p : Property) → value_under p self.now ≡ under_either result.0.now result.1.now p }
     {
-        match &self.stated {
-            Some(stated) => (stated.as_slice(), self.built_ins.as_slice()),
-            None => (&[], self.built_ins.as_slice()),
+        let held: &HeldValues = &self.held;
+        match &held.stated {
+            Some(stated) => (stated.as_slice(), held.built_ins.as_slice()),
+            None => (&[], held.built_ins.as_slice()),
         }
     }
 
@@ -128,23 +141,15 @@ impl ComponentValues {
     pub(crate) fn access(&self) -> Access
         ensures { result ≡ access_of (value_under Sw self.now) }
     {
-        self.access
+        self.held.access
     }
 
     /// The same values once more, which costs no memory.
     pub(crate) fn share(&self) -> Result<ComponentValues, AllocError>
         ensures { IfOk result (λ values. values ≡ self.now) }
     {
-        let stated = match &self.stated {
-            Some(stated) => Some(stated.clone()?),
-            None => None,
-        };
-        let built_ins = self.built_ins.clone()?;
-        Ok(ComponentValues {
-            stated,
-            built_ins,
-            access: self.access,
-        })
+        let held = self.held.clone()?;
+        Ok(ComponentValues { held })
     }
 }
 
@@ -185,9 +190,9 @@ pub(crate) enum Instead {
     /// Nothing, but it has no value that its kind doesn't take.
     Nothing(Kind),
     /// The number behind its `=`.
-    Reset(Kind, Value),
+    Reset(Kind, Box<Value>),
     /// What is assigned to it from outside, and the number behind its `=` where nothing is assigned to its reset.
-    Assigned(Kind, Vec<PropertyValue>),
+    Assigned(Kind, Box<Vec<PropertyValue>>),
 }
 
 impl Instead {
@@ -242,7 +247,7 @@ impl RowValues {
         ensures { IfOk result (λ values. values ≡ items.items) }
     {
         let items = Rc::new(alloc, items)?;
-        Ok(RowValues::of(ComponentValues::built_in(items)))
+        Ok(RowValues::of(ComponentValues::built_in(alloc, items)?))
     }
 
     /// Those of the component.
@@ -256,28 +261,32 @@ impl RowValues {
     }
 
     /// Those of an instance with this reset, whose component, of this kind, has these values by itself.
-    pub(crate) fn with_reset(own: ComponentValues, kind: Kind, reset: Option<Number>) -> RowValues
-        ensures { result ≡ values_along kind reset [] own }
+    pub(crate) fn with_reset(
+        alloc: Global,
+        own: ComponentValues,
+        kind: Kind,
+        reset: Option<Number>,
+    ) -> Result<RowValues, AllocError>
+        ensures { IfOk result (λ values. values ≡ values_along kind reset [] own) }
     {
         let instance = match reset {
-            Some(number) => Instead::Reset(kind, Value::Number(number)),
+            Some(number) => Instead::Reset(kind, Box::new(alloc, Value::Number(number))?),
             None => Instead::Nothing(kind),
         };
-        RowValues { own, instance }
+        Ok(RowValues { own, instance })
     }
 
     /// Those of an instance that has these values in the place of those of its component, which is of this kind.
     pub(crate) fn with_assigned(
+        alloc: Global,
         own: ComponentValues,
         kind: Kind,
         assigned: Vec<PropertyValue>,
-    ) -> RowValues
-        ensures { result ≡ instance_values kind assigned.items own }
+    ) -> Result<RowValues, AllocError>
+        ensures { IfOk result (λ values. values ≡ instance_values kind assigned.items own) }
     {
-        RowValues {
-            own,
-            instance: Instead::Assigned(kind, assigned),
-        }
+        let instance = Instead::Assigned(kind, Box::new(alloc, assigned)?);
+        Ok(RowValues { own, instance })
     }
 
     /// The value of the property, if it has one.

@@ -29,7 +29,6 @@ use crate::walk::reaches::{Assignment, Onward, has_come, with_own};
 use crate::walk::shared::SharedAddress;
 use crate::walk::values::row_values;
 use rdl_text::token::Number;
-use rdl_tree::dims::Dims;
 use rdl_tree::fault::{Fault, FaultKind};
 use rdl_tree::property::Property;
 use rdl_tree::shell::Kind;
@@ -96,26 +95,14 @@ fn base(kind: Kind, around: u64, span: Span) -> u64
     }
 }
 
-/// The sizes of an instance between its brackets.
-fn dims(alloc: Global, part: &Part) -> Result<Dims, AllocError>
-    ensures { IfOk result (λ dims. dims ≡ part.now.shell.dims) }
-{
-    if part.is_bare() {
-        Ok(Dims::new(alloc))
-    } else {
-        Ok(Dims::from_vec(Vec::from_slice(alloc, part.shell().dims())?))
-    }
-}
-
 fn extent(alloc: Global, part: &Part, span: Span, size: u64) -> Result<Extent, AllocError>
     ensures { IfOk result (λ e. e ≡ record { offset = span.start; size = size; dims = part.now.shell.dims; stride = unwrap_or part.now.shell.stride size }) }
 {
-    Ok(Extent {
-        offset: span.start,
-        size,
-        dims: dims(alloc, part)?,
-        stride: part.stride().unwrap_or(Number::from(size)),
-    })
+    if part.is_bare() {
+        return Ok(Extent::single(span.start, size));
+    }
+    let stride = part.stride().unwrap_or(Number::from(size));
+    Extent::new(alloc, span.start, size, part.shell().dims(), stride)
 }
 
 /// Where the row of an instance lies that is placed in this mode.
@@ -165,7 +152,7 @@ pub(crate) fn values(
     if is_alone(reset, reaching) {
         return Ok(RowValues::of(own));
     }
-    Ok(RowValues::with_reset(own, kind, reset))
+    RowValues::with_reset(alloc, own, kind, reset)
 }
 
 /// What the faults of a row depend on: how its later siblings see it, and the reset of a field.

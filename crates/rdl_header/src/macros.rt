@@ -51,10 +51,10 @@ fn add_bytes(lines: &mut Lines, head: &Head, base: u64, extent: &Extent) -> Resu
     ensures { OnOk result (lines.new ≡ added lines.old (bytes_macros head.now base extent.now)) }
 {
     lines.push_hexadecimal(head, "_base", Number::from(base))?;
-    lines.push_hexadecimal(head, "_offset", Number::from(extent.offset))?;
-    lines.push_hexadecimal(head, "_size", Number::from(extent.size))?;
-    let dims = extent.dims.as_slice();
-    add_array(lines, head, dims, extent.stride)
+    lines.push_hexadecimal(head, "_offset", Number::from(extent.offset()))?;
+    lines.push_hexadecimal(head, "_size", Number::from(extent.size()))?;
+    let dims = extent.dims();
+    add_array(lines, head, dims, extent.stride())
 }
 
 /// The macros of the first words of a number, of 32 bits each, the lowest first.
@@ -173,7 +173,7 @@ fn register_behind(register: u64, location: &Location) -> u64
     ensures { result ≡ register_behind register location.now }
 {
     match location {
-        Location::Bytes(extent) => extent.size,
+        Location::Bytes(extent) => extent.size(),
         Location::Bits(_) => register,
     }
 }
@@ -196,7 +196,7 @@ fn add_rows(alloc: Global, lines: &mut Lines, rows: &[Row]) -> Result<(), AllocE
 /// How many lines a row has, where no number takes several words.
 fn count(location: &Location) -> usize {
     match location {
-        Location::Bytes(extent) if extent.dims.as_slice().is_empty() => 3,
+        Location::Bytes(extent) if extent.dims().is_empty() => 3,
         Location::Bytes(_) => 5,
         Location::Bits(_) => 4,
     }

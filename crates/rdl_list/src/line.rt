@@ -124,13 +124,13 @@ fn push_head(text: &mut String, row: &Row, left_out: usize) -> Result<(), AllocE
 fn push_extent_end(text: &mut String, extent: &Extent) -> Result<(), AllocError>
     ensures { OnOk result (string_bytes text.new ≡ string_bytes text.old ++ extent_text extent.now ++ newline) }
 {
-    let dims = extent.dims.as_slice();
+    let dims = extent.dims();
     if dims.is_empty() {
-        return push_part_end(text, " size", Number::from(extent.size));
+        return push_part_end(text, " size", Number::from(extent.size()));
     }
     push_dims(text, dims)?;
-    push_part(text, " size ", Number::from(extent.size))?;
-    push_part_end(text, " stride", extent.stride)
+    push_part(text, " size ", Number::from(extent.size()))?;
+    push_part_end(text, " stride", extent.stride())
 }
 
 fn push_bytes(

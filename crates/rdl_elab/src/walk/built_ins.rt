@@ -3,6 +3,7 @@ ghost use Rattle.std.specs.Prelude.{◌≡◌, IfOk};
 ghost use Rattle.rdl_elab.specs.Shown.{built_in_values};
 
 use crate::row::PropertyValue;
+use crate::row_values::ComponentValues;
 use crate::walk::shared_words::WordRoom;
 use crate::walk::values::built_in_values;
 use rdl_tree::shell::Kind;
@@ -10,32 +11,43 @@ use std::alloc::{AllocError, Global};
 use std::marker::Model;
 use std::rc::Rc;
 
+/// The values of components of one kind without assignments that no default reaches.
+#[derive(Drop)]
+pub(crate) struct KindValues {
+    /// What other components of the kind have built in.
+    list: Rc<Vec<PropertyValue>>,
+    values: ComponentValues,
+}
+
 /// The values of components without assignments that no default reaches, for each kind once. All of them are the same,
 /// so a contract sees nothing of them, and nothing of the room for words that components lend to one another.
 #[derive(Drop)]
 pub(crate) struct BuiltIns {
-    addrmap: Rc<Vec<PropertyValue>>,
-    regfile: Rc<Vec<PropertyValue>>,
-    reg: Rc<Vec<PropertyValue>>,
-    field: Rc<Vec<PropertyValue>>,
+    addrmap: KindValues,
+    regfile: KindValues,
+    reg: KindValues,
+    field: KindValues,
     pub words: WordRoom,
 }
 
 impl Model for BuiltIns {
+    ghost use Rattle.std.specs.Prelude.{◌×◌};
     ghost use Rattle.rdl_elab.specs.Shown.{AreBuiltIns};
 
     ghost Value = { Unit {0} };
 
     ghost view = { λ b. tt };
 
-    ghost invariant = { λ b. AreBuiltIns b.addrmap.value.items b.regfile.value.items b.reg.value.items b.field.value.items };
+    ghost invariant = { λ b. AreBuiltIns b.addrmap.list.value.items b.regfile.list.value.items b.reg.list.value.items b.field.list.value.items × AreBuiltIns b.addrmap.values b.regfile.values b.reg.values b.field.values };
 }
 
-fn shared(alloc: Global, kind: Kind) -> Result<Rc<Vec<PropertyValue>>, AllocError>
-    ensures { IfOk result (λ values. values.value.items ≡ built_in_values kind) }
+fn shared(alloc: Global, kind: Kind) -> Result<KindValues, AllocError>
+    ensures list { IfOk result (λ shared. shared.list.value.items ≡ built_in_values kind) }
+    ensures values { IfOk result (λ shared. shared.values ≡ built_in_values kind) }
 {
-    let values = built_in_values(alloc, kind)?;
-    Ok(Rc::new(alloc, values)?)
+    let list = Rc::new(alloc, built_in_values(alloc, kind)?)?;
+    let values = ComponentValues::built_in(alloc, list.clone()?)?;
+    Ok(KindValues { list, values })
 }
 
 impl BuiltIns {
@@ -54,15 +66,27 @@ impl BuiltIns {
         })
     }
 
-    /// Those of a component of this kind.
+    /// Those of a component of this kind, in a list.
     pub(crate) fn of(&self, kind: Kind) -> &Rc<Vec<PropertyValue>>
         ensures { result.now.value.items ≡ built_in_values kind }
     {
         match kind {
-            Kind::Addrmap => &self.addrmap,
-            Kind::Regfile => &self.regfile,
-            Kind::Reg => &self.reg,
-            Kind::Field => &self.field,
+            Kind::Addrmap => &self.addrmap.list,
+            Kind::Regfile => &self.regfile.list,
+            Kind::Reg => &self.reg.list,
+            Kind::Field => &self.field.list,
+        }
+    }
+
+    /// Those of a component of this kind.
+    pub(crate) fn values(&self, kind: Kind) -> &ComponentValues
+        ensures { result.now ≡ built_in_values kind }
+    {
+        match kind {
+            Kind::Addrmap => &self.addrmap.values,
+            Kind::Regfile => &self.regfile.values,
+            Kind::Reg => &self.reg.values,
+            Kind::Field => &self.field.values,
         }
     }
 }

@@ -325,11 +325,11 @@ fn bare_values(
 ) -> Result<ComponentValues, AllocError>
     ensures { IfOk result (λ values. values ≡ shown_values (bare kind own.now defaults.now)) }
 {
-    let built_ins = built_ins.of(kind).clone()?;
     let stated = stated_values(alloc, kind, own, defaults)?;
     if stated.is_empty() {
-        return Ok(ComponentValues::built_in(built_ins));
+        return built_ins.values(kind).share();
     }
+    let built_ins = built_ins.of(kind).clone()?;
     ComponentValues::over(alloc, stated, built_ins)
 }
 
@@ -421,5 +421,5 @@ pub(crate) fn row_values(
 {
     let mut items = Vec::with_capacity(alloc, reaching.len().saturating_add(1))?;
     add_replaced(alloc, kind, reset, reaching, &mut items)?;
-    Ok(RowValues::with_assigned(own.share()?, kind, items))
+    RowValues::with_assigned(alloc, own.share()?, kind, items)
 }
