@@ -1,5 +1,5 @@
 -- What a contract sees of where the bytes of a row lie. What only an array has is mostly not held.
--- SystemRDL 2.0, clause 5 and clause 13: arrays of instances and their addresses.
+-- own: what is held of it. Where the bytes lie `location_of` says.
 use Rattle.std.specs.Prelude.{ℕ, List, [], Option, None, Some}
 use Rattle.rdl_elab.specs.declared.row.Elements.{Elements}
 

@@ -31,7 +31,6 @@ pub(crate) struct BuiltIns {
 }
 
 impl Model for BuiltIns {
-    ghost use Rattle.std.specs.Prelude.{◌×◌};
     ghost use Rattle.rdl_elab.specs.Shown.{AreBuiltIns};
 
     ghost Value = { Unit {0} };

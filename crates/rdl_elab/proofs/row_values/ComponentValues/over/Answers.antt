@@ -11,7 +11,5 @@ invariant_of-result c =
     let stated = c.args.stated.items in
     let built_ins = c.args.built_ins.value.items in
     let found : option_copied c.under_either-sw.result ≡ under_either stated built_ins Sw = search rules in
-    let kept : c.in_ok-stated.stated.value.items ≡ stated = search rules in
-    c.access_of-access.ensures
-    ∙ ap access_of (found ∙ sym (under-over Sw stated built_ins))
-    ∙ ap (λ xs. access_of (value_under Sw (over (Some xs) built_ins))) (sym kept)
+    let kept : c.in_ok-held.held.value ≡ record { stated = Some c.args.stated; built_ins = c.args.built_ins; access = c.access_of-access.result } = search rules in
+    rw kept (c.access_of-access.ensures ∙ ap access_of (found ∙ sym (under-over Sw stated built_ins)))

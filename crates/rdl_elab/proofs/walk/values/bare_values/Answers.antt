@@ -14,13 +14,19 @@ empty (x ∷ xs) e = absurd (omega (arith, e))
 pub returns-then-is_empty : goal.returns-then-is_empty
 returns-then-is_empty c =
     let k = c.args.kind in
-    let kept : c.in_ok-built_ins.built_ins.value.items ≡ c.of.result.now.value.items = search rules in
+    let h = bare k c.args.own.now c.args.defaults.now in
     let no_length : length c.in_ok-stated.stated.items ≡ 0 = first_of (omega arith, search rules, grind (arith, common_steps)) in
     let none : c.in_ok-stated.stated.items ≡ [] = empty c.in_ok-stated.stated.items no_length in
-    c.built_in.ensures ∙ kept ∙ c.of.ensures
+    IfOk-weaker c.share.result
+    (λ values. values ≡ c.values.result.now)
+    (λ values. values ≡ shown_values h)
+    (λ values e.
+    e
+    ∙ c.values.ensures
     ∙ sym (over-by-none k)
     ∙ ap (λ (xs : List PropertyValue). over (Some xs) (built_in_values k)) (sym none)
-    ∙ over-built-in (bare k c.args.own.now c.args.defaults.now) c.in_ok-stated.stated.items c.in_ok-stated.ensures
+    ∙ over-built-in h c.in_ok-stated.stated.items c.in_ok-stated.ensures)
+    c.share.ensures
 
 pub returns : goal.returns
 returns c =
