@@ -421,5 +421,6 @@ pub(crate) fn row_values(
 {
     let mut items = Vec::with_capacity(alloc, reaching.len().saturating_add(1))?;
     add_replaced(alloc, kind, reset, reaching, &mut items)?;
-    RowValues::with_assigned(alloc, own.share()?, kind, items)
+    let own = own.share()?;
+    RowValues::with_assigned(alloc, own, kind, items)
 }

@@ -1,4 +1,4 @@
-use Rattle.std.proofs.Common.{◌≡◌, List, [], ◌∷◌, Option, None, ap, sym, ◌∙◌, option_copied}
+use Rattle.std.proofs.Common.{◌≡◌, List, [], ◌∷◌, Option, None, ap, sym, ◌∙◌, rules, option_copied}
 use Rattle.std.specs.Prelude.{if◌then◌else◌}
 use Rattle.std.specs.Option.{option_or}
 use Rattle.rdl_tree.specs.Properties.{on}
@@ -24,9 +24,10 @@ returns-in-Reset c =
     let p = c.args.property in
     let k = c.in-Reset.kind in
     let own = c.args.own.now in
+    let found : option_copied c.if_reset.result ≡ value_under p (valued Reset c.in-Reset.value.value ∷ []) = first_of (search rules, cc) in
     c.before_own-in-Reset.ensures
-    ∙ ap (λ (o : Option Value). if on p k then option_or o (value_under p own) else None) c.if_reset.ensures
-    ∙ sym (under-instance k (valued Reset c.in-Reset.value ∷ []) own p)
+    ∙ ap (λ (o : Option Value). if on p k then option_or o (value_under p own) else None) found
+    ∙ sym (under-instance k (valued Reset c.in-Reset.value.value ∷ []) own p)
     ∙ sym (ap (λ i. value_under p (with_instance i own)) c.in-Reset.is)
 
 pub returns-in-Assigned : goal.returns-in-Assigned
@@ -34,8 +35,9 @@ returns-in-Assigned c =
     let p = c.args.property in
     let k = c.in-Assigned.kind in
     let own = c.args.own.now in
+    let listed : c.as_slice.result.now ≡ c.in-Assigned.values.value.items = first_of (cc, search rules) in
     c.before_own-in-Assigned.ensures
     ∙ ap (λ (o : Option Value). if on p k then option_or o (value_under p own) else None) c.value_under-first.ensures
-    ∙ ap (λ (xs : List PropertyValue). if on p k then option_or (value_under p xs) (value_under p own) else None) c.as_slice.ensures.value
-    ∙ sym (under-instance k c.in-Assigned.values.items own p)
+    ∙ ap (λ (xs : List PropertyValue). if on p k then option_or (value_under p xs) (value_under p own) else None) listed
+    ∙ sym (under-instance k c.in-Assigned.values.value.items own p)
     ∙ sym (ap (λ i. value_under p (with_instance i own)) c.in-Assigned.is)

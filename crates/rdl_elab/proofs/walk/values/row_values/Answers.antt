@@ -18,10 +18,10 @@ returns c =
     λ p. c.in_ok-add_replaced.ensures p
     ∙ ap (λ (xs : List PropertyValue). option_or (value_under p xs) (shown_on k p (option_or (reached (row p).name c.args.reaching.now) (reset_value p c.args.reset)))) c.in_ok-items.ensures.items in
     IfOk-weaker c.with_assigned.result
-    (λ made. made ≡ instance_values k values c.in_ok-share.share)
+    (λ made. made ≡ instance_values k values c.in_ok-own.own)
     (λ made. made ≡ values_along k c.args.reset c.args.reaching.now c.args.own.now)
     (λ made e.
     e
-    ∙ ap (λ (own : List PropertyValue). instance_values k values own) c.in_ok-share.ensures
+    ∙ ap (λ (own : List PropertyValue). instance_values k values own) c.in_ok-own.ensures
     ∙ along-instance k c.args.reset c.args.reaching.now c.args.own.now values all)
     c.with_assigned.ensures
