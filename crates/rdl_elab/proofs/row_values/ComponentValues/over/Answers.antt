@@ -1,8 +1,7 @@
 use Rattle.std.proofs.Common.{◌≡◌, ap, sym, ◌∙◌, Some, rules, option_copied}
 use Rattle.rdl_tree.specs.declared.property.Property.TheVariants.{Sw}
 use Rattle.rdl_elab.specs.Access.{access_of}
-use Rattle.rdl_elab.specs.Reaches.{value_under}
-use Rattle.rdl_elab.specs.StatedValues.{over, under_either}
+use Rattle.rdl_elab.specs.StatedValues.{under_either}
 use Rattle.rdl_elab.proofs.StatedLists.{under-over}
 use Rattle.rdl_elab.proofs.row_values.ComponentValues.over.Goals as goal
 
