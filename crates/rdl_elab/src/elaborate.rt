@@ -14,7 +14,7 @@ ghost use Rattle.rdl_elab.specs.FinishedRows.{finished_map_fault, finished_top_r
 
 use crate::layout::Mode;
 use crate::row::{Extent, LeadingNames, Location, NamesAround, Row, RowPath, Rows};
-use crate::row_values::RowValues;
+use crate::row_values::{LastReset, RowValues};
 use crate::rows::{Around, add_rows};
 use crate::walk::finished::Finished;
 use crate::walk::instances::mode_inside;
@@ -183,7 +183,10 @@ fn rows_below<'a>(
     let around = around_top(alloc, name, top)?;
     let spans = top.layouts.under(Mode::Regalign).spans.as_slice();
     let parts = top.parts.as_slice();
-    match add_rows(alloc, components, &around, spans, parts, 16, &mut rows)? {
+    let mut last = LastReset::none();
+    match add_rows(
+        alloc, components, &around, spans, parts, 16, &mut last, &mut rows,
+    )? {
         Some(fault) => Ok(Err(fault.to_fault())),
         None => Ok(Ok(Rows::from_vec(rows))),
     }

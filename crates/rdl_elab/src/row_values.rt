@@ -1,5 +1,5 @@
 //! The values of rows.
-ghost use Rattle.std.specs.Prelude.{◌≡◌, [], ◌∷◌, None, option_copied, if◌then◌else◌};
+ghost use Rattle.std.specs.Prelude.{◌≡◌, [], ◌∷◌, None, true, option_copied, if◌then◌else◌};
 ghost use Rattle.std.specs.Option.{option_or};
 ghost use Rattle.rdl_tree.specs.Properties.{on};
 ghost use Rattle.rdl_tree.specs.declared.property.Property.TheVariants.{Reset};
@@ -182,6 +182,52 @@ fn if_reset(property: Property, value: &Value) -> Option<&Value>
     }
 }
 
+/// Whether the value is this number.
+fn is_number(value: &Value, number: Number) -> bool
+    ensures { result ≡ true → value.now ≡ Value.Number number }
+{
+    match value {
+        Value::Number(own) => *own == number,
+        _ => false,
+    }
+}
+
+/// The last number behind the `=` of an instance, which the next ones share while they have the same. A contract sees nothing
+/// of it.
+#[derive(Drop)]
+pub(crate) struct LastReset {
+    value: Option<Rc<Value>>,
+}
+
+impl Model for LastReset {
+    ghost Value = { Unit {0} };
+
+    ghost view = { λ last. tt };
+}
+
+impl LastReset {
+    ghost use Rattle.std.specs.Prelude.{◌≡◌, IfOk};
+
+    /// Before any instance.
+    pub(crate) fn none() -> LastReset {
+        LastReset { value: None }
+    }
+
+    /// The number as a value.
+    fn value(&mut self, alloc: Global, number: Number) -> Result<Rc<Value>, AllocError>
+        ensures { IfOk result (λ value. value.value ≡ Value.Number number) }
+    {
+        if let Some(value) = &self.value {
+            if is_number(value, number) {
+                return value.clone();
+            }
+        }
+        let value = Rc::new(alloc, Value::Number(number))?;
+        self.value = Some(value.clone()?);
+        Ok(value)
+    }
+}
+
 /// What an instance has in the place of values of its component, which is of this kind.
 #[derive(Debug, Drop)]
 pub(crate) enum Instead {
@@ -190,7 +236,7 @@ pub(crate) enum Instead {
     /// Nothing, but it has no value that its kind doesn't take.
     Nothing(Kind),
     /// The number behind its `=`.
-    Reset(Kind, Box<Value>),
+    Reset(Kind, Rc<Value>),
     /// What is assigned to it from outside, and the number behind its `=` where nothing is assigned to its reset.
     Assigned(Kind, Box<Vec<PropertyValue>>),
 }
@@ -266,11 +312,12 @@ impl RowValues {
         own: ComponentValues,
         kind: Kind,
         reset: Option<Number>,
+        last: &mut LastReset,
     ) -> Result<RowValues, AllocError>
         ensures { IfOk result (λ values. values ≡ values_along kind reset [] own) }
     {
         let instance = match reset {
-            Some(number) => Instead::Reset(kind, Box::new(alloc, Value::Number(number))?),
+            Some(number) => Instead::Reset(kind, last.value(alloc, number)?),
             None => Instead::Nothing(kind),
         };
         Ok(RowValues { own, instance })

@@ -20,7 +20,7 @@ pub mod siblings;
 
 use crate::layout::{Mode, Span};
 use crate::row::{Extent, LeadingNames, Location, Row, RowPath};
-use crate::row_values::{ComponentValues, RowValues, access_of};
+use crate::row_values::{ComponentValues, LastReset, RowValues, access_of};
 use crate::rows::clean::is_in_order;
 use crate::rows::siblings::{Sibling, Siblings, as_sibling, is_reset_too_wide};
 use crate::walk::finished::{Finished, Part};
@@ -142,6 +142,7 @@ pub(crate) fn values(
     reset: Option<Number>,
     reaching: &[Assignment],
     own: &ComponentValues,
+    last: &mut LastReset,
 ) -> Result<RowValues, AllocError>
     ensures { IfOk result (λ values. values ≡ finished_values kind reset reaching.now own.now) }
 {
@@ -152,7 +153,7 @@ pub(crate) fn values(
     if is_alone(reset, reaching) {
         return Ok(RowValues::of(own));
     }
-    RowValues::with_reset(alloc, own, kind, reset)
+    RowValues::with_reset(alloc, own, kind, reset, last)
 }
 
 /// What the faults of a row depend on: how its later siblings see it, and the reset of a field.
@@ -193,7 +194,7 @@ pub(crate) fn judged_row(
             reset: own_reset(kind, own),
         });
     }
-    let values = values(alloc, kind, reset, reaching, own)?;
+    let values = values(alloc, kind, reset, reaching, own, &mut LastReset::none())?;
     Ok(Judged {
         sibling: seen(span, &values),
         reset: values.number(Property::Reset),
@@ -377,7 +378,7 @@ fn judge(
     Ok(fault)
 }
 
-/// Judges an instance, and puts its row behind the others if nothing is wrong with it.
+/// Judges an instance, and puts its row behind the others if nothing is wrong with it. It may share the last reset.
 fn add_row(
     alloc: Global,
     around: &Around,
@@ -386,6 +387,7 @@ fn add_row(
     span: Span,
     reaching: &[Assignment],
     siblings: &mut Option<Siblings>,
+    last: &mut LastReset,
     rows: &mut Vec<Row>,
 ) -> Result<Option<RowFault>, AllocError>
     requires { reaching.now ≡ behind part.now.at around.now.reaching }
@@ -393,7 +395,7 @@ fn add_row(
     ensures siblings { IfOk result (λ fault. fault ≡ None → siblings.new ≡ with_one siblings.old (seen span (finished_row around.now span part.now component.now).values)) }
 {
     let kind = component.kind;
-    let values = values(alloc, kind, part.reset(), reaching, &component.shown)?;
+    let values = values(alloc, kind, part.reset(), reaching, &component.shown, last)?;
     if let Some(kind) = judge(around, part, component, span, &values, siblings)? {
         let at = SharedAddress::new(alloc, part.at())?;
         return Ok(Some(RowFault { kind, at }));
@@ -475,6 +477,7 @@ fn add_below<'a>(
     component: &Finished<'a>,
     reaching: &[Assignment<'a>],
     levels: usize,
+    last: &mut LastReset,
     rows: &mut Vec<Row>,
 ) -> Result<Option<RowFault>, AllocError>
     requires { reaching.now ≡ behind part.now.at around.now.reaching }
@@ -487,7 +490,7 @@ fn add_below<'a>(
     let joined = reaching_inside(alloc, reaching, component.assignments.as_slice())?;
     let inside = inside(alloc, around, span, part, component, joined.as_slice())?;
     let spans = component.layouts.under(around.mode).spans.as_slice();
-    add_rows(alloc, components, &inside, spans, parts, levels, rows)
+    add_rows(alloc, components, &inside, spans, parts, levels, last, rows)
 }
 
 /// Puts the rows of the instances of a component, so many levels deep, behind the others, up to the first that has a
@@ -500,6 +503,7 @@ pub(crate) fn add_rows<'a>(
     spans: &[Span],
     parts: &[Part<'a>],
     levels: usize,
+    last: &mut LastReset,
     rows: &mut Vec<Row>,
 ) -> Result<Option<RowFault>, AllocError>
     ensures { IfOk result (λ fault. record { fault = fault; rows = rows.new.items } ≡ told rows.old.items (finished_rows levels components.now around.now spans.now parts.now)) }
@@ -520,7 +524,7 @@ pub(crate) fn add_rows<'a>(
         let passed = behind_if_any(alloc, part, onward)?;
         let reaching = passed.as_slice();
         let fault = add_row(
-            alloc, around, part, component, span, reaching, &mut kept, rows,
+            alloc, around, part, component, span, reaching, &mut kept, last, rows,
         )?;
         if fault.is_some() {
             return Ok(fault);
@@ -534,6 +538,7 @@ pub(crate) fn add_rows<'a>(
             component,
             reaching,
             levels - 1,
+            last,
             rows,
         )?;
         if fault.is_some() {
