@@ -18,11 +18,7 @@ use rdl_tree::stated::{Stated, StatedRange};
 use std::alloc::{AllocError, Global};
 
 /// The parts of a shell with the one that the edit gives it.
-fn edited_parts(
-    alloc: Global,
-    edit: &Edit,
-    mut parts: ShellParts,
-) -> Result<ShellParts, AllocError>
+fn edited_parts(alloc: Global, edit: &Edit, mut parts: ShellParts) -> Result<ShellParts, AllocError>
     ensures { IfOk result (λ new. (n : List ℕ) → with_parts n new ≡ edited_shell edit.now (with_parts n parts)) }
 {
     match edit {
