@@ -12,16 +12,16 @@ use rdl_edit::back::Back;
 use rdl_edit::edit::Edit;
 use rdl_edit::map::Map;
 use rdl_edit::refusal::Refusal;
-use rdl_tree::address::Address;
 use rdl_tree::description::Description;
 use rdl_tree::patch::Patch;
+use rdl_tree::patch_address::PatchAddress;
 use rdl_write::rdl;
 use std::alloc::{AllocError, Global};
 use std::process::Abort;
 use std::test::Fail;
 
 /// What the patch does, and where.
-fn parts(patch: &Patch) -> (&'static str, &Address) {
+fn parts(patch: &Patch) -> (&'static str, &PatchAddress) {
     match patch {
         Patch::Insert(at, _) => ("insert", at),
         Patch::Delete(at) => ("delete", at),
@@ -286,15 +286,15 @@ const ONE: &str = "addrmap top {
 };
 ";
 
-fn first() -> Patch {
-    Patch::Delete(address(&[0]))
+fn first(alloc: Global) -> Result<Patch, AllocError> {
+    Ok(Patch::Delete(PatchAddress::new(alloc, &address(&[0]))?))
 }
 
 #[test]
 fn of_a_patch_that_is_kept(rt: HostRuntime) -> Result<(), Fail> {
     let alloc = rt.alloc();
     let mut map = description(alloc, TWO)?;
-    let back = kept_if_fit(alloc, &mut map, first())?;
+    let back = kept_if_fit(alloc, &mut map, first(alloc)?)?;
     let back = assert_turned(&rt, alloc, &map, back, ("insert 0\n", ONE))?;
     let on = kept_again(alloc, &mut map, back)?;
     assert_turned(&rt, alloc, &map, on, ("delete 0\n", TWO))?;
@@ -305,7 +305,7 @@ fn of_a_patch_that_is_kept(rt: HostRuntime) -> Result<(), Fail> {
 fn of_a_patch_that_is_tried(rt: HostRuntime) -> Result<(), Fail> {
     let alloc = rt.alloc();
     let mut map = description(alloc, TWO)?;
-    let on = tried_if_fit(alloc, &mut map, first())?;
+    let on = tried_if_fit(alloc, &mut map, first(alloc)?)?;
     assert_turned(&rt, alloc, &map, on, ("delete 0\n", TWO))?;
     Ok(())
 }

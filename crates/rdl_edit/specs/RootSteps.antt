@@ -4,9 +4,8 @@ use Rattle.std.specs.Prelude.{◌≡◌, ◌≢◌, ℕ, Bool, true, false, List
 use Rattle.std.specs.Global.{Vec}
 use Rattle.rdl_tree.specs.Find.{find}
 use Rattle.rdl_tree.specs.Items.{Items}
-use Rattle.rdl_tree.specs.Patch.{image}
+use Rattle.rdl_tree.specs.Patch.{address_of, image}
 use Rattle.rdl_tree.specs.declared.patch.Patch.{Patch}
-use Rattle.rdl_tree.specs.declared.patch.Patch.TheVariants.{Insert, Delete, Shift, Exchange}
 use Rattle.rdl_scope.specs.ItemFaults.{fault_of}
 use Rattle.rdl_scope.specs.Roots.{NoFaultOutside, IsSizeOf}
 use Rattle.rdl_kept.specs.RootFacts.{IsKnownRoot, AreFactsOf, ChangesOnly}
@@ -18,13 +17,6 @@ use Rattle.rdl_rewrite.specs.Rewritten.{path_of}
 use Rattle.rdl_rewrite.specs.declared.edit.Edit.{Edit}
 use Rattle.rdl_edit.specs.declared.roots.Asked.{Asked}
 use Rattle.rdl_edit.specs.declared.roots.Roots.{Roots}
-
--- the item to which a patch leads
-abbrev pub address_of : Patch → List ℕ
-address_of (Insert at x) = at
-address_of (Delete at) = at
-address_of (Shift at to) = at
-address_of (Exchange at part) = at
 
 -- the item at an address stands inside one of these items of the root, each by its number
 abbrev pub is_inside : List Bool → List ℕ → Bool

@@ -15,6 +15,7 @@ use rdl_scope::room::Room;
 use rdl_tree::address::Address;
 use rdl_tree::description::{Description, Item};
 use rdl_tree::patch::Patch;
+use rdl_tree::patch_address::PatchAddress;
 use std::alloc::Global;
 
 /// How far a description is below the limits, and a number of each item of one body.
@@ -107,7 +108,7 @@ fn room_behind(description: &Description, room: Option<Room>, item: &Item) -> Op
 }
 
 /// The item that the patch puts in, and where.
-fn put_in(patch: &Patch) -> Option<(&Address, &Item)>
+fn put_in(patch: &Patch) -> Option<(&PatchAddress, &Item)>
     ensures { IfSome result (λ put. patch.now ≡ OnePatch.Insert put.0.now put.1.now) }
 {
     match patch {
@@ -148,7 +149,7 @@ pub(crate) fn outlook_of(
             way: notes.way,
             fronts,
         },
-        at: at.copy(),
+        at: at.address(),
     })
 }
 

@@ -8,7 +8,7 @@ ghost use Rattle.rdl_scope.specs.ItemFaults.{fault_of};
 ghost use Rattle.rdl_scope.specs.Roots.{IsSizeOf, NoFaultOutside};
 ghost use Rattle.rdl_kept.specs.RootFacts.{AreFactsOf, IsKnownRoot};
 ghost use Rattle.rdl_kept.specs.declared.roots.RootFacts.{RootFacts as Facts};
-ghost use Rattle.rdl_edit.specs.RootSteps.{address_of, is_patch_inside, IsKnownBeside, AreKnownBeside, AreAskedOf, IsEditInside, StandsInside};
+ghost use Rattle.rdl_edit.specs.RootSteps.{is_patch_inside, IsKnownBeside, AreKnownBeside, AreAskedOf, IsEditInside, StandsInside};
 
 use crate::sizes::size_behind;
 use rdl_elab::kept_root::KeptRoot;
@@ -38,32 +38,23 @@ pub(crate) struct Asked {
     pub(crate) size: Option<Size>,
 }
 
-fn address_of(patch: &Patch) -> &Address
-    ensures { result.now ≡ address_of patch.now }
-{
-    match patch {
-        Patch::Insert(at, _) | Patch::Delete(at) | Patch::Shift(at, _) | Patch::Exchange(at, _) =>
-            at,
-    }
-}
-
 /// Whether the patch changes a body inside one of these items of the root.
 fn is_patch_inside(roots: &[bool], patch: &Patch) -> bool
     ensures { result ≡ is_patch_inside roots.now patch.now }
 {
-    match address_of(patch).as_slice() {
-        [] | [_] => false,
-        [root, ..] => match roots.get(*root) {
+    match patch.address().root_around() {
+        Some(root) => match roots.get(root) {
             Some(is_inside) => *is_inside,
             None => false,
         },
+        None => false,
     }
 }
 
 /// Marks the item of the root inside which the patch changes a body.
 fn mark(roots: &mut Vec<bool>, patch: &Patch) {
-    if let Some(root) = address_of(patch).as_slice().first() {
-        if let Some(mark) = roots.get_mut(*root) {
+    if let Some(root) = patch.address().root_around() {
+        if let Some(mark) = roots.get_mut(root) {
             *mark = true;
         }
     }

@@ -64,7 +64,7 @@ fn size_behind_patch(description: &Description, size: Size, patch: &Patch) -> Op
     match patch {
         Patch::Insert(_, item) if is_plain(item) => Some(with_item(size, item)),
         Patch::Insert(_, _) => None,
-        Patch::Delete(at) => match description.item(at) {
+        Patch::Delete(at) => match description.item(&at.address()) {
             Some(item) if is_plain(item) => without_item(size, item),
             _ => None,
         },

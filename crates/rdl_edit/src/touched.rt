@@ -21,6 +21,7 @@ use rdl_tree::address::Address;
 use rdl_tree::description::{Body, Description, Item, Of};
 use rdl_tree::part::Part;
 use rdl_tree::patch::Patch;
+use rdl_tree::patch_address::PatchAddress;
 use rdl_tree::properties::property;
 use rdl_tree::shell::Shell;
 use std::alloc::Global;
@@ -97,11 +98,11 @@ fn is_still_patch(description: &Description, patch: &Patch) -> bool
 {
     match patch {
         Patch::Insert(_, item) => is_still(item),
-        Patch::Delete(at) | Patch::Shift(at, _) => match description.item(at) {
+        Patch::Delete(at) | Patch::Shift(at, _) => match description.item(&at.address()) {
             Some(item) => is_still(item),
             None => false,
         },
-        Patch::Exchange(at, part) => match description.item(at) {
+        Patch::Exchange(at, part) => match description.item(&at.address()) {
             Some(item) => is_still_part(part, item),
             None => false,
         },
@@ -197,7 +198,7 @@ fn is_new_before_plain(name: &Name, number: usize, body: &Body) -> bool
 }
 
 /// Whether no instance in the body of this address has the name, and no item from there on has a body of its own.
-fn is_new_at(description: &Description, name: &Name, at: &Address) -> bool
+fn is_new_at(description: &Description, name: &Name, at: &PatchAddress) -> bool
     ensures { result ≡ true → IsNewAt name.now at.now description.now.items }
 {
     if at.is_empty() {
@@ -210,7 +211,7 @@ fn is_new_at(description: &Description, name: &Name, at: &Address) -> bool
 }
 
 /// Whether the item is an instance of a named type, whose name is new at this address.
-fn is_new_instance(description: &Description, at: &Address, item: &Item) -> bool
+fn is_new_instance(description: &Description, at: &PatchAddress, item: &Item) -> bool
     ensures { result ≡ true → IsNewInstance at.now item.now description.now.items }
 {
     match item {
@@ -232,7 +233,7 @@ fn are_of_named_types(items: &[Item]) -> bool
 }
 
 /// Whether the item at this address, and each up to the number to which it moves, are instances of named types.
-fn moves_past_instances(description: &Description, at: &Address, to: usize) -> bool
+fn moves_past_instances(description: &Description, at: &PatchAddress, to: usize) -> bool
     ensures { result ≡ true → MovesPastInstances at.now to description.now.items }
 {
     if at.is_empty() {
@@ -252,15 +253,15 @@ fn touched_item(description: &Description, patch: &Patch) -> Option<Address>
     ensures { IfSome result (NoOtherFault (patched patch.now description.now.items)) }
 {
     match patch {
-        Patch::Exchange(at, part) => match description.item(at) {
-            Some(item) if is_alone(part, item) => Some(at.copy()),
+        Patch::Exchange(at, part) => match description.item(&at.address()) {
+            Some(item) if is_alone(part, item) => Some(at.address()),
             _ => None,
         },
-        Patch::Insert(at, item) if is_dynamic(item) && is_last(description, at) => {
-            Some(at.copy())
+        Patch::Insert(at, item) if is_dynamic(item) && is_last(description, &at.address()) => {
+            Some(at.address())
         }
-        Patch::Insert(at, item) if is_new_instance(description, at, item) => Some(at.copy()),
-        Patch::Shift(at, to) if moves_past_instances(description, at, *to) => Some(at.copy()),
+        Patch::Insert(at, item) if is_new_instance(description, at, item) => Some(at.address()),
+        Patch::Shift(at, to) if moves_past_instances(description, at, *to) => Some(at.address()),
         _ => None,
     }
 }

@@ -243,12 +243,12 @@ pub fn is_harmless(
     ensures { IfOk result (λ harmless. harmless ≡ true → IsHarmless patch.now description.now.items) }
 {
     match patch {
-        Patch::Insert(at, item) => is_harmless_insert(alloc, description, at, item),
+        Patch::Insert(at, item) => { is_harmless_insert(alloc, description, &at.address(), item) }
         Patch::Exchange(at, Part::OfShell(shell)) => {
-            Ok(is_harmless_shell(description, at, shell))
+            Ok(is_harmless_shell(description, &at.address(), shell))
         }
         Patch::Exchange(at, Part::OfValue(value)) => {
-            is_harmless_value(alloc, description, at, value)
+            is_harmless_value(alloc, description, &at.address(), value)
         }
         _ => Ok(false),
     }
@@ -272,7 +272,9 @@ pub fn is_renaming(description: &Description, patch: &Patch) -> bool
     ensures { result ≡ true → IsRenamingPatch patch.now description.now.items }
 {
     match patch {
-        Patch::Exchange(at, Part::OfShell(shell)) => gets_another_name(description, at, shell),
+        Patch::Exchange(at, Part::OfShell(shell)) => {
+            gets_another_name(description, &at.address(), shell)
+        }
         _ => false,
     }
 }

@@ -13,6 +13,7 @@ use rdl_tree::address::Address;
 use rdl_tree::description::{Body, Item};
 use rdl_tree::part::Part;
 use rdl_tree::patch::Patch;
+use rdl_tree::patch_address::PatchAddress;
 use rdl_tree::value::Value;
 use std::alloc::{AllocError, Global};
 
@@ -90,12 +91,12 @@ pub fn set(
 {
     let value = value.try_copy(alloc)?;
     match sort.position(property, body) {
-        Some(number) => one(
-            alloc,
-            Patch::Exchange(way.inside(number), Part::OfValue(value)),
-        ),
+        Some(number) => {
+            let at = PatchAddress::new(alloc, &way.inside(number))?;
+            one(alloc, Patch::Exchange(at, Part::OfValue(value)))
+        }
         None => {
-            let at = way.inside(sort.end(body.as_slice()));
+            let at = PatchAddress::new(alloc, &way.inside(sort.end(body.as_slice())))?;
             let item = sort.item(property.try_copy(alloc)?, value);
             one(alloc, Patch::Insert(at, item))
         }
@@ -116,7 +117,10 @@ pub fn clear(
     ensures refused { IfErr result (λ refusal. Refuses (cleared sort property.now body.now) refusal) }
 {
     match sort.position(property, body) {
-        Some(number) => Ok(one(alloc, Patch::Delete(way.inside(number)))?),
+        Some(number) => {
+            let at = PatchAddress::new(alloc, &way.inside(number))?;
+            Ok(one(alloc, Patch::Delete(at))?)
+        }
         None => Err(PatchRefusal::NotSet),
     }
 }

@@ -18,7 +18,8 @@ use crate::place::Place;
 use crate::shell::reshape;
 use rdl_tree::address::Address;
 use rdl_tree::description::{Body, Item};
-use rdl_tree::patch::Patch;
+use rdl_tree::patch::{Patch, address_behind};
+use rdl_tree::patch_address::PatchAddress;
 use std::alloc::{AllocError, Global};
 
 fn are_components(items: &Body) -> bool
@@ -50,7 +51,8 @@ fn inserts(
     let mut patches = Vec::with_capacity(alloc, items.len())?;
     'items: for (i, item) in items.iter().enumerate() {
         let copy = item.try_copy(alloc)?;
-        patches.push(Patch::Insert(way.inside(number + i), copy))?;
+        let at = address_behind(alloc, patches.as_slice(), way, number + i)?;
+        patches.push(Patch::Insert(at, copy))?;
     }
     Ok(patches)
 }
@@ -99,7 +101,10 @@ fn shift(
         return Err(PatchRefusal::NotAnInstance);
     }
     match place.number_among(number, body) {
-        Some(to) => Ok(one(alloc, Patch::Shift(way.inside(number), to))?),
+        Some(to) => {
+            let at = PatchAddress::new(alloc, &way.inside(number))?;
+            Ok(one(alloc, Patch::Shift(at, to))?)
+        }
         None => Err(PatchRefusal::NoSuchSibling),
     }
 }

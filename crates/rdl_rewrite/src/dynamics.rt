@@ -14,6 +14,7 @@ use rdl_tree::address::Address;
 use rdl_tree::description::{Body, Item};
 use rdl_tree::part::Part;
 use rdl_tree::patch::Patch;
+use rdl_tree::patch_address::PatchAddress;
 use rdl_tree::target::Target;
 use rdl_tree::value::Value;
 use std::alloc::{AllocError, Global};
@@ -83,14 +84,13 @@ pub fn assign(
     match old_number(is_new, target, property, body) {
         Some(number) => {
             let value = value.try_copy(alloc)?;
-            one(
-                alloc,
-                Patch::Exchange(way.inside(number), Part::OfValue(value)),
-            )
+            let at = PatchAddress::new(alloc, &way.inside(number))?;
+            one(alloc, Patch::Exchange(at, Part::OfValue(value)))
         }
         None => {
             let item = dynamic(alloc, target, property, value)?;
-            one(alloc, Patch::Insert(way.inside(body.len()), item))
+            let at = PatchAddress::new(alloc, &way.inside(body.len()))?;
+            one(alloc, Patch::Insert(at, item))
         }
     }
 }
@@ -109,7 +109,10 @@ pub fn unassign(
     ensures refused { IfErr result (λ refusal. Refuses (unassigned target.now property.now body.now) refusal) }
 {
     match position_of(target, property, body) {
-        Some(number) => Ok(one(alloc, Patch::Delete(way.inside(number)))?),
+        Some(number) => {
+            let at = PatchAddress::new(alloc, &way.inside(number))?;
+            Ok(one(alloc, Patch::Delete(at))?)
+        }
         None => Err(PatchRefusal::NotSet),
     }
 }

@@ -5,8 +5,8 @@ ghost use Rattle.rdl_rewrite.specs.Fates.{is_dropped, item_patches};
 
 use rdl_tree::address::Address;
 use rdl_tree::part::Part;
-use rdl_tree::patch::Patch;
-use std::alloc::AllocError;
+use rdl_tree::patch::{Patch, address_behind};
+use std::alloc::{AllocError, Global};
 
 /// What becomes of an item.
 #[derive(Debug, Drop)]
@@ -21,17 +21,24 @@ pub enum Fate {
 
 /// Puts a deletion of the item of this number in the body at the address behind the patches.
 #[inline(never)]
-fn push_deletion(at: &Address, number: usize, patches: &mut Vec<Patch>) -> Result<(), AllocError>
+fn push_deletion(
+    alloc: Global,
+    at: &Address,
+    number: usize,
+    patches: &mut Vec<Patch>,
+) -> Result<(), AllocError>
     requires { length at.now < 17 }
     ensures { OnOk result (patches.new.items ≡ patches.old.items ++ Patch.Delete (at.now ++ number ∷ []) ∷ []) }
 {
-    patches.push(Patch::Delete(at.inside(number)))?;
+    let address = address_behind(alloc, patches.as_slice(), at, number)?;
+    patches.push(Patch::Delete(address))?;
     Ok(())
 }
 
 /// Puts an exchange of the part of the item of this number in the body at the address behind the patches.
 #[inline(never)]
 fn push_exchange(
+    alloc: Global,
     at: &Address,
     number: usize,
     part: Part,
@@ -40,7 +47,8 @@ fn push_exchange(
     requires { length at.now < 17 }
     ensures { OnOk result (patches.new.items ≡ patches.old.items ++ Patch.Exchange (at.now ++ number ∷ []) part ∷ []) }
 {
-    patches.push(Patch::Exchange(at.inside(number), part))?;
+    let address = address_behind(alloc, patches.as_slice(), at, number)?;
+    patches.push(Patch::Exchange(address, part))?;
     Ok(())
 }
 
@@ -59,6 +67,7 @@ impl Fate {
     /// Puts the own patch of the item of this number in the body at the address behind the others, if there is one.
     pub(crate) fn push_to(
         self,
+        alloc: Global,
         at: &Address,
         number: usize,
         patches: &mut Vec<Patch>,
@@ -68,8 +77,8 @@ impl Fate {
     {
         match self {
             Fate::Kept => Ok(()),
-            Fate::Dropped => push_deletion(at, number, patches),
-            Fate::Given(part) => push_exchange(at, number, part, patches),
+            Fate::Dropped => push_deletion(alloc, at, number, patches),
+            Fate::Given(part) => push_exchange(alloc, at, number, part, patches),
         }
     }
 }

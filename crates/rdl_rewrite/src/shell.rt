@@ -13,6 +13,7 @@ use rdl_tree::description::{Body, Item};
 use rdl_tree::dims::Dims;
 use rdl_tree::part::Part;
 use rdl_tree::patch::Patch;
+use rdl_tree::patch_address::PatchAddress;
 use rdl_tree::shell::{Shell, ShellParts};
 use rdl_tree::stated::{Stated, StatedRange};
 use std::alloc::{AllocError, Global};
@@ -74,8 +75,6 @@ pub fn reshape(
         return Err(PatchRefusal::NotAnInstance);
     };
     let new = edited_shell(alloc, edit, shell)?;
-    Ok(one(
-        alloc,
-        Patch::Exchange(way.inside(number), Part::OfShell(new)),
-    )?)
+    let at = PatchAddress::new(alloc, &way.inside(number))?;
+    Ok(one(alloc, Patch::Exchange(at, Part::OfShell(new)))?)
 }

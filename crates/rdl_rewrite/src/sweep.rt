@@ -328,7 +328,7 @@ impl<'a> Sweep<'a> {
         }
         let fate = self.fate(alloc, at, number, found, led, firsts)?;
         let goes = fate.is_dropped();
-        fate.push_to(at, number, patches)?;
+        fate.push_to(alloc, at, number, patches)?;
         if goes {
             return Ok(());
         }

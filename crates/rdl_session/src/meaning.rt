@@ -13,7 +13,8 @@ use rdl_text::name::{Name, NameFault};
 use rdl_tree::address::Address;
 use rdl_tree::description::{Description, Item, Of};
 use rdl_tree::part::Part;
-use rdl_tree::patch::Patch;
+use rdl_tree::patch::{Patch, address_behind};
+use rdl_tree::patch_address::PatchAddress;
 use rdl_tree::value::Value;
 use std::alloc::{AllocError, Global};
 use std::str;
@@ -148,42 +149,56 @@ fn target_of(item: Item) -> Option<Part>
     }
 }
 
-fn exchange(at: &Address, part: Option<Part>) -> Option<Patch>
-    ensures { result ≡ spec.exchanged at.now part }
+/// The address, for a patch behind these.
+fn address_of(alloc: Global, before: &[Patch], at: &Address) -> Result<PatchAddress, AllocError>
+    ensures { IfOk result (λ address. address ≡ at.now) }
 {
-    Some(Patch::Exchange(at.copy(), part?))
+    if at.is_empty() {
+        return PatchAddress::new(alloc, at);
+    }
+    address_behind(alloc, before, &at.holder(), at.number())
 }
 
-/// The patch that its lines mean.
+fn exchange(at: PatchAddress, part: Option<Part>) -> Option<Patch>
+    ensures { result ≡ spec.exchanged at part }
+{
+    Some(Patch::Exchange(at, part?))
+}
+
+/// The patch that its lines mean, behind these.
 #[tactic(auto, unfolding(crate::specs::Meaning::patch_of))]
-fn patch_of(alloc: Global, line: &PatchLine<'_>) -> Result<Option<Patch>, AllocError>
+fn patch_of(
+    alloc: Global,
+    before: &[Patch],
+    line: &PatchLine<'_>,
+) -> Result<Option<Patch>, AllocError>
     ensures { IfOk result (λ o. o ≡ spec.patch_of (seen line.now)) }
 {
     match line {
         PatchLine::Insert(at, text) => match item_of(alloc, text)? {
-            Some(item) => Ok(Some(Patch::Insert(at.copy(), item))),
+            Some(item) => Ok(Some(Patch::Insert(address_of(alloc, before, at)?, item))),
             None => Ok(None),
         },
-        PatchLine::Delete(at) => Ok(Some(Patch::Delete(at.copy()))),
-        PatchLine::Shift(at, to) => Ok(Some(Patch::Shift(at.copy(), *to))),
+        PatchLine::Delete(at) => Ok(Some(Patch::Delete(address_of(alloc, before, at)?))),
+        PatchLine::Shift(at, to) => { Ok(Some(Patch::Shift(address_of(alloc, before, at)?, *to))) }
         PatchLine::Shell(at, text) => match item_of(alloc, text)? {
-            Some(item) => Ok(exchange(at, shell_of(item))),
+            Some(item) => Ok(exchange(address_of(alloc, before, at)?, shell_of(item))),
             None => Ok(None),
         },
         PatchLine::Value(at, text) => match item_of(alloc, text)? {
-            Some(item) => Ok(exchange(at, value_of(item))),
+            Some(item) => Ok(exchange(address_of(alloc, before, at)?, value_of(item))),
             None => Ok(None),
         },
         PatchLine::Target(at, text) => match item_of(alloc, text)? {
-            Some(item) => Ok(exchange(at, target_of(item))),
+            Some(item) => Ok(exchange(address_of(alloc, before, at)?, target_of(item))),
             None => Ok(None),
         },
         PatchLine::OfType(at, name) => match name_of(alloc, name)? {
-            Some(name) => Ok(exchange(at, Some(Part::OfType(name)))),
+            Some(name) => Ok(exchange(address_of(alloc, before, at)?, Some(Part::OfType(name)))),
             None => Ok(None),
         },
         PatchLine::OfDefine(at, name) => match name_of(alloc, name)? {
-            Some(name) => Ok(exchange(at, Some(Part::OfDefine(name)))),
+            Some(name) => Ok(exchange(address_of(alloc, before, at)?, Some(Part::OfDefine(name)))),
             None => Ok(None),
         },
     }
@@ -196,7 +211,7 @@ fn step_of(alloc: Global, lines: &[PatchLine<'_>]) -> Result<Option<Vec<Patch>>,
     let mut patches = Vec::new(alloc);
     let mut rest = lines;
     'lines: while let [line, others @ ..] = rest {
-        match patch_of(alloc, line)? {
+        match patch_of(alloc, patches.as_slice(), line)? {
             Some(patch) => patches.push(patch)?,
             None => return Ok(None),
         }

@@ -21,10 +21,10 @@ ghost use Rattle.rdl_session.specs.Written.{written, written_session, Stops};
 use crate::MAX_LEN;
 use crate::fault::SessionWriteFault;
 use rdl_text::token::Number;
-use rdl_tree::address::Address;
 use rdl_tree::description::{Description, Item};
 use rdl_tree::part::Part;
 use rdl_tree::patch::Patch;
+use rdl_tree::patch_address::PatchAddress;
 use rdl_tree::shell::Shell;
 use rdl_tree::target::Target;
 use rdl_tree::value::Value;
@@ -76,7 +76,7 @@ fn push_count(text: &mut String, word: &str, count: usize) -> Result<(), AllocEr
 }
 
 /// Appends what a patch does, and where.
-fn push_act(text: &mut String, word: &str, address: &Address) -> Result<(), AllocError>
+fn push_act(text: &mut String, word: &str, address: &PatchAddress) -> Result<(), AllocError>
     ensures { OnOk result (string_bytes text.new ≡ string_bytes text.old ++ act word.now address.now) }
 {
     write!(text, "{word} {address}")
@@ -87,7 +87,7 @@ fn push_act(text: &mut String, word: &str, address: &Address) -> Result<(), Allo
 fn push_text(
     text: &mut String,
     word: &str,
-    address: &Address,
+    address: &PatchAddress,
     inner: &str,
 ) -> Result<(), AllocError>
     ensures { OnOk result (string_bytes text.new ≡ string_bytes text.old ++ counted (act word.now address.now) inner.now) }
@@ -101,7 +101,7 @@ fn push_text(
 fn push_exchange(
     alloc: Global,
     text: &mut String,
-    address: &Address,
+    address: &PatchAddress,
     part: &Part,
 ) -> Result<(), AllocError>
     ensures { OnOk result (string_bytes text.new ≡ string_bytes text.old ++ patch_text (written (Exchange address.now part.now))) }

@@ -17,6 +17,7 @@ pub mod Limits
 pub mod Part
 pub mod Larger
 pub mod Patch
+pub mod PatchAddress
 pub mod PatchWeight
 pub mod Properties
 pub mod Room

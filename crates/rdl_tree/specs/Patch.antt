@@ -14,6 +14,13 @@ use Rattle.rdl_tree.specs.declared.part.Part.{Part}
 use Rattle.rdl_tree.specs.declared.patch.Patch.{Patch}
 use Rattle.rdl_tree.specs.declared.patch.Patch.TheVariants.{Insert, Delete, Shift, Exchange}
 
+-- the address of the item
+abbrev pub address_of : Patch → List ℕ
+address_of (Insert at x) = at
+address_of (Delete at) = at
+address_of (Shift at to) = at
+address_of (Exchange at part) = at
+
 -- ---- What patches make of a description.
 
 abbrev pub patched : Patch → Items → Items

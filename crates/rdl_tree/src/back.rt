@@ -10,6 +10,7 @@ use crate::address::Address;
 use crate::description::{Body, Item};
 use crate::gap::pour;
 use crate::patch::Patch;
+use crate::patch_address::PatchAddress;
 use crate::way::Step;
 use std::mem;
 
@@ -18,7 +19,7 @@ use std::mem;
 /// takes the item out again, go behind the others. This takes no memory.
 pub(crate) fn fill(
     body: &mut Body,
-    address: Address,
+    address: PatchAddress,
     item: Item,
     room: Vec<Item>,
     steps: &mut Vec<Step>,
@@ -132,9 +133,7 @@ fn goes_into(patch: &Patch, holder: &Address, len: usize) -> bool
     ensures { result ≡ is_into patch.now holder.now len }
 {
     match patch {
-        Patch::Insert(address, _) => {
-            !address.is_empty() && *holder == address.holder() && address.number() <= len
-        }
+        Patch::Insert(address, _) => address.is_in(holder) && address.number() <= len,
         Patch::Delete(_) | Patch::Shift(_, _) | Patch::Exchange(_, _) => false,
     }
 }

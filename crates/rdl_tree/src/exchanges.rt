@@ -5,10 +5,10 @@ ghost use Rattle.rdl_tree.specs.Patch.{patched, fits, image, inverse, inverses};
 ghost use Rattle.rdl_tree.specs.Exchanges.{is_exchange, is_exchange_at, are_exchanges};
 ghost use Rattle.rdl_tree.specs.declared.patch.Patch.{Patch};
 
-use crate::address::Address;
 use crate::description::Description;
 use crate::part::Part;
 use crate::patch::Patch;
+use crate::patch_address::PatchAddress;
 
 /// Whether each of the patches exchanges a part.
 pub(crate) fn are_exchanges(patches: &[Patch]) -> bool
@@ -46,7 +46,7 @@ fn turn_round(description: &mut Description, patch: &mut Patch)
 }
 
 /// Puts the part in the place of the item's own, which takes its place.
-pub(crate) fn swap_part(description: &mut Description, address: &Address, part: &mut Part)
+pub(crate) fn swap_part(description: &mut Description, address: &PatchAddress, part: &mut Part)
     requires { IsTrue (fits (Patch.Exchange address.now part.old) description.old.items) }
     ensures changed { description.new.items ≡ patched (Patch.Exchange address.now part.old) description.old.items }
     ensures inverse { inverse (Patch.Exchange address.now part.old) description.old.items ≡ Patch.Exchange address.now part.new ∷ [] }

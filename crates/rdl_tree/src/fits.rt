@@ -10,6 +10,7 @@ use crate::description::{Body, Description, Item, Of};
 use crate::find::item_at;
 use crate::part::Part;
 use crate::patch::Patch;
+use crate::patch_address::PatchAddress;
 
 impl Description {
     /// The item at the address. There is none at the root's.
@@ -26,16 +27,16 @@ impl Description {
     {
         match patch {
             Patch::Insert(address, item) => is_level(address, item) && self.has_place(address),
-            Patch::Delete(address) => self.item(address).is_some(),
+            Patch::Delete(address) => self.item(&address.address()).is_some(),
             Patch::Shift(address, to) => {
-                self.item(address).is_some() && self.has_item(address, *to)
+                self.item(&address.address()).is_some() && self.has_item(address, *to)
             }
             Patch::Exchange(address, part) => self.has_part(address, part),
         }
     }
 
     /// Whether the body has a place of this number for one more item.
-    fn has_place(&self, address: &Address) -> bool
+    fn has_place(&self, address: &PatchAddress) -> bool
         requires { 0 < length address.now }
         ensures { result ≡ has_place (number_of address.now) (length_of (body_at (holder_of address.now) self.now.items)) }
     {
@@ -46,7 +47,7 @@ impl Description {
     }
 
     /// Whether the body that holds the item at the address has an item of the other number.
-    fn has_item(&self, address: &Address, number: usize) -> bool
+    fn has_item(&self, address: &PatchAddress, number: usize) -> bool
         requires { 0 < length address.now }
         ensures { result ≡ has_item number (length_of (body_at (holder_of address.now) self.now.items)) }
     {
@@ -57,10 +58,10 @@ impl Description {
     }
 
     /// Whether there is an item that has a part of this one's sort.
-    fn has_part(&self, address: &Address, part: &Part) -> bool
+    fn has_part(&self, address: &PatchAddress, part: &Part) -> bool
         ensures { result ≡ has_part_of part.now (item_at address.now self.now.items) }
     {
-        match self.item(address) {
+        match self.item(&address.address()) {
             Some(item) => item.has_part(part),
             None => false,
         }
@@ -86,7 +87,7 @@ impl Item {
 }
 
 /// Whether the item stands in a body, with its innermost body at level 16 at most.
-fn is_level(address: &Address, item: &Item) -> bool
+fn is_level(address: &PatchAddress, item: &Item) -> bool
     ensures { result ≡ is_level address.now item.now }
 {
     let levels = (address.len() as u64).saturating_add(item.depth());

@@ -18,6 +18,7 @@ mod gap;
 pub mod laws;
 pub mod part;
 pub mod patch;
+pub mod patch_address;
 pub mod path;
 pub mod properties;
 pub mod property;

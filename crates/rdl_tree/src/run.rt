@@ -9,6 +9,7 @@ use crate::address::Address;
 use crate::description::{Body, Description, Item};
 use crate::gap::Gap;
 use crate::patch::Patch;
+use crate::patch_address::PatchAddress;
 use crate::way::Step;
 use std::alloc::{AllocError, Global};
 
@@ -41,7 +42,7 @@ fn run_holder(patches: &[Patch]) -> Option<Address> {
     match patches {
         [.., second, first] => {
             let holder = holder_of(first)?;
-            if holder_of(second)? == holder {
+            if is_of(second, &holder) {
                 Some(holder)
             } else {
                 None
@@ -58,6 +59,14 @@ fn holder_of(patch: &Patch) -> Option<Address> {
             Some(address.holder())
         }
         _ => None,
+    }
+}
+
+/// Whether the patch puts an item into this body, or takes one out of it.
+fn is_of(patch: &Patch, holder: &Address) -> bool {
+    match patch {
+        Patch::Insert(address, _) | Patch::Delete(address) => address.is_in(holder),
+        Patch::Shift(_, _) | Patch::Exchange(_, _) => false,
     }
 }
 
@@ -148,7 +157,7 @@ fn put_within(
     gap: &mut Gap,
     alloc: Global,
     holder: &Address,
-    address: Address,
+    address: PatchAddress,
     item: Item,
 ) -> Result<Step, Patch>
     ensures applied { IfOk result (λ step. IsStepWithin holder.now (Patch.Insert address item) gap.old gap.new step) }
@@ -169,7 +178,7 @@ fn take_within(
     gap: &mut Gap,
     alloc: Global,
     holder: &Address,
-    address: Address,
+    address: PatchAddress,
     steps: &mut Vec<Step>,
 ) -> Result<Step, Patch>
     ensures applied { IfOk result (λ step. IsStepWithin holder.now (Patch.Delete address) gap.old gap.new step) }
@@ -244,9 +253,9 @@ fn puts_into(patch: &Patch, holder: &Address) -> bool
 }
 
 /// Whether the address is that of an item of the body.
-fn is_in(address: &Address, holder: &Address) -> bool
+fn is_in(address: &PatchAddress, holder: &Address) -> bool
     ensures within { IsTrue result → 0 < length address.now }
     ensures same { IsTrue result → holder.now ≡ holder_of address.now }
 {
-    !address.is_empty() && address.holder() == *holder
+    address.is_in(holder)
 }

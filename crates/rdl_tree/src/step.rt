@@ -6,12 +6,12 @@ ghost use Rattle.rdl_tree.specs.Way.{none_held, is_placed, has_room, is_ready};
 ghost use Rattle.rdl_tree.specs.Gap.{ComesBack, PutsBack};
 ghost use Rattle.rdl_tree.specs.Step.{IsStep};
 
-use crate::address::Address;
 use crate::back::fill;
 use crate::description::{Description, Item};
 use crate::exchanges::swap_part;
 use crate::part::Part;
 use crate::patch::Patch;
+use crate::patch_address::PatchAddress;
 use crate::way::Step;
 use std::alloc::{AllocError, Global};
 
@@ -76,7 +76,7 @@ pub(crate) fn apply(
 fn insert(
     description: &mut Description,
     alloc: Global,
-    address: Address,
+    address: PatchAddress,
     item: Item,
 ) -> Result<Step, Patch>
     requires { IsTrue (fits (Patch.Insert address item) description.old.items) }
@@ -97,7 +97,11 @@ fn insert(
 }
 
 /// Takes the item out, if memory to put it in again can be had.
-fn delete(description: &mut Description, alloc: Global, address: Address) -> Result<Step, Patch>
+fn delete(
+    description: &mut Description,
+    alloc: Global,
+    address: PatchAddress,
+) -> Result<Step, Patch>
     requires { IsTrue (fits (Patch.Delete address) description.old.items) }
     ensures applied { OnOk result (description.new.items ≡ patched (Patch.Delete address) description.old.items) }
     ensures back { IfOk result (λ step. inverse (Patch.Delete address) description.old.items ≡ step.back ∷ []) }
@@ -118,7 +122,7 @@ fn delete(description: &mut Description, alloc: Global, address: Address) -> Res
 fn room_for(
     description: &Description,
     alloc: Global,
-    address: &Address,
+    address: &PatchAddress,
 ) -> Result<Vec<Item>, AllocError>
     requires { IsTrue (fits (Patch.Delete address.now) description.now.items) }
     ensures empty { IfOk result (λ room. length room.items ≡ 0) }
@@ -133,7 +137,7 @@ fn room_for(
 /// Puts the item in, within the room, and goes on with the steps that put items into the same body.
 fn put_in(
     description: &mut Description,
-    address: Address,
+    address: PatchAddress,
     item: Item,
     room: Vec<Item>,
     steps: &mut Vec<Step>,
@@ -154,7 +158,7 @@ fn put_in(
 }
 
 /// Takes the item out, and gives the patch that puts it in again.
-fn take_out(description: &mut Description, address: Address) -> Patch
+fn take_out(description: &mut Description, address: PatchAddress) -> Patch
     requires { IsTrue (fits (Patch.Delete address) description.old.items) }
     ensures changed { description.new.items ≡ patched (Patch.Delete address) description.old.items }
     ensures inverse { inverse (Patch.Delete address) description.old.items ≡ result ∷ [] }
@@ -167,7 +171,7 @@ fn take_out(description: &mut Description, address: Address) -> Patch
 }
 
 /// Moves the item, and gives the patch that moves it back.
-fn shift(description: &mut Description, address: Address, to: usize) -> Patch
+fn shift(description: &mut Description, address: PatchAddress, to: usize) -> Patch
     requires { IsTrue (fits (Patch.Shift address to) description.old.items) }
     ensures changed { description.new.items ≡ patched (Patch.Shift address to) description.old.items }
     ensures inverse { inverse (Patch.Shift address to) description.old.items ≡ result ∷ [] }
@@ -178,11 +182,11 @@ fn shift(description: &mut Description, address: Address, to: usize) -> Patch
         Some(body) => body.shift(number, to),
         None => unreachable!(),
     }
-    Patch::Shift(holder.inside(to), number)
+    Patch::Shift(address.moved(to), number)
 }
 
 /// Puts the part in the place of the item's own, and gives the patch that puts that one back.
-fn exchange(description: &mut Description, address: Address, part: Part) -> Patch
+fn exchange(description: &mut Description, address: PatchAddress, part: Part) -> Patch
     requires { IsTrue (fits (Patch.Exchange address part) description.old.items) }
     ensures changed { description.new.items ≡ patched (Patch.Exchange address part) description.old.items }
     ensures inverse { inverse (Patch.Exchange address part) description.old.items ≡ result ∷ [] }
