@@ -153,10 +153,10 @@ fn target_of(item: Item) -> Option<Part>
 fn address_of(alloc: Global, before: &[Patch], at: &Address) -> Result<PatchAddress, AllocError>
     ensures { IfOk result (λ address. address ≡ at.now) }
 {
-    if at.is_empty() {
-        return PatchAddress::new(alloc, at);
+    match at.as_slice() {
+        [] => PatchAddress::new(alloc, at),
+        _ => address_behind(alloc, before, &at.holder(), at.number()),
     }
-    address_behind(alloc, before, &at.holder(), at.number())
 }
 
 fn exchange(at: PatchAddress, part: Option<Part>) -> Option<Patch>
