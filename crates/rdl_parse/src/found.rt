@@ -31,6 +31,7 @@ impl Found {
     }
 
     /// Forgets what was found, and keeps the room for it.
+    #[inline(always)]
     pub fn clear(&mut self)
         ensures { seen self.new ≡ nothing }
     {
@@ -38,6 +39,7 @@ impl Found {
         self.spots.clear();
     }
 
+    #[inline(always)]
     pub fn push(&mut self, item: Item, left: usize, inner: &[Spot]) -> Result<(), AllocError>
         ensures { OnOk result (seen self.new ≡ joined (seen self.old) (single item left inner.now)) }
     {
@@ -54,6 +56,7 @@ impl Found {
 
     /// Where nothing was found before, the room of the others is taken over. Most statements have one item, and an item is
     /// large: so the others get room for one.
+    #[inline(always)]
     pub fn append(&mut self, other: &mut Found) -> Result<(), AllocError>
         ensures { OnOk result (seen self.new ≡ joined (seen self.old) (seen other.old)) }
     {

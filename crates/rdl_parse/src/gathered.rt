@@ -19,6 +19,7 @@ pub struct Gathered {
     pub(crate) room: Room,
 }
 
+#[inline(always)]
 fn weigh(items: &[Item]) -> u64
     ensures { result ≡ capped (weight_of items.now) }
 {
@@ -30,6 +31,7 @@ fn weigh(items: &[Item]) -> u64
 }
 
 /// The weight that an instance would have.
+#[inline(always)]
 fn instance_weight(shell: &Shell, of: &Of) -> u64
     ensures { result ≡ capped (item_weight (Item.Instance shell.now of.now)) }
 {
@@ -59,6 +61,7 @@ fn copy_for_next(alloc: Global, again: bool, of: &Of) -> Result<Option<Of>, Allo
 
 impl Gathered {
     /// The items, if there is room for them.
+    #[inline(always)]
     pub(crate) fn new(room: Room, found: Found) -> Option<Gathered>
         ensures { option_map finished result ≡ held room (seen found) }
     {

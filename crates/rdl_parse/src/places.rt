@@ -36,8 +36,8 @@ impl<'a> Model for Places<'a> {
 pub(crate) fn start_of(words: &Tokens<'_>, left: usize) -> usize
     ensures { result ≡ spec.start_of words.now left }
 {
-    match words.get(words.len().saturating_sub(left)) {
-        Some(word) => word.start(),
+    match words.start(words.len().saturating_sub(left)) {
+        Some(start) => start,
         None => 0,
     }
 }

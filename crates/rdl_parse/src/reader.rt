@@ -25,6 +25,7 @@ pub(crate) struct Reader<'a> {
 }
 
 /// Words that don't go on as they must.
+#[inline(always)]
 #[tactic(auto, using(crate::proofs::Words::length_symbols))]
 pub(crate) fn wrong(words: &Words<'_>) -> Stop
     ensures { result ≡ Stop.Fault (spec.fault_at (symbols words.now)) }
@@ -46,6 +47,7 @@ impl<'a> Reader<'a> {
     }
 
     /// No items yet, of a statement.
+    #[inline(always)]
     pub(crate) fn no_items(&mut self, alloc: Global) -> Found
         ensures found { seen result ≡ nothing }
         ensures rest { self.new.rest ≡ self.old.rest }
@@ -55,6 +57,7 @@ impl<'a> Reader<'a> {
         found
     }
 
+    #[inline(always)]
     #[tactic(auto, using(crate::proofs::Words::begins_first))]
     pub(crate) fn begins(&self, mark: Mark) -> bool
         ensures { result ≡ spec.begins mark (symbols self.now.rest) }
@@ -65,6 +68,7 @@ impl<'a> Reader<'a> {
         }
     }
 
+    #[inline(always)]
     #[tactic(auto, using(crate::proofs::Words::mark_met, crate::proofs::Words::mark_missed))]
     pub(crate) fn mark(&mut self, mark: Mark) -> Result<(), Stop>
         ensures { Gives (λ _. symbols self.new.rest) result (spec.mark_at mark (symbols self.old.rest)) }

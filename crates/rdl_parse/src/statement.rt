@@ -22,6 +22,7 @@ use std::alloc::Global;
 
 impl<'a> Reader<'a> {
     /// The `;` behind these items.
+    #[inline(always)]
     #[tactic(auto, unfolding(crate::specs::Gathering::ended_at), using(crate::proofs::Words::length_symbols))]
     fn end_statement(&mut self, kept: Option<Gathered>) -> Result<Gathered, Stop>
         ensures { Gives (λ g. (finished g, symbols self.new.rest)) result (ended_at (option_map finished kept) (symbols self.old.rest)) }
@@ -33,6 +34,7 @@ impl<'a> Reader<'a> {
         }
     }
 
+    #[inline(always)]
     #[tactic(auto, using(crate::proofs::Gathering::finish_ended))]
     pub(crate) fn finish(&mut self, room: Room, found: Found) -> Result<Gathered, Stop>
         ensures { Gives (λ g. (finished g, symbols self.new.rest)) result (spec.finish_at room (seen found) (symbols self.old.rest)) }
@@ -41,6 +43,7 @@ impl<'a> Reader<'a> {
     }
 
     /// A statement of one item, which has nothing inside it.
+    #[inline(always)]
     fn finish_item(
         &mut self,
         alloc: Global,

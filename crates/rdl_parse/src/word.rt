@@ -12,7 +12,7 @@ ghost use Rattle.rdl_parse.specs.declared.fault.Stop.{Stop};
 
 use crate::class::{Class, ReservedProperty};
 use crate::fault::Stop;
-use rdl_text::name::{Name, NameFault};
+use rdl_text::name::Name;
 use rdl_text::token::{Mark, Number, Token, TokenKind};
 use rdl_tree::shell::Outside;
 use rdl_tree::value::{Value, Word};
@@ -30,6 +30,7 @@ pub fn is_mark(word: &Token<'_>, mark: Mark) -> bool
 }
 
 /// The number that a word is.
+#[inline(always)]
 #[tactic(auto, using(crate::proofs::Words::identifier_no_number))]
 pub fn number_of(word: &Token<'_>) -> Option<Number>
     ensures { result ≡ spec.number_by (symbol word.now) }
@@ -41,6 +42,7 @@ pub fn number_of(word: &Token<'_>) -> Option<Number>
 }
 
 /// The identifier, none of the reserved words, that a word is.
+#[inline(always)]
 pub fn name_of<'a>(word: &Token<'a>) -> Option<&'a str>
     ensures value { option_copied result ≡ spec.name_by (symbol word.now) }
     ensures is_name { IfSome result (λ name. IsName name.now) }
@@ -56,6 +58,7 @@ pub fn name_of<'a>(word: &Token<'a>) -> Option<&'a str>
 }
 
 /// What `external` and `internal` say.
+#[inline(always)]
 pub(crate) fn outside_of(word: &Token<'_>) -> Option<Outside>
     ensures { result ≡ outside_by (symbol word.now) }
 {
@@ -69,6 +72,7 @@ pub(crate) fn outside_of(word: &Token<'_>) -> Option<Outside>
 }
 
 /// The name of the property that a word is.
+#[inline(always)]
 pub(crate) fn prop_of<'a>(word: &Token<'a>) -> Option<&'a str>
     ensures value { option_copied result ≡ spec.prop_by (symbol word.now) }
     ensures is_name { IfSome result (λ name. IsName name.now) }
@@ -98,11 +102,7 @@ pub(crate) fn new_name(alloc: Global, text: &str) -> Result<Name, Stop>
     ensures ok { IfOk result (λ name. name ≡ text.now) }
     ensures memory { IfErr result (λ stop. stop ≡ Stop.Memory) }
 {
-    match Name::new(alloc, text) {
-        Ok(name) => Ok(name),
-        Err(NameFault::Memory) => Err(Stop::Memory),
-        Err(NameFault::NotSuch) => unreachable!(),
-    }
+    Ok(Name::of_name(alloc, text)?)
 }
 
 fn name_value(name: &str) -> Option<Word>
@@ -162,6 +162,7 @@ fn identifier_value(identifier: &str) -> Option<Value>
 }
 
 /// The value that a word is.
+#[inline(always)]
 pub fn value_of(alloc: Global, word: &Token<'_>) -> Result<Option<Value>, Stop>
     ensures ok { IfOk result (λ value. value ≡ spec.value_by (symbol word.now)) }
     ensures memory { IfErr result (λ stop. stop ≡ Stop.Memory) }

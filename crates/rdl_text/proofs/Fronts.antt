@@ -8,7 +8,7 @@ use Rattle.rdl_text.specs.Front.{span_of, front_span}
 use Rattle.rdl_text.specs.Name.{is_letter, is_rest}
 use Rattle.rdl_text.specs.Piece.{Candidate}
 use Rattle.rdl_text.specs.Rows.{byte, run, identifier_len, closing, quoted_len, string_len, short_mark, long_mark}
-use Rattle.rdl_text.specs.Words.{candidate, identifier, decimal, hexadecimal, verilog, string, marked, mark, longer, longest, judged, word_piece}
+use Rattle.rdl_text.specs.Words.{candidate, identifier, decimal, hexadecimal, verilog, string, marked, mark, longer, judged, word_piece}
 use Rattle.rdl_text.specs.declared.fault.WordFault.{WordFault}
 use Rattle.rdl_text.specs.declared.fault.WordFault.TheVariants.{UnendedString, BadCharacter, IdentifierTooLong}
 use Rattle.rdl_text.specs.declared.piece.Span.{Span}
@@ -24,10 +24,10 @@ spanned s o = span_of (word_piece (byte s 0) o)
 
 -- ---- Identifiers.
 
-abbrev name_kind : ℕ → Result TokenKind WordFault
+abbrev pub name_kind : ℕ → Result TokenKind WordFault
 name_kind n = cond (nat_lt 255 n) (Err IdentifierTooLong) (Ok kinds.Identifier)
 
-identifier_is : (s : List ℕ) → is_letter (byte s 0) ≡ true → identifier s ≡ Some (record { len = 1 + run is_rest 1 s; kind = name_kind (1 + run is_rest 1 s) })
+pub identifier_is : (s : List ℕ) → is_letter (byte s 0) ≡ true → identifier s ≡ Some (record { len = 1 + run is_rest 1 s; kind = name_kind (1 + run is_rest 1 s) })
 unfolding identifier identifier_len
 identifier_is s h = rw h (candidate_some (1 + run is_rest 1 s) (name_kind (1 + run is_rest 1 s)) (omega arith))
 

@@ -3,20 +3,20 @@ use Rattle.std.proofs.Common.{◌≡◌, ℕ, ◌+◌, ◌-◌, ◌^◌, Bool, t
 use Rattle.std.proofs.lemmas.Bool.{eqb-true}
 use Rattle.std.proofs.lemmas.List.{map-append, get_or-drop}
 use Rattle.std.proofs.lemmas.List.Elements.{All-append, All-cons, All-nil}
-use Rattle.std.proofs.lemmas.Option.{none-some, same_Some}
+use Rattle.std.proofs.lemmas.Option.{none-some, same_Some, slice_get-map}
 use Rattle.std.specs.Char.{is_digit}
 use Rattle.std.specs.List.{All}
 use Rattle.std.specs.Option.{option_map}
-use Rattle.std.specs.Prelude.{nat_eq, nat_lt, slice_index, slice_range}
+use Rattle.std.specs.Prelude.{nat_eq, nat_lt, slice_get, slice_index, slice_range}
 use Rattle.std.specs.Str.{IsCharBoundary}
 use Rattle.rdl_text.specs.Front.{judged_front, kind_in}
-use Rattle.rdl_text.specs.Name.{is_letter}
+use Rattle.rdl_text.specs.Name.{is_letter, is_rest}
 use Rattle.rdl_text.specs.Number.{number_bits, value}
 use Rattle.rdl_text.specs.Rows.{byte, run, identifier_len, decimal_len, hexadecimal_len, width_len, verilog_base, verilog_len, string_len, short_mark, long_mark}
 use Rattle.rdl_text.specs.Spelling.{IsSpelled}
 use Rattle.rdl_text.specs.Standing.{word_of, word_at, Stands, kind_mark}
 use Rattle.rdl_text.specs.Word.{Word, word}
-use Rattle.rdl_text.specs.Words.{candidate, identifier, decimal, hexadecimal, verilog, string, marked, mark, longer, longest, number, sized, judged, word_piece, piece, enclosed, is_blank, is_in_line, comment_end}
+use Rattle.rdl_text.specs.Words.{candidate, identifier, decimal, hexadecimal, verilog, string, marked, mark, longer, longest, number, sized, judged, word_piece, piece, is_blank, is_in_line, comment_end}
 use Rattle.rdl_text.specs.declared.fault.WordFault.{WordFault}
 use Rattle.rdl_text.specs.declared.fault.WordFault.TheVariants.{UnendedString, BadCharacter, NumberTooLarge, WidthOutOfRange, ValueTooWide, IdentifierTooLong}
 use Rattle.rdl_text.specs.Piece.{Candidate}
@@ -28,6 +28,7 @@ use Rattle.rdl_text.specs.declared.token.TokenKind.{TokenKind}
 use Rattle.rdl_text.specs.declared.token.TokenKind.TheVariants as kinds
 use Rattle.rdl_text.proofs.Cutting.{tail, next}
 use Rattle.rdl_text.proofs.Ends.{chosen}
+use Rattle.rdl_text.proofs.Fronts.{name_kind, identifier_is}
 use Rattle.rdl_text.proofs.Longest.{longest_letter, longest_digit, longest_quote, longest_other, letter_no_mark, digit_no_mark, quote_no_mark}
 use Rattle.rdl_text.proofs.Spellings.{piece_fits, enclosed_gap, gap_word}
 
@@ -241,3 +242,43 @@ pub cut_there : (text b : List ℕ) (start : ℕ) (front : Front) (kind : TokenK
 cut_there text b start front kind u e h f g =
     let is = front_is text b start front (ok kind) e h f g in
     subst (λ (n : ℕ). IsCut text start kind n) (sym is.0) (subst (λ (k : TokenKind). IsCut text start k h.len) (sym (kind_ok kind h.kind is.1)) (is_cut text start u h))
+
+-- ---- A word that begins with a letter is an identifier.
+
+named : (n : ℕ) (kind : TokenKind) → name_kind n ≡ Ok kind → kind ≡ kinds.Identifier
+named n kind e = by-length (nat_lt 255 n) e
+  where
+    by-length : (b : Bool) → cond b (Err IdentifierTooLong) (Ok kinds.Identifier) ≡ ok kind → kind ≡ kinds.Identifier
+    by-length true f = cc
+    by-length false f = cc
+
+pub letter_cut : (text b : List ℕ) (start len : ℕ) → IsUtf8 text → b ≡ text → Stands text start → is_letter (slice_index text start) ≡ true
+    → len ≡ 1 + run is_rest 1 (take (length b - start) (drop start b)) → IsCut text start kinds.Identifier len
+letter_cut text b start len u e h f g =
+    let s = drop start text in
+    let one : byte s 0 ≡ slice_index text start = get_or-drop start text 0 0 ∙ ap (λ (k : ℕ). slice_index text k) (omega arith) in
+    let letter : is_letter (byte s 0) ≡ true = ap is_letter one ∙ f in
+    let n = 1 + run is_rest 1 s in
+    let long : len ≡ n = g ∙ ap (λ (x : List ℕ). 1 + run is_rest 1 x) (tail b text start e) in
+    let same = same_Some (record { len = n; kind = name_kind n }) (found h.kind h.len) (sym (identifier_is s letter) ∙ (longest_letter s letter ∙ longest_found s h.kind h.len h.found)) in
+    let lens : len ≡ h.len = long ∙ ap (λ (x : Candidate). x.len) same in
+    let kind : h.kind ≡ kinds.Identifier = named n h.kind (ap (λ (x : Candidate). x.kind) same) in
+    subst (λ (m : ℕ). IsCut text start kinds.Identifier m) (sym lens) (subst (λ (k : TokenKind). IsCut text start k h.len) kind (is_cut text start u h))
+
+-- ---- Where a word that is kept begins.
+
+word_start : (text : List ℕ) (at : ℕ) → (word_at text at).start ≡ at
+unfolding word_at
+word_start text at = by-piece (piece (drop at text))
+  where
+    by-piece : (found : Result Piece WordFault) → (word_of at (drop at text) found).start ≡ at
+    by-piece (Ok (pieces.Word kind len)) = refl
+    by-piece (Ok (pieces.Gap len)) = refl
+    by-piece (Err fault) = refl
+
+pub start_kept : (text starts : List ℕ) (i : ℕ) → option_map (λ (w : Word). w.start) (slice_get (map (word_at text) starts) i) ≡ slice_get starts i
+start_kept text starts i = ap (option_map (λ (w : Word). w.start)) (slice_get-map (word_at text) starts i) ∙ one (slice_get starts i)
+  where
+    one : (at : Option ℕ) → option_map (λ (w : Word). w.start) (option_map (word_at text) at) ≡ at
+    one (Some at) = ap Some (word_start text at)
+    one None = refl

@@ -16,7 +16,7 @@ use crate::list::Tokens;
 use crate::name::{Name, is_letter};
 use crate::piece::Span;
 use crate::rows::{closing, kind_of, long_mark, longest, longest_number, short_mark};
-use crate::token::{Mark, Token};
+use crate::token::{Mark, Token, TokenKind};
 use memchr::memchr;
 use std::alloc::Global;
 
@@ -155,8 +155,32 @@ fn span_at(bytes: &[u8]) -> Result<Span, WordFault>
     }
 }
 
-/// The word that stands at a place.
+/// The identifier that stands at a place.
+#[inline(always)]
+fn identifier_at<'a>(text: &'a str, start: usize) -> Token<'a>
+    requires stands { Stands text.now start }
+    requires letter { is_letter (slice_index text.now start) ≡ true }
+    ensures { result ≡ word_at text.now start }
+{
+    let len = 1 + run_len(&text.as_bytes()[start..], 1, Class::IdentifierRest);
+    Token::new(TokenKind::Identifier, &text[start..start + len], start)
+}
+
+/// The word that stands at a place, which most often is an identifier.
+#[inline(always)]
 pub(crate) fn token_at<'a>(text: &'a str, start: usize) -> Token<'a>
+    requires { Stands text.now start }
+    ensures { result ≡ word_at text.now start }
+{
+    if is_letter(byte_at(text.as_bytes(), start)) {
+        identifier_at(text, start)
+    } else {
+        longest_at(text, start)
+    }
+}
+
+/// The word that stands at a place, looked for among all of them.
+fn longest_at<'a>(text: &'a str, start: usize) -> Token<'a>
     requires { Stands text.now start }
     ensures { result ≡ word_at text.now start }
 {
@@ -171,6 +195,7 @@ pub(crate) fn token_at<'a>(text: &'a str, start: usize) -> Token<'a>
 }
 
 /// The mark that the word is that stands at a place.
+#[inline(always)]
 pub(crate) fn mark_at(text: &str, start: usize) -> Option<Mark>
     requires { Stands text.now start }
     ensures { result ≡ kind_mark (word_at text.now start).kind }

@@ -1,6 +1,7 @@
 //! The words of a text, in order.
 ghost use Rattle.std.specs.Prelude.{◌≡◌, ◌∷◌, ◌<◌, ◌^◌, [], length, nat_eq, slice_get, drop, map, MatchOption, IfOk};
 ghost use Rattle.std.specs.List.{All};
+ghost use Rattle.std.specs.Option.{option_map};
 ghost use Rattle.rdl_text.specs.Standing.{Stands, word_at, first_mark};
 
 use crate::cut::{mark_at, token_at};
@@ -39,6 +40,7 @@ impl<'a> Tokens<'a> {
         Tokens { text, starts }
     }
 
+    #[inline(always)]
     pub fn len(&self) -> usize
         ensures { result ≡ length self.now }
     {
@@ -51,6 +53,7 @@ impl<'a> Tokens<'a> {
         self.starts.len() == 0
     }
 
+    #[inline(always)]
     pub fn get(&self, index: usize) -> Option<Token<'a>>
         ensures { result ≡ slice_get self.now index }
     {
@@ -58,6 +61,18 @@ impl<'a> Tokens<'a> {
             Some(token_at(self.text, self.starts[index] as usize))
         } else {
             None
+        }
+    }
+
+    /// The byte at which one of them begins.
+    #[inline]
+    #[tactic(auto, using(crate::proofs::Standing::start_kept))]
+    pub fn start(&self, index: usize) -> Option<usize>
+        ensures { result ≡ option_map (λ w. w.start) (slice_get self.now index) }
+    {
+        match self.starts.as_slice().get(index) {
+            Some(start) => Some(*start as usize),
+            None => None,
         }
     }
 
@@ -105,6 +120,7 @@ impl<'a> Model for Words<'a> {
 }
 
 impl<'a> Words<'a> {
+    #[inline(always)]
     pub fn len(&self) -> usize
         ensures len { result ≡ length self.now }
         ensures small { result < 2 ^ 61 }
@@ -113,6 +129,7 @@ impl<'a> Words<'a> {
     }
 
     /// The mark that the first of them is.
+    #[inline(always)]
     pub fn mark(&self) -> Option<Mark>
         ensures { result ≡ first_mark self.now }
     {
@@ -123,6 +140,7 @@ impl<'a> Words<'a> {
     }
 
     /// Those behind the first of them.
+    #[inline(always)]
     pub fn others(&self) -> Words<'a>
         ensures { result ≡ drop 1 self.now }
     {
@@ -139,6 +157,7 @@ impl<'a> Words<'a> {
     }
 
     /// The first of them, and those behind it.
+    #[inline(always)]
     pub fn split_first(&self) -> Option<(Token<'a>, Words<'a>)>
         ensures { MatchOption result (self.now ≡ []) (λ p. self.now ≡ p.0 ∷ p.1) }
     {

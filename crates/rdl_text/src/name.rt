@@ -145,6 +145,15 @@ impl Name {
         Ok(Name { text })
     }
 
+    /// A text that is known to be a name.
+    pub fn of_name(alloc: Global, text: &str) -> Result<Name, AllocError>
+        requires { IsName text.now }
+        ensures { IfOk result (λ n. n ≡ text.now) }
+    {
+        let text = Text::new(alloc, text)?;
+        Ok(Name { text })
+    }
+
     /// What each name is. It does nothing when it runs.
     pub fn is_name(&self)
         ensures { IsName self.now }

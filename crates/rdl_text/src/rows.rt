@@ -13,7 +13,7 @@ use crate::piece::{Front, Row};
 use crate::token::{Mark, TokenKind};
 use memchr::memchr2;
 
-#[inline]
+#[inline(always)]
 #[tactic(auto, using(crate::proofs::Steps::row_lemmas), unfolding(crate::specs::Words::identifier, crate::specs::Rows::identifier_len))]
 fn identifier(bytes: &[u8]) -> Option<Front>
     ensures word { option_map (judged_front bytes.now) result ≡ spec.identifier bytes.now }
@@ -28,7 +28,7 @@ fn identifier(bytes: &[u8]) -> Option<Front>
     })
 }
 
-#[inline]
+#[inline(always)]
 #[tactic(auto, using(crate::proofs::Steps::row_lemmas), unfolding(crate::specs::Words::decimal, crate::specs::Rows::decimal_len))]
 fn decimal(bytes: &[u8]) -> Option<Front>
     ensures word { option_map (judged_front bytes.now) result ≡ spec.decimal bytes.now }
@@ -43,7 +43,7 @@ fn decimal(bytes: &[u8]) -> Option<Front>
     })
 }
 
-#[inline]
+#[inline(always)]
 #[tactic(auto, using(crate::proofs::Steps::row_lemmas), unfolding(crate::specs::Words::hexadecimal, crate::specs::Rows::hexadecimal_len))]
 fn hexadecimal(bytes: &[u8]) -> Option<Front>
     ensures word { option_map (judged_front bytes.now) result ≡ spec.hexadecimal bytes.now }
@@ -62,7 +62,7 @@ fn hexadecimal(bytes: &[u8]) -> Option<Front>
     })
 }
 
-#[inline]
+#[inline(always)]
 #[tactic(auto, using(crate::proofs::Steps::row_lemmas), unfolding(crate::specs::Words::verilog, crate::specs::Rows::verilog_len))]
 fn verilog(bytes: &[u8]) -> Option<Front>
     ensures word { option_map (judged_front bytes.now) result ≡ spec.verilog bytes.now }
@@ -83,7 +83,7 @@ fn verilog(bytes: &[u8]) -> Option<Front>
 }
 
 /// The longer of two words that a text begins with.
-#[inline]
+#[inline(always)]
 fn longer(one: Option<Front>, other: Option<Front>) -> Option<Front>
     ensures word { (s : List ℕ) → option_map (judged_front s) result ≡ spec.longer (option_map (judged_front s) one) (option_map (judged_front s) other) }
     ensures inside { (s : List ℕ) → IfSome one (IsInside s) → IfSome other (IsInside s) → IfSome result (IsInside s) }
@@ -121,7 +121,7 @@ pub(crate) fn closing(bytes: &[u8]) -> Option<usize>
     None
 }
 
-#[inline]
+#[inline(always)]
 #[tactic(auto, using(crate::proofs::Steps::row_lemmas), unfolding(crate::specs::Words::string, crate::specs::Rows::string_len))]
 fn string(bytes: &[u8]) -> Option<Front>
     ensures word { option_map (judged_front bytes.now) result ≡ spec.string bytes.now }
@@ -137,7 +137,7 @@ fn string(bytes: &[u8]) -> Option<Front>
     })
 }
 
-#[inline]
+#[inline(always)]
 pub(crate) fn short_mark(byte: u8) -> Option<Mark>
     ensures { result ≡ short_mark byte }
 {
@@ -156,7 +156,7 @@ pub(crate) fn short_mark(byte: u8) -> Option<Mark>
     }
 }
 
-#[inline]
+#[inline(always)]
 pub(crate) fn long_mark(first: u8, second: u8) -> Option<Mark>
     ensures { result ≡ long_mark first second }
 {
@@ -168,7 +168,7 @@ pub(crate) fn long_mark(first: u8, second: u8) -> Option<Mark>
     }
 }
 
-#[inline]
+#[inline(always)]
 #[tactic(auto, using(crate::proofs::Steps::row_lemmas), unfolding(crate::specs::Words::mark))]
 fn mark(bytes: &[u8]) -> Option<Front>
     ensures word { option_map (judged_front bytes.now) result ≡ spec.mark bytes.now }
@@ -191,7 +191,7 @@ fn mark(bytes: &[u8]) -> Option<Front>
 }
 
 /// The longest word that a text begins with.
-#[inline]
+#[inline(always)]
 pub(crate) fn longest(bytes: &[u8]) -> Option<Front>
     ensures word { option_map (judged_front bytes.now) result ≡ spec.longest bytes.now }
     ensures inside { IfSome result (IsInside bytes.now) }
@@ -222,7 +222,7 @@ fn verilog_kind(bytes: &[u8], len: usize) -> Result<TokenKind, WordFault>
 }
 
 /// What a word is that a text begins with, or why it is refused.
-#[inline]
+#[inline(always)]
 pub(crate) fn kind_of(bytes: &[u8], front: Front) -> Result<TokenKind, WordFault>
     requires { IsInside bytes.now front }
     ensures { result ≡ kind_in front.row bytes.now front.len }

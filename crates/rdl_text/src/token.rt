@@ -59,6 +59,7 @@ impl<'a> Model for Token<'a> {
 }
 
 impl<'a> Token<'a> {
+    #[inline(always)]
     pub(crate) fn new(kind: TokenKind, source: &'a str, start: usize) -> Token<'a>
         requires { IsSpelled kind source.now }
         ensures { result ≡ word kind start source.now }
@@ -70,18 +71,21 @@ impl<'a> Token<'a> {
         }
     }
 
+    #[inline(always)]
     pub fn kind(&self) -> TokenKind
         ensures { result ≡ self.now.kind }
     {
         self.kind
     }
 
+    #[inline(always)]
     pub fn source(&self) -> &'a str
         ensures { result.now ≡ self.now.source }
     {
         self.source
     }
 
+    #[inline(always)]
     pub fn start(&self) -> usize
         ensures { result ≡ self.now.start }
     {
@@ -89,6 +93,7 @@ impl<'a> Token<'a> {
     }
 
     /// How each word of its kind is spelled. It does nothing when it runs.
+    #[inline(always)]
     pub fn is_spelled(&self)
         ensures { IsSpelled self.now.kind self.now.source }
     {

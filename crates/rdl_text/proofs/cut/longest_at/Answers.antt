@@ -3,7 +3,7 @@ use Rattle.std.proofs.Common.{◌≡◌, ℕ, ◌+◌, ◌-◌, List, take, drop
 use Rattle.rdl_text.specs.Spelling.{IsSpelled}
 use Rattle.rdl_text.specs.Word.{word}
 use Rattle.rdl_text.proofs.Standing.{front_is, none_stands, cut_there}
-use Rattle.rdl_text.proofs.cut.token_at.Goals as goal
+use Rattle.rdl_text.proofs.cut.longest_at.Goals as goal
 
 pub range-requires-clause-end_boundary : goal.range-requires-clause-end_boundary
 range-requires-clause-end_boundary c =
