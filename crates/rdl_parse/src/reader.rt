@@ -81,6 +81,7 @@ impl<'a> Reader<'a> {
         }
     }
 
+    #[inline(always)]
     #[tactic(auto, unfolding(crate::specs::Reading::by))]
     pub(crate) fn number(&mut self) -> Result<Number, Stop>
         ensures { Gives (λ n. (n, symbols self.new.rest)) result (spec.number_at (symbols self.old.rest)) }
@@ -97,6 +98,7 @@ impl<'a> Reader<'a> {
         }
     }
 
+    #[inline(always)]
     #[tactic(auto, unfolding(crate::specs::Reading::by))]
     pub(crate) fn name(&mut self, alloc: Global) -> Result<Name, Stop>
         ensures { Gives (λ n. (n, symbols self.new.rest)) result (spec.name_at (symbols self.old.rest)) }
@@ -114,6 +116,7 @@ impl<'a> Reader<'a> {
     }
 
     /// The name of a property.
+    #[inline(always)]
     #[tactic(auto, unfolding(crate::specs::Reading::by))]
     pub(crate) fn prop(&mut self, alloc: Global) -> Result<Name, Stop>
         ensures { Gives (λ n. (n, symbols self.new.rest)) result (spec.prop_at (symbols self.old.rest)) }
@@ -130,6 +133,7 @@ impl<'a> Reader<'a> {
         }
     }
 
+    #[inline(always)]
     #[tactic(auto, unfolding(crate::specs::Reading::by))]
     fn given(&mut self, alloc: Global) -> Result<Value, Stop>
         ensures { Gives (λ v. (v, symbols self.new.rest)) result (spec.by spec.value_by (symbols self.old.rest)) }
@@ -147,6 +151,7 @@ impl<'a> Reader<'a> {
     }
 
     /// What an assignment gives: the value behind `=`, or `true` where none stands.
+    #[inline(always)]
     #[tactic(auto, unfolding(crate::specs::Reading::value_at))]
     pub(crate) fn value(&mut self, alloc: Global) -> Result<Value, Stop>
         ensures { Gives (λ v. (v, symbols self.new.rest)) result (spec.value_at (symbols self.old.rest)) }

@@ -109,6 +109,7 @@ impl<'a> Reader<'a> {
     }
 
     /// What stands behind the property of an assignment to the component itself.
+    #[inline(always)]
     #[tactic(auto, unfolding(crate::specs::Reading::own_at))]
     pub(crate) fn own(
         &mut self,
@@ -124,6 +125,7 @@ impl<'a> Reader<'a> {
     }
 
     /// What stands behind `default`.
+    #[inline(always)]
     #[tactic(auto, unfolding(crate::specs::Reading::default_at))]
     pub(crate) fn default(
         &mut self,
@@ -139,6 +141,7 @@ impl<'a> Reader<'a> {
     }
 
     /// One more `.NAME`.
+    #[inline(always)]
     #[tactic(auto, unfolding(crate::specs::Reading::dot_at))]
     fn dot(&mut self, alloc: Global, names: &mut Vec<Name>) -> Result<(), Stop>
         ensures { Gives (λ _. (names.new.items, symbols self.new.rest)) result (spec.dot_at names.old.items (symbols self.old.rest)) }
@@ -149,6 +152,7 @@ impl<'a> Reader<'a> {
         Ok(())
     }
 
+    #[inline(always)]
     fn dots(&mut self, alloc: Global, names: &mut Vec<Name>) -> Result<(), Stop>
         ensures { Gives (λ _. (names.new.items, symbols self.new.rest)) result (spec.dots_at names.old.items (symbols self.old.rest)) }
     {
@@ -159,6 +163,7 @@ impl<'a> Reader<'a> {
     }
 
     /// What stands behind the first name of a target.
+    #[inline(always)]
     #[tactic(auto, unfolding(crate::specs::Reading::dynamic_at))]
     fn dynamic(
         &mut self,

@@ -97,6 +97,7 @@ pub(crate) fn property_name(property: ReservedProperty) -> &'static str
 }
 
 /// The name that is spelled so.
+#[inline(always)]
 pub(crate) fn new_name(alloc: Global, text: &str) -> Result<Name, Stop>
     requires { IsName text.now }
     ensures ok { IfOk result (λ name. name ≡ text.now) }
@@ -137,6 +138,7 @@ fn word_value(word: Word) -> Option<Word>
 }
 
 /// The string that a word is.
+#[inline(always)]
 fn text_value(alloc: Global, word: &Token<'_>) -> Result<Value, Stop>
     requires { word.now.kind ≡ TokenKind.Text }
     ensures ok { IfOk result (λ value. value ≡ Value.Text (inside word.now.source)) }
@@ -149,6 +151,7 @@ fn text_value(alloc: Global, word: &Token<'_>) -> Result<Value, Stop>
 }
 
 /// The value that an identifier is.
+#[inline(always)]
 fn identifier_value(identifier: &str) -> Option<Value>
     ensures { result ≡ spec.value_by (class_symbol (class identifier.now) identifier.now) }
 {

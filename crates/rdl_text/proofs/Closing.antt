@@ -87,3 +87,9 @@ past_backslash s i h e f told =
     let here : closing false (drop i s) ≡ further 1 (closing true (drop (i + 1) s)) = at_drop_more (closing false) s i 0 h ∙ rw (e, f) refl in
     ap (λ (k : ℕ). further k (closing false (drop k s))) next
     ∙ (taken (i + 1) s ∙ (sym (further-further i 1 (closing true (drop (i + 1) s))) ∙ (sym (ap (further i) here) ∙ told)))
+
+pub past_one : (s : List ℕ) (i : ℕ) → i < length s → nat_eq (get_or s i 0) 34 ≡ false → nat_eq (get_or s i 0) 92 ≡ false → further i (closing false (drop i s)) ≡ closing false s
+    → further (i + 1) (closing false (drop (i + 1) s)) ≡ closing false s
+past_one s i h e f told =
+    let here : closing false (drop i s) ≡ further 1 (closing false (drop (i + 1) s)) = at_drop_more (closing false) s i 0 h ∙ rw (e, f) refl in
+    sym (further-further i 1 (closing false (drop (i + 1) s))) ∙ (sym (ap (further i) here) ∙ told)

@@ -57,7 +57,7 @@ fn line_len(bytes: &[u8]) -> usize
 }
 
 /// The identifier that a text begins with, which begins with a letter.
-#[inline]
+#[inline(always)]
 #[tactic(auto, using(crate::proofs::Fronts::letter_span))]
 fn identifier_span(bytes: &[u8]) -> Result<Span, WordFault>
     requires { is_letter (slice_index bytes.now 0) ≡ true }
@@ -101,7 +101,7 @@ fn string_span(bytes: &[u8]) -> Result<Span, WordFault>
 }
 
 /// The mark that a text begins with, which begins with no letter, no digit and no quote.
-#[inline]
+#[inline(always)]
 #[tactic(auto, using(crate::proofs::Fronts::mark_span))]
 fn mark_span(bytes: &[u8]) -> Result<Span, WordFault>
     requires letter { is_letter (slice_index bytes.now 0) ≡ false }
@@ -120,7 +120,7 @@ fn mark_span(bytes: &[u8]) -> Result<Span, WordFault>
 }
 
 /// What a text begins with that begins with no blank and no comment.
-#[inline]
+#[inline(always)]
 fn word_span(bytes: &[u8]) -> Result<Span, WordFault>
     ensures { result ≡ front_span bytes.now }
 {
@@ -136,20 +136,30 @@ fn word_span(bytes: &[u8]) -> Result<Span, WordFault>
     }
 }
 
+/// What a text begins with that begins with a slash.
+#[tactic(auto, using(crate::proofs::Steps::row_lemmas), unfolding(crate::specs::Words::piece))]
+fn slash_span(bytes: &[u8]) -> Result<Span, WordFault>
+    requires { slice_index bytes.now 0 ≡ 47 }
+    ensures { result ≡ span_of (spec.piece bytes.now) }
+{
+    match byte_at(bytes, 1) {
+        b'/' => Ok(Span::Gap(2 + line_len(bytes))),
+        b'*' => block_comment(bytes),
+        _ => mark_span(bytes),
+    }
+}
+
 /// What a text that isn't empty begins with.
-#[inline]
+#[inline(always)]
 #[tactic(auto, using(crate::proofs::Steps::row_lemmas), unfolding(crate::specs::Words::piece))]
 fn span_at(bytes: &[u8]) -> Result<Span, WordFault>
     ensures { result ≡ span_of (spec.piece bytes.now) }
 {
     let first = byte_at(bytes, 0);
-    let second = byte_at(bytes, 1);
     if is_blank(first) {
         Ok(Span::Gap(run_len(bytes, 0, Class::Blank)))
-    } else if first == b'/' && second == b'/' {
-        Ok(Span::Gap(2 + line_len(bytes)))
-    } else if first == b'/' && second == b'*' {
-        block_comment(bytes)
+    } else if first == b'/' {
+        slash_span(bytes)
     } else {
         word_span(bytes)
     }

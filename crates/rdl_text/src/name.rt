@@ -146,6 +146,7 @@ impl Name {
     }
 
     /// A text that is known to be a name.
+    #[inline(always)]
     pub fn of_name(alloc: Global, text: &str) -> Result<Name, AllocError>
         requires { IsName text.now }
         ensures { IfOk result (λ n. n ≡ text.now) }

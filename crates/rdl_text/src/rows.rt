@@ -102,12 +102,22 @@ pub(crate) fn longest_number(bytes: &[u8]) -> Option<Front>
     longer(decimal(bytes), longer(hexadecimal(bytes), verilog(bytes)))
 }
 
+/// How many bytes of a string are looked at one by one, which for most strings takes less than a search does.
+const NEAR: usize = 32;
+
 /// How many bytes stand before the quote that closes a string.
 pub(crate) fn closing(bytes: &[u8]) -> Option<usize>
     ensures place { result ≡ closing false bytes.now }
     ensures within { IfSome result (λ n. n < length bytes.now) }
 {
     let mut at = 0;
+    'near: while at < bytes.len() && at < NEAR {
+        let byte = bytes[at];
+        if byte == b'"' {
+            return Some(at);
+        }
+        at += if byte == b'\\' { 2 } else { 1 };
+    }
     'scan: while at < bytes.len() {
         let Some(plain) = memchr2(b'"', b'\\', &bytes[at..]) else {
             return None;
