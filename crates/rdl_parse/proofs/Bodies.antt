@@ -4,7 +4,7 @@ use Rattle.rdl_text.specs.Word.{Word}
 use Rattle.rdl_text.specs.declared.token.Mark.TheVariants.{OpenBrace, CloseBrace}
 use Rattle.rdl_tree.specs.declared.shell.Kind.{Kind}
 use Rattle.rdl_tree.specs.declared.shell.Outside.{Outside}
-use Rattle.rdl_parse.specs.Gathering.{optional_name_at, definition_at, anonymous_at}
+use Rattle.rdl_parse.specs.Gathering.{behind, optional_name_at, definition_at, anonymous_at}
 use Rattle.rdl_parse.specs.Finds.{Finds, nothing, joined}
 use Rattle.rdl_parse.specs.Reading.{◌>>=◌, Fails, Inner, Finished, Block, block, mark_at, component_at, statement_at, goes_on, grown, following_one_at, following_at, statements_at, body_at}
 use Rattle.rdl_parse.specs.Symbol as symbol
@@ -40,25 +40,25 @@ component_by inner room front left k (mark x ∷ ws) = refl
 
 -- ---- Statements.
 
-follows : (levels : ℕ) (s : Finished) (ws : List Symbol) (r : Result (Finished × List Symbol) Fault) → statement_at (body_at levels) s.1 ws ≡ r → following_one_at (body_at levels) s ws ≡ (r >>= λ x. Ok (grown s x))
+follows : (levels : ℕ) (s : Finished) (ws : List Symbol) (r : Result (Finished × List Symbol) Fault) → behind s.0 (statement_at (body_at levels) s.1 ws) ≡ r → following_one_at (body_at levels) s ws ≡ r
 unfolding following_one_at
-follows levels s ws r h = ap (λ q. q >>= λ x. Ok (grown s x)) h
+follows levels s ws r h = h
 
-pub statement-smaller : (levels : ℕ) (room : Room) (ws vs : List Word) (x : Finished) → statement_at (body_at levels) room (symbols ws) ≡ Ok (x, symbols vs) → length vs < length ws
-statement-smaller levels room ws vs x e =
-    let s : Finished = (nothing, room) in
-    omega (arith, (one-shortens levels).shorter s (symbols ws) (grown s (x, symbols vs)) (follows levels s (symbols ws) (Ok (x, symbols vs)) e), length_symbols ws, length_symbols vs)
+pub statement-smaller : (levels : ℕ) (before : Finds) (room : Room) (ws vs : List Word) (x : Finished) → behind before (statement_at (body_at levels) room (symbols ws)) ≡ Ok (x, symbols vs) → length vs < length ws
+statement-smaller levels before room ws vs x e =
+    let s : Finished = (before, room) in
+    omega (arith, (one-shortens levels).shorter s (symbols ws) (x, symbols vs) (follows levels s (symbols ws) (Ok (x, symbols vs)) e), length_symbols ws, length_symbols vs)
 
 pub statements-fails : (e : Stop) (levels : ℕ) (before : Room) (ws0 : List Symbol) (s : Finished) (ws : List Symbol)
-    → goes_on ws ≡ true → Fails e (statement_at (body_at levels) s.1 ws) → following_at (body_at levels) s ws ≡ following_at (body_at levels) (nothing, before) ws0 → Fails e (statements_at (body_at levels) before ws0)
+    → goes_on ws ≡ true → Fails e (behind s.0 (statement_at (body_at levels) s.1 ws)) → following_at (body_at levels) s ws ≡ following_at (body_at levels) (nothing, before) ws0 → Fails e (statements_at (body_at levels) before ws0)
 unfolding statements_at
 statements-fails stops.Memory levels before ws0 s ws h f k = tt
 statements-fails (stops.Fault g) levels before ws0 s ws h f k =
     ap (λ r. r >>= λ x. Ok (x.0.0, x.1)) (sym k ∙ repeated-on (one-shortens levels) s ws (Err g) h (follows levels s ws (Err g) f))
 
 pub statements-next : (levels : ℕ) (total : Result (Finished × List Symbol) Fault) (s : Finished) (ws : List Symbol) (x : Finished) (vs : List Symbol)
-    → goes_on ws ≡ true → statement_at (body_at levels) s.1 ws ≡ Ok (x, vs) → following_at (body_at levels) s ws ≡ total → following_at (body_at levels) (joined s.0 x.0, x.1) vs ≡ total
-statements-next levels total s ws x vs h f k = sym (repeated-next (one-shortens levels) s ws (grown s (x, vs)) h (follows levels s ws (Ok (x, vs)) f)) ∙ k
+    → goes_on ws ≡ true → behind s.0 (statement_at (body_at levels) s.1 ws) ≡ Ok (x, vs) → following_at (body_at levels) s ws ≡ total → following_at (body_at levels) x vs ≡ total
+statements-next levels total s ws x vs h f k = sym (repeated-next (one-shortens levels) s ws (x, vs) h (follows levels s ws (Ok (x, vs)) f)) ∙ k
 
 pub statements-done : (levels : ℕ) (before : Room) (ws0 : List Symbol) (s : Finished) (ws : List Symbol)
     → goes_on ws ≡ false → following_at (body_at levels) s ws ≡ following_at (body_at levels) (nothing, before) ws0 → statements_at (body_at levels) before ws0 ≡ Ok (s.0, ws)

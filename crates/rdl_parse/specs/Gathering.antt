@@ -22,6 +22,10 @@ use Rattle.rdl_parse.specs.declared.room.Room.{Room}
 abbrev pub finished : Gathered → Finished
 finished g = (seen g.found, g.room)
 
+-- a finished statement, behind what was found before it
+abbrev pub behind : Finds → Result (Finished × List Symbol) Fault → Result (Finished × List Symbol) Fault
+behind before read = read >>= λ x. Ok ((joined before x.0.0, x.0.1), x.1)
+
 -- these, and the room that they leave, if they fit
 abbrev pub held : Room → Finds → Option Finished
 held room f = if fits room f then Some (f, less room f) else None

@@ -1,6 +1,6 @@
 //! Statements with a body, and bodies.
 ghost use Rattle.rdl_parse.specs.Finds.{seen};
-ghost use Rattle.rdl_parse.specs.Gathering.{finished, definition_at, anonymous_at};
+ghost use Rattle.rdl_parse.specs.Gathering.{behind, finished, definition_at, anonymous_at};
 ghost use Rattle.rdl_parse.specs.Reading as spec;
 ghost use Rattle.rdl_parse.specs.Reading.{Gives, body_at};
 ghost use Rattle.rdl_parse.specs.Symbol.{symbols};
@@ -121,8 +121,9 @@ impl<'a> Reader<'a> {
         alloc: Global,
         levels: u32,
         room: Room,
-    ) -> Result<Gathered, Stop>
-        ensures { Gives (λ g. (finished g, symbols self.new.rest)) result (spec.statement_at (body_at levels) room (symbols self.old.rest)) }
+        found: &mut Found,
+    ) -> Result<Room, Stop>
+        ensures { Gives (λ r. ((seen found.new, r), symbols self.new.rest)) result (behind (seen found.old) (spec.statement_at (body_at levels) room (symbols self.old.rest))) }
     {
         let left = self.rest.len();
         let Some((word, rest)) = self.rest.split_first() else {
@@ -135,25 +136,27 @@ impl<'a> Reader<'a> {
         match Class::of(word.source()) {
             Class::Kind(kind) => {
                 self.rest = rest;
-                self.component(alloc, levels, room, None, left, kind)
+                let gathered = self.component(alloc, levels, room, None, left, kind)?;
+                Ok(self.keep(gathered, found)?)
             }
             Class::Outside(outside) => {
                 self.rest = rest;
-                self.fronted(alloc, levels, room, left, outside)
+                let gathered = self.fronted(alloc, levels, room, left, outside)?;
+                Ok(self.keep(gathered, found)?)
             }
             Class::Default => {
                 self.rest = rest;
-                self.default(alloc, room, left)
+                self.default(alloc, room, left, found)
             }
             Class::Name => {
                 self.rest = rest;
                 let name = new_name(alloc, word.source())?;
-                self.named(alloc, room, left, name)
+                self.named(alloc, room, left, name, found)
             }
             Class::Property(property) => {
                 self.rest = rest;
                 let name = new_name(alloc, property_name(property))?;
-                self.own(alloc, room, left, name)
+                self.own(alloc, room, left, name, found)
             }
             Class::Truth(_) | Class::Word(_) | Class::Reserved => Err(wrong(&self.rest)),
         }
@@ -179,10 +182,7 @@ impl<'a> Reader<'a> {
         let mut room = before;
         let mut found = Found::new(alloc);
         'turns: while self.goes_on() {
-            let mut gathered = self.statement(alloc, levels, room)?;
-            found.append(&mut gathered.found)?;
-            self.spare = gathered.found;
-            room = gathered.room;
+            room = self.statement(alloc, levels, room, &mut found)?;
         }
         Ok(found)
     }

@@ -4,7 +4,7 @@ ghost use Rattle.rdl_parse.specs.Gathering.{finished, held, gather, next_of};
 ghost use Rattle.rdl_tree.specs.ItemWeight.{item_weight};
 ghost use Rattle.rdl_tree.specs.Weight.{capped};
 ghost use Rattle.rdl_tree.specs.declared.description.Item.{Item};
-ghost use Rattle.std.specs.Prelude.{◌≡◌, Some, option_map, IfOk, sum_by};
+ghost use Rattle.std.specs.Prelude.{◌≡◌, [], Some, option_map, IfOk, sum_by};
 
 use crate::found::{Found, Spot};
 use crate::room::Room;
@@ -57,6 +57,21 @@ fn copy_for_next(alloc: Global, again: bool, of: &Of) -> Result<Option<Of>, Allo
     } else {
         Ok(None)
     }
+}
+
+/// The room that one item leaves with nothing inside it, if there is room for it.
+#[inline(always)]
+pub(crate) fn room_behind(room: Room, item: &Item) -> Option<Room>
+    ensures { option_map (λ left. (single item.now 0 [], left)) result ≡ held room (single item.now 0 []) }
+{
+    let weight = item.weight();
+    if room.items == 0 || weight > u64::from(room.weight) {
+        return None;
+    }
+    Some(Room {
+        items: room.items - 1,
+        weight: room.weight - weight as u32,
+    })
 }
 
 impl Gathered {

@@ -67,6 +67,7 @@ impl<'a> Reader<'a> {
     }
 
     /// The number behind a mark, if the mark stands here.
+    #[inline(always)]
     #[tactic(auto, unfolding(crate::specs::Reading::part_at))]
     fn part(&mut self, mark: Mark) -> Result<Option<Number>, Stop>
         ensures { Gives (λ n. (n, symbols self.new.rest)) result (spec.part_at mark (symbols self.old.rest)) }

@@ -1,6 +1,6 @@
 //! Statements without a body of their own, and the ends of all.
-ghost use Rattle.rdl_parse.specs.Finds.{seen, single, nothing};
-ghost use Rattle.rdl_parse.specs.Gathering.{finished, gathered_at, next_of, ended_at, optional_name_at};
+ghost use Rattle.rdl_parse.specs.Finds.{seen, single, joined, nothing};
+ghost use Rattle.rdl_parse.specs.Gathering.{behind, finished, gathered_at, next_of, ended_at, optional_name_at};
 ghost use Rattle.rdl_parse.specs.Reading as spec;
 ghost use Rattle.rdl_parse.specs.Reading.{Gives, begins};
 ghost use Rattle.rdl_parse.specs.Symbol.{symbols};
@@ -9,7 +9,7 @@ ghost use Rattle.std.specs.Prelude.{◌≡◌, [], Ok, IfOk, option_map};
 
 use crate::fault::{Fault, Stop};
 use crate::found::{Found, Spot};
-use crate::gathered::{Gathered, next};
+use crate::gathered::{Gathered, next, room_behind};
 use crate::reader::Reader;
 use crate::room::Room;
 use crate::word::{name_of, new_name, outside_of};
@@ -18,7 +18,7 @@ use rdl_text::token::Mark;
 use rdl_tree::description::{Item, Of};
 use rdl_tree::shell::Outside;
 use rdl_tree::target::Target;
-use std::alloc::Global;
+use std::alloc::{AllocError, Global};
 
 impl<'a> Reader<'a> {
     /// The `;` behind these items.
@@ -42,20 +42,41 @@ impl<'a> Reader<'a> {
         self.end_statement(Gathered::new(room, found))
     }
 
-    /// A statement of one item, which has nothing inside it.
+    /// A statement of one item, which has nothing inside it, behind what was found before.
     #[inline(always)]
+    #[tactic(auto, unfolding(crate::specs::Gathering::ended_at), using(crate::proofs::Words::length_symbols, crate::proofs::Gathering::finish_ended))]
     fn finish_item(
         &mut self,
-        alloc: Global,
         room: Room,
         item: Item,
         left: usize,
-    ) -> Result<Gathered, Stop>
-        ensures { Gives (λ g. (finished g, symbols self.new.rest)) result (spec.finish_at room (single item left []) (symbols self.old.rest)) }
+        found: &mut Found,
+    ) -> Result<Room, Stop>
+        ensures { Gives (λ r. ((seen found.new, r), symbols self.new.rest)) result (behind (seen found.old) (spec.finish_at room (single item left []) (symbols self.old.rest))) }
     {
-        let mut found = self.no_items(alloc);
+        let kept = room_behind(room, &item);
         found.push(item, left, &[])?;
-        self.finish(room, found)
+        self.mark(Mark::Semicolon)?;
+        match kept {
+            Some(room) => Ok(room),
+            None => Err(Stop::Fault(Fault::TooLarge(self.rest.len() + 1))),
+        }
+    }
+
+    /// Puts the items of a statement behind what was found before, and answers the room that they leave.
+    #[inline(always)]
+    pub(crate) fn keep(&mut self, gathered: Gathered, found: &mut Found) -> Result<Room, AllocError>
+        ensures found { IfOk result (λ room. seen found.new ≡ joined (seen found.old) (seen gathered.found)) }
+        ensures room { IfOk result (λ room. room ≡ gathered.room) }
+        ensures rest { self.new.rest ≡ self.old.rest }
+    {
+        let Gathered {
+            found: mut items,
+            room,
+        } = gathered;
+        found.append(&mut items)?;
+        self.spare = items;
+        Ok(room)
     }
 
     /// One more instance behind these items, and what the next one is of, if a comma stands behind it.
@@ -117,11 +138,12 @@ impl<'a> Reader<'a> {
         room: Room,
         left: usize,
         property: Name,
-    ) -> Result<Gathered, Stop>
-        ensures { Gives (λ g. (finished g, symbols self.new.rest)) result (spec.own_at room left property (symbols self.old.rest)) }
+        found: &mut Found,
+    ) -> Result<Room, Stop>
+        ensures { Gives (λ r. ((seen found.new, r), symbols self.new.rest)) result (behind (seen found.old) (spec.own_at room left property (symbols self.old.rest))) }
     {
         let value = self.value(alloc)?;
-        self.finish_item(alloc, room, Item::Own(property, value), left)
+        self.finish_item(room, Item::Own(property, value), left, found)
     }
 
     /// What stands behind `default`.
@@ -132,12 +154,13 @@ impl<'a> Reader<'a> {
         alloc: Global,
         room: Room,
         left: usize,
-    ) -> Result<Gathered, Stop>
-        ensures { Gives (λ g. (finished g, symbols self.new.rest)) result (spec.default_at room left (symbols self.old.rest)) }
+        found: &mut Found,
+    ) -> Result<Room, Stop>
+        ensures { Gives (λ r. ((seen found.new, r), symbols self.new.rest)) result (behind (seen found.old) (spec.default_at room left (symbols self.old.rest))) }
     {
         let property = self.prop(alloc)?;
         let value = self.value(alloc)?;
-        self.finish_item(alloc, room, Item::Default(property, value), left)
+        self.finish_item(room, Item::Default(property, value), left, found)
     }
 
     /// One more `.NAME`.
@@ -171,8 +194,9 @@ impl<'a> Reader<'a> {
         room: Room,
         left: usize,
         first: Name,
-    ) -> Result<Gathered, Stop>
-        ensures { Gives (λ g. (finished g, symbols self.new.rest)) result (spec.dynamic_at room left first (symbols self.old.rest)) }
+        found: &mut Found,
+    ) -> Result<Room, Stop>
+        ensures { Gives (λ r. ((seen found.new, r), symbols self.new.rest)) result (behind (seen found.old) (spec.dynamic_at room left first (symbols self.old.rest))) }
     {
         let mut names = Vec::with_capacity(alloc, 2)?;
         names.push(first)?;
@@ -181,7 +205,7 @@ impl<'a> Reader<'a> {
         let property = self.prop(alloc)?;
         let value = self.value(alloc)?;
         let target = Target::from_vec(names);
-        self.finish_item(alloc, room, Item::Dynamic(target, property, value), left)
+        self.finish_item(room, Item::Dynamic(target, property, value), left, found)
     }
 
     /// What stands behind a name at the front of a statement.
@@ -192,17 +216,20 @@ impl<'a> Reader<'a> {
         room: Room,
         left: usize,
         name: Name,
-    ) -> Result<Gathered, Stop>
-        ensures { Gives (λ g. (finished g, symbols self.new.rest)) result (spec.named_at room left name (symbols self.old.rest)) }
+        found: &mut Found,
+    ) -> Result<Room, Stop>
+        ensures { Gives (λ r. ((seen found.new, r), symbols self.new.rest)) result (behind (seen found.old) (spec.named_at room left name (symbols self.old.rest))) }
     {
         if self.begins(Mark::Dot) || self.begins(Mark::Arrow) {
-            return self.dynamic(alloc, room, left, name);
+            return self.dynamic(alloc, room, left, name, found);
         }
         if self.begins(Mark::Equals) || self.begins(Mark::Semicolon) {
-            return self.own(alloc, room, left, name);
+            return self.own(alloc, room, left, name, found);
         }
-        let found = self.no_items(alloc);
-        self.insts(alloc, room, Outside::Unsaid, Of::Named(name), &[], found)
+        let items = self.no_items(alloc);
+        let gathered = self.insts(alloc, room, Outside::Unsaid, Of::Named(name), &[], items)?;
+        let room = self.keep(gathered, found)?;
+        Ok(room)
     }
 
     /// `external` or `internal` before the first instance, if none stands at the front.

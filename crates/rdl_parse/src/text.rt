@@ -48,7 +48,8 @@ pub(crate) fn items(alloc: Global, words: Words<'_>) -> Result<Vec<Item>, Stop>
     ensures { Gives (λ xs. xs.items) result (items_at 16 limit (symbols words.entry)) }
 {
     let mut reader = Reader::new(alloc, words);
-    let gathered = reader.statement(alloc, LEVELS, WHOLE)?;
+    let mut found = Found::new(alloc);
+    let _room = reader.statement(alloc, LEVELS, WHOLE, &mut found)?;
     reader.end()?;
-    Ok(gathered.found.items)
+    Ok(found.items)
 }

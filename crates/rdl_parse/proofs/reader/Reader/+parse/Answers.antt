@@ -32,19 +32,19 @@ body-returns t c =
     body-closed c.args.levels c.args.room (symbols c.args.self.now.rest) _ (seen c.in_ok-items.field-0) (symbols c.statements.new.self.rest) (symbols c.mark-2.new.self.rest) c.in_ok-mark.ensures (omega arith) c.in_ok-items.ensures c.in_ok-mark-2.ensures
     ∙ ap (λ b. Ok (record { items = b; spots = c.in_ok-items.field-0.spots.items }, symbols c.mark-2.new.self.rest)) (sym (c.from_vec.ensures ∙ ap items_of c.shrink_to_fit.ensures.items))
 
-pub statements-returns-in_err-gathered : goal.statements-returns-in_err-gathered
-statements-returns-in_err-gathered t c =
+pub statements-returns-in_err-room : goal.statements-returns-in_err-room
+statements-returns-in_err-room t c =
     let p = err_from_is_err_and c.from_residual.result c.from_residual.ensures.1 in
     let on : goes_on (symbols c.turns.self.rest) ≡ true = sym c.goes_on.ensures ∙ c.turns-test.true in
-    rw (p.1, p.2) (statements-fails _ c.args.levels c.args.before (symbols c.args.self.now.rest) (seen c.turns.found, c.turns.room) (symbols c.turns.self.rest) on c.in_err-gathered.ensures c.turns.invariant)
+    rw (p.1, p.2) (statements-fails _ c.args.levels c.args.before (symbols c.args.self.now.rest) (seen c.turns.found, c.turns.room) (symbols c.turns.self.rest) on c.in_err-room.ensures c.turns.invariant)
 
 pub statements-turns-smaller : goal.statements-turns-smaller
-statements-turns-smaller t c = statement-smaller _ _ _ _ _ c.in_ok-gathered.ensures
+statements-turns-smaller t c = statement-smaller _ _ _ _ _ _ c.in_ok-room.ensures
 
 pub statements-turns-preserved : goal.statements-turns-preserved
 statements-turns-preserved t c =
     let on : goes_on (symbols c.turns.self.rest) ≡ true = sym c.goes_on.ensures ∙ c.turns-test.true in
-    rw c.in_ok-append.ensures (statements-next c.args.levels _ (seen c.turns.found, c.turns.room) (symbols c.turns.self.rest) (seen c.in_ok-gathered.gathered.found, c.in_ok-gathered.gathered.room) (symbols c.statement.new.self.rest) on c.in_ok-gathered.ensures c.turns.invariant)
+    statements-next c.args.levels _ (seen c.turns.found, c.turns.room) (symbols c.turns.self.rest) (seen c.statement.new.found, c.in_ok-room.room) (symbols c.statement.new.self.rest) on c.in_ok-room.ensures c.turns.invariant
 
 pub statements-returns : goal.statements-returns
 statements-returns t c =
