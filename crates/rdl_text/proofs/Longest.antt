@@ -1,5 +1,5 @@
 -- At most one row but for numbers has a word that begins with a given byte, so the longest word is of that row.
-use Rattle.std.proofs.Common.{◌≡◌, ◌≢◌, ℕ, ◌≤◌, Bool, true, false, List, [], ◌∷◌, Option, Some, None, refl, sym, arith}
+use Rattle.std.proofs.Common.{◌≡◌, ◌≢◌, ◌⊎◌, ℕ, ◌≤◌, Bool, true, false, List, [], ◌∷◌, Option, Some, None, inl, inr, refl, sym, ap, arith}
 use Rattle.std.proofs.lemmas.Bool.{ne_eqb, ltb-true}
 use Rattle.std.proofs.lemmas.Bool.Decides.{nat_tests}
 use Rattle.std.proofs.lemmas.Str.Parse.{digit_from_value}
@@ -8,6 +8,7 @@ use Rattle.rdl_text.specs.Name.{is_letter}
 use Rattle.rdl_text.specs.Rows.{byte, identifier_len, decimal_len, hexadecimal_len, width_len, verilog_len, string_len, short_mark, long_mark}
 use Rattle.rdl_text.specs.Words.{identifier, decimal, hexadecimal, verilog, string, mark, longer, longest}
 use Rattle.rdl_text.specs.Piece.{Candidate}
+use Rattle.std.specs.Prelude.{nat_eq}
 
 pub longer_none : (x : Option Candidate) → longer x None ≡ x
 longer_none None = refl
@@ -126,3 +127,33 @@ pub longest_other : (s : List ℕ) → is_letter (byte s 0) ≡ false → is_dig
 unfolding longest
 longest_other s l d q =
     sym (rw (no_identifier s l, no_decimal s d, no_hexadecimal s d, no_verilog s d, no_string s q) refl)
+
+-- ---- What the second byte of a number says.
+
+pub no_second_x : (s : List ℕ) → byte s 1 ≢ 120 → byte s 1 ≢ 88 → hexadecimal s ≡ None
+unfolding hexadecimal hexadecimal_len
+no_second_x s small large = by-first (nat_eq (byte s 0) 48) refl
+  where
+    by-first : (b : Bool) → nat_eq (byte s 0) 48 ≡ b → hexadecimal s ≡ None
+    by-first true e = rw (e, ne_eqb (byte s 1) 120 small, ne_eqb (byte s 1) 88 large) refl
+    by-first false e = rw e refl
+
+narrow : (s : List ℕ) → is_digit (byte s 1) 10 ≡ false → (width_len s ≡ 0) ⊎ (width_len s ≡ 1)
+narrow [] e = inl refl
+narrow (c ∷ cs) e = by-first (is_digit c 10) refl
+  where
+    by-first : (b : Bool) → is_digit c 10 ≡ b → (width_len (c ∷ cs) ≡ 0) ⊎ (width_len (c ∷ cs) ≡ 1)
+    by-first true d = inr (rw (d, no_width cs e) refl)
+    by-first false d = inl (rw d refl)
+
+no_quoted : (s : List ℕ) → is_digit (byte s 1) 10 ≡ false → byte s 1 ≢ 39 → verilog s ≡ None
+unfolding verilog verilog_len
+no_quoted s e ne =
+    elim (narrow s e) [
+      | inl none ↦ rw none refl
+      | inr one ↦ rw (one, ne_eqb (byte s 1) 39 ne) refl
+    ]
+
+pub no_width_x : (s : List ℕ) → (byte s 1 ≡ 120) ⊎ (byte s 1 ≡ 88) → verilog s ≡ None
+no_width_x s (inl small) = no_quoted s (rw small refl) (omega arith)
+no_width_x s (inr large) = no_quoted s (rw large refl) (omega arith)

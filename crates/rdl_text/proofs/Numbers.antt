@@ -1,8 +1,10 @@
 -- What digits are worth, one more at a time, and numbers that have too many bits.
-use Rattle.std.proofs.Common.{◌≡◌, ◌≢◌, ℕ, ◌+◌, ◌*◌, ◌^◌, ◌<◌, ◌≤◌, nat_lt, Bool, false, not, List, [], ◌∷◌, length, get_or, drop, Some, None, refl, ◌∙◌, arith}
+use Rattle.std.proofs.Common.{◌≡◌, ◌≢◌, ℕ, suc, ◌+◌, ◌*◌, ◌^◌, ◌<◌, ◌≤◌, nat_lt, Bool, true, false, not, List, [], ◌∷◌, length, get_or, drop, Some, None, Ok, refl, ◌∙◌, subst, arith}
 use Rattle.std.proofs.Math.Nat.{mul-le-mul_left, le_refl, le_trans}
+use Rattle.std.proofs.lemmas.Nat.{pow-add}
+use Rattle.std.proofs.lemmas.List.Sums.{length-filter, count_by-le-length}
 use Rattle.std.proofs.Math.Pow.{pow_mono}
-use Rattle.std.proofs.lemmas.Bool.{ne_eqb, le-ltb}
+use Rattle.std.proofs.lemmas.Bool.{ne_eqb, le-ltb, lt-ltb}
 use Rattle.std.proofs.lemmas.Bool.Decides.{nat_tests}
 use Rattle.std.proofs.lemmas.List.{at_drop_more}
 use Rattle.std.specs.Char.{digit_value}
@@ -45,3 +47,29 @@ in_bits_none v h = grind (arith, nat_tests)
 
 pub in_bits_some : (v : ℕ) → v < 2 ^ number_bits → in_bits v ≡ Some v
 in_bits_some v h = grind (arith, nat_tests)
+
+-- ---- Few digits have few bits.
+
+digit_small : (c : ℕ) → digit_value c ≤ 36
+digit_small c = grind (arith, nat_tests)
+
+one_more : (base v k d : ℕ) → base ≤ 16 → d ≤ 36 → v < 2 ^ k → v * base + d < 2 ^ (k + 6)
+one_more base v k d h few low =
+    let most : v * base ≤ v * 16 = mul-le-mul_left v h in
+    let wide : 2 ^ (k + 6) ≡ 2 ^ k * 64 = pow-add 2 k 6 in
+    omega (arith, most, wide, low, few)
+
+digits_small : (base v k : ℕ) (ds : List ℕ) → base ≤ 16 → v < 2 ^ k → digits_value_after base v ds < 2 ^ (k + 6 * length ds)
+digits_small base v k [] h low = subst (λ (n : ℕ). v < 2 ^ n) (omega arith) low
+digits_small base v k (d ∷ ds) h low =
+    let rest = digits_small base (v * base + digit_value d) (k + 6) ds h (one_more base v k (digit_value d) h (digit_small d) low) in
+    subst (λ (n : ℕ). digits_value_after base (v * base + digit_value d) ds < 2 ^ n) (omega arith) rest
+
+pub value_small : (base : ℕ) (digits : List ℕ) → base ≤ 16 → length digits ≤ 20 → nat_lt (value base digits) (2 ^ number_bits) ≡ true
+unfolding value
+value_small base digits h few =
+    let found = filter counts digits in
+    let low : length found ≤ length digits = omega (arith, length-filter counts digits, count_by-le-length counts digits) in
+    let bits : 0 + 6 * length found ≤ number_bits = omega (arith, low, few) in
+    let wide : 2 ^ (0 + 6 * length found) ≤ 2 ^ number_bits = pow_mono bits in
+    lt-ltb (value base digits) (2 ^ number_bits) (omega (arith, digits_small base 0 0 found h (omega arith), wide))

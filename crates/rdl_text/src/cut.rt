@@ -15,7 +15,7 @@ use crate::fault::{TextFault, WordFault};
 use crate::list::Tokens;
 use crate::name::{Name, is_letter};
 use crate::piece::Span;
-use crate::rows::{closing, kind_of, long_mark, longest, longest_number, short_mark};
+use crate::rows::{closing, is_small, kind_of, long_mark, longest, longest_number, short_mark};
 use crate::token::{Mark, Token, TokenKind};
 use memchr::memchr;
 use std::alloc::Global;
@@ -79,6 +79,7 @@ fn number_span(bytes: &[u8]) -> Result<Span, WordFault>
     ensures { result ≡ front_span bytes.now }
 {
     match longest_number(bytes) {
+        Some(front) if is_small(front) => Ok(Span::Word(front.len)),
         Some(front) => match kind_of(bytes, front) {
             Ok(_) => Ok(Span::Word(front.len)),
             Err(fault) => Err(fault),

@@ -1,9 +1,10 @@
 //! The rows of the table of words: the word of each row that a text begins with.
-ghost use Rattle.std.specs.Prelude.{◌≡◌, ℕ, ◌≤◌, ◌<◌, ◌+◌, List, length, false, IfSome};
+ghost use Rattle.std.specs.Prelude.{◌≡◌, ℕ, ◌≤◌, ◌<◌, ◌+◌, List, length, true, false, IfSome, Ok};
 ghost use Rattle.std.specs.Option.{option_map};
 ghost use Rattle.rdl_text.specs.Front.{IsInside, judged_front, kind_in};
 ghost use Rattle.rdl_text.specs.Rows.{closing, short_mark, long_mark};
 ghost use Rattle.rdl_text.specs.Words as spec;
+ghost use Rattle.rdl_text.specs.declared.token.TokenKind.{TokenKind};
 
 use crate::bytes::{Class, base_of, byte_at, is_digit, run_len};
 use crate::fault::WordFault;
@@ -99,7 +100,26 @@ pub(crate) fn longest_number(bytes: &[u8]) -> Option<Front>
     ensures word { option_map (judged_front bytes.now) result ≡ spec.longer (spec.decimal bytes.now) (spec.longer (spec.hexadecimal bytes.now) (spec.verilog bytes.now)) }
     ensures inside { IfSome result (IsInside bytes.now) }
 {
-    longer(decimal(bytes), longer(hexadecimal(bytes), verilog(bytes)))
+    let second = byte_at(bytes, 1);
+    if second == b'x' || second == b'X' {
+        longer(decimal(bytes), hexadecimal(bytes))
+    } else {
+        longer(decimal(bytes), verilog(bytes))
+    }
+}
+
+/// How many bytes a number has at most that is seen at once to have few bits.
+const SMALL: usize = 20;
+
+/// Whether a word is a number of so few digits that its bits suffice.
+#[inline(always)]
+pub(crate) fn is_small(front: Front) -> bool
+    ensures { result ≡ true → (s : List ℕ) → IsInside s front → (value : ℕ) × (kind_in front.row s front.len ≡ Ok (TokenKind.Number value)) }
+{
+    match front.row {
+        Row::Decimal | Row::Hexadecimal => front.len <= SMALL,
+        Row::Identifier | Row::Verilog | Row::Text | Row::Mark(_) => false,
+    }
 }
 
 /// How many bytes of a string are looked at one by one, which for most strings takes less than a search does.

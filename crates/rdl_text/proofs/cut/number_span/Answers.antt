@@ -20,3 +20,11 @@ returns-in-Err c =
     let front = c.in-Some.front in
     sym (digit_span s (Some (judged_front s front)) c.requires c.in-Some.ensures.word
     ∙ ap (λ (k : Result TokenKind WordFault). span_of (judged front.len k)) (sym c.kind_of.ensures ∙ c.in-Err.is))
+
+pub returns-in-Some : goal.returns-in-Some
+returns-in-Some c =
+    let s = c.args.bytes.now in
+    let front = c.in-Some.front in
+    let small = c.is_small.ensures c.if-is_small.true s c.in-Some.ensures.inside in
+    sym (digit_span s (Some (judged_front s front)) c.requires c.in-Some.ensures.word
+    ∙ ap (λ (k : Result TokenKind WordFault). span_of (judged front.len k)) small.1)
