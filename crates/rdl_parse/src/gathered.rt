@@ -43,12 +43,14 @@ fn instance_weight(shell: &Shell, of: &Of) -> u64
 }
 
 /// What the next instance is of, if there is one.
+#[inline(always)]
 pub(crate) fn next(again: bool, of: Of) -> Option<Of>
     ensures { result ≡ next_of again of }
 {
     if again { Some(of) } else { None }
 }
 
+#[inline(always)]
 fn copy_for_next(alloc: Global, again: bool, of: &Of) -> Result<Option<Of>, AllocError>
     ensures { IfOk result (λ next. next ≡ next_of again of.now) }
 {
@@ -93,6 +95,7 @@ impl Gathered {
 
     /// These items and one instance more, if there is room for it. Where there is to be one of the same behind it, what it is
     /// of is handed back for that: it is copied only where there is room.
+    #[inline(always)]
     pub(crate) fn with_instance(
         self,
         alloc: Global,

@@ -80,6 +80,7 @@ impl<'a> Reader<'a> {
     }
 
     /// One more instance behind these items, and what the next one is of, if a comma stands behind it.
+    #[inline(always)]
     #[tactic(auto, unfolding(crate::specs::Gathering::gathered_at), using(crate::proofs::Words::length_symbols))]
     fn more(
         &mut self,
@@ -102,6 +103,7 @@ impl<'a> Reader<'a> {
     }
 
     /// The instances of a statement, behind these items, and its `;`.
+    #[inline(always)]
     pub(crate) fn insts(
         &mut self,
         alloc: Global,
