@@ -13,6 +13,7 @@ use crate::rows::clean::{Modes, modes_at};
 use crate::walk::finished::Finished;
 use crate::walk::laid_out::LaidOut;
 use crate::walk::passed::Run;
+use crate::walk::targets::root_goes_further;
 use rdl_tree::description::{Description, Item};
 use rdl_tree::shell::Kind;
 use std::alloc::{AllocError, Global};
@@ -34,6 +35,8 @@ pub(crate) struct Summary {
     pub rows: usize,
     /// Which keys it and the components inside it have.
     pub run: Run,
+    /// Whether a target inside it passes more than one instance.
+    pub further: bool,
 }
 
 /// What is known of a definition of the root.
@@ -48,8 +51,9 @@ pub struct KeptRoot {
 impl Summary {
     ghost use Rattle.std.specs.Prelude.{◌≡◌, IfOk};
 
-    /// What is kept of this component, which has these keys with those inside it.
-    fn of(finished: &Finished, run: Run) -> Result<Summary, AllocError>
+    /// What is kept of this component, which has these keys with those inside it, and inside which a target may pass more than one
+    /// instance.
+    fn of(finished: &Finished, run: Run, further: bool) -> Result<Summary, AllocError>
         ensures kind { IfOk result (λ s. s.kind ≡ finished.now.kind) }
         ensures values { IfOk result (λ s. s.values ≡ finished.now.values) }
         ensures shown { IfOk result (λ s. s.shown ≡ finished.now.shown) }
@@ -66,6 +70,7 @@ impl Summary {
             levels: finished.levels,
             rows: finished.rows,
             run,
+            further,
         })
     }
 }
@@ -171,14 +176,30 @@ fn is_define(description: &Description, item: usize) -> bool
     }
 }
 
-/// What is kept of this component, which has these keys with those inside it, if it can be passed over.
-fn summary_of(finished: &Finished, run: Run) -> Result<Option<Summary>, AllocError>
+/// Whether a target inside this component, that of the item of the root of this number, passes more than one instance. That of
+/// one that was passed over is known.
+fn goes_further(description: &Description, item: usize, finished: &Finished) -> bool {
+    match &finished.passed {
+        Some(passed) => passed.further,
+        None => root_goes_further(description, item),
+    }
+}
+
+/// What is kept of this component, that of the item of the root of this number, which has these keys with those inside it, if
+/// it can be passed over.
+fn summary_of(
+    description: &Description,
+    item: usize,
+    finished: &Finished,
+    run: Run,
+) -> Result<Option<Summary>, AllocError>
     ensures { IfOk result (λ summary. IfSome summary (IsSummaryOf finished.now run)) }
 {
     if run.count <= FEW || finished.first_empty.is_some() || finished.rows == 0 {
         return Ok(None);
     }
-    Ok(Some(Summary::of(finished, run)?))
+    let further = goes_further(description, item, finished);
+    Ok(Some(Summary::of(finished, run, further)?))
 }
 
 /// What is kept of the item of the root of this number, if that is a definition that can be passed over.
@@ -200,7 +221,7 @@ fn summary_at(
     let Some(finished) = last_at(components, ends, item) else {
         return Ok(None);
     };
-    Ok(summary_of(finished, run)?)
+    Ok(summary_of(description, item, finished, run)?)
 }
 
 /// What is known of the items of the root, which are clean in these modes: each holds the components from the end of that before

@@ -399,8 +399,14 @@ fn walk_items<'a>(
 impl<'a> Walk<'a> {
     ghost use Rattle.std.specs.Prelude.{◌≡◌, [], IfOk};
 
-    /// Nothing is laid out, with room for so many components, and nothing stands before the next item.
-    fn new(alloc: Global, description: &Description, room: usize) -> Result<Walk<'a>, AllocError>
+    /// Nothing is laid out, with room for so many components, and nothing stands before the next item. This is kept of the items
+    /// of the root.
+    fn new(
+        alloc: Global,
+        description: &Description,
+        room: usize,
+        roots: &[KeptRoot],
+    ) -> Result<Walk<'a>, AllocError>
         ensures types { IfOk result (λ walk. walk.types ≡ []) }
         ensures defaults { IfOk result (λ walk. walk.defaults ≡ []) }
         ensures components { IfOk result (λ walk. walk.components.items ≡ []) }
@@ -410,7 +416,7 @@ impl<'a> Walk<'a> {
             defaults: Defaults::new(alloc),
             components: Vec::with_capacity(alloc, room)?,
             built_ins: BuiltIns::new(alloc)?,
-            further: Further::unknown(),
+            further: Further::of(alloc, roots)?,
         })
     }
 }
@@ -453,7 +459,7 @@ pub(crate) fn lay_out_item<'a>(
     let Some(component) = own_component(&items[n]) else {
         return Ok(None);
     };
-    let mut walk = Walk::new(alloc, description, 0)?;
+    let mut walk = Walk::new(alloc, description, 0, &[])?;
     let before = Stored::empty(alloc);
     let first = &items[..n];
     match finish_behind(alloc, description, first, n, component, &mut walk, &before) {
@@ -573,7 +579,8 @@ pub(crate) fn lay_out_all<'a>(
     ensures taken { IfOk result (λ all. AreTaken before.now all.components.items (all_written description.now.items)) }
     ensures whole { IfOk result (λ all. roots.now ≡ [] → AreAllWhole all.components.items) }
 {
-    let mut walk = Walk::new(alloc, description, before.len().saturating_add(NEW))?;
+    let room = before.len().saturating_add(NEW);
+    let mut walk = Walk::new(alloc, description, room, roots)?;
     let items = description.items.as_slice();
     let ends = walk_roots(
         alloc,

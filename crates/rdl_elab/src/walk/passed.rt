@@ -25,6 +25,8 @@ pub(crate) struct Run {
 pub(crate) struct Passed {
     pub root: usize,
     pub run: Run,
+    /// Whether a target inside it passes more than one instance.
+    pub further: bool,
 }
 
 /// What is kept of the definition of the root of this number, if that is enough to pass over it.
@@ -67,6 +69,7 @@ pub(crate) fn passed_component<'a>(
         passed: Some(Passed {
             root,
             run: summary.run,
+            further: summary.further,
         }),
     })
 }

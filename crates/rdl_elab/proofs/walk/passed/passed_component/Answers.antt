@@ -31,7 +31,7 @@ returns c = λ d h.
         first_empty = sym kept.first_empty;
       };
       whole = refl;
-      passed = record { root = c.args.root; run = c.args.summary.now.run };
+      passed = record { root = c.args.root; run = c.args.summary.now.run; further = c.args.summary.now.further };
       is = refl;
       root = refl;
       brings = record {
