@@ -151,3 +151,17 @@ alone-judged fs m least rs spans parts i judged span p s t order some = by (slic
     by : (o : Option Finished) → slice_get fs p.component ≡ o → IsSomeAnd o (IsCleanAlone fs m rs p) → AreJudged fs m least rs spans parts (i + 1)
     by None e h = absurd h
     by (Some f) e h = one-judged fs m least rs spans parts i judged span p s t f e order h.sound h.stride h.below
+
+-- with a field that has no fault where it overlaps none before it, one more instance is judged
+pub field-judged : (fs : List Finished) (m : Mode) (least : ℕ) (rs : List Reach) (spans : List Span) (parts : List Part) (i : ℕ) → AreJudged fs m least rs spans parts i
+    → (span : Span) (p : Part) (f : Finished) → slice_get spans i ≡ Some span → slice_get parts i ≡ Some p → slice_get fs p.component ≡ Some f → in_order 0 spans ≡ true
+    → ((before : List Sibling) → overlaps_before span before ≡ false → IsClean fs m least rs span p f before (before ++ seen span (part_values rs p f) ∷ []))
+    → AreJudged fs m least rs spans parts (i + 1)
+field-judged fs m least rs spans parts i judged span p f s t h order clean =
+    let one = seen span (part_values rs p f) in
+    let none = none-overlap spans i span judged.siblings order s judged.placed in
+    record {
+      siblings = judged.siblings ++ one ∷ [];
+      placed = one-placed spans i judged.siblings one s judged.placed;
+      goes = part-goes-on fs m least rs spans parts judged.siblings i span p f (judged.siblings ++ one ∷ []) s t h (clean judged.siblings none) judged.goes;
+    }

@@ -1,5 +1,5 @@
 //! The rows of a map, level by level, up to the first that has a fault.
-ghost use Rattle.std.specs.Prelude.{◌≡◌, ℕ, ◌+◌, ◌^◌, ◌-◌, ◌++◌, ◌∷◌, [], List, min, map, nat_lt, unwrap_or, zero, suc, true, false, Some, None, IfOk, OnOk, option_copied, slice_get};
+ghost use Rattle.std.specs.Prelude.{◌≡◌, ℕ, ◌+◌, ◌^◌, ◌-◌, ◌++◌, ◌∷◌, [], List, min, map, nat_lt, unwrap_or, zero, suc, true, false, Some, None, IfOk, OnOk, option_copied, option_map, slice_get};
 ghost use Rattle.rdl_scope.specs.ItemFaults.{fault_at};
 ghost use Rattle.rdl_elab.specs.Layouts.{number_in};
 ghost use Rattle.rdl_elab.specs.Rows.{location_of};
@@ -201,17 +201,6 @@ pub(crate) fn judged_row(
     })
 }
 
-/// The assignments whose targets pass this instance.
-pub(crate) fn behind_part<'a>(
-    alloc: Global,
-    part: &Part,
-    onward: &Onward<'_, 'a>,
-) -> Result<Vec<Assignment<'a>>, AllocError>
-    ensures { IfOk result (λ list. (reaching : List Reach) → IsOnward onward.now reaching → list.items ≡ behind part.now.at reaching) }
-{
-    onward.behind(alloc, part)
-}
-
 /// Those of these assignments that go on from a level with so many instances, if there is any assignment.
 fn onward_of<'r, 'a>(
     alloc: Global,
@@ -226,17 +215,20 @@ fn onward_of<'r, 'a>(
     Ok(Some(Onward::of(alloc, reaching, count)?))
 }
 
-/// The assignments whose targets pass this instance, of a level that mostly has none.
-fn behind_if_any<'a>(
-    alloc: Global,
+/// Puts the assignments whose targets pass this instance, of a level that mostly has none, in the place of what is in the list.
+fn put_behind<'a>(
     part: &Part,
     onward: Option<&Onward<'_, 'a>>,
-) -> Result<Vec<Assignment<'a>>, AllocError>
-    ensures { IfOk result (λ list. (reaching : List Reach) → AreOnward (option_copied onward.entry) reaching → list.items ≡ behind part.now.at reaching) }
+    list: &mut Vec<Assignment<'a>>,
+) -> Result<(), AllocError>
+    ensures { OnOk result ((reaching : List Reach) → AreOnward (option_copied onward.entry) reaching → list.new.items ≡ behind part.now.at reaching) }
 {
     match onward {
-        Some(onward) => behind_part(alloc, part, onward),
-        None => Ok(Vec::new(alloc)),
+        Some(onward) => onward.put_behind(part, list),
+        None => {
+            list.clear();
+            Ok(())
+        }
     }
 }
 
@@ -411,18 +403,31 @@ fn add_row(
     Ok(None)
 }
 
-/// The assignments that have come this far and those of the component that stands here, which mostly are none.
-fn reaching_inside<'a>(
+/// The assignments that have come this far and those of the component that stands here, if it has any.
+fn with_own_if_any<'a>(
     alloc: Global,
     reaching: &[Assignment<'a>],
     own: &[Assignment<'a>],
-) -> Result<Vec<Assignment<'a>>, AllocError>
-    ensures { IfOk result (λ list. list.items ≡ reaching.now ++ own.now) }
+) -> Result<Option<Vec<Assignment<'a>>>, AllocError>
+    ensures { IfOk result (λ both. unwrap_or (option_map (λ list. list.items) both) reaching.now ≡ reaching.now ++ own.now) }
 {
-    if reaching.is_empty() && own.is_empty() {
-        return Ok(Vec::new(alloc));
+    if own.is_empty() {
+        return Ok(None);
     }
-    with_own(alloc, reaching, own)
+    Ok(Some(with_own(alloc, reaching, own)?))
+}
+
+/// These assignments with those of the component, or these alone if it has none.
+fn both_or<'r, 'a>(
+    both: Option<&'r Vec<Assignment<'a>>>,
+    reaching: &'r [Assignment<'a>],
+) -> &'r [Assignment<'a>]
+    ensures { result.now ≡ unwrap_or (option_map (λ list. list.items) (option_copied both.entry)) reaching.now }
+{
+    match both {
+        Some(both) => both.as_slice(),
+        None => reaching,
+    }
 }
 
 /// No siblings, with room for those of so many instances. Where all stand in order none are kept: no instance overlaps
@@ -487,8 +492,9 @@ fn add_below<'a>(
     if parts.is_empty() {
         return Ok(None);
     }
-    let joined = reaching_inside(alloc, reaching, component.assignments.as_slice())?;
-    let inside = inside(alloc, around, span, part, component, joined.as_slice())?;
+    let both = with_own_if_any(alloc, reaching, component.assignments.as_slice())?;
+    let joined = both_or(both.as_ref(), &*reaching);
+    let inside = inside(alloc, around, span, part, component, joined)?;
     let spans = component.layouts.under(around.mode).spans.as_slice();
     add_rows(alloc, components, &inside, spans, parts, levels, last, rows)
 }
@@ -514,6 +520,7 @@ pub(crate) fn add_rows<'a>(
     let going = onward_of(alloc, around.reaching, parts.len())?;
     let onward = going.as_ref();
     let mut kept = siblings_of(alloc, spans, parts.len())?;
+    let mut passed = Vec::new(alloc);
     for (i, part) in parts.iter().enumerate() {
         let Some(span) = span_at(spans, i) else {
             return Ok(None);
@@ -521,7 +528,7 @@ pub(crate) fn add_rows<'a>(
         let Some(component) = part.component(components) else {
             return Ok(None);
         };
-        let passed = behind_if_any(alloc, part, onward)?;
+        put_behind(part, onward, &mut passed)?;
         let reaching = passed.as_slice();
         let fault = add_row(
             alloc, around, part, component, span, reaching, &mut kept, last, rows,

@@ -14,7 +14,7 @@ use crate::elaborate::{Top, finished_at, map_fault};
 use crate::layout::{Mode, Span};
 use crate::rows::fields::are_clean_fields;
 use crate::rows::siblings::Siblings;
-use crate::rows::{behind_part, fault_kind, is_stride_too_small, judged_row, span_at};
+use crate::rows::{fault_kind, is_stride_too_small, judged_row, span_at};
 use crate::walk::finished::{Finished, Part};
 use crate::walk::instances::mode_inside;
 use crate::walk::reaches::{Assignment, Onward, have_ended, with_own};
@@ -248,7 +248,7 @@ fn is_clean_alike<'a>(
     }
 }
 
-/// Whether no row below this instance is found to have a fault.
+/// Whether no row below this instance is found to have a fault. What is in the list makes no difference.
 #[cycle(clean)]
 fn is_clean_behind<'a>(
     alloc: Global,
@@ -259,6 +259,7 @@ fn is_clean_behind<'a>(
     part: &Part<'a>,
     component: &Finished<'a>,
     levels: usize,
+    passed: &mut Vec<Assignment<'a>>,
 ) -> Result<bool, AllocError>
     requires clean { AreCleanIn components.now clean.now }
     requires component { slice_get components.now part.now.component ≡ Some component.now }
@@ -267,7 +268,7 @@ fn is_clean_behind<'a>(
     if onward.passes_by(part) && is_known(clean, part.number(), mode) {
         return Ok(true);
     }
-    let passed = behind_part(alloc, part, onward)?;
+    onward.put_behind(part, passed)?;
     let reaching = passed.as_slice();
     is_clean_below(
         alloc, components, clean, mode, part, component, reaching, levels,
@@ -294,6 +295,7 @@ fn is_clean_container<'a>(
 {
     let mode = level.mode;
     let mut known = None;
+    let mut passed = Vec::new(alloc);
     for (i, part) in parts.iter().enumerate() {
         let Some(_) = span_at(spans, i) else {
             return Ok(true);
@@ -308,7 +310,15 @@ fn is_clean_container<'a>(
             return Ok(false);
         }
         if !is_clean_behind(
-            alloc, components, clean, mode, onward, part, component, levels,
+            alloc,
+            components,
+            clean,
+            mode,
+            onward,
+            part,
+            component,
+            levels,
+            &mut passed,
         )? {
             return Ok(false);
         }
@@ -346,7 +356,8 @@ fn is_clean_part<'a>(
     requires onward { IsOnward onward.now level.now.reaching.now }
     ensures { IfOk result (λ answer. answer ≡ true → IsClean components.now level.now.mode level.now.bits level.now.reaching.now span part.now component.now siblings.old siblings.new) }
 {
-    let passed = behind_part(alloc, part, onward)?;
+    let mut passed = Vec::new(alloc);
+    onward.put_behind(part, &mut passed)?;
     let reaching = passed.as_slice();
     let shown = &component.shown;
     let judged = judged_row(alloc, component.kind, span, part.reset(), reaching, shown)?;

@@ -130,6 +130,7 @@ impl InstancePath {
     }
 
     /// Whether the instance of this number among them is this one.
+    #[inline(always)]
     pub(crate) fn is_at(&self, number: usize, instance: &InstanceAddress) -> bool
         ensures there { result ≡ has_at instance.now (slice_get self.now number) }
         ensures within { result ≡ true → number + 1 < 2 ^ 64 }

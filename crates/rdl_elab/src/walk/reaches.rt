@@ -307,18 +307,19 @@ fn put_all(reaching: &[Assignment], heads: &mut [usize], links: &mut [usize])
     }
 }
 
-/// Those of the assignments in the chain that begins with the one of this number whose targets pass this instance.
+/// Puts into the empty list those of the assignments in the chain that begins with the one of this number whose targets pass this
+/// instance.
 #[tactic(auto, using(crate::proofs::Onward::going))]
-fn behind<'a>(
-    alloc: Global,
+fn put_behind<'a>(
     instance: &InstanceAddress,
     reaching: &[Assignment<'a>],
     links: &[usize],
     first: usize,
-) -> Result<Vec<Assignment<'a>>, AllocError>
-    ensures { IfOk result (λ list. list.items ≡ behind instance.now (chain 0 links.now reaching.now first)) }
+    list: &mut Vec<Assignment<'a>>,
+) -> Result<(), AllocError>
+    requires { list.old.items ≡ [] }
+    ensures { OnOk result (list.new.items ≡ behind instance.now (chain 0 links.now reaching.now first)) }
 {
-    let mut list = Vec::new(alloc);
     let mut number = first;
     'assignments: while number < reaching.len() && number < links.len() {
         if let Some(passed) = reaching[number].passed(instance)? {
@@ -326,7 +327,7 @@ fn behind<'a>(
         }
         number = links[number].max(number + 1);
     }
-    Ok(list)
+    Ok(())
 }
 
 /// The assignments that go on from a level.
@@ -342,7 +343,7 @@ pub(crate) struct Onward<'r, 'a> {
 }
 
 impl<'r, 'a> Onward<'r, 'a> {
-    ghost use Rattle.std.specs.Prelude.{◌≡◌, ℕ, [], List, true, IfOk};
+    ghost use Rattle.std.specs.Prelude.{◌≡◌, ℕ, [], List, true, IfOk, OnOk};
     ghost use Rattle.rdl_elab.specs.Onward.{IsOnward, first_under};
     ghost use Rattle.rdl_elab.specs.Reaches.{Reach, behind};
 
@@ -386,26 +387,21 @@ impl<'r, 'a> Onward<'r, 'a> {
         self.first_under(part.place()) >= self.reaching.len()
     }
 
-    /// Those whose targets pass this instance.
-    pub(crate) fn behind(
+    /// Puts those whose targets pass this instance in the place of what is in the list.
+    pub(crate) fn put_behind(
         &self,
-        alloc: Global,
         part: &Part,
-    ) -> Result<Vec<Assignment<'a>>, AllocError>
-        ensures { IfOk result (λ list. (reaching : List Reach) → IsOnward self.now reaching → list.items ≡ behind part.now.at reaching) }
+        list: &mut Vec<Assignment<'a>>,
+    ) -> Result<(), AllocError>
+        ensures { OnOk result ((reaching : List Reach) → IsOnward self.now reaching → list.new.items ≡ behind part.now.at reaching) }
     {
+        list.clear();
         let first = self.first_under(part.place());
         if first >= self.reaching.len() {
-            return Ok(Vec::new(alloc));
+            return Ok(());
         }
         let instance = part.instance()?;
-        behind(
-            alloc,
-            &instance,
-            self.reaching,
-            self.links.as_slice(),
-            first,
-        )
+        put_behind(&instance, self.reaching, self.links.as_slice(), first, list)
     }
 }
 

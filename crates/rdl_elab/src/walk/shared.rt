@@ -176,6 +176,7 @@ impl InstanceAddress {
     }
 
     /// Whether it is that of the same instance.
+    #[inline(always)]
     pub(crate) fn is(&self, other: &InstanceAddress) -> bool
         ensures { result ≡ pointwise nat_eq self.now other.now }
     {

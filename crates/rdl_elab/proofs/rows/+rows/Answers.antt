@@ -110,11 +110,11 @@ add_below-add_rows-requires t c =
     (less, tt)
 
 pub add_rows-add_row-requires : goal.add_rows-add_row-requires
-add_rows-add_row-requires t c = c.as_slice-reaching.ensures.value ∙ c.in_ok-passed.ensures c.args.around.now.reaching (search rules)
+add_rows-add_row-requires t c = c.as_slice-reaching.ensures.value ∙ c.in_ok-put_behind.ensures c.args.around.now.reaching (search rules)
 
 pub add_rows-add_below-requires : goal.add_rows-add_below-requires
 add_rows-add_below-requires t c =
     let less : 2 * (c.args.levels - 1) + 2 < t = omega (arith, c.decreases, c.if-levels-eq0.false) in
     let same : c.as_slice-reaching.result.now ≡ behind c.index-parts-i.result.at c.args.around.now.reaching =
-    c.as_slice-reaching.ensures.value ∙ c.in_ok-passed.ensures c.args.around.now.reaching (search rules) in
+    c.as_slice-reaching.ensures.value ∙ c.in_ok-put_behind.ensures c.args.around.now.reaching (search rules) in
     (less, same)

@@ -1,10 +1,9 @@
 use Rattle.std.proofs.Common.{rules, refl, ◌≡◌, ◌++◌, ap, sym, ◌∙◌, option_copied}
 use Rattle.rdl_tree.specs.Properties.{row}
-use Rattle.rdl_tree.specs.declared.property.Property.TheVariants.{Sw, Reset}
+use Rattle.rdl_tree.specs.declared.property.Property.TheVariants.{Sw}
 use Rattle.rdl_tree.specs.declared.shell.Kind.TheVariants.{Field}
 use Rattle.rdl_elab.specs.Access.{access_of}
 use Rattle.rdl_elab.specs.FinishedRows.{finished_values}
-use Rattle.rdl_elab.specs.Layouts.{number_in}
 use Rattle.rdl_elab.specs.Reaches.{behind, reached, value_along}
 use Rattle.rdl_elab.proofs.ReachedAt.{field-value}
 use Rattle.rdl_elab.proofs.rows.fields.judged_field.Goals as goal
@@ -18,12 +17,3 @@ returns-clause-sibling c =
     let sw : c.in_ok-sw.sw ≡ value_along Field reset rs own Sw = c.in_ok-sw.ensures rs given ∙ ap (λ r. value_along Field r rs own Sw) c.reset.ensures in
     let access : c.access_of.result ≡ access_of c.in_ok-sw.sw = search rules in
     c.as_sibling.ensures (finished_values Field reset rs own) (access ∙ ap access_of (sw ∙ sym (field-value Sw refl reset rs own)))
-
-pub returns-clause-reset : goal.returns-clause-reset
-returns-clause-reset c =
-    let reset = c.args.part.now.shell.reset in
-    let own = c.args.values.now in
-    let rs = behind c.args.part.now.at (c.args.reaching.now ++ c.args.own.now) in
-    let given : option_copied c.assigned-assigned_reset.result ≡ reached (row Reset).name rs = search rules in
-    let value = c.in_ok-reset.ensures rs given ∙ ap (λ r. value_along Field r rs own Reset) c.reset-2.ensures in
-    c.number_in.ensures ∙ ap number_in (value ∙ sym (field-value Reset refl reset rs own))

@@ -1,8 +1,8 @@
 use Rattle.std.proofs.Common.{◌≡◌, ◌++◌, ◌∷◌, [], ap, sym, ◌∙◌, append_assoc, append-nil, arith}
 use Rattle.rdl_elab.specs.Reaches.{behind}
 use Rattle.rdl_elab.proofs.Onward.{going_from, going-ends, going-unlinked, behind-going, behind-passing}
-use Rattle.rdl_elab.proofs.walk.reaches.behind.Goals as goal
-use Rattle.rdl_elab.proofs.walk.reaches.behind.Goals.{in-Some+in_ok-push, in_default, then-assignments-test+else-number-links, else-assignments-test}
+use Rattle.rdl_elab.proofs.walk.reaches.put_behind.Goals as goal
+use Rattle.rdl_elab.proofs.walk.reaches.put_behind.Goals.{in-Some+in_ok-push, in_default}
 
 pub assignments-preserved : goal.assignments-preserved
 assignments-preserved c =
@@ -27,16 +27,18 @@ assignments-preserved c =
           ∙ ap (λ xs. xs ++ rest) (sym (ap (λ v. v.items) w.list-is))
     ]
 
-pub returns : goal.returns
-returns c =
-    let a = c.args.instance.now in
-    let links = c.args.links.now in
-    let rs = c.args.reaching.now in
-    let n = c.assignments.number in
+pub returns-else-number-links : goal.returns-else-number-links
+returns-else-number-links c =
     let found = c.assignments.list.items in
-    elim c.assignments-test.branch [
-      | then-assignments-test+else-number-links w ↦
-          sym (c.assignments.invariant ∙ ap (λ ys. found ++ behind a ys) (going-unlinked links rs n w.if-number-links.false) ∙ append-nil found)
-      | else-assignments-test w ↦
-          sym (c.assignments.invariant ∙ ap (λ ys. found ++ behind a ys) (going-ends links rs n w.assignments-test.false) ∙ append-nil found)
-    ]
+    sym
+    (c.assignments.invariant
+    ∙ ap (λ ys. found ++ behind c.args.instance.now ys) (going-unlinked c.args.links.now c.args.reaching.now c.assignments.number c.if-number-links.false)
+    ∙ append-nil found)
+
+pub returns-after-assignments : goal.returns-after-assignments
+returns-after-assignments c =
+    let found = c.assignments.list.items in
+    sym
+    (c.assignments.invariant
+    ∙ ap (λ ys. found ++ behind c.args.instance.now ys) (going-ends c.args.links.now c.args.reaching.now c.assignments.number c.assignments-test.false)
+    ∙ append-nil found)
