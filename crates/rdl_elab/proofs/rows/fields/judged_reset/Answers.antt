@@ -17,5 +17,6 @@ returns c =
     c.assigned-assigned.ensures
     ∙ ap (λ name. reached name (behind c.args.at.now all)) c.name.ensures
     ∙ ap (λ a. reached (row Reset).name (behind a all)) c.requires in
-    let value = c.in_ok-reset.ensures rs given ∙ ap (λ r. value_along Field r rs own Reset) c.reset.ensures in
+    let stated = c.in_ok-reset.ensures rs given in
+    let value : c.in_ok-reset.reset ≡ value_along Field reset rs own Reset = search rules in
     c.number_in.ensures ∙ ap number_in (value ∙ sym (field-value Reset refl reset rs own))
