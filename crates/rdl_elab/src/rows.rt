@@ -3,7 +3,7 @@ ghost use Rattle.std.specs.Prelude.{◌≡◌, ℕ, ◌+◌, ◌^◌, ◌-◌, �
 ghost use Rattle.rdl_scope.specs.ItemFaults.{fault_at};
 ghost use Rattle.rdl_elab.specs.Layouts.{number_in};
 ghost use Rattle.rdl_elab.specs.Rows.{location_of};
-ghost use Rattle.rdl_elab.specs.Onward.{AreOnward, IsOnward};
+ghost use Rattle.rdl_elab.specs.Onward.{AreOnward};
 ghost use Rattle.rdl_elab.specs.SiblingsBefore.{AreBefore, AreFirst, with_one};
 ghost use Rattle.rdl_elab.specs.Reaches.{Reach, behind, value_under, values_along};
 ghost use Rattle.rdl_tree.specs.declared.property.Property.TheVariants.{Sw, Reset};
