@@ -58,6 +58,7 @@ pub(crate) fn value(base: u8, digits: &[u8]) -> Option<Number>
 }
 
 /// What a number of this value is.
+#[inline(always)]
 pub(crate) fn number(value: Option<Number>) -> Result<TokenKind, WordFault>
     ensures { (v : ℕ) → value ≡ in_bits v → result ≡ number v }
 {

@@ -96,6 +96,7 @@ fn longer(one: Option<Front>, other: Option<Front>) -> Option<Front>
     }
 }
 
+#[inline(always)]
 pub(crate) fn longest_number(bytes: &[u8]) -> Option<Front>
     ensures word { option_map (judged_front bytes.now) result ≡ spec.longer (spec.decimal bytes.now) (spec.longer (spec.hexadecimal bytes.now) (spec.verilog bytes.now)) }
     ensures inside { IfSome result (IsInside bytes.now) }
