@@ -8,9 +8,19 @@ mod paths;
 mod tests;
 
 use crate::command::{command, refuse_words};
-use std::alloc::Global;
+use std::alloc::{AllocError, Global};
 use std::process::ExitCode;
 use std::{env, io};
+
+/// How many bytes the list of the items of a largest map takes, and some more.
+const LARGE: usize = 8 << 20;
+
+/// Takes so many bytes and gives them back untouched. From then on the C library keeps what is freed, up to that size, for what
+/// is asked for next: it gives larger pieces back to the system than it has ever seen freed, and what comes from there is
+/// cleared page by page. Where they can't be had, a run only takes longer.
+fn keep_freed_memory(alloc: Global) {
+    let _untouched: Result<Vec<u8>, AllocError> = Vec::with_capacity(alloc, LARGE);
+}
 
 fn run_words(rt: &HostRuntime, alloc: Global) -> io::Result<u8> {
     let owned: Vec<String> = env::args(rt)?.skip(1).collect(alloc)?;
@@ -25,6 +35,7 @@ fn run_words(rt: &HostRuntime, alloc: Global) -> io::Result<u8> {
 }
 
 fn main(rt: HostRuntime) -> ExitCode {
+    keep_freed_memory(rt.alloc());
     ExitCode::from(match run_words(&rt, rt.alloc()) {
         Ok(status) => status,
         Err(error) => refuse_words(&error, &mut rt.stderr()),
