@@ -12,8 +12,8 @@ use std::alloc::{AllocError, Global};
 use std::process::ExitCode;
 use std::{env, io};
 
-/// How many bytes the list of the items of a largest map takes, and some more.
-const LARGE: usize = 8 << 20;
+/// How many bytes the list of 65,536 items takes, the most that a map may have.
+const LARGE: usize = 6 << 20;
 
 /// Takes so many bytes and gives them back untouched. From then on the C library keeps what is freed, up to that size, for what
 /// is asked for next: it gives larger pieces back to the system than it has ever seen freed, and what comes from there is
