@@ -27,6 +27,6 @@ returns c =
     let own = which ∙ ap (λ (e : Edit). patches d e) is.is in
     let fit = subst (λ (ps : List Patch). AllFit ps d) are c.requires.fit in
     let numbers = c.in-Ok.ensures ∙ ap (λ (t : List (List ℕ)). notes.fronts.items ++ assigned_front t is.property ∷ []) c.names.ensures in
-    let outlook : Outlook = record { notes = record { room = Some c.in_ok-left.left; way = notes.way; fronts = c.note.new.fronts }; at = c.copy.result } in
+    let outlook : Outlook = record { notes = record { room = Some c.in_ok-left.left; way = notes.way; fronts = c.note.new.fronts }; at = c.address.result } in
     subst (λ (ps : List Patch). IsOutlook ps d outlook) (sym are)
-    (outlook-of d is.field-0 is.target is.property is.field-3 notes at x c.in_ok-left.left outlook c.requires.faultless f own fit c.in_ok-left.ensures c.copy.ensures refl refl numbers)
+    (outlook-of d is.field-0 is.target is.property is.field-3 notes at x c.in_ok-left.left outlook c.requires.faultless f own fit c.in_ok-left.ensures c.address.ensures refl refl numbers)
