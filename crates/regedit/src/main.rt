@@ -16,8 +16,8 @@ use std::{env, io};
 const LARGE: usize = 6 << 20;
 
 /// Takes so many bytes and gives them back untouched. From then on the C library keeps what is freed, up to that size, for what
-/// is asked for next: it gives larger pieces back to the system than it has ever seen freed, and what comes from there is
-/// cleared page by page. Where they can't be had, a run only takes longer.
+/// is asked for next. Otherwise it gives a piece that is larger than all that were freed before back to the system, and what
+/// comes from there is cleared page by page. Where so many bytes can't be had, a run only takes longer.
 fn keep_freed_memory(alloc: Global) {
     let _untouched: Result<Vec<u8>, AllocError> = Vec::with_capacity(alloc, LARGE);
 }
