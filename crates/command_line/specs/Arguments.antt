@@ -1,7 +1,7 @@
--- The arguments of the programs as `clap` sees them: two operands, and five options or one. Own.
+-- The arguments of the programs as `clap` sees them: two operands, and six options or one. Own.
 use Rattle.std.specs.Prelude.{[], ◌∷◌, Some, true, codes, pos}
 use Rattle.clap.specs.Words.{App, Rule, Text, new_app, new_rule, with_rule}
-use Rattle.clap.specs.declared.builder.action.ArgAction.TheVariants.{Set}
+use Rattle.clap.specs.declared.builder.action.ArgAction.TheVariants.{Set, SetTrue}
 use Rattle.clap.specs.declared.builder.value_parser.ValueParser.TheVariants as parser
 
 -- MAP and SCRIPT, or OLD and NEW, known by their places
@@ -30,6 +30,10 @@ history_rule = record (new_rule (codes "history")) {
 abbrev pub session_rule : Rule
 session_rule = record (new_rule (codes "session")) { long = Some (codes "session"); action = Some Set; value_names = 1 }
 
+-- --strict, which has no value
+abbrev pub strict_rule : Rule
+strict_rule = record (new_rule (codes "strict")) { long = Some (codes "strict"); action = Some SetTrue }
+
 -- the words don't begin with the program's name
 abbrev pub without_name : App → App
 without_name a = record a { top = record a.top { no_binary_name = true } }
@@ -43,8 +47,8 @@ abbrev pub program_with : Text → (first second : Rule) → App
 program_with name first second = with_rule (with_rule (with_version (without_name (new_app name))) first) second
 
 unfoldable pub regedit_command : App
-regedit_command = with_rule (with_rule (with_rule (with_rule (with_rule (program_with (codes "regedit") (operand_rule (codes "map")) (operand_rule (codes "script")))
-    (output_rule (codes "rdl"))) (output_rule (codes "header"))) top_rule) history_rule) session_rule
+regedit_command = with_rule (with_rule (with_rule (with_rule (with_rule (with_rule (program_with (codes "regedit") (operand_rule (codes "map")) (operand_rule (codes "script")))
+    (output_rule (codes "rdl"))) (output_rule (codes "header"))) top_rule) history_rule) session_rule) strict_rule
 
 unfoldable pub regdiff_command : App
 regdiff_command = with_rule (program_with (codes "regdiff") (operand_rule (codes "old")) (operand_rule (codes "new"))) top_rule

@@ -1,17 +1,23 @@
--- Which paths of a line lead to one file, as far as words tell. Own.
-use Rattle.std.specs.Prelude.{◌≡◌, ℕ, nat_eq, Bool, true, false, ◌||◌, if◌then◌else◌, List, Option, Some, None, codes, bytes_eq, option_map, option_and_then, string_bytes}
+-- Which paths of a line lead to one file or stream, as far as words tell. Own.
+use Rattle.std.specs.Prelude.{◌≡◌, ℕ, nat_eq, Bool, true, false, ◌||◌, ◌&&◌, if◌then◌else◌, List, Option, Some, None, codes, bytes_eq, option_map, option_and_then, string_bytes}
 use Rattle.std.specs.List.{starts_with}
 use Rattle.clap.specs.Words.{Row, Text, first_of}
 use Rattle.command_line.specs.declared.line.Line.{Line}
 use Rattle.command_line.specs.declared.meeting.Meeting.{Meeting}
-use Rattle.command_line.specs.declared.meeting.Meeting.TheVariants.{TwoOutputs, OutputOverScript, HeaderOverMap}
+use Rattle.command_line.specs.declared.meeting.Meeting.TheVariants.{TwoOutputs, OutputOverScript, HeaderOverMap, TwoInputs}
+use Rattle.command_line.specs.Streams.{is_standard_input}
 
 -- what stands below these folders may be written by many
 abbrev pub is_of_the_system : Text → Bool
 is_of_the_system path = starts_with nat_eq path (codes "/dev/") || starts_with nat_eq path (codes "/proc/")
 
-abbrev pub file_named : Text → Option Text
-file_named path = if is_of_the_system path then None else Some path
+-- the file that an output's path names; standard output, `-`, counts as one
+abbrev pub output_named : Text → Option Text
+output_named path = if is_of_the_system path then None else Some path
+
+-- the file that an input's path names; standard input is none
+abbrev pub input_named : Text → Option Text
+input_named path = if is_standard_input path then None else output_named path
 
 -- both lead to a file, and to the same
 abbrev pub are_one : Option Text → Option Text → Bool
@@ -27,19 +33,25 @@ meeting_at map script rdl header session =
     else if are_one header map then Some HeaderOverMap
     else None
 
+-- of a line with these paths: standard input is read once, and no file is written over that is needed
+abbrev pub meeting_between : (map script rdl header : Text) → (session : Option Text) → Option Meeting
+meeting_between map script rdl header session =
+    if is_standard_input map && is_standard_input script then Some TwoInputs
+    else meeting_at (input_named map) (input_named script) (output_named rdl) (output_named header) (option_and_then output_named session)
+
 -- of the paths of a line
 abbrev pub meeting_of : Line → Option Meeting
-meeting_of line = meeting_at
-    (file_named (string_bytes line.map)) (file_named (string_bytes line.script))
-    (file_named (string_bytes line.rdl)) (file_named (string_bytes line.header))
-    (option_and_then file_named (option_map string_bytes line.session))
+meeting_of line = meeting_between
+    (string_bytes line.map) (string_bytes line.script) (string_bytes line.rdl) (string_bytes line.header) (option_map string_bytes line.session)
 
--- the file of the path that the words give an argument, if they give it one
-abbrev pub file_in : List Row → Text → Option Text
-file_in rows id = option_and_then file_named (first_of id rows)
-
--- of the paths that the words give
-abbrev pub meeting_in : List Row → Option Meeting
-meeting_in rows = meeting_at
-    (file_in rows (codes "map")) (file_in rows (codes "script"))
-    (file_in rows (codes "rdl")) (file_in rows (codes "header")) (file_in rows (codes "session"))
+-- two paths of the words meet so: those that the words give MAP, SCRIPT and the outputs
+pub record MeetAt (rows : List Row) (meeting : Meeting) : Type 0 where
+  pub map : Text
+  pub script : Text
+  pub rdl : Text
+  pub header : Text
+  pub is_map : first_of (codes "map") rows ≡ Some map
+  pub is_script : first_of (codes "script") rows ≡ Some script
+  pub is_rdl : first_of (codes "rdl") rows ≡ Some rdl
+  pub is_header : first_of (codes "header") rows ≡ Some header
+  pub meet : meeting_between map script rdl header (first_of (codes "session") rows) ≡ Some meeting

@@ -1,5 +1,5 @@
 -- What the words behind the name of `regedit` mean. Own; how `clap` finds arguments among words is of its own definitions.
-use Rattle.std.specs.Prelude.{◌≡◌, ◌≢◌, ◌≤◌, ⊤, ℕ, List, [], ◌∷◌, Some, is_some, option_map, true, codes, pos, string_bytes, IsSomeAnd, IfSome}
+use Rattle.std.specs.Prelude.{◌≡◌, ◌≢◌, ◌≤◌, ⊤, ℕ, List, [], ◌∷◌, Bool, Option, Some, None, is_some, option_map, true, false, codes, pos, bytes_eq, string_bytes, IsSomeAnd, IfSome}
 use Rattle.std.specs.Str.Parse.{signed_digits_value}
 use Rattle.clap.specs.Words.{Kinds, Row, Text, fault_of, matches_of, one_of, takes, without_minus}
 use Rattle.clap.specs.Values.{IsSignedIn}
@@ -13,7 +13,7 @@ use Rattle.command_line.specs.declared.line.LineFault.TheVariants as faults
 use Rattle.command_line.specs.declared.meeting.Meeting.{Meeting}
 use Rattle.command_line.specs.Faults.{HasBadTop, HasFault, value}
 use Rattle.command_line.specs.Faults as of_words
-use Rattle.command_line.specs.Meetings.{meeting_in}
+use Rattle.command_line.specs.Meetings.{MeetAt}
 
 -- the arguments that are found among the words, each with its values
 abbrev pub found : List Text → List Row
@@ -29,6 +29,11 @@ pub record NumbersHistory (rows : List Row) (n : ℕ) : Type 0 where
   pub least : 1 ≤ n
   pub most : n ≤ 1000000
 
+-- the value of an option that has none of its own: `clap` gives it this one where the words have it
+abbrev pub says_true : Option Text → Bool
+says_true (Some text) = bytes_eq text (codes "true")
+says_true None = false
+
 -- each part of the line is the value of its argument
 pub record Means (rows : List Row) (line : Line) : Type 0 where
   pub map : value (codes "map") rows ≡ Some (string_bytes line.map)
@@ -39,6 +44,7 @@ pub record Means (rows : List Row) (line : Line) : Type 0 where
   pub top_is_name : IfSome line.top IsName
   pub history : NumbersHistory rows line.history
   pub session : value (codes "session") rows ≡ option_map string_bytes line.session
+  pub strict : line.strict ≡ says_true (value (codes "strict") rows)
 
 -- what is told of the words: nothing where `clap` takes them, else the kind of the first thing that it doesn't take, where
 -- `--help` and `--version` are such things
@@ -67,7 +73,7 @@ AreBadAtTop words = (mistakes words ≡ []) × HasBadTop (found words)
 
 -- two of their paths lead to one file, as far as they tell, and nothing else is wrong
 abbrev pub Meet : List Text → Meeting → Type 0
-Meet words meeting = (mistakes words ≡ []) × (meeting_in (found words) ≡ Some meeting)
+Meet words meeting = (mistakes words ≡ []) × MeetAt (found words) meeting
 
 -- the words give what the fault says
 abbrev pub Refuses : List Text → LineFault → Type 0

@@ -1,7 +1,7 @@
 //! The arguments of the programs, as `clap` reads them and as their help shows them.
 ghost use Rattle.std.specs.Prelude.{◌≡◌, IfOk, false};
 ghost use Rattle.clap.specs.Words.{app_of, rule_of};
-ghost use Rattle.command_line.specs.Arguments.{history_rule, operand_rule, output_rule, program_with, regdiff_command, regedit_command, session_rule, top_rule};
+ghost use Rattle.command_line.specs.Arguments.{history_rule, operand_rule, output_rule, program_with, regdiff_command, regedit_command, session_rule, strict_rule, top_rule};
 
 use clap::{Arg, ArgAction, Command, value_parser};
 use std::alloc::{AllocError, Global};
@@ -67,6 +67,16 @@ fn session<'a>(alloc: Global) -> Arg<'a>
         .help("Where the session is written: the map with its undos and redos")
 }
 
+fn strict<'a>(alloc: Global) -> Arg<'a>
+    ensures rule { rule_of result ≡ strict_rule }
+    ensures own { result.global ≡ false }
+{
+    Arg::new(alloc, "strict")
+        .long("strict")
+        .action(ArgAction::SetTrue)
+        .help("Changes files only where each line was accepted")
+}
+
 /// A program of this name with two operands.
 fn program<'a>(
     alloc: Global,
@@ -95,17 +105,36 @@ pub(crate) fn regedit_command<'a>(alloc: Global) -> Result<Command<'a>, AllocErr
         alloc,
         "regedit",
         "Edits a register map by a script, and writes the map and its C header",
-        operand(alloc, "map", "MAP", "The register map to edit"),
-        operand(alloc, "script", "SCRIPT", "The edits, one on each line"),
+        operand(
+            alloc,
+            "map",
+            "MAP",
+            "The register map to edit, or - for standard input",
+        ),
+        operand(
+            alloc,
+            "script",
+            "SCRIPT",
+            "The edits, one on each line, or - for standard input",
+        ),
     )?
-    .arg(output(alloc, "rdl", "Where the edited map is written"))?
-    .arg(output(alloc, "header", "Where the C header is written"))?
+    .arg(output(
+        alloc,
+        "rdl",
+        "Where the edited map is written, or - for standard output",
+    ))?
+    .arg(output(
+        alloc,
+        "header",
+        "Where the C header is written, or - for standard output",
+    ))?
     .arg(top(
         alloc,
         "The address map of the root that is the top; with none, the last one",
     ))?
     .arg(history(alloc))?
-    .arg(session(alloc))
+    .arg(session(alloc))?
+    .arg(strict(alloc))
 }
 
 /// The command `regdiff`, with its help.

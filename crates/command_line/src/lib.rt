@@ -7,5 +7,6 @@ pub mod fault;
 pub mod laws;
 pub mod line;
 pub mod meeting;
+pub mod streams;
 mod values;
 pub mod words;

@@ -20,6 +20,8 @@ pub struct Line {
     pub history: u32,
     /// The file to which the session is written, if it is asked for.
     pub session: Option<String>,
+    /// Whether files change only where each line of the script was accepted.
+    pub strict: bool,
 }
 
 /// Why words are no command line.
@@ -27,7 +29,7 @@ pub struct Line {
 pub enum LineFault {
     /// L1 to L4, L6: they are none of any program.
     Words(WordsFault),
-    /// L5: two of the paths lead to one file, as far as the words tell.
+    /// L5: two of the paths lead to one file or stream, as far as the words tell.
     Meets(Meeting),
 }
 

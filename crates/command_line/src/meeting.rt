@@ -1,10 +1,11 @@
 //! Which paths of a line lead to one file, so that a run would write over what it has.
 ghost use Rattle.std.specs.Prelude.{◌≡◌, option_map};
-ghost use Rattle.command_line.specs.Meetings.{are_one, file_named, meeting_at};
+ghost use Rattle.command_line.specs.Meetings.{are_one, input_named, meeting_at, meeting_between, output_named};
 
+use crate::streams::is_standard_input;
 use std::fmt;
 
-/// What would be written over.
+/// What would be written over, or read twice.
 #[derive(Clone, Copy, Debug, PartialEq, Eq, Drop)]
 pub enum Meeting {
     /// Two of the outputs are one file.
@@ -13,6 +14,8 @@ pub enum Meeting {
     OutputOverScript,
     /// The header is the map.
     HeaderOverMap,
+    /// Standard input is both the map and the script.
+    TwoInputs,
 }
 
 impl fmt::Display for Meeting {
@@ -21,20 +24,32 @@ impl fmt::Display for Meeting {
             Meeting::TwoOutputs => "two outputs in one file",
             Meeting::OutputOverScript => "an output over SCRIPT",
             Meeting::HeaderOverMap => "header over MAP",
+            Meeting::TwoInputs => "MAP and SCRIPT both from standard input",
         })
     }
 }
 
-/// The file to which a path leads, as far as the words tell: none where it lies below `/dev/` or `/proc/`, since what stands
-/// there may be written by many.
-pub fn file_named(path: &str) -> Option<&str>
-    ensures { option_map (λ t. t.now) result ≡ file_named path.now }
+/// The file that an output's path names: none where it lies below `/dev/` or `/proc/`, since what stands there may be written by
+/// many. Standard output, `-`, counts as one.
+fn output_named(path: &str) -> Option<&str>
+    ensures { option_map (λ t. t.now) result ≡ output_named path.now }
 {
     let bytes = path.as_bytes();
     if bytes.starts_with(b"/dev/") || bytes.starts_with(b"/proc/") {
         None
     } else {
         Some(path)
+    }
+}
+
+/// The file that an input's path names. Standard input is none.
+fn input_named(path: &str) -> Option<&str>
+    ensures { option_map (λ t. t.now) result ≡ input_named path.now }
+{
+    if is_standard_input(path) {
+        None
+    } else {
+        output_named(path)
     }
 }
 
@@ -48,7 +63,7 @@ fn are_one(a: Option<&str>, b: Option<&str>) -> bool
 }
 
 /// What a run over these files would write over, the worst first. A file that is none meets no other.
-pub fn meeting_at(
+fn meeting_at(
     map: Option<&str>,
     script: Option<&str>,
     rdl: Option<&str>,
@@ -67,4 +82,30 @@ pub fn meeting_at(
         return Some(Meeting::HeaderOverMap);
     }
     None
+}
+
+/// What a run over these paths would write over or read twice, as far as the words tell.
+pub(crate) fn meeting_between(
+    map: &str,
+    script: &str,
+    rdl: &str,
+    header: &str,
+    session: Option<&str>,
+) -> Option<Meeting>
+    ensures { result ≡ meeting_between map.now script.now rdl.now header.now (option_map (λ t. t.now) session.entry) }
+{
+    if is_standard_input(map) && is_standard_input(script) {
+        return Some(Meeting::TwoInputs);
+    }
+    let session = match session {
+        Some(path) => output_named(path),
+        None => None,
+    };
+    meeting_at(
+        input_named(map),
+        input_named(script),
+        output_named(rdl),
+        output_named(header),
+        session,
+    )
 }

@@ -1,15 +1,15 @@
 //! From words to a line of `regedit`.
-ghost use Rattle.std.specs.Prelude.{◌≡◌, List, [], None, map, codes, string_bytes, IfOk, IfErr, MatchResult, OnOk, option_and_then, option_map};
+ghost use Rattle.std.specs.Prelude.{◌≡◌, List, [], None, map, codes, string_bytes, IfOk, IfErr, MatchResult, OnOk, option_map};
 ghost use Rattle.clap.specs.Words.{found_of, kind_of, rows_of};
 ghost use Rattle.command_line.specs.Faults.{HasFault, IsTold, RefusesFound, value};
 ghost use Rattle.command_line.specs.Faults.{IsBehindClap as AreBehindClap};
-ghost use Rattle.command_line.specs.Meetings.{file_named, meeting_of};
-ghost use Rattle.command_line.specs.Words.{AreTaken, HasHistory, IsBehindClap, IsWhole, Means, NumbersHistory, Refuses, found, mistakes};
+ghost use Rattle.command_line.specs.Meetings.{meeting_of};
+ghost use Rattle.command_line.specs.Words.{AreTaken, HasHistory, IsBehindClap, IsWhole, Means, NumbersHistory, Refuses, found, mistakes, says_true};
 
 use crate::arguments::regedit_command;
 use crate::fault::WordsFault;
 use crate::line::{Line, LineFault};
-use crate::meeting::{Meeting, file_named, meeting_at};
+use crate::meeting::{Meeting, meeting_between};
 use crate::values::{argument, top_of};
 use clap::error::ErrorKind;
 use clap::{ArgMatches, Error};
@@ -41,25 +41,34 @@ fn session_of(alloc: Global, matches: &ArgMatches<'_>) -> Result<Option<String>,
     Ok(Some(String::from_str(alloc, text)?))
 }
 
-fn session_named(line: &Line) -> Option<&str>
-    ensures { option_map (λ t. t.now) result ≡ option_and_then file_named (option_map string_bytes line.now.session) }
+fn is_strict(matches: &ArgMatches<'_>) -> bool
+    ensures { result ≡ says_true (value (codes "strict") (rows_of (found_of matches.now))) }
+{
+    match matches.get_str("strict") {
+        Some(text) => text == "true",
+        None => false,
+    }
+}
+
+fn session_path(line: &Line) -> Option<&str>
+    ensures { option_map (λ t. t.now) result ≡ option_map string_bytes line.now.session }
 {
     match &line.session {
-        Some(path) => file_named(path.as_str()),
+        Some(path) => Some(path.as_str()),
         None => None,
     }
 }
 
-/// What a run of the line would write over, as far as its words tell.
+/// What a run of the line would write over or read twice, as far as its words tell.
 fn meeting_of(line: &Line) -> Option<Meeting>
     ensures { result ≡ meeting_of line.now }
 {
-    meeting_at(
-        file_named(line.map.as_str()),
-        file_named(line.script.as_str()),
-        file_named(line.rdl.as_str()),
-        file_named(line.header.as_str()),
-        session_named(line),
+    meeting_between(
+        line.map.as_str(),
+        line.script.as_str(),
+        line.rdl.as_str(),
+        line.header.as_str(),
+        session_path(line),
     )
 }
 
@@ -77,6 +86,7 @@ fn line_of(alloc: Global, matches: &ArgMatches<'_>) -> Result<Line, WordsFault>
         top,
         history: history_of(matches),
         session: session_of(alloc, matches)?,
+        strict: is_strict(matches),
     })
 }
 

@@ -1,15 +1,27 @@
 -- The exit status of the program. Own; which a comparison has is of `rdl_diff`.
-use Rattle.std.specs.Prelude.{◌≡◌, ◌≢◌, ◌⊎◌, ℕ, List, [], ◌∷◌}
+use Rattle.std.specs.Prelude.{◌≡◌, ◌≢◌, ◌⊎◌, ℕ, List, [], ◌∷◌, Option, Result, Ok, Err}
 use Rattle.clap.specs.declared.error.kind.ErrorKind.{ErrorKind}
 use Rattle.clap.specs.declared.error.kind.ErrorKind.TheVariants.{DisplayHelp, DisplayVersion}
 use Rattle.command_line.specs.ComparisonWords.{found, mistakes}
 use Rattle.command_line.specs.Faults.{HasBadTop}
 use Rattle.command_line.specs.declared.fault.WordsFault.{WordsFault}
 use Rattle.command_line.specs.declared.fault.WordsFault.TheVariants as faults
+use Rattle.rdl_diff.specs.Endings.{status_code}
+use Rattle.rdl_diff.specs.declared.status.Status.{Status}
+use Rattle.regdiff.specs.OfMaps.{IsStatusOf}
 
 -- that of a comparison, or of what stopped it
 abbrev pub IsOfComparison : ℕ → Type 0
 IsOfComparison n = (n ≡ 0) ⊎ ((n ≡ 1) ⊎ ((n ≡ 2) ⊎ (n ≡ 4)))
+
+-- that of a comparison that ended so
+abbrev pub exit_code : {E : Type 0} → Result Status E → ℕ
+exit_code (Ok status) = status_code status
+exit_code (Err stop) = 4
+
+-- the comparison stopped, or it ended with the status of what is written of some two maps
+abbrev pub EndsComparison : (top : Option (List ℕ)) → ℕ → Type 0
+EndsComparison top n = (n ≡ 4) ⊎ ((status : Status) × IsStatusOf top status × (n ≡ status_code status))
 
 -- or of words that are none
 abbrev pub IsExit : ℕ → Type 0

@@ -1,11 +1,11 @@
 //! The program's edge: its words, its messages and its exit status.
 ghost use Rattle.std.specs.Prelude.{◌≡◌, ◌⊎◌, map};
-ghost use Rattle.regdiff.specs.CommandLine.{AreRefused, AskForHelp, AskForVersion, EndsWords, IsExit, IsOfComparison};
+ghost use Rattle.regdiff.specs.CommandLine.{AreRefused, AskForHelp, AskForVersion, EndsComparison, EndsWords, IsExit, IsOfComparison, exit_code};
 
 use crate::files::{Stop, compare_files};
 use command_line::comparison::{Comparison, line};
 use command_line::fault::WordsFault;
-use rdl_diff::status::status_code;
+use rdl_diff::status::{Status, status_code};
 use rdl_run::counted::CountedWriter;
 use rdl_run::output::write_counted;
 use rdl_run::status::RunFault;
@@ -24,21 +24,32 @@ fn report_words<E: Write>(what: &str, errors: &mut E) -> u8
 }
 
 /// Says why the comparison stopped, and below it at which file, where it is one.
-fn report_stop<E: Write>(stop: &Stop<'_>, errors: &mut E) -> u8
-    ensures { result ≡ 4 }
-{
+fn report_stop<E: Write>(stop: &Stop<'_>, errors: &mut E) {
     let _ = writeln!(errors, "regdiff: {}", stop.fault);
     if let Some(obstacle) = &stop.obstacle {
         let _ = writeln!(errors, "regdiff: {obstacle}");
     }
-    4
 }
 
 fn report_fault<E: Write>(fault: RunFault, errors: &mut E) -> u8
     ensures { result ≡ 4 }
 {
     let obstacle = None;
-    report_stop(&Stop { fault, obstacle }, errors)
+    report_stop(&Stop { fault, obstacle }, errors);
+    4
+}
+
+/// The exit status of a comparison that ended so. Why it stopped is said.
+fn ended<E: Write>(outcome: &Result<Status, Stop<'_>>, errors: &mut E) -> u8
+    ensures { result ≡ exit_code outcome.now }
+{
+    match outcome {
+        Ok(status) => status_code(*status),
+        Err(stop) => {
+            report_stop(stop, errors);
+            4
+        }
+    }
 }
 
 fn obey<R: Files, M: Write, E: Write>(
@@ -48,12 +59,10 @@ fn obey<R: Files, M: Write, E: Write>(
     messages: &mut M,
     errors: &mut E,
 ) -> u8
-    ensures { IsOfComparison result }
+    ensures known { IsOfComparison result }
+    ensures ends { EndsComparison line.now.top result }
 {
-    match compare_files(rt, alloc, line, messages) {
-        Ok(status) => status_code(status),
-        Err(stop) => report_stop(&stop, errors),
-    }
+    ended(&compare_files(rt, alloc, line, messages), errors)
 }
 
 /// Prints the help or the version.

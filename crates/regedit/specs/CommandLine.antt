@@ -1,9 +1,11 @@
 -- The exit status of the program. Own.
-use Rattle.std.specs.Prelude.{◌≡◌, ◌⊎◌, ℕ, ◌≤◌, List, []}
-use Rattle.command_line.specs.Words.{AreBadAtTop, AreMistaken, Meet, mistakes}
+use Rattle.std.specs.Prelude.{◌≡◌, ◌⊎◌, ℕ, ◌≤◌, List, Result, Ok, Err}
+use Rattle.command_line.specs.Words.{AreBadAtTop, AreMistaken, Meet}
 use Rattle.command_line.specs.declared.meeting.Meeting.{Meeting}
 use Rattle.command_line.specs.declared.fault.WordsFault.{WordsFault}
 use Rattle.command_line.specs.declared.fault.WordsFault.TheVariants as faults
+use Rattle.rdl_run.specs.declared.run.Options.{Options}
+use Rattle.regedit.specs.OfOutput.{IsStatusOf}
 use Rattle.regedit.specs.declared.command.Failure.{Failure}
 use Rattle.regedit.specs.declared.command.Failure.TheVariants as failures
 use Rattle.rdl_run.specs.declared.status.Status.{Status}
@@ -21,6 +23,15 @@ failure_code failures.BadCommandLine = 5
 failure_code failures.BadTop = 5
 failure_code (failures.Meets meeting) = 5
 
+-- that of a run that ended so
+abbrev pub exit_code : {E : Type 0} → Result Status E → ℕ
+exit_code (Ok status) = status_code status
+exit_code (Err stop) = 4
+
+-- the run stopped, or it ended with the status of an output of some map and script
+abbrev pub EndsRun : Options → ℕ → Type 0
+EndsRun options n = (n ≡ 4) ⊎ ((status : Status) × IsStatusOf options status × (n ≡ status_code status))
+
 -- how the program ends where the words are no command line; help and the version may find no memory, or be cut off
 abbrev pub EndsWords : WordsFault → ℕ → Type 0
 EndsWords (faults.Help help) n = (n ≡ 0) ⊎ (n ≡ 4)
@@ -29,17 +40,13 @@ EndsWords (faults.Refused mistake) n = n ≡ 5
 EndsWords faults.BadTop n = n ≡ 5
 EndsWords faults.Memory n = n ≡ 4
 
--- two of the paths that the words give lead to one file, as far as they tell, and nothing else is wrong
+-- two of the paths that the words give lead to one file or stream, as far as they tell, and nothing else is wrong
 abbrev pub DoMeet : List (List ℕ) → Type 0
 DoMeet words = (meeting : Meeting) × Meet words meeting
 
 -- the words have a mistake, or they have none and the name of the top is bad, or two of their paths meet
 abbrev pub AreRefused : List (List ℕ) → Type 0
 AreRefused words = AreMistaken words ⊎ AreBadAtTop words ⊎ DoMeet words
-
--- nothing is wrong with the words alone
-abbrev pub AreWell : List (List ℕ) → Type 0
-AreWell words = mistakes words ≡ []
 
 abbrev pub IsExit : ℕ → Type 0
 IsExit n = n ≤ 5

@@ -1,29 +1,55 @@
--- Which text goes to which file. Own.
-use Rattle.std.specs.Prelude.{ℕ, List, [], ◌∷◌, ◌++◌, Bool, true, false, Option, Some, None, option_map, string_bytes}
+-- Which text goes where. Own.
+use Rattle.std.specs.Prelude.{ℕ, List, [], ◌∷◌, ◌++◌, Bool, true, false, not, Option, Some, None, filter, option_map, string_bytes, if◌then◌else◌}
+use Rattle.std.specs.List.{flat_map}
+use Rattle.command_line.specs.Streams.{is_standard_output}
 use Rattle.rdl_run.specs.Missing.{has_map, has_header, has_session}
 use Rattle.rdl_run.specs.declared.run.Texts.{Texts}
+use Rattle.rdl_run.specs.declared.status.Status.{Status}
+use Rattle.rdl_run.specs.declared.status.Status.TheVariants.{Accepted}
+use Rattle.regedit.specs.declared.files.Filed.{Filed}
 use Rattle.regedit.specs.declared.paths.Paths.{Paths}
 use Rattle.whole_files.specs.declared.output.Output.{Output}
 
--- the bytes of a path, and those that go to its file
-abbrev pub Filed : Type 0
-Filed = List ℕ × List ℕ
+-- the bytes of a path, and those that go out at it
+abbrev pub Sent : Type 0
+Sent = List ℕ × List ℕ
 
-abbrev pub seen : Output → Filed
-seen output = (output.path.now, output.text.now)
+abbrev pub seen : Filed → Sent
+seen filed = (filed.path.now, string_bytes filed.text)
 
-abbrev pub if_there : Bool → Filed → List Filed
-if_there true filed = filed ∷ []
-if_there false filed = []
+-- the same of a text that is lent
+abbrev pub lent : Output → Sent
+lent output = (output.path.now, output.text.now)
+
+abbrev pub if_there : Bool → Sent → List Sent
+if_there true sent = sent ∷ []
+if_there false sent = []
 
 -- the session goes nowhere where it isn't asked for
-abbrev pub session_files : Bool → Option (List ℕ) → List ℕ → List Filed
+abbrev pub session_files : Bool → Option (List ℕ) → List ℕ → List Sent
 session_files there (Some path) text = if_there there (path, text)
 session_files there None text = []
 
 -- the map, then the header, then the session, each where it is there
-abbrev pub files_of : Texts → Paths → List Filed
-files_of texts paths =
+abbrev pub all_of : Texts → Paths → List Sent
+all_of texts paths =
     if_there (has_map texts.status) (string_bytes paths.rdl, string_bytes texts.rdl)
     ++ if_there (has_header texts.status) (string_bytes paths.header, string_bytes texts.header)
     ++ session_files (has_session texts.status) (option_map string_bytes paths.session) (string_bytes texts.session)
+
+-- with `strict` no text goes out unless each line was accepted and no text is missing
+abbrev pub goes_out : (strict : Bool) → Status → Bool
+goes_out true Accepted = true
+goes_out true status = false
+goes_out false status = true
+
+abbrev pub files_of : (strict : Bool) → Texts → Paths → List Sent
+files_of strict texts paths = if goes_out strict texts.status then all_of texts paths else []
+
+-- those that go to files
+abbrev pub to_files : List Sent → List Sent
+to_files sent = filter (λ (s : Sent). not (is_standard_output s.0)) sent
+
+-- what goes to standard output
+abbrev pub to_output : List Sent → List ℕ
+to_output sent = flat_map (λ (s : Sent). if is_standard_output s.0 then s.1 else []) sent

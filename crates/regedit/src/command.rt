@@ -1,13 +1,13 @@
 //! The program's edge: its words, its messages and its exit status.
 ghost use Rattle.std.specs.Prelude.{◌≡◌, ◌⊎◌, ◌≤◌, map};
-ghost use Rattle.regedit.specs.CommandLine.{AreRefused, AreWell, EndsWords, IsExit, failure_code, status_code};
+ghost use Rattle.regedit.specs.CommandLine.{AreRefused, EndsRun, EndsWords, IsExit, exit_code, failure_code, status_code};
 ghost use Rattle.command_line.specs.Words.{AskForHelp, AskForVersion};
 ghost use Rattle.regedit.specs.declared.command.Failure.{Failure};
 
 use crate::files::{Stop, edit_files};
-use crate::paths::{meeting_of_files, parts};
+use crate::paths::{Asked, meeting_of_files, parts};
 use command_line::fault::WordsFault;
-use command_line::line::{Line, LineFault};
+use command_line::line::LineFault;
 use command_line::meeting::Meeting;
 use command_line::words::line;
 use rdl_run::counted::CountedWriter;
@@ -61,35 +61,43 @@ fn report<E: Write>(failure: Failure, errors: &mut E) -> u8
 }
 
 /// Says why the run stopped, and below it at which file, where it is one.
-fn report_stop<E: Write>(stop: &Stop<'_>, errors: &mut E) -> u8
-    ensures { result ≤ 4 }
-{
-    let code = report(Failure::Fault(stop.fault), errors);
+fn report_stop<E: Write>(stop: &Stop<'_>, errors: &mut E) {
+    let _ = report(Failure::Fault(stop.fault), errors);
     if let Some(obstacle) = &stop.obstacle {
         let _ = writeln!(errors, "regedit: {obstacle}");
     }
-    code
+}
+
+/// The exit status of a run that ended so. Why it stopped is said.
+fn ended<E: Write>(outcome: &Result<Status, Stop<'_>>, errors: &mut E) -> u8
+    ensures { result ≡ exit_code outcome.now }
+{
+    match outcome {
+        Ok(status) => status_code(*status),
+        Err(stop) => {
+            report_stop(stop, errors);
+            4
+        }
+    }
 }
 
 /// Does what a line asks, unless two of its paths lead to one file: then nothing is read or written.
-fn obey<R: Files, M: Write, E: Write>(
+fn obey<R: Files + Input, M: Write, E: Write>(
     rt: &R,
     alloc: Global,
-    line: Line,
+    asked: &Asked,
     messages: &mut M,
     errors: &mut E,
 ) -> u8
-    ensures { IsExit result }
+    ensures { EndsRun asked.now.options result }
 {
-    let (paths, options) = parts(line);
-    if let Some(meeting) = meeting_of_files(rt, alloc, &paths) {
-        return report(Failure::Meets(meeting), errors);
-    }
-    match edit_files(rt, alloc, &paths, &options, messages) {
-        Ok(status) => status_code(status),
-        Err(stop) => report_stop(&stop, errors),
-    }
+    let outcome = match meeting_of_files(rt, alloc, &asked.paths) {
+        Some(obstacle) => Err(Stop::at(RunFault::Write, obstacle)),
+        None => edit_files(rt, alloc, asked, messages),
+    };
+    ended(&outcome, errors)
 }
+
 /// Prints the help or the version.
 fn print_told<M: Write>(
     alloc: Global,
@@ -126,7 +134,7 @@ fn refuse<M: Write, E: Write>(
 }
 
 /// Does what the words behind the program's name ask, and answers the exit status.
-pub fn command<R: Files, M: Write, E: Write>(
+pub fn command<R: Files + Input, M: Write, E: Write>(
     rt: &R,
     alloc: Global,
     words: &[&str],
@@ -137,13 +145,12 @@ pub fn command<R: Files, M: Write, E: Write>(
 
     // Refused words end with 5, but where there is no memory to read them.
     ensures refused { AreRefused (map (λ w. w.now) words.now) → (result ≡ 5) ⊎ (result ≡ 4) }
-    // Where they aren't refused, it comes only where two of their paths lead to one file.
-    ensures only { result ≡ 5 → AreRefused (map (λ w. w.now) words.now) ⊎ AreWell (map (λ w. w.now) words.now) }
+    ensures only { result ≡ 5 → AreRefused (map (λ w. w.now) words.now) }
     ensures version { AskForVersion (map (λ w. w.now) words.now) → (result ≡ 0) ⊎ (result ≡ 4) }
     ensures help { AskForHelp (map (λ w. w.now) words.now) → (result ≡ 0) ⊎ (result ≡ 4) }
 {
     match line(alloc, words) {
-        Ok(line) => obey(rt, alloc, line, messages, errors),
+        Ok(line) => obey(rt, alloc, &parts(line), messages, errors),
         Err(LineFault::Words(fault)) => refuse(alloc, fault, messages, errors),
         Err(LineFault::Meets(meeting)) => report(Failure::Meets(meeting), errors),
     }

@@ -1,17 +1,23 @@
-//! A run over files: they are read whole before it, and replaced whole behind it.
-ghost use Rattle.std.specs.Prelude.{◌≡◌, IfOk, map};
-ghost use Rattle.regedit.specs.Files.{files_of, seen};
+//! A run over files: they are read whole before it, and replaced whole after it.
+ghost use Rattle.std.specs.Prelude.{◌≡◌, ◌++◌, IfOk, OnOk, map, string_bytes};
+ghost use Rattle.std.specs.Io.KnownBytes.{Appends};
+ghost use Rattle.regedit.specs.Files.{files_of, if_there, lent, seen, to_files, to_output};
 ghost use Rattle.rdl_run.specs.RunTexts.{AreRun};
-ghost use Rattle.regedit.specs.OfOutput.{AreOfOutput};
+ghost use Rattle.regedit.specs.OfOutput.{IsLeft, IsStatusOf};
+ghost use Rattle.rdl_run.specs.Turns.{IsOpen};
 
-use crate::paths::Paths;
+use crate::paths::{Asked, Paths};
+use crate::source::Source;
+use command_line::streams::{is_standard_input, is_standard_output};
+use rdl_run::counted::CountedWriter;
+use rdl_run::output::write_counted;
 use rdl_run::run::{MOST_BYTES, Options, Texts, run_texts};
 use rdl_run::status::{RunFault, Status};
 use std::alloc::{AllocError, Global};
+use std::fs::{File, Files};
 use std::io::{Read, Write};
-use std::rt::Files;
 use whole_files::noted::{NotedReader, NotedWriter};
-use whole_files::obstacle::{Obstacle, Reason, obstacle_of_inputs, obstacle_of_output, open_input};
+use whole_files::obstacle::{Obstacle, Reason, obstacle_of_inputs, obstacle_of_output};
 use whole_files::output::{Output, OutputFault, write_whole};
 
 /// Why a run stopped, and at which file, where it is one.
@@ -22,7 +28,7 @@ pub(crate) struct Stop<'a> {
 }
 
 impl<'a> Stop<'a> {
-    fn at(fault: RunFault, obstacle: Obstacle<'a>) -> Stop<'a> {
+    pub(crate) fn at(fault: RunFault, obstacle: Obstacle<'a>) -> Stop<'a> {
         Stop {
             fault,
             obstacle: Some(obstacle),
@@ -30,10 +36,33 @@ impl<'a> Stop<'a> {
     }
 }
 
-fn opened<'a, R: Files>(rt: &R, path: &'a str) -> Result<NotedReader<R::File>, Stop<'a>> {
-    match open_input(rt, path) {
-        Ok(input) => Ok(input),
-        Err(obstacle) => Err(Stop::at(RunFault::Read, obstacle)),
+/// A text, and the path at which it goes out.
+#[derive(Debug, Drop)]
+pub(crate) struct Filed<'a> {
+    path: &'a str,
+    text: String,
+}
+
+/// What a run leaves: how it ended, and the texts that go out.
+#[derive(Debug, Drop)]
+struct Left<'a> {
+    status: Status,
+    outputs: Vec<Filed<'a>>,
+}
+
+/// An input, and why it can't be read as far as that is known.
+type Noted<R> = NotedReader<Source<<R as Files>::File, <R as Input>::Reader>>;
+
+fn opened<'a, R: Files + Input>(rt: &R, path: &'a str) -> Result<Noted<R>, Stop<'a>> {
+    if is_standard_input(path) {
+        return Ok(NotedReader::new(Source::Standard(rt.reader())));
+    }
+    match File::open(rt, path) {
+        Ok(file) => Ok(NotedReader::new(Source::File(file))),
+        Err(error) => {
+            let reason = Reason::Unread(error);
+            Err(Stop::at(RunFault::Read, Obstacle { path, reason }))
+        }
     }
 }
 
@@ -77,66 +106,152 @@ fn run_inputs<'a, F: Read, M: Write>(
     }
 }
 
-fn run_in_memory<'a, R: Files, M: Write>(
-    rt: &R,
-    alloc: Global,
-    paths: &'a Paths,
-    options: &Options,
-    messages: &mut M,
-) -> Result<Texts, Stop<'a>>
-    ensures output { IfOk result (AreOfOutput options.now) }
+/// Puts a text and its path behind the others, if it is there.
+fn push_if<'a>(
+    outputs: &mut Vec<Filed<'a>>,
+    is_there: bool,
+    path: &'a str,
+    text: String,
+) -> Result<(), AllocError>
+    ensures { OnOk result (map seen outputs.new.items ≡ map seen outputs.old.items ++ if_there is_there (path.entry.now, string_bytes text)) }
 {
-    let mut map = opened(rt, paths.map.as_str())?;
-    let mut script = opened(rt, paths.script.as_str())?;
-    let mut messages = NotedWriter::new(messages);
-    run_inputs(alloc, paths, options, &mut map, &mut script, &mut messages)
+    if is_there {
+        outputs.push(Filed { path, text })?;
+    }
+    Ok(())
 }
 
-/// The texts that there are, each with the path of its file.
-fn outputs_of<'p, 't>(
+/// The texts that go out, each with its path. With `strict` none does unless each line was accepted.
+fn outputs_of<'a>(
     alloc: Global,
-    texts: &'t Texts,
-    paths: &'p Paths,
-) -> Result<Vec<Output<'p, 't>>, AllocError>
-    ensures { IfOk result (λ outputs. map seen outputs.items ≡ files_of texts.now paths.now) }
+    texts: Texts,
+    paths: &'a Paths,
+    strict: bool,
+) -> Result<Vec<Filed<'a>>, AllocError>
+    ensures { IfOk result (λ outputs. map seen outputs.items ≡ files_of strict texts paths.entry.now) }
 {
     let mut outputs = Vec::new(alloc);
-    if texts.status.has_map() {
-        outputs.push(Output {
-            path: paths.rdl.as_str(),
-            text: texts.rdl.as_bytes(),
-        })?;
+    let Texts {
+        status,
+        rdl,
+        header,
+        session,
+    } = texts;
+    if strict && status != Status::Accepted {
+        return Ok(outputs);
     }
-    if texts.status.has_header() {
-        outputs.push(Output {
-            path: paths.header.as_str(),
-            text: texts.header.as_bytes(),
-        })?;
-    }
-    match &paths.session {
-        Some(path) if texts.status.has_session() => outputs.push(Output {
-            path: path.as_str(),
-            text: texts.session.as_bytes(),
-        })?,
-        _ => {}
+    push_if(&mut outputs, status.has_map(), paths.rdl.as_str(), rdl)?;
+    push_if(
+        &mut outputs,
+        status.has_header(),
+        paths.header.as_str(),
+        header,
+    )?;
+    if let Some(path) = &paths.session {
+        push_if(&mut outputs, status.has_session(), path.as_str(), session)?;
     }
     Ok(outputs)
 }
 
-/// Replaces the files by the texts that there are.
-fn write_texts<'a, R: Files>(
+/// What a run leaves that made these texts.
+fn left_by<'a>(alloc: Global, texts: Texts, asked: &'a Asked) -> Result<Left<'a>, Stop<'a>>
+    ensures status { IfOk result (λ left. left.status ≡ texts.status) }
+    ensures outputs { IfOk result (λ left. map seen left.outputs.items ≡ files_of asked.entry.now.strict texts asked.entry.now.paths) }
+{
+    let status = texts.status;
+    match outputs_of(alloc, texts, &asked.paths, asked.strict) {
+        Ok(outputs) => Ok(Left { status, outputs }),
+        Err(_) => Err(Stop {
+            fault: RunFault::Memory,
+            obstacle: None,
+        }),
+    }
+}
+
+/// The run that is asked. What goes out is of one output of a run of some map and script, each text at its path.
+fn run_in_memory<'a, R: Files + Input, M: Write>(
     rt: &R,
     alloc: Global,
-    texts: &Texts,
-    paths: &'a Paths,
-) -> Result<(), Stop<'a>> {
-    let Ok(outputs) = outputs_of(alloc, texts, paths) else {
+    asked: &'a Asked,
+    messages: &mut NotedWriter<'_, M>,
+) -> Result<Left<'a>, Stop<'a>>
+    ensures left { IfOk result (IsLeft asked.entry.now) }
+{
+    let paths = &asked.paths;
+    let mut map = opened(rt, paths.map.as_str())?;
+    let mut script = opened(rt, paths.script.as_str())?;
+    let texts = run_inputs(
+        alloc,
+        paths,
+        &asked.options,
+        &mut map,
+        &mut script,
+        messages,
+    )?;
+    left_by(alloc, texts, asked)
+}
+
+/// Writes the texts whose path is standard output, one after the other.
+fn write_standard<W: Write>(
+    outputs: &[Filed<'_>],
+    output: &mut CountedWriter<'_, W>,
+) -> Result<(), RunFault>
+    requires asked { IsOpen output.old.counts }
+    ensures ok { OnOk result (Appends (W.contents output.old.writer.now) (W.contents output.new.writer.now) (to_output (map seen outputs.entry.now))) }
+    ensures same_reference { output.new.writer.ghost_name ≡ output.old.writer.ghost_name }
+{
+    'outputs: for one in outputs {
+        if is_standard_output(one.path) {
+            write_counted(output, one.text.as_bytes())?;
+        }
+    }
+    Ok(())
+}
+
+/// Writes those texts to standard output, where the messages are.
+fn write_behind<'a, M: Write>(
+    outputs: &[Filed<'_>],
+    messages: &mut NotedWriter<'_, M>,
+) -> Result<(), Stop<'a>>
+    ensures ok { OnOk result (Appends (M.contents messages.old.writer.now) (M.contents messages.new.writer.now) (to_output (map seen outputs.entry.now))) }
+{
+    match write_standard(outputs, &mut CountedWriter::new(messages, 0)) {
+        Ok(()) => Ok(()),
+        Err(fault) => Err(Stop {
+            fault,
+            obstacle: obstacle_of_output(messages),
+        }),
+    }
+}
+
+/// The texts that go to files, each with the path of its file.
+fn file_texts<'p, 't>(
+    alloc: Global,
+    outputs: &'t [Filed<'p>],
+) -> Result<Vec<Output<'p, 't>>, AllocError>
+    ensures { IfOk result (λ files. map lent files.items ≡ to_files (map seen outputs.entry.now)) }
+{
+    let mut files = Vec::new(alloc);
+    'outputs: for one in outputs {
+        if !is_standard_output(one.path) {
+            files.push(Output {
+                path: one.path,
+                text: one.text.as_bytes(),
+            })?;
+        }
+    }
+    Ok(files)
+}
+
+/// Replaces the files by their texts.
+fn write_files<'a, R: Files>(rt: &R, alloc: Global, outputs: &[Filed<'a>]) -> Result<(), Stop<'a>> {
+    let Ok(files) = file_texts(alloc, outputs) else {
         return Err(Stop {
             fault: RunFault::Memory,
             obstacle: None,
         });
     };
-    match write_whole(rt, alloc, outputs.as_slice()) {
+    match write_whole(rt, alloc, files.as_slice()) {
         Ok(()) => Ok(()),
         Err(OutputFault { path, error }) => {
             let reason = Reason::Unwritten(error);
@@ -145,16 +260,19 @@ fn write_texts<'a, R: Files>(
     }
 }
 
-/// Runs the script on its map or session. The files are replaced only when the run has ended: none where the map is refused,
-/// and all but those whose text is missing.
-pub(crate) fn edit_files<'a, R: Files, M: Write>(
+/// Runs the script on its map or session. Behind the messages, standard output gets the text that goes there. The files are
+/// replaced only when all that is written: none where the map is refused, and all but those whose text is missing.
+pub(crate) fn edit_files<'a, R: Files + Input, M: Write>(
     rt: &R,
     alloc: Global,
-    paths: &'a Paths,
-    options: &Options,
+    asked: &'a Asked,
     messages: &mut M,
-) -> Result<Status, Stop<'a>> {
-    let texts = run_in_memory(rt, alloc, paths, options, messages)?;
-    write_texts(rt, alloc, &texts, paths)?;
-    Ok(texts.status)
+) -> Result<Status, Stop<'a>>
+    ensures status { IfOk result (IsStatusOf asked.entry.now.options) }
+{
+    let mut messages = NotedWriter::new(messages);
+    let Left { status, outputs } = run_in_memory(rt, alloc, asked, &mut messages)?;
+    write_behind(outputs.as_slice(), &mut messages)?;
+    write_files(rt, alloc, outputs.as_slice())?;
+    Ok(status)
 }

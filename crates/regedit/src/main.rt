@@ -4,6 +4,7 @@
 mod command;
 mod files;
 mod paths;
+mod source;
 #[cfg(test)]
 mod tests;
 

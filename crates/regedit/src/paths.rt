@@ -1,9 +1,12 @@
-//! The paths of a line, and whether two of them lead to one file.
+//! The paths of a line, what its run is asked, and whether two of the paths lead to one file.
+ghost use Rattle.std.specs.Prelude.{◌≡◌, is_some};
+
 use command_line::line::Line;
-use command_line::meeting::{Meeting, meeting_at};
+use command_line::streams::{is_standard_input, is_standard_output};
 use rdl_run::run::Options;
 use std::alloc::Global;
 use std::rt::Files;
+use whole_files::obstacle::{Obstacle, Reason};
 use whole_files::plain::plain_file;
 
 /// The paths of a line.
@@ -16,8 +19,22 @@ pub(crate) struct Paths {
     pub(crate) session: Option<String>,
 }
 
-/// The paths of a line, and what its run is asked.
-pub(crate) fn parts(line: Line) -> (Paths, Options) {
+/// What a line asks for.
+#[derive(Debug, Drop)]
+pub(crate) struct Asked {
+    pub(crate) paths: Paths,
+    /// What its run is asked.
+    pub(crate) options: Options,
+    /// Whether files change only where each line of the script was accepted.
+    pub(crate) strict: bool,
+}
+
+/// What a line asks for.
+pub(crate) fn parts(line: Line) -> Asked
+    ensures paths { result.paths ≡ record { map = line.map; script = line.script; rdl = line.rdl; header = line.header; session = line.session } }
+    ensures options { result.options ≡ record { top = line.top; history = line.history; session = is_some line.session } }
+    ensures strict { result.strict ≡ line.strict }
+{
     let Line {
         map,
         script,
@@ -26,6 +43,7 @@ pub(crate) fn parts(line: Line) -> (Paths, Options) {
         session,
         top,
         history,
+        strict,
     } = line;
     let options = Options {
         top,
@@ -39,7 +57,62 @@ pub(crate) fn parts(line: Line) -> (Paths, Options) {
         header,
         session,
     };
-    (paths, options)
+    Asked {
+        paths,
+        options,
+        strict,
+    }
+}
+
+/// A path of a line, the word that stands for it in messages, and the plain file to which it leads, if it leads to one.
+#[derive(Drop)]
+struct Place<'a> {
+    path: &'a str,
+    word: &'static str,
+    file: Option<String>,
+}
+
+impl<'a> Place<'a> {
+    /// The place of an input. Standard input is no file.
+    fn of_input<R: Files>(rt: &R, alloc: Global, path: &'a str, word: &'static str) -> Place<'a> {
+        let file = if is_standard_input(path) {
+            None
+        } else {
+            file_of(rt, alloc, path)
+        };
+        Place { path, word, file }
+    }
+
+    /// The place of an output. Standard output is no file.
+    fn of_output<R: Files>(rt: &R, alloc: Global, path: &'a str, word: &'static str) -> Place<'a> {
+        let file = if is_standard_output(path) {
+            None
+        } else {
+            file_of(rt, alloc, path)
+        };
+        Place { path, word, file }
+    }
+
+    /// That this output can't be written, if it leads to the file of the other.
+    fn meeting(&self, other: &Place<'_>) -> Option<Obstacle<'a>> {
+        match (&self.file, &other.file) {
+            (Some(one), Some(two)) if one.as_str() == two.as_str() => Some(Obstacle {
+                path: self.path,
+                reason: Reason::SameFile(other.word),
+            }),
+            _ => None,
+        }
+    }
+}
+
+/// The first of these outputs that leads to the file of the place beside it.
+fn first_meeting<'a>(pairs: &[(&Place<'a>, &Place<'_>)]) -> Option<Obstacle<'a>> {
+    for (output, other) in pairs {
+        if let Some(obstacle) = output.meeting(other) {
+            return Some(obstacle);
+        }
+    }
+    None
 }
 
 /// The plain file to which a path leads. What can't be found out of it is left to its reading or writing.
@@ -47,28 +120,28 @@ fn file_of<R: Files>(rt: &R, alloc: Global, path: &str) -> Option<String> {
     plain_file(rt, alloc, path).unwrap_or(None)
 }
 
-fn path_text(file: &Option<String>) -> Option<&str> {
-    match file {
-        Some(path) => Some(path.as_str()),
+/// That an output of a run over these paths would be written over what the run reads or writes besides, if one would: two paths
+/// may lead to one file by other words, or through a link.
+pub(crate) fn meeting_of_files<'a, R: Files>(
+    rt: &R,
+    alloc: Global,
+    paths: &'a Paths,
+) -> Option<Obstacle<'a>> {
+    let map = Place::of_input(rt, alloc, paths.map.as_str(), "MAP");
+    let script = Place::of_input(rt, alloc, paths.script.as_str(), "SCRIPT");
+    let rdl = Place::of_output(rt, alloc, paths.rdl.as_str(), "--rdl");
+    let header = Place::of_output(rt, alloc, paths.header.as_str(), "--header");
+    first_meeting(&[
+        (&header, &rdl),
+        (&rdl, &script),
+        (&header, &script),
+        (&header, &map),
+    ])
+    .or(match &paths.session {
+        Some(path) => {
+            let session = Place::of_output(rt, alloc, path.as_str(), "--session");
+            first_meeting(&[(&session, &rdl), (&session, &header), (&session, &script)])
+        }
         None => None,
-    }
-}
-
-/// What a run over these paths would write over: two of them may lead to one file by other words, or through a link.
-pub(crate) fn meeting_of_files<R: Files>(rt: &R, alloc: Global, paths: &Paths) -> Option<Meeting> {
-    let map = file_of(rt, alloc, paths.map.as_str());
-    let script = file_of(rt, alloc, paths.script.as_str());
-    let rdl = file_of(rt, alloc, paths.rdl.as_str());
-    let header = file_of(rt, alloc, paths.header.as_str());
-    let session = match &paths.session {
-        Some(path) => file_of(rt, alloc, path.as_str()),
-        None => None,
-    };
-    meeting_at(
-        path_text(&map),
-        path_text(&script),
-        path_text(&rdl),
-        path_text(&header),
-        path_text(&session),
-    )
+    })
 }

@@ -12,6 +12,8 @@ pub enum Reason {
     Unwritten(io::Error),
     /// It can't be read, since it has more than so many bytes.
     TooLong(u64),
+    /// It can't be written, since it leads to the same file as what this word names.
+    SameFile(&'static str),
 }
 
 /// At which file a program stopped, and why.
@@ -30,6 +32,7 @@ impl fmt::Display for Obstacle<'_> {
             Reason::Unread(error) => write!(f, "cannot read {path}: {error}"),
             Reason::Unwritten(error) => write!(f, "cannot write {path}: {error}"),
             Reason::TooLong(most) => write!(f, "cannot read {path}: more than {most} bytes"),
+            Reason::SameFile(word) => write!(f, "cannot write {path}: it is the file of {word}"),
         }
     }
 }

@@ -13,4 +13,5 @@ returns c =
     let header = c.in_ok-arg-2.ensures.shape c.output-2.ensures.own ∙ ap₂ with_rule rdl c.output-2.ensures.rule in
     let top = c.in_ok-arg-3.ensures.shape c.top.ensures.own ∙ ap₂ with_rule header c.top.ensures.rule in
     let history = c.in_ok-arg-4.ensures.shape c.history.ensures.own ∙ ap₂ with_rule top c.history.ensures.rule in
-    IfOk-weaker c.arg-5.result _ _ (λ command adds. adds.shape c.session.ensures.own ∙ ap₂ with_rule history c.session.ensures.rule) c.arg-5.ensures
+    let session = c.in_ok-arg-5.ensures.shape c.session.ensures.own ∙ ap₂ with_rule history c.session.ensures.rule in
+    IfOk-weaker c.arg-6.result _ _ (λ command adds. adds.shape c.strict.ensures.own ∙ ap₂ with_rule session c.strict.ensures.rule) c.arg-6.ensures
