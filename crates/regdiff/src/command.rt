@@ -13,6 +13,7 @@ use std::alloc::Global;
 use std::io;
 use std::io::{ErrorKind, Write};
 use std::rt::Files;
+use whole_files::shown::has_control;
 
 /// Says that the words are no command line, or that their top is no name. Where that can't be said, the exit status still
 /// shows it.
@@ -78,6 +79,7 @@ fn print_told<M: Write>(
 /// Says what words ask for that are no command line.
 fn refuse<M: Write, E: Write>(
     alloc: Global,
+    words: &[&str],
     fault: WordsFault,
     messages: &mut M,
     errors: &mut E,
@@ -91,6 +93,9 @@ fn refuse<M: Write, E: Write>(
             Ok(()) => 0,
             Err(fault) => report_fault(fault, errors),
         },
+        WordsFault::Refused(_) if words.iter().any(|word| has_control(word)) => {
+            report_words("command line, with a control character", errors)
+        }
         WordsFault::Refused(mistake) => {
             let _ = write!(errors, "{mistake}");
             5
@@ -118,7 +123,7 @@ pub(crate) fn command<R: Files, M: Write, E: Write>(
 {
     match line(alloc, words) {
         Ok(line) => obey(rt, alloc, &line, messages, errors),
-        Err(fault) => refuse(alloc, fault, messages, errors),
+        Err(fault) => refuse(alloc, words, fault, messages, errors),
     }
 }
 

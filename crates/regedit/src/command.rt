@@ -18,6 +18,7 @@ use std::io;
 use std::io::{ErrorKind, Write};
 use std::rt::Files;
 use thiserror::Error;
+use whole_files::shown::has_control;
 
 /// Why the program ends without a status of a run, where `clap` says nothing of it.
 #[derive(Clone, Copy, Debug, PartialEq, Eq, Drop, Error)]
@@ -108,9 +109,19 @@ fn print_told<M: Write>(
     write_counted(&mut CountedWriter::new(messages, 0), text.as_bytes())
 }
 
+/// Says what is wrong with the words. A word that could move the terminal isn't repeated.
+fn report_mistake<E: Write>(words: &[&str], mistake: &clap::Error, errors: &mut E) {
+    let _ = if words.iter().any(|word| has_control(word)) {
+        writeln!(errors, "{}, with a control character", Failure::BadCommandLine)
+    } else {
+        write!(errors, "{mistake}")
+    };
+}
+
 /// Says what words ask for that are no command line by the words alone.
 fn refuse<M: Write, E: Write>(
     alloc: Global,
+    words: &[&str],
     fault: WordsFault,
     messages: &mut M,
     errors: &mut E,
@@ -125,7 +136,7 @@ fn refuse<M: Write, E: Write>(
             Err(fault) => report(Failure::Fault(fault), errors),
         },
         WordsFault::Refused(mistake) => {
-            let _ = write!(errors, "{mistake}");
+            report_mistake(words, &mistake, errors);
             5
         }
         WordsFault::BadTop => report(Failure::BadTop, errors),
@@ -151,7 +162,7 @@ pub fn command<R: Files + Input, M: Write, E: Write>(
 {
     match line(alloc, words) {
         Ok(line) => obey(rt, alloc, &parts(line), messages, errors),
-        Err(LineFault::Words(fault)) => refuse(alloc, fault, messages, errors),
+        Err(LineFault::Words(fault)) => refuse(alloc, words, fault, messages, errors),
         Err(LineFault::Meets(meeting)) => report(Failure::Meets(meeting), errors),
     }
 }

@@ -7,3 +7,4 @@ pub mod noted;
 pub mod obstacle;
 pub mod output;
 pub mod plain;
+pub mod shown;

@@ -1,5 +1,6 @@
 //! At which file a program stopped, and why.
 use crate::noted::{NotedReader, NotedWriter};
+use crate::shown::Shown;
 use std::fs::{File, Files};
 use std::{fmt, io};
 
@@ -27,7 +28,7 @@ pub struct Obstacle<'a> {
 
 impl fmt::Display for Obstacle<'_> {
     fn fmt<W: fmt::Write>(&self, f: &mut fmt::Formatter<W>) -> fmt::Result {
-        let path = self.path;
+        let path = Shown(self.path);
         match &self.reason {
             Reason::Unread(error) => write!(f, "cannot read {path}: {error}"),
             Reason::Unwritten(error) => write!(f, "cannot write {path}: {error}"),
