@@ -1,9 +1,8 @@
 //! A short text that is put from its end on.
 ghost use Rattle.std.specs.Prelude.{◌≡◌, ◌+◌, ◌<◌, ◌≤◌, [], ◌∷◌, ◌++◌, true, length, codes};
-ghost use Rattle.std.specs.Fmt.{decimal, digit_glyph, digits};
+ghost use Rattle.std.specs.Fmt.{digit_glyph, digits};
 ghost use Rattle.rdl_write.specs.Texts.{hexadecimal};
 
-use itoa::write_digits;
 use std::marker::Model;
 use std::str;
 
@@ -85,19 +84,10 @@ impl Backwards {
         self.put(b'0');
     }
 
-    /// Puts a number as decimal digits before the others.
-    pub(crate) fn put_decimal(&mut self, number: u64)
-        requires { length self.old + 20 ≤ 64 }
-        ensures { self.new ≡ decimal number ++ self.old }
-    {
-        let end = self.start;
-        self.start = write_digits(number, &mut self.bytes, end);
-    }
-
     /// The text.
     pub(crate) fn as_str(&self) -> &str
         ensures { result.now ≡ self.now }
     {
-        unsafe { str::from_utf8_unchecked(&self.bytes[self.start..]) }
+        str::from_utf8(&self.bytes[self.start..]).unwrap()
     }
 }

@@ -78,27 +78,18 @@ pub fn push_decimal(text: &mut String, number: Number) -> Result<(), AllocError>
 pub fn push_decimal_end(text: &mut String, number: Number) -> Result<(), AllocError>
     ensures { OnOk result (string_bytes text.new ≡ string_bytes text.old ++ codes " " ++ decimal number ++ newline) }
 {
-    if number > Number::from(u64::MAX) {
-        text.push_str(" ")?;
-        push_decimal(text, number)?;
-        return text.push_str("\n");
-    }
-    let mut short = Backwards::new();
-    short.put(b'\n');
-    short.put_decimal(number as u64);
-    short.put(b' ');
-    text.push_str(short.as_str())
+    text.push(' ')?;
+    push_decimal(text, number)?;
+    text.push('\n')
 }
 
 /// Appends the bits from a low one up to a high one, as `[HIGH:LOW]`.
 pub fn push_high_low(text: &mut String, high: u64, low: u64) -> Result<(), AllocError>
     ensures { OnOk result (string_bytes text.new ≡ string_bytes text.old ++ codes "[" ++ decimal high ++ codes ":" ++ decimal low ++ codes "]") }
 {
-    let mut short = Backwards::new();
-    short.put(b']');
-    short.put_decimal(low);
-    short.put(b':');
-    short.put_decimal(high);
-    short.put(b'[');
-    text.push_str(short.as_str())
+    text.push('[')?;
+    push_decimal(text, Number::from(high))?;
+    text.push(':')?;
+    push_decimal(text, Number::from(low))?;
+    text.push(']')
 }
