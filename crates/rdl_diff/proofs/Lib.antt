@@ -10,3 +10,4 @@ pub mod TurnedLines
 pub mod PartNames
 pub mod RowPaths
 pub mod Telling
+pub mod Escapes

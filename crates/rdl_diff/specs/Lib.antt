@@ -1,3 +1,4 @@
+pub mod Escaped
 pub mod Told
 pub mod Seen
 pub mod DiffText

@@ -4,6 +4,7 @@
 mod by_path;
 mod change;
 mod diff;
+mod escaped;
 pub mod laws;
 mod line;
 mod location;
