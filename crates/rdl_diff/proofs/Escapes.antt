@@ -56,9 +56,33 @@ is-digit n l = each-below IsDigit 16 n all l
   where
     one : (n : ℕ) → digits 16 true n ≡ digit n ∷ [] → value (digit n) ≡ n → IsShown (digit n) → IsDigit n
     one n a b s = record { alone = a; back = b; shown = s }
+
     all : Each IsDigit (upto 16)
-    all = (one 15 refl refl refl, (one 14 refl refl refl, (one 13 refl refl refl, (one 12 refl refl refl, (one 11 refl refl refl, (one 10 refl refl refl, (one 9 refl refl refl, (one 8 refl refl refl,
-        (one 7 refl refl refl, (one 6 refl refl refl, (one 5 refl refl refl, (one 4 refl refl refl, (one 3 refl refl refl, (one 2 refl refl refl, (one 1 refl refl refl, (one 0 refl refl refl, tt))))))))))))))))
+    all = (
+      one 15 refl refl refl,
+      (
+        one 14 refl refl refl,
+        (
+          one 13 refl refl refl,
+          (
+            one 12 refl refl refl,
+            (
+              one 11 refl refl refl,
+              (
+                one 10 refl refl refl,
+                (
+                  one 9 refl refl refl,
+                  (
+                    one 8 refl refl refl,
+                    (one 7 refl refl refl, (one 6 refl refl refl, (one 5 refl refl refl, (one 4 refl refl refl, (one 3 refl refl refl, (one 2 refl refl refl, (one 1 refl refl refl, (one 0 refl refl refl, tt)))))))),
+                  ),
+                ),
+              ),
+            ),
+          ),
+        ),
+      ),
+    )
 
 -- ---- What a byte becomes, and how it is read back.
 
@@ -144,6 +168,7 @@ read x b = each-form (IsRead x) (done 10 (codes "\\n") refl refl) (done 9 (codes
   where
     done : (b : ℕ) (text : List ℕ) → first (text ++ x) ≡ b → rest (text ++ x) ≡ x → IsRead x b text
     done b text e f = record { byte = e; others = f }
+
     plain : b ≢ 92 → is_ascii_control b ≡ false → IsRead x b (b ∷ [])
     plain not k = by (b == 92) refl
       where
@@ -207,6 +232,7 @@ shown-char c = by (low-or-high c)
   where
     low-or-high : (c : ℕ) → (c < 128) ⊎ (128 ≤ c)
     low-or-high c = grind arith
+
     by : (c < 128) ⊎ (128 ≤ c) → shown c (encode_utf8 c) ≡ escaped (encode_utf8 c)
     by (inl low) = ap (shown c) (encode_ascii c low) ∙ sym (append-nil (shown c (c ∷ []))) ∙ ap escaped (sym (encode_ascii c low))
     by (inr high) = high-form c (encode_utf8 c) high ∙ sym (high-text (encode_utf8 c) (high-bytes c high))
