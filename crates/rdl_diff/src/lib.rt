@@ -12,4 +12,4 @@ pub mod status;
 mod told;
 pub mod what;
 
-pub use diff::diff_text;
+pub use diff::{Differences, diff_text};
