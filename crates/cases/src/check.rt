@@ -1,6 +1,7 @@
 //! Whether a case passes, and what is said of it where it doesn't.
-ghost use Rattle.std.specs.Prelude.{◌≡◌, ◌↔◌, [], ◌∷◌, ◌++◌, IsTrue, MatchOption};
+ghost use Rattle.std.specs.Prelude.{◌≡◌, ◌↔◌, [], ◌∷◌, ◌++◌, IsTrue};
 ghost use Rattle.cases.specs.Exit.{status_code, comparison_code};
+ghost use Rattle.cases.specs.Met.{EndsWith, HasLines, IsMet, IsWanted};
 
 use crate::case::{Case, Lines, Wanted};
 use crate::found::{End, Found, find};
@@ -31,15 +32,6 @@ fn comparison_code(status: Comparison) -> u8
     }
 }
 
-/// The exit status, where there is one.
-fn end_code(end: End) -> Option<u8> {
-    match end {
-        End::Ended(status) => Some(status_code(status)),
-        End::Compared(status) => Some(comparison_code(status)),
-        End::Stopped(_) | End::BadTop => None,
-    }
-}
-
 fn is_text(bytes: &[u8], text: &str) -> bool
     ensures { IsTrue result ↔ (bytes.now ≡ text.now) }
 {
@@ -59,7 +51,7 @@ fn are_lines(text: &[u8], lines: &str) -> bool
 
 /// Whether a text has these lines, each with its line feed, and nothing else.
 fn has_lines(text: &[u8], lines: Lines) -> bool
-    ensures { IsTrue result ↔ MatchOption lines.entry (text.now ≡ []) (λ front. text.now ≡ front.now ++ 10 ∷ []) }
+    ensures { IsTrue result ↔ HasLines text.now lines.entry }
 {
     match lines {
         Some(lines) => are_lines(text, lines),
@@ -68,17 +60,23 @@ fn has_lines(text: &[u8], lines: Lines) -> bool
 }
 
 /// Whether a text is as it is wanted, if anything is said of it.
-fn is_wanted(text: &Vec<u8>, wanted: Option<Lines>) -> bool {
+fn is_wanted(text: &Vec<u8>, wanted: Option<Lines>) -> bool
+    ensures { IsTrue result ↔ IsWanted text.now.items wanted.entry }
+{
     match wanted {
         Some(lines) => has_lines(text.as_slice(), lines),
         None => true,
     }
 }
 
-fn is_wanted_end(end: End, wanted: u8) -> bool {
-    match end_code(end) {
-        Some(code) => code == wanted,
-        None => false,
+/// Whether it ended with this exit status.
+fn is_wanted_end(end: End, wanted: u8) -> bool
+    ensures { IsTrue result ↔ EndsWith end wanted }
+{
+    match end {
+        End::Ended(status) => status_code(status) == wanted,
+        End::Compared(status) => comparison_code(status) == wanted,
+        End::Stopped(_) | End::BadTop => false,
     }
 }
 
@@ -117,7 +115,9 @@ fn print_end(rt: &HostRuntime, end: End, wanted: u8) -> io::Result<()> {
 }
 
 /// Whether a run ended as is wanted, and its texts are as they are wanted.
-fn is_met(found: &Found, wanted: &Wanted, status: u8) -> bool {
+fn is_met(found: &Found, wanted: &Wanted, status: u8) -> bool
+    ensures { IsTrue result ↔ IsMet found.now wanted.now status }
+{
     is_wanted_end(found.end, status)
         && is_wanted(&found.messages, wanted.prints)
         && is_wanted(&found.rdl, wanted.writes)

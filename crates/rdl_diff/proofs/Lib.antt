@@ -9,4 +9,5 @@ pub mod SameLines
 pub mod TurnedLines
 pub mod PartNames
 pub mod RowPaths
-pub mod Telling
+pub mod Passing
+pub mod Escapes

@@ -1,6 +1,8 @@
+pub mod Escaped
 pub mod Told
 pub mod Seen
 pub mod DiffText
+pub mod Left
 pub mod ByPath
 pub mod Changed
 pub mod SameRows

@@ -1,5 +1,5 @@
 -- What a row tells, part by part, and how each part is written. Own.
-use Rattle.std.specs.Prelude.{ℕ, ◌==◌, ◌&&◌, Bool, true, false, List, [], ◌∷◌, map, Option, Some, None, option_map, bytes_eq, codes}
+use Rattle.std.specs.Prelude.{ℕ, ◌==◌, ◌&&◌, Bool, true, false, List, [], ◌∷◌, ◌++◌, map, Option, Some, None, option_map, bytes_eq, codes}
 use Rattle.std.specs.Cmp.Lexicographic.{pointwise}
 use Rattle.std.specs.List.{flat_map}
 use Rattle.std.specs.Option.{option_eq}
@@ -15,7 +15,8 @@ use Rattle.rdl_elab.specs.declared.row.Location.TheVariants.{Bytes, Bits}
 use Rattle.rdl_elab.specs.declared.row.Row.{Row}
 use Rattle.rdl_elab.specs.Reaches.{value_under}
 use Rattle.rdl_list.specs.ListText.{span_text}
-use Rattle.rdl_write.specs.Texts.{hexadecimal, kind_text, dim_text, value_text}
+use Rattle.rdl_write.specs.Texts.{hexadecimal, kind_text, dim_text, quote, value_text}
+use Rattle.rdl_diff.specs.Escaped.{escaped}
 use Rattle.rdl_diff.specs.declared.what.What.{What}
 use Rattle.rdl_diff.specs.declared.what.What.TheVariants as what
 
@@ -122,9 +123,10 @@ abbrev pub sizes_text : List ℕ → List ℕ
 sizes_text [] = codes "none"
 sizes_text (dim ∷ dims) = flat_map dim_text (dim ∷ dims)
 
--- a number as in the lines of rows, and any other value as in an assignment
+-- a number as in the lines of rows, a string in quotes, and any other value as in an assignment
 abbrev pub told_value_text : Value → List ℕ
 told_value_text (given.Number n) = hexadecimal n
+told_value_text (given.Text t) = quote ++ escaped t ++ quote
 told_value_text v = value_text v
 
 abbrev pub told_text : Told → List ℕ

@@ -1,8 +1,9 @@
 //! What the definitions have in common. Each function here is a law: it does nothing when it runs.
-ghost use Rattle.std.specs.Prelude.{◌≡◌, ℕ, [], List, Option, Ok};
+ghost use Rattle.std.specs.Prelude.{◌≡◌, ℕ, [], List, All, Option, Ok};
 ghost use Rattle.rdl_tree.specs.Items.{Items};
 ghost use Rattle.rdl_elab.specs.Faults.{elaborated};
 ghost use Rattle.rdl_elab.specs.declared.row.Row.{Row};
+ghost use Rattle.rdl_diff.specs.Escaped.{IsShown, escaped};
 ghost use Rattle.rdl_diff.specs.DiffText.{Line, diff_text, lines};
 ghost use Rattle.rdl_diff.specs.SameRows.{HaveOwnPaths, HaveTheSameRows, IsAmong, turned};
 
@@ -22,4 +23,10 @@ pub fn same_rows_have_no_lines()
 /// Where the two maps change places, what was gone comes, what came is gone, and each change turns round.
 pub fn lines_turn_round()
     ensures { (old new : List Row) (l : Line) → HaveOwnPaths new → IsAmong l (lines old new) → IsAmong (turned l) (lines new old) }
+{}
+
+/// The text of a string is printed without a control byte, and two texts are never printed the same.
+pub fn strings_print_apart()
+    ensures shown { (text : List ℕ) → All IsShown (escaped text) }
+    ensures apart { (a b : List ℕ) → escaped a ≡ escaped b → a ≡ b }
 {}

@@ -4,6 +4,7 @@
 mod by_path;
 mod change;
 mod diff;
+mod escaped;
 pub mod laws;
 mod line;
 mod location;
@@ -11,4 +12,4 @@ pub mod status;
 mod told;
 pub mod what;
 
-pub use diff::diff_text;
+pub use diff::{Differences, diff_text};

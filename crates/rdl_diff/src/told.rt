@@ -2,10 +2,12 @@
 ghost use Rattle.std.specs.Prelude.{◌≡◌, ◌++◌, string_bytes, OnOk, option_copied, option_map};
 ghost use Rattle.std.specs.Option.{option_eq};
 ghost use Rattle.rdl_list.specs.ListText.{span_text};
-ghost use Rattle.rdl_write.specs.Texts.{hexadecimal};
+ghost use Rattle.rdl_write.specs.Texts.{hexadecimal, quote};
+ghost use Rattle.rdl_diff.specs.Escaped.{escaped};
 ghost use Rattle.rdl_diff.specs.Told.{told, told_text, told_value_text, same, same_kind, same_span, same_value, or_none, sizes_text};
 ghost use Rattle.rdl_diff.specs.Seen.{seen};
 
+use crate::escaped::push_escaped;
 use crate::location::{bits_at, dims_at, offset_at, size_at, stride_at};
 use crate::what::What;
 use rdl_elab::layout::Span;
@@ -129,13 +131,23 @@ fn push_bits(text: &mut String, span: Option<Span>) -> Result<(), AllocError>
     }
 }
 
+/// Appends a string in quotes.
+fn push_string(text: &mut String, string: &str) -> Result<(), AllocError>
+    ensures { OnOk result (string_bytes text.new ≡ string_bytes text.old ++ (quote ++ escaped string.now ++ quote)) }
+{
+    text.push_str("\"")?;
+    push_escaped(text, string)?;
+    text.push_str("\"")
+}
+
 /// Appends a value; a number stands as in the lines of rows.
 fn push_given(text: &mut String, value: &Value) -> Result<(), AllocError>
     ensures { OnOk result (string_bytes text.new ≡ string_bytes text.old ++ told_value_text value.now) }
 {
     match value {
         Value::Number(number) => push_hexadecimal(text, *number),
-        Value::Text(_) | Value::Bool(_) | Value::Word(_) => push_value(text, value),
+        Value::Text(string) => push_string(text, string.as_str()),
+        Value::Bool(_) | Value::Word(_) => push_value(text, value),
     }
 }
 

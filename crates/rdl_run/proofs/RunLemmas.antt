@@ -1,5 +1,5 @@
 -- From the parts of a run to the whole.
-use Rattle.std.proofs.Common.{◌≡◌, inl, inr, ℕ, Bool, List, [], string_bytes, Option, Result, Ok, Err, IfOk, refl, sym, subst}
+use Rattle.std.proofs.Common.{◌≡◌, inl, inr, ℕ, Bool, List, [], string_bytes, length, Option, Some, Result, Ok, Err, IfOk, refl, sym, subst}
 use Rattle.std.proofs.KnownBytes.{Appends-nil, Appends-trans}
 use Rattle.std.proofs.lemmas.Str.{IsUtf8-string_bytes}
 use Rattle.journal_core.specs.History.{Kept}
@@ -14,11 +14,13 @@ use Rattle.rdl_run.specs.Known.{Gives}
 use Rattle.rdl_run.specs.Opening.{RefusesToOpen}
 use Rattle.rdl_run.specs.OwnSteps.{AllOwn, IsOwnSession, OpensKept}
 use Rattle.rdl_run.specs.Output.{AreTexts, HaveTaken, Holds, Outputs, Ran, RanCounted, outputs}
-use Rattle.rdl_run.specs.Turns.{Tallies, tallies}
+use Rattle.rdl_run.specs.RunTexts.{AreRun, AreRunCounted, in_memory}
+use Rattle.rdl_run.specs.Turns.{HasTaken, Tallies, tallies}
 use Rattle.rdl_run.specs.Writers.{ServesAll}
 use Rattle.rdl_run.specs.declared.closing.Closing.{Closing}
 use Rattle.rdl_run.specs.declared.counted.Counts.{Counts}
 use Rattle.rdl_run.specs.declared.run.Options.{Options}
+use Rattle.rdl_run.specs.declared.run.Texts.{Texts}
 use Rattle.rdl_run.specs.declared.status.RunFault.{RunFault}
 use Rattle.rdl_run.specs.declared.status.Status.{Status}
 use Rattle.rdl_run.specs.declared.status.Status.TheVariants.{MapRefused}
@@ -133,8 +135,24 @@ module _ (options : Options) (map script m mid : Option (List ℕ)) (a b : Count
     took = record { messages = taken-both a b counts.messages c.replies (string_bytes closing.message) c.took took.messages; rdl = took.rdl; header = took.header; session = took.session };
   }
 
+  -- the same of a run whose texts are handed out
+  pub texts_counted : (m' : Option (List ℕ)) (counts : Counts) (texts : Texts)
+      → Holds (outputs mid (Some []) (Some []) (Some [])) (in_memory m' (string_bytes texts.rdl) (string_bytes texts.header) (string_bytes texts.session)) texts.status (texts_of closing)
+      → HasTaken b counts (length (string_bytes closing.message))
+      → AreRunCounted options map script m m' a counts texts
+  unfolding ran_all
+  texts_counted m' counts texts w took = record {
+    run = ran_all m' (Some []) (Some (string_bytes texts.rdl)) (Some []) (Some (string_bytes texts.header)) (Some []) (Some (string_bytes texts.session)) texts.status w;
+    took = taken-both a b counts c.replies (string_bytes closing.message) c.took took;
+  }
+
 -- the run without the counts
 pub uncounted : {X : Type 0} (options : Options) (map script : Option (List ℕ)) (old new : Outputs) (a b : Tallies) (r : Result Status X)
     → IfOk r (RanCounted options map script old new a b) → IfOk r (Ran options map script old new)
 uncounted options map script old new a b (Ok status) c = c.ran
 uncounted options map script old new a b (Err fault) c = tt
+
+pub texts_uncounted : {X : Type 0} (options : Options) (map script old new : Option (List ℕ)) (a b : Counts) (r : Result Texts X)
+    → IfOk r (AreRunCounted options map script old new a b) → IfOk r (AreRun options map script old new)
+texts_uncounted options map script old new a b (Ok texts) c = c.run
+texts_uncounted options map script old new a b (Err fault) c = tt

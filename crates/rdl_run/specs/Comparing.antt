@@ -1,15 +1,16 @@
 -- A comparison of two maps or sessions: from their bytes to the text that is written, and the status. Own.
-use Rattle.std.specs.Prelude.{◌≡◌, ◌⊎◌, ℕ, List, [], Option, Ok, codes}
+use Rattle.std.specs.Prelude.{◌≡◌, ◌⊎◌, ℕ, List, [], map, Option, Ok, codes}
 use Rattle.std.specs.Io.KnownBytes.{Appends}
+use Rattle.std.specs.List.{flat_map}
 use Rattle.rdl_edit.specs.Step.{State}
 use Rattle.rdl_elab.specs.Faults.{elaborated}
 use Rattle.rdl_elab.specs.declared.row.Row.{Row}
-use Rattle.rdl_diff.specs.DiffText.{diff_text}
-use Rattle.rdl_run.specs.Known.{Gives, AppendsFront}
+use Rattle.rdl_diff.specs.DiffText.{Line, diff_text, line_text, lines}
+use Rattle.rdl_run.specs.Known.{Gives, AppendsFront, AppendsSome}
 use Rattle.rdl_run.specs.OpenedRows.{OpensRows}
 use Rattle.rdl_run.specs.Opening.{RefusesToOpen}
 use Rattle.rdl_run.specs.declared.status.RunFault.{RunFault}
-use Rattle.rdl_run.specs.declared.status.RunFault.TheVariants.{Write}
+use Rattle.rdl_run.specs.declared.status.RunFault.TheVariants.{Write, Memory}
 use Rattle.rdl_run.specs.Fronts.{with_front}
 use Rattle.rdl_diff.specs.Endings.{status_of}
 use Rattle.rdl_diff.specs.declared.status.Status.{Status}
@@ -79,7 +80,33 @@ pub record Fronts (top old new : Option (List ℕ)) (before after : Option (List
   pub is_output : IsOutput top old_bytes new_bytes out
   pub wrote : AppendsFront before after out.text
 
--- nothing is written but by the one write behind both maps
+-- the first of the lines were, whole ones
+pub record FirstLines (top old new : Option (List ℕ)) (before after : Option (List ℕ)) : Type 0 where
+  pub old_bytes : List ℕ
+  pub new_bytes : List ℕ
+  pub old_given : Gives old old_bytes
+  pub new_given : Gives new new_bytes
+  pub old_rows : List Row
+  pub new_rows : List Row
+  pub of_old : OpensRows top old_bytes old_rows
+  pub of_new : OpensRows top new_bytes new_rows
+  pub wrote : AppendsSome before after (map line_text (lines old_rows new_rows))
+
+-- nothing is written before both maps are read and judged; want of memory may come between two lines, or before the first
 abbrev pub Stopped : (top old new : Option (List ℕ)) → (before after : Option (List ℕ)) → RunFault → Type 0
 Stopped top old new before after Write = Fronts top old new before after
+Stopped top old new before after Memory = (after ≡ before) ⊎ FirstLines top old new before after
 Stopped top old new before after fault = after ≡ before
+
+-- ---- The lines of two maps.
+
+-- all are written, and the status says whether there is one
+pub record WritesLines (ls : List Line) (before after : Option (List ℕ)) (status : Status) : Type 0 where
+  pub wrote : Appends before after (flat_map line_text ls)
+  pub answer : status ≡ status_of (flat_map line_text ls)
+
+-- a write that fails leaves a front of them; want of memory comes between two
+abbrev pub StopsLines : List Line → (before after : Option (List ℕ)) → RunFault → Type 0
+StopsLines ls before after Write = AppendsFront before after (flat_map line_text ls)
+StopsLines ls before after Memory = AppendsSome before after (map line_text ls)
+StopsLines ls before after fault = ⊥

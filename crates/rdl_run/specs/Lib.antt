@@ -15,7 +15,7 @@ pub mod Output
 pub mod Writers
 pub mod ReadingFaults
 pub mod Readings
-pub mod Refused
+pub mod Judging
 pub mod Replies
 pub mod Resumed
 pub mod RunTexts

@@ -1,12 +1,12 @@
 //! A whole comparison, from two inputs to one output.
 ghost use Rattle.std.specs.Prelude.{◌≡◌, ◌⊎◌, true, ℕ, List, Option, IfOk, IfErr, IsErrOf, OnOk, option_copied};
-ghost use Rattle.rdl_diff.specs.DiffText.{diff_text};
-ghost use Rattle.rdl_diff.specs.Endings.{status_of};
-ghost use Rattle.rdl_run.specs.Comparing.{IsOutput, Ran, Stopped};
+ghost use Rattle.rdl_diff.specs.DiffText.{lines};
+ghost use Rattle.rdl_diff.specs.Left.{left};
+ghost use Rattle.rdl_run.specs.Comparing.{Ran, Stopped, StopsLines, WritesLines};
+ghost use Rattle.rdl_run.specs.Judging.{AreJudged, IsRefusal};
 ghost use Rattle.rdl_run.specs.Known.{IsOver, IsWithin};
 ghost use Rattle.rdl_run.specs.Opening.{RefusesToOpen};
 ghost use Rattle.rdl_run.specs.OpeningFaults.{IfRefusedToOpen};
-ghost use Rattle.rdl_run.specs.Refused.{IsRefusal};
 ghost use Rattle.rdl_run.specs.Turns.{IsGivenUp, IsInterrupted, IsOpen, unread, unwritten};
 ghost use Rattle.rdl_run.specs.declared.status.RunFault.{RunFault};
 
@@ -18,51 +18,37 @@ use crate::output::write_counted;
 use crate::rows::opened_rows;
 use crate::run::MOST_BYTES;
 use crate::status::RunFault;
-use rdl_diff::diff_text;
-use rdl_diff::status::{Status, status_of};
-use rdl_elab::row::Row;
+use rdl_diff::Differences;
+use rdl_diff::status::Status;
+use rdl_elab::row::{Row, Rows};
 use rdl_text::name::Name;
 use std::alloc::{AllocError, Global};
 use std::io::{Read, Write};
 
-/// What is written of two maps, and how their comparison ends.
+/// Two maps or sessions that were judged.
 #[derive(Drop)]
-struct Comparison {
-    text: Vec<u8>,
-    status: Status,
+enum Judged {
+    /// One is refused. Of two that are it is the first, and this is its message.
+    Refused(Vec<u8>),
+    /// The rows of both.
+    Accepted(Rows, Rows),
 }
 
-/// What is written of a map or session that isn't opened. Its message begins with this word.
-fn refused(alloc: Global, word: &str, fault: OpenFault) -> Result<Comparison, AllocError>
+/// The message of a map or session that isn't opened. It begins with this word.
+fn refused(alloc: Global, word: &str, fault: OpenFault) -> Result<Judged, AllocError>
     ensures { (top : Option (List ℕ)) (bytes : List ℕ) → IfRefusedToOpen fault (RefusesToOpen top bytes) → IfOk result (IsRefusal word.now top bytes) }
 {
     match fault {
-        OpenFault::Refused(message) => Ok(Comparison {
-            text: with_front(alloc, word, message.as_str())?,
-            status: Status::MapRefused,
-        }),
+        OpenFault::Refused(message) => {
+            Ok(Judged::Refused(with_front(alloc, word, message.as_str())?))
+        }
         OpenFault::Memory => Err(AllocError),
     }
 }
 
-/// What is written of the rows of both maps.
-fn compared_rows(alloc: Global, old: &[Row], new: &[Row]) -> Result<Comparison, AllocError>
-    ensures text { IfOk result (λ c. c.text.items ≡ diff_text old.now new.now) }
-    ensures status { IfOk result (λ c. c.status ≡ status_of c.text.items) }
-{
-    let text = diff_text(alloc, old, new)?.into_bytes();
-    let status = status_of(text.as_slice());
-    Ok(Comparison { text, status })
-}
-
-/// What is written of two maps or sessions.
-fn compared(
-    alloc: Global,
-    old: &[u8],
-    new: &[u8],
-    top: Option<&Name>,
-) -> Result<Comparison, AllocError>
-    ensures { IfOk result (λ c. IsOutput (option_copied top.entry) old.now new.now (record { text = c.text.items; status = c.status })) }
+/// The rows of two maps or sessions, or the message of the first that is refused.
+fn judge(alloc: Global, old: &[u8], new: &[u8], top: Option<&Name>) -> Result<Judged, AllocError>
+    ensures { IfOk result (AreJudged (option_copied top.entry) old.now new.now) }
 {
     let old_rows = match opened_rows(alloc, old, top) {
         Ok(rows) => rows,
@@ -72,7 +58,57 @@ fn compared(
         Ok(rows) => rows,
         Err(fault) => return refused(alloc, "new", fault),
     };
-    compared_rows(alloc, old_rows.as_slice(), new_rows.as_slice())
+    Ok(Judged::Accepted(old_rows, new_rows))
+}
+
+/// Lines are written as soon as there are so many bytes of them.
+const BLOCK: usize = 65_536;
+
+/// Writes all lines, in blocks.
+fn write_all<W: Write>(
+    alloc: Global,
+    differences: &mut Differences<'_>,
+    output: &mut CountedWriter<'_, W>,
+) -> Result<Status, RunFault>
+    requires asked { IsOpen output.old.counts }
+    ensures wrote { IfOk result (WritesLines (left differences.old) (W.contents output.old.writer.now) (W.contents output.new.writer.now)) }
+    ensures stopped { IfErr result (StopsLines (left differences.old) (W.contents output.old.writer.now) (W.contents output.new.writer.now)) }
+    ensures ended { IsErrOf result RunFault.Write → IsGivenUp output.new.counts }
+    ensures open { OnOk result (IsOpen output.new.counts) }
+    ensures same_output { output.new.writer.ghost_name ≡ output.old.writer.ghost_name }
+{
+    let mut text = String::new(alloc);
+    let mut status = Status::Same;
+    'rows: while differences.push_next(alloc, &mut text)? {
+        if text.len() >= BLOCK {
+            write_counted(output, text.as_bytes())?;
+            text.clear();
+            status = Status::Different;
+        }
+    }
+    write_counted(output, text.as_bytes())?;
+    if !text.is_empty() {
+        status = Status::Different;
+    }
+    Ok(status)
+}
+
+/// Writes the lines of the rows of two maps.
+fn write_lines<W: Write>(
+    alloc: Global,
+    old: &[Row],
+    new: &[Row],
+    output: &mut CountedWriter<'_, W>,
+) -> Result<Status, RunFault>
+    requires asked { IsOpen output.old.counts }
+    ensures wrote { IfOk result (WritesLines (lines old.now new.now) (W.contents output.old.writer.now) (W.contents output.new.writer.now)) }
+    ensures stopped { IfErr result (StopsLines (lines old.now new.now) (W.contents output.old.writer.now) (W.contents output.new.writer.now)) }
+    ensures ended { IsErrOf result RunFault.Write → IsGivenUp output.new.counts }
+    ensures open { OnOk result (IsOpen output.new.counts) }
+    ensures same_output { output.new.writer.ghost_name ≡ output.old.writer.ghost_name }
+{
+    let mut differences = Differences::new(alloc, old, new)?;
+    write_all(alloc, &mut differences, output)
 }
 
 /// The whole comparison, on inputs and an output that weren't asked before.
@@ -100,9 +136,13 @@ fn compare_counted<O: Read, N: Read, W: Write>(
 {
     let old = read_counted(alloc, old_map, MOST_BYTES)?;
     let new = read_counted(alloc, new_map, MOST_BYTES)?;
-    let compared = compared(alloc, old.as_slice(), new.as_slice(), top)?;
-    write_counted(output, compared.text.as_slice())?;
-    Ok(compared.status)
+    match judge(alloc, old.as_slice(), new.as_slice(), top)? {
+        Judged::Refused(message) => {
+            write_counted(output, message.as_slice())?;
+            Ok(Status::MapRefused)
+        }
+        Judged::Accepted(old, new) => write_lines(alloc, old.as_slice(), new.as_slice(), output),
+    }
 }
 
 /// Reads two maps or sessions whole, and writes the lines that say how the rows of the second map differ from those of the

@@ -6,7 +6,7 @@ ghost use Rattle.rdl_run.specs.Faulted.{Faulted, Leaves};
 ghost use Rattle.rdl_run.specs.ClosingTexts.{texts_of};
 ghost use Rattle.rdl_run.specs.OwnSteps.{AllOwn};
 ghost use Rattle.rdl_run.specs.Output.{AtOutputs, HaveTaken, Holds, Ran, RanCounted};
-ghost use Rattle.rdl_run.specs.RunTexts.{AreRun, in_memory};
+ghost use Rattle.rdl_run.specs.RunTexts.{AreRun, AreRunCounted, in_memory};
 ghost use Rattle.rdl_run.specs.Known.{IsOver, IsWithin};
 ghost use Rattle.rdl_run.specs.Shown.{AreAt};
 ghost use Rattle.rdl_run.specs.Turns.{AreFew, AreOpen, AreUnwritten, GivesUp, HasEnded, IsGivenUp, IsInterrupted, IsOpen, unread, unwritten};
@@ -239,12 +239,20 @@ fn texts_counted<M: Read, S: Read, E: Write>(
     requires map_fresh { map.old.counts ≡ unread }
     requires script_fresh { script.old.counts ≡ unread }
     requires fresh { messages.old.counts ≡ unwritten }
-    ensures ran { IfOk result (AreRun options.now (M.remaining map.old.reader.now) (S.remaining script.old.reader.now)
-        (E.contents messages.old.writer.now) (E.contents messages.new.writer.now)) }
+    ensures ran { IfOk result (AreRunCounted options.now (M.remaining map.old.reader.now) (S.remaining script.old.reader.now)
+        (E.contents messages.old.writer.now) (E.contents messages.new.writer.now) messages.old.counts messages.new.counts) }
     ensures faulted { IfErr result (Faulted options.now (M.remaining map.old.reader.now) (S.remaining script.old.reader.now)
         (in_memory (E.contents messages.old.writer.now) [] [] []) (in_memory (E.contents messages.new.writer.now) [] [] [])) }
+    ensures write_ended { IsErrOf result RunFault.Write → IsGivenUp messages.new.counts }
+    ensures all_open { OnOk result (IsOpen messages.new.counts) }
+    ensures ends { messages.new.counts.ended ≡ true → result ≡ Err RunFault.Write }
     ensures too_long { IsErrOf result RunFault.TooLong → IsOver (M.remaining map.old.reader.now) ⊎ IsOver (S.remaining script.old.reader.now) }
     ensures bound { OnOk result (IsWithin (M.remaining map.old.reader.now) × IsWithin (S.remaining script.old.reader.now)) }
+    ensures interrupted { IsErrOf result RunFault.Interrupted → IsInterrupted map.new.counts ⊎ IsInterrupted script.new.counts }
+    ensures read_failed { IsErrOf result RunFault.Read → (map.new.counts.failed ≡ true) ⊎ (script.new.counts.failed ≡ true) }
+    ensures map_reads { map.new.counts.reads ≤ 67109865 }
+    ensures script_reads { script.new.counts.reads ≤ 67109865 }
+    ensures few { messages.new.counts.interrupts ≤ 1000 }
     ensures same_reference { messages.new.writer.ghost_name ≡ messages.old.writer.ghost_name }
 {
     let closing = run_lines(alloc, map, script, options, messages)?;

@@ -1,10 +1,11 @@
-use Rattle.std.proofs.Common.{[], Some, string_bytes, refl, sym, subst}
+use Rattle.std.proofs.Common.{ℕ, List, [], Some, length, string_bytes, refl, sym, subst}
 use Rattle.std.specs.Io.KnownBytes.{Appends}
 use Rattle.rdl_run.specs.ClosingTexts.{texts_of}
 use Rattle.rdl_run.specs.Faulted.{Faulted}
 use Rattle.rdl_run.specs.Known.{AppendsFront}
 use Rattle.rdl_run.specs.RunTexts.{in_memory}
-use Rattle.rdl_run.proofs.RunLemmas.{ran_all}
+use Rattle.rdl_run.specs.Turns.{HasTaken}
+use Rattle.rdl_run.proofs.RunLemmas.{texts_counted}
 use Rattle.rdl_run.proofs.Stopped.{went, failed_closing, leaves_message}
 use Rattle.rdl_run.proofs.run.texts_counted.Goals as goal
 
@@ -12,9 +13,11 @@ pub returns-clause-ran : goal.returns-clause-ran
 returns-clause-ran g c =
     let mid = g.E.Write.contents c.run_lines.new.messages.writer.now in
     let new = g.E.Write.contents c.write_counted.new.output.writer.now in
+    let counts = c.write_counted.new.output.counts in
     let closing = c.in_ok-closing.closing in
-    ran_all c.args.options.now _ _ _ mid _ _ closing c.in_ok-closing.ensures.closes new (Some []) (Some (string_bytes closing.rdl)) (Some []) (Some (string_bytes closing.header)) (Some []) (Some (string_bytes closing.session)) closing.status
+    texts_counted c.args.options.now _ _ _ mid _ _ closing c.in_ok-closing.ensures.closes new counts (record { status = closing.status; rdl = closing.rdl; header = closing.header; session = closing.session })
     (record { messages = subst (Appends mid new) c.as_bytes.ensures.value c.in_ok-write_counted.ensures.ok; rdl = refl; header = refl; session = refl; answer = refl })
+    (subst (λ (bytes : List ℕ). HasTaken c.run_lines.new.messages.counts counts (length bytes)) c.as_bytes.ensures.value c.in_ok-write_counted.ensures.took)
 
 pub returns-in_err-closing-clause-faulted : goal.returns-in_err-closing-clause-faulted
 returns-in_err-closing-clause-faulted g c =

@@ -1,0 +1,20 @@
+-- What is answered of two maps or sessions before any line is written. Own.
+use Rattle.std.specs.Prelude.{◌⊎◌, ℕ, List, Option}
+use Rattle.rdl_diff.specs.declared.status.Status.TheVariants.{MapRefused}
+use Rattle.rdl_run.specs.Comparing.{Output, Refuses, RefusesNew, RefusesOld}
+use Rattle.rdl_run.specs.OpenedRows.{OpensRows}
+use Rattle.rdl_run.specs.declared.comparison.Judged.{Judged}
+use Rattle.rdl_run.specs.declared.comparison.Judged.TheVariants.{Refused, Accepted}
+
+-- it is the message of this map or session, which begins with the word
+abbrev pub IsRefusal : (word : List ℕ) → (top : Option (List ℕ)) → (bytes : List ℕ) → Judged → Type 0
+IsRefusal word top bytes (Refused message) = Refuses word top bytes message.items
+IsRefusal word top bytes (Accepted old new) = ⊥
+
+abbrev pub refusal : (message : List ℕ) → Output
+refusal message = record { text = message; status = MapRefused }
+
+-- the message of the first that is refused, or the rows of both
+abbrev pub AreJudged : (top : Option (List ℕ)) → (old new : List ℕ) → Judged → Type 0
+AreJudged top old new (Refused message) = RefusesOld top old new (refusal message.items) ⊎ RefusesNew top old new (refusal message.items)
+AreJudged top old new (Accepted old_rows new_rows) = OpensRows top old old_rows × OpensRows top new new_rows
