@@ -8,6 +8,7 @@ use crate::command::{command, refuse_words};
 use std::alloc::Global;
 use std::process::ExitCode;
 use std::{env, io};
+use whole_files::standard::open_closed;
 
 fn run_words(rt: &HostRuntime, alloc: Global) -> io::Result<u8> {
     let owned: Vec<String> = env::args(rt)?.skip(1).collect(alloc)?;
@@ -22,6 +23,7 @@ fn run_words(rt: &HostRuntime, alloc: Global) -> io::Result<u8> {
 }
 
 fn main(rt: HostRuntime) -> ExitCode {
+    open_closed(&rt);
     ExitCode::from(match run_words(&rt, rt.alloc()) {
         Ok(status) => status,
         Err(error) => refuse_words(&error, &mut rt.stderr()),

@@ -14,6 +14,7 @@ use rdl_run::counted::CountedWriter;
 use rdl_run::output::write_counted;
 use rdl_run::status::{RunFault, Status};
 use std::alloc::Global;
+use std::fs::File;
 use std::io;
 use std::io::{ErrorKind, Write};
 use std::rt::Files;
@@ -83,7 +84,7 @@ fn ended<E: Write>(outcome: &Result<Status, Stop<'_>>, errors: &mut E) -> u8
 }
 
 /// Does what a line asks, unless two of its paths lead to one file: then nothing is read or written.
-fn obey<R: Files + Input, M: Write, E: Write>(
+fn obey<R: Files<File = File> + Input, M: Write, E: Write>(
     rt: &R,
     alloc: Global,
     asked: &Asked,
@@ -145,7 +146,7 @@ fn refuse<M: Write, E: Write>(
 }
 
 /// Does what the words behind the program's name ask, and answers the exit status.
-pub fn command<R: Files + Input, M: Write, E: Write>(
+pub fn command<R: Files<File = File> + Input, M: Write, E: Write>(
     rt: &R,
     alloc: Global,
     words: &[&str],

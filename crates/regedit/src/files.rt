@@ -34,6 +34,13 @@ impl<'a> Stop<'a> {
             obstacle: Some(obstacle),
         }
     }
+
+    fn for_memory() -> Stop<'a> {
+        Stop {
+            fault: RunFault::Memory,
+            obstacle: None,
+        }
+    }
 }
 
 /// A text, and the path at which it goes out.
@@ -53,7 +60,7 @@ struct Left<'a> {
 /// An input, and why it can't be read as far as that is known.
 type Noted<R> = NotedReader<Source<<R as Files>::File, <R as Input>::Reader>>;
 
-fn opened<'a, R: Files + Input>(rt: &R, path: &'a str) -> Result<Noted<R>, Stop<'a>> {
+fn opened<'a, R: Files<File = File> + Input>(rt: &R, path: &'a str) -> Result<Noted<R>, Stop<'a>> {
     if is_standard_input(path) {
         return Ok(NotedReader::new(Source::Standard(rt.reader())));
     }
@@ -161,15 +168,12 @@ fn left_by<'a>(alloc: Global, texts: Texts, asked: &'a Asked) -> Result<Left<'a>
     let status = texts.status;
     match outputs_of(alloc, texts, &asked.paths, asked.strict) {
         Ok(outputs) => Ok(Left { status, outputs }),
-        Err(_) => Err(Stop {
-            fault: RunFault::Memory,
-            obstacle: None,
-        }),
+        Err(_) => Err(Stop::for_memory()),
     }
 }
 
 /// The run that is asked. What goes out is of one output of a run of some map and script, each text at its path.
-fn run_in_memory<'a, R: Files + Input, M: Write>(
+fn run_in_memory<'a, R: Files<File = File> + Input, M: Write>(
     rt: &R,
     alloc: Global,
     asked: &'a Asked,
@@ -244,16 +248,14 @@ fn file_texts<'p, 't>(
 }
 
 /// Replaces the files by their texts.
-fn write_files<'a, R: Files>(rt: &R, alloc: Global, outputs: &[Filed<'a>]) -> Result<(), Stop<'a>> {
+fn write_files<'a, R: Files<File = File>>(rt: &R, alloc: Global, outputs: &[Filed<'a>]) -> Result<(), Stop<'a>> {
     let Ok(files) = file_texts(alloc, outputs) else {
-        return Err(Stop {
-            fault: RunFault::Memory,
-            obstacle: None,
-        });
+        return Err(Stop::for_memory());
     };
     match write_whole(rt, alloc, files.as_slice()) {
         Ok(()) => Ok(()),
-        Err(OutputFault { path, error }) => {
+        Err(OutputFault::Memory) => Err(Stop::for_memory()),
+        Err(OutputFault::Unwritten { path, error }) => {
             let reason = Reason::Unwritten(error);
             Err(Stop::at(RunFault::Write, Obstacle { path, reason }))
         }
@@ -262,7 +264,7 @@ fn write_files<'a, R: Files>(rt: &R, alloc: Global, outputs: &[Filed<'a>]) -> Re
 
 /// Runs the script on its map or session. Behind the messages, standard output gets the text that goes there. The files are
 /// replaced only when all that is written: none where the map is refused, and all but those whose text is missing.
-pub(crate) fn edit_files<'a, R: Files + Input, M: Write>(
+pub(crate) fn edit_files<'a, R: Files<File = File> + Input, M: Write>(
     rt: &R,
     alloc: Global,
     asked: &'a Asked,

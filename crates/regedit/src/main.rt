@@ -12,6 +12,7 @@ use crate::command::{command, refuse_words};
 use std::alloc::{AllocError, Global};
 use std::process::ExitCode;
 use std::{env, io};
+use whole_files::standard::open_closed;
 
 /// How many bytes the list of 65,536 items takes, the most that a map may have.
 const LARGE: usize = 6 << 20;
@@ -36,6 +37,7 @@ fn run_words(rt: &HostRuntime, alloc: Global) -> io::Result<u8> {
 }
 
 fn main(rt: HostRuntime) -> ExitCode {
+    open_closed(&rt);
     keep_freed_memory(rt.alloc());
     ExitCode::from(match run_words(&rt, rt.alloc()) {
         Ok(status) => status,

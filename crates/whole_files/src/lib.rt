@@ -3,8 +3,14 @@
 #![tactic(auto)]
 
 mod beside;
+mod leftover;
+mod limit;
+mod names;
 pub mod noted;
 pub mod obstacle;
 pub mod output;
 pub mod plain;
+mod same;
 pub mod shown;
+pub mod standard;
+mod written;

@@ -1,10 +1,16 @@
 //! Texts, and the files to which they go.
+ghost use Rattle.whole_files.specs.Outputs.{IsAt};
+
 use crate::beside::Beside;
+use crate::leftover::take_leftovers;
+use crate::limit::check_length;
 use crate::plain::plain_file;
+use crate::same::holds;
+use crate::written::write_text;
 use std::alloc::Global;
-use std::fs::{File, Files};
+use std::fs::{File, Files, OpenFile, OpenOptions};
 use std::io;
-use std::io::{ErrorKind, Write};
+use std::io::ErrorKind;
 
 /// A text, and the path of the file to which it goes.
 #[derive(Clone, Copy, Debug, PartialEq, Eq, Drop)]
@@ -15,35 +21,74 @@ pub struct Output<'p, 't> {
     pub text: &'t [u8],
 }
 
-/// Which file can't be written, and why.
+/// Why files can't be written.
 #[derive(Debug, Drop)]
-pub struct OutputFault<'p> {
-    /// The path of the file.
-    pub path: &'p str,
-    /// Why it can't be written.
-    pub error: io::Error,
+pub enum OutputFault<'p> {
+    /// There isn't enough memory.
+    Memory,
+    /// The file of this path can't be written, as the system says.
+    Unwritten {
+        /// The path of the file.
+        path: &'p str,
+        /// Why it can't be written.
+        error: io::Error,
+    },
 }
 
-/// Writes the text in place, or to a new file beside the one that it replaces.
-fn prepare<R: Files>(rt: &R, alloc: Global, output: Output<'_, '_>) -> io::Result<Option<Beside>> {
-    match plain_file(rt, alloc, output.path)? {
-        Some(old) => Ok(Some(Beside::write(rt, alloc, old, output.text)?)),
-        None => {
-            File::create(rt, output.path)?.write_all(output.text)?;
-            Ok(None)
-        }
+fn fault_at(path: &str, error: io::Error) -> OutputFault<'_>
+    ensures { IsAt path.now result }
+{
+    if error.kind() == ErrorKind::OutOfMemory {
+        OutputFault::Memory
+    } else {
+        OutputFault::Unwritten { path, error }
     }
 }
 
+/// Appends the text to what is there, which may be a device, a pipe, or what a process has open.
+fn write_in_place<R: Files<File = File>>(
+    rt: &R,
+    alloc: Global,
+    output: Output<'_, '_>,
+) -> io::Result<()> {
+    let mut file = OpenOptions::new().append(true).open(rt, output.path)?;
+    let found = file.metadata()?;
+    if found.is_file() {
+        check_length(
+            rt,
+            alloc,
+            found.len().saturating_add(output.text.len() as u64),
+        )?;
+    }
+    write_text(&mut file, output.text)
+}
+
+/// Writes the text in place, or to a new file beside the one that it replaces. A file that holds it already stays.
+fn prepare<R: Files<File = File>>(
+    rt: &R,
+    alloc: Global,
+    output: Output<'_, '_>,
+) -> io::Result<Option<Beside>> {
+    let Some(old) = plain_file(rt, alloc, output.path)? else {
+        write_in_place(rt, alloc, output)?;
+        return Ok(None);
+    };
+    take_leftovers(rt, alloc, old.as_str())?;
+    if holds(rt, old.as_str(), output.text) {
+        return Ok(None);
+    }
+    Ok(Some(Beside::write(rt, alloc, old, output.text)?))
+}
+
 /// A new file that is written, and the path of its output.
-#[derive(Debug, Drop)]
+#[derive(Drop)]
 struct Waiting<'p> {
     path: &'p str,
     beside: Beside,
 }
 
 /// Writes each text in place or beside its old file, up to the first that can't be written.
-fn prepare_all<'p, R: Files>(
+fn prepare_all<'p, R: Files<File = File>>(
     rt: &R,
     alloc: Global,
     outputs: &[Output<'p, '_>],
@@ -54,54 +99,72 @@ fn prepare_all<'p, R: Files>(
         match prepare(rt, alloc, *output) {
             Ok(Some(beside)) => {
                 if let Err(kept) = waiting.push(Waiting { path, beside }) {
-                    kept.value.beside.remove(rt, alloc);
-                    let error = io::Error::from(ErrorKind::OutOfMemory);
-                    return Err(OutputFault { path, error });
+                    kept.value.beside.remove(rt);
+                    return Err(OutputFault::Memory);
                 }
             }
             Ok(None) => {}
-            Err(error) => return Err(OutputFault { path, error }),
+            Err(error) => return Err(fault_at(path, error)),
         }
     }
     Ok(())
 }
 
-fn remove_all<R: Files>(rt: &R, alloc: Global, waiting: &[Waiting<'_>]) {
+fn remove_all<R: Files>(rt: &R, waiting: &[Waiting<'_>]) {
     for one in waiting {
-        one.beside.remove(rt, alloc);
+        one.beside.remove(rt);
     }
 }
 
-/// Puts each new file into the place of its old one. At the first where that fails, it and those behind it are taken away.
-fn take_places<'p, R: Files>(
-    rt: &R,
-    alloc: Global,
-    waiting: &[Waiting<'p>],
-) -> Result<(), OutputFault<'p>> {
+/// Puts each new file into the place of its old one. At the first where that fails, it and those after it are taken away.
+fn take_places<'p, R: Files>(rt: &R, waiting: &[Waiting<'p>]) -> Result<(), OutputFault<'p>> {
     for (at, one) in waiting.iter().enumerate() {
-        if let Err(error) = one.beside.take_place(rt, alloc) {
-            remove_all(rt, alloc, &waiting[at..]);
-            let path = one.path;
-            return Err(OutputFault { path, error });
+        if let Err(error) = one.beside.take_place(rt) {
+            remove_all(rt, &waiting[at..]);
+            return Err(fault_at(one.path, error));
         }
+    }
+    Ok(())
+}
+
+/// Writes to the disk which names stand in the folder, where it may be read and the system can do that.
+fn sync_folder<R: Files>(rt: &R, folder: &str) -> io::Result<()> {
+    let Ok(folder) = File::open(rt, folder) else {
+        return Ok(());
+    };
+    match folder.sync_all() {
+        Err(error) if error.kind() != ErrorKind::InvalidInput => Err(error),
+        _ => Ok(()),
+    }
+}
+
+/// Syncs the folder of each file that was replaced, once where files of one folder follow each other.
+fn sync_folders<'p, R: Files>(rt: &R, waiting: &[Waiting<'p>]) -> Result<(), OutputFault<'p>> {
+    let mut synced = "";
+    for one in waiting {
+        let folder = one.beside.folder();
+        if folder != synced {
+            sync_folder(rt, folder).map_err(|error| fault_at(one.path, error))?;
+        }
+        synced = folder;
     }
     Ok(())
 }
 
 /// Replaces the files by the texts, each file whole. Before the first is replaced all texts are on the disk, so that want of
-/// room leaves every old file as it was; then each takes its place, in their order. No new file is left beside the old ones.
-/// A device, a pipe, and what lies below `/dev/` or `/proc/` is written in place, before any file is replaced.
-pub fn write_whole<'p, R: Files>(
+/// room leaves every old file as it was; then each takes its place, in their order, and at last the folders are synced. No new
+/// file is left beside the old ones. A file that holds its text already isn't touched. A device, a pipe, and what a process has
+/// open is written in place, before any file is replaced.
+pub fn write_whole<'p, R: Files<File = File>>(
     rt: &R,
     alloc: Global,
     outputs: &[Output<'p, '_>],
 ) -> Result<(), OutputFault<'p>> {
     let mut waiting = Vec::new(alloc);
-    match prepare_all(rt, alloc, outputs, &mut waiting) {
-        Ok(()) => take_places(rt, alloc, waiting.as_slice()),
-        Err(fault) => {
-            remove_all(rt, alloc, waiting.as_slice());
-            Err(fault)
-        }
+    if let Err(fault) = prepare_all(rt, alloc, outputs, &mut waiting) {
+        remove_all(rt, waiting.as_slice());
+        return Err(fault);
     }
+    take_places(rt, waiting.as_slice())?;
+    sync_folders(rt, waiting.as_slice())
 }

@@ -3,70 +3,70 @@ use std::alloc::Global;
 use std::fs::Files;
 use std::io;
 use std::io::ErrorKind;
-use std::path::Path;
 
-/// Whether the path leads to a device or to what a process has open.
-fn is_of_the_system(path: &str) -> bool {
-    path.starts_with("/dev/") || path.starts_with("/proc/")
-}
-
-/// The whole path of a file that isn't there yet, in a folder that is.
-fn new_file<R: Files>(rt: &R, alloc: Global, path: &str) -> io::Result<String> {
-    let path = Path::new(path);
-    let Some(name) = path.file_name() else {
-        return Err(io::Error::from(ErrorKind::NotFound));
-    };
-    let folder = match path.parent() {
-        Some(folder) if !folder.as_str().is_empty() => folder.as_str(),
-        _ => ".",
-    };
-    let mut whole = rt.canonicalize(alloc, folder)?;
-    whole.push(name)?;
-    Ok(whole.into_string())
-}
-
-/// How many links to what isn't there are followed, one behind the other.
+/// How many links are followed, one after the other.
 const MOST_LINKS: u32 = 40;
 
-/// Where the path is a link to what isn't there, the path to which it leads. A relative one begins in the link's folder.
-fn missing_target<R: Files>(rt: &R, alloc: Global, path: &str) -> io::Result<Option<String>> {
-    match rt.metadata(path) {
-        Err(error) if error.kind() == ErrorKind::NotFound => {}
-        _ => return Ok(None),
-    }
-    match rt.symlink_metadata(path) {
-        Ok(found) if found.is_symlink() => {}
-        _ => return Ok(None),
-    }
-    let target = rt.read_link(alloc, path)?;
-    match Path::new(path).parent() {
-        Some(folder) => Ok(Some(folder.join(alloc, target.as_str())?.into_string())),
-        None => Ok(None),
+/// To what a path leads, a link at its end not followed.
+#[derive(Drop)]
+enum End {
+    /// A plain file of this whole path, or none yet.
+    Plain(String),
+    /// A link to this path.
+    Link(String),
+    /// A device, a pipe, a folder, or what a process has open.
+    Other,
+}
+
+/// The folder and the name of a path.
+fn parts(path: &str) -> (&str, &str) {
+    match path.rsplit_once('/') {
+        Some((folder, name)) if folder.is_empty() => ("/", name),
+        Some(both) => both,
+        None => (".", path),
     }
 }
 
-/// The whole path of the plain file at a path, also where it isn't there yet.
-fn file_at<R: Files>(rt: &R, alloc: Global, path: &str) -> io::Result<Option<String>> {
-    if is_of_the_system(path) {
-        return Ok(None);
+/// Whether what stands in this folder is what processes have open, or tells of them.
+fn is_of_processes(folder: &str) -> bool {
+    folder == "/proc" || folder.starts_with("/proc/")
+}
+
+fn end_of<R: Files>(rt: &R, alloc: Global, path: &str) -> io::Result<End> {
+    let (folder, name) = parts(path);
+    if name.is_empty() || name == "." || name == ".." {
+        // only a folder is called so
+        rt.metadata(path)?;
+        return Ok(End::Other);
     }
-    match rt.metadata(path) {
-        Ok(found) if found.is_file() => Ok(Some(rt.canonicalize(alloc, path)?.into_string())),
-        Ok(_) => Ok(None),
-        Err(error) if error.kind() == ErrorKind::NotFound => Ok(Some(new_file(rt, alloc, path)?)),
+    let folder = rt.canonicalize(alloc, folder)?;
+    if is_of_processes(folder.as_str()) {
+        return Ok(End::Other);
+    }
+    let whole = folder.as_path().join(alloc, name)?.into_string();
+    match rt.symlink_metadata(whole.as_str()) {
+        Ok(found) if found.is_symlink() => {
+            let target = rt.read_link(alloc, whole.as_str())?;
+            let whole = folder.as_path().join(alloc, target.as_str())?;
+            Ok(End::Link(whole.into_string()))
+        }
+        Ok(found) if found.is_file() => Ok(End::Plain(whole)),
+        Ok(_) => Ok(End::Other),
+        Err(error) if error.kind() == ErrorKind::NotFound => Ok(End::Plain(whole)),
         Err(error) => Err(error),
     }
 }
 
 /// The whole path of the plain file to which a path leads, through links, also where it isn't there yet. There is none for a
-/// device, a pipe, a folder, and what lies below `/dev/` or `/proc/`.
+/// device, a pipe, a folder, and what stands in a folder below `/proc`, as all that a process has open.
 pub fn plain_file<R: Files>(rt: &R, alloc: Global, path: &str) -> io::Result<Option<String>> {
     let mut path = String::from_str(alloc, path)?;
     for _ in 0..MOST_LINKS {
-        match missing_target(rt, alloc, path.as_str())? {
-            Some(target) => path = target,
-            None => return file_at(rt, alloc, path.as_str()),
+        match end_of(rt, alloc, path.as_str())? {
+            End::Plain(whole) => return Ok(Some(whole)),
+            End::Link(target) => path = target,
+            End::Other => return Ok(None),
         }
     }
-    Err(io::Error::from(ErrorKind::NotFound))
+    Err(io::Error::from(ErrorKind::FilesystemLoop))
 }

@@ -4,8 +4,8 @@ use super::files::{
     Folder, HEADER, SCRIPT, Texts, WRITTEN, assert_each_holds, run_words, write_each,
 };
 use std::fs;
-use std::fs::Permissions;
-use std::os::unix::fs::{PermissionsExt, symlink};
+use std::fs::{Metadata, Permissions};
+use std::os::unix::fs::{MetadataExt, PermissionsExt, symlink};
 use std::process::Abort;
 use std::test::Fail;
 
@@ -25,6 +25,22 @@ const BEFORE: Texts = &[
     ("out.h", "old header"),
 ];
 
+/// Words of a run that replaces both.
+const BOTH: Words = &[
+    "map.rdl",
+    "script.txt",
+    "--rdl",
+    "out.rdl",
+    "--header",
+    "out.h",
+];
+
+/// A name of 255 bytes.
+const LONGEST: &str = "\
+nnnnnnnnnnnnnnnnnnnnnnnnnnnnnnnnnnnnnnnnnnnnnnnnnnnnnnnnnnnnnnnnnnnnnnnnnnnnnnnnnnnnn\
+nnnnnnnnnnnnnnnnnnnnnnnnnnnnnnnnnnnnnnnnnnnnnnnnnnnnnnnnnnnnnnnnnnnnnnnnnnnnnnnnnnnnn\
+nnnnnnnnnnnnnnnnnnnnnnnnnnnnnnnnnnnnnnnnnnnnnnnnnnnnnnnnnnnnnnnnnnnnnnnnnnnnnnnnnnnnn";
+
 const WELL: Ending = (0, "", "");
 
 const TWO_OUTPUTS: Ending = (5, "regedit: two outputs in one file\n", "");
@@ -33,40 +49,65 @@ const OVER_SCRIPT: Ending = (5, "regedit: an output over SCRIPT\n", "");
 
 const OVER_MAP: Ending = (5, "regedit: header over MAP\n", "");
 
-static CASES: [Case; 14] = [
+static CASES: [Case; 16] = [
     // old files give their places, and nothing stands beside them
+    (
+        BEFORE,
+        BOTH,
+        WELL,
+        &[("out.rdl", WRITTEN), ("out.h", HEADER)],
+        4,
+    ),
+    // what a run that was stopped has left is taken away, and nothing of a name that is only like it
+    (
+        &[
+            ("map.rdl", MAP),
+            ("script.txt", SCRIPT),
+            ("out.rdl", "old map"),
+            ("out.rdl.regedit-7", "half a"),
+            ("out.rdl.regedit-07", "own"),
+        ],
+        BOTH,
+        WELL,
+        &[
+            ("out.rdl", WRITTEN),
+            ("out.h", HEADER),
+            ("out.rdl.regedit-07", "own"),
+        ],
+        5,
+    ),
+    // a name that is as long as one may be
+    (
+        &[("map.rdl", MAP), ("script.txt", SCRIPT)],
+        &[
+            "map.rdl",
+            "script.txt",
+            "--rdl",
+            LONGEST,
+            "--header",
+            "/dev/null",
+        ],
+        WELL,
+        &[(LONGEST, WRITTEN)],
+        3,
+    ),
+    // a name of a folder that isn't there
     (
         BEFORE,
         &[
             "map.rdl",
             "script.txt",
             "--rdl",
-            "out.rdl",
+            "new/",
             "--header",
             "out.h",
         ],
-        WELL,
-        &[("out.rdl", WRITTEN), ("out.h", HEADER)],
-        4,
-    ),
-    // what a run that was stopped has left is taken away
-    (
-        &[
-            ("map.rdl", MAP),
-            ("script.txt", SCRIPT),
-            ("out.rdl", "old map"),
-            ("out.rdl.regedit-0", "half a"),
-        ],
-        &[
-            "map.rdl",
-            "script.txt",
-            "--rdl",
-            "out.rdl",
-            "--header",
-            "out.h",
-        ],
-        WELL,
-        &[("out.rdl", WRITTEN), ("out.h", HEADER)],
+        (
+            4,
+            "regedit: write fault\n",
+            "/new/: No such file or directory (os error 2)\n",
+        ),
+        BEFORE,
         4,
     ),
     // a second output that can't be written leaves the first as it was
@@ -350,34 +391,40 @@ fn through_a_link(rt: HostRuntime) -> Result<(), Fail> {
     folder.remove(&rt)
 }
 
-fn mode_after_run(rt: &HostRuntime, folder: &Folder, mode: u32) -> Result<u32, Fail> {
-    let out = folder.file(rt, "out.rdl")?;
-    fs::set_permissions(rt, out.as_str(), Permissions::from_mode(mode))?;
-    let words = in_folder(
-        rt,
-        folder,
-        &[
-            "map.rdl",
-            "script.txt",
-            "--rdl",
-            "out.rdl",
-            "--header",
-            "out.h",
-        ],
-    )?;
+/// What stands in the folder's `out.rdl` after a run, but for its bytes.
+fn found_after_run(rt: &HostRuntime, folder: &Folder) -> Result<Metadata, Fail> {
+    let words = in_folder(rt, folder, BOTH)?;
     let words: Vec<&str> = words.iter().map(|word| word.as_str()).collect(rt.alloc())?;
     let _ = run_words(rt, words.as_slice());
-    Ok(fs::metadata(rt, out.as_str())?.permissions().mode())
+    let out = folder.file(rt, "out.rdl")?;
+    Ok(fs::metadata(rt, out.as_str())?)
 }
 
-// The last nine bits of a mode say who may read, write and run.
+fn mode_after_run(rt: &HostRuntime, folder: &Folder, mode: u32) -> Result<u32, Fail> {
+    write_each(rt, folder, BEFORE)?;
+    let out = folder.file(rt, "out.rdl")?;
+    fs::set_permissions(rt, out.as_str(), Permissions::from_mode(mode))?;
+    Ok(found_after_run(rt, folder)?.permissions().mode())
+}
+
+// The last nine bits of a mode say who may read, write and run. What a file may do as its owner or group isn't handed on.
 #[test]
 fn with_the_mode_of_the_old_file(rt: HostRuntime) -> Result<(), Fail> {
     let folder = Folder::new(&rt, "mode")?;
-    write_each(&rt, &folder, BEFORE)?;
-    for mode in [0o600, 0o664] {
-        let after = mode_after_run(&rt, &folder, mode)?;
-        assert!(rt; after & 0o777 == mode);
+    for (mode, after) in [(0o600, 0o600), (0o6664, 0o664)] {
+        let found = mode_after_run(&rt, &folder, mode)?;
+        assert!(rt; found & 0o7777 == after);
     }
+    folder.remove(&rt)
+}
+
+// A file that has its text already is neither written nor replaced.
+#[test]
+fn unless_the_text_is_the_same(rt: HostRuntime) -> Result<(), Fail> {
+    let folder = Folder::new(&rt, "same-text")?;
+    write_each(&rt, &folder, BEFORE)?;
+    let first = found_after_run(&rt, &folder)?;
+    let second = found_after_run(&rt, &folder)?;
+    assert!(rt; first.ino() == second.ino() && first.mtime_nsec() == second.mtime_nsec());
     folder.remove(&rt)
 }
