@@ -113,7 +113,11 @@ fn print_told<M: Write>(
 /// Says what is wrong with the words. A word that could move the terminal isn't repeated.
 fn report_mistake<E: Write>(words: &[&str], mistake: &clap::Error, errors: &mut E) {
     let _ = if words.iter().any(|word| has_control(word)) {
-        writeln!(errors, "{}, with a control character", Failure::BadCommandLine)
+        writeln!(
+            errors,
+            "{}, with a control character",
+            Failure::BadCommandLine
+        )
     } else {
         write!(errors, "{mistake}")
     };

@@ -248,7 +248,11 @@ fn file_texts<'p, 't>(
 }
 
 /// Replaces the files by their texts.
-fn write_files<'a, R: Files<File = File>>(rt: &R, alloc: Global, outputs: &[Filed<'a>]) -> Result<(), Stop<'a>> {
+fn write_files<'a, R: Files<File = File>>(
+    rt: &R,
+    alloc: Global,
+    outputs: &[Filed<'a>],
+) -> Result<(), Stop<'a>> {
     let Ok(files) = file_texts(alloc, outputs) else {
         return Err(Stop::for_memory());
     };

@@ -1,7 +1,7 @@
 //! Files that are replaced whole, and paths that lead to one file.
 use super::MAP;
 use super::files::{
-    Folder, HEADER, SCRIPT, Texts, WRITTEN, assert_each_holds, run_words, write_each,
+    Folder, HEADER, MESSAGES, SCRIPT, Texts, WRITTEN, assert_each_holds, run_words, write_each,
 };
 use std::fs;
 use std::fs::{Metadata, Permissions};
@@ -35,6 +35,17 @@ const BOTH: Words = &[
     "out.h",
 ];
 
+/// Words of the same run, which replaces none where a line is refused.
+const STRICTLY: Words = &[
+    "map.rdl",
+    "script.txt",
+    "--strict",
+    "--rdl",
+    "out.rdl",
+    "--header",
+    "out.h",
+];
+
 /// A name of 255 bytes.
 const LONGEST: &str = "\
 nnnnnnnnnnnnnnnnnnnnnnnnnnnnnnnnnnnnnnnnnnnnnnnnnnnnnnnnnnnnnnnnnnnnnnnnnnnnnnnnnnnnn\
@@ -47,9 +58,23 @@ const TWO_OUTPUTS: Ending = (5, "regedit: two outputs in one file\n", "");
 
 const OVER_SCRIPT: Ending = (5, "regedit: an output over SCRIPT\n", "");
 
-const OVER_MAP: Ending = (5, "regedit: header over MAP\n", "");
+const TWO_INPUTS: Ending = (5, "regedit: MAP and SCRIPT both from standard input\n", "");
 
-static CASES: [Case; 16] = [
+const REFUSED: Ending = (1, "", "");
+
+const WRITE_FAULT: &str = "regedit: write fault\n";
+
+const OVER_RDL: Ending = (4, WRITE_FAULT, "/./out.h: it is the file of --rdl\n");
+
+const OVER_HEADER: Ending = (4, WRITE_FAULT, "/./new: it is the file of --header\n");
+
+const OVER_FILE_OF_SCRIPT: Ending = (4, WRITE_FAULT, "/./script.txt: it is the file of SCRIPT\n");
+
+const OVER_FILE_OF_MAP: Ending = (4, WRITE_FAULT, "/./map.rdl: it is the file of MAP\n");
+
+const OVER_LINKED: Ending = (4, WRITE_FAULT, "/new: it is the file of --rdl\n");
+
+static CASES: [Case; 20] = [
     // old files give their places, and nothing stands beside them
     (
         BEFORE,
@@ -195,7 +220,7 @@ static CASES: [Case; 16] = [
             "--header",
             "./out.h",
         ],
-        TWO_OUTPUTS,
+        OVER_RDL,
         BEFORE,
         4,
     ),
@@ -212,7 +237,7 @@ static CASES: [Case; 16] = [
             "--session",
             "./new",
         ],
-        TWO_OUTPUTS,
+        OVER_HEADER,
         BEFORE,
         4,
     ),
@@ -241,7 +266,7 @@ static CASES: [Case; 16] = [
             "--header",
             "out.h",
         ],
-        OVER_SCRIPT,
+        OVER_FILE_OF_SCRIPT,
         BEFORE,
         4,
     ),
@@ -256,8 +281,43 @@ static CASES: [Case; 16] = [
             "--header",
             "./map.rdl",
         ],
-        OVER_MAP,
+        OVER_FILE_OF_MAP,
         BEFORE,
+        4,
+    ),
+    // standard input is read once, and standard output is one output
+    (
+        BEFORE,
+        &["-", "-", "--rdl", "out.rdl", "--header", "out.h"],
+        TWO_INPUTS,
+        BEFORE,
+        4,
+    ),
+    (
+        BEFORE,
+        &["map.rdl", "script.txt", "--rdl", "-", "--header", "-"],
+        TWO_OUTPUTS,
+        BEFORE,
+        4,
+    ),
+    // nothing changes but where each line is accepted
+    (
+        &[
+            ("map.rdl", MAP),
+            ("script.txt", "undo"),
+            ("out.rdl", "old map"),
+            ("out.h", "old header"),
+        ],
+        STRICTLY,
+        REFUSED,
+        &[("out.rdl", "old map"), ("out.h", "old header")],
+        4,
+    ),
+    (
+        BEFORE,
+        STRICTLY,
+        WELL,
+        &[("out.rdl", WRITTEN), ("out.h", HEADER)],
         4,
     ),
     // a device meets nothing
@@ -306,7 +366,7 @@ static LINKED: [Case; 2] = [
     (
         BEFORE,
         &["map.rdl", "script.txt", "--rdl", "link", "--header", "new"],
-        TWO_OUTPUTS,
+        OVER_LINKED,
         BEFORE,
         5,
     ),
@@ -426,5 +486,24 @@ fn unless_the_text_is_the_same(rt: HostRuntime) -> Result<(), Fail> {
     let first = found_after_run(&rt, &folder)?;
     let second = found_after_run(&rt, &folder)?;
     assert!(rt; first.ino() == second.ino() && first.mtime_nsec() == second.mtime_nsec());
+    folder.remove(&rt)
+}
+
+// The text stands behind the messages, and the header in its file.
+#[test]
+fn but_for_standard_output(rt: HostRuntime) -> Result<(), Fail> {
+    let folder = Folder::new(&rt, "standard")?;
+    write_each(&rt, &folder, BEFORE)?;
+    let words = in_folder(
+        &rt,
+        &folder,
+        &["map.rdl", "script.txt", "--rdl", "-", "--header", "out.h"],
+    )?;
+    let words: Vec<&str> = words.iter().map(|word| word.as_str()).collect(rt.alloc())?;
+    let said = run_words(&rt, words.as_slice());
+    assert!(rt; said.messages()?.starts_with(MESSAGES));
+    assert!(rt; said.messages()?.ends_with(WRITTEN));
+    assert!(rt; said.messages()?.len() == MESSAGES.len() + WRITTEN.len());
+    assert_each_holds(&rt, &rt, &folder, &[("out.h", HEADER)])?;
     folder.remove(&rt)
 }
