@@ -1,5 +1,5 @@
 -- From a run that hands out its texts to what it leaves.
-use Rattle.std.proofs.Common.{◌≡◌, ◌∙◌, ℕ, List, map, Option}
+use Rattle.std.proofs.Common.{◌≡◌, ◌∙◌, ℕ, List, map, Option, Result, Ok, Err, IfOk}
 use Rattle.rdl_run.specs.RunTexts.{AreRun}
 use Rattle.rdl_run.specs.declared.run.Options.{Options}
 use Rattle.rdl_run.specs.declared.run.Texts.{Texts}
@@ -21,7 +21,7 @@ of_output options given_map given_script old new texts ran = record {
   status = ran.holds.answer;
 }
 
-pub is_left : (asked : Asked) (given_map given_script old new : Option (List ℕ)) (texts : Texts) (left : Left)
+is_left : (asked : Asked) (given_map given_script old new : Option (List ℕ)) (texts : Texts) (left : Left)
     → AreRun asked.options given_map given_script old new texts → left.status ≡ texts.status
     → map seen left.outputs.items ≡ files_of asked.strict texts asked.paths → IsLeft asked left
 is_left asked given_map given_script old new texts left ran status outputs = record {
@@ -40,3 +40,10 @@ is_status_of asked left it = record {
   is_output = it.of_output.is_output;
   is = it.status ∙ it.of_output.status;
 }
+
+-- where there is something left, it is so
+pub have_left : {X : Type 0} (asked : Asked) (given_map given_script old new : Option (List ℕ)) (texts : Texts) (r : Result Left X)
+    → AreRun asked.options given_map given_script old new texts → IfOk r (λ left. left.status ≡ texts.status)
+    → IfOk r (λ left. map seen left.outputs.items ≡ files_of asked.strict texts asked.paths) → IfOk r (IsLeft asked)
+have_left asked given_map given_script old new texts (Ok left) ran status outputs = is_left asked given_map given_script old new texts left ran status outputs
+have_left asked given_map given_script old new texts (Err stop) ran status outputs = tt

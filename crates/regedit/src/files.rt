@@ -213,19 +213,14 @@ fn write_standard<W: Write>(
 }
 
 /// Writes those texts to standard output, where the messages are.
-fn write_behind<'a, M: Write>(
+fn write_behind<M: Write>(
     outputs: &[Filed<'_>],
     messages: &mut NotedWriter<'_, M>,
-) -> Result<(), Stop<'a>>
+) -> Result<(), RunFault>
     ensures ok { OnOk result (Appends (M.contents messages.old.writer.now) (M.contents messages.new.writer.now) (to_output (map seen outputs.entry.now))) }
 {
-    match write_standard(outputs, &mut CountedWriter::new(messages, 0)) {
-        Ok(()) => Ok(()),
-        Err(fault) => Err(Stop {
-            fault,
-            obstacle: obstacle_of_output(messages),
-        }),
-    }
+    let mut output = CountedWriter::new(messages, 0);
+    write_standard(outputs, &mut output)
 }
 
 /// The texts that go to files, each with the path of its file.
@@ -278,7 +273,10 @@ pub(crate) fn edit_files<'a, R: Files<File = File> + Input, M: Write>(
 {
     let mut messages = NotedWriter::new(messages);
     let Left { status, outputs } = run_in_memory(rt, alloc, asked, &mut messages)?;
-    write_behind(outputs.as_slice(), &mut messages)?;
+    if let Err(fault) = write_behind(outputs.as_slice(), &mut messages) {
+        let obstacle = obstacle_of_output(&mut messages);
+        return Err(Stop { fault, obstacle });
+    }
     write_files(rt, alloc, outputs.as_slice())?;
     Ok(status)
 }

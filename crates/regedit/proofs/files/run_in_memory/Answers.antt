@@ -1,7 +1,7 @@
-use Rattle.regedit.proofs.FromRun.{have_output}
+use Rattle.regedit.proofs.FromRun.{have_left}
 use Rattle.regedit.proofs.files.run_in_memory.Goals as goal
 
 pub returns : goal.returns
 returns g c = record {
-  output = have_output c.args.options.now _ _ _ _ c.run_inputs.result c.run_inputs.ensures.ran;
+  left = have_left c.args.asked.now _ _ _ _ c.in_ok-texts.texts c.left_by.result c.in_ok-texts.ensures.ran c.left_by.ensures.status c.left_by.ensures.outputs;
 }
