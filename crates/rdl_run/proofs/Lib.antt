@@ -21,3 +21,5 @@ pub mod Undone
 pub mod WholeInput
 pub mod WholeLines
 pub mod Written
+pub mod WrittenLines
+pub mod Compared

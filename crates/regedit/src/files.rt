@@ -212,15 +212,12 @@ fn write_standard<W: Write>(
     Ok(())
 }
 
-/// Writes those texts to standard output, where the messages are.
-fn write_behind<M: Write>(
-    outputs: &[Filed<'_>],
-    messages: &mut NotedWriter<'_, M>,
-) -> Result<(), RunFault>
-    ensures ok { OnOk result (Appends (M.contents messages.old.writer.now) (M.contents messages.new.writer.now) (to_output (map seen outputs.entry.now))) }
+/// Writes those texts to standard output, after the messages.
+fn write_behind<M: Write>(outputs: &[Filed<'_>], messages: &mut M) -> Result<(), RunFault>
+    ensures { OnOk result (Appends (M.contents messages.old) (M.contents messages.new) (to_output (map seen outputs.entry.now))) }
 {
-    let mut output = CountedWriter::new(messages, 0);
-    write_standard(outputs, &mut output)
+    let mut messages = CountedWriter::new(messages, 0);
+    write_standard(outputs, &mut messages)
 }
 
 /// The texts that go to files, each with the path of its file.

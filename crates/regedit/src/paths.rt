@@ -105,16 +105,6 @@ impl<'a> Place<'a> {
     }
 }
 
-/// The first of these outputs that leads to the file of the place beside it.
-fn first_meeting<'a>(pairs: &[(&Place<'a>, &Place<'_>)]) -> Option<Obstacle<'a>> {
-    for (output, other) in pairs {
-        if let Some(obstacle) = output.meeting(other) {
-            return Some(obstacle);
-        }
-    }
-    None
-}
-
 /// The plain file to which a path leads. What can't be found out of it is left to its reading or writing.
 fn file_of<R: Files>(rt: &R, alloc: Global, path: &str) -> Option<String> {
     plain_file(rt, alloc, path).unwrap_or(None)
@@ -131,17 +121,16 @@ pub(crate) fn meeting_of_files<'a, R: Files>(
     let script = Place::of_input(rt, alloc, paths.script.as_str(), "SCRIPT");
     let rdl = Place::of_output(rt, alloc, paths.rdl.as_str(), "--rdl");
     let header = Place::of_output(rt, alloc, paths.header.as_str(), "--header");
-    first_meeting(&[
-        (&header, &rdl),
-        (&rdl, &script),
-        (&header, &script),
-        (&header, &map),
-    ])
-    .or(match &paths.session {
-        Some(path) => {
-            let session = Place::of_output(rt, alloc, path.as_str(), "--session");
-            first_meeting(&[(&session, &rdl), (&session, &header), (&session, &script)])
-        }
-        None => None,
-    })
+    let met = header
+        .meeting(&rdl)
+        .or(rdl.meeting(&script))
+        .or(header.meeting(&script))
+        .or(header.meeting(&map));
+    let Some(path) = &paths.session else {
+        return met;
+    };
+    let session = Place::of_output(rt, alloc, path.as_str(), "--session");
+    met.or(session.meeting(&rdl))
+        .or(session.meeting(&header))
+        .or(session.meeting(&script))
 }
