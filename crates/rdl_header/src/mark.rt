@@ -1,49 +1,34 @@
-//! Marks: numbers by which names are mostly told apart.
-ghost use Rattle.std.specs.Prelude.{◌≡◌, ◌++◌, codes, option_copied, true, None, IfOk, OnOk};
-ghost use Rattle.std.specs.List.{IsDistinct, flat_map};
+//! Marks: numbers by which names are told apart.
+ghost use Rattle.std.specs.Prelude.{◌≡◌, ◌++◌, true, None, IfOk, OnOk};
+ghost use Rattle.std.specs.List.{IsDistinct};
 ghost use Rattle.std.specs.List.Sorted.{IsStrictlyIncreasing};
-ghost use Rattle.std.specs.Option.{option_to_list};
 ghost use Rattle.std.specs.Ordering.{nat_cmp, eq_by_cmp};
 ghost use Rattle.rdl_header.specs.HeaderText.{path_text, macros, first_clash};
-ghost use Rattle.rdl_header.specs.Marks.{mark_on, mark, is_narrow, row_marks, path_marks};
+ghost use Rattle.rdl_header.specs.Marks.{mark, is_narrow, row_marks, path_marks};
 
 use crate::bits::width;
+use crate::head::push_path;
 use crate::places::doubtful;
 use rdl_elab::row::{Location, Row, RowPath};
-use rdl_text::name::Name;
 use std::alloc::{AllocError, Global};
+use std::hash::{DefaultHasher, Hasher};
 
-/// The mark of what this mark is of, with the bytes of a text behind it.
-fn mark_on(before: u64, text: &str) -> u64
-    ensures { result ≡ mark_on before text.now }
+/// The mark of a text: its digest by SipHash, for which nobody can choose many texts of one mark.
+pub(crate) fn mark(text: &str) -> u64
+    ensures { result ≡ mark text.now }
 {
-    let mut mark = before;
-    'bytes: for byte in text.as_bytes() {
-        mark = mark.wrapping_mul(131).wrapping_add(u64::from(*byte));
-    }
-    mark
+    let mut hasher = DefaultHasher::new();
+    hasher.write(text.as_bytes());
+    hasher.finish()
 }
 
-/// The mark with the name of a register, if there is one, and two underscores behind.
-fn mark_on_register(before: u64, register: Option<&Name>) -> u64
-    ensures { result ≡ mark_on before (flat_map (λ name. name ++ codes "__") (option_to_list (option_copied register.entry))) }
+/// The mark of the names from the top with two underscores between them, which are put into the text.
+fn path_mark(text: &mut String, path: &RowPath) -> Result<u64, AllocError>
+    ensures { IfOk result (λ m. m ≡ mark (path_text path.now)) }
 {
-    match register {
-        Some(name) => mark_on(mark_on(before, name.as_str()), "__"),
-        None => before,
-    }
-}
-
-/// The mark of the names from the top with two underscores between them.
-fn path_mark(path: &RowPath) -> u64
-    ensures { result ≡ mark (path_text path.now) }
-{
-    let parts = path.parts();
-    let around = mark_on(0, parts.around.joined());
-    mark_on(
-        mark_on_register(around, parts.register),
-        parts.last.as_str(),
-    )
+    text.clear();
+    push_path(text, path)?;
+    Ok(mark(text.as_str()))
 }
 
 /// Whether the row has no number of more than four words.
@@ -56,11 +41,11 @@ fn is_narrow(location: &Location) -> bool
     }
 }
 
-/// Puts the mark of the row's path behind the others, twice if the row isn't narrow.
-fn push_marks(marks: &mut Vec<u64>, row: &Row) -> Result<(), AllocError>
+/// Puts the mark of the row's path behind the others, twice if the row isn't narrow. The path is put into the text.
+fn push_marks(marks: &mut Vec<u64>, text: &mut String, row: &Row) -> Result<(), AllocError>
     ensures { OnOk result (marks.new.items ≡ marks.old.items ++ row_marks row.now) }
 {
-    let mark = path_mark(&row.names);
+    let mark = path_mark(text, &row.names)?;
     marks.push(mark)?;
     if !is_narrow(&row.location) {
         marks.push(mark)?;
@@ -73,8 +58,9 @@ fn path_marks(alloc: Global, rows: &[Row]) -> Result<Vec<u64>, AllocError>
     ensures { IfOk result (λ marks. marks.items ≡ path_marks rows.now) }
 {
     let mut marks = Vec::with_capacity(alloc, rows.len())?;
+    let mut text = String::new(alloc);
     'rows: for row in rows {
-        push_marks(&mut marks, row)?;
+        push_marks(&mut marks, &mut text, row)?;
     }
     Ok(marks)
 }
