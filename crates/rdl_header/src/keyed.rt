@@ -13,7 +13,7 @@ impl Keyed {
     /// Keyed by this text.
     pub(crate) fn by(text: &str) -> Keyed {
         let mut begun = DefaultHasher::new();
-        begun.write_u64(mark(text));
+        begun.write_u64(mark(text.as_bytes()));
         Keyed { begun }
     }
 }
