@@ -21,6 +21,7 @@ use Rattle.rdl_elab.specs.declared.row.Location.TheVariants.{Bytes, Bits}
 use Rattle.rdl_elab.specs.declared.row.Row.{Row}
 use Rattle.rdl_header.specs.HeaderText.{Macro, path_text, hexadecimal_macro, word_macros, bytes_macros, mask, mask_macros, reset_macros, width, width_macros, bits_macros, macros_at, macros_of, register_behind, macros_below, macros, is_defined, clash_behind, first_clash}
 use Rattle.rdl_header.specs.Marks.{mark, is_narrow, path_marks}
+use Rattle.rdl_header.specs.Places.{AreApart}
 
 -- ---- Marks.
 
@@ -29,10 +30,6 @@ same = eq_by_cmp nat_cmp
 
 same-laws : IsEquivalence same
 same-laws = eq_by_cmp_equiv nat_cmp_total
-
--- the marks differ from each other
-abbrev pub AreApart : List ℕ → Type 0
-AreApart marks = IsDistinct same marks
 
 -- numbers that rise when they are put in order
 pub apart_if_rising : (marks sorted : List ℕ) → IsPermutation marks sorted → IsStrictlyIncreasing sorted → AreApart marks

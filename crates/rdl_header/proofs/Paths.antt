@@ -1,10 +1,8 @@
 -- The names of a path with two underscores between them, the last one apart.
 use Rattle.std.proofs.Common.{◌≡◌, ℕ, List, [], ◌∷◌, ◌++◌, ap, ◌∙◌, sym, codes, append_assoc, append-nil}
 use Rattle.std.proofs.lemmas.List.Concat.{flat_map-append}
-use Rattle.std.proofs.lemmas.List.Sums.{fold-append}
 use Rattle.std.specs.List.{flat_map}
 use Rattle.rdl_header.specs.HeaderText.{path_text}
-use Rattle.rdl_header.specs.Marks.{mark, mark_on, with_byte}
 
 -- underscores before each name but the first, or underscores behind each but the last
 underscores : (first : List ℕ) (xs : List (List ℕ)) (last : List ℕ) → first ++ flat_map (λ n. codes "__" ++ n) (xs ++ last ∷ []) ≡ flat_map (λ n. n ++ codes "__") (first ∷ xs) ++ last
@@ -34,12 +32,3 @@ path_pushed old joined first second new path around register last e j f g h =
     ∙ ap (λ t. t ++ last) (g ∙ ap (λ t. t ++ flat_map (λ n. n ++ codes "__") register) f ∙ append_assoc old joined (flat_map (λ n. n ++ codes "__") register) ∙ ap (λ t. old ++ t) (joined-further joined around register j))
     ∙ append_assoc old (flat_map (λ n. n ++ codes "__") (around ++ register)) last
     ∙ ap (λ t. old ++ t) (sym (ap path_text e ∙ ends (around ++ register) last))
-
--- the mark of the names around the register, then of the register, and then of the last
-pub path_marked : (joined : List ℕ) (path around register : List (List ℕ)) (last : List ℕ) → path ≡ (around ++ register) ++ last ∷ [] → joined ≡ flat_map (λ n. n ++ codes "__") around
-    → mark_on (mark_on (mark joined) (flat_map (λ n. n ++ codes "__") register)) last ≡ mark (path_text path)
-path_marked joined path around register last e j =
-    ap (λ m. mark_on m last) (sym (fold-append with_byte 0 joined (flat_map (λ n. n ++ codes "__") register)))
-    ∙ sym (fold-append with_byte 0 (joined ++ flat_map (λ n. n ++ codes "__") register) last)
-    ∙ ap (λ t. mark (t ++ last)) (joined-further joined around register j)
-    ∙ sym (ap (λ p. mark (path_text p)) e ∙ ap mark (ends (around ++ register) last))

@@ -1,12 +1,14 @@
--- The macros of a number's words, one after the other, and of rows whose fields stand in a register.
+-- The macros of a number's words, one after the other, and of rows whose fields stand in a register, with the marks of rows.
 use Rattle.std.proofs.Common.{◌≡◌, ℕ, suc, ◌+◌, ◌*◌, ◌/◌, ◌%◌, ◌^◌, ◌<◌, List, [], ◌∷◌, ◌++◌, length, get_or, take, refl, ap, sym, ◌∙◌, append_assoc, append-nil, arith}
 use Rattle.std.proofs.lemmas.List.{take_more}
+use Rattle.std.proofs.lemmas.List.Concat.{flat_map-append}
 use Rattle.std.proofs.lemmas.Nat.{pow-add}
 use Rattle.std.proofs.Math.Nat.{div-div-eq-div-mul}
 use Rattle.std.specs.Fmt.{decimal}
 use Rattle.rdl_elab.specs.declared.row.Row.{Row}
 use Rattle.rdl_header.specs.HeaderText.{hexadecimal_macro, word_macro, word_macros, macros_of, macros_below, register_behind}
 use Rattle.rdl_header.specs.Lines.{Lines, added}
+use Rattle.rdl_header.specs.Marks.{row_marks, path_marks}
 use Rattle.rdl_header.proofs.AddedLines.{added_more}
 
 -- ---- Words.
@@ -69,3 +71,14 @@ module _ (i : ℕ) (rows : List Row) (row : Row) (register : ℕ) (h : i < lengt
       ∙ ap (λ lines. added lines (macros_of register row)) so_far
       ∙ added_more before (macros_below 0 (take i rows)) (macros_of register row)
       ∙ ap (added before) (sym taken)
+
+-- the marks of one row more
+pub row_marked : (i : ℕ) (rows : List Row) (row : Row) → i < length rows → row ≡ get_or rows i row → (before now new : List ℕ) → now ≡ before ++ path_marks (take i rows) → new ≡ now ++ row_marks row → new ≡ before ++ path_marks (take (i + 1) rows)
+row_marked i rows row h item before now new so_far more =
+    let one-more : take (i + 1) rows ≡ take i rows ++ row ∷ [] = take_more rows i row h ∙ ap (λ x. take i rows ++ x ∷ []) (sym item) in
+    let marks : path_marks (take i rows) ++ row_marks row ≡ path_marks (take (i + 1) rows) =
+    ap (λ ms. path_marks (take i rows) ++ ms) (sym (append-nil (row_marks row))) ∙ sym (flat_map-append row_marks (take i rows) (row ∷ [])) ∙ ap path_marks (sym one-more) in
+    more
+    ∙ ap (λ ms. ms ++ row_marks row) so_far
+    ∙ append_assoc before (path_marks (take i rows)) (row_marks row)
+    ∙ ap (λ ms. before ++ ms) marks

@@ -1,22 +1,15 @@
--- The mark of a name: a number by which names are mostly told apart. Names whose marks differ are different. Own.
-use Rattle.std.specs.Prelude.{ℕ, ◌+◌, ◌*◌, ◌^◌, ◌%◌, nat_lt, not, Bool, true, List, [], ◌∷◌, if◌then◌else◌}
-use Rattle.std.specs.List.{flat_map, fold}
+-- The mark of a name: a number by which names are told apart. Names whose marks differ are different. Own.
+use Rattle.std.specs.Prelude.{ℕ, nat_lt, not, Bool, true, List, [], ◌∷◌, if◌then◌else◌}
+use Rattle.std.specs.Hash.DefaultHasher as sip
+use Rattle.std.specs.List.{flat_map}
 use Rattle.rdl_elab.specs.declared.row.Location.{Location}
 use Rattle.rdl_elab.specs.declared.row.Location.TheVariants.{Bytes, Bits}
 use Rattle.rdl_elab.specs.declared.row.Row.{Row}
 use Rattle.rdl_header.specs.HeaderText.{path_text, width}
 
--- the mark of some bytes, with one more behind them
-abbrev pub with_byte : ℕ → ℕ → ℕ
-with_byte n byte = (((n * 131) % 2 ^ 64) + byte) % 2 ^ 64
-
--- with some more behind them
-abbrev pub mark_on : ℕ → List ℕ → ℕ
-mark_on n bytes = fold with_byte n bytes
-
--- the bytes to the base 131, which is greater than each byte of a name, so far as a `u64` holds it
+-- the bytes' digest of 64 bits by SipHash-1-3, whose keys are both 0
 abbrev pub mark : List ℕ → ℕ
-mark bytes = mark_on 0 bytes
+mark bytes = sip.finish (sip.write sip.initial bytes)
 
 -- whether no number of a row has more than four words; no map has another row
 abbrev pub is_narrow : Location → Bool

@@ -4,8 +4,9 @@ ghost use Rattle.std.specs.List.{All};
 ghost use Rattle.rdl_header.specs.HeaderText.{first_clash};
 ghost use Rattle.rdl_header.specs.Lines.{IsCut, named};
 
+use crate::keyed::Keyed;
 use crate::stretch::{Stretch, part};
-use rdl_scope::by_name::ByName;
+use indexmap::IndexMap;
 use std::alloc::{AllocError, Global};
 
 /// The first of the names in the text that is the same as one before it.
@@ -17,10 +18,14 @@ pub(crate) fn first_clash<'a>(
     requires { All (IsCut text.now) names.now }
     ensures { IfOk result (λ clash. option_map (λ name. name.now) clash ≡ first_clash (named text.now names.now)) }
 {
-    let mut known: ByName<'a, ()> = ByName::with_room(alloc, names.len())?;
+    let mut known: IndexMap<&'a str, (), Keyed> = IndexMap::with_capacity_and_hasher(
+        alloc,
+        names.len(),
+        Keyed::by(text),
+    )?;
     'names: for stretch in names {
         let name = part(text, *stretch);
-        let before = known.put(name, ())?;
+        let before = known.insert(name, ())?;
         if before.is_some() {
             return Ok(Some(name));
         }

@@ -45,6 +45,13 @@ impl Head {
         Ok(Head { text })
     }
 
+    /// The path.
+    pub(crate) fn path(&self) -> &[u8]
+        ensures { result.now ≡ self.now }
+    {
+        &self.text.as_bytes()[8..]
+    }
+
     /// The text.
     pub(crate) fn as_str(&self) -> &str
         ensures { result.now ≡ codes "#define " ++ self.now }

@@ -4,6 +4,7 @@
 mod bits;
 mod clashes;
 mod head;
+mod keyed;
 mod lines;
 mod macros;
 mod mark;

@@ -2,11 +2,13 @@
 ghost use Rattle.std.specs.Prelude.{◌≡◌, ◌++◌, [], ◌∷◌, codes, string_bytes, IfOk, OnOk};
 ghost use Rattle.rdl_header.specs.HeaderText.{path_text, array_macros, bytes_macros, word_macros, mask_macros, reset_macros, width_macros, bits_macros, macros_of, register_behind, macros_below, guard, macros};
 ghost use Rattle.rdl_header.specs.Lines.{guarded, added, header_lines};
+ghost use Rattle.rdl_header.specs.Marks.{row_marks, path_marks};
 ghost use Rattle.std.specs.Fmt.{decimal};
 
 use crate::bits::{mask, width};
 use crate::head::{Head, push_path};
 use crate::lines::Lines;
+use crate::mark::push_marks;
 use rdl_elab::layout::Span;
 use rdl_elab::row::{Extent, Location, Row, RowPath};
 use rdl_scope::shells::product;
@@ -178,15 +180,22 @@ fn register_behind(register: u64, location: &Location) -> u64
     }
 }
 
-/// Puts the macros of these rows behind the others.
+/// Puts the macros of these rows behind the others, and the marks of their paths.
 #[tactic(auto, using(crate::proofs::AddedLines::added_lines))]
-fn add_rows(alloc: Global, lines: &mut Lines, rows: &[Row]) -> Result<(), AllocError>
-    ensures { OnOk result (lines.new ≡ added lines.old (macros_below 0 rows.now)) }
+fn add_rows(
+    alloc: Global,
+    lines: &mut Lines,
+    marks: &mut Vec<u64>,
+    rows: &[Row],
+) -> Result<(), AllocError>
+    ensures lines { OnOk result (lines.new ≡ added lines.old (macros_below 0 rows.now)) }
+    ensures marks { OnOk result (marks.new.items ≡ marks.old.items ++ path_marks rows.now) }
 {
     let mut head = Head::new(alloc)?;
     let mut register = 0u64;
     'rows: for row in rows {
         head = head.of(&row.names)?;
+        push_marks(marks, head.path(), row)?;
         add_row(alloc, lines, &head, register, row)?;
         register = register_behind(register, &row.location);
     }
@@ -223,28 +232,40 @@ fn room(rows: &[Row]) -> usize {
     room
 }
 
-/// The lines of the guard: the macro that is defined wherever the header of this top has been read.
-fn guard(alloc: Global, room: usize, are_noted: bool, top: &Row) -> Result<Lines, AllocError>
-    ensures { IfOk result (λ lines. lines ≡ guarded are_noted (guard top.now)) }
+/// The lines of the guard: the macro that is defined wherever the header of this top has been read. The mark of the top's path is
+/// put behind the others.
+fn guard(
+    alloc: Global,
+    room: usize,
+    are_noted: bool,
+    marks: &mut Vec<u64>,
+    top: &Row,
+) -> Result<Lines, AllocError>
+    ensures lines { IfOk result (λ lines. lines ≡ guarded are_noted (guard top.now)) }
+    ensures marks { OnOk result (marks.new.items ≡ marks.old.items ++ row_marks top.now) }
 {
     let mut path = String::new(alloc);
     push_path(&mut path, &top.names)?;
+    push_marks(marks, path.as_bytes(), top)?;
     Lines::guarded(alloc, room, are_noted, path.as_str())
 }
 
-/// The lines of the guard, of the macros of the rows below the top, and of the guard's end.
+/// The lines of the guard, of the macros of the rows below the top, and of the guard's end. The marks of the rows' paths are put
+/// behind the others.
 pub(crate) fn header_lines(
     alloc: Global,
     are_noted: bool,
+    marks: &mut Vec<u64>,
     rows: &[Row],
 ) -> Result<Lines, AllocError>
-    ensures { IfOk result (λ lines. lines ≡ header_lines are_noted (macros rows.now)) }
+    ensures lines { IfOk result (λ lines. lines ≡ header_lines are_noted (macros rows.now)) }
+    ensures marks { OnOk result (marks.new.items ≡ marks.old.items ++ path_marks rows.now) }
 {
     let [top, below @ ..] = rows else {
         return Ok(Lines::new(alloc, are_noted));
     };
-    let mut lines = guard(alloc, room(rows), are_noted, top)?;
-    add_rows(alloc, &mut lines, below)?;
+    let mut lines = guard(alloc, room(rows), are_noted, marks, top)?;
+    add_rows(alloc, &mut lines, marks, below)?;
     lines.end()?;
     Ok(lines)
 }

@@ -1,49 +1,25 @@
-//! Marks: numbers by which names are mostly told apart.
-ghost use Rattle.std.specs.Prelude.{◌≡◌, ◌++◌, codes, option_copied, true, None, IfOk, OnOk};
-ghost use Rattle.std.specs.List.{IsDistinct, flat_map};
+//! Marks: numbers by which names are told apart.
+ghost use Rattle.std.specs.Prelude.{◌≡◌, ◌++◌, true, IfOk, OnOk};
+ghost use Rattle.std.specs.List.{IsDistinct};
 ghost use Rattle.std.specs.List.Sorted.{IsStrictlyIncreasing};
-ghost use Rattle.std.specs.Option.{option_to_list};
 ghost use Rattle.std.specs.Ordering.{nat_cmp, eq_by_cmp};
-ghost use Rattle.rdl_header.specs.HeaderText.{path_text, macros, first_clash};
-ghost use Rattle.rdl_header.specs.Marks.{mark_on, mark, is_narrow, row_marks, path_marks};
+ghost use Rattle.rdl_header.specs.HeaderText.{path_text};
+ghost use Rattle.rdl_header.specs.Marks.{mark, is_narrow, row_marks};
+ghost use Rattle.rdl_header.specs.Places.{AreApart};
 
 use crate::bits::width;
 use crate::places::doubtful;
-use rdl_elab::row::{Location, Row, RowPath};
-use rdl_text::name::Name;
+use rdl_elab::row::{Location, Row};
 use std::alloc::{AllocError, Global};
+use std::hash::{DefaultHasher, Hasher};
 
-/// The mark of what this mark is of, with the bytes of a text behind it.
-fn mark_on(before: u64, text: &str) -> u64
-    ensures { result ≡ mark_on before text.now }
+/// The mark of a text: its digest by SipHash, for which nobody can choose many texts of one mark.
+pub(crate) fn mark(text: &[u8]) -> u64
+    ensures { result ≡ mark text.now }
 {
-    let mut mark = before;
-    'bytes: for byte in text.as_bytes() {
-        mark = mark.wrapping_mul(131).wrapping_add(u64::from(*byte));
-    }
-    mark
-}
-
-/// The mark with the name of a register, if there is one, and two underscores behind.
-fn mark_on_register(before: u64, register: Option<&Name>) -> u64
-    ensures { result ≡ mark_on before (flat_map (λ name. name ++ codes "__") (option_to_list (option_copied register.entry))) }
-{
-    match register {
-        Some(name) => mark_on(mark_on(before, name.as_str()), "__"),
-        None => before,
-    }
-}
-
-/// The mark of the names from the top with two underscores between them.
-fn path_mark(path: &RowPath) -> u64
-    ensures { result ≡ mark (path_text path.now) }
-{
-    let parts = path.parts();
-    let around = mark_on(0, parts.around.joined());
-    mark_on(
-        mark_on_register(around, parts.register),
-        parts.last.as_str(),
-    )
+    let mut hasher = DefaultHasher::new();
+    hasher.write(text);
+    hasher.finish()
 }
 
 /// Whether the row has no number of more than four words.
@@ -56,11 +32,12 @@ fn is_narrow(location: &Location) -> bool
     }
 }
 
-/// Puts the mark of the row's path behind the others, twice if the row isn't narrow.
-fn push_marks(marks: &mut Vec<u64>, row: &Row) -> Result<(), AllocError>
+/// Puts the mark of a row, which has this path, behind the others, twice if the row isn't narrow.
+pub(crate) fn push_marks(marks: &mut Vec<u64>, path: &[u8], row: &Row) -> Result<(), AllocError>
+    requires { path.now ≡ path_text row.now.names }
     ensures { OnOk result (marks.new.items ≡ marks.old.items ++ row_marks row.now) }
 {
-    let mark = path_mark(&row.names);
+    let mark = mark(path);
     marks.push(mark)?;
     if !is_narrow(&row.location) {
         marks.push(mark)?;
@@ -68,23 +45,11 @@ fn push_marks(marks: &mut Vec<u64>, row: &Row) -> Result<(), AllocError>
     Ok(())
 }
 
-/// The marks of the paths of the rows.
-fn path_marks(alloc: Global, rows: &[Row]) -> Result<Vec<u64>, AllocError>
-    ensures { IfOk result (λ marks. marks.items ≡ path_marks rows.now) }
+/// Whether these marks are known to differ from each other.
+pub(crate) fn marks_differ(alloc: Global, marks: &[u64]) -> Result<bool, AllocError>
+    ensures { IfOk result (λ differ. differ ≡ true → AreApart marks.now) }
 {
-    let mut marks = Vec::with_capacity(alloc, rows.len())?;
-    'rows: for row in rows {
-        push_marks(&mut marks, row)?;
-    }
-    Ok(marks)
-}
-
-/// Whether the rows are known to have no two macros of one name: the marks of their paths all differ.
-pub(crate) fn paths_differ(alloc: Global, rows: &[Row]) -> Result<bool, AllocError>
-    ensures { IfOk result (λ differ. differ ≡ true → first_clash (macros rows.now) ≡ None) }
-{
-    let marks = path_marks(alloc, rows)?;
-    let mut doubtful = doubtful(alloc, marks.as_slice())?;
+    let mut doubtful = doubtful(alloc, marks)?;
     Ok(are_apart(doubtful.as_mut_slice()))
 }
 
