@@ -1,10 +1,11 @@
 //! A run over files: they are read whole before it, and replaced whole after it.
-ghost use Rattle.std.specs.Prelude.{◌≡◌, ◌++◌, IfOk, OnOk, map, string_bytes};
+ghost use Rattle.std.specs.Prelude.{◌≡◌, ◌++◌, IfOk, IsOkUnless, OnOk, map, string_bytes};
 ghost use Rattle.std.specs.Io.KnownBytes.{Appends};
 ghost use Rattle.regedit.specs.Files.{files_of, if_there, lent, seen, to_files, to_output};
 ghost use Rattle.rdl_run.specs.RunTexts.{AreRun};
 ghost use Rattle.regedit.specs.OfOutput.{IsLeft, IsStatusOf};
 ghost use Rattle.rdl_run.specs.Turns.{IsOpen};
+ghost use Rattle.rdl_run.specs.declared.status.RunFault.{RunFault};
 
 use crate::paths::{Asked, Paths};
 use crate::source::Source;
@@ -202,6 +203,7 @@ fn write_standard<W: Write>(
 ) -> Result<(), RunFault>
     requires asked { IsOpen output.old.counts }
     ensures ok { OnOk result (Appends (W.contents output.old.writer.now) (W.contents output.new.writer.now) (to_output (map seen outputs.entry.now))) }
+    ensures fault { IsOkUnless result RunFault.Write }
     ensures same_reference { output.new.writer.ghost_name ≡ output.old.writer.ghost_name }
 {
     'outputs: for one in outputs {
@@ -214,7 +216,8 @@ fn write_standard<W: Write>(
 
 /// Writes those texts to standard output, after the messages.
 fn write_behind<M: Write>(outputs: &[Filed<'_>], messages: &mut M) -> Result<(), RunFault>
-    ensures { OnOk result (Appends (M.contents messages.old) (M.contents messages.new) (to_output (map seen outputs.entry.now))) }
+    ensures ok { OnOk result (Appends (M.contents messages.old) (M.contents messages.new) (to_output (map seen outputs.entry.now))) }
+    ensures fault { IsOkUnless result RunFault.Write }
 {
     let mut messages = CountedWriter::new(messages, 0);
     write_standard(outputs, &mut messages)
