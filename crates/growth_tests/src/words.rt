@@ -80,15 +80,16 @@ const HELP: &str = "L1 Edits a register map by a script, and writes the map and 
 Usage: regedit [OPTIONS] --rdl <OUT> --header <OUT> <MAP> <SCRIPT>
 
 Arguments:
-  <MAP>     The register map to edit
-  <SCRIPT>  The edits, one on each line
+  <MAP>     The register map to edit, or - for standard input
+  <SCRIPT>  The edits, one on each line, or - for standard input
 
 Options:
-      --rdl <OUT>      Where the edited map is written
-      --header <OUT>   Where the C header is written
+      --rdl <OUT>      Where the edited map is written, or - for standard output
+      --header <OUT>   Where the C header is written, or - for standard output
       --top <NAME>     The address map of the root that is the top; with none, the last one
       --history <N>    How many changes can be undone, from 1 to 1000000 [default: 10000]
       --session <OUT>  Where the session is written: the map with its undos and redos
+      --strict         Changes files only where each line was accepted
   -h, --help           Print help
   -V, --version        Print version
 ";
