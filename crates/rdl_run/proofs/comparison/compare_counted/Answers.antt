@@ -26,14 +26,14 @@ returns-in_err-write_counted-in-Refused-clause-stopped g c =
     let wrote = subst (AppendsFront a b) c.as_slice-in-Refused.ensures.value c.in_err-write_counted-in-Refused.ensures.err in
     let stopped = stopped_refused top old new c.as_slice.result.now c.as_slice-2.result.now given_old given_new a b c.in-Refused.message.items refuses wrote in
     went c.from_residual-in_err-write_counted-in-Refused.result c.in_err-write_counted-in-Refused.field-0.0 (Stopped top old new a b) c.from_residual-in_err-write_counted-in-Refused.ensures.1
-        (subst (Stopped top old new a b) (sym c.in_err-write_counted-in-Refused.ensures.fault) stopped)
+    (subst (Stopped top old new a b) (sym c.in_err-write_counted-in-Refused.ensures.fault) stopped)
 
 pub returns-clause-bound : goal.returns-clause-bound
 returns-clause-bound g c =
     let old = g.O.Read.remaining c.args.old_map.now.reader.now in
     let new = g.N.Read.remaining c.args.new_map.now.reader.now in
     on_ok c.write_lines.result (IsWithin old × IsWithin new)
-        (within old c.in_ok-old.old.items c.in_ok-old.ensures.bytes c.in_ok-old.ensures.bound, within new c.in_ok-new.new.items c.in_ok-new.ensures.bytes c.in_ok-new.ensures.bound)
+    (within old c.in_ok-old.old.items c.in_ok-old.ensures.bytes c.in_ok-old.ensures.bound, within new c.in_ok-new.new.items c.in_ok-new.ensures.bytes c.in_ok-new.ensures.bound)
 
 pub returns-clause-ran : goal.returns-clause-ran
 returns-clause-ran g c =
@@ -42,8 +42,8 @@ returns-clause-ran g c =
     let given_old = subst (Gives (g.O.Read.remaining c.args.old_map.now.reader.now)) (sym c.as_slice.ensures.value) c.in_ok-old.ensures.bytes in
     let given_new = subst (Gives (g.N.Read.remaining c.args.new_map.now.reader.now)) (sym c.as_slice-2.ensures.value) c.in_ok-new.ensures.bytes in
     ran_lines top _ _ c.as_slice.result.now c.as_slice-2.result.now given_old given_new _ _ c.as_slice-in-Accepted.result.now c.as_slice-in-Accepted-2.result.now
-        (subst (OpensRows top c.as_slice.result.now) (sym c.as_slice-in-Accepted.ensures) opens.0, subst (OpensRows top c.as_slice-2.result.now) (sym c.as_slice-in-Accepted-2.ensures) opens.1)
-        c.write_lines.result c.write_lines.ensures.wrote
+    (subst (OpensRows top c.as_slice.result.now) (sym c.as_slice-in-Accepted.ensures) opens.0, subst (OpensRows top c.as_slice-2.result.now) (sym c.as_slice-in-Accepted-2.ensures) opens.1)
+    c.write_lines.result c.write_lines.ensures.wrote
 
 pub returns-clause-stopped : goal.returns-clause-stopped
 returns-clause-stopped g c =
@@ -52,5 +52,5 @@ returns-clause-stopped g c =
     let given_old = subst (Gives (g.O.Read.remaining c.args.old_map.now.reader.now)) (sym c.as_slice.ensures.value) c.in_ok-old.ensures.bytes in
     let given_new = subst (Gives (g.N.Read.remaining c.args.new_map.now.reader.now)) (sym c.as_slice-2.ensures.value) c.in_ok-new.ensures.bytes in
     stopped_lines top _ _ c.as_slice.result.now c.as_slice-2.result.now given_old given_new _ _ c.as_slice-in-Accepted.result.now c.as_slice-in-Accepted-2.result.now
-        (subst (OpensRows top c.as_slice.result.now) (sym c.as_slice-in-Accepted.ensures) opens.0, subst (OpensRows top c.as_slice-2.result.now) (sym c.as_slice-in-Accepted-2.ensures) opens.1)
-        c.write_lines.result c.write_lines.ensures.stopped
+    (subst (OpensRows top c.as_slice.result.now) (sym c.as_slice-in-Accepted.ensures) opens.0, subst (OpensRows top c.as_slice-2.result.now) (sym c.as_slice-in-Accepted-2.ensures) opens.1)
+    c.write_lines.result c.write_lines.ensures.stopped
