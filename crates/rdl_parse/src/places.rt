@@ -128,6 +128,14 @@ impl<'a> Places<'a> {
         Ok(Places { text, places })
     }
 
+    /// The place of each item of the description, in pre-order: behind an item stand those that are inside it. Instances of
+    /// one statement with a body each have the body's items inside, at the same bytes of the text.
+    pub fn as_slice(&self) -> &[ItemPlace]
+        ensures { result.now ≡ self.now.places }
+    {
+        self.places.as_slice()
+    }
+
     /// The line and the column of the word of the item at an address: an instance's name, and the first word of the
     /// statement of any other item. There is none where the description has no item.
     ///
