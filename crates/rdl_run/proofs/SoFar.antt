@@ -1,5 +1,5 @@
 -- A script of which some lines were served.
-use Rattle.std.proofs.Common.{◌≡◌, ℕ, ◌+◌, Bool, true, false, List, [], ◌∷◌, ◌++◌, length, Option, Some, refl, sym, ap, ◌∙◌, subst, arith, append_assoc, append-nil, length-append}
+use Rattle.std.proofs.Common.{◌≡◌, ℕ, ◌+◌, Bool, true, false, List, [], ◌∷◌, ◌++◌, length, Option, Some, None, refl, sym, ap, ◌∙◌, subst, arith, append_assoc, append-nil, length-append}
 use Rattle.std.specs.Prelude.{◌||◌}
 use Rattle.std.specs.List.{list_any}
 use Rattle.std.specs.Io.KnownBytes.{Appends}
@@ -11,8 +11,10 @@ use Rattle.rdl_run.specs.Messages.{reply_text}
 use Rattle.rdl_run.specs.Answers.{History', Answers, Run, Replied, Serves, is_refused, messages_from}
 use Rattle.rdl_run.specs.Replies.{Said}
 use Rattle.rdl_run.specs.Turns.{HasTaken}
+use Rattle.rdl_run.specs.Waiting.{Says}
+use Rattle.rdl_run.specs.Writers.{ServesAll}
 use Rattle.rdl_run.specs.declared.counted.Counts.{Counts}
-use Rattle.rdl_run.specs.declared.status.RunFault.TheVariants.{Write}
+use Rattle.rdl_run.specs.declared.status.RunFault.TheVariants.{Memory, Write}
 use Rattle.rdl_run.proofs.Tallied.{taken-none, taken-both}
 use Rattle.rdl_run.proofs.Written.{concat-append, AppendsFront-after}
 
@@ -40,23 +42,27 @@ any-more : (rs : List Said) (r : Said) → list_any is_refused (rs ++ r ∷ []) 
 any-more [] r = or_false (is_refused r)
 any-more (x ∷ rs) r = ap (λ b. is_refused x || b) (any-more rs r) ∙ or_assoc (is_refused x) (list_any is_refused rs) (is_refused r)
 
--- the lines that were served, and those that are left
-pub record SoFar (old : History') (script : List ℕ) (left : Option (List ℕ)) (number : ℕ) (before after : Option (List ℕ)) (counted counts : Counts) (refuses : Bool) (new : History') : Type 0 where
+-- the lines that were served, of whose messages some wait, and the lines that are left
+pub record SoFar (old : History') (script : List ℕ) (left : Option (List ℕ)) (number : ℕ) (before after : Option (List ℕ)) (counted counts : Counts) (waiting : List ℕ) (refuses : Bool) (new : History') : Type 0 where
   pub done : List (List ℕ)
   pub text : List ℕ
+  pub written : List ℕ
   pub served : Serves old done text refuses new
   pub lines : lines_of script ≡ done ++ lines_left left
   pub count : number ≡ length served.replies
-  pub wrote : Appends before after text
-  pub took : HasTaken counted counts (length text)
+  pub parts : text ≡ written ++ waiting
+  pub wrote : Appends before after written
+  pub took : HasTaken counted counts (length written)
 
-pub nothing_yet : (old : History') (script : List ℕ) (before : Option (List ℕ)) (counted : Counts) → Appends before before [] → SoFar old script (Some script) 0 before before counted counted false old
+pub nothing_yet : (old : History') (script : List ℕ) (before : Option (List ℕ)) (counted : Counts) → Appends before before [] → SoFar old script (Some script) 0 before before counted counted [] false old
 nothing_yet old script before counted h = record {
   done = [];
   text = [];
+  written = [];
   served = record { replies = []; ran = refl; text_is = refl; refuses_is = refl };
   lines = refl;
   count = refl;
+  parts = refl;
   wrote = h;
   took = taken-none counted;
 }
@@ -87,26 +93,32 @@ serves_more old mid new lines line before text number refuses refuses' h count s
       count = omega (arith, count, length-append rs (said.reply ∷ []));
     }
 
-module _ (old mid new : History') (script bytes line text : List ℕ) (left : Option (List ℕ)) (number : ℕ) (a b c : Option (List ℕ)) (x y z : Counts) (refuses refuses' : Bool)
-    (h : SoFar old script (Some bytes) number a b x y refuses mid) (cut : lines_of bytes ≡ line ∷ lines_left left) (said : Replied mid line (number + 1) text refuses' new) where
+module _ (old mid new : History') (script bytes line text : List ℕ) (left : Option (List ℕ)) (number : ℕ) (a b c : Option (List ℕ)) (x y z : Counts) (waiting waits : List ℕ) (refuses refuses' : Bool)
+    (h : SoFar old script (Some bytes) number a b x y waiting refuses mid) (cut : lines_of bytes ≡ line ∷ lines_left left) (said : Replied mid line (number + 1) text refuses' new) where
   lines-cut : lines_of script ≡ (h.done ++ line ∷ []) ++ lines_left left
   lines-cut = h.lines ∙ ap (λ (ls : List (List ℕ)). h.done ++ ls) cut ∙ sym (append_assoc h.done (line ∷ []) (lines_left left))
 
-  pub one_more : Appends b c text → HasTaken y z (length text) → SoFar old script left (number + 1) a c x z (refuses || refuses') new
-  one_more wrote took =
+  -- what was written, what waited, and this message
+  with-message : h.text ++ text ≡ h.written ++ (waiting ++ text)
+  with-message = ap (λ (t : List ℕ). t ++ text) h.parts ∙ append_assoc h.written waiting text
+
+  pub one_more : Says b c y z waiting text waits → SoFar old script left (number + 1) a c x z waits (refuses || refuses') new
+  one_more says =
       let more = serves_more old mid new h.done line h.text text number refuses refuses' h.served h.count said in
       record {
         done = h.done ++ line ∷ [];
         text = h.text ++ text;
+        written = h.written ++ says.written;
         served = more.serves;
         lines = lines-cut;
         count = more.count;
-        wrote = Appends-trans a b c h.text text h.wrote wrote;
-        took = taken-both x y z h.text text h.took took;
+        parts = with-message ∙ ap (λ (t : List ℕ). h.written ++ t) says.parts ∙ sym (append_assoc h.written says.written waits);
+        wrote = Appends-trans a b c h.written says.written h.wrote says.wrote;
+        took = taken-both x y z h.written says.written h.took says.took;
       }
 
-  -- the message of this line wasn't written whole
-  pub stopped_writing : AppendsFront b c text → StopsServing old (lines_of script) a c Write
+  -- the message of this line wasn't written whole, or one that waited
+  pub stopped_writing : AppendsFront b c (waiting ++ text) → StopsServing old (lines_of script) a c Write
   stopped_writing wrote =
       let more = serves_more old mid new h.done line h.text text number refuses refuses' h.served h.count said in
       record {
@@ -117,5 +129,46 @@ module _ (old mid new : History') (script bytes line text : List ℕ) (left : Op
         refuses = refuses || refuses';
         last = new;
         serves = more.serves;
-        wrote = subst (AppendsFront a c) (ap (λ (t : List ℕ). h.text ++ t) (append-nil text)) (AppendsFront-after a b c h.text text [] h.wrote wrote);
+        wrote = subst (AppendsFront a c) (ap (λ (t : List ℕ). h.written ++ t) (append-nil (waiting ++ text)) ∙ sym with-message)
+            (AppendsFront-after a b c h.written (waiting ++ text) [] h.wrote wrote);
       }
+
+-- what waits is written
+module _ (old new : History') (script : List ℕ) (left : Option (List ℕ)) (number : ℕ) (a b c : Option (List ℕ)) (x y z : Counts) (waiting : List ℕ) (refuses : Bool)
+    (h : SoFar old script left number a b x y waiting refuses new) where
+  all-written : Appends b c waiting → Appends a c h.text
+  all-written wrote = subst (Appends a c) (sym h.parts) (Appends-trans a b c h.written waiting h.wrote wrote)
+
+  -- and nothing is left
+  pub served_all : left ≡ None → Appends b c waiting → HasTaken y z (length waiting) → ServesAll old new (lines_of script) a c x z refuses
+  served_all none wrote took =
+      let lines : lines_of script ≡ h.done = h.lines ∙ ap (λ (l : Option (List ℕ)). h.done ++ lines_left l) none ∙ append-nil h.done in
+      (h.text, subst (λ (ls : List (List ℕ)). Serves old ls h.text refuses new) (sym lines) h.served, all-written wrote,
+      subst (λ (t : List ℕ). HasTaken x z (length t)) (sym h.parts) (taken-both x y z h.written waiting h.took took))
+
+  -- memory is wanting for the next line
+  pub stopped_for_memory : Appends b c waiting → StopsServing old (lines_of script) a c Memory
+  stopped_for_memory wrote = record {
+    served = h.done;
+    rest = lines_left left;
+    parts = h.lines;
+    text = h.text;
+    refuses = refuses;
+    last = new;
+    serves = h.served;
+    wrote = all-written wrote;
+  }
+
+  -- what waits isn't written whole
+  pub stopped_at_waiting : AppendsFront b c waiting → StopsServing old (lines_of script) a c Write
+  stopped_at_waiting wrote = record {
+    served = h.done;
+    rest = lines_left left;
+    parts = h.lines;
+    text = h.text;
+    refuses = refuses;
+    last = new;
+    serves = h.served;
+    wrote = subst (AppendsFront a c) (ap (λ (t : List ℕ). h.written ++ t) (append-nil waiting) ∙ sym h.parts)
+        (AppendsFront-after a b c h.written waiting [] h.wrote wrote);
+  }

@@ -23,4 +23,5 @@ pub mod ScriptLines
 pub mod Sessions
 pub mod Shown
 pub mod Turns
+pub mod Waiting
 pub mod OwnSteps

@@ -197,20 +197,18 @@ fn push_line_refusal(text: &mut String, refusal: &LineRefusal) -> Result<(), All
     }
 }
 
-/// The message of a line of the script, which counts from 1.
+/// Appends the message of a line of the script, which counts from 1.
 #[tactic(auto, unfolding(crate::specs::Messages::reply_text))]
-pub fn reply_text(alloc: Global, number: usize, reply: Reply) -> Result<String, AllocError>
-    ensures { IfOk result (λ text. string_bytes text ≡ reply_text number (said reply)) }
+pub fn push_reply(text: &mut String, number: usize, reply: &Reply) -> Result<(), AllocError>
+    ensures { OnOk result (string_bytes text.new ≡ string_bytes text.old ++ reply_text number (said reply.now)) }
 {
     match reply {
-        Reply::Done => Ok(String::new(alloc)),
-        Reply::Listed(text) => Ok(text),
+        Reply::Done => Ok(()),
+        Reply::Listed(lines) => text.push_str(lines.as_str()),
         Reply::Refused(refusal) => {
-            let mut text = String::new(alloc);
             write!(text, "script:{number}: ")?;
-            push_line_refusal(&mut text, &refusal)?;
-            text.push_str("\n")?;
-            Ok(text)
+            push_line_refusal(text, refusal)?;
+            text.push_str("\n")
         }
     }
 }

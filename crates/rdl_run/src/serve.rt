@@ -1,5 +1,5 @@
 //! One line of a script after another.
-ghost use Rattle.std.specs.Prelude.{◌≡◌, ◌⊎◌, ℕ, ◌≤◌, ◌<◌, ◌^◌, List, ◌∷◌, length, string_bytes, Err, IfOk, IfErr, OnOk, OnErr, IsErrOf, IsOkUnless};
+ghost use Rattle.std.specs.Prelude.{◌≡◌, ◌⊎◌, ℕ, ◌≤◌, ◌<◌, ◌^◌, List, ◌∷◌, ◌++◌, length, string_bytes, Err, IfOk, IfErr, OnOk, OnErr, IsErrOf, IsOkUnless};
 ghost use Rattle.std.specs.List.{prefix_len};
 ghost use Rattle.std.specs.Option.{option_copied};
 ghost use Rattle.journal_core.specs.History.{Edits};
@@ -14,13 +14,15 @@ ghost use Rattle.rdl_script.specs.Seen.{seen};
 ghost use Rattle.rdl_run.specs.Replies.{said};
 ghost use Rattle.rdl_run.specs.Shown.{AreAt, AreOf};
 ghost use Rattle.rdl_run.specs.Faulted.{StopsServing};
+ghost use Rattle.rdl_run.specs.Known.{AppendsFront};
 ghost use Rattle.rdl_run.specs.Turns.{IsGivenUp, IsOpen};
+ghost use Rattle.rdl_run.specs.Waiting.{Says};
 ghost use Rattle.rdl_run.specs.Writers.{ServesAll};
 
 use crate::counted::CountedWriter;
 use crate::output::write_counted;
 use crate::reading::{ReadingFault, items_of};
-use crate::reply::{LineRefusal, Reply, reply_text};
+use crate::reply::{LineRefusal, Reply, push_reply};
 use crate::shown::rows_of;
 use crate::status::RunFault;
 use journal_core::fault::{EditFault, StepFault};
@@ -183,20 +185,22 @@ fn split_line(bytes: &[u8]) -> (&[u8], Option<&[u8]>)
     }
 }
 
-/// One line's message, and whether it is refused.
+/// Puts one line's message into the text, and answers whether the line is refused.
 fn serve_line(
     alloc: Global,
     journal: &mut Journal<Map>,
     kept: &mut Option<Rows>,
     number: usize,
     line: &[u8],
-) -> Result<(String, bool), RunFault>
+    message: &mut String,
+) -> Result<bool, RunFault>
     requires { AreAt journal.old.history kept.old }
-    ensures replied { IfOk result (λ r. Replied journal.old.history line.now number (string_bytes r.0) r.1 journal.new.history) }
+    ensures replied { IfOk result (λ refused. Replied journal.old.history line.now number (string_bytes message.new) refused journal.new.history) }
     ensures keeps { AreAt journal.new.history kept.new }
     ensures stay_own { AllOwn journal.old → AllOwn journal.new }
     ensures fault { IsOkUnless result RunFault.Memory }
 {
+    message.clear();
     let request = match request_of(alloc, line) {
         Ok(request) => request,
         Err(_) => return Err(RunFault::Memory),
@@ -205,15 +209,42 @@ fn serve_line(
         Ok(reply) => reply,
         Err(_) => return Err(RunFault::Memory),
     };
-    let refused = reply.is_refused();
-    match reply_text(alloc, number, reply) {
-        Ok(text) => Ok((text, refused)),
+    match push_reply(message, number, &reply) {
+        Ok(()) => Ok(reply.is_refused()),
         Err(_) => Err(RunFault::Memory),
     }
 }
 
-/// Serves the lines of a script, and writes the messages of each before the next is served. Answers whether one was
-/// refused. The rows are those of the map at the place, if they are there.
+/// The most bytes of messages that wait to be written together.
+const MOST_WAITING: usize = 65_536;
+
+/// Puts a message behind those that wait. Where they would be too many, or there is no memory for that, all are written.
+fn say<E: Write>(
+    messages: &mut CountedWriter<'_, E>,
+    waiting: &mut String,
+    message: &str,
+) -> Result<(), RunFault>
+    requires asked { IsOpen messages.old.counts }
+    ensures says { OnOk result (Says (E.contents messages.old.writer.now) (E.contents messages.new.writer.now) messages.old.counts messages.new.counts
+        (string_bytes waiting.old) message.now (string_bytes waiting.new)) }
+    ensures err { OnErr result (AppendsFront (E.contents messages.old.writer.now) (E.contents messages.new.writer.now) (string_bytes waiting.old ++ message.now)) }
+    ensures fault { IsOkUnless result RunFault.Write }
+    ensures ended { OnErr result (IsGivenUp messages.new.counts) }
+    ensures few { messages.new.counts.interrupts ≤ 1000 }
+    ensures asked { OnOk result (IsOpen messages.new.counts) }
+    ensures same_reference { messages.new.writer.ghost_name ≡ messages.old.writer.ghost_name }
+{
+    let length = waiting.len().saturating_add(message.len());
+    if length <= MOST_WAITING && waiting.push_str(message).is_ok() {
+        return Ok(());
+    }
+    write_counted(messages, waiting.as_bytes())?;
+    waiting.clear();
+    write_counted(messages, message.as_bytes())
+}
+
+/// Serves the lines of a script, and writes the messages of all of them in their order, also where it stops for want of memory.
+/// Answers whether one was refused. The rows are those of the map at the place, if they are there.
 pub fn serve_all<E: Write>(
     alloc: Global,
     journal: &mut Journal<Map>,
@@ -238,19 +269,23 @@ pub fn serve_all<E: Write>(
 {
     let mut number = 0usize;
     let mut refused = false;
+    let mut message = String::new(alloc);
+    let mut waiting = String::new(alloc);
     let mut rest = Some(script);
     'lines: while let Some(bytes) = rest {
         let (line, behind) = split_line(bytes);
         number += 1;
-        let (text, refuses) = match serve_line(alloc, journal, kept, number, line) {
-            Ok(said) => said,
-            Err(_) => return Err(RunFault::Memory),
+        let refuses = match serve_line(alloc, journal, kept, number, line, &mut message) {
+            Ok(refuses) => refuses,
+            Err(_) => {
+                write_counted(messages, waiting.as_bytes())?;
+                return Err(RunFault::Memory);
+            }
         };
-        if write_counted(messages, text.as_bytes()).is_err() {
-            return Err(RunFault::Write);
-        }
+        say(messages, &mut waiting, message.as_str())?;
         refused = refused || refuses;
         rest = behind;
     }
+    write_counted(messages, waiting.as_bytes())?;
     Ok(refused)
 }

@@ -1,5 +1,6 @@
 //! Texts, and the files to which they go.
-ghost use Rattle.whole_files.specs.Outputs.{IsAt};
+ghost use Rattle.std.specs.Prelude.{IfErr};
+ghost use Rattle.whole_files.specs.Outputs.{AreOf, IsAt, IsAtOne, IsAtWaiting};
 
 use crate::beside::Beside;
 use crate::leftover::take_leftovers;
@@ -93,8 +94,11 @@ fn prepare_all<'p, R: Files<File = File>>(
     alloc: Global,
     outputs: &[Output<'p, '_>],
     waiting: &mut Vec<Waiting<'p>>,
-) -> Result<(), OutputFault<'p>> {
-    for output in outputs {
+) -> Result<(), OutputFault<'p>>
+    ensures named { IfErr result (IsAtOne outputs.now) }
+    ensures of { AreOf outputs.now waiting.old.items → AreOf outputs.now waiting.new.items }
+{
+    'outputs: for output in outputs {
         let path = output.path;
         match prepare(rt, alloc, *output) {
             Ok(Some(beside)) => {
@@ -117,8 +121,10 @@ fn remove_all<R: Files>(rt: &R, waiting: &[Waiting<'_>]) {
 }
 
 /// Puts each new file into the place of its old one. At the first where that fails, it and those after it are taken away.
-fn take_places<'p, R: Files>(rt: &R, waiting: &[Waiting<'p>]) -> Result<(), OutputFault<'p>> {
-    for (at, one) in waiting.iter().enumerate() {
+fn take_places<'p, R: Files>(rt: &R, waiting: &[Waiting<'p>]) -> Result<(), OutputFault<'p>>
+    ensures { IfErr result (IsAtWaiting waiting.now) }
+{
+    'waiting: for (at, one) in waiting.iter().enumerate() {
         if let Err(error) = one.beside.take_place(rt) {
             remove_all(rt, &waiting[at..]);
             return Err(fault_at(one.path, error));
@@ -139,9 +145,11 @@ fn sync_folder<R: Files>(rt: &R, folder: &str) -> io::Result<()> {
 }
 
 /// Syncs the folder of each file that was replaced, once where files of one folder follow each other.
-fn sync_folders<'p, R: Files>(rt: &R, waiting: &[Waiting<'p>]) -> Result<(), OutputFault<'p>> {
+fn sync_folders<'p, R: Files>(rt: &R, waiting: &[Waiting<'p>]) -> Result<(), OutputFault<'p>>
+    ensures { IfErr result (IsAtWaiting waiting.now) }
+{
     let mut synced = "";
-    for one in waiting {
+    'waiting: for one in waiting {
         let folder = one.beside.folder();
         if folder != synced {
             sync_folder(rt, folder).map_err(|error| fault_at(one.path, error))?;
@@ -159,7 +167,10 @@ pub fn write_whole<'p, R: Files<File = File>>(
     rt: &R,
     alloc: Global,
     outputs: &[Output<'p, '_>],
-) -> Result<(), OutputFault<'p>> {
+) -> Result<(), OutputFault<'p>>
+    // A fault that names a file names that of one of these outputs.
+    ensures named { IfErr result (IsAtOne outputs.now) }
+{
     let mut waiting = Vec::new(alloc);
     if let Err(fault) = prepare_all(rt, alloc, outputs, &mut waiting) {
         remove_all(rt, waiting.as_slice());
