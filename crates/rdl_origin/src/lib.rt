@@ -1,0 +1,4 @@
+//! Which item of a map each item of the last map is.
+#![tactic(auto)]
+
+pub mod origin;
