@@ -1,5 +1,5 @@
 -- When a run or a comparison does what a case wants of it. Own.
-use Rattle.std.specs.Prelude.{◌≡◌, ℕ, List, [], ◌∷◌, ◌++◌, Option, None, Some}
+use Rattle.std.specs.Prelude.{◌≡◌, ℕ, false, List, [], ◌∷◌, ◌++◌, Option, None, Some}
 use denote.Ref.{Bor}
 use Rattle.cases.specs.Exit.{status_code, comparison_code}
 use Rattle.cases.specs.declared.case.Wanted.{Wanted}
@@ -24,6 +24,11 @@ abbrev pub IsWanted : List ℕ → Option (Option (Bor (List ℕ))) → Type 0
 IsWanted text None = Unit {0}
 IsWanted text (Some lines) = HasLines text lines
 
+-- a text is the whole text that is wanted; where nothing is said of it, it may be any
+abbrev pub IsWantedWhole : List ℕ → Option (Bor (List ℕ)) → Type 0
+IsWantedWhole text None = Unit {0}
+IsWantedWhole text (Some wanted) = text ≡ wanted.now
+
 -- it ended as is wanted, and each text is as it is wanted
 pub record IsMet (found : Found) (wanted : Wanted) (status : ℕ) : Type 0 where
   pub ends : EndsWith found.end status
@@ -31,3 +36,5 @@ pub record IsMet (found : Found) (wanted : Wanted) (status : ℕ) : Type 0 where
   pub writes : IsWanted found.rdl.items wanted.writes
   pub header : IsWanted found.header.items wanted.header
   pub session : IsWanted found.session.items wanted.session
+  pub edited : IsWantedWhole found.edited.items wanted.edited
+  pub woven : found.is_unwoven ≡ false

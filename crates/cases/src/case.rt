@@ -23,6 +23,8 @@ pub struct Wanted<'a> {
     pub writes: Option<Lines<'a>>,
     pub header: Option<Lines<'a>>,
     pub session: Option<Lines<'a>>,
+    /// The whole edited text.
+    pub edited: Option<&'a str>,
 }
 
 /// A case, as far as its headings are read.
@@ -85,7 +87,14 @@ impl<'a> Wanted<'a> {
             writes: None,
             header: None,
             session: None,
+            edited: None,
         }
+    }
+
+    fn read_edited(&mut self, text: &'a str) -> bool {
+        let is_first = self.edited.is_none();
+        self.edited = Some(text);
+        is_first
     }
 
     fn read_status(&mut self, word: &str) -> bool {
@@ -102,6 +111,7 @@ impl<'a> Wanted<'a> {
             "writes" => say(&mut self.writes, heading.lines),
             "header" => say(&mut self.header, heading.lines),
             "session" => say(&mut self.session, heading.lines),
+            "edited" => self.read_edited(heading.text()),
             _ => false,
         }
     }

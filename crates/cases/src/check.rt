@@ -1,7 +1,7 @@
 //! Whether a case passes, and what is said of it where it doesn't.
 ghost use Rattle.std.specs.Prelude.{◌≡◌, ◌↔◌, [], ◌∷◌, ◌++◌, IsTrue};
 ghost use Rattle.cases.specs.Exit.{status_code, comparison_code};
-ghost use Rattle.cases.specs.Met.{EndsWith, HasLines, IsMet, IsWanted};
+ghost use Rattle.cases.specs.Met.{EndsWith, HasLines, IsMet, IsWanted, IsWantedWhole};
 
 use crate::case::{Case, Lines, Wanted};
 use crate::found::{End, Found, find};
@@ -69,6 +69,16 @@ fn is_wanted(text: &Vec<u8>, wanted: Option<Lines>) -> bool
     }
 }
 
+/// Whether a text is the whole text that is wanted, if anything is said of it.
+fn is_wanted_whole(text: &Vec<u8>, wanted: Option<&str>) -> bool
+    ensures { IsTrue result ↔ IsWantedWhole text.now.items wanted.entry }
+{
+    match wanted {
+        Some(wanted) => is_text(text.as_slice(), wanted),
+        None => true,
+    }
+}
+
 /// Whether it ended with this exit status.
 fn is_wanted_end(end: End, wanted: u8) -> bool
     ensures { IsTrue result ↔ EndsWith end wanted }
@@ -103,6 +113,20 @@ fn print_part(
     )
 }
 
+fn print_edited(rt: &HostRuntime, found: &Found, wanted: Option<&str>) -> io::Result<()> {
+    if found.is_unwoven {
+        return println!(rt; "came no edited text");
+    }
+    if is_wanted_whole(&found.edited, wanted) {
+        return Ok(());
+    }
+    println!(rt;
+        "wanted %edited\n{}\ncame %edited\n{}",
+        wanted.unwrap_or(""),
+        text_of(found.edited.as_slice())
+    )
+}
+
 fn print_end(rt: &HostRuntime, end: End, wanted: u8) -> io::Result<()> {
     match end {
         End::Ended(status) => println!(rt; "wanted %status {wanted}, came {}", status_code(status)),
@@ -123,6 +147,8 @@ fn is_met(found: &Found, wanted: &Wanted, status: u8) -> bool
         && is_wanted(&found.rdl, wanted.writes)
         && is_wanted(&found.header, wanted.header)
         && is_wanted(&found.session, wanted.session)
+        && is_wanted_whole(&found.edited, wanted.edited)
+        && !found.is_unwoven
 }
 
 /// Prints what came in place of what is wanted.
@@ -133,7 +159,8 @@ fn print_found(rt: &HostRuntime, found: &Found, wanted: &Wanted, status: u8) -> 
     print_part(rt, "prints", &found.messages, wanted.prints)?;
     print_part(rt, "writes", &found.rdl, wanted.writes)?;
     print_part(rt, "header", &found.header, wanted.header)?;
-    print_part(rt, "session", &found.session, wanted.session)
+    print_part(rt, "session", &found.session, wanted.session)?;
+    print_edited(rt, found, wanted.edited)
 }
 
 /// Whether the run on a map ends and says and writes as is wanted.

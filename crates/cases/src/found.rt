@@ -2,7 +2,8 @@
 use crate::case::Given;
 use rdl_diff::status::Status as Comparison;
 use rdl_run::comparison::compare;
-use rdl_run::run::{Options, run};
+use rdl_run::edited::{Edited, Unwoven};
+use rdl_run::run::{Options, run_texts};
 use rdl_run::status::{RunFault, Status};
 use rdl_text::name::{Name, NameFault};
 use std::alloc::Global;
@@ -25,6 +26,9 @@ pub struct Found {
     pub rdl: Vec<u8>,
     pub header: Vec<u8>,
     pub session: Vec<u8>,
+    pub edited: Vec<u8>,
+    /// Whether no edited text was made of a map that has a source.
+    pub is_unwoven: bool,
 }
 
 fn top_of(alloc: Global, top: Option<&str>) -> Result<Option<Name>, NameFault> {
@@ -41,16 +45,16 @@ fn run_into(
     mut script: &[u8],
     options: &Options,
 ) -> Result<Status, RunFault> {
-    run(
-        alloc,
-        &mut map,
-        &mut script,
-        options,
-        &mut found.rdl,
-        &mut found.header,
-        &mut found.session,
-        &mut found.messages,
-    )
+    let texts = run_texts(alloc, &mut map, &mut script, options, &mut found.messages)?;
+    found.rdl = texts.rdl.into_bytes();
+    found.header = texts.header.into_bytes();
+    found.session = texts.session.into_bytes();
+    match texts.edited {
+        Edited::Woven(text) => found.edited = text.into_bytes(),
+        Edited::NotAsked | Edited::Missing(Unwoven::NoSource) => {}
+        Edited::Missing(Unwoven::TooLong | Unwoven::NotWoven) => found.is_unwoven = true,
+    }
+    Ok(texts.status)
 }
 
 fn run_given(
@@ -64,6 +68,7 @@ fn run_given(
         top,
         history: given.history,
         session: true,
+        edited: true,
     };
     Ok(End::Ended(run_into(
         alloc,
@@ -107,6 +112,8 @@ pub fn find(alloc: Global, map: &str, given: &Given) -> Found {
         rdl: Vec::new(alloc),
         header: Vec::new(alloc),
         session: Vec::new(alloc),
+        edited: Vec::new(alloc),
+        is_unwoven: false,
     };
     found.end = find_into(alloc, &mut found, map, given);
     found

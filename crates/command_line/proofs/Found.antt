@@ -201,15 +201,15 @@ whole c m is p = record {
   script = has 1 (lit< tt) (codes "script") refl refl refl refl refl refl refl refl;
   rdl = has 2 (lit< tt) (codes "rdl") refl refl refl refl refl refl refl refl;
   header = has 3 (lit< tt) (codes "header") refl refl refl refl refl refl refl refl;
-  history = numbered (has_default regedit_command edit_rules edit_program c m is p d 5 (lit< tt) (codes "history") refl refl refl refl refl refl refl
+  history = numbered (has_default regedit_command edit_rules edit_program c m is p d 6 (lit< tt) (codes "history") refl refl refl refl refl refl refl
       (vp.Signed (pos 1) (pos 1000000)) refl (lit< tt));
 }
   where
     d : Arg
     d = first_arg (args_of c) (rw (as_many regedit_command edit_rules edit_program c is) (lit< tt))
 
-    has : (k : ℕ) (lt : k < 8) (id : Text) → (rule_of_place edit_rules k).id ≡ id → (rule_of_place edit_rules k).action ≡ Some Set → (rule_of_place edit_rules k).range ≡ None
-        → clear_of edit_rules k (rule_of_place edit_rules k).id 8 ≡ true → bytes_eq id [] ≡ false → bytes_eq id (codes "help") ≡ false → bytes_eq id (codes "version") ≡ false
+    has : (k : ℕ) (lt : k < 9) (id : Text) → (rule_of_place edit_rules k).id ≡ id → (rule_of_place edit_rules k).action ≡ Some Set → (rule_of_place edit_rules k).range ≡ None
+        → clear_of edit_rules k (rule_of_place edit_rules k).id 9 ≡ true → bytes_eq id [] ≡ false → bytes_eq id (codes "help") ≡ false → bytes_eq id (codes "version") ≡ false
         → (rule_of_place edit_rules k).required ≡ true → is_some (value id (rows_of (found_of m))) ≡ true
     has = has_value regedit_command edit_rules edit_program c m is p d
 

@@ -201,6 +201,7 @@ module _ (map script rdl header : Text) (plain_map : is_plain map ≡ true) (pla
     top_value = ap (first_of (codes "top")) (values [] last refl);
     history_value = ap (first_of (codes "history")) (values [] last refl);
     session_value = ap (first_of (codes "session")) (values [] last refl);
+    edited_value = ap (first_of (codes "edited")) (values [] last refl);
     strict_value = ap (first_of (codes "strict")) (values [] last refl);
   }
 
@@ -242,5 +243,6 @@ module _ (map script rdl header : Text) (plain_map : is_plain map ≡ true) (pla
       top_value = ap (first_of (codes "top")) (values asked end to_end);
       history_value = ap (first_of (codes "history")) (values asked end to_end);
       session_value = ap (first_of (codes "session")) (values asked end to_end);
+      edited_value = ap (first_of (codes "edited")) (values asked end to_end);
       strict_value = ap (first_of (codes "strict")) (values asked end to_end);
     }

@@ -1,4 +1,4 @@
--- The arguments of the programs as `clap` sees them: two operands, and six options or one. Own.
+-- The arguments of the programs as `clap` sees them: two operands, and seven options or one. Own.
 use Rattle.std.specs.Prelude.{[], ◌∷◌, Some, true, codes, pos}
 use Rattle.clap.specs.Words.{App, Rule, Text, new_app, new_rule, with_rule}
 use Rattle.clap.specs.declared.builder.action.ArgAction.TheVariants.{Set, SetTrue}
@@ -26,9 +26,9 @@ history_rule = record (new_rule (codes "history")) {
   parser = Some (parser.Signed (pos 1) (pos 1000000));
 }
 
--- --session OUT
-abbrev pub session_rule : Rule
-session_rule = record (new_rule (codes "session")) { long = Some (codes "session"); action = Some Set; value_names = 1 }
+-- --edited OUT and --session OUT
+abbrev pub optional_output_rule : Text → Rule
+optional_output_rule id = record (new_rule id) { long = Some id; action = Some Set; value_names = 1 }
 
 -- --strict, which has no value
 abbrev pub strict_rule : Rule
@@ -47,8 +47,8 @@ abbrev pub program_with : Text → (first second : Rule) → App
 program_with name first second = with_rule (with_rule (with_version (without_name (new_app name))) first) second
 
 unfoldable pub regedit_command : App
-regedit_command = with_rule (with_rule (with_rule (with_rule (with_rule (with_rule (program_with (codes "regedit") (operand_rule (codes "map")) (operand_rule (codes "script")))
-    (output_rule (codes "rdl"))) (output_rule (codes "header"))) top_rule) history_rule) session_rule) strict_rule
+regedit_command = with_rule (with_rule (with_rule (with_rule (with_rule (with_rule (with_rule (program_with (codes "regedit") (operand_rule (codes "map")) (operand_rule (codes "script")))
+    (output_rule (codes "rdl"))) (output_rule (codes "header"))) (optional_output_rule (codes "edited"))) top_rule) history_rule) (optional_output_rule (codes "session"))) strict_rule
 
 unfoldable pub regdiff_command : App
 regdiff_command = with_rule (program_with (codes "regdiff") (operand_rule (codes "old")) (operand_rule (codes "new"))) top_rule

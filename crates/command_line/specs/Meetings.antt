@@ -25,24 +25,28 @@ are_one (Some a) (Some b) = bytes_eq a b
 are_one (Some a) None = false
 are_one None b = false
 
--- the worst first
-abbrev pub meeting_at : (map script rdl header session : Option Text) → Option Meeting
-meeting_at map script rdl header session =
-    if are_one rdl header || are_one rdl session || are_one header session then Some TwoOutputs
-    else if are_one rdl script || are_one header script || are_one session script then Some OutputOverScript
+-- the file is the map's, the header's or the session's
+abbrev pub meets_one : (file rdl header session : Option Text) → Bool
+meets_one file rdl header session = are_one file rdl || (are_one file header || are_one file session)
+
+-- the worst first; the edited text may stand in the place of MAP
+abbrev pub meeting_at : (map script rdl header session edited : Option Text) → Option Meeting
+meeting_at map script rdl header session edited =
+    if are_one rdl header || are_one rdl session || are_one header session || meets_one edited rdl header session then Some TwoOutputs
+    else if are_one edited script || meets_one script rdl header session then Some OutputOverScript
     else if are_one header map then Some HeaderOverMap
     else None
 
 -- of a line with these paths: standard input is read once, and no file is written over that is needed
-abbrev pub meeting_between : (map script rdl header : Text) → (session : Option Text) → Option Meeting
-meeting_between map script rdl header session =
+abbrev pub meeting_between : (map script rdl header : Text) → (session edited : Option Text) → Option Meeting
+meeting_between map script rdl header session edited =
     if is_standard_input map && is_standard_input script then Some TwoInputs
-    else meeting_at (input_named map) (input_named script) (output_named rdl) (output_named header) (option_and_then output_named session)
+    else meeting_at (input_named map) (input_named script) (output_named rdl) (output_named header) (option_and_then output_named session) (option_and_then output_named edited)
 
 -- of the paths of a line
 abbrev pub meeting_of : Line → Option Meeting
 meeting_of line = meeting_between
-    (string_bytes line.map) (string_bytes line.script) (string_bytes line.rdl) (string_bytes line.header) (option_map string_bytes line.session)
+    (string_bytes line.map) (string_bytes line.script) (string_bytes line.rdl) (string_bytes line.header) (option_map string_bytes line.session) (option_map string_bytes line.edited)
 
 -- two paths of the words meet so: those that the words give MAP, SCRIPT and the outputs
 pub record MeetAt (rows : List Row) (meeting : Meeting) : Type 0 where
@@ -54,4 +58,4 @@ pub record MeetAt (rows : List Row) (meeting : Meeting) : Type 0 where
   pub is_script : first_of (codes "script") rows ≡ Some script
   pub is_rdl : first_of (codes "rdl") rows ≡ Some rdl
   pub is_header : first_of (codes "header") rows ≡ Some header
-  pub meet : meeting_between map script rdl header (first_of (codes "session") rows) ≡ Some meeting
+  pub meet : meeting_between map script rdl header (first_of (codes "session") rows) (first_of (codes "edited") rows) ≡ Some meeting

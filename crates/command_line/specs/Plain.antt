@@ -30,6 +30,7 @@ pub record AreRead (words : List Text) (map script rdl header : Text) (session :
   pub top_value : value (codes "top") (found words) ≡ None
   pub history_value : value (codes "history") (found words) ≡ Some (codes "10000")
   pub session_value : value (codes "session") (found words) ≡ session
+  pub edited_value : value (codes "edited") (found words) ≡ None
   pub strict_value : value (codes "strict") (found words) ≡ Some (codes "false")
 
 abbrev pub ReadsInOrder : (map script rdl header : Text) → Type 0

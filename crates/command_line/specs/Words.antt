@@ -44,6 +44,7 @@ pub record Means (rows : List Row) (line : Line) : Type 0 where
   pub top_is_name : IfSome line.top IsName
   pub history : NumbersHistory rows line.history
   pub session : value (codes "session") rows ≡ option_map string_bytes line.session
+  pub edited : value (codes "edited") rows ≡ option_map string_bytes line.edited
   pub strict : line.strict ≡ says_true (value (codes "strict") rows)
 
 -- what is told of the words: nothing where `clap` takes them, else the kind of the first thing that it doesn't take, where

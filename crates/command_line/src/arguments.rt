@@ -1,7 +1,7 @@
 //! The arguments of the programs, as `clap` reads them and as their help shows them.
 ghost use Rattle.std.specs.Prelude.{◌≡◌, IfOk, false};
 ghost use Rattle.clap.specs.Words.{app_of, rule_of};
-ghost use Rattle.command_line.specs.Arguments.{history_rule, operand_rule, output_rule, program_with, regdiff_command, regedit_command, session_rule, strict_rule, top_rule};
+ghost use Rattle.command_line.specs.Arguments.{history_rule, operand_rule, optional_output_rule, output_rule, program_with, regdiff_command, regedit_command, strict_rule, top_rule};
 
 use clap::{Arg, ArgAction, Command, value_parser};
 use std::alloc::{AllocError, Global};
@@ -56,15 +56,15 @@ fn history<'a>(alloc: Global) -> Arg<'a>
         .help("How many changes can be undone, from 1 to 1000000")
 }
 
-fn session<'a>(alloc: Global) -> Arg<'a>
-    ensures rule { rule_of result ≡ session_rule }
+fn optional_output<'a>(alloc: Global, id: &'a str, help: &'a str) -> Arg<'a>
+    ensures rule { rule_of result ≡ optional_output_rule id.entry.now }
     ensures own { result.global ≡ false }
 {
-    Arg::new(alloc, "session")
-        .long("session")
+    Arg::new(alloc, id)
+        .long(id)
         .value_name("OUT")
         .action(ArgAction::Set)
-        .help("Where the session is written: the map with its undos and redos")
+        .help(help)
 }
 
 fn strict<'a>(alloc: Global) -> Arg<'a>
@@ -128,12 +128,21 @@ pub(crate) fn regedit_command<'a>(alloc: Global) -> Result<Command<'a>, AllocErr
         "header",
         "Where the C header is written, or - for standard output",
     ))?
+    .arg(optional_output(
+        alloc,
+        "edited",
+        "Where MAP is written with only the edits woven in; OUT may be MAP",
+    ))?
     .arg(top(
         alloc,
         "The address map of the root that is the top; with none, the last one",
     ))?
     .arg(history(alloc))?
-    .arg(session(alloc))?
+    .arg(optional_output(
+        alloc,
+        "session",
+        "Where the session is written: the map with its undos and redos",
+    ))?
     .arg(strict(alloc))
 }
 

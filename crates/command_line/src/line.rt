@@ -20,6 +20,8 @@ pub struct Line {
     pub history: u32,
     /// The file to which the session is written, if it is asked for.
     pub session: Option<String>,
+    /// The file to which MAP is written with only the edits woven in, if that is asked for.
+    pub edited: Option<String>,
     /// Whether files change only where each line of the script was accepted.
     pub strict: bool,
 }

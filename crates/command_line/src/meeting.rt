@@ -1,6 +1,6 @@
 //! Which paths of a line lead to one file, so that a run would write over what it has.
-ghost use Rattle.std.specs.Prelude.{◌≡◌, option_map};
-ghost use Rattle.command_line.specs.Meetings.{are_one, input_named, meeting_at, meeting_between, output_named};
+ghost use Rattle.std.specs.Prelude.{◌≡◌, option_and_then, option_map};
+ghost use Rattle.command_line.specs.Meetings.{are_one, input_named, meeting_at, meeting_between, meets_one, output_named};
 
 use crate::streams::is_standard_input;
 use std::fmt;
@@ -42,6 +42,16 @@ fn output_named(path: &str) -> Option<&str>
     }
 }
 
+/// The file that the path of an output names that is asked for.
+fn optional_named(path: Option<&str>) -> Option<&str>
+    ensures { option_map (λ t. t.now) result ≡ option_and_then output_named (option_map (λ t. t.now) path.entry) }
+{
+    match path {
+        Some(path) => output_named(path),
+        None => None,
+    }
+}
+
 /// The file that an input's path names. Standard input is none.
 fn input_named(path: &str) -> Option<&str>
     ensures { option_map (λ t. t.now) result ≡ input_named path.now }
@@ -62,6 +72,18 @@ fn are_one(a: Option<&str>, b: Option<&str>) -> bool
     }
 }
 
+/// Whether the file is the map's, the header's or the session's.
+fn meets_one(
+    file: Option<&str>,
+    rdl: Option<&str>,
+    header: Option<&str>,
+    session: Option<&str>,
+) -> bool
+    ensures { result ≡ meets_one (option_map (λ t. t.now) file.entry) (option_map (λ t. t.now) rdl.entry) (option_map (λ t. t.now) header.entry) (option_map (λ t. t.now) session.entry) }
+{
+    are_one(file, rdl) || are_one(file, header) || are_one(file, session)
+}
+
 /// What a run over these files would write over, the worst first. A file that is none meets no other.
 fn meeting_at(
     map: Option<&str>,
@@ -69,13 +91,18 @@ fn meeting_at(
     rdl: Option<&str>,
     header: Option<&str>,
     session: Option<&str>,
+    edited: Option<&str>,
 ) -> Option<Meeting>
-    ensures { result ≡ meeting_at (option_map (λ t. t.now) map.entry) (option_map (λ t. t.now) script.entry) (option_map (λ t. t.now) rdl.entry) (option_map (λ t. t.now) header.entry) (option_map (λ t. t.now) session.entry) }
+    ensures { result ≡ meeting_at (option_map (λ t. t.now) map.entry) (option_map (λ t. t.now) script.entry) (option_map (λ t. t.now) rdl.entry) (option_map (λ t. t.now) header.entry) (option_map (λ t. t.now) session.entry) (option_map (λ t. t.now) edited.entry) }
 {
-    if are_one(rdl, header) || are_one(rdl, session) || are_one(header, session) {
+    if are_one(rdl, header)
+        || are_one(rdl, session)
+        || are_one(header, session)
+        || meets_one(edited, rdl, header, session)
+    {
         return Some(Meeting::TwoOutputs);
     }
-    if are_one(rdl, script) || are_one(header, script) || are_one(session, script) {
+    if are_one(edited, script) || meets_one(script, rdl, header, session) {
         return Some(Meeting::OutputOverScript);
     }
     if are_one(header, map) {
@@ -91,21 +118,19 @@ pub(crate) fn meeting_between(
     rdl: &str,
     header: &str,
     session: Option<&str>,
+    edited: Option<&str>,
 ) -> Option<Meeting>
-    ensures { result ≡ meeting_between map.now script.now rdl.now header.now (option_map (λ t. t.now) session.entry) }
+    ensures { result ≡ meeting_between map.now script.now rdl.now header.now (option_map (λ t. t.now) session.entry) (option_map (λ t. t.now) edited.entry) }
 {
     if is_standard_input(map) && is_standard_input(script) {
         return Some(Meeting::TwoInputs);
     }
-    let session = match session {
-        Some(path) => output_named(path),
-        None => None,
-    };
     meeting_at(
         input_named(map),
         input_named(script),
         output_named(rdl),
         output_named(header),
-        session,
+        optional_named(session),
+        optional_named(edited),
     )
 }

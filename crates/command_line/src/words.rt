@@ -32,6 +32,15 @@ fn history_of(matches: &ArgMatches<'_>) -> u32
     matches.get_one::<u32>("history").unwrap()
 }
 
+fn edited_of(alloc: Global, matches: &ArgMatches<'_>) -> Result<Option<String>, AllocError>
+    ensures { IfOk result (λ edited. value (codes "edited") (rows_of (found_of matches.now)) ≡ option_map string_bytes edited) }
+{
+    let Some(text) = matches.get_str("edited") else {
+        return Ok(None);
+    };
+    Ok(Some(String::from_str(alloc, text)?))
+}
+
 fn session_of(alloc: Global, matches: &ArgMatches<'_>) -> Result<Option<String>, AllocError>
     ensures { IfOk result (λ session. value (codes "session") (rows_of (found_of matches.now)) ≡ option_map string_bytes session) }
 {
@@ -50,10 +59,11 @@ fn is_strict(matches: &ArgMatches<'_>) -> bool
     }
 }
 
-fn session_path(line: &Line) -> Option<&str>
-    ensures { option_map (λ t. t.now) result ≡ option_map string_bytes line.now.session }
+/// The path of an output that may not be asked for.
+fn path_of(output: &Option<String>) -> Option<&str>
+    ensures { option_map (λ t. t.now) result ≡ option_map string_bytes output.now }
 {
-    match &line.session {
+    match output {
         Some(path) => Some(path.as_str()),
         None => None,
     }
@@ -68,7 +78,8 @@ fn meeting_of(line: &Line) -> Option<Meeting>
         line.script.as_str(),
         line.rdl.as_str(),
         line.header.as_str(),
-        session_path(line),
+        path_of(&line.session),
+        path_of(&line.edited),
     )
 }
 
@@ -86,6 +97,7 @@ fn line_of(alloc: Global, matches: &ArgMatches<'_>) -> Result<Line, WordsFault>
         top,
         history: history_of(matches),
         session: session_of(alloc, matches)?,
+        edited: edited_of(alloc, matches)?,
         strict: is_strict(matches),
     })
 }

@@ -23,5 +23,6 @@ pub mod ScriptLines
 pub mod Sessions
 pub mod Shown
 pub mod Turns
+pub mod Edited
 pub mod Waiting
 pub mod OwnSteps

@@ -5,7 +5,9 @@ ghost use Rattle.rdl_run.specs.Messages.{clash_line};
 ghost use Rattle.rdl_run.specs.Shown.{AreOf};
 ghost use Rattle.rdl_run.specs.declared.status.RunFault.{RunFault};
 
+use crate::edited::{Edited, edited_part};
 use crate::part::Part;
+use crate::run::Options;
 use crate::saving::session_part;
 use crate::shown::rows_of;
 use crate::status::{Missing, RunFault, Status};
@@ -24,6 +26,7 @@ pub struct Closing {
     pub rdl: String,
     pub header: String,
     pub session: String,
+    pub edited: Edited,
     pub status: Status,
 }
 
@@ -76,6 +79,8 @@ fn joined(mut text: String, more: &String) -> Result<String, AllocError>
 impl Closing {
     ghost use Rattle.std.specs.Prelude.{◌≡◌, [], string_bytes, IfOk, IsOkUnless};
     ghost use Rattle.rdl_run.specs.Closing.{Closes};
+    ghost use Rattle.rdl_run.specs.Edited.{IsEdited};
+    ghost use Rattle.rdl_run.specs.declared.edited.Edited.{Edited};
     ghost use Rattle.rdl_run.specs.OwnSteps.{AllOwn, IsOwnSession};
     ghost use Rattle.rdl_run.specs.Shown.{AreAt};
     ghost use Rattle.rdl_run.specs.declared.status.RunFault.{RunFault};
@@ -87,6 +92,7 @@ impl Closing {
         ensures rdl { string_bytes result.rdl ≡ [] }
         ensures header { string_bytes result.header ≡ [] }
         ensures session { string_bytes result.session ≡ [] }
+        ensures edited { result.edited ≡ Edited.NotAsked }
         ensures status { result.status ≡ Status.MapRefused }
     {
         Closing {
@@ -94,33 +100,38 @@ impl Closing {
             rdl: String::new(alloc),
             header: String::new(alloc),
             session: String::new(alloc),
+            edited: Edited::NotAsked,
             status: Status::MapRefused,
         }
     }
 
     /// Makes the texts of the map to which a script led, and of the history if the session is asked for, or the messages in
-    /// their places. The rows are those of the map, if they are there.
+    /// their places. The rows are those of the map, if they are there, and the source is the bytes that were opened.
     pub fn of(
         alloc: Global,
         journal: &Journal<Map>,
         kept: Option<Rows>,
         is_refused: bool,
-        has_session: bool,
+        options: &Options,
+        source: &[u8],
     ) -> Result<Closing, RunFault>
         requires { AreAt journal.now.history kept }
-        ensures closes { IfOk result (λ c. Closes has_session journal.now.history is_refused (string_bytes c.message) (string_bytes c.rdl) (string_bytes c.header) (string_bytes c.session) c.status) }
+        ensures closes { IfOk result (λ c. Closes options.now.session journal.now.history is_refused (string_bytes c.message) (string_bytes c.rdl) (string_bytes c.header) (string_bytes c.session) c.status) }
+        ensures edited { IfOk result (λ c. IsEdited options.now.edited source.now (string_bytes c.rdl) c.edited) }
         ensures own { AllOwn journal.now → IfOk result (λ c. IsOwnSession journal.now.history (string_bytes c.session)) }
         ensures fault { IsOkUnless result RunFault.Memory }
     {
         let rdl = rdl(alloc, journal.map().description())?;
         let header = header_part(alloc, journal.map(), kept)?;
-        let session = session_part(alloc, journal, has_session)?;
+        let session = session_part(alloc, journal, options.session)?;
+        let edited = edited_part(alloc, journal, source, rdl.as_str(), options.edited)?;
         let status = status_of(is_refused, header.is_left_out, session.is_left_out);
         Ok(Closing {
             message: joined(header.message, &session.message)?,
             rdl,
             header: header.text,
             session: session.text,
+            edited,
             status,
         })
     }

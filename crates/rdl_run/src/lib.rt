@@ -5,6 +5,7 @@
 mod closing;
 pub mod comparison;
 pub mod counted;
+pub mod edited;
 mod front;
 pub mod input;
 pub mod laws;

@@ -201,7 +201,8 @@ fn open_session(
     }
 }
 
-fn is_session(bytes: &[u8]) -> bool
+/// Whether the bytes begin as each session does, and no map.
+pub(crate) fn is_session(bytes: &[u8]) -> bool
     ensures { result ≡ is_session bytes.now }
 {
     bytes.starts_with(b"regedit session 1\n")

@@ -1,6 +1,7 @@
 //! A whole run, from two inputs to four outputs.
-ghost use Rattle.std.specs.Prelude.{◌≡◌, ◌≢◌, ◌⊎◌, ◌^◌, ◌<◌, ◌≤◌, [], true, length, Err, IfOk, IfErr, IsErrOf, IsOkUnless, OnErr, OnOk};
+ghost use Rattle.std.specs.Prelude.{◌≡◌, ◌≢◌, ◌⊎◌, ◌^◌, ◌<◌, ◌≤◌, [], true, length, string_bytes, Err, IfOk, IfErr, IsErrOf, IsOkUnless, OnErr, OnOk};
 ghost use Rattle.rdl_run.specs.ClosedRuns.{ClosesRun, ClosesScript, StopsRun, StopsScript};
+ghost use Rattle.rdl_run.specs.Edited.{IsEdited, IsEditedOf};
 ghost use Rattle.rdl_run.specs.Opening.{EachElaborates};
 ghost use Rattle.rdl_run.specs.Faulted.{Faulted, Leaves};
 ghost use Rattle.rdl_run.specs.ClosingTexts.{texts_of};
@@ -15,6 +16,7 @@ ghost use Rattle.rdl_run.specs.declared.status.RunFault.{RunFault};
 
 use crate::closing::Closing;
 use crate::counted::{CountedReader, CountedWriter};
+use crate::edited::Edited;
 use crate::input::read_counted;
 use crate::open::{OpenFault, open_shown};
 use crate::output::write_counted;
@@ -37,6 +39,8 @@ pub struct Options {
     pub history: u32,
     /// Whether the session is written.
     pub session: bool,
+    /// Whether the edited text is made: that of the map that is read, with only the edits woven in.
+    pub edited: bool,
 }
 
 /// The texts that a run makes, and how it ended. A text is empty where it is missing or isn't asked for.
@@ -46,6 +50,7 @@ pub struct Texts {
     pub rdl: String,
     pub header: String,
     pub session: String,
+    pub edited: Edited,
 }
 
 /// The greatest map or session and the greatest script, in bytes.
@@ -82,17 +87,19 @@ fn run_script<E: Write>(
     alloc: Global,
     journal: &mut Journal<Map>,
     mut kept: Option<Rows>,
-    has_session: bool,
+    options: &Options,
+    source: &[u8],
     script: &[u8],
     messages: &mut CountedWriter<'_, E>,
 ) -> Result<Closing, RunFault>
     requires length { length script.now < 2 ^ 32 }
     requires kept { AreAt journal.old.history kept }
     requires asked { IsOpen messages.old.counts }
-    ensures closes { IfOk result (ClosesScript (AllOwn journal.old) has_session journal.old.history script.now
+    ensures closes { IfOk result (ClosesScript (AllOwn journal.old) options.now.session journal.old.history script.now
         (E.contents messages.old.writer.now) (E.contents messages.new.writer.now) messages.old.counts messages.new.counts) }
+    ensures edited { IfOk result (λ closing. IsEdited options.now.edited source.now (string_bytes closing.rdl) closing.edited) }
     ensures stops { EachElaborates journal.old.history
-        → IfErr result (StopsScript has_session journal.old.history script.now (E.contents messages.old.writer.now) (E.contents messages.new.writer.now)) }
+        → IfErr result (StopsScript options.now.session journal.old.history script.now (E.contents messages.old.writer.now) (E.contents messages.new.writer.now)) }
     ensures write_ended { IsErrOf result RunFault.Write → IsGivenUp messages.new.counts }
     ensures all_open { OnOk result (IsOpen messages.new.counts) }
     ensures ends { messages.new.counts.ended ≡ true → result ≡ Err RunFault.Write }
@@ -103,7 +110,7 @@ fn run_script<E: Write>(
     ensures same_reference { messages.new.writer.ghost_name ≡ messages.old.writer.ghost_name }
 {
     let is_refused = serve_all(alloc, journal, &mut kept, script, messages)?;
-    Closing::of(alloc, journal, kept, is_refused, has_session)
+    Closing::of(alloc, journal, kept, is_refused, options, source)
 }
 
 /// Whether rows are shown of the map that is opened, as far as the front of a script tells.
@@ -124,6 +131,7 @@ fn run_lines<M: Read, S: Read, E: Write>(
     requires fresh { messages.old.counts ≡ unwritten }
     ensures closes { IfOk result (ClosesRun options.now (M.remaining map.old.reader.now) (S.remaining script.old.reader.now)
         (E.contents messages.old.writer.now) (E.contents messages.new.writer.now) messages.old.counts messages.new.counts) }
+    ensures edited { IfOk result (λ closing. IsEditedOf options.now.edited (M.remaining map.old.reader.now) closing.status (string_bytes closing.rdl) closing.edited) }
     ensures stops { IfErr result (StopsRun options.now (M.remaining map.old.reader.now) (S.remaining script.old.reader.now)
         (E.contents messages.old.writer.now) (E.contents messages.new.writer.now)) }
     ensures write_ended { IsErrOf result RunFault.Write → IsGivenUp messages.new.counts }
@@ -154,7 +162,8 @@ fn run_lines<M: Read, S: Read, E: Write>(
                 alloc,
                 &mut journal,
                 kept,
-                options.session,
+                options,
+                map_bytes.as_slice(),
                 script_bytes.as_slice(),
                 messages,
             )
@@ -241,6 +250,7 @@ fn texts_counted<M: Read, S: Read, E: Write>(
     requires fresh { messages.old.counts ≡ unwritten }
     ensures ran { IfOk result (AreRunCounted options.now (M.remaining map.old.reader.now) (S.remaining script.old.reader.now)
         (E.contents messages.old.writer.now) (E.contents messages.new.writer.now) messages.old.counts messages.new.counts) }
+    ensures edited { IfOk result (λ texts. IsEditedOf options.now.edited (M.remaining map.old.reader.now) texts.status (string_bytes texts.rdl) texts.edited) }
     ensures faulted { IfErr result (Faulted options.now (M.remaining map.old.reader.now) (S.remaining script.old.reader.now)
         (in_memory (E.contents messages.old.writer.now) [] [] []) (in_memory (E.contents messages.new.writer.now) [] [] [])) }
     ensures write_ended { IsErrOf result RunFault.Write → IsGivenUp messages.new.counts }
@@ -262,6 +272,7 @@ fn texts_counted<M: Read, S: Read, E: Write>(
         rdl: closing.rdl,
         header: closing.header,
         session: closing.session,
+        edited: closing.edited,
     })
 }
 
@@ -274,6 +285,8 @@ pub fn run_texts<M: Read, S: Read, E: Write>(
     messages: &mut E,
 ) -> Result<Texts, RunFault>
     ensures ran { IfOk result (AreRun options.now (M.remaining map.old) (S.remaining script.old) (E.contents messages.old) (E.contents messages.new)) }
+    // The edited text is of the map that was read and of the one that is handed out with it.
+    ensures edited { IfOk result (λ texts. IsEditedOf options.now.edited (M.remaining map.old) texts.status (string_bytes texts.rdl) texts.edited) }
     ensures faulted { IfErr result (Faulted options.now (M.remaining map.old) (S.remaining script.old)
         (in_memory (E.contents messages.old) [] [] []) (in_memory (E.contents messages.new) [] [] [])) }
 

@@ -1,11 +1,15 @@
 -- Which text goes where. Own.
-use Rattle.std.specs.Prelude.{ℕ, List, [], ◌∷◌, ◌++◌, Bool, true, false, not, Option, Some, None, filter, option_map, string_bytes, if◌then◌else◌}
+use Rattle.std.specs.Prelude.{ℕ, List, [], ◌∷◌, ◌++◌, Bool, true, false, not, ◌||◌, Option, Some, None, filter, option_map, string_bytes, if◌then◌else◌}
 use Rattle.std.specs.List.{flat_map}
 use Rattle.command_line.specs.Streams.{is_standard_output}
 use Rattle.rdl_run.specs.Missing.{has_map, has_header, has_session}
 use Rattle.rdl_run.specs.declared.run.Texts.{Texts}
 use Rattle.rdl_run.specs.declared.status.Status.{Status}
 use Rattle.rdl_run.specs.declared.status.Status.TheVariants.{Accepted}
+use Rattle.rdl_run.specs.declared.edited.Edited.{Edited}
+use Rattle.rdl_run.specs.declared.edited.Edited.TheVariants.{NotAsked, Woven, Missing}
+use Rattle.rdl_run.specs.declared.edited.Unwoven.{Unwoven}
+use Rattle.regedit.specs.declared.files.Ending.{Ending}
 use Rattle.regedit.specs.declared.files.Filed.{Filed}
 use Rattle.regedit.specs.declared.paths.Paths.{Paths}
 use Rattle.whole_files.specs.declared.output.Output.{Output}
@@ -30,21 +34,39 @@ abbrev pub session_files : Bool → Option (List ℕ) → List ℕ → List Sent
 session_files there (Some path) text = if_there there (path, text)
 session_files there None text = []
 
--- the map, then the header, then the session, each where it is there
+-- the edited text where it is made
+abbrev pub edited_files : Option (List ℕ) → Edited → List Sent
+edited_files (Some path) (Woven text) = (path, string_bytes text) ∷ []
+edited_files path edited = []
+
+-- the map, then the header, then the session, then the edited text, each where it is there
 abbrev pub all_of : Texts → Paths → List Sent
 all_of texts paths =
     if_there (has_map texts.status) (string_bytes paths.rdl, string_bytes texts.rdl)
     ++ if_there (has_header texts.status) (string_bytes paths.header, string_bytes texts.header)
     ++ session_files (has_session texts.status) (option_map string_bytes paths.session) (string_bytes texts.session)
+    ++ edited_files (option_map string_bytes paths.edited) texts.edited
 
--- with `strict` no text goes out unless each line was accepted and no text is missing
-abbrev pub goes_out : (strict : Bool) → Status → Bool
-goes_out true Accepted = true
-goes_out true status = false
-goes_out false status = true
+-- why the edited text isn't there that is asked for, if it isn't
+abbrev pub unwoven_of : Edited → Option Unwoven
+unwoven_of NotAsked = None
+unwoven_of (Woven text) = None
+unwoven_of (Missing why) = Some why
+
+abbrev pub ending_of : Texts → Ending
+ending_of texts = record { status = texts.status; unwoven = unwoven_of texts.edited }
+
+-- each line was accepted and no text is missing
+abbrev pub is_whole : Status → Option Unwoven → Bool
+is_whole Accepted None = true
+is_whole status unwoven = false
+
+-- with `strict` no text goes out otherwise
+abbrev pub goes_out : (strict : Bool) → Ending → Bool
+goes_out strict ending = not strict || is_whole ending.status ending.unwoven
 
 abbrev pub files_of : (strict : Bool) → Texts → Paths → List Sent
-files_of strict texts paths = if goes_out strict texts.status then all_of texts paths else []
+files_of strict texts paths = if goes_out strict (ending_of texts) then all_of texts paths else []
 
 -- those that go to files
 abbrev pub to_files : List Sent → List Sent

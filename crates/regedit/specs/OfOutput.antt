@@ -1,10 +1,12 @@
 -- That texts are those of an output of a run, before they go out. Own.
-use Rattle.std.specs.Prelude.{◌≡◌, ℕ, List, map, string_bytes}
+use Rattle.std.specs.Prelude.{◌≡◌, ℕ, true, List, map, Option, IsSome, string_bytes}
 use Rattle.rdl_run.specs.Output.{Output, IsOutput}
 use Rattle.rdl_run.specs.declared.run.Options.{Options}
 use Rattle.rdl_run.specs.declared.run.Texts.{Texts}
 use Rattle.rdl_run.specs.declared.status.Status.{Status}
-use Rattle.regedit.specs.Files.{files_of, seen}
+use Rattle.rdl_run.specs.Edited.{IsEditedOf}
+use Rattle.regedit.specs.Files.{ending_of, files_of, seen}
+use Rattle.regedit.specs.declared.files.Ending.{Ending}
 use Rattle.regedit.specs.declared.files.Left.{Left}
 use Rattle.regedit.specs.declared.paths.Asked.{Asked}
 
@@ -18,18 +20,21 @@ pub record AreOfOutput (options : Options) (texts : Texts) : Type 0 where
   pub header : string_bytes texts.header ≡ out.header
   pub session : string_bytes texts.session ≡ out.session
   pub status : texts.status ≡ out.status
+  pub source : Option (List ℕ)
+  pub edited : IsEditedOf options.edited source texts.status (string_bytes texts.rdl) texts.edited
 
--- such texts go out, each at its path, and the status is theirs
+-- such texts go out, each at its path, and the ending is theirs
 pub record IsLeft (asked : Asked) (left : Left) : Type 0 where
   pub texts : Texts
   pub of_output : AreOfOutput asked.options texts
   pub outputs : map seen left.outputs.items ≡ files_of asked.strict texts asked.paths
-  pub status : left.status ≡ texts.status
+  pub ending : left.ending ≡ ending_of texts
 
--- the status is that of an output of some map and script
-pub record IsStatusOf (options : Options) (status : Status) : Type 0 where
+-- the status is that of an output of some map and script, and an edited text is missing only where it is asked for
+pub record IsEndingOf (options : Options) (ending : Ending) : Type 0 where
   pub map : List ℕ
   pub script : List ℕ
   pub out : Output
   pub is_output : IsOutput options map script out
-  pub is : status ≡ out.status
+  pub is : ending.status ≡ out.status
+  pub missing : IsSome ending.unwoven → options.edited ≡ true

@@ -1,10 +1,10 @@
 //! The program's edge: its words, its messages and its exit status.
 ghost use Rattle.std.specs.Prelude.{◌≡◌, ◌⊎◌, ◌≤◌, map};
-ghost use Rattle.regedit.specs.CommandLine.{AreRefused, EndsRun, EndsWords, IsExit, exit_code, failure_code, status_code};
+ghost use Rattle.regedit.specs.CommandLine.{AreRefused, EndsRun, EndsWords, IsExit, ending_code, exit_code, failure_code, status_code};
 ghost use Rattle.command_line.specs.Words.{AskForHelp, AskForVersion};
 ghost use Rattle.regedit.specs.declared.command.Failure.{Failure};
 
-use crate::files::{Stop, edit_files};
+use crate::files::{Ending, Stop, edit_files};
 use crate::paths::{Asked, meeting_of_files, parts};
 use command_line::fault::WordsFault;
 use command_line::line::LineFault;
@@ -70,12 +70,25 @@ fn report_stop<E: Write>(stop: &Stop<'_>, errors: &mut E) {
     }
 }
 
+/// The exit status of a run that wrote its texts. Why the edited text isn't there is said, where it is asked for and isn't.
+fn finished<E: Write>(ending: Ending, errors: &mut E) -> u8
+    ensures { result ≡ ending_code ending.status ending.unwoven }
+{
+    match ending.unwoven {
+        None => status_code(ending.status),
+        Some(why) => {
+            let _ = writeln!(errors, "regedit: {why}");
+            3
+        }
+    }
+}
+
 /// The exit status of a run that ended so. Why it stopped is said.
-fn ended<E: Write>(outcome: &Result<Status, Stop<'_>>, errors: &mut E) -> u8
+fn ended<E: Write>(outcome: &Result<Ending, Stop<'_>>, errors: &mut E) -> u8
     ensures { result ≡ exit_code outcome.now }
 {
     match outcome {
-        Ok(status) => status_code(*status),
+        Ok(ending) => finished(*ending, errors),
         Err(stop) => {
             report_stop(stop, errors);
             4

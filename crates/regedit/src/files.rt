@@ -1,9 +1,10 @@
 //! A run over files: they are read whole before it, and replaced whole after it.
-ghost use Rattle.std.specs.Prelude.{◌≡◌, ◌++◌, IfOk, IsOkUnless, OnOk, map, string_bytes};
+ghost use Rattle.std.specs.Prelude.{◌≡◌, ◌++◌, IfOk, IsOkUnless, OnOk, map, option_map, string_bytes};
 ghost use Rattle.std.specs.Io.KnownBytes.{Appends};
-ghost use Rattle.regedit.specs.Files.{files_of, if_there, lent, seen, to_files, to_output};
+ghost use Rattle.regedit.specs.Files.{edited_files, ending_of, files_of, goes_out, if_there, lent, seen, to_files, to_output, unwoven_of};
+ghost use Rattle.rdl_run.specs.Edited.{IsEditedOf};
 ghost use Rattle.rdl_run.specs.RunTexts.{AreRun};
-ghost use Rattle.regedit.specs.OfOutput.{IsLeft, IsStatusOf};
+ghost use Rattle.regedit.specs.OfOutput.{IsEndingOf, IsLeft};
 ghost use Rattle.rdl_run.specs.Turns.{IsOpen};
 ghost use Rattle.rdl_run.specs.declared.status.RunFault.{RunFault};
 
@@ -11,6 +12,7 @@ use crate::paths::{Asked, Paths};
 use crate::source::Source;
 use command_line::streams::{is_standard_input, is_standard_output};
 use rdl_run::counted::CountedWriter;
+use rdl_run::edited::{Edited, Unwoven};
 use rdl_run::output::write_counted;
 use rdl_run::run::{MOST_BYTES, Options, Texts, run_texts};
 use rdl_run::status::{RunFault, Status};
@@ -51,10 +53,17 @@ pub(crate) struct Filed<'a> {
     text: String,
 }
 
+/// How a run ended, and why its edited text isn't there, where it is asked for and isn't.
+#[derive(Clone, Copy, Debug, Drop)]
+pub(crate) struct Ending {
+    pub(crate) status: Status,
+    pub(crate) unwoven: Option<Unwoven>,
+}
+
 /// What a run leaves: how it ended, and the texts that go out.
 #[derive(Debug, Drop)]
 struct Left<'a> {
-    status: Status,
+    ending: Ending,
     outputs: Vec<Filed<'a>>,
 }
 
@@ -107,6 +116,7 @@ fn run_inputs<'a, F: Read, M: Write>(
 ) -> Result<Texts, Stop<'a>>
     ensures ran { IfOk result (AreRun options.now (F.remaining map.old.reader) (F.remaining script.old.reader)
         (M.contents messages.old.writer.now) (M.contents messages.new.writer.now)) }
+    ensures edited { IfOk result (λ texts. IsEditedOf options.now.edited (F.remaining map.old.reader) texts.status (string_bytes texts.rdl) texts.edited) }
 {
     match run_texts(alloc, map, script, options, messages) {
         Ok(texts) => Ok(texts),
@@ -129,7 +139,41 @@ fn push_if<'a>(
     Ok(())
 }
 
-/// The texts that go out, each with its path. With `strict` none does unless each line was accepted.
+/// Why the edited text isn't there that is asked for, if it isn't.
+fn unwoven_of(edited: &Edited) -> Option<Unwoven>
+    ensures { result ≡ unwoven_of edited.now }
+{
+    match edited {
+        Edited::Missing(why) => Some(*why),
+        Edited::NotAsked | Edited::Woven(_) => None,
+    }
+}
+
+/// Whether texts go out. With `strict` none does unless each line was accepted and no text is missing.
+fn goes_out(strict: bool, ending: Ending) -> bool
+    ensures { result ≡ goes_out strict ending }
+{
+    !strict || ending.status == Status::Accepted && ending.unwoven.is_none()
+}
+
+/// Puts the edited text behind the others, if it is there and has a path.
+fn push_edited<'a>(
+    outputs: &mut Vec<Filed<'a>>,
+    path: &'a Option<String>,
+    edited: Edited,
+) -> Result<(), AllocError>
+    ensures { OnOk result (map seen outputs.new.items ≡ map seen outputs.old.items ++ edited_files (option_map string_bytes path.entry.now) edited) }
+{
+    if let (Some(path), Edited::Woven(text)) = (path, edited) {
+        outputs.push(Filed {
+            path: path.as_str(),
+            text,
+        })?;
+    }
+    Ok(())
+}
+
+/// The texts that go out, each with its path. With `strict` none does unless each line was accepted and no text is missing.
 fn outputs_of<'a>(
     alloc: Global,
     texts: Texts,
@@ -144,8 +188,10 @@ fn outputs_of<'a>(
         rdl,
         header,
         session,
+        edited,
     } = texts;
-    if strict && status != Status::Accepted {
+    let unwoven = unwoven_of(&edited);
+    if !goes_out(strict, Ending { status, unwoven }) {
         return Ok(outputs);
     }
     push_if(&mut outputs, status.has_map(), paths.rdl.as_str(), rdl)?;
@@ -158,17 +204,21 @@ fn outputs_of<'a>(
     if let Some(path) = &paths.session {
         push_if(&mut outputs, status.has_session(), path.as_str(), session)?;
     }
+    push_edited(&mut outputs, &paths.edited, edited)?;
     Ok(outputs)
 }
 
 /// What a run leaves that made these texts.
 fn left_by<'a>(alloc: Global, texts: Texts, asked: &'a Asked) -> Result<Left<'a>, Stop<'a>>
-    ensures status { IfOk result (λ left. left.status ≡ texts.status) }
+    ensures ending { IfOk result (λ left. left.ending ≡ ending_of texts) }
     ensures outputs { IfOk result (λ left. map seen left.outputs.items ≡ files_of asked.entry.now.strict texts asked.entry.now.paths) }
 {
-    let status = texts.status;
+    let ending = Ending {
+        status: texts.status,
+        unwoven: unwoven_of(&texts.edited),
+    };
     match outputs_of(alloc, texts, &asked.paths, asked.strict) {
-        Ok(outputs) => Ok(Left { status, outputs }),
+        Ok(outputs) => Ok(Left { ending, outputs }),
         Err(_) => Err(Stop::for_memory()),
     }
 }
@@ -268,15 +318,15 @@ pub(crate) fn edit_files<'a, R: Files<File = File> + Input, M: Write>(
     alloc: Global,
     asked: &'a Asked,
     messages: &mut M,
-) -> Result<Status, Stop<'a>>
-    ensures status { IfOk result (IsStatusOf asked.entry.now.options) }
+) -> Result<Ending, Stop<'a>>
+    ensures ending { IfOk result (IsEndingOf asked.entry.now.options) }
 {
     let mut messages = NotedWriter::new(messages);
-    let Left { status, outputs } = run_in_memory(rt, alloc, asked, &mut messages)?;
+    let Left { ending, outputs } = run_in_memory(rt, alloc, asked, &mut messages)?;
     if let Err(fault) = write_behind(outputs.as_slice(), &mut messages) {
         let obstacle = obstacle_of_output(&mut messages);
         return Err(Stop { fault, obstacle });
     }
     write_files(rt, alloc, outputs.as_slice())?;
-    Ok(status)
+    Ok(ending)
 }

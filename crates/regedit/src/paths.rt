@@ -17,6 +17,7 @@ pub(crate) struct Paths {
     pub(crate) rdl: String,
     pub(crate) header: String,
     pub(crate) session: Option<String>,
+    pub(crate) edited: Option<String>,
 }
 
 /// What a line asks for.
@@ -31,8 +32,8 @@ pub(crate) struct Asked {
 
 /// What a line asks for.
 pub(crate) fn parts(line: Line) -> Asked
-    ensures paths { result.paths ≡ record { map = line.map; script = line.script; rdl = line.rdl; header = line.header; session = line.session } }
-    ensures options { result.options ≡ record { top = line.top; history = line.history; session = is_some line.session } }
+    ensures paths { result.paths ≡ record { map = line.map; script = line.script; rdl = line.rdl; header = line.header; session = line.session; edited = line.edited } }
+    ensures options { result.options ≡ record { top = line.top; history = line.history; session = is_some line.session; edited = is_some line.edited } }
     ensures strict { result.strict ≡ line.strict }
 {
     let Line {
@@ -41,6 +42,7 @@ pub(crate) fn parts(line: Line) -> Asked
         rdl,
         header,
         session,
+        edited,
         top,
         history,
         strict,
@@ -49,6 +51,7 @@ pub(crate) fn parts(line: Line) -> Asked
         top,
         history,
         session: session.is_some(),
+        edited: edited.is_some(),
     };
     let paths = Paths {
         map,
@@ -56,6 +59,7 @@ pub(crate) fn parts(line: Line) -> Asked
         rdl,
         header,
         session,
+        edited,
     };
     Asked {
         paths,
@@ -93,6 +97,23 @@ impl<'a> Place<'a> {
         Place { path, word, file }
     }
 
+    /// The place of an output that may not be asked for: then it is no file.
+    fn of_optional<R: Files>(
+        rt: &R,
+        alloc: Global,
+        path: &'a Option<String>,
+        word: &'static str,
+    ) -> Place<'a> {
+        match path {
+            Some(path) => Place::of_output(rt, alloc, path.as_str(), word),
+            None => Place {
+                path: "",
+                word,
+                file: None,
+            },
+        }
+    }
+
     /// That this output can't be written, if it leads to the file of the other.
     fn meeting(&self, other: &Place<'_>) -> Option<Obstacle<'a>> {
         match (&self.file, &other.file) {
@@ -111,7 +132,7 @@ fn file_of<R: Files>(rt: &R, alloc: Global, path: &str) -> Option<String> {
 }
 
 /// That an output of a run over these paths would be written over what the run reads or writes besides, if one would: two paths
-/// may lead to one file by other words, or through a link.
+/// may lead to one file by other words, or through a link. The edited text may take the place of MAP.
 pub(crate) fn meeting_of_files<'a, R: Files>(
     rt: &R,
     alloc: Global,
@@ -121,16 +142,18 @@ pub(crate) fn meeting_of_files<'a, R: Files>(
     let script = Place::of_input(rt, alloc, paths.script.as_str(), "SCRIPT");
     let rdl = Place::of_output(rt, alloc, paths.rdl.as_str(), "--rdl");
     let header = Place::of_output(rt, alloc, paths.header.as_str(), "--header");
-    let met = header
+    let session = Place::of_optional(rt, alloc, &paths.session, "--session");
+    let edited = Place::of_optional(rt, alloc, &paths.edited, "--edited");
+    header
         .meeting(&rdl)
         .or(rdl.meeting(&script))
         .or(header.meeting(&script))
-        .or(header.meeting(&map));
-    let Some(path) = &paths.session else {
-        return met;
-    };
-    let session = Place::of_output(rt, alloc, path.as_str(), "--session");
-    met.or(session.meeting(&rdl))
+        .or(header.meeting(&map))
+        .or(session.meeting(&rdl))
         .or(session.meeting(&header))
         .or(session.meeting(&script))
+        .or(edited.meeting(&rdl))
+        .or(edited.meeting(&header))
+        .or(edited.meeting(&session))
+        .or(edited.meeting(&script))
 }

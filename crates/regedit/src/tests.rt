@@ -65,6 +65,7 @@ fn run_with<M: Read, S: Read, E: Write>(
         top: None,
         history: 10_000,
         session: false,
+        edited: false,
     };
     let mut rdl: Vec<u8> = Vec::new(alloc);
     let mut header: Vec<u8> = Vec::new(alloc);
@@ -86,6 +87,7 @@ fn write_bytes(alloc: Global, mut map: &[u8], mut script: &[u8]) -> Result<Writt
         top: None,
         history: 10_000,
         session: true,
+        edited: false,
     };
     let mut rdl = Vec::new(alloc);
     let mut header = Vec::new(alloc);

@@ -134,6 +134,7 @@ fn run_into(alloc: Global, calls: Calls, drips: &mut Drips) -> Result<Status, Ru
         top: None,
         history: 10_000,
         session: true,
+        edited: false,
     };
     let mut map = Trickle {
         calls: calls.0,

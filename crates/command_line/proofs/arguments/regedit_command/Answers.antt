@@ -11,7 +11,8 @@ returns c =
     let bare = c.in_ok-program.ensures ∙ ap₂ (program_with (codes "regedit")) c.operand.ensures.rule c.operand-2.ensures.rule in
     let rdl = c.in_ok-arg.ensures.shape c.output.ensures.own ∙ ap₂ with_rule bare c.output.ensures.rule in
     let header = c.in_ok-arg-2.ensures.shape c.output-2.ensures.own ∙ ap₂ with_rule rdl c.output-2.ensures.rule in
-    let top = c.in_ok-arg-3.ensures.shape c.top.ensures.own ∙ ap₂ with_rule header c.top.ensures.rule in
-    let history = c.in_ok-arg-4.ensures.shape c.history.ensures.own ∙ ap₂ with_rule top c.history.ensures.rule in
-    let session = c.in_ok-arg-5.ensures.shape c.session.ensures.own ∙ ap₂ with_rule history c.session.ensures.rule in
-    IfOk-weaker c.arg-6.result _ _ (λ command adds. adds.shape c.strict.ensures.own ∙ ap₂ with_rule session c.strict.ensures.rule) c.arg-6.ensures
+    let edited = c.in_ok-arg-3.ensures.shape c.optional_output.ensures.own ∙ ap₂ with_rule header c.optional_output.ensures.rule in
+    let top = c.in_ok-arg-4.ensures.shape c.top.ensures.own ∙ ap₂ with_rule edited c.top.ensures.rule in
+    let history = c.in_ok-arg-5.ensures.shape c.history.ensures.own ∙ ap₂ with_rule top c.history.ensures.rule in
+    let session = c.in_ok-arg-6.ensures.shape c.optional_output-2.ensures.own ∙ ap₂ with_rule history c.optional_output-2.ensures.rule in
+    IfOk-weaker c.arg-7.result _ _ (λ command adds. adds.shape c.strict.ensures.own ∙ ap₂ with_rule session c.strict.ensures.rule) c.arg-7.ensures
