@@ -8,7 +8,7 @@ use Rattle.whole_files.proofs.output.prepare_all.Goals.{in-Ok-Some+in_default, i
 pub outputs-preserved : goal.outputs-preserved
 outputs-preserved g c = λ before. elim c.match-prepare-2.branch [
   | in-Ok-Some+in_default w ↦
-    let items = ap (λ (v : Vec Waiting Global). v.items) w.waiting-is ∙ w.in_default.ensures.items in
-    subst (AreOf c.args.outputs.now) (sym items) (All-push (λ (x : Waiting). IsPathOf c.args.outputs.now x.path.now) c.outputs.waiting.items _ (c.outputs.invariant before) (search rules))
+      let items = ap (λ (v : Vec Waiting Global). v.items) w.waiting-is ∙ w.in_default.ensures.items in
+      subst (AreOf c.args.outputs.now) (sym items) (All-push (λ (x : Waiting). IsPathOf c.args.outputs.now x.path.now) c.outputs.waiting.items _ (c.outputs.invariant before) (search rules))
   | in-Ok-None w ↦ subst (AreOf c.args.outputs.now) (sym (ap (λ (v : Vec Waiting Global). v.items) w.waiting-is)) (c.outputs.invariant before)
 ]
