@@ -1,0 +1,6 @@
+pub mod Back
+pub mod Codes
+pub mod Falls
+pub mod Numbered
+pub mod Traces
+pub mod View

@@ -1,4 +1,9 @@
-//! The statements of a source text, with what stands around them.
+//! The statements of a source text, with the blanks and comments that stand around them.
 #![tactic(auto)]
 
+pub mod gap;
+mod lay;
 pub mod statement;
+#[cfg(test)]
+mod tests;
+mod walk;

@@ -1,8 +1,21 @@
 //! The text of a map, with only the edits woven in.
 #![tactic(auto)]
 
+mod assigned;
+mod bytes;
 pub mod fault;
+mod inst;
+mod lexeme;
+mod made;
+mod member;
+mod plan;
+mod render;
+mod spell;
 mod spelled;
+mod standing;
 #[cfg(test)]
 mod tests;
+mod unit;
 pub mod weave;
+mod woven;
+mod writer;

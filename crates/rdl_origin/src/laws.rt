@@ -1,0 +1,1 @@
+//! What holds of all steps back that fit.

@@ -1,0 +1,72 @@
+//! A text as it is woven, with the places of what was kept of the source.
+
+use std::alloc::{AllocError, Global};
+
+/// A statement that stands in a text as it stood in the source: the byte of its first word there and here.
+#[derive(Clone, Copy, PartialEq, Eq)]
+pub(crate) struct Kept {
+    pub(crate) from: usize,
+    pub(crate) at: usize,
+}
+
+/// A text, and the statements that stand in it as they stood in the source.
+#[derive(Drop)]
+pub(crate) struct Woven {
+    text: Vec<u8>,
+    kept: Vec<Kept>,
+}
+
+impl Woven {
+    pub(crate) fn new(alloc: Global) -> Woven {
+        Woven {
+            text: Vec::new(alloc),
+            kept: Vec::new(alloc),
+        }
+    }
+
+    pub(crate) fn as_slice(&self) -> &[u8] {
+        self.text.as_slice()
+    }
+
+    pub(crate) fn kept(&self) -> &[Kept] {
+        self.kept.as_slice()
+    }
+
+    pub(crate) fn push(&mut self, bytes: &[u8]) -> Result<(), AllocError> {
+        self.text.extend_from_slice(bytes)
+    }
+
+    pub(crate) fn push_str(&mut self, text: &str) -> Result<(), AllocError> {
+        self.push(text.as_bytes())
+    }
+
+    /// Notes that the statement with this first word stands at the end.
+    pub(crate) fn keep(&mut self, from: usize) -> Result<(), AllocError> {
+        let at = self.text.len();
+        self.kept.push(Kept { from, at })?;
+        Ok(())
+    }
+
+    /// Appends another text with what it keeps.
+    pub(crate) fn append(&mut self, other: &Woven) -> Result<(), AllocError> {
+        let begin = self.text.len();
+        'kept: for kept in other.kept() {
+            self.kept.push(Kept {
+                from: kept.from,
+                at: begin.saturating_add(kept.at),
+            })?;
+        }
+        self.push(other.as_slice())
+    }
+
+    /// Takes out so many bytes at the end, which no statement has.
+    pub(crate) fn cut(&mut self, count: usize) {
+        let left = self.text.len().saturating_sub(count);
+        self.text.truncate(left);
+    }
+
+    /// Whether it is the same as another.
+    pub(crate) fn is_same(&self, other: &Woven) -> bool {
+        self.as_slice() == other.as_slice() && self.kept() == other.kept()
+    }
+}
