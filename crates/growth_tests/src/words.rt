@@ -12,8 +12,8 @@ fn top_text(line: &Line) -> &str {
     }
 }
 
-fn session_text(line: &Line) -> &str {
-    match &line.session {
+fn file_text(file: &Option<String>) -> &str {
+    match file {
         Some(file) => file.as_str(),
         None => "none",
     }
@@ -27,10 +27,11 @@ fn line_text(alloc: Global, line: &Line) -> Answer {
     }
     write!(
         text,
-        " {} {} {}",
+        " {} {} {} {}",
         top_text(line),
         line.history,
-        session_text(line)
+        file_text(&line.session),
+        file_text(&line.edited)
     )?;
     Ok(text)
 }
@@ -86,6 +87,7 @@ Arguments:
 Options:
       --rdl <OUT>      Where the edited map is written, or - for standard output
       --header <OUT>   Where the C header is written, or - for standard output
+      --edited <OUT>   Where MAP is written with only the edits woven in; OUT may be MAP
       --top <NAME>     The address map of the root that is the top; with none, the last one
       --history <N>    How many changes can be undone, from 1 to 1000000 [default: 10000]
       --session <OUT>  Where the session is written: the map with its undos and redos
@@ -97,7 +99,7 @@ Options:
 const LINES: [(&[&str], &str); 10] = [
     (
         &["m", "s", "--rdl", "r", "--header", "h"],
-        "L0 m s r h none 10000 none",
+        "L0 m s r h none 10000 none none",
     ),
     (
         &[
@@ -112,11 +114,22 @@ const LINES: [(&[&str], &str); 10] = [
             "--header",
             "h",
         ],
-        "L0 m s r h t 7 none",
+        "L0 m s r h t 7 none none",
     ),
     (
-        &["m", "s", "--rdl", "r", "--header", "h", "--session", "k"],
-        "L0 m s r h none 10000 k",
+        &[
+            "m",
+            "s",
+            "--rdl",
+            "r",
+            "--header",
+            "h",
+            "--session",
+            "k",
+            "--edited",
+            "m",
+        ],
+        "L0 m s r h none 10000 k m",
     ),
     (
         &["m", "s", "--rdl", "r", "--header", "h", "--top", "9x"],

@@ -46,6 +46,21 @@ const STRICTLY: Words = &[
     "out.h",
 ];
 
+/// Words of a run that replaces the map by its edited text.
+const IN_PLACE: Words = &[
+    "map.rdl",
+    "script.txt",
+    "--rdl",
+    "/dev/null",
+    "--header",
+    "/dev/null",
+    "--edited",
+    "map.rdl",
+];
+
+/// A session of a map without registers.
+const SESSION: &str = "regedit session 1\nmap 17\naddrmap top {\n};\nundo 0\nredo 0\nend\n";
+
 /// A name of 255 bytes.
 const LONGEST: &str = "\
 nnnnnnnnnnnnnnnnnnnnnnnnnnnnnnnnnnnnnnnnnnnnnnnnnnnnnnnnnnnnnnnnnnnnnnnnnnnnnnnnnnnnn\
@@ -57,6 +72,10 @@ const WELL: Ending = (0, "", "");
 const TWO_OUTPUTS: Ending = (5, "regedit: two outputs in one file\n", "");
 
 const OVER_SCRIPT: Ending = (5, "regedit: an output over SCRIPT\n", "");
+
+const OVER_MAP: Ending = (5, "regedit: header over MAP\n", "");
+
+const NO_SOURCE: Ending = (3, "regedit: K3 no source text in the session\n", "");
 
 const TWO_INPUTS: Ending = (5, "regedit: MAP and SCRIPT both from standard input\n", "");
 
@@ -74,7 +93,7 @@ const OVER_FILE_OF_MAP: Ending = (4, WRITE_FAULT, "/./map.rdl: it is the file of
 
 const OVER_LINKED: Ending = (4, WRITE_FAULT, "/new: it is the file of --rdl\n");
 
-static CASES: [Case; 20] = [
+static CASES: [Case; 26] = [
     // old files give their places, and nothing stands beside them
     (
         BEFORE,
@@ -349,10 +368,90 @@ static CASES: [Case; 20] = [
             "map.rdl",
         ],
         WELL,
-        &[(
+        &[("map.rdl", SESSION)],
+        2,
+    ),
+    // the header may not, by the same word either
+    (
+        BEFORE,
+        &[
             "map.rdl",
-            "regedit session 1\nmap 17\naddrmap top {\n};\nundo 0\nredo 0\nend\n",
-        )],
+            "script.txt",
+            "--rdl",
+            "out.rdl",
+            "--header",
+            "map.rdl",
+        ],
+        OVER_MAP,
+        BEFORE,
+        4,
+    ),
+    // the edited text may take the place of the map, whose other bytes stay
+    (
+        &[
+            ("map.rdl", "// kept\n\naddrmap top {};  // too"),
+            ("script.txt", "rename /$top chip"),
+        ],
+        IN_PLACE,
+        WELL,
+        &[("map.rdl", "// kept\n\naddrmap chip {};  // too")],
+        2,
+    ),
+    // but not that of another output or of the script
+    (
+        BEFORE,
+        &[
+            "map.rdl",
+            "script.txt",
+            "--rdl",
+            "out.rdl",
+            "--header",
+            "out.h",
+            "--edited",
+            "out.rdl",
+        ],
+        TWO_OUTPUTS,
+        BEFORE,
+        4,
+    ),
+    (
+        BEFORE,
+        &[
+            "map.rdl",
+            "script.txt",
+            "--rdl",
+            "out.rdl",
+            "--header",
+            "out.h",
+            "--edited",
+            "script.txt",
+        ],
+        OVER_SCRIPT,
+        BEFORE,
+        4,
+    ),
+    (
+        BEFORE,
+        &[
+            "map.rdl",
+            "script.txt",
+            "--rdl",
+            "/dev/null",
+            "--header",
+            "out.h",
+            "--edited",
+            "./script.txt",
+        ],
+        OVER_FILE_OF_SCRIPT,
+        BEFORE,
+        4,
+    ),
+    // a session has no source text
+    (
+        &[("map.rdl", SESSION), ("script.txt", "")],
+        IN_PLACE,
+        NO_SOURCE,
+        &[("map.rdl", SESSION)],
         2,
     ),
 ];
