@@ -23,3 +23,4 @@ pub mod WholeLines
 pub mod Written
 pub mod WrittenLines
 pub mod Compared
+pub mod Said

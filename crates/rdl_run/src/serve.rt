@@ -1,5 +1,5 @@
 //! One line of a script after another.
-ghost use Rattle.std.specs.Prelude.{◌≡◌, ◌⊎◌, ℕ, ◌≤◌, ◌<◌, ◌^◌, List, ◌∷◌, ◌++◌, length, string_bytes, Err, IfOk, IfErr, OnOk, OnErr, IsErrOf, IsOkUnless};
+ghost use Rattle.std.specs.Prelude.{◌≡◌, ◌⊎◌, ℕ, ◌≤◌, ◌<◌, ◌^◌, List, ◌∷◌, ◌++◌, ◌||◌, if◌then◌else◌, length, string_bytes, Err, IfOk, IfErr, OnOk, OnErr, IsErrOf, IsOkUnless};
 ghost use Rattle.std.specs.List.{prefix_len};
 ghost use Rattle.std.specs.Option.{option_copied};
 ghost use Rattle.journal_core.specs.History.{Edits};
@@ -218,7 +218,15 @@ fn serve_line(
 /// The most bytes of messages that wait to be written together.
 const MOST_WAITING: usize = 65_536;
 
-/// Puts a message behind those that wait. Where they would be too many, or there is no memory for that, all are written.
+/// Puts a message behind those that wait, unless they would be too many, or there is no memory for that.
+fn let_wait(waiting: &mut String, message: &str) -> bool
+    ensures waits { string_bytes waiting.new ≡ (if result then string_bytes waiting.old ++ message.now else string_bytes waiting.old) }
+{
+    let length = waiting.len().saturating_add(message.len());
+    length <= MOST_WAITING && waiting.push_str(message).is_ok()
+}
+
+/// Puts a message behind those that wait. Where it can't wait, all are written.
 fn say<E: Write>(
     messages: &mut CountedWriter<'_, E>,
     waiting: &mut String,
@@ -234,13 +242,18 @@ fn say<E: Write>(
     ensures asked { OnOk result (IsOpen messages.new.counts) }
     ensures same_reference { messages.new.writer.ghost_name ≡ messages.old.writer.ghost_name }
 {
-    let length = waiting.len().saturating_add(message.len());
-    if length <= MOST_WAITING && waiting.push_str(message).is_ok() {
+    if let_wait(waiting, message) {
         return Ok(());
     }
     write_counted(messages, waiting.as_bytes())?;
     waiting.clear();
     write_counted(messages, message.as_bytes())
+}
+
+fn is_either(one: bool, other: bool) -> bool
+    ensures { result ≡ (one || other) }
+{
+    one || other
 }
 
 /// Serves the lines of a script, and writes the messages of all of them in their order, also where it stops for want of memory.
@@ -278,14 +291,20 @@ pub fn serve_all<E: Write>(
         let refuses = match serve_line(alloc, journal, kept, number, line, &mut message) {
             Ok(refuses) => refuses,
             Err(_) => {
-                write_counted(messages, waiting.as_bytes())?;
+                if write_counted(messages, waiting.as_bytes()).is_err() {
+                    return Err(RunFault::Write);
+                }
                 return Err(RunFault::Memory);
             }
         };
-        say(messages, &mut waiting, message.as_str())?;
-        refused = refused || refuses;
+        if say(messages, &mut waiting, message.as_str()).is_err() {
+            return Err(RunFault::Write);
+        }
+        refused = is_either(refused, refuses);
         rest = behind;
     }
-    write_counted(messages, waiting.as_bytes())?;
+    if write_counted(messages, waiting.as_bytes()).is_err() {
+        return Err(RunFault::Write);
+    }
     Ok(refused)
 }
