@@ -1,1 +1,5 @@
--- lemmas
+pub mod Backs
+pub mod Changes
+pub mod Numbers
+pub mod Rounds
+pub mod Shapes
