@@ -93,7 +93,7 @@ impl Statements {
             word: 0,
         };
         match lay::read_body(alloc, text.as_bytes(), words, places, begin, lay::LEVELS)? {
-            Some(body) if body.open == 0 && body.word == words.len() => Ok(Some(body.statements)),
+            Some(body) if body.begin == 0 && body.word == words.len() => Ok(Some(body.statements)),
             _ => Ok(None),
         }
     }

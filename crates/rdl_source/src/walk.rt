@@ -1,5 +1,5 @@
 //! From gap to gap, from word to word, from item to item.
-ghost use Rattle.std.specs.Prelude.{◌≡◌, ℕ, ◌<◌, ◌↔◌, length, take, drop, IfSome, IsTrue, MatchBool};
+ghost use Rattle.std.specs.Prelude.{◌≡◌, ℕ, ◌+◌, ◌<◌, ◌↔◌, length, take, drop, IfSome, IsTrue, MatchBool};
 ghost use Rattle.rdl_parse.specs.Places as items;
 ghost use Rattle.rdl_parse.specs.Places.{from_item};
 ghost use Rattle.rdl_source.specs.LaidOut as spec;
@@ -44,6 +44,21 @@ impl Gap {
         match self.right {
             Right::End => true,
             Right::Statement => false,
+        }
+    }
+}
+
+impl Stop {
+    /// Where the gap behind it begins.
+    pub(crate) fn behind(self) -> Spot
+        requires at { self.at < usize.MAX }
+        requires word { self.word < usize.MAX }
+        ensures { result ≡ record { left = Left.Word; at = self.at + 1; word = self.word + 1 } }
+    {
+        Spot {
+            left: Left::Word,
+            at: self.at + 1,
+            word: self.word + 1,
         }
     }
 }

@@ -13,10 +13,10 @@ returns-in-Some-clause-laid c =
     let ps = c.args.places.now in
     let body = c.in-Some.body in
     let bytes = c.as_bytes.result.now in
-    let lie : Lie bytes ws body.statements Begin 0 body.«open» 0 ps body.close body.word =
-    subst (λ o. IfSome o (λ (b : Body). Lie bytes ws b.statements Begin 0 b.«open» 0 ps b.close b.word)) c.in-Some.is c.in_ok-body.ensures.lie in
+    let lie : Lie bytes ws body.statements Begin 0 body.begin 0 ps body.close body.word =
+    subst (λ o. IfSome o (λ (b : Body). Lie bytes ws b.statements Begin 0 b.begin 0 ps b.close b.word)) c.in-Some.is c.in_ok-body.ensures.lie in
     subst (λ s. IsLaidOut s ws ps body.statements) c.as_bytes.ensures.value
-    (laid_out bytes ws body.statements body.«open» ps body.close body.word lie c.if-branch-eq0.true (c.if-branch-len.true ∙ c.len.ensures))
+    (laid_out bytes ws body.statements body.begin ps body.close body.word lie c.if-branch-eq0.true (c.if-branch-len.true ∙ c.len.ensures))
 
 pub returns-in-Some-clause-text : goal.returns-in-Some-clause-text
 returns-in-Some-clause-text c =
