@@ -5,7 +5,7 @@ use Rattle.std.specs.List.{take-map, drop-map}
 use Rattle.std.proofs.lemmas.List.{map-append, length-map}
 use Rattle.std.proofs.lemmas.Option.{slice_get-map}
 use Rattle.std.proofs.lemmas.Bool.{and_parts, and_from, le-leb, lt-ltb}
-use Rattle.rdl_tree.specs.Items.{Items, no_items, plain, holder}
+use Rattle.rdl_tree.specs.Items.{Items, no_items, plain, holder, count}
 use Rattle.rdl_tree.specs.View as tree
 use Rattle.rdl_tree.specs.Address.{holder_of, number_of, inner, map_inner, body_at, map_body}
 use Rattle.rdl_tree.specs.ItemAt.{item_at}
@@ -37,13 +37,13 @@ use Rattle.rdl_origin.proofs.Numbers.{unnumbered-items_of}
 
 pub shape-numbered : (n : ℕ) (t : Items) → shape (numbered n t) ≡ unnumbered t
 shape-numbered n no_items = refl
-shape-numbered n (plain p rest) = ap (trace None _ _ no_traces) (shape-numbered _ rest)
-shape-numbered n (holder h body rest) = λ i. trace None _ _ (shape-numbered _ body i) (shape-numbered _ rest i)
+shape-numbered n (plain p rest) = ap (trace None false false no_traces) (shape-numbered (n + 1) rest)
+shape-numbered n (holder h body rest) = λ i. trace None false false (shape-numbered (n + 1) body i) (shape-numbered (n + 1 + count body) rest i)
 
 shape-unnumbered : (t : Items) → shape (unnumbered t) ≡ unnumbered t
 shape-unnumbered no_items = refl
-shape-unnumbered (plain p rest) = ap (trace None _ _ no_traces) (shape-unnumbered rest)
-shape-unnumbered (holder h body rest) = λ i. trace None _ _ (shape-unnumbered body i) (shape-unnumbered rest i)
+shape-unnumbered (plain p rest) = ap (trace None false false no_traces) (shape-unnumbered rest)
+shape-unnumbered (holder h body rest) = λ i. trace None false false (shape-unnumbered body i) (shape-unnumbered rest i)
 
 -- an item alone
 abbrev bare : Origin → Origin
@@ -59,7 +59,7 @@ bare-unnumbered (Dynamic t p v) = refl
 
 shape-traces_of : (os : List Origin) → shape (traces_of os) ≡ traces_of (map bare os)
 shape-traces_of [] = refl
-shape-traces_of (o ∷ os) = ap (trace None _ _ (shape o.inside)) (shape-traces_of os)
+shape-traces_of (o ∷ os) = ap (trace None false false (shape o.inside)) (shape-traces_of os)
 
 -- the same of a list of each
 to_lists : (b : Traces) (t : Items) → shape b ≡ unnumbered t → map bare (list_of b) ≡ map unnumbered_item (tree.list_of t)
@@ -72,7 +72,7 @@ from_lists : (os : List Origin) (xs : List Item) → map bare os ≡ map unnumbe
 from_lists os xs e = shape-traces_of os ∙ ap traces_of e ∙ sym (unnumbered-items_of xs)
 
 same_length : (b : Traces) (t : Items) → shape b ≡ unnumbered t → length (list_of b) ≡ length (tree.list_of t)
-same_length b t e = sym (length-map bare (list_of b)) ∙ ap length (to_lists b t e) ∙ length-map unnumbered_item (tree.list_of t)
+same_length b t e = sym (length-map (list_of b) bare) ∙ ap length (to_lists b t e) ∙ length-map (tree.list_of t) unnumbered_item
 
 -- ---- Lists with an item put in, taken out or replaced, seen item by item.
 
@@ -116,8 +116,8 @@ shift_shape at to n b t x e h =
     ap (λ q. shape (traces_of (put_in to (option_map (moved n to) q) (remove (list_of b) n)))) o.1
     ∙ from_lists (insert (remove (list_of b) n) to new) (insert (remove (tree.list_of t) n) to x)
     (map-insert bare (remove (list_of b) n) to new
-      ∙ ap₂ (λ u v. insert u to v) (map-remove bare (list_of b) n ∙ ap (λ u. remove u n) (to_lists b t e) ∙ sym (map-remove unnumbered_item (tree.list_of t) n)) o.2
-      ∙ sym (map-insert unnumbered_item (remove (tree.list_of t) n) to x))
+    ∙ ap₂ (λ u v. insert u to v) (map-remove bare (list_of b) n ∙ ap (λ u. remove u n) (to_lists b t e) ∙ sym (map-remove unnumbered_item (tree.list_of t) n)) o.2
+    ∙ sym (map-insert unnumbered_item (remove (tree.list_of t) n) to x))
     ∙ ap unnumbered (sym (shift_is n to t x h))
 
 unnumbered-part : (new : Part) (x : Item) → unnumbered_item (with_part new x) ≡ unnumbered_item x
@@ -167,7 +167,7 @@ item_changed zero (trace now t m inside others) c (holder q body rest) b F H e h
     let changes : shape (F inside) ≡ unnumbered (H body) = ap (λ u. shape (F u)) this ∙ f ∙ ap (λ u. unnumbered (H u)) (sym that) in
     ap₂ (trace None false false) changes alike
 item_changed (suc i) (trace now t m inside others) c (plain p rest) b F H e h k f =
-    ap (trace None false false no_traces) (item_changed i others c rest b F H (cc) h k f) ∙ ap (λ u. trace None false false u (unnumbered (map_inner i H rest))) refl
+    let alike : shape inside ≡ no_traces = cc in ap₂ (trace None false false) alike (item_changed i others c rest b F H (cc) h k f)
 item_changed (suc i) (trace now t m inside others) c (holder q body rest) b F H e h k f =
     let alike : shape inside ≡ unnumbered body = cc in ap₂ (trace None false false) alike (item_changed i others c rest b F H (cc) h k f)
 
@@ -201,12 +201,12 @@ one_placed (Insert at x) t m e h =
     let parts = and_parts _ _ h in
     let b = place_in (number_of at) (body_at (holder_of at) t) parts.1 in
     let c = reached (holder_of at) m t b.body e b.held in
-    placed_by (Insert at x) at (number_of at) m c.0 (level-length at x parts.0).0 c.1 (le-leb _ _ (omega (arith, b.within, same_length c.0 b.body c.2)))
+    placed_by (Insert at x) at (number_of at) m c.0 (level-length at x parts.0).0 c.1 (le-leb (number_of at) (length (list_of c.0)) (omega (arith, b.within, same_length c.0 b.body c.2)))
 one_placed (Delete at) t m e h =
     let x = the_item (item_at at t) h in
     let s = stands at t x.0 x.1 in
     let c = reached (holder_of at) m t s.body e s.held in
-    placed_by (Delete at) at (number_of at) m c.0 (omega (arith, s.within)) c.1 (lt-ltb _ _ (omega (arith, get-within _ _ _ s.found, same_length c.0 s.body c.2)))
+    placed_by (Delete at) at (number_of at) m c.0 (omega (arith, s.within)) c.1 (lt-ltb (number_of at) (length (list_of c.0)) (omega (arith, get-within (tree.list_of s.body) (number_of at) x.0 s.found, same_length c.0 s.body c.2)))
 one_placed (Shift at to) t m e h =
     let parts = and_parts _ _ h in
     let x = the_item (item_at at t) parts.0 in
@@ -215,13 +215,13 @@ one_placed (Shift at to) t m e h =
     let d = item_in to (body_at (holder_of at) t) parts.1 in
     let same : d.body ≡ s.body = (let both : Some d.body ≡ Some s.body = sym d.held ∙ s.held in cc) in
     placed_by (Shift at to) at (number_of at) m c.0 (omega (arith, s.within)) c.1
-    (and_from _ _ (lt-ltb _ _ (omega (arith, get-within _ _ _ s.found, same_length c.0 s.body c.2)))
-      (lt-ltb _ _ (omega (arith, d.within, ap (λ u. length (tree.list_of u)) same, same_length c.0 s.body c.2))))
+    (and_from _ _ (lt-ltb (number_of at) (length (list_of c.0)) (omega (arith, get-within (tree.list_of s.body) (number_of at) x.0 s.found, same_length c.0 s.body c.2)))
+    (lt-ltb to (length (list_of c.0)) (omega (arith, d.within, ap (λ u. length (tree.list_of u)) same, same_length c.0 s.body c.2))))
 one_placed (Exchange at new) t m e h =
     let x = part_in new (item_at at t) h in
     let s = stands at t x.0 x.1 in
     let c = reached (holder_of at) m t s.body e s.held in
-    placed_by (Exchange at new) at (number_of at) m c.0 (omega (arith, s.within)) c.1 (lt-ltb _ _ (omega (arith, get-within _ _ _ s.found, same_length c.0 s.body c.2)))
+    placed_by (Exchange at new) at (number_of at) m c.0 (omega (arith, s.within)) c.1 (lt-ltb (number_of at) (length (list_of c.0)) (omega (arith, get-within (tree.list_of s.body) (number_of at) x.0 s.found, same_length c.0 s.body c.2)))
 
 pub one_shape : (p : Patch) (t : Items) (m : Traces) → shape m ≡ unnumbered t → IsTrue (fits p t) → shape (gone_back p m) ≡ unnumbered (patched p t)
 one_shape (Insert at x) t m e h =

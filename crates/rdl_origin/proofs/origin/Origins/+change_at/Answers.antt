@@ -5,7 +5,7 @@ use Rattle.rdl_origin.proofs.origin.Origins.+change_at.Goals as goal
 
 pub returns-in_default-clause-placed : goal.returns-in_default-clause-placed
 returns-in_default-clause-placed t c =
-        placed_nowhere c.args.patch.now c.args.number c.args.way.now c.args.self.now c.self.inside.list.items c.in-len1-up.len_at_least c.self.view_is (search (rules, slice_get_past, slice_get_read))
+    placed_nowhere c.args.patch.now c.args.number c.args.way.now c.args.self.now c.self.inside.list.items c.in-len1-up.len_at_least c.self.view_is (search (rules, slice_get_past, slice_get_read))
 
 pub returns-in_ok-change-in-empty-clause-placed : goal.returns-in_ok-change-in-empty-clause-placed
 returns-in_ok-change-in-empty-clause-placed t c =

@@ -3,4 +3,4 @@ use Rattle.rdl_origin.proofs.Backs.{IsOnWay}
 use Rattle.rdl_origin.proofs.origin.Origins.go_back.Given as goal
 
 abbrev pub invariant-patches : goal.invariant-patches
-invariant-patches l = IsOnWay l.patch-items l.initial.self l.self (drop l.patch-index l.patch-items)
+invariant-patches l = IsOnWay l.step l.initial.self l.self (drop l.patch-index l.step)
