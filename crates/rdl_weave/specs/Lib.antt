@@ -1,1 +1,4 @@
 pub mod Spelled
+pub mod Standing
+pub mod Untouched
+pub mod Keeping

@@ -120,7 +120,7 @@ pub(crate) fn members(
     let mut number = begin;
     'items: for (index, item) in last.as_slice().iter().enumerate() {
         let behind = number.saturating_add(item.count());
-        list.push(member(
+        list.push(member_of(
             origins,
             owners.as_slice(),
             places.as_slice(),
@@ -133,7 +133,7 @@ pub(crate) fn members(
     Ok(list)
 }
 
-fn member(
+fn member_of(
     origins: &[Origin],
     owners: &[Owner],
     places: &[Place],

@@ -124,7 +124,7 @@ fn units(
                 is_kept: true,
                 body: None,
             },
-            None => unit(alloc, loom, view, member, at, levels)?,
+            None => changed_unit(alloc, loom, view, member, at, levels)?,
         };
         at = unit.to;
         list.push(unit)?;
@@ -134,7 +134,7 @@ fn units(
 
 /// The unit that begins with this item, which isn't kept.
 #[cycle(weave)]
-fn unit(
+fn changed_unit(
     alloc: Global,
     loom: Loom<'_>,
     view: View<'_>,

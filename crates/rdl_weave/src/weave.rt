@@ -25,7 +25,7 @@ struct Laid {
     statements: Statements,
 }
 
-fn laid(alloc: Global, source: &str) -> Result<Option<Laid>, AllocError> {
+fn read_source(alloc: Global, source: &str) -> Result<Option<Laid>, AllocError> {
     let Ok((map, places)) = parse(alloc, source) else {
         return Ok(None);
     };
@@ -101,7 +101,7 @@ pub fn weave(
     if spells_as(alloc, canonical, source)? {
         return Ok(String::from_str(alloc, source)?);
     }
-    let Some(laid) = laid(alloc, source)? else {
+    let Some(laid) = read_source(alloc, source)? else {
         return Err(WeaveFault::NotWoven);
     };
     if let Some(text) = woven(alloc, source, &laid, origins, last, canonical, false)? {
