@@ -1,8 +1,12 @@
 //! Statements and bodies, from the front to the back.
+ghost use Rattle.std.specs.Prelude.{◌≡◌, ◌≤◌, ◌<◌, length, IfSome, IfOk};
+ghost use Rattle.rdl_source.specs.LaidOut.{Lie};
+ghost use Rattle.rdl_source.specs.Worded.{IsWorded};
 
-use crate::gap::{Left, byte_at};
-use crate::statement::{Inner, Span, Statement, Statements};
-use crate::walk::{Gap, Spot, Stop, gap_at, inside_first, items_in, stop_from};
+use crate::gap::Left;
+use crate::span::Span;
+use crate::statement::{Inner, Statement, Statements};
+use crate::walk::{Spot, Stop, gap_at, inside_first, items_in, stop_from};
 use rdl_parse::places::ItemPlace;
 use rdl_text::list::Tokens;
 use std::alloc::{AllocError, Global};
@@ -19,15 +23,14 @@ pub(crate) struct Body {
     pub(crate) statements: Statements,
 }
 
-/// The words of a statement: its first byte, its semicolon, and what stands between its braces.
+/// The words of a statement that have been read: its semicolon, and what stands between its braces.
 #[derive(Drop)]
 pub(crate) struct Wording {
-    pub(crate) from: usize,
     pub(crate) end: Stop,
     pub(crate) inside: Option<Inner>,
 }
 
-/// The statements behind a spot, up to a brace that closes or the end of the text.
+/// The statements behind a spot, which have these items, up to a brace that closes or the end of the text.
 #[cycle(lay)]
 pub(crate) fn read_body(
     alloc: Global,
@@ -36,16 +39,20 @@ pub(crate) fn read_body(
     places: &[ItemPlace],
     begin: Spot,
     levels: u32,
-) -> Result<Option<Body>, AllocError> {
+) -> Result<Option<Body>, AllocError>
+    ensures lie { IfOk result (λ o. IfSome o (λ b. Lie text.now words.now b.statements begin.left begin.at b.open begin.word places.now b.close b.word)) }
+    ensures forward { IfOk result (λ o. IfSome o (λ b. begin.word ≤ b.word)) }
+{
     let Some(first) = gap_at(text, words, begin) else {
         return Ok(None);
     };
     let mut list = Vec::new(alloc);
     let mut gap = first;
-    let mut word = begin.word;
+    let mut spot = begin;
     let mut rest = places;
-    'statements: while !gap.is_end {
-        let Some(wording) = read_words(alloc, text, words, rest, word, levels)? else {
+    'statements: while !gap.is_end() {
+        let Some(wording) = read_words(alloc, text, words, rest, spot.word, gap.lead.to, levels)?
+        else {
             return Ok(None);
         };
         let span = Span {
@@ -61,6 +68,9 @@ pub(crate) fn read_body(
             return Ok(None);
         };
         let (items, others) = items_in(rest, span);
+        if items == 0 {
+            return Ok(None);
+        }
         list.push(Statement {
             float: gap.float,
             lead: gap.lead,
@@ -69,25 +79,26 @@ pub(crate) fn read_body(
             items,
             inside: wording.inside,
         })?;
-        word = behind.word;
+        spot = behind;
         gap = next;
         rest = others;
     }
     if !rest.is_empty() {
         return Ok(None);
     }
+    let last = Span {
+        from: gap.trail.to,
+        to: gap.lead.to,
+    };
     Ok(Some(Body {
         open: first.trail.to,
-        close: gap.float.to,
-        word,
-        statements: Statements {
-            list,
-            last: gap.float,
-        },
+        close: gap.lead.to,
+        word: spot.word,
+        statements: Statements::new(list, last),
     }))
 }
 
-/// The words of the statement that begins with the word of this number, whose items are the first of these.
+/// The words of a statement from the one of this number on, which begins at this byte, and whose items are the first of these.
 #[cycle(lay)]
 fn read_words(
     alloc: Global,
@@ -95,22 +106,29 @@ fn read_words(
     words: &Tokens<'_>,
     places: &[ItemPlace],
     word: usize,
+    from: usize,
     levels: u32,
-) -> Result<Option<Wording>, AllocError> {
-    let Some(from) = words.start(word) else {
+) -> Result<Option<Wording>, AllocError>
+    ensures worded { IfOk result (λ o. IfSome o (λ w. IsWorded text.now words.now places.now w.inside from word w.end.word w.end.at)) }
+    ensures forward { IfOk result (λ o. IfSome o (λ w. word ≤ w.end.word)) }
+    ensures word { IfOk result (λ o. IfSome o (λ w. w.end.word < length words.now)) }
+    ensures small { IfOk result (λ o. IfSome o (λ w. w.end.word < usize.MAX)) }
+    ensures at { IfOk result (λ o. IfSome o (λ w. w.end.at < length text.now)) }
+{
+    let Some(stop) = stop_from(text, words, word, from) else {
         return Ok(None);
     };
-    let Some(stop) = stop_from(text, words, word) else {
-        return Ok(None);
-    };
-    if byte_at(text, stop.at) == b';' {
+    let inner = inside_first(places);
+    if text[stop.at] == b';' {
+        if !inner.is_empty() {
+            return Ok(None);
+        }
         return Ok(Some(Wording {
-            from,
             end: stop,
             inside: None,
         }));
     }
-    if byte_at(text, stop.at) != b'{' || levels == 0 {
+    if text[stop.at] != b'{' || levels == 0 {
         return Ok(None);
     }
     let begin = Spot {
@@ -118,20 +136,19 @@ fn read_words(
         at: stop.at + 1,
         word: stop.word + 1,
     };
-    let Some(body) = read_body(alloc, text, words, inside_first(places), begin, levels - 1)? else {
+    let Some(body) = read_body(alloc, text, words, inner, begin, levels - 1)? else {
         return Ok(None);
     };
-    if body.word == words.len() {
+    if body.word >= words.len() || body.close >= text.len() || text[body.close] != b'}' {
         return Ok(None);
     }
-    let Some(end) = stop_from(text, words, body.word + 1) else {
+    let Some(end) = stop_from(text, words, body.word + 1, body.close) else {
         return Ok(None);
     };
-    if byte_at(text, end.at) != b';' {
+    if text[end.at] != b';' {
         return Ok(None);
     }
     Ok(Some(Wording {
-        from,
         end,
         inside: Some(Inner {
             open: body.open,

@@ -3,6 +3,7 @@
 
 pub mod gap;
 mod lay;
+pub mod span;
 pub mod statement;
 #[cfg(test)]
 mod tests;

@@ -1,18 +1,18 @@
 //! The statements of a text.
+ghost use Rattle.std.specs.Prelude.{◌≡◌, IfSome, IfOk};
+ghost use Rattle.rdl_source.specs.Laid.{ended};
+ghost use Rattle.rdl_source.specs.View.{put, list_of, last_of};
+ghost use Rattle.rdl_source.specs.LaidText.{laid_text};
+ghost use Rattle.rdl_source.specs.LaidOut.{IsLaidOut};
 
 use crate::gap::Left;
 use crate::lay;
+use crate::span::Span;
 use crate::walk::Spot;
 use rdl_parse::places::ItemPlace;
 use rdl_text::list::Tokens;
 use std::alloc::{AllocError, Global};
-
-/// Bytes of a text, from one up to another.
-#[derive(Clone, Copy, Debug, PartialEq, Eq)]
-pub struct Span {
-    pub from: usize,
-    pub to: usize,
-}
+use std::marker::Model;
 
 /// A statement: float, lead, words and trail stand one behind another, without a gap.
 #[cycle(statement)]
@@ -43,12 +43,31 @@ pub struct Inner {
     pub body: Statements,
 }
 
-/// The statements of a body, or of a whole text, and what stands behind the last of them.
+/// The statements of a body, or of a whole text, and what stands behind the last of them. A contract sees `Laid`.
 #[cycle(statement)]
 #[derive(Debug, Drop)]
 pub struct Statements {
-    pub(crate) list: Vec<Statement>,
-    pub(crate) last: Span,
+    list: Vec<Statement>,
+    last: Span,
+}
+
+impl Model for Statements {
+    ghost use Rattle.rdl_source.specs.Laid.{Laid, count};
+    ghost use Rattle.rdl_source.specs.Codes.{coded_laid};
+
+    ghost Value = { Laid };
+
+    ghost coded = { coded_laid };
+
+    ghost use Rattle.rdl_source.specs.View.{laid_of};
+
+    ghost view = { λ a. laid_of a.list.items a.last };
+
+    ghost size = { count };
+
+    ghost use Rattle.rdl_source.specs.Falls.{deep_le-count};
+
+    ghost size_decreases = { λ a h. deep_le-count a.list.items a.last };
 }
 
 impl Statements {
@@ -62,25 +81,42 @@ impl Statements {
         text: &str,
         words: &Tokens<'_>,
         places: &[ItemPlace],
-    ) -> Result<Option<Statements>, AllocError> {
+    ) -> Result<Option<Statements>, AllocError>
+        // They are the text's, with its items.
+        ensures laid { IfOk result (λ o. IfSome o (λ s. IsLaidOut text.now words.now places.now s)) }
+        // All their parts, one behind another, are the text.
+        ensures text { IfOk result (λ o. IfSome o (λ s. laid_text text.now s ≡ text.now)) }
+    {
         let begin = Spot {
             left: Left::Begin,
             at: 0,
             word: 0,
         };
         match lay::read_body(alloc, text.as_bytes(), words, places, begin, lay::LEVELS)? {
-            Some(body) if body.word == words.len() => Ok(Some(body.statements)),
+            Some(body) if body.open == 0 && body.word == words.len() => Ok(Some(body.statements)),
             _ => Ok(None),
         }
     }
 
+    pub(crate) fn new(list: Vec<Statement>, last: Span) -> Statements
+        ensures { result ≡ put list.items (ended last) }
+    {
+        Statements { list, last }
+    }
+
     /// The statements, in order.
-    pub fn as_slice(&self) -> &[Statement] {
+    #[tactic(auto, using(crate::proofs::Views::views))]
+    pub fn as_slice(&self) -> &[Statement]
+        ensures { result.now ≡ list_of self.now }
+    {
         self.list.as_slice()
     }
 
     /// What stands behind the last of them. It holds no word.
-    pub fn last(&self) -> Span {
+    #[tactic(auto, using(crate::proofs::Views::views))]
+    pub fn last(&self) -> Span
+        ensures { result ≡ last_of self.now }
+    {
         self.last
     }
 }

@@ -1,4 +1,5 @@
-use crate::statement::{Span, Statement, Statements};
+use crate::span::Span;
+use crate::statement::{Statement, Statements};
 use rdl_parse::parse::parse;
 use std::alloc::{AllocError, Global};
 use std::process::Abort;

@@ -1,7 +1,12 @@
 //! From gap to gap, from word to word, from item to item.
+ghost use Rattle.std.specs.Prelude.{◌≡◌, ℕ, ◌<◌, ◌↔◌, length, take, drop, IfSome, IsTrue, MatchBool};
+ghost use Rattle.rdl_parse.specs.Places as items;
+ghost use Rattle.rdl_parse.specs.Places.{from_item};
+ghost use Rattle.rdl_source.specs.LaidOut as spec;
+ghost use Rattle.rdl_source.specs.LaidOut.{IsGap, IsStop, StandsBehind, BeginsIn};
 
-use crate::gap::{Left, Right, byte_at, split_gap};
-use crate::statement::Span;
+use crate::gap::{Left, Right, split_gap};
+use crate::span::Span;
 use rdl_parse::places::ItemPlace;
 use rdl_text::list::Tokens;
 
@@ -21,8 +26,7 @@ pub(crate) struct Gap {
     pub(crate) trail: Span,
     pub(crate) float: Span,
     pub(crate) lead: Span,
-    /// Whether a body ends behind it.
-    pub(crate) is_end: bool,
+    pub(crate) right: Right,
 }
 
 /// A word that ends a part of a statement: its number, and its byte.
@@ -32,60 +36,96 @@ pub(crate) struct Stop {
     pub(crate) at: usize,
 }
 
-/// The gap between two bytes.
-fn gap_between(text: &[u8], from: usize, to: usize, left: Left, right: Right) -> Option<Gap> {
-    if from > to || to > text.len() {
-        return None;
-    }
-    let parts = split_gap(&text[from..to], left, right)?;
-    let trail = from + parts.trail;
-    let float = trail + parts.float;
-    Some(Gap {
-        trail: Span { from, to: trail },
-        float: Span {
-            from: trail,
-            to: float,
-        },
-        lead: Span { from: float, to },
-        is_end: right == Right::End,
-    })
-}
-
-/// The gap that begins at a spot. There is none where its words aren't those of the text.
-pub(crate) fn gap_at(text: &[u8], words: &Tokens<'_>, spot: Spot) -> Option<Gap> {
-    match words.start(spot.word) {
-        None => gap_between(text, spot.at, text.len(), spot.left, Right::End),
-        Some(start) => {
-            let right = if byte_at(text, start) == b'}' {
-                Right::End
-            } else {
-                Right::Statement
-            };
-            gap_between(text, spot.at, start, spot.left, right)
+impl Gap {
+    /// Whether a body ends behind it.
+    pub(crate) fn is_end(&self) -> bool
+        ensures { MatchBool result (self.now.right ≡ Right.End) (self.now.right ≡ Right.Statement) }
+    {
+        match self.right {
+            Right::End => true,
+            Right::Statement => false,
         }
     }
 }
 
-fn is_stop(byte: u8) -> bool {
+/// The gap between two bytes, where the word of this number stands behind it, or none.
+fn gap_between(text: &[u8], words: &Tokens<'_>, spot: Spot, to: usize, right: Right) -> Option<Gap>
+    requires { StandsBehind text.now words.now right to spot.word }
+    ensures gap { IfSome result (λ g. IsGap text.now words.now spot.left g.right spot.at spot.word g.lead.to g.trail.to g.float g.lead) }
+    ensures trail { IfSome result (λ g. g.trail.from ≡ spot.at) }
+{
+    let from = spot.at;
+    if from > to || to > text.len() {
+        return None;
+    }
+    match split_gap(&text[from..to], spot.left, right) {
+        None => None,
+        Some(parts) => {
+            let trail = from + parts.trail;
+            let float = trail + parts.float;
+            Some(Gap {
+                trail: Span { from, to: trail },
+                float: Span {
+                    from: trail,
+                    to: float,
+                },
+                lead: Span { from: float, to },
+                right,
+            })
+        }
+    }
+}
+
+/// What stands behind a gap up to a word that begins at this byte.
+fn right_of(text: &[u8], start: usize) -> Right
+    ensures { result ≡ spec.right_of text.now start }
+{
+    match text.get(start) {
+        Some(b'}') => Right::End,
+        _ => Right::Statement,
+    }
+}
+
+/// The gap that begins at a spot. There is none where its words aren't those of the text.
+pub(crate) fn gap_at(text: &[u8], words: &Tokens<'_>, spot: Spot) -> Option<Gap>
+    ensures gap { IfSome result (λ g. IsGap text.now words.now spot.left g.right spot.at spot.word g.lead.to g.trail.to g.float g.lead) }
+    ensures trail { IfSome result (λ g. g.trail.from ≡ spot.at) }
+{
+    match words.start(spot.word) {
+        None => gap_between(text, words, spot, text.len(), Right::End),
+        Some(start) => gap_between(text, words, spot, start, right_of(text, start)),
+    }
+}
+
+fn is_stop(byte: u8) -> bool
+    ensures { result ≡ spec.is_stop byte }
+{
     byte == b';' || byte == b'{' || byte == b'}'
 }
 
-/// The first semicolon or brace, from the word of this number on.
-pub(crate) fn stop_from(text: &[u8], words: &Tokens<'_>, word: usize) -> Option<Stop> {
+/// The first semicolon or brace, from the word of this number on. It stands behind this byte.
+pub(crate) fn stop_from(text: &[u8], words: &Tokens<'_>, word: usize, from: usize) -> Option<Stop>
+    ensures stop { IfSome result (λ s. IsStop text.now words.now from word s.word s.at) }
+    ensures within { IfSome result (λ s. s.word < length words.now) }
+    ensures small { IfSome result (λ s. s.word < usize.MAX) }
+{
     'words: for number in word..words.len() {
-        match words.start(number) {
-            None => return None,
-            Some(at) => {
-                if is_stop(byte_at(text, at)) {
-                    return Some(Stop { word: number, at });
-                }
-            }
+        let Some(at) = words.start(number) else {
+            return None;
+        };
+        if at < from || at >= text.len() {
+            return None;
+        }
+        if is_stop(text[at]) {
+            return Some(Stop { word: number, at });
         }
     }
     None
 }
 
-fn past(places: &[ItemPlace], count: usize) -> &[ItemPlace] {
+fn past(places: &[ItemPlace], count: usize) -> &[ItemPlace]
+    ensures { result.now ≡ drop count places.now }
+{
     if count <= places.len() {
         &places[count..]
     } else {
@@ -93,35 +133,58 @@ fn past(places: &[ItemPlace], count: usize) -> &[ItemPlace] {
     }
 }
 
-/// The places inside the first item.
-pub(crate) fn inside_first(places: &[ItemPlace]) -> &[ItemPlace] {
-    match places {
-        [] => places,
-        [first, others @ ..] => {
-            if first.inside <= others.len() {
-                &others[..first.inside]
-            } else {
-                others
-            }
-        }
+fn front(places: &[ItemPlace], count: usize) -> &[ItemPlace]
+    ensures { result.now ≡ take count places.now }
+{
+    if count <= places.len() {
+        &places[..count]
+    } else {
+        places
     }
 }
 
-/// How many of the first items stand in a span, and the places of the items behind them.
-pub(crate) fn items_in(places: &[ItemPlace], span: Span) -> (usize, &[ItemPlace]) {
-    let mut count = 0;
+/// The places inside the first item.
+pub(crate) fn inside_first(places: &[ItemPlace]) -> &[ItemPlace]
+    ensures { result.now ≡ items.inside_first places.now }
+{
+    match places {
+        [] => places,
+        [first, others @ ..] => front(others, first.inside),
+    }
+}
+
+/// The places of the items behind the first one.
+fn past_first(places: &[ItemPlace]) -> &[ItemPlace]
+    ensures { result.now ≡ spec.past_first places.now }
+{
+    match places {
+        [] => places,
+        [first, others @ ..] => past(others, first.inside),
+    }
+}
+
+fn begins_in(place: ItemPlace, span: Span) -> bool
+    ensures { IsTrue result ↔ spec.IsIn span place }
+{
+    span.from <= place.start && place.start < span.to
+}
+
+/// How many of the first items begin in a span, and the places of the items behind them.
+pub(crate) fn items_in(places: &[ItemPlace], span: Span) -> (usize, &[ItemPlace])
+    ensures items { (i : ℕ) → i < result.0 → BeginsIn span (from_item i places.now) }
+    ensures rest { result.1.now ≡ from_item result.0 places.now }
+{
     let mut rest = places;
-    'items: for _ in 0..places.len() {
+    'items: for count in 0..places.len() {
         match rest {
             [] => return (count, rest),
-            [first, others @ ..] => {
-                if first.start < span.from || span.to <= first.start {
+            [first, ..] => {
+                if !begins_in(*first, span) {
                     return (count, rest);
                 }
-                rest = past(others, first.inside);
-                count += 1;
             }
         }
+        rest = past_first(rest);
     }
-    (count, rest)
+    (places.len(), rest)
 }
