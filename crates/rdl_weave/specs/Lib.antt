@@ -2,3 +2,4 @@ pub mod Spelled
 pub mod Standing
 pub mod Untouched
 pub mod Keeping
+pub mod Weaving

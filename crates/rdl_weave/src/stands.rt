@@ -4,7 +4,7 @@ ghost use Rattle.rdl_weave.specs.Standing.{Trims, Occurs, Stands};
 
 use crate::bytes::is_blank;
 use crate::woven::Kept;
-use rdl_source::statement::Span;
+use rdl_source::span::Span;
 
 /// The bytes behind the blanks that stand in front.
 fn behind_blanks(bytes: &[u8]) -> &[u8]

@@ -54,7 +54,7 @@ fn is_now(now: Option<u32>, number: u64) -> bool
 
 /// The number behind those of the item and what is inside it.
 #[cycle(behind)]
-fn behind_item(sizes: &[u64], number: u64, origin: &Origin) -> Option<u64>
+pub(crate) fn behind_item(sizes: &[u64], number: u64, origin: &Origin) -> Option<u64>
     ensures { result ≡ behind sizes.now number (traces_of (origin.now ∷ [])) }
 {
     if origin.is_touched || !is_now(origin.now, number) {
