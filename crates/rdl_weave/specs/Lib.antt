@@ -1,1 +1,5 @@
 pub mod Spelled
+pub mod Standing
+pub mod Untouched
+pub mod Keeping
+pub mod Weaving

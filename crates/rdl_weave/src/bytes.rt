@@ -1,6 +1,6 @@
 //! Looks at the bytes of a text.
 
-use rdl_source::statement::Span;
+use rdl_source::span::Span;
 use std::str;
 
 /// The bytes from one place up to another; none where the text has no such places.

@@ -18,7 +18,7 @@ pub(crate) struct Lexeme {
     pub(crate) is_default: bool,
 }
 
-fn lexeme(begin: usize, word: &Token<'_>) -> Lexeme {
+fn make_lexeme(begin: usize, word: &Token<'_>) -> Lexeme {
     let source = word.source();
     let from = begin.saturating_add(word.start());
     Lexeme {
@@ -48,7 +48,7 @@ pub(crate) fn lexemes(
         Ok(words) => {
             'words: for index in 0..words.len() {
                 if let Some(word) = words.get(index) {
-                    list.push(lexeme(from, &word))?;
+                    list.push(make_lexeme(from, &word))?;
                 }
             }
             Ok(list)

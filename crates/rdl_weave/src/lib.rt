@@ -4,6 +4,7 @@
 mod assigned;
 mod bytes;
 pub mod fault;
+mod honest;
 mod inst;
 mod lexeme;
 mod made;
@@ -13,9 +14,11 @@ mod render;
 mod spell;
 mod spelled;
 mod standing;
+mod stands;
 #[cfg(test)]
 mod tests;
 mod unit;
+mod untouched;
 pub mod weave;
 mod woven;
 mod writer;

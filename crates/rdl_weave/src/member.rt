@@ -1,5 +1,6 @@
 //! The items of a body of the last map, each with the statement of the source that it came from.
 
+use crate::untouched::behind_item;
 use rdl_origin::origin::{Origin, Origins};
 use rdl_source::statement::Statements;
 use rdl_tree::description::Body;
@@ -87,31 +88,13 @@ fn origin_of(places: &[Place], number: u64) -> Option<usize> {
     }
 }
 
-/// The number behind those of an item and what is inside it, where they are in order from this one on and no edit changed any.
-#[cycle(intact)]
-fn number_behind(origin: &Origin, number: u64) -> Option<u64> {
-    if origin.is_touched || origin.now.map(u64::from) != Some(number) {
-        return None;
-    }
-    numbers_behind(&origin.inside, number.saturating_add(1))
-}
-
-/// The same of the items of a body.
-#[cycle(intact)]
-fn numbers_behind(origins: &Origins, number: u64) -> Option<u64> {
-    let mut next = number;
-    'origins: for origin in origins.as_slice() {
-        next = number_behind(origin, next)?;
-    }
-    Some(next)
-}
-
 /// The items of a body whose first item has this number.
 pub(crate) fn members(
     alloc: Global,
     past: Past<'_>,
     last: &Body,
     begin: u64,
+    sizes: &[u64],
 ) -> Result<Vec<Member>, AllocError> {
     let origins = past.origins.as_slice();
     let owners = owners(alloc, past.statements, origins.len())?;
@@ -119,27 +102,26 @@ pub(crate) fn members(
     let mut list = Vec::new(alloc);
     let mut number = begin;
     'items: for (index, item) in last.as_slice().iter().enumerate() {
-        let behind = number.saturating_add(item.count());
-        list.push(member(
+        list.push(member_of(
             origins,
             owners.as_slice(),
             places.as_slice(),
             index,
             number,
-            behind,
+            sizes,
         ))?;
-        number = behind;
+        number = number.saturating_add(item.count());
     }
     Ok(list)
 }
 
-fn member(
+fn member_of(
     origins: &[Origin],
     owners: &[Owner],
     places: &[Place],
     item: usize,
     number: u64,
-    behind: u64,
+    sizes: &[u64],
 ) -> Member {
     let new = Member {
         item,
@@ -161,7 +143,7 @@ fn member(
             origin,
             offset: owner.offset,
             is_moved: was.is_moved,
-            is_intact: number_behind(was, number) == Some(behind),
+            is_intact: behind_item(sizes, number, was).is_some(),
         },
         _ => new,
     }

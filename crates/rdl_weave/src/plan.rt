@@ -18,6 +18,8 @@ pub(crate) const LEVELS: u32 = 17;
 pub(crate) struct Loom<'a> {
     pub(crate) source: &'a [u8],
     pub(crate) style: Style<'a>,
+    /// How many items each item of the last map and what is inside it are.
+    pub(crate) sizes: &'a [u64],
     /// Whether statements without a body are spelled anew where they changed.
     pub(crate) is_coarse: bool,
 }
@@ -91,7 +93,7 @@ pub(crate) fn weave_body(
     begin: u64,
     levels: u32,
 ) -> Result<Woven, AllocError> {
-    let members = members(alloc, past, last, begin)?;
+    let members = members(alloc, past, last, begin, loom.sizes)?;
     let view = View {
         past,
         last,
@@ -124,7 +126,7 @@ fn units(
                 is_kept: true,
                 body: None,
             },
-            None => unit(alloc, loom, view, member, at, levels)?,
+            None => changed_unit(alloc, loom, view, member, at, levels)?,
         };
         at = unit.to;
         list.push(unit)?;
@@ -134,7 +136,7 @@ fn units(
 
 /// The unit that begins with this item, which isn't kept.
 #[cycle(weave)]
-fn unit(
+fn changed_unit(
     alloc: Global,
     loom: Loom<'_>,
     view: View<'_>,

@@ -11,7 +11,8 @@ use crate::plan::{Loom, Unit};
 use crate::spell::{push_flat, push_statement};
 use crate::standing::{Standing, standings};
 use crate::woven::Woven;
-use rdl_source::statement::{Inner, Span, Statement, Statements};
+use rdl_source::span::Span;
+use rdl_source::statement::{Inner, Statement, Statements};
 use rdl_tree::description::{Body, Item};
 use std::alloc::{AllocError, Global};
 
@@ -150,13 +151,17 @@ impl<'a> Page<'a> {
             }
             self.end_line()?;
             if begins_with_blank_line(float) && self.is_behind_blank() {
-                self.at = Some(span.to);
-                return self.text.push(part(float, first_line(float), float.len()));
+                return self.push_float(span, part(float, first_line(float), float.len()));
             }
         }
+        self.push_float(span, float)
+    }
+
+    fn push_float(&mut self, span: Span, float: &[u8]) -> Result<(), AllocError> {
         self.is_open = false;
         self.at = Some(span.to);
-        self.text.push(float)
+        self.text.push(float)?;
+        self.keep_gap(span.to, float)
     }
 
     /// The floats up to that of the statement of this number.
@@ -204,7 +209,8 @@ impl<'a> Page<'a> {
 
     fn put_kept(&mut self, statement: &Statement) -> Result<(), AllocError> {
         self.put_lead(statement)?;
-        self.text.keep(statement.words.from)?;
+        let lead = behind_blanks(slice(self.loom.source, statement.lead));
+        self.text.keep(statement.words.from, lead.len())?;
         self.text.push(slice(self.loom.source, statement.words))?;
         self.put_trail(statement)
     }
@@ -348,8 +354,22 @@ impl<'a> Page<'a> {
         self.spelled_unit(alloc, group.past.statements, group.last, group.members)
     }
 
-    /// What stands behind the statements.
+    /// What stands behind the statements, and notes it.
     fn put_last(&mut self, span: Span) -> Result<(), AllocError> {
+        self.push_last(span)?;
+        self.keep_gap(span.to, slice(self.loom.source, span))
+    }
+
+    /// Notes that the last bytes are these blanks and comments, which end at this place of the source.
+    fn keep_gap(&mut self, to: usize, gap: &[u8]) -> Result<(), AllocError> {
+        let comments = behind_blanks(gap);
+        if comments.is_empty() {
+            return Ok(());
+        }
+        self.text.keep(to, comments.len())
+    }
+
+    fn push_last(&mut self, span: Span) -> Result<(), AllocError> {
         let last = slice(self.loom.source, span);
         if self.at == Some(span.from) {
             return self.text.push(last);
@@ -409,6 +429,8 @@ impl<'a> Page<'a> {
         if !are_blanks(comments) {
             self.text.push(comments)?;
             self.is_open = is_open_comment(comments);
+            let to = span.from.saturating_add(count);
+            self.keep_gap(to, comments)?;
         }
         'items: for item in last.as_slice() {
             self.put_new(alloc, statements, item)?;

@@ -1,14 +1,20 @@
 //! The woven text.
-ghost use Rattle.std.specs.Prelude.{◌≡◌, string_bytes, IfOk, MatchResult};
+ghost use Rattle.std.specs.Prelude.{◌≡◌, ◌⊎◌, IsTrue, string_bytes, IfOk, IfSome, MatchResult};
+ghost use Rattle.rdl_origin.specs.View.{list_of};
+ghost use Rattle.rdl_weave.specs.Keeping.{Keeps};
 ghost use Rattle.rdl_weave.specs.Spelled.{SpellsAs};
+ghost use Rattle.rdl_weave.specs.Untouched.{sizes_of};
+ghost use Rattle.rdl_weave.specs.Weaving.{AreStatements, IsWoven};
 ghost use Rattle.rdl_weave.specs.declared.fault.WeaveFault.TheVariants.{Memory};
 
 use crate::fault::WeaveFault;
+use crate::honest::{Check, keeps};
 use crate::member::Past;
 use crate::plan::{LEVELS, Loom, weave_body};
 use crate::render::Room;
 use crate::spelled::spells_as;
 use crate::unit::style_of;
+use crate::untouched::push_sizes;
 use crate::woven::Woven;
 use rdl_origin::origin::Origins;
 use rdl_parse::parse::{MAX_LEN, parse};
@@ -25,7 +31,10 @@ struct Laid {
     statements: Statements,
 }
 
-fn laid(alloc: Global, source: &str) -> Result<Option<Laid>, AllocError> {
+/// The statements of a text, where it spells a map.
+fn read_source(alloc: Global, source: &str) -> Result<Option<Laid>, AllocError>
+    ensures { IfOk result (λ found. IfSome found (λ laid. AreStatements source.now laid.statements)) }
+{
     let Ok((map, places)) = parse(alloc, source) else {
         return Ok(None);
     };
@@ -44,12 +53,14 @@ fn text_of(
     laid: &Laid,
     origins: &Origins,
     last: &Description,
+    sizes: &[u64],
     is_coarse: bool,
 ) -> Result<Woven, AllocError> {
     let bytes = source.as_bytes();
     let loom = Loom {
         source: bytes,
         style: style_of(bytes, &laid.statements),
+        sizes,
         is_coarse,
     };
     let past = Past {
@@ -60,24 +71,55 @@ fn text_of(
     weave_body(alloc, loom, Room::root(bytes), past, &last.items, 0, LEVELS)
 }
 
-/// The text that is woven, if it spells the map with the canonical text.
+/// Whether the text spells the map with the canonical text, and keeps what no edit touched of the source.
+fn holds(
+    alloc: Global,
+    canonical: &str,
+    statements: &Statements,
+    origins: &Origins,
+    check: Check<'_>,
+    text: &str,
+) -> Result<bool, AllocError>
+    requires { check.text.now ≡ text.now }
+    ensures { IfOk result (λ answer. IsTrue answer → SpellsAs canonical.now text.now
+        × Keeps check.entry.source.now check.entry.sizes.now text.now statements.now (list_of origins.now)) }
+{
+    if !keeps(check, statements, origins.as_slice()) {
+        return Ok(false);
+    }
+    spells_as(alloc, canonical, text)
+}
+
+/// The text that is woven, if it is one that the map asks for.
 fn woven(
     alloc: Global,
     source: &str,
     laid: &Laid,
     origins: &Origins,
     last: &Description,
+    sizes: &[u64],
     canonical: &str,
     is_coarse: bool,
-) -> Result<Option<String>, WeaveFault> {
-    let woven = text_of(alloc, source, laid, origins, last, is_coarse)?;
+) -> Result<Option<String>, WeaveFault>
+    requires { sizes.now ≡ sizes_of last.now.items }
+    ensures { IfOk result (λ found. IfSome found (λ text. SpellsAs canonical.now (string_bytes text)
+        × Keeps source.now sizes.now (string_bytes text) laid.now.statements (list_of origins.now))) }
+{
+    let mut woven = text_of(alloc, source, laid, origins, last, sizes, is_coarse)?;
+    woven.sort();
     let Ok(text) = str::from_utf8(woven.as_slice()) else {
         return Ok(None);
     };
     if text.len() > MAX_LEN {
         return Err(WeaveFault::TooLong);
     }
-    if !spells_as(alloc, canonical, text)? {
+    let check = Check {
+        source: source.as_bytes(),
+        sizes,
+        text: text.as_bytes(),
+        kept: woven.kept(),
+    };
+    if !holds(alloc, canonical, &laid.statements, origins, check, text)? {
         return Ok(None);
     }
     Ok(Some(String::from_str(alloc, text)?))
@@ -97,17 +139,22 @@ pub fn weave(
     ensures reads { IfOk result (λ text. SpellsAs canonical.now (string_bytes text)) }
     // Where the source does so already, it is the answer, unless memory runs out.
     ensures same { SpellsAs canonical.now source.now → MatchResult result (λ text. string_bytes text ≡ source.now) (λ fault. fault ≡ Memory) }
+    // Else each statement that no edit touched stands in the answer as it stood, with its comments, and so does what floats.
+    ensures woven { IfOk result (λ text. (string_bytes text ≡ source.now) ⊎ IsWoven source.now origins.now last.now.items (string_bytes text)) }
 {
     if spells_as(alloc, canonical, source)? {
         return Ok(String::from_str(alloc, source)?);
     }
-    let Some(laid) = laid(alloc, source)? else {
+    let Some(laid) = read_source(alloc, source)? else {
         return Err(WeaveFault::NotWoven);
     };
-    if let Some(text) = woven(alloc, source, &laid, origins, last, canonical, false)? {
+    let mut sizes = Vec::new(alloc);
+    push_sizes(&mut sizes, &last.items)?;
+    let sizes = sizes.as_slice();
+    if let Some(text) = woven(alloc, source, &laid, origins, last, sizes, canonical, false)? {
         return Ok(text);
     }
-    match woven(alloc, source, &laid, origins, last, canonical, true)? {
+    match woven(alloc, source, &laid, origins, last, sizes, canonical, true)? {
         Some(text) => Ok(text),
         None => Err(WeaveFault::NotWoven),
     }

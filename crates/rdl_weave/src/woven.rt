@@ -2,14 +2,15 @@
 
 use std::alloc::{AllocError, Global};
 
-/// A statement that stands in a text as it stood in the source: the byte of its first word there and here.
+/// A byte of the source that stands in a text, with those behind it up to the end of its statement or float: its place there and
+/// here.
 #[derive(Clone, Copy, PartialEq, Eq)]
 pub(crate) struct Kept {
     pub(crate) from: usize,
     pub(crate) at: usize,
 }
 
-/// A text, and the statements that stand in it as they stood in the source.
+/// A text, and what stands in it as it stood in the source.
 #[derive(Drop)]
 pub(crate) struct Woven {
     text: Vec<u8>,
@@ -40,11 +41,19 @@ impl Woven {
         self.push(text.as_bytes())
     }
 
-    /// Notes that the statement with this first word stands at the end.
-    pub(crate) fn keep(&mut self, from: usize) -> Result<(), AllocError> {
-        let at = self.text.len();
+    /// Notes that the last bytes, so many, are those of the source before a place.
+    pub(crate) fn keep(&mut self, to: usize, count: usize) -> Result<(), AllocError> {
+        let from = to.saturating_sub(count);
+        let at = self.text.len().saturating_sub(count);
         self.kept.push(Kept { from, at })?;
         Ok(())
+    }
+
+    /// What was noted, in the order of the source.
+    pub(crate) fn sort(&mut self) {
+        self.kept
+            .as_mut_slice()
+            .sort_unstable_by_key(|kept: &Kept| kept.from);
     }
 
     /// Appends another text with what it keeps.
@@ -59,7 +68,7 @@ impl Woven {
         self.push(other.as_slice())
     }
 
-    /// Takes out so many bytes at the end, which no statement has.
+    /// Takes out so many bytes at the end, which are blanks.
     pub(crate) fn cut(&mut self, count: usize) {
         let left = self.text.len().saturating_sub(count);
         self.text.truncate(left);
