@@ -64,7 +64,7 @@ fn run_into(alloc: Global, case: &Case, outputs: &mut Outputs) -> Result<Status,
         top: None,
         history: 10_000,
         session: !case.session.is_empty(),
-        edited: false,
+        edited: true,
     };
     run(
         alloc,
