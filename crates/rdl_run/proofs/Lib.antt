@@ -24,3 +24,4 @@ pub mod Written
 pub mod WrittenLines
 pub mod Compared
 pub mod Said
+pub mod EditedOf

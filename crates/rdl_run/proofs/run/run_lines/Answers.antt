@@ -8,6 +8,7 @@ use Rattle.rdl_run.specs.Output.{outputs}
 use Rattle.rdl_run.specs.OwnSteps.{AllOwn, OpensKept}
 use Rattle.rdl_run.specs.declared.open.OpenFault.TheVariants.{Refused}
 use Rattle.rdl_run.specs.declared.status.RunFault.TheVariants.{Memory}
+use Rattle.rdl_run.proofs.EditedOf.{edited_of, none_edited}
 use Rattle.rdl_run.proofs.RunLemmas.{closes_if, closes_refused}
 use Rattle.rdl_run.proofs.Stopped.{stops_if, went, not_write, memory≢write, unwritten}
 use Rattle.rdl_run.proofs.WholeInput.{on_ok, within}
@@ -35,7 +36,7 @@ returns-in-Ok-clause-closes g c =
     subst (λ o. OpensKept o options.history map_bytes k) c.as_ref.ensures.value
     (subst (λ bytes. OpensKept (option_copied c.as_ref.result) options.history bytes k) c.as_slice.ensures.value c.in-Ok.ensures.kept) in
     let closes : IfOk c.run_script.result (ClosesScript (AllOwn k) options.session k.history c.in_ok-script_bytes.script_bytes.items old new c.args.messages.now.counts c.run_script.new.messages.counts) =
-    subst (λ bytes. IfOk c.run_script.result (ClosesScript (AllOwn k) options.session k.history bytes old new c.args.messages.now.counts c.run_script.new.messages.counts)) c.as_slice-in-Ok.ensures.value c.run_script.ensures.closes in
+    subst (λ bytes. IfOk c.run_script.result (ClosesScript (AllOwn k) options.session k.history bytes old new c.args.messages.now.counts c.run_script.new.messages.counts)) c.as_slice-in-Ok-2.ensures.value c.run_script.ensures.closes in
     closes_if options _ _ map_bytes _ k old new c.args.messages.now.counts c.run_script.new.messages.counts c.run_script.result c.in_ok-map_bytes.ensures.bytes c.in_ok-script_bytes.ensures.bytes kept closes
 
 pub returns-in-Ok-clause-stops : goal.returns-in-Ok-clause-stops
@@ -49,7 +50,7 @@ returns-in-Ok-clause-stops g c =
     subst (λ o. OpensHistory o options.history map_bytes first) c.as_ref.ensures.value
     (subst (λ bytes. OpensHistory (option_copied c.as_ref.result) options.history bytes first) c.as_slice.ensures.value c.in-Ok.ensures.opens) in
     let stops : IfErr c.run_script.result (StopsScript options.session first c.in_ok-script_bytes.script_bytes.items old new) =
-    subst (λ bytes. IfErr c.run_script.result (StopsScript options.session first bytes old new)) c.as_slice-in-Ok.ensures.value (c.run_script.ensures.stops c.in-Ok.ensures.elaborates) in
+    subst (λ bytes. IfErr c.run_script.result (StopsScript options.session first bytes old new)) c.as_slice-in-Ok-2.ensures.value (c.run_script.ensures.stops c.in-Ok.ensures.elaborates) in
     stops_if options _ _ map_bytes _ first old new c.run_script.result c.in_ok-map_bytes.ensures.bytes c.in_ok-script_bytes.ensures.bytes opens stops
 
 pub returns-in-Ok-clause-bound : goal.returns-in-Ok-clause-bound
@@ -81,3 +82,13 @@ returns-in_err-script_bytes-clause-stops g c =
 pub returns-clause-stops : goal.returns-clause-stops
 returns-clause-stops g c = λ rdl header session.
     unwritten c.args.options.now (g.M.Read.remaining c.args.map.now.reader.now) (g.S.Read.remaining c.args.script.now.reader.now) Memory (outputs (g.E.Write.contents c.args.messages.now.writer.now) rdl header session) memory≢write
+
+pub returns-in-Ok-clause-edited : goal.returns-in-Ok-clause-edited
+returns-in-Ok-clause-edited g c =
+    edited_of c.args.options.now.edited (g.M.Read.remaining c.args.map.now.reader.now) c.in_ok-map_bytes.map_bytes.items c.as_slice-in-Ok.result.now c.run_script.result
+    c.in_ok-map_bytes.ensures.bytes c.as_slice-in-Ok.ensures.value c.run_script.ensures.edited
+
+pub returns-in-Err-Refused-clause-edited : goal.returns-in-Err-Refused-clause-edited
+returns-in-Err-Refused-clause-edited g c =
+    none_edited c.args.options.now.edited (g.M.Read.remaining c.args.map.now.reader.now) c.in_ok-map_bytes.map_bytes.items c.refused.result
+    c.in_ok-map_bytes.ensures.bytes c.refused.ensures.status c.refused.ensures.edited
