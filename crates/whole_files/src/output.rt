@@ -1,5 +1,6 @@
 //! Texts, and the files to which they go.
-ghost use Rattle.whole_files.specs.Outputs.{IsAt};
+ghost use Rattle.std.specs.Prelude.{IfErr, OnOk};
+ghost use Rattle.whole_files.specs.Outputs.{AreOf, IsAt, IsAtOne, IsAtWaiting};
 
 use crate::beside::Beside;
 use crate::leftover::take_leftovers;
@@ -93,8 +94,11 @@ fn prepare_all<'p, R: Files<File = File>>(
     alloc: Global,
     outputs: &[Output<'p, '_>],
     waiting: &mut Vec<Waiting<'p>>,
-) -> Result<(), OutputFault<'p>> {
-    for output in outputs {
+) -> Result<(), OutputFault<'p>>
+    ensures named { IfErr result (IsAtOne outputs.now) }
+    ensures of { AreOf outputs.now waiting.old.items → OnOk result (AreOf outputs.now waiting.new.items) }
+{
+    'outputs: for output in outputs {
         let path = output.path;
         match prepare(rt, alloc, *output) {
             Ok(Some(beside)) => {
@@ -116,12 +120,23 @@ fn remove_all<R: Files>(rt: &R, waiting: &[Waiting<'_>]) {
     }
 }
 
-/// Puts each new file into the place of its old one. At the first where that fails, it and those after it are taken away.
-fn take_places<'p, R: Files>(rt: &R, waiting: &[Waiting<'p>]) -> Result<(), OutputFault<'p>> {
-    for (at, one) in waiting.iter().enumerate() {
-        if let Err(error) = one.beside.take_place(rt) {
-            remove_all(rt, &waiting[at..]);
-            return Err(fault_at(one.path, error));
+fn take_place<'p, R: Files>(rt: &R, one: &Waiting<'p>) -> Result<(), OutputFault<'p>>
+    ensures { IfErr result (IsAt one.now.path.now) }
+{
+    match one.beside.take_place(rt) {
+        Ok(()) => Ok(()),
+        Err(error) => Err(fault_at(one.path, error)),
+    }
+}
+
+/// Puts each new file into the place of its old one. At the first where that fails, those that have none yet are taken away.
+fn take_places<'p, R: Files>(rt: &R, waiting: &[Waiting<'p>]) -> Result<(), OutputFault<'p>>
+    ensures { IfErr result (IsAtWaiting waiting.now) }
+{
+    for one in waiting {
+        if let Err(fault) = take_place(rt, one) {
+            remove_all(rt, waiting);
+            return Err(fault);
         }
     }
     Ok(())
@@ -138,17 +153,41 @@ fn sync_folder<R: Files>(rt: &R, folder: &str) -> io::Result<()> {
     }
 }
 
+/// Syncs the folder of a file that was replaced.
+fn sync_folder_of<'p, R: Files>(rt: &R, one: &Waiting<'p>) -> Result<(), OutputFault<'p>>
+    ensures { IfErr result (IsAt one.now.path.now) }
+{
+    match sync_folder(rt, one.beside.folder()) {
+        Ok(()) => Ok(()),
+        Err(error) => Err(fault_at(one.path, error)),
+    }
+}
+
 /// Syncs the folder of each file that was replaced, once where files of one folder follow each other.
-fn sync_folders<'p, R: Files>(rt: &R, waiting: &[Waiting<'p>]) -> Result<(), OutputFault<'p>> {
+fn sync_folders<'p, R: Files>(rt: &R, waiting: &[Waiting<'p>]) -> Result<(), OutputFault<'p>>
+    ensures { IfErr result (IsAtWaiting waiting.now) }
+{
     let mut synced = "";
     for one in waiting {
         let folder = one.beside.folder();
         if folder != synced {
-            sync_folder(rt, folder).map_err(|error| fault_at(one.path, error))?;
+            if let Err(fault) = sync_folder_of(rt, one) {
+                return Err(fault);
+            }
         }
         synced = folder;
     }
     Ok(())
+}
+
+/// Puts the new files into the places of their old ones, and writes to the disk that they stand there.
+fn replace_all<'p, R: Files>(rt: &R, waiting: &[Waiting<'p>]) -> Result<(), OutputFault<'p>>
+    ensures { IfErr result (IsAtWaiting waiting.now) }
+{
+    match take_places(rt, waiting) {
+        Ok(()) => sync_folders(rt, waiting),
+        Err(fault) => Err(fault),
+    }
 }
 
 /// Replaces the files by the texts, each file whole. Before the first is replaced all texts are on the disk, so that want of
@@ -159,12 +198,14 @@ pub fn write_whole<'p, R: Files<File = File>>(
     rt: &R,
     alloc: Global,
     outputs: &[Output<'p, '_>],
-) -> Result<(), OutputFault<'p>> {
+) -> Result<(), OutputFault<'p>>
+    // A fault that names a file names that of one of these outputs.
+    ensures named { IfErr result (IsAtOne outputs.now) }
+{
     let mut waiting = Vec::new(alloc);
     if let Err(fault) = prepare_all(rt, alloc, outputs, &mut waiting) {
         remove_all(rt, waiting.as_slice());
         return Err(fault);
     }
-    take_places(rt, waiting.as_slice())?;
-    sync_folders(rt, waiting.as_slice())
+    replace_all(rt, waiting.as_slice())
 }
