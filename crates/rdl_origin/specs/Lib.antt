@@ -1,0 +1,7 @@
+pub mod Back
+pub mod Codes
+pub mod Falls
+pub mod Numbered
+pub mod Shape
+pub mod Traces
+pub mod View

@@ -1,0 +1,6 @@
+pub mod Scanning
+pub mod Views
+pub mod Spans
+pub mod Laying
+pub mod Whole
+pub mod Items

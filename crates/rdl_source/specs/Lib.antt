@@ -1,0 +1,8 @@
+pub mod Gap
+pub mod Laid
+pub mod Codes
+pub mod View
+pub mod Falls
+pub mod LaidText
+pub mod LaidOut
+pub mod Worded

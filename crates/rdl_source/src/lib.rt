@@ -1,0 +1,10 @@
+//! The statements of a source text, with the blanks and comments that stand around them.
+#![tactic(auto)]
+
+pub mod gap;
+mod lay;
+pub mod span;
+pub mod statement;
+#[cfg(test)]
+mod tests;
+mod walk;
