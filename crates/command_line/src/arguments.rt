@@ -9,6 +9,10 @@ use std::alloc::{AllocError, Global};
 /// The version of the programs, which `--version` prints.
 const VERSION: &str = "1.0.0";
 
+const MAP_HELP: &str = "The register map to edit, or - for standard input";
+
+const SCRIPT_HELP: &str = "The edits, one on each line, or - for standard input";
+
 fn operand<'a>(alloc: Global, id: &'a str, name: &'a str, help: &'a str) -> Arg<'a>
     ensures rule { rule_of result ≡ operand_rule id.entry.now }
     ensures own { result.global ≡ false }
@@ -105,18 +109,8 @@ pub(crate) fn regedit_command<'a>(alloc: Global) -> Result<Command<'a>, AllocErr
         alloc,
         "regedit",
         "Edits a register map by a script, and writes the map and its C header",
-        operand(
-            alloc,
-            "map",
-            "MAP",
-            "The register map to edit, or - for standard input",
-        ),
-        operand(
-            alloc,
-            "script",
-            "SCRIPT",
-            "The edits, one on each line, or - for standard input",
-        ),
+        operand(alloc, "map", "MAP", MAP_HELP),
+        operand(alloc, "script", "SCRIPT", SCRIPT_HELP),
     )?
     .arg(output(
         alloc,
