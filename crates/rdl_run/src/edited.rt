@@ -42,19 +42,20 @@ pub enum Unwoven {
     NoSource,
 }
 
-/// Which items of the last map those of the first one became, if the steps lead back to it.
+/// Which items of the last map those of the first one became, to which the steps lead back. It stops at a step that leads nowhere,
+/// which no journal has.
 fn origins_of(
     alloc: Global,
     last: &Description,
     steps: &[&[Patch]],
-) -> Result<Option<Origins>, AllocError> {
+) -> Result<Origins, AllocError> {
     let mut origins = Origins::new(alloc, last)?;
     for step in steps {
         if !origins.go_back(alloc, step)? {
-            return Ok(None);
+            return Ok(origins);
         }
     }
-    Ok(Some(origins))
+    Ok(origins)
 }
 
 /// The source with the edits of the journal woven in. The canonical text is that of the journal's map.
@@ -70,9 +71,7 @@ fn woven(
 {
     let steps = steps_back(alloc, journal)?;
     let last = journal.map().description();
-    let Some(origins) = origins_of(alloc, last, steps.as_slice())? else {
-        return Ok(Edited::Missing(Unwoven::NotWoven));
-    };
+    let origins = origins_of(alloc, last, steps.as_slice())?;
     match weave(alloc, source, &origins, last, canonical) {
         Ok(text) => Ok(Edited::Woven(text)),
         Err(WeaveFault::TooLong) => Ok(Edited::Missing(Unwoven::TooLong)),
