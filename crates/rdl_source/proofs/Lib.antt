@@ -4,3 +4,4 @@ pub mod Spans
 pub mod Laying
 pub mod Whole
 pub mod Items
+pub mod One

@@ -1,10 +1,13 @@
 //! Statements and bodies, from the front to the back.
-ghost use Rattle.std.specs.Prelude.{◌≡◌, ◌≤◌, ◌<◌, length, IfSome, IfOk};
-ghost use Rattle.rdl_source.specs.Laid.{ended};
+ghost use Rattle.std.specs.Prelude.{◌≡◌, ℕ, ◌≤◌, ◌<◌, length, Option, IfSome, IfOk};
+ghost use Rattle.rdl_source.specs.declared.statement.Inner.{Inner};
+ghost use Rattle.rdl_source.specs.Laid.{Laid, ended, depth};
 ghost use Rattle.rdl_source.specs.View.{put};
 ghost use Rattle.rdl_source.specs.LaidOut.{Lie};
 ghost use Rattle.rdl_source.specs.Worded.{IsWorded};
+ghost use Rattle.rdl_source.specs.Only.{inside_depth, IsWording, IsBody};
 
+use crate::gap::byte_at;
 use crate::span::Span;
 use crate::statement::{Inner, Statement, Statements};
 use crate::walk::{Gap, Spot, Stop, gap_at, inside_first, items_in, stop_from};
@@ -64,6 +67,7 @@ pub(crate) fn read_body(
 ) -> Result<Option<Body>, AllocError>
     ensures lie { IfOk result (λ o. IfSome o (λ b. Lie text.now words.now b.statements begin.left begin.at b.begin begin.word places.now b.close b.word)) }
     ensures forward { IfOk result (λ o. IfSome o (λ b. begin.word ≤ b.word)) }
+    ensures only { IfOk result (λ o. (laid : Laid) (to close n : ℕ) → Lie text.now words.now laid begin.left begin.at to begin.word places.now close n → depth laid ≤ levels → IsBody o laid to close n) }
 {
     let Some(first) = gap_at(text, words, begin) else {
         return Ok(None);
@@ -122,6 +126,7 @@ fn read_words(
     ensures forward { IfOk result (λ o. IfSome o (λ w. word ≤ w.end.word)) }
     ensures word { IfOk result (λ o. IfSome o (λ w. w.end.word < length words.now)) }
     ensures small { IfOk result (λ o. IfSome o (λ w. w.end.word < usize.MAX)) }
+    ensures only { IfOk result (λ o. (inside : Option Inner) (j at : ℕ) → IsWorded text.now words.now places.now inside from word j at → inside_depth inside ≤ levels → IsWording o inside j at) }
     ensures at { IfOk result (λ o. IfSome o (λ w. w.end.at < length text.now)) }
 {
     let Some(stop) = stop_from(text, words, word, from) else {
@@ -137,13 +142,19 @@ fn read_words(
             inside: None,
         }));
     }
-    if text[stop.at] != b'{' || levels == 0 {
+    if text[stop.at] != b'{' {
+        return Ok(None);
+    }
+    if levels == 0 {
         return Ok(None);
     }
     let Some(body) = read_body(alloc, text, words, inner, stop.behind(), levels - 1)? else {
         return Ok(None);
     };
-    if body.word >= words.len() || body.close >= text.len() || text[body.close] != b'}' {
+    if body.word >= words.len() {
+        return Ok(None);
+    }
+    if byte_at(text, body.close) != b'}' {
         return Ok(None);
     }
     let Some(end) = stop_from(text, words, body.word + 1, body.close) else {
