@@ -1,5 +1,5 @@
 -- One patch of a step, and those behind it.
-use Rattle.std.proofs.Common.{◌≡◌, ℕ, suc, ◌+◌, ◌<◌, ◌≤◌, length, Bool, true, false, IsTrue, List, [], ◌∷◌, drop, get_or, refl, ap, sym, ◌∙◌, arith, drop-cons, add-one}
+use Rattle.std.proofs.Common.{◌≡◌, ℕ, suc, ◌+◌, ◌<◌, ◌≤◌, length, Bool, true, false, List, ◌∷◌, drop, get_or, ap, sym, ◌∙◌, drop-cons, add-one}
 use Rattle.std.specs.Prelude.{nat_le, ◌&&◌}
 use Rattle.std.proofs.lemmas.List.{drop_all}
 use Rattle.rdl_tree.specs.Address.{holder_of, number_of}

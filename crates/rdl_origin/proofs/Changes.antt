@@ -1,8 +1,8 @@
 -- What a change of the items at the end of a way does.
 use Rattle.std.proofs.Common.{◌≡◌, ℕ, zero, suc, ◌<◌, ◌≤◌, length, Bool, false, List, [], ◌∷◌, Option, Some, None, refl, ap, sym, ◌∙◌}
 use Rattle.std.specs.Prelude.{slice_get, slice_set, option_map, option_and_then}
-use Rattle.rdl_origin.specs.Traces.{Traces, no_traces, trace, inside_of, map_item, traces_at, map_inside}
-use Rattle.rdl_origin.specs.View.{add, traces_of, list_of}
+use Rattle.rdl_origin.specs.Traces.{Traces, trace, inside_of, map_item, traces_at, map_inside}
+use Rattle.rdl_origin.specs.View.{add, traces_of}
 use Rattle.rdl_origin.specs.Back.{change, changed, has_place, has_place_in}
 use Rattle.rdl_origin.specs.declared.origin.Origin.{Origin}
 use Rattle.rdl_tree.specs.declared.patch.Patch.{Patch}

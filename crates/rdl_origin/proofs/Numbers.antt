@@ -1,7 +1,7 @@
 -- Loops over the items of a body that number them, or don't.
-use Rattle.std.proofs.Common.{◌≡◌, ℕ, zero, suc, ◌+◌, ◌<◌, ◌≤◌, length, min, false, List, [], ◌∷◌, ◌++◌, take, take_all, drop, get_or, map, Option, Some, None, refl, ap, sym, ◌∙◌, arith, drop-cons, add-one, append_assoc}
+use Rattle.std.proofs.Common.{◌≡◌, ℕ, zero, suc, ◌+◌, ◌<◌, ◌≤◌, length, false, List, [], ◌∷◌, ◌++◌, take, take_all, drop, get_or, map, Option, Some, None, refl, ap, sym, ◌∙◌, arith, drop-cons, add-one, append_assoc}
 use Rattle.std.proofs.lemmas.List.{drop_all, append-nil}
-use Rattle.rdl_tree.specs.Items.{Items, no_items, plain, holder, named, own, default, dynamic, define, anonymous, count}
+use Rattle.rdl_tree.specs.Items.{Items, no_items, plain, holder, count}
 use Rattle.rdl_tree.specs.View.{add, items_of, own_body}
 use Rattle.rdl_tree.specs.declared.description.Item.{Item}
 use Rattle.rdl_tree.specs.declared.description.Item.TheVariants.{Define, Instance, Own, Default, Dynamic}

@@ -1,8 +1,8 @@
 -- Traces and their list are one another's images.
-use Rattle.std.proofs.Common.{◌≡◌, ℕ, zero, suc, List, [], ◌∷◌, Option, Some, None, refl, ap, sym, ◌∙◌}
+use Rattle.std.proofs.Common.{◌≡◌, ℕ, zero, suc, List, [], ◌∷◌, refl, ap}
 use Rattle.std.specs.Prelude.{slice_get, option_map}
 use Rattle.rdl_origin.specs.Traces.{Traces, no_traces, trace, inside_of}
-use Rattle.rdl_origin.specs.View.{add, traces_of, list_of}
+use Rattle.rdl_origin.specs.View.{traces_of, list_of}
 use Rattle.rdl_origin.specs.declared.origin.Origin.{Origin}
 
 pub list_of-traces_of : (os : List Origin) → list_of (traces_of os) ≡ os

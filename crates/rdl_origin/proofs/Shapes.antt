@@ -1,6 +1,6 @@
 -- Origins that nest as a description does, and what a patch that fits makes of both.
-use Rattle.std.proofs.Common.{◌≡◌, ℕ, zero, suc, ◌+◌, ◌<◌, ◌≤◌, length, Bool, true, false, IsTrue, List, [], ◌∷◌, ◌++◌, take, drop, map, Option, Some, None, refl, ap, ap₂, sym, ◌∙◌, arith, subst}
-use Rattle.std.specs.Prelude.{slice_get, slice_set, insert, remove, option_map, option_and_then, is_some, nat_le, nat_lt, ◌&&◌}
+use Rattle.std.proofs.Common.{◌≡◌, ℕ, zero, suc, ◌+◌, ◌≤◌, length, false, IsTrue, List, [], ◌∷◌, ◌++◌, take, drop, map, Option, Some, None, refl, ap, ap₂, sym, ◌∙◌, arith}
+use Rattle.std.specs.Prelude.{slice_get, slice_set, insert, remove, option_map, option_and_then, nat_le, ◌&&◌}
 use Rattle.std.specs.List.{take-map, drop-map}
 use Rattle.std.proofs.lemmas.List.{map-append, length-map}
 use Rattle.std.proofs.lemmas.Option.{slice_get-map}
@@ -10,7 +10,7 @@ use Rattle.rdl_tree.specs.View as tree
 use Rattle.rdl_tree.specs.Address.{holder_of, number_of, inner, map_inner, body_at, map_body}
 use Rattle.rdl_tree.specs.ItemAt.{item_at}
 use Rattle.rdl_tree.specs.Edit.{insert_item, remove_item, shift_item}
-use Rattle.rdl_tree.specs.Part.{has_part, with_part, with_part_at}
+use Rattle.rdl_tree.specs.Part.{with_part, with_part_at}
 use Rattle.rdl_tree.specs.Patch.{patched, image, fits, AllFit}
 use Rattle.rdl_tree.specs.declared.description.Item.{Item}
 use Rattle.rdl_tree.specs.declared.description.Item.TheVariants.{Define, Instance, Own, Default, Dynamic}
@@ -22,11 +22,11 @@ use Rattle.rdl_tree.specs.declared.patch.Patch.TheVariants.{Insert, Delete, Shif
 use Rattle.rdl_tree.proofs.Rounds as tree_rounds
 use Rattle.rdl_tree.proofs.Edits.{get-within}
 use Rattle.rdl_tree.proofs.Nesting.{level-length}
-use Rattle.rdl_tree.proofs.Places.{Stands, stands, the_item}
-use Rattle.rdl_tree.proofs.Undone.{HasBody, place_in, item_in, part_in, shift_is, exchange_is}
+use Rattle.rdl_tree.proofs.Places.{stands, the_item}
+use Rattle.rdl_tree.proofs.Undone.{place_in, item_in, part_in, shift_is, exchange_is}
 use Rattle.rdl_origin.specs.Traces.{Traces, no_traces, trace, inside_of, map_item, traces_at, map_inside}
 use Rattle.rdl_origin.specs.View.{traces_of, list_of}
-use Rattle.rdl_origin.specs.Numbered.{numbered, origins_of, unnumbered, unnumbered_body, unnumbered_item}
+use Rattle.rdl_origin.specs.Numbered.{numbered, unnumbered, unnumbered_item}
 use Rattle.rdl_origin.specs.Back.{moved, touched, put_in, put_at, changed, has_place, has_place_in, gone_back, all_gone_back, is_placed, are_placed}
 use Rattle.rdl_origin.specs.Shape.{shape}
 use Rattle.rdl_origin.specs.declared.origin.Origin.{Origin}

@@ -1,7 +1,7 @@
 -- What a step back makes of the items of the map that was reached: the patches lead on towards the first map, and each item
 -- keeps the number that it has in the last one.
 -- own: SystemRDL 2.0 has no edits.
-use Rattle.std.specs.Prelude.{ℕ, ◌==◌, Bool, true, false, ◌&&◌, ◌||◌, not, IsTrue, nat_le, nat_lt, List, [], ◌∷◌, length, Option, Some, None, option_map, insert, remove, slice_get, slice_set}
+use Rattle.std.specs.Prelude.{ℕ, ◌==◌, Bool, true, false, ◌&&◌, ◌||◌, not, nat_le, nat_lt, List, [], ◌∷◌, length, Option, Some, None, option_map, insert, remove, slice_get, slice_set}
 use Rattle.rdl_tree.specs.Address.{holder_of, number_of}
 use Rattle.rdl_tree.specs.Patch.{address_of}
 use Rattle.rdl_tree.specs.declared.patch.Patch.{Patch}
