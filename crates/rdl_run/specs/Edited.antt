@@ -1,5 +1,5 @@
 -- The edited text: that of MAP with only the edits woven in. Own.
-use Rattle.std.specs.Prelude.{◌≡◌, ◌⊎◌, ⊤, ⊥, ℕ, List, Bool, true, false, Option, IsUtf8, string_bytes}
+use Rattle.std.specs.Prelude.{◌≡◌, ◌⊎◌, ⊤, ℕ, List, Bool, true, false, Option, IsUtf8, string_bytes}
 use Rattle.rdl_weave.specs.Spelled.{SpellsAs}
 use Rattle.rdl_run.specs.Known.{Gives}
 use Rattle.rdl_run.specs.Sessions.{is_session}
