@@ -5,3 +5,4 @@ pub mod Laying
 pub mod Whole
 pub mod Items
 pub mod One
+pub mod NoWord

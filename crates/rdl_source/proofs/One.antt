@@ -38,7 +38,7 @@ pub some_one : {A : Type 0} (x y : A) → Some x ≡ Some y → x ≡ y
 unfolding of_some
 some_one x y e = ap (of_some x) e
 
-none≢some : {A : Type 0} (x : A) → None ≡ Some x → ⊥
+pub none≢some : {A : Type 0} (x : A) → None ≡ Some x → ⊥
 none≢some {A} x e = let f : Option A → Bool = λ o. elim o [ None ↦ false | Some y ↦ true ] in false≢true (ap f e)
 
 pub stands_one : (source : List ℕ) (r r' : Right) (e e' : ℕ) (o : Option ℕ) → StandsBehind source r e o → StandsBehind source r' e' o → (r ≡ r') × (e ≡ e')

@@ -7,3 +7,4 @@ pub mod LaidText
 pub mod LaidOut
 pub mod Worded
 pub mod Only
+pub mod NoWord
