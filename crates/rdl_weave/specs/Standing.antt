@@ -1,12 +1,12 @@
 -- What of one text stands in another.
 -- own: SystemRDL 2.0 knows no second text.
-use Rattle.std.specs.Prelude.{◌≡◌, ℕ, List, ◌++◌, IsTrue, slice_range}
-use Rattle.std.specs.List.{All}
+use Rattle.std.specs.Prelude.{◌≡◌, ℕ, List, [], ◌∷◌, ◌++◌, IsTrue, slice_range}
 use Rattle.rdl_text.specs.Words.{is_blank}
 use Rattle.rdl_source.specs.declared.span.Span.{Span}
 
 abbrev pub AreBlanks : List ℕ → Type 0
-AreBlanks s = All (λ c. IsTrue (is_blank c)) s
+AreBlanks [] = Unit {0}
+AreBlanks (c ∷ s) = IsTrue (is_blank c) × AreBlanks s
 
 -- the bytes, without some of the blanks in front and at the end
 pub record Trims (bytes core : List ℕ) : Type 0 where

@@ -1,4 +1,6 @@
 //! Looks at the bytes of a text.
+ghost use Rattle.std.specs.Prelude.{◌≡◌};
+ghost use Rattle.rdl_text.specs.Words.{is_blank};
 
 use rdl_source::span::Span;
 use std::str;
@@ -16,7 +18,9 @@ pub(crate) fn slice(text: &[u8], span: Span) -> &[u8] {
     part(text, span.from, span.to)
 }
 
-pub(crate) fn is_blank(byte: u8) -> bool {
+pub(crate) fn is_blank(byte: u8) -> bool
+    ensures { result ≡ is_blank byte }
+{
     byte == b' ' || (byte > 8 && byte < 14)
 }
 

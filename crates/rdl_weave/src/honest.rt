@@ -37,7 +37,7 @@ fn split(origins: &[Origin], count: usize) -> (&[Origin], &[Origin])
 
 /// Whether the item is still there, and had items inside.
 fn holds_items(origin: &Origin) -> bool
-    ensures { result ≡ spec.holds_items origin.now }
+    ensures { result ≡ spec.holds_items origin.entry.now }
 {
     origin.now.is_some() && !origin.inside.is_empty()
 }

@@ -1,40 +1,43 @@
 //! Whether what a span of the source has stands in another text.
-ghost use Rattle.std.specs.Prelude.{IsTrue};
-ghost use Rattle.rdl_weave.specs.Standing.{Trims, Occurs, Stands};
+ghost use Rattle.std.specs.Prelude.{◌≤◌, IsTrue, length, take, drop};
+ghost use Rattle.rdl_weave.specs.Standing.{AreBlanks, Occurs, Stands};
 
 use crate::bytes::is_blank;
 use crate::woven::Kept;
 use rdl_source::span::Span;
 
-/// The bytes behind the blanks that stand in front.
-fn behind_blanks(bytes: &[u8]) -> &[u8]
-    ensures { Trims bytes.now result.now }
+/// How many blanks stand in front.
+#[tactic(auto, using(crate::proofs::Blanks::front_more))]
+fn front_blanks(bytes: &[u8]) -> usize
+    ensures within { result ≤ length bytes.now }
+    ensures blanks { AreBlanks (take result bytes.now) }
 {
-    let mut rest = bytes;
-    'blanks: while let [first, others @ ..] = rest {
-        if !is_blank(*first) {
-            break;
+    'blanks: for (index, byte) in bytes.iter().enumerate() {
+        if !is_blank(*byte) {
+            return index;
         }
-        rest = others;
     }
-    rest
+    bytes.len()
 }
 
-/// The bytes before the blanks that stand at the end.
-fn before_blanks(bytes: &[u8]) -> &[u8]
-    ensures { Trims bytes.now result.now }
+/// How many bytes stand before the blanks at the end.
+#[tactic(auto, using(crate::proofs::Blanks::back_none, crate::proofs::Blanks::back_more))]
+fn before_blanks(bytes: &[u8]) -> usize
+    ensures within { result ≤ length bytes.now }
+    ensures blanks { AreBlanks (drop result bytes.now) }
 {
-    let mut rest = bytes;
-    'blanks: while let [others @ .., last] = rest {
-        if !is_blank(*last) {
-            break;
+    let mut end = bytes.len();
+    'blanks: while end > 0 {
+        if !is_blank(bytes[end - 1]) {
+            return end;
         }
-        rest = others;
+        end -= 1;
     }
-    rest
+    end
 }
 
 /// Whether the bytes stand at a place of the text.
+#[tactic(auto, using(crate::proofs::Blanks::occurs_at))]
 fn occurs(bytes: &[u8], text: &[u8], at: usize) -> bool
     ensures { IsTrue result → Occurs bytes.now text.now }
 {
@@ -64,7 +67,8 @@ pub(crate) fn stands(source: &[u8], span: Span, text: &[u8], kept: &[Kept]) -> b
         return false;
     }
     let bytes = &source[span.from..span.to];
-    let rest = behind_blanks(bytes);
-    let from = span.to.saturating_sub(rest.len());
-    occurs(before_blanks(rest), text, place_of(kept, from))
+    let front = front_blanks(bytes);
+    let rest = &bytes[front..];
+    let end = before_blanks(rest);
+    occurs(&rest[..end], text, place_of(kept, span.from + front))
 }

@@ -1,10 +1,10 @@
 //! Which statements no edit touched.
-ghost use Rattle.std.specs.Prelude.{◌≡◌, ◌++◌, ◌∷◌, [], OnOk};
+ghost use Rattle.std.specs.Prelude.{◌≡◌, ◌+◌, ◌++◌, ◌∷◌, [], true, false, MatchOption, OnOk};
 ghost use Rattle.rdl_tree.specs.Items.{no_items};
 ghost use Rattle.rdl_tree.specs.View.{add};
 ghost use Rattle.rdl_origin.specs.View.{traces_of};
 ghost use Rattle.rdl_weave.specs.Untouched as spec;
-ghost use Rattle.rdl_weave.specs.Untouched.{sizes_of, behind};
+ghost use Rattle.rdl_weave.specs.Untouched.{sizes_of, is_now, behind};
 
 use rdl_origin::origin::{Origin, Origins};
 use rdl_tree::description::{Body, Item};
@@ -42,25 +42,31 @@ fn ends_before(sizes: &[u64], number: u64, end: u64) -> bool
     }
 }
 
-/// Whether the item is in the last map with this number.
-fn is_now(now: Option<u32>, number: u64) -> bool
-    ensures { result ≡ spec.is_now number now }
+/// The number behind this one, if it is the one that the item has in the last map.
+fn next_of(now: Option<u32>, number: u64) -> Option<u64>
+    ensures { MatchOption result (is_now number now ≡ false) (λ next. (is_now number now ≡ true) × (next ≡ number + 1)) }
 {
     match now {
-        Some(now) => u64::from(now) == number,
-        None => false,
+        Some(now) if u64::from(now) == number => Some(u64::from(now) + 1),
+        _ => None,
     }
 }
 
 /// The number behind those of the item and what is inside it.
 #[cycle(behind)]
+#[tactic(auto, using(crate::proofs::Behind::behind_touched, crate::proofs::Behind::behind_other, crate::proofs::Behind::behind_none, crate::proofs::Behind::behind_some, crate::proofs::Behind::behind_longer))]
 pub(crate) fn behind_item(sizes: &[u64], number: u64, origin: &Origin) -> Option<u64>
-    ensures { result ≡ behind sizes.now number (traces_of (origin.now ∷ [])) }
+    ensures { result ≡ behind sizes.now number (traces_of (origin.entry.now ∷ [])) }
 {
-    if origin.is_touched || !is_now(origin.now, number) {
+    if origin.is_touched {
         return None;
     }
-    let end = behind_all(sizes, number + 1, origin.inside.as_slice())?;
+    let Some(next) = next_of(origin.now, number) else {
+        return None;
+    };
+    let Some(end) = behind_all(sizes, next, origin.inside.as_slice()) else {
+        return None;
+    };
     if ends_before(sizes, number, end) {
         Some(end)
     } else {
