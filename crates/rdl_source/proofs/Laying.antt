@@ -35,14 +35,15 @@ follow_with : (source : List ℕ) (ws : List Word) (b : Bare) (inside : Option I
 follow_with source ws b None l at to k ps j end g w h laid close n rest = (g, j, end, w.0, w.1, h, rest)
 follow_with source ws b (Some i) l at to k ps j end g w h laid close n rest = (g, w.0, w.1, w.2, w.3, w.4, w.5, j, end, w.6, h, rest)
 
-pub one_done : (source : List ℕ) (ws : List Word) (begin : Spot) (first : ℕ) (places : List ItemPlace) (list list' : List Statement) (spot : Spot) (to : ℕ) (ps others : List ItemPlace) (s : Statement) (r : Right) (j end : ℕ)
+pub one_done : (source : List ℕ) (ws : List Word) (begin : Spot) (first : ℕ) (places : List ItemPlace) (list list' : List Statement) (spot spot' : Spot) (to : ℕ) (ps others : List ItemPlace) (s : Statement) (r : Right) (j end : ℕ)
     → Done source ws begin first places list spot to ps
     → IsGap source ws spot.left r spot.at spot.word s.words.from to s.float s.lead → r ≡ right.Statement
     → IsWorded source ws ps s.inside s.words.from spot.word j end → Has end ps (bare_of s) → others ≡ from_item s.items ps → list' ≡ list ++ (s ∷ [])
-    → Done source ws begin first places list' (record { left = left.Word; at = s.words.to; word = j + 1 }) s.trail.to others
-one_done source ws begin first places list list' spot to ps others s r j end done g e w h o more laid close n k =
+    → spot' ≡ record { left = left.Word; at = s.words.to; word = j + 1 } → Done source ws begin first places list' spot' s.trail.to others
+one_done source ws begin first places list list' spot spot' to ps others s r j end done g e w h o more at laid close n k =
     let gap = subst (λ q. IsGap source ws spot.left q spot.at spot.word s.words.from to s.float s.lead) e g in
-    let behind = subst (λ us. Lie source ws laid left.Word s.words.to s.trail.to (j + 1) us close n) o k in
+    let there = subst (λ (q : Spot). Lie source ws laid q.left q.at s.trail.to q.word others close n) at k in
+    let behind = subst (λ us. Lie source ws laid left.Word s.words.to s.trail.to (j + 1) us close n) o there in
     let all = done (add s laid) close n (follow_with source ws (bare_of s) s.inside spot.left spot.at to spot.word ps j end gap w h laid close n behind) in
     subst (λ l. Lie source ws l begin.left begin.at first begin.word places close n) (sym (ap (λ xs. put xs laid) more ∙ put-more list s laid)) all
 

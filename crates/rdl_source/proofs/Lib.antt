@@ -4,3 +4,5 @@ pub mod Spans
 pub mod Laying
 pub mod Whole
 pub mod Items
+pub mod One
+pub mod NoWord

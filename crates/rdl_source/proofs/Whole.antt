@@ -13,20 +13,20 @@ use Rattle.rdl_source.specs.declared.gap.Right.{Right}
 use Rattle.rdl_source.specs.declared.gap.Right.TheVariants as right
 use Rattle.rdl_source.specs.Laid.{Bare, Braces, Laid, ended, bare, braced}
 use Rattle.rdl_source.specs.LaidText.{part, laid_text}
-use Rattle.rdl_source.specs.LaidOut.{start_at, EndsAt, IsGap, BeginsIn, Has, Lie, IsLaidOut}
+use Rattle.rdl_source.specs.LaidOut.{start_at, StandsBehind, IsGap, BeginsIn, Has, Lie, IsLaidOut}
 use Rattle.rdl_source.proofs.Spans.{joined}
 
 -- ---- The end.
 
-pub end_at : (source : List ℕ) (ws : List Word) (laid : Laid) (l : Left) (at to k : ℕ) (ps : List ItemPlace) (close n : ℕ) → Lie source ws laid l at to k ps close n → EndsAt source close (start_at ws n)
-end_at source ws (ended last) l at to k ps close n h = subst (λ m. EndsAt source close (start_at ws m)) h.5 h.2.behind
+pub end_at : (source : List ℕ) (ws : List Word) (laid : Laid) (l : Left) (at to k : ℕ) (ps : List ItemPlace) (close n : ℕ) → Lie source ws laid l at to k ps close n → StandsBehind source right.End close (start_at ws n)
+end_at source ws (ended last) l at to k ps close n h = subst (λ m. StandsBehind source right.End close (start_at ws m)) h.5 h.2.behind
 end_at source ws (bare b rest) l at to k ps close n h = end_at source ws rest left.Word b.words.to b.trail.to (h.1 + 1) (from_item b.items ps) close n h.6
 end_at source ws (braced b br body rest) l at to k ps close n h = end_at source ws rest left.Word b.words.to b.trail.to (h.7 + 1) (from_item b.items ps) close n h.11
 
-pub whole_end : (source : List ℕ) (ws : List Word) (close n : ℕ) → EndsAt source close (start_at ws n) → n ≡ length ws → close ≡ length source
+pub whole_end : (source : List ℕ) (ws : List Word) (close n : ℕ) → StandsBehind source right.End close (start_at ws n) → n ≡ length ws → close ≡ length source
 whole_end source ws close n h e =
     let none : slice_get ws n ≡ None = slice_get_past ws n (omega (arith, e)) in
-    subst (λ o. EndsAt source close (option_map (λ (w : Word). w.start) o)) none h
+    subst (λ o. StandsBehind source right.End close (option_map (λ (w : Word). w.start) o)) none h
 
 pub laid_out : (source : List ℕ) (ws : List Word) (laid : Laid) (to : ℕ) (ps : List ItemPlace) (close n : ℕ) → Lie source ws laid left.Begin 0 to 0 ps close n → to ≡ 0 → n ≡ length ws → IsLaidOut source ws ps laid
 laid_out source ws laid to ps close n h first last =

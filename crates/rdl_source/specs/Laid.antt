@@ -1,6 +1,6 @@
 -- What a contract sees of the statements of a text.
 -- own: SystemRDL 2.0 says nothing of what stands around statements.
-use Rattle.std.specs.Prelude.{ℕ, ◌+◌}
+use Rattle.std.specs.Prelude.{ℕ, ◌+◌, max}
 use Rattle.rdl_source.specs.declared.span.Span.{Span}
 
 -- a statement without what stands between its braces: what floats before it, its lead, its words, its trail, and how many items of its body it spells
@@ -27,3 +27,9 @@ abbrev pub count : Laid → ℕ
 count (ended last) = 1
 count (bare b rest) = count rest + 1
 count (braced b br body rest) = count body + 1 + count rest
+
+-- how deep bodies nest
+abbrev pub depth : Laid → ℕ
+depth (ended last) = 0
+depth (bare b rest) = depth rest
+depth (braced b br body rest) = max (depth body + 1) (depth rest)

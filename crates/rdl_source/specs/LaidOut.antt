@@ -1,6 +1,6 @@
 -- Which statements those of a text are: what stands between words is cut as a gap, statements end at semicolons, bodies stand in braces, and each statement has its items.
 -- own: SystemRDL 2.0 says nothing of what stands around statements.
-use Rattle.std.specs.Prelude.{◌≡◌, ℕ, ◌+◌, ◌<◌, ◌≤◌, Bool, false, ◌||◌, nat_eq, if◌then◌else◌, List, [], ◌∷◌, length, drop, Option, Some, None, slice_range, slice_get}
+use Rattle.std.specs.Prelude.{◌≡◌, ℕ, ◌+◌, ◌<◌, ◌≤◌, Bool, true, false, ◌||◌, nat_eq, if◌then◌else◌, List, [], ◌∷◌, length, drop, Option, Some, None, slice_range, slice_get}
 use Rattle.std.specs.Option.{option_map}
 use Rattle.rdl_text.specs.Rows.{byte}
 use Rattle.rdl_text.specs.Word.{Word}
@@ -21,19 +21,16 @@ use Rattle.rdl_source.specs.Laid.{Bare, Laid, ended, bare, braced}
 abbrev pub start_at : List Word → ℕ → Option ℕ
 start_at ws k = option_map (λ w. w.start) (slice_get ws k)
 
--- a body ends at a byte: before a brace that closes, or with the text
-abbrev pub EndsAt : List ℕ → (close : ℕ) → Option ℕ → Type 0
-EndsAt source close None = close ≡ length source
-EndsAt source close (Some start) = (close ≡ start) × (byte source start ≡ 125)
-
--- behind a gap that ends at a byte stands the word k, or a body ends
-abbrev pub StandsBehind : List ℕ → List Word → Right → (end k : ℕ) → Type 0
-StandsBehind source ws right.Statement end k = start_at ws k ≡ Some end
-StandsBehind source ws right.End end k = EndsAt source end (start_at ws k)
+-- behind a gap that ends at a byte begins a word that is no brace that closes; or a body ends, with such a brace or with the text
+abbrev pub StandsBehind : List ℕ → Right → (end : ℕ) → Option ℕ → Type 0
+StandsBehind source right.Statement end None = ⊥
+StandsBehind source right.Statement end (Some start) = (end ≡ start) × (byte source start ≡ 125 → ⊥)
+StandsBehind source right.End end None = end ≡ length source
+StandsBehind source right.End end (Some start) = (end ≡ start) × (byte source start ≡ 125)
 
 -- From a byte up to the word k stands a gap. What of it belongs to the word before it ends at `to`, and behind that stand these two.
 pub record IsGap (source : List ℕ) (ws : List Word) (l : Left) (r : Right) (at k end to : ℕ) (float lead : Span) : Type 0 where
-  pub behind : StandsBehind source ws r end k
+  pub behind : StandsBehind source r end (start_at ws k)
   pub ordered : at ≤ end
   pub within : end ≤ length source
   pub parts : Parts
@@ -53,6 +50,7 @@ pub record IsStop (source : List ℕ) (ws : List Word) (behind k j at : ℕ) : T
   pub ordered : behind ≤ at
   pub there : start_at ws j ≡ Some at
   pub within : at < length source
+  pub mark : is_stop (byte source at) ≡ true
   pub first : (i b : ℕ) → k ≤ i → i < j → start_at ws i ≡ Some b → is_stop (byte source b) ≡ false
 
 -- it is a semicolon, a brace that opens

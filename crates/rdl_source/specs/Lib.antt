@@ -6,3 +6,5 @@ pub mod Falls
 pub mod LaidText
 pub mod LaidOut
 pub mod Worded
+pub mod Only
+pub mod NoWord

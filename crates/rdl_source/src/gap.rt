@@ -48,7 +48,7 @@ pub(crate) struct Scan {
 
 /// The byte at an index, or 0 past the end.
 #[inline]
-fn byte_at(bytes: &[u8], index: usize) -> u8
+pub(crate) fn byte_at(bytes: &[u8], index: usize) -> u8
     ensures { result ≡ slice_index bytes.now index }
 {
     bytes.get(index).copied().unwrap_or(0)

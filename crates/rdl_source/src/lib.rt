@@ -2,6 +2,7 @@
 #![tactic(auto)]
 
 pub mod gap;
+pub mod laws;
 mod lay;
 pub mod span;
 pub mod statement;

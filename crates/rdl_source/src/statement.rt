@@ -1,6 +1,6 @@
 //! The statements of a text.
-ghost use Rattle.std.specs.Prelude.{◌≡◌, IfSome, IfOk};
-ghost use Rattle.rdl_source.specs.Laid.{ended};
+ghost use Rattle.std.specs.Prelude.{◌≡◌, ◌≤◌, IfSome, IfOk};
+ghost use Rattle.rdl_source.specs.Laid.{Laid, ended, depth};
 ghost use Rattle.rdl_source.specs.View.{put, list_of, last_of};
 ghost use Rattle.rdl_source.specs.LaidText.{laid_text};
 ghost use Rattle.rdl_source.specs.LaidOut.{IsLaidOut};
@@ -84,6 +84,8 @@ impl Statements {
     ) -> Result<Option<Statements>, AllocError>
         // They are the text's, with its items.
         ensures laid { IfOk result (λ o. IfSome o (λ s. IsLaidOut text.now words.now places.now s)) }
+        // They are the only ones, and are answered where bodies nest at most 16 deep.
+        ensures only { (laid : Laid) → IsLaidOut text.now words.now places.now laid → depth laid ≤ 16 → IfOk result (λ o. o ≡ Some laid) }
         // All their parts, one behind another, are the text.
         ensures text { IfOk result (λ o. IfSome o (λ s. laid_text text.now s ≡ text.now)) }
     {
@@ -92,10 +94,18 @@ impl Statements {
             at: 0,
             word: 0,
         };
-        match lay::read_body(alloc, text.as_bytes(), words, places, begin, lay::LEVELS)? {
-            Some(body) if body.open == 0 && body.word == words.len() => Ok(Some(body.statements)),
-            _ => Ok(None),
+        let levels = lay::LEVELS;
+        let Some(body) = lay::read_body(alloc, text.as_bytes(), words, places, begin, levels)?
+        else {
+            return Ok(None);
+        };
+        if body.begin != 0 {
+            return Ok(None);
         }
+        if body.word != words.len() {
+            return Ok(None);
+        }
+        Ok(Some(body.statements))
     }
 
     pub(crate) fn new(list: Vec<Statement>, last: Span) -> Statements

@@ -17,7 +17,15 @@ fn push_line(into: &mut String, text: &str, mark: &str, span: Span) -> Result<()
 }
 
 #[cycle(shown)]
-fn push_statement(into: &mut String, text: &str, statement: &Statement) -> Result<(), AllocError> {
+fn push_statement(
+    into: &mut String,
+    text: &str,
+    statement: &Statement,
+    levels: u32,
+) -> Result<(), AllocError> {
+    if levels == 0 {
+        return Ok(());
+    }
     push_line(into, text, "F", statement.float)?;
     push_line(into, text, "L", statement.lead)?;
     match &statement.inside {
@@ -28,7 +36,7 @@ fn push_statement(into: &mut String, text: &str, statement: &Statement) -> Resul
                 to: inner.open,
             };
             push_line(into, text, "H", head)?;
-            push_statements(into, text, &inner.body)?;
+            push_statements(into, text, &inner.body, levels - 1)?;
             let tail = Span {
                 from: inner.close,
                 to: statement.words.to,
@@ -46,9 +54,10 @@ fn push_statements(
     into: &mut String,
     text: &str,
     statements: &Statements,
+    levels: u32,
 ) -> Result<(), AllocError> {
     for statement in statements.as_slice() {
-        push_statement(into, text, statement)?;
+        push_statement(into, text, statement, levels)?;
     }
     push_line(into, text, "E", statements.last())
 }
@@ -65,7 +74,7 @@ fn shown(alloc: Global, text: &str) -> Result<String, &'static str> {
         return Err("no statements");
     };
     let mut found = String::new(alloc);
-    match push_statements(&mut found, text, &statements) {
+    match push_statements(&mut found, text, &statements, 17) {
         Ok(()) => Ok(found),
         Err(_) => Err("no memory"),
     }

@@ -1,11 +1,13 @@
 //! From gap to gap, from word to word, from item to item.
-ghost use Rattle.std.specs.Prelude.{◌≡◌, ℕ, ◌<◌, ◌↔◌, length, take, drop, IfSome, IsTrue, MatchBool};
+ghost use Rattle.std.specs.Prelude.{◌≡◌, ℕ, ◌+◌, ◌<◌, ◌↔◌, length, take, drop, IfSome, IfNone, IsTrue, MatchBool};
 ghost use Rattle.rdl_parse.specs.Places as items;
 ghost use Rattle.rdl_parse.specs.Places.{from_item};
 ghost use Rattle.rdl_source.specs.LaidOut as spec;
-ghost use Rattle.rdl_source.specs.LaidOut.{IsGap, IsStop, StandsBehind, BeginsIn};
+ghost use Rattle.rdl_source.specs.LaidOut.{IsGap, IsStop, StandsBehind, BeginsIn, start_at};
+ghost use Rattle.rdl_source.specs.Only.{NoGap, NoStop};
+ghost use Rattle.rdl_source.specs.declared.span.Span.{Span};
 
-use crate::gap::{Left, Right, split_gap};
+use crate::gap::{Left, Right, byte_at, split_gap};
 use crate::span::Span;
 use rdl_parse::places::ItemPlace;
 use rdl_text::list::Tokens;
@@ -48,11 +50,27 @@ impl Gap {
     }
 }
 
+impl Stop {
+    /// Where the gap behind it begins.
+    pub(crate) fn behind(self) -> Spot
+        requires at { self.at < usize.MAX }
+        requires word { self.word < usize.MAX }
+        ensures { result ≡ record { left = Left.Word; at = self.at + 1; word = self.word + 1 } }
+    {
+        Spot {
+            left: Left::Word,
+            at: self.at + 1,
+            word: self.word + 1,
+        }
+    }
+}
+
 /// The gap between two bytes, where the word of this number stands behind it, or none.
 fn gap_between(text: &[u8], words: &Tokens<'_>, spot: Spot, to: usize, right: Right) -> Option<Gap>
-    requires { StandsBehind text.now words.now right to spot.word }
+    requires { StandsBehind text.now right to (start_at words.now spot.word) }
     ensures gap { IfSome result (λ g. IsGap text.now words.now spot.left g.right spot.at spot.word g.lead.to g.trail.to g.float g.lead) }
     ensures trail { IfSome result (λ g. g.trail.from ≡ spot.at) }
+    ensures none { IfNone result ((end : ℕ) (float : Span) (lead : Span) → IsGap text.now words.now spot.left right spot.at spot.word to end float lead → ⊥) }
 {
     let from = spot.at;
     if from > to || to > text.len() {
@@ -90,6 +108,7 @@ fn right_of(text: &[u8], start: usize) -> Right
 pub(crate) fn gap_at(text: &[u8], words: &Tokens<'_>, spot: Spot) -> Option<Gap>
     ensures gap { IfSome result (λ g. IsGap text.now words.now spot.left g.right spot.at spot.word g.lead.to g.trail.to g.float g.lead) }
     ensures trail { IfSome result (λ g. g.trail.from ≡ spot.at) }
+    ensures none { IfNone result (NoGap text.now words.now spot.left spot.at spot.word) }
 {
     match words.start(spot.word) {
         None => gap_between(text, words, spot, text.len(), Right::End),
@@ -108,15 +127,16 @@ pub(crate) fn stop_from(text: &[u8], words: &Tokens<'_>, word: usize, from: usiz
     ensures stop { IfSome result (λ s. IsStop text.now words.now from word s.word s.at) }
     ensures within { IfSome result (λ s. s.word < length words.now) }
     ensures small { IfSome result (λ s. s.word < usize.MAX) }
+    ensures none { IfNone result (NoStop text.now words.now from word) }
 {
     'words: for number in word..words.len() {
         let Some(at) = words.start(number) else {
             return None;
         };
-        if at < from || at >= text.len() {
-            return None;
-        }
-        if is_stop(text[at]) {
+        if is_stop(byte_at(text, at)) {
+            if at < from {
+                return None;
+            }
             return Some(Stop { word: number, at });
         }
     }
@@ -173,6 +193,7 @@ fn begins_in(place: ItemPlace, span: Span) -> bool
 pub(crate) fn items_in(places: &[ItemPlace], span: Span) -> (usize, &[ItemPlace])
     ensures items { (i : ℕ) → i < result.0 → BeginsIn span (from_item i places.now) }
     ensures rest { result.1.now ≡ from_item result.0 places.now }
+    ensures last { BeginsIn span result.1.now → ⊥ }
 {
     let mut rest = places;
     'items: for count in 0..places.len() {

@@ -1,6 +1,6 @@
 use Rattle.std.proofs.Common.{◌∙◌, refl, subst, below_more}
 use Rattle.rdl_source.specs.LaidOut.{BeginsIn}
-use Rattle.rdl_source.proofs.Items.{begins_first, from_more}
+use Rattle.rdl_source.proofs.Items.{begins_first, from_more, from_end}
 use Rattle.rdl_source.proofs.walk.items_in.Goals as goal
 
 pub items-preserved : goal.items-preserved
@@ -11,3 +11,6 @@ items-preserved c =
       items = below_more _ _ c.items.invariant.items first;
       rest = c.past_first-rest.ensures ∙ from_more c.items.count c.args.places.now rest c.items.invariant.rest;
     }
+
+pub returns-clause-last : goal.returns-clause-last
+returns-clause-last c h = subst (BeginsIn c.args.span) (c.items.invariant.rest ∙ from_end c.items.count c.args.places.now c.items-test.false) h
