@@ -1,7 +1,7 @@
 -- What a step back makes of the items of the map that was reached: the patches lead on towards the first map, and each item
 -- keeps the number that it has in the last one.
 -- own: SystemRDL 2.0 has no edits.
-use Rattle.std.specs.Prelude.{ℕ, ◌==◌, Bool, true, false, ◌&&◌, ◌||◌, not, IsTrue, nat_le, nat_lt, List, [], ◌∷◌, length, Option, Some, None, insert, remove, slice_get, slice_set}
+use Rattle.std.specs.Prelude.{ℕ, ◌==◌, Bool, true, false, ◌&&◌, ◌||◌, not, nat_le, nat_lt, List, [], ◌∷◌, length, Option, Some, None, option_map, insert, remove, slice_get, slice_set}
 use Rattle.rdl_tree.specs.Address.{holder_of, number_of}
 use Rattle.rdl_tree.specs.Patch.{address_of}
 use Rattle.rdl_tree.specs.declared.patch.Patch.{Patch}
@@ -30,16 +30,12 @@ abbrev pub put_at : (number : ℕ) → Option Origin → List Origin → List Or
 put_at number None os = os
 put_at number (Some o) os = slice_set os number o
 
-abbrev pub option_with : (Origin → Origin) → Option Origin → Option Origin
-option_with f None = None
-option_with f (Some o) = Some (f o)
-
 -- an item that was removed comes, one that was added goes, one that was moved goes back, one that was changed stays
 abbrev pub change : Patch → (number : ℕ) → List Origin → List Origin
 change (Insert at x) number os = insert os number (unnumbered_item x)
 change (Delete at) number os = remove os number
-change (Shift at to) number os = put_in to (option_with (moved number to) (slice_get os number)) (remove os number)
-change (Exchange at part) number os = put_at number (option_with touched (slice_get os number)) os
+change (Shift at to) number os = put_in to (option_map (moved number to) (slice_get os number)) (remove os number)
+change (Exchange at part) number os = put_at number (option_map touched (slice_get os number)) os
 
 abbrev pub changed : Patch → (number : ℕ) → Traces → Traces
 changed p number b = traces_of (change p number (list_of b))

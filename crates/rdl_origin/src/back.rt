@@ -1,7 +1,8 @@
 //! Steps back.
-ghost use Rattle.std.specs.Prelude.{◌≡◌, IfOk, IsTrue, length};
+ghost use Rattle.std.specs.Prelude.{◌≡◌, ◌&&◌, IfOk, IsTrue, length, nat_le, nat_lt, insert, remove, option_map, slice_get};
 ghost use Rattle.rdl_origin.specs.Traces.{traces_at, map_inside};
-ghost use Rattle.rdl_origin.specs.Back.{changed, change, has_place, has_place_in, gone_back, all_gone_back, is_placed, are_placed};
+ghost use Rattle.rdl_origin.specs.Numbered.{unnumbered_item};
+ghost use Rattle.rdl_origin.specs.Back.{changed, change, has_place, has_place_in, moved, touched, put_in, put_at, gone_back, all_gone_back, is_placed, are_placed};
 
 use crate::numbered::unnumbered_item;
 use crate::origin::{Origin, Origins};
@@ -48,11 +49,14 @@ impl Origins {
         ensures gone { IfOk result (λ placed. IsTrue placed → self.new ≡ map_inside way.now (changed patch.now number) self.old) }
     {
         match way {
-            [] => change(&mut self.list, alloc, number, patch),
-            [first, rest @ ..] => match self.list.get_mut(*first) {
-                Some(origin) => origin.inside.change_at(alloc, rest, number, patch),
-                None => Ok(false),
-            },
+            [] => Ok(change(&mut self.list, alloc, number, patch)?),
+            [first, rest @ ..] => {
+                let Some(origin) = self.list.get_mut(*first) else {
+                    return Ok(false);
+                };
+                let placed = origin.inside.change_at(alloc, rest, number, patch)?;
+                Ok(placed)
+            }
         }
     }
 }
@@ -81,7 +85,10 @@ fn insert(
     alloc: Global,
     number: usize,
     item: &Item,
-) -> Result<bool, AllocError> {
+) -> Result<bool, AllocError>
+    ensures placed { IfOk result (λ placed. placed ≡ nat_le number (length list.old.items)) }
+    ensures gone { IfOk result (λ placed. IsTrue placed → list.new.items ≡ insert list.old.items number (unnumbered_item item.now)) }
+{
     if number > list.len() {
         return Ok(false);
     }
@@ -90,7 +97,10 @@ fn insert(
 }
 
 /// Takes out an item that was added.
-fn delete(list: &mut Vec<Origin>, number: usize) -> bool {
+fn delete(list: &mut Vec<Origin>, number: usize) -> bool
+    ensures placed { result ≡ nat_lt number (length list.old.items) }
+    ensures gone { IsTrue result → list.new.items ≡ remove list.old.items number }
+{
     if number >= list.len() {
         return false;
     }
@@ -99,25 +109,27 @@ fn delete(list: &mut Vec<Origin>, number: usize) -> bool {
 }
 
 /// Moves an item, and marks it if it had another place.
-fn shift(list: &mut Vec<Origin>, from: usize, to: usize) -> Result<bool, AllocError> {
+fn shift(list: &mut Vec<Origin>, from: usize, to: usize) -> Result<bool, AllocError>
+    ensures placed { IfOk result (λ placed. placed ≡ (nat_lt from (length list.old.items) && nat_lt to (length list.old.items))) }
+    ensures gone { IfOk result (λ placed. IsTrue placed → list.new.items ≡ put_in to (option_map (moved from to) (slice_get list.old.items from)) (remove list.old.items from)) }
+{
     if from >= list.len() || to >= list.len() {
         return Ok(false);
     }
     let mut origin = list.remove(from);
-    if from != to {
-        origin.is_moved = true;
-    }
+    origin.is_moved = origin.is_moved || from != to;
     list.insert(to, origin)?;
     Ok(true)
 }
 
 /// Marks an item of which a part was changed.
-fn touch(list: &mut Vec<Origin>, number: usize) -> bool {
-    match list.get_mut(number) {
-        Some(origin) => {
-            origin.is_touched = true;
-            true
-        }
-        None => false,
+fn touch(list: &mut Vec<Origin>, number: usize) -> bool
+    ensures placed { result ≡ nat_lt number (length list.old.items) }
+    ensures gone { IsTrue result → list.new.items ≡ put_at number (option_map touched (slice_get list.old.items number)) list.old.items }
+{
+    if number >= list.len() {
+        return false;
     }
+    list[number].is_touched = true;
+    true
 }

@@ -12,7 +12,7 @@ use std::alloc::{AllocError, Global};
 #[cycle(numbered)]
 pub(crate) fn numbered(alloc: Global, body: &Body, next: &mut u32) -> Result<Origins, AllocError>
     ensures origins { IfOk result (λ origins. origins ≡ numbered next.old body.now) }
-    ensures next { OnOk result (next.new ≡ capped (next.old + count body.now)) }
+    ensures next { OnOk result (capped next.new ≡ capped (next.old + count body.now)) }
 {
     let mut list = Vec::with_capacity(alloc, body.len())?;
     'items: for item in body.as_slice() {
@@ -24,7 +24,7 @@ pub(crate) fn numbered(alloc: Global, body: &Body, next: &mut u32) -> Result<Ori
 #[cycle(numbered)]
 fn numbered_item(alloc: Global, item: &Item, next: &mut u32) -> Result<Origin, AllocError>
     ensures origin { IfOk result (λ origin. origin ≡ numbered_item next.old item.now) }
-    ensures next { OnOk result (next.new ≡ capped (next.old + count (add item.now no_items))) }
+    ensures next { OnOk result (capped next.new ≡ capped (next.old + count (add item.now no_items))) }
 {
     let now = *next;
     *next = next.saturating_add(1);

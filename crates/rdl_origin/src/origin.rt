@@ -67,18 +67,21 @@ impl Origins {
         }
     }
 
+    #[tactic(auto, using(crate::proofs::Rounds::views))]
     pub fn len(&self) -> usize
         ensures { result ≡ length (list_of self.now) }
     {
         self.list.len()
     }
 
+    #[tactic(auto, using(crate::proofs::Rounds::views))]
     pub fn is_empty(&self) -> bool
         ensures { result ≡ (length (list_of self.now) == 0) }
     {
         self.list.is_empty()
     }
 
+    #[tactic(auto, using(crate::proofs::Rounds::views))]
     pub fn as_slice(&self) -> &[Origin]
         ensures { result.now ≡ list_of self.now }
     {
