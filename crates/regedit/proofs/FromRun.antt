@@ -1,8 +1,9 @@
 -- From a run that hands out its texts to what it leaves.
-use Rattle.std.proofs.Common.{◌≡◌, ◌∙◌, ℕ, Bool, true, false, List, map, Option, IsSome, Result, Ok, Err, IfOk, inl, inr, refl, ap, subst, string_bytes}
+use Rattle.std.proofs.Common.{◌≡◌, ◌∙◌, ℕ, Bool, true, false, List, map, Option, Some, None, IfSome, Result, Ok, Err, IfOk, inl, inr, refl, sym, ap, subst, string_bytes}
 use Rattle.rdl_run.specs.Edited.{IsEdited, IsEditedOf}
 use Rattle.rdl_run.specs.RunTexts.{AreRun}
 use Rattle.rdl_run.specs.declared.edited.Edited.{Edited}
+use Rattle.rdl_run.specs.declared.edited.Unwoven.{Unwoven}
 use Rattle.rdl_run.specs.declared.run.Options.{Options}
 use Rattle.rdl_run.specs.declared.run.Texts.{Texts}
 use Rattle.rdl_run.specs.declared.status.Status.{Status}
@@ -41,16 +42,20 @@ is_left asked given_map given_script old new texts left ran edited ending output
   ending = ending;
 }
 
+if-any : (o : Option Unwoven) (asked : Bool) → asked ≡ true → IfSome o (λ why. asked ≡ true)
+if-any None asked is = tt
+if-any (Some why) asked is = is
+
 -- what isn't asked for isn't missing
-missing-asked : (asked : Bool) (source canonical : List ℕ) (edited : Edited) → IsEdited asked source canonical edited → IsSome (unwoven_of edited) → asked ≡ true
-missing-asked true source canonical edited is some = refl
-missing-asked false source canonical edited is some = absurd (subst (λ e. IsSome (unwoven_of e)) is some)
+missing-asked : (asked : Bool) (source canonical : List ℕ) (edited : Edited) → IsEdited asked source canonical edited → IfSome (unwoven_of edited) (λ why. asked ≡ true)
+missing-asked true source canonical edited is = if-any (unwoven_of edited) true refl
+missing-asked false source canonical edited is = subst (λ e. IfSome (unwoven_of e) (λ why. false ≡ true)) (sym is) tt
 
 missing-of : (asked : Bool) (source : Option (List ℕ)) (status : Status) (canonical : List ℕ) (edited : Edited)
-    → IsEditedOf asked source status canonical edited → IsSome (unwoven_of edited) → asked ≡ true
-missing-of asked source status canonical edited of some = elim of.is [
-  | inl none ↦ absurd (subst (λ e. IsSome (unwoven_of e)) none.1 some)
-  | inr is ↦ missing-asked asked of.map_bytes canonical edited is some
+    → IsEditedOf asked source status canonical edited → IfSome (unwoven_of edited) (λ why. asked ≡ true)
+missing-of asked source status canonical edited of = elim of.is [
+  | inl none ↦ subst (λ e. IfSome (unwoven_of e) (λ why. asked ≡ true)) (sym none.1) tt
+  | inr is ↦ missing-asked asked of.map_bytes canonical edited is
 ]
 
 -- what is left ends as an output
@@ -61,8 +66,8 @@ is_ending_of asked left it = record {
   out = it.of_output.out;
   is_output = it.of_output.is_output;
   is = ap (λ (e : Ending). e.status) it.ending ∙ it.of_output.status;
-  missing = λ some. missing-of asked.options.edited it.of_output.source it.texts.status (string_bytes it.texts.rdl) it.texts.edited it.of_output.edited
-      (subst (λ (e : Ending). IsSome e.unwoven) it.ending some);
+  missing = subst (λ (e : Ending). IfSome e.unwoven (λ why. asked.options.edited ≡ true)) (sym it.ending)
+      (missing-of asked.options.edited it.of_output.source it.texts.status (string_bytes it.texts.rdl) it.texts.edited it.of_output.edited);
 }
 
 -- where there is something left, it is so

@@ -1,5 +1,5 @@
 -- That texts are those of an output of a run, before they go out. Own.
-use Rattle.std.specs.Prelude.{◌≡◌, ℕ, true, List, map, Option, IsSome, string_bytes}
+use Rattle.std.specs.Prelude.{◌≡◌, ℕ, true, List, map, Option, IfSome, string_bytes}
 use Rattle.rdl_run.specs.Output.{Output, IsOutput}
 use Rattle.rdl_run.specs.declared.run.Options.{Options}
 use Rattle.rdl_run.specs.declared.run.Texts.{Texts}
@@ -37,4 +37,4 @@ pub record IsEndingOf (options : Options) (ending : Ending) : Type 0 where
   pub out : Output
   pub is_output : IsOutput options map script out
   pub is : ending.status ≡ out.status
-  pub missing : IsSome ending.unwoven → options.edited ≡ true
+  pub missing : IfSome ending.unwoven (λ why. options.edited ≡ true)
