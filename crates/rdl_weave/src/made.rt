@@ -21,6 +21,8 @@ pub(crate) struct Group<'a> {
     pub(crate) past: Past<'a>,
     pub(crate) last: &'a Body,
     pub(crate) members: &'a [Member],
+    /// Whether none of the statement's items stands before them.
+    pub(crate) is_first: bool,
 }
 
 /// The shell of an item, if it is an instance.
@@ -330,6 +332,9 @@ impl<'a> Group<'a> {
         }
         let begin = outside_count(words, 1).saturating_add(1);
         let mut writer = Writer::new(alloc, self.source, inner.close);
+        if !self.is_first {
+            return self.parted_tail(alloc, writer, words, begin);
+        }
         if begin > 1 {
             put_outside(
                 &mut writer,
@@ -339,6 +344,25 @@ impl<'a> Group<'a> {
                 self.new_outside(),
             )?;
         }
+        self.with_instances(alloc, writer, words, begin)
+    }
+
+    /// The same behind a copy of the body. Comments before the first INST stand behind the first body.
+    fn parted_tail(
+        &self,
+        alloc: Global,
+        mut writer: Writer<'_>,
+        words: &[Lexeme],
+        begin: usize,
+    ) -> Result<Option<Woven>, AllocError> {
+        let Some(first) = words.get(begin) else {
+            return Ok(None);
+        };
+        writer.push("} ")?;
+        if begin > 1 {
+            writer.push(outside_text(self.new_outside()))?;
+        }
+        writer.skip_to(first.from);
         self.with_instances(alloc, writer, words, begin)
     }
 

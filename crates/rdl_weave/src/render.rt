@@ -409,6 +409,18 @@ impl<'a> Page<'a> {
         self.text.push(last)
     }
 
+    /// A line of blanks, so that what stands before belongs to no statement.
+    fn put_blank_line(&mut self) -> Result<(), AllocError> {
+        if self.room.is_flat {
+            return Ok(());
+        }
+        self.end_line()?;
+        if self.is_behind_blank() {
+            return Ok(());
+        }
+        self.text.push_str(self.loom.style.line_end)
+    }
+
     /// The new items of a body that had no statement.
     fn put_first(
         &mut self,
@@ -431,6 +443,7 @@ impl<'a> Page<'a> {
             self.is_open = is_open_comment(comments);
             let to = span.from.saturating_add(count);
             self.keep_gap(to, comments)?;
+            self.put_blank_line()?;
         }
         'items: for item in last.as_slice() {
             self.put_new(alloc, statements, item)?;
@@ -498,6 +511,7 @@ impl<'a> Page<'a> {
                 past,
                 last,
                 members: run,
+                is_first: standing.is_first,
             };
             self.put_made(alloc, group, unit, standing)?;
         }
