@@ -142,9 +142,12 @@ module _ (old new : History') (script : List ℕ) (left : Option (List ℕ)) (nu
   -- and nothing is left
   pub served_all : left ≡ None → Appends b c waiting → HasTaken y z (length waiting) → ServesAll old new (lines_of script) a c x z refuses
   served_all none wrote took =
-      let lines : lines_of script ≡ h.done = h.lines ∙ ap (λ (l : Option (List ℕ)). h.done ++ lines_left l) none ∙ append-nil h.done in
-      (h.text, subst (λ (ls : List (List ℕ)). Serves old ls h.text refuses new) (sym lines) h.served, all-written wrote,
-      subst (λ (t : List ℕ). HasTaken x z (length t)) (sym h.parts) (taken-both x y z h.written waiting h.took took))
+      let lines : lines_of script ≡ h.done = h.lines ∙ ap (λ (l : Option (List ℕ)). h.done ++ lines_left l) none ∙ append-nil h.done in (
+        h.text,
+        subst (λ (ls : List (List ℕ)). Serves old ls h.text refuses new) (sym lines) h.served,
+        all-written wrote,
+        subst (λ (t : List ℕ). HasTaken x z (length t)) (sym h.parts) (taken-both x y z h.written waiting h.took took),
+      )
 
   -- memory is wanting for the next line
   pub stopped_for_memory : Appends b c waiting → StopsServing old (lines_of script) a c Memory

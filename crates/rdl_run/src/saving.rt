@@ -16,7 +16,10 @@ use rdl_tree::patch::Patch;
 use std::alloc::{AllocError, Global};
 
 /// The steps that lead back, the next one first.
-pub(crate) fn steps_back<'a>(alloc: Global, journal: &'a Journal<Map>) -> Result<Vec<&'a [Patch]>, AllocError>
+pub(crate) fn steps_back<'a>(
+    alloc: Global,
+    journal: &'a Journal<Map>,
+) -> Result<Vec<&'a [Patch]>, AllocError>
     ensures leads { IfOk result (λ steps. LeadBack journal.entry.now.history (map (λ step. step.now) steps.items)) }
     ensures own { AllOwn journal.entry.now → IfOk result (λ steps. LeadBack (owned journal.entry.now.history) (map (λ step. step.now) steps.items)) }
 {
