@@ -3,7 +3,7 @@ use crate::case::Given;
 use rdl_diff::status::Status as Comparison;
 use rdl_run::comparison::compare;
 use rdl_run::edited::{Edited, Unwoven};
-use rdl_run::run::{Options, run_texts};
+use rdl_run::run::{Options, Texts, run_texts};
 use rdl_run::status::{RunFault, Status};
 use rdl_text::name::{Name, NameFault};
 use std::alloc::Global;
@@ -38,6 +38,21 @@ fn top_of(alloc: Global, top: Option<&str>) -> Result<Option<Name>, NameFault> {
     }
 }
 
+/// Whether no edited text was made of a map that has a source.
+fn is_unwoven(edited: &Edited) -> bool {
+    matches!(
+        edited,
+        Edited::Missing(Unwoven::TooLong | Unwoven::NotWoven)
+    )
+}
+
+fn edited_bytes(alloc: Global, edited: Edited) -> Vec<u8> {
+    match edited {
+        Edited::Woven(text) => text.into_bytes(),
+        Edited::NotAsked | Edited::Missing(_) => Vec::new(alloc),
+    }
+}
+
 fn run_into(
     alloc: Global,
     found: &mut Found,
@@ -45,16 +60,19 @@ fn run_into(
     mut script: &[u8],
     options: &Options,
 ) -> Result<Status, RunFault> {
-    let texts = run_texts(alloc, &mut map, &mut script, options, &mut found.messages)?;
-    found.rdl = texts.rdl.into_bytes();
-    found.header = texts.header.into_bytes();
-    found.session = texts.session.into_bytes();
-    match texts.edited {
-        Edited::Woven(text) => found.edited = text.into_bytes(),
-        Edited::NotAsked | Edited::Missing(Unwoven::NoSource) => {}
-        Edited::Missing(Unwoven::TooLong | Unwoven::NotWoven) => found.is_unwoven = true,
-    }
-    Ok(texts.status)
+    let Texts {
+        status,
+        rdl,
+        header,
+        session,
+        edited,
+    } = run_texts(alloc, &mut map, &mut script, options, &mut found.messages)?;
+    found.rdl = rdl.into_bytes();
+    found.header = header.into_bytes();
+    found.session = session.into_bytes();
+    found.is_unwoven = is_unwoven(&edited);
+    found.edited = edited_bytes(alloc, edited);
+    Ok(status)
 }
 
 fn run_given(
