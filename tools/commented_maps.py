@@ -439,12 +439,19 @@ class Maker:
                     body.extend(items)
         return sources
 
+    def unused(self, props, taken):
+        """One of these properties, which is taken then; none if the one that is drawn was taken before."""
+        prop = self.draw.choice(sorted(props))
+        if prop in taken:
+            return None
+        taken.add(prop)
+        return prop
+
     def own(self, kind, copies, props):
         pool = {**(FIELD_PROPS if kind == "field" else {}), **dict.fromkeys(TEXT_PROPS)}
-        prop = self.draw.choice(sorted(pool))
-        if prop in props:
+        prop = self.unused(pool, props)
+        if prop is None:
             return None
-        props.add(prop)
         spelled, value = self.value(prop, pool[prop])
         source = Source([[Item("own", prop=prop, value=value)] for _ in range(copies)])
         bare = value == "true" and self.chance(0.5)
@@ -452,10 +459,9 @@ class Maker:
         return source
 
     def default(self, copies, defaults):
-        prop = self.draw.choice(sorted(DEFAULTS))
-        if prop in defaults:
+        prop = self.unused(DEFAULTS, defaults)
+        if prop is None:
             return None
-        defaults.add(prop)
         spelled, value = self.value(prop, DEFAULTS[prop])
         source = Source([[Item("default", prop=prop, value=value)] for _ in range(copies)])
         source.parts = ["default", prop, "=", spelled]

@@ -11,10 +11,10 @@ use Rattle.rdl_run.specs.declared.status.Status.{Status}
 use Rattle.rdl_run.specs.declared.status.Status.TheVariants.{MapRefused}
 
 -- what is woven is read as a map with this canonical text
-abbrev pub IsMade : (source canonical : List ℕ) → Edited → Type 0
-IsMade source canonical NotAsked = ⊥
-IsMade source canonical (Woven text) = SpellsAs canonical (string_bytes text)
-IsMade source canonical (Missing why) = ⊤
+abbrev pub IsMade : (canonical : List ℕ) → Edited → Type 0
+IsMade canonical NotAsked = ⊥
+IsMade canonical (Woven text) = SpellsAs canonical (string_bytes text)
+IsMade canonical (Missing why) = ⊤
 
 -- the text is there, and is the source
 abbrev pub IsSource : (source : List ℕ) → Edited → Type 0
@@ -29,7 +29,7 @@ IsSame source canonical edited = SpellsAs canonical source → IsSource source e
 -- of what is asked for, a session has no source
 abbrev pub IsAsked : (session : Bool) → (source canonical : List ℕ) → Edited → Type 0
 IsAsked true source canonical edited = edited ≡ Missing NoSource
-IsAsked false source canonical edited = IsMade source canonical edited × (IsUtf8 source → IsSame source canonical edited)
+IsAsked false source canonical edited = IsMade canonical edited × (IsUtf8 source → IsSame source canonical edited)
 
 -- the edited text of these bytes, of a run whose last map has this canonical text
 abbrev pub IsEdited : (asked : Bool) → (source canonical : List ℕ) → Edited → Type 0

@@ -65,7 +65,7 @@ fn woven(
     source: &str,
     canonical: &str,
 ) -> Result<Edited, RunFault>
-    ensures made { IfOk result (IsMade source.now canonical.now) }
+    ensures made { IfOk result (IsMade canonical.now) }
     ensures same { IfOk result (IsSame source.now canonical.now) }
     ensures fault { IsOkUnless result RunFault.Memory }
 {

@@ -137,10 +137,8 @@ fn read_words(
         if !inner.is_empty() {
             return Ok(None);
         }
-        return Ok(Some(Wording {
-            end: stop,
-            inside: None,
-        }));
+        let (end, inside) = (stop, None);
+        return Ok(Some(Wording { end, inside }));
     }
     if text[stop.at] != b'{' {
         return Ok(None);
@@ -163,12 +161,10 @@ fn read_words(
     if text[end.at] != b';' {
         return Ok(None);
     }
-    Ok(Some(Wording {
-        end,
-        inside: Some(Inner {
-            open: body.begin,
-            close: body.close,
-            body: body.statements,
-        }),
-    }))
+    let inside = Some(Inner {
+        open: body.begin,
+        close: body.close,
+        body: body.statements,
+    });
+    Ok(Some(Wording { end, inside }))
 }

@@ -121,6 +121,17 @@ struct Part {
     new: Option<Number>,
 }
 
+impl Part {
+    fn new(mark: Mark, text: &'static str, old: Option<Number>, new: Option<Number>) -> Part {
+        Part {
+            mark,
+            text,
+            old,
+            new,
+        }
+    }
+}
+
 /// Takes a part out, with the blanks before it.
 fn take_out(
     writer: &mut Writer<'_>,
@@ -204,30 +215,10 @@ pub(crate) fn put_inst(
     };
     let mut seen = put_brackets(alloc, writer, words, inst, seen, old, new)?;
     let parts = [
-        Part {
-            mark: Mark::Equals,
-            text: "=",
-            old: old.reset(),
-            new: new.reset(),
-        },
-        Part {
-            mark: Mark::At,
-            text: "@",
-            old: old.address(),
-            new: new.address(),
-        },
-        Part {
-            mark: Mark::PlusEquals,
-            text: "+=",
-            old: old.stride(),
-            new: new.stride(),
-        },
-        Part {
-            mark: Mark::PercentEquals,
-            text: "%=",
-            old: old.align(),
-            new: new.align(),
-        },
+        Part::new(Mark::Equals, "=", old.reset(), new.reset()),
+        Part::new(Mark::At, "@", old.address(), new.address()),
+        Part::new(Mark::PlusEquals, "+=", old.stride(), new.stride()),
+        Part::new(Mark::PercentEquals, "%=", old.align(), new.align()),
     ];
     'parts: for change in &parts {
         seen = put_part(alloc, writer, source, words, seen, change)?;
