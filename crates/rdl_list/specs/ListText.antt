@@ -61,6 +61,15 @@ line_at path row (Bits span) = bits_line path row span
 abbrev pub line_of : (path : List ℕ) → Row → List ℕ
 line_of path row = line_at path row row.location
 
+-- ---- A row as in its line, without the end of the line.
+
+abbrev pub text_at : (path : List ℕ) → Row → Location → List ℕ
+text_at path row (Bytes extent) = head_text path row ++ extent_text extent
+text_at path row (Bits span) = span_text span ++ codes " field " ++ path ++ reset_text (number_in (value_under Reset row.values))
+
+abbrev pub text_of : (path : List ℕ) → Row → List ℕ
+text_of path row = text_at path row row.location
+
 -- ---- The lines of `list`, whose PATH is the names from the top.
 
 abbrev pub row_line : Row → List ℕ

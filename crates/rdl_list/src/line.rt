@@ -3,7 +3,8 @@ ghost use Rattle.std.specs.Prelude.{◌≡◌, ◌<◌, ◌++◌, ◌∷◌, [],
 ghost use Rattle.std.specs.List.{flat_map};
 ghost use Rattle.std.specs.Option.{option_to_list};
 ghost use Rattle.rdl_write.specs.Texts.{hexadecimal, kind_text, newline};
-ghost use Rattle.rdl_list.specs.ListText.{path_text, reset_text, head_text, extent_text, bytes_line, span_text, bits_line, line_of};
+ghost use Rattle.rdl_elab.specs.declared.row.Location.TheVariants.{Bits, Bytes};
+ghost use Rattle.rdl_list.specs.ListText.{path_text, stride_text, reset_text, head_text, extent_text, bytes_line, span_text, bits_line, line_of, text_at, text_of};
 
 use rdl_elab::layout::Span;
 use rdl_elab::row::{DottedNames, Extent, Location, Row, RowPath};
@@ -88,6 +89,15 @@ fn push_part_end(text: &mut String, word: &str, number: Number) -> Result<(), Al
     push_hexadecimal_end(text, number)
 }
 
+fn push_reset(text: &mut String, reset: Option<Number>) -> Result<(), AllocError>
+    ensures { OnOk result (string_bytes text.new ≡ string_bytes text.old ++ reset_text reset) }
+{
+    match reset {
+        Some(number) => push_part(text, " reset ", number),
+        None => Ok(()),
+    }
+}
+
 /// Ends the line of a field.
 fn push_reset_end(text: &mut String, reset: Option<Number>) -> Result<(), AllocError>
     ensures { OnOk result (string_bytes text.new ≡ string_bytes text.old ++ reset_text reset ++ newline) }
@@ -117,6 +127,25 @@ fn push_head(text: &mut String, row: &Row, left_out: usize) -> Result<(), AllocE
     push_hexadecimal(text, Number::from(row.base))?;
     text.push_str(kind_between(row.kind))?;
     push_path(text, &row.names, left_out)
+}
+
+fn push_stride(text: &mut String, extent: &Extent) -> Result<(), AllocError>
+    ensures { OnOk result (string_bytes text.new ≡ string_bytes text.old ++ stride_text extent.now.dims extent.now.stride) }
+{
+    match extent.dims() {
+        [] => Ok(()),
+        [_, ..] => push_part(text, " stride ", extent.stride()),
+    }
+}
+
+/// Appends what is told of bytes.
+#[tactic(auto, unfolding(crate::specs::ListText::extent_text))]
+fn push_extent(text: &mut String, extent: &Extent) -> Result<(), AllocError>
+    ensures { OnOk result (string_bytes text.new ≡ string_bytes text.old ++ extent_text extent.now) }
+{
+    push_dims(text, extent.dims())?;
+    push_part(text, " size ", Number::from(extent.size()))?;
+    push_stride(text, extent)
 }
 
 /// Ends the line of what has bytes.
@@ -170,5 +199,41 @@ pub fn push_row(text: &mut String, row: &Row, left_out: usize) -> Result<(), All
     match &row.location {
         Location::Bytes(extent) => push_bytes(text, row, extent, left_out),
         Location::Bits(span) => push_bits(text, row, span, left_out),
+    }
+}
+
+fn push_bytes_text(
+    text: &mut String,
+    row: &Row,
+    extent: &Extent,
+    left_out: usize,
+) -> Result<(), AllocError>
+    ensures { OnOk result (string_bytes text.new ≡ string_bytes text.old ++ text_at (path_text (drop left_out row.now.names)) row.now (Bytes extent.now)) }
+{
+    push_head(text, row, left_out)?;
+    push_extent(text, extent)
+}
+
+fn push_bits_text(
+    text: &mut String,
+    row: &Row,
+    span: &Span,
+    left_out: usize,
+) -> Result<(), AllocError>
+    ensures { OnOk result (string_bytes text.new ≡ string_bytes text.old ++ text_at (path_text (drop left_out row.now.names)) row.now (Bits span.now)) }
+{
+    push_span(text, span)?;
+    text.push_str(" field ")?;
+    push_path(text, &row.names, left_out)?;
+    push_reset(text, row.values.number(Property::Reset))
+}
+
+/// Appends a row as in its line, without the end of the line.
+pub fn push_row_text(text: &mut String, row: &Row, left_out: usize) -> Result<(), AllocError>
+    ensures { OnOk result (string_bytes text.new ≡ string_bytes text.old ++ text_of (path_text (drop left_out row.now.names)) row.now) }
+{
+    match &row.location {
+        Location::Bytes(extent) => push_bytes_text(text, row, extent, left_out),
+        Location::Bits(span) => push_bits_text(text, row, span, left_out),
     }
 }

@@ -60,11 +60,11 @@ ended-part indent a f b p =
     (join (indent ++ a) (codes ";") f (λ ws. mark Semicolon ∷ ws) (join indent a (λ ws. ws) f (blank-part indent b) p (λ rest q. tt)) (mark-part Semicolon) (λ rest q. stops-at 59 refl refl))
     line-end (λ rest q. tt)
 
-statement-line : (indent : List ℕ) (p : Plain) → AllBlank indent → IsPlainOfWords p → Part Any (statement_line indent p) (λ ws. statement_words p (mark Semicolon ∷ ws))
+pub statement-line : (indent : List ℕ) (p : Plain) → AllBlank indent → IsPlainOfWords p → Part Any (statement_line indent p) (λ ws. statement_words p (mark Semicolon ∷ ws))
 unfolding statement_line
 statement-line indent p b h = ended-part indent (statement_text p) (statement_words p) b (statement-part p h)
 
-close-line : (indent : List ℕ) (h : Holder) → AllBlank indent → IsHolderOfWords h → Part Any (close_line indent h) (λ ws. close_words h (mark Semicolon ∷ ws))
+pub close-line : (indent : List ℕ) (h : Holder) → AllBlank indent → IsHolderOfWords h → Part Any (close_line indent h) (λ ws. close_words h (mark Semicolon ∷ ws))
 unfolding close_line
 close-line indent h b k = ended-part indent (close_text h) (close_words h) b (close-part h k)
 
@@ -72,7 +72,7 @@ brace-is : (h : Holder) (ws : List Symbol) → before_brace h (mark OpenBrace �
 brace-is (define name k) ws = refl
 brace-is (anonymous s k) ws = refl
 
-open-line : (indent : List ℕ) (h : Holder) → AllBlank indent → IsHolderOfWords h → Part Any (open_line indent h) (open_words h)
+pub open-line : (indent : List ℕ) (h : Holder) → AllBlank indent → IsHolderOfWords h → Part Any (open_line indent h) (open_words h)
 unfolding open_line
 open-line indent h b k rest ws q c =
     subst (λ us. Cut (indent ++ open_text h ++ codes " {" ++ newline ++ rest) us) (brace-is h ws)
@@ -82,11 +82,11 @@ open-line indent h b k rest ws q c =
 
 -- ---- Bodies.
 
-deeper-blank : (indent : List ℕ) → AllBlank indent → AllBlank (deeper indent)
+pub deeper-blank : (indent : List ℕ) → AllBlank indent → AllBlank (deeper indent)
 deeper-blank [] b = (refl, (refl, (refl, (refl, tt))))
 deeper-blank (c ∷ cs) b = (b.0, deeper-blank cs b.1)
 
-body-part : (d : Items) (indent : List ℕ) → AllBlank indent → IsOfWords d → Part Any (body_text indent d) (body_words d)
+pub body-part : (d : Items) (indent : List ℕ) → AllBlank indent → IsOfWords d → Part Any (body_text indent d) (body_words d)
 body-part no_items indent b h = λ rest ws s c. c
 body-part (plain p rest) indent b h =
     join (statement_line indent p) (body_text indent rest) (λ ws. statement_words p (mark Semicolon ∷ ws)) (body_words rest)

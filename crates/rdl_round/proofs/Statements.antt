@@ -22,11 +22,11 @@ use Rattle.rdl_round.proofs.Classes.{free-is, kind-is, default-is, external-is, 
 
 -- ---- Instances.
 
-abbrev brackets : List ℕ → Option (ℕ × ℕ) → Brackets
+abbrev pub brackets : List ℕ → Option (ℕ × ℕ) → Brackets
 brackets dims None = sizes dims
 brackets dims (Some r) = range r.0 r.1
 
-abbrev inst : Shell → Inst
+abbrev pub inst : Shell → Inst
 inst s = record { name = s.name; brackets = brackets s.dims s.range; reset = s.reset; address = s.address; stride = s.stride; align = s.align }
 
 brackets-words : (dims : List ℕ) (r : Option (ℕ × ℕ)) (after : List Symbol) → AreBrackets dims r → sizes_words dims (range_words r after) ≡ brackets_words (brackets dims r) after
@@ -54,7 +54,7 @@ shell-is s o h e = λ i. record { name = s.name; outside = e i; dims = dims-are 
 
 -- ---- `external` and `internal`.
 
-abbrev outside : Outside → Option Outside
+abbrev pub outside : Outside → Option Outside
 outside Unsaid = None
 outside External = Some External
 outside Internal = Some Internal
@@ -69,7 +69,7 @@ outside-words Unsaid after = refl
 outside-words External after = ap (λ w. w ∷ after) external-is
 outside-words Internal after = ap (λ w. w ∷ after) internal-is
 
-abbrev out : Outside → Out
+abbrev pub out : Outside → Out
 out Unsaid = nowhere
 out External = front External
 out Internal = front Internal
@@ -81,7 +81,7 @@ out-of Internal = refl
 
 -- ---- Statements without a body.
 
-abbrev plain_statement : (p : Plain) → IsPlain p → Statement
+abbrev pub plain_statement : (p : Plain) → IsPlain p → Statement
 plain_statement (items.named s type) h = grammar.named (outside s.outside) type (inst s) []
 plain_statement (items.own p v) h = grammar.own (prop_of p h) (Some v)
 plain_statement (items.default p v) h = grammar.default (prop_of p h) (Some v)
@@ -95,7 +95,7 @@ dotted-words : (ns : List (List ℕ)) (after : List Symbol) → AreFree ns → d
 dotted-words [] after h = refl
 dotted-words (n ∷ ns) after h = λ i. mark Dot ∷ free-is n h.0 i ∷ dotted-words ns after h.1 i
 
-plain-words : (p : Plain) (after : List Symbol) (h : IsPlain p) → statement_words p (mark Semicolon ∷ after) ≡ grammar.statement_words (plain_statement p h) after
+pub plain-words : (p : Plain) (after : List Symbol) (h : IsPlain p) → statement_words p (mark Semicolon ∷ after) ≡ grammar.statement_words (plain_statement p h) after
 plain-words (items.named s type) after h =
     outside-words s.outside _ ∙ ap (grammar.outside_words (outside s.outside)) (λ i. free-is type h.0 i ∷ shell-words s (mark Semicolon ∷ after) h.1 i)
 plain-words (items.own p v) after h = assignment-words p v after h
@@ -105,13 +105,13 @@ plain-words (items.dynamic (n ∷ ns) p v) after h =
     (λ i. free-is n h.0.0 i ∷ dotted-words ns (mark Arrow ∷ assignment_words p v (mark Semicolon ∷ after)) h.0.1 i)
     ∙ ap (λ ws. name n ∷ dots_words ns (mark Arrow ∷ ws)) (assignment-words p v after h.1)
 
-abbrev plain_item : Plain → Item
+abbrev pub plain_item : Plain → Item
 plain_item (items.named s type) = Instance s (Named type)
 plain_item (items.own p v) = Own p v
 plain_item (items.default p v) = Default p v
 plain_item (items.dynamic target p v) = Dynamic target p v
 
-plain-items : (p : Plain) (h : IsPlain p) → plain_item p ∷ [] ≡ grammar.statement_items (plain_statement p h)
+pub plain-items : (p : Plain) (h : IsPlain p) → plain_item p ∷ [] ≡ grammar.statement_items (plain_statement p h)
 plain-items (items.named s type) h = ap (λ t. Instance t (Named type) ∷ []) (shell-is s (said (outside s.outside)) h.1 (outside-said s.outside))
 plain-items (items.own p v) h = ap (λ n. Own n v ∷ []) (prop-text-is p h)
 plain-items (items.default p v) h = ap (λ n. Default n v ∷ []) (prop-text-is p h)
@@ -120,12 +120,12 @@ plain-items (items.dynamic (n ∷ ns) p v) h = ap (λ m. Dynamic (n ∷ ns) m v 
 
 -- ---- Statements with a body.
 
-abbrev holder_statement : Holder → Statements → Statement
+abbrev pub holder_statement : Holder → Statements → Statement
 holder_statement (items.define n k) body = grammar.define k n body
 holder_statement (items.anonymous s k) body = grammar.anonymous (out s.outside) k body (inst s) []
 
 -- what stands before the body, and behind it
-holder-words : (h : Holder) (body : Statements) (inside : List Symbol → List Symbol) (after : List Symbol) → IsHolder h → ((ws : List Symbol) → inside ws ≡ grammar.words body ws)
+pub holder-words : (h : Holder) (body : Statements) (inside : List Symbol → List Symbol) (after : List Symbol) → IsHolder h → ((ws : List Symbol) → inside ws ≡ grammar.words body ws)
     → open_words h (inside (close_words h (mark Semicolon ∷ after))) ≡ grammar.statement_words (holder_statement h body) after
 holder-words (items.define n k) body inside after h e = λ i. kind-is k i ∷ free-is n h i ∷ mark OpenBrace ∷ e (mark CloseBrace ∷ mark Semicolon ∷ after) i
 holder-words (items.anonymous s k) body inside after h e =
@@ -142,22 +142,22 @@ holder-words (items.anonymous s k) body inside after h e =
     front-words External k body i after = refl
     front-words Internal k body i after = refl
 
-abbrev holder_item : Holder → Items → Item
+abbrev pub holder_item : Holder → Items → Item
 holder_item (items.define n k) body = Define n (component k body)
 holder_item (items.anonymous s k) body = Instance s (Anonymous (component k body))
 
-holder-items : (h : Holder) (body : Statements) (d : Items) → IsHolder h → d ≡ items_of (grammar.items body) → holder_item h d ∷ [] ≡ grammar.statement_items (holder_statement h body)
+pub holder-items : (h : Holder) (body : Statements) (d : Items) → IsHolder h → d ≡ items_of (grammar.items body) → holder_item h d ∷ [] ≡ grammar.statement_items (holder_statement h body)
 holder-items (items.define n k) body d h e = ap (λ b. Define n (component k b) ∷ []) e
 holder-items (items.anonymous s k) body d h e = λ i. Instance (shell-is s (out_of (out s.outside)) h (out-of s.outside) i) (Anonymous (component k (e i))) ∷ []
 
 -- ---- Bodies.
 
-abbrev statements : (d : Items) → IsSpellable d → Statements
+abbrev pub statements : (d : Items) → IsSpellable d → Statements
 statements no_items h = none
 statements (plain p rest) h = one (plain_statement p h.0) (statements rest h.1)
 statements (holder k body rest) h = one (holder_statement k (statements body h.1)) (statements rest h.2)
 
-words-are : (d : Items) (after : List Symbol) (h : IsSpellable d) → body_words d after ≡ grammar.words (statements d h) after
+pub words-are : (d : Items) (after : List Symbol) (h : IsSpellable d) → body_words d after ≡ grammar.words (statements d h) after
 words-are no_items after h = refl
 words-are (plain p rest) after h = plain-words p (body_words rest after) h.0 ∙ ap (grammar.statement_words (plain_statement p h.0)) (words-are rest after h.1)
 words-are (holder k body rest) after h =
@@ -174,7 +174,7 @@ holder-first : (k : Holder) (body rest : Items) (ys : List Item) → rest ≡ it
 holder-first (items.define n k) body rest ys e = ap (holder (items.define n k) body) e
 holder-first (items.anonymous s k) body rest ys e = ap (holder (items.anonymous s k) body) e
 
-items-are : (d : Items) (h : IsSpellable d) → d ≡ items_of (grammar.items (statements d h))
+pub items-are : (d : Items) (h : IsSpellable d) → d ≡ items_of (grammar.items (statements d h))
 items-are no_items h = refl
 items-are (plain p rest) h =
     let after = grammar.items (statements rest h.1) in

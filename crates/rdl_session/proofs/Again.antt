@@ -8,9 +8,9 @@ use Rattle.std.specs.Fmt.{decimal}
 use Rattle.std.specs.List.{list_all, AllByRecursion}
 use Rattle.std.specs.Prelude.{◌&&◌, nat_le, if◌then◌else◌, option_map, ◌⊎◌, codes, bytes_eq, flat_map}
 use Rattle.rdl_tree.specs.AddressText.{address_text}
-use Rattle.rdl_session.specs.Text.{PatchLines, SessionLines, insert, delete, shift, shell, value, target, type, name, line_feed, count_line, counted, act, patch_text, step_text, steps_text, session_text}
+use Rattle.rdl_session.specs.Text.{PatchLines, SessionLines, insert, delete, shift, shell, value, target, type, name, line_feed, count_line, counted, act, patch_text, step_text, steps_text, session_text, with_source}
 use Rattle.rdl_session.proofs.Form.{IsHeld, Lacks, IsPlace, IsFormedPatch, AreFormed, AreFormedSteps, IsFormed}
-use Rattle.rdl_session.specs.Reading.{◌>>=◌, Cut, PatchCut, cut_at, taken, number_in, address_in, count_in, counted_in, exchange_in, act_in, patch_in, many, step_in, steps_in, head_in, lines_in}
+use Rattle.rdl_session.specs.Reading.{◌>>=◌, Cut, PatchCut, cut_at, taken, number_in, address_in, count_in, counted_in, exchange_in, act_in, patch_in, many, step_in, steps_in, head_in, lines_in, begins_session, source_in}
 use Rattle.rdl_session.proofs.Cuts.{bound, mapped, guarded, cut-again, cut-found, lacks-append, number-found, number-again, decimal-lacks, address-again, address-found, address-lacks}
 
 -- ---- Words.
@@ -384,6 +384,23 @@ head-again text rest held =
       append_assoc (count_line (codes "map") (length text)) text rest,
       count-again (codes "map") (length text) (text ++ rest) (lacks-by 10 (codes "map") refl) (lacks-by 32 (codes "map") refl) held,
     ) (taken-again text rest)
+
+-- the text of a session begins so
+begins-session : (s : SessionLines) → begins_session (session_text s) ≡ true
+unfolding session_text
+begins-session s = refl
+
+pub source-again : (source : List ℕ) (s : SessionLines) → IsHeld (length source) → source_in (with_source source (session_text s)) ≡ Some (source, session_text s)
+unfolding source_in with_source counted
+source-again source s held =
+    let session = session_text s in
+    rw (
+      cut-again 10 (codes "regedit session 2") (counted (codes "source") source ++ session) (lacks-by 10 (codes "regedit session 2") refl),
+      append_assoc (count_line (codes "source") (length source)) source session,
+      count-again (codes "source") (length source) (source ++ session) (lacks-by 10 (codes "source") refl) (lacks-by 32 (codes "source") refl) held,
+      taken-again source session,
+      begins-session s,
+    ) refl
 
 pub record IsHead (text : List ℕ) (p : Cut) : Type 0 where
   pub text_is : text ≡ first_line ++ 10 ∷ (counted (codes "map") p.0 ++ p.1)

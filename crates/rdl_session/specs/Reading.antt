@@ -96,3 +96,14 @@ unfoldable pub lines_in : List ℕ → Option SessionLines
 lines_in text =
     head_in text >>= λ map. steps_in (codes "undo") map.1 >>= λ undo. steps_in (codes "redo") undo.1 >>= λ redo.
     if bytes_eq redo.1 (codes "end\n") then Some (record { map = map.0; undo = undo.0; redo = redo.0 }) else None
+
+-- ---- A source text in front.
+
+-- it begins with the line of a session without one
+abbrev pub begins_session : List ℕ → Bool
+begins_session text = bytes_eq (codes "regedit session 1\n") (take (length (codes "regedit session 1\n")) text)
+
+-- the source text, and the session behind it
+unfoldable pub source_in : List ℕ → Option Cut
+source_in text =
+    cut_at 10 text >>= λ line. if bytes_eq line.0 (codes "regedit session 2") then (count_in (codes "source") line.1 >>= λ c. taken c.0 c.1 >>= λ p. if begins_session p.1 then Some p else None) else None

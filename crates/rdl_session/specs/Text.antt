@@ -78,3 +78,9 @@ session_text s =
 -- the most bytes that a session may have
 abbrev pub max_session : ℕ
 max_session = 67108864
+
+-- ---- A session that keeps the text of its first map.
+
+-- the source text in front of a session
+unfoldable pub with_source : (source session : List ℕ) → List ℕ
+with_source source session = codes "regedit session 2" ++ line_feed ++ counted (codes "source") source ++ session

@@ -1,6 +1,6 @@
 //! Laws of sessions: a text is one session at most, and what was written is read back. All but the last are contracts of
 //! functions that do nothing.
-ghost use Rattle.std.specs.Prelude.{◌≡◌, ◌≤◌, ◌∷◌, [], ℕ, List, Ok, length, map, All, IsUtf8};
+ghost use Rattle.std.specs.Prelude.{◌≡◌, ◌≤◌, ◌<◌, ◌^◌, Some, ◌∷◌, [], ℕ, List, Ok, length, map, All, IsUtf8};
 ghost use Rattle.rdl_tree.specs.Items.{Items};
 ghost use Rattle.rdl_tree.specs.Limits.{IsWithinLimits};
 ghost use Rattle.rdl_tree.specs.Patch.{image, inverses};
@@ -15,6 +15,8 @@ ghost use Rattle.rdl_write.specs.ItemText.{item_text};
 ghost use Rattle.rdl_session.specs.Written.{written_session};
 ghost use Rattle.rdl_round.specs.Writable.{IsWritable};
 ghost use Rattle.rdl_round.specs.OfWords.{IsOfWords};
+ghost use Rattle.rdl_session.specs.Reading.{source_in};
+ghost use Rattle.rdl_session.specs.Text.{SessionLines, session_text, with_source};
 ghost use Rattle.rdl_session.specs.Writable.{SessionReadsBack, IsWritablePatch, AreWritable, AreDropsWithin, IsSpelledMap, AreSpelled};
 ghost use Rattle.rdl_round.specs.Spellable.{IsSpellable};
 
@@ -64,6 +66,11 @@ pub fn spelled_steps_are_writable()
 pub fn inverses_are_writable()
     ensures back { (patches : List Patch) (d : Items) → IsWritable d → All IsWritablePatch patches → AreDropsWithin patches d → All IsWritablePatch (inverses patches d) }
     ensures place { (patches : List Patch) (d : Items) → IsWritable d → All IsWritablePatch patches → IsWithinLimits (image patches d) → IsWritable (image patches d) }
+{}
+
+/// The source that a session keeps, and that session, are read as they were written.
+pub fn kept_sources_read_back()
+    ensures { (source : List ℕ) (session : SessionLines) → length source < 2 ^ 64 → source_in (with_source source (session_text session)) ≡ Some (source, session_text session) }
 {}
 
 /// What `parse_session` answers for the text that `session` wrote: the same map and the same steps, but for want of memory.

@@ -7,6 +7,7 @@ mod lines;
 mod meaning;
 pub mod parse;
 mod parts;
+pub mod source;
 pub mod write;
 
 /// The most bytes that a session may have.

@@ -28,7 +28,7 @@ pub struct Lines<'a> {
     pub redo: Vec<Vec<PatchLine<'a>>>,
 }
 
-fn is(word: &[u8], name: &str) -> bool
+pub(crate) fn is(word: &[u8], name: &str) -> bool
     ensures { result ≡ bytes_eq word.now name.now }
 {
     word == name.as_bytes()
@@ -36,7 +36,7 @@ fn is(word: &[u8], name: &str) -> bool
 
 /// A line of a word and a count, and what is behind it.
 #[tactic(auto, unfolding(crate::specs::Reading::count_in))]
-fn count<'a>(text: &'a [u8], word: &str) -> Option<(usize, &'a [u8])>
+pub(crate) fn count<'a>(text: &'a [u8], word: &str) -> Option<(usize, &'a [u8])>
     ensures { option_map (λ p. (p.0, p.1.now)) result ≡ spec.count_in word.now text.now }
 {
     let (line, rest) = cut(text, b'\n')?;

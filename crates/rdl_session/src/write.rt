@@ -67,7 +67,7 @@ fn target_text(alloc: Global, target: &Target) -> Result<String, AllocError>
 }
 
 /// Appends ` COUNT` and the end of the line.
-fn push_count(text: &mut String, word: &str, count: usize) -> Result<(), AllocError>
+pub(crate) fn push_count(text: &mut String, word: &str, count: usize) -> Result<(), AllocError>
     ensures { OnOk result (string_bytes text.new ≡ string_bytes text.old ++ count_line word.now count) }
 {
     write!(text, "{word} ")?;

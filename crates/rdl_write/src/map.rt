@@ -91,8 +91,9 @@ pub fn push_dynamic(
     Ok(())
 }
 
+/// Appends the line that opens a definition.
 #[tactic(auto, unfolding(crate::specs::MapText::open_line))]
-fn open_definition(
+pub fn open_definition(
     text: &mut String,
     indent: &str,
     name: &Name,
@@ -103,8 +104,9 @@ fn open_definition(
     write!(text, "{indent}{} {name} {{\n", kind_text(kind))
 }
 
+/// Appends the line that opens an instance with a body of its own.
 #[tactic(auto, unfolding(crate::specs::MapText::open_line))]
-fn open_instance(
+pub fn open_instance(
     text: &mut String,
     indent: &str,
     shell: &Shell,
@@ -120,15 +122,17 @@ fn open_instance(
     )
 }
 
+/// Appends the line that closes a definition.
 #[tactic(auto, unfolding(crate::specs::MapText::close_line))]
-fn close_definition(text: &mut String, indent: &str) -> Result<(), AllocError>
+pub fn close_definition(text: &mut String, indent: &str) -> Result<(), AllocError>
     ensures { (name : List ℕ) (k : SomeKind) → OnOk result (string_bytes text.new ≡ string_bytes text.old ++ close_line indent.now (define name k)) }
 {
     write!(text, "{indent}}};\n")
 }
 
+/// Appends the line that closes an instance with a body of its own.
 #[tactic(auto, unfolding(crate::specs::MapText::close_line))]
-fn close_instance(text: &mut String, indent: &str, shell: &Shell) -> Result<(), AllocError>
+pub fn close_instance(text: &mut String, indent: &str, shell: &Shell) -> Result<(), AllocError>
     ensures { (k : SomeKind) → OnOk result (string_bytes text.new ≡ string_bytes text.old ++ close_line indent.now (anonymous shell.now k)) }
 {
     write!(text, "{indent}}} ")?;
