@@ -2,7 +2,9 @@ pub mod Back
 pub mod Codes
 pub mod Falls
 pub mod Numbered
+pub mod Once
 pub mod Order
 pub mod Shape
 pub mod Traces
+pub mod Values
 pub mod View

@@ -6,3 +6,16 @@ pub mod Whole
 pub mod Items
 pub mod One
 pub mod NoWord
+pub mod Quiet
+pub mod Within
+pub mod Beside
+pub mod Appended
+pub mod Behind
+pub mod Cuts
+pub mod Silence
+pub mod Semis
+pub mod Marked
+pub mod Spelled
+pub mod Standing
+pub mod Gaps
+pub mod Every

@@ -21,7 +21,7 @@ line-step : (b : Bool) (m n : ℕ) → m ≡ n → cond b 0 (m + 1) ≡ cond (no
 line-step true m n e = refl
 line-step false m n e = omega (arith, e)
 
-line_same : (s : List ℕ) → line_len s ≡ prefix_len is_in_line s
+pub line_same : (s : List ℕ) → line_len s ≡ prefix_len is_in_line s
 line_same [] = refl
 line_same (c ∷ cs) = line-step (nat_eq c 10) (line_len cs) (prefix_len is_in_line cs) (line_same cs)
 
@@ -31,7 +31,7 @@ chosen false true line None w n e h = absurd (false≢true (sym h ∙ eq-eqb n 0
 chosen false true line (Some k) w n e h = ap (λ m. Ok (Gap m)) e
 chosen false false line o w n e h = absurd (false≢true (sym h ∙ eq-eqb n 0 (sym e)))
 
-comment_piece : (s : List ℕ) (n : ℕ) → is_blank (byte s 0) ≡ false → comment_len s ≡ n → nat_eq n 0 ≡ false → piece s ≡ Ok (Gap n)
+pub comment_piece : (s : List ℕ) (n : ℕ) → is_blank (byte s 0) ≡ false → comment_len s ≡ n → nat_eq n 0 ≡ false → piece s ≡ Ok (Gap n)
 unfolding comment_len piece
 comment_piece s n blank e h =
     let a = nat_eq (byte s 0) 47 && nat_eq (byte s 1) 47 in
@@ -47,7 +47,7 @@ blank_piece : (c : ℕ) (cs : List ℕ) → is_blank c ≡ true → piece (c ∷
 unfolding piece
 blank_piece c cs e = rw e refl
 
-word_gap : (at n : ℕ) (c : ℕ) (cs : List ℕ) → piece (c ∷ cs) ≡ Ok (Gap n) → words_from 0 at (c ∷ cs) ≡ words_from (n - 1) (at + 1) cs
+pub word_gap : (at n : ℕ) (c : ℕ) (cs : List ℕ) → piece (c ∷ cs) ≡ Ok (Gap n) → words_from 0 at (c ∷ cs) ≡ words_from (n - 1) (at + 1) cs
 unfolding words_from
 word_gap at n c cs e = rw (e, words_from) refl
 
@@ -70,12 +70,12 @@ unfolding words_from
 blanks at [] = refl
 blanks at (c ∷ cs) = no-blank at (prefix_len is_blank cs) c cs (is_blank c) refl refl
 
-past_blank : (at : ℕ) (c : ℕ) (cs : List ℕ) → is_blank c ≡ true → words_from 0 at (c ∷ cs) ≡ words_from 0 (at + 1) cs
+pub past_blank : (at : ℕ) (c : ℕ) (cs : List ℕ) → is_blank c ≡ true → words_from 0 at (c ∷ cs) ≡ words_from 0 (at + 1) cs
 past_blank at c cs e = past at c cs e ∙ blanks (at + 1) cs
 
 -- ---- All of it.
 
-line_feed : (c : ℕ) → nat_eq c 10 ≡ true → is_blank c ≡ true
+pub line_feed : (c : ℕ) → nat_eq c 10 ≡ true → is_blank c ≡ true
 line_feed c e = ap is_blank (eqb-true c 10 e)
 
 -- what a gap begins with, where the rest of it has no words
@@ -90,14 +90,14 @@ front false false false at at' m end c cs rest ea eb ez e =
     word_gap at' (comment_len (c ∷ cs)) c cs (comment_piece (c ∷ cs) (comment_len (c ∷ cs)) eb refl ez)
     ∙ rest (comment_len (c ∷ cs) - 1) (at + 1) (at' + 1) (comment_ended (at + comment_len (c ∷ cs)) m) e
 
-scanned : (skip at at' : ℕ) (m end : Scan) (s : List ℕ) → scan_from skip at m s ≡ Some end → words_from skip at' s ≡ Ok []
+pub scanned : (skip at at' : ℕ) (m end : Scan) (s : List ℕ) → scan_from skip at m s ≡ Some end → words_from skip at' s ≡ Ok []
 unfolding scan_from words_from
 scanned skip at at' m end [] e = refl
 scanned (suc skip) at at' m end (c ∷ cs) e = scanned skip (at + 1) (at' + 1) m end cs e
 scanned zero at at' m end (c ∷ cs) e =
     front (nat_eq c 10) (is_blank c) (nat_eq (comment_len (c ∷ cs)) 0) at at' m end c cs (λ skip at at' m h. scanned skip at at' m end cs h) refl refl refl e
 
-mapped : (f : Scan → Parts) (o : Option Scan) (p : Parts) → option_map f o ≡ Some p → (m : Scan) × (o ≡ Some m)
+pub mapped : (f : Scan → Parts) (o : Option Scan) (p : Parts) → option_map f o ≡ Some p → (m : Scan) × (o ≡ Some m)
 mapped f None p e = absurd (none≢some p e)
 mapped f (Some m) p e = (m, refl)
 

@@ -30,11 +30,11 @@ skip_scan (suc k) at m (c ∷ cs) = skip_scan k (at + 1) m cs ∙ from_place (at
 
 -- ---- The pieces at the begin of what is left.
 
-line-cons : (at : ℕ) (m : Scan) (c : ℕ) (cs : List ℕ) → nat_eq c 10 ≡ true → scan_from 0 at m (c ∷ cs) ≡ scan_from 0 (at + 1) (line_ended (at + 1) m.line m) cs
+pub line-cons : (at : ℕ) (m : Scan) (c : ℕ) (cs : List ℕ) → nat_eq c 10 ≡ true → scan_from 0 at m (c ∷ cs) ≡ scan_from 0 (at + 1) (line_ended (at + 1) m.line m) cs
 unfolding scan_from
 line-cons at m c cs e = rw e refl
 
-blank-cons : (at : ℕ) (m : Scan) (c : ℕ) (cs : List ℕ) → nat_eq c 10 ≡ false → is_blank c ≡ true → scan_from 0 at m (c ∷ cs) ≡ scan_from 0 (at + 1) m cs
+pub blank-cons : (at : ℕ) (m : Scan) (c : ℕ) (cs : List ℕ) → nat_eq c 10 ≡ false → is_blank c ≡ true → scan_from 0 at m (c ∷ cs) ≡ scan_from 0 (at + 1) m cs
 unfolding scan_from
 blank-cons at m c cs e f = rw (e, f) refl
 
@@ -42,7 +42,7 @@ word-cons : (at : ℕ) (m : Scan) (c : ℕ) (cs : List ℕ) → nat_eq c 10 ≡ 
 unfolding scan_from
 word-cons at m c cs e f g = rw (e, f, g) refl
 
-comment-cons : (at : ℕ) (m : Scan) (c : ℕ) (cs : List ℕ) → nat_eq c 10 ≡ false → is_blank c ≡ false → nat_eq (comment_len (c ∷ cs)) 0 ≡ false
+pub comment-cons : (at : ℕ) (m : Scan) (c : ℕ) (cs : List ℕ) → nat_eq c 10 ≡ false → is_blank c ≡ false → nat_eq (comment_len (c ∷ cs)) 0 ≡ false
     → scan_from 0 at m (c ∷ cs) ≡ scan_from (comment_len (c ∷ cs) - 1) (at + 1) (comment_ended (at + comment_len (c ∷ cs)) m) cs
 unfolding scan_from
 comment-cons at m c cs e f g = rw (e, f, g) refl

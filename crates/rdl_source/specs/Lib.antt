@@ -8,3 +8,7 @@ pub mod LaidOut
 pub mod Worded
 pub mod Only
 pub mod NoWord
+pub mod Beside
+pub mod Silent
+pub mod Alone
+pub mod Every
