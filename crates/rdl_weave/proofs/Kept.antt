@@ -34,7 +34,7 @@ count-some (ended last) = omega arith
 count-some (bare b rest) = omega arith
 count-some (braced b br body rest) = omega arith
 
-laid_of-list_of : (l : Laid) → laid_of (list_of l) (last_of l) ≡ l
+pub laid_of-list_of : (l : Laid) → laid_of (list_of l) (last_of l) ≡ l
 laid_of-list_of (ended last) = refl
 laid_of-list_of (bare b rest) = ap (bare b) (laid_of-list_of rest)
 laid_of-list_of (braced b br body rest) = ap (braced b br body) (laid_of-list_of rest)

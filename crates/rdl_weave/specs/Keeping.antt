@@ -5,15 +5,12 @@ use Rattle.std.specs.List.{All}
 use Rattle.rdl_origin.specs.Traces.{Traces, no_traces, trace}
 use Rattle.rdl_origin.specs.View.{list_of}
 use Rattle.rdl_origin.specs.declared.origin.Origin.{Origin}
+pub use Rattle.rdl_source.specs.Alone.{core}
 use Rattle.rdl_source.specs.Laid.{Bare, Braces, Laid, ended, bare, braced}
 use Rattle.rdl_source.specs.declared.span.Span.{Span}
 use Rattle.rdl_source.specs.declared.statement.Inner.{Inner}
 use Rattle.rdl_weave.specs.Standing.{Stands}
 use Rattle.rdl_weave.specs.Untouched.{is_untouched}
-
--- a statement's lead, words and trail
-abbrev pub core : Bare → Span
-core b = record { from = b.lead.from; to = b.trail.to }
 
 abbrev pub is_empty : Traces → Bool
 is_empty no_traces = true

@@ -3,3 +3,6 @@ pub mod Standing
 pub mod Untouched
 pub mod Keeping
 pub mod Weaving
+pub mod Coarse
+pub mod Sound
+pub mod Laws

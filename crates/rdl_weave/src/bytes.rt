@@ -62,6 +62,11 @@ pub(crate) fn ends_blank(bytes: &[u8]) -> bool {
     }
 }
 
+/// Whether a comment between marks stands last, but for blanks.
+pub(crate) fn ends_comment(bytes: &[u8]) -> bool {
+    before_blanks(bytes).ends_with(b"*/")
+}
+
 /// Whether a line begins at this place of a text.
 pub(crate) fn begins_line(text: &[u8], at: usize) -> bool {
     at == 0 || ends_line(part(text, 0, at))

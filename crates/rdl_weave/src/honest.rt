@@ -24,7 +24,7 @@ pub(crate) struct Check<'a> {
 }
 
 /// The first of the items, so many, and those behind them.
-fn split(origins: &[Origin], count: usize) -> (&[Origin], &[Origin])
+pub(crate) fn split(origins: &[Origin], count: usize) -> (&[Origin], &[Origin])
     ensures front { result.0.now ≡ take count origins.now }
     ensures back { result.1.now ≡ drop count origins.now }
 {
@@ -36,7 +36,7 @@ fn split(origins: &[Origin], count: usize) -> (&[Origin], &[Origin])
 }
 
 /// Whether the item is still there, and had items inside.
-fn holds_items(origin: &Origin) -> bool
+pub(crate) fn holds_items(origin: &Origin) -> bool
     ensures { result ≡ spec.holds_items origin.entry.now }
 {
     origin.now.is_some() && !origin.inside.is_empty()

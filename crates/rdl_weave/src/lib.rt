@@ -3,9 +3,12 @@
 
 mod assigned;
 mod bytes;
+mod coarse;
+mod covers;
 pub mod fault;
 mod honest;
 mod inst;
+pub mod laws;
 mod lexeme;
 mod made;
 mod member;

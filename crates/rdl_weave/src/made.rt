@@ -206,6 +206,9 @@ impl<'a> Group<'a> {
         let words = lexemes(alloc, self.source, span.from, span.to)?;
         let words = words.as_slice();
         let at = outside_count(words, 0);
+        if !self.is_first {
+            return self.apart(alloc, words, at.saturating_add(1));
+        }
         let mut writer = Writer::new(alloc, self.source, span.from);
         put_outside(
             &mut writer,
@@ -247,13 +250,20 @@ impl<'a> Group<'a> {
 
     /// Instances that stand apart from the definition with which they stood in one statement.
     fn parted_instances(&self, alloc: Global, inner: &Inner) -> Result<Option<Woven>, AllocError> {
-        let Some(new) = self.new_type() else {
-            return Ok(None);
-        };
         let words = lexemes(alloc, self.source, inner.close, self.statement.words.to)?;
         let words = words.as_slice();
-        let begin = outside_count(words, 1).saturating_add(1);
-        let Some(first) = words.get(begin) else {
+        self.apart(alloc, words, outside_count(words, 1).saturating_add(1))
+    }
+
+    /// Instances that stand apart from what stood before them in one statement, where the first INST's name has this number.
+    /// The comments before that stay there.
+    fn apart(
+        &self,
+        alloc: Global,
+        words: &[Lexeme],
+        begin: usize,
+    ) -> Result<Option<Woven>, AllocError> {
+        let (Some(new), Some(first)) = (self.new_type(), words.get(begin)) else {
             return Ok(None);
         };
         let mut writer = Writer::new(alloc, self.source, first.from);

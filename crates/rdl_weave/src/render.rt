@@ -2,7 +2,7 @@
 
 use crate::bytes::{
     are_blanks, before_blanks, begins_line, begins_with_blank_line, behind_blanks,
-    blank_line_at_end, ends_blank, ends_line, first_line, has_line_feed, indent_of,
+    blank_line_at_end, ends_blank, ends_comment, ends_line, first_line, has_line_feed, indent_of,
     is_open_comment, last_line, line_before, part, slice,
 };
 use crate::made::Group;
@@ -179,7 +179,8 @@ impl<'a> Page<'a> {
     fn put_lead(&mut self, statement: &Statement) -> Result<(), AllocError> {
         let lead = slice(self.loom.source, statement.lead);
         if self.at != Some(statement.lead.from) {
-            if self.is_open || begins_line(self.loom.source, statement.lead.from) {
+            let is_behind_comment = self.is_open || ends_comment(self.text.as_slice());
+            if is_behind_comment || begins_line(self.loom.source, statement.lead.from) {
                 self.end_line()?;
             }
             if !begins_line(self.loom.source, statement.lead.from) {
@@ -215,10 +216,11 @@ impl<'a> Page<'a> {
         self.put_trail(statement)
     }
 
-    /// Goes to where a new statement may begin that stands in lines of this indent.
+    /// Goes to where a new statement may begin that stands in lines of this indent: in a body on one line behind a blank, unless a comment
+    /// would come before it.
     fn begin_new(&mut self, indent: &str) -> Result<(), AllocError> {
         self.at = None;
-        if self.room.is_flat {
+        if self.room.is_flat && !ends_comment(self.text.as_slice()) {
             if !ends_blank(self.text.as_slice()) {
                 self.text.push_str(" ")?;
             }

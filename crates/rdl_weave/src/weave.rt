@@ -1,12 +1,16 @@
 //! The woven text.
-ghost use Rattle.std.specs.Prelude.{◌≡◌, ◌⊎◌, IsTrue, string_bytes, IfOk, IfSome, MatchResult};
+ghost use Rattle.std.specs.Prelude.{◌≡◌, ◌≤◌, ◌⊎◌, IsTrue, string_bytes, Err, IfOk, IfSome, MatchOption, MatchResult};
+ghost use Rattle.rdl_source.specs.Laid as lying;
+ghost use Rattle.rdl_tree.specs.Limits.{IsWithinLimits};
 ghost use Rattle.rdl_origin.specs.View.{list_of};
 ghost use Rattle.rdl_weave.specs.Keeping.{Keeps};
+ghost use Rattle.rdl_weave.specs.Sound.{IsSound};
 ghost use Rattle.rdl_weave.specs.Spelled.{SpellsAs};
 ghost use Rattle.rdl_weave.specs.Untouched.{sizes_of};
 ghost use Rattle.rdl_weave.specs.Weaving.{AreStatements, IsWoven};
-ghost use Rattle.rdl_weave.specs.declared.fault.WeaveFault.TheVariants.{Memory};
+ghost use Rattle.rdl_weave.specs.declared.fault.WeaveFault.TheVariants.{Memory, NotWoven};
 
+use crate::coarse::{Ground, Was, coarse};
 use crate::fault::WeaveFault;
 use crate::honest::{Check, keeps};
 use crate::member::Past;
@@ -17,8 +21,10 @@ use crate::unit::style_of;
 use crate::untouched::push_sizes;
 use crate::woven::Woven;
 use rdl_origin::origin::Origins;
+use rdl_parse::fault::ParseFaultKind;
 use rdl_parse::parse::{MAX_LEN, parse};
 use rdl_source::statement::Statements;
+use rdl_text::fault::WordFault;
 use rdl_text::tokens;
 use rdl_tree::description::Description;
 use std::alloc::{AllocError, Global};
@@ -32,14 +38,26 @@ struct Laid {
 }
 
 /// The statements of a text, where it spells a map.
+#[tactic(auto, using(crate::proofs::Sounding::lie_so))]
 fn read_source(alloc: Global, source: &str) -> Result<Option<Laid>, AllocError>
-    ensures { IfOk result (λ found. IfSome found (λ laid. AreStatements source.now laid.statements)) }
+    ensures found { IfOk result (λ found. IfSome found (λ laid. AreStatements source.now laid.statements)) }
+    // They are the only ones.
+    ensures only { (laid : lying.Laid) (s : AreStatements source.now laid) → IsWithinLimits s.map → lying.depth laid ≤ 16
+        → IfOk result (λ found. MatchOption found ⊥ (λ x. x.statements ≡ laid)) }
 {
-    let Ok((map, places)) = parse(alloc, source) else {
-        return Ok(None);
+    let (map, places) = match parse(alloc, source) {
+        Ok(read) => read,
+        Err(fault) => match fault.kind {
+            ParseFaultKind::Words(WordFault::Memory) => return Err(AllocError),
+            _ => return Ok(None),
+        },
     };
-    let Ok(words) = tokens(alloc, source) else {
-        return Ok(None);
+    let words = match tokens(alloc, source) {
+        Ok(words) => words,
+        Err(fault) => match fault.kind {
+            WordFault::Memory => return Err(AllocError),
+            _ => return Ok(None),
+        },
     };
     match Statements::of(alloc, source, &words, places.as_slice())? {
         Some(statements) => Ok(Some(Laid { map, statements })),
@@ -102,8 +120,9 @@ fn woven(
     is_coarse: bool,
 ) -> Result<Option<String>, WeaveFault>
     requires { sizes.now ≡ sizes_of last.now.items }
-    ensures { IfOk result (λ found. IfSome found (λ text. SpellsAs canonical.now (string_bytes text)
+    ensures found { IfOk result (λ found. IfSome found (λ text. SpellsAs canonical.now (string_bytes text)
         × Keeps source.now sizes.now (string_bytes text) laid.now.statements (list_of origins.now))) }
+    ensures fault { result ≡ Err NotWoven → ⊥ }
 {
     let mut woven = text_of(alloc, source, laid, origins, last, sizes, is_coarse)?;
     woven.sort();
@@ -128,6 +147,7 @@ fn woven(
 /// The source text of a map with only the edits woven in that made of it the last map, whose canonical text is this.
 ///
 /// The origins say of each item of the source's map which item of the last map it is.
+#[tactic(auto, using(crate::proofs::Sounding::laid_fits))]
 pub fn weave(
     alloc: Global,
     source: &str,
@@ -141,6 +161,9 @@ pub fn weave(
     ensures same { SpellsAs canonical.now source.now → MatchResult result (λ text. string_bytes text ≡ source.now) (λ fault. fault ≡ Memory) }
     // Else each statement that no edit touched stands in the answer as it stood, with its comments, and so does what floats.
     ensures woven { IfOk result (λ text. (string_bytes text ≡ source.now) ⊎ IsWoven source.now origins.now last.now.items (string_bytes text)) }
+    // There is always an answer where each statement that no edit touched spells by itself the items of the last map that are its own, what
+    // floats holds no word, and the last map can be written, but for want of memory and a text that would be too long.
+    ensures refused { result ≡ Err NotWoven → IsSound source.now origins.now last.now.items canonical.now → ⊥ }
 {
     if spells_as(alloc, canonical, source)? {
         return Ok(String::from_str(alloc, source)?);
@@ -154,7 +177,18 @@ pub fn weave(
     if let Some(text) = woven(alloc, source, &laid, origins, last, sizes, canonical, false)? {
         return Ok(text);
     }
-    match woven(alloc, source, &laid, origins, last, sizes, canonical, true)? {
+    if let Some(text) = woven(alloc, source, &laid, origins, last, sizes, canonical, true)? {
+        return Ok(text);
+    }
+    let ground = Ground {
+        source: source.as_bytes(),
+        sizes,
+    };
+    let was = Was {
+        statements: &laid.statements,
+        origins,
+    };
+    match coarse(alloc, canonical, ground, was, &last.items)? {
         Some(text) => Ok(text),
         None => Err(WeaveFault::NotWoven),
     }

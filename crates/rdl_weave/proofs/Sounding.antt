@@ -1,0 +1,38 @@
+-- A source that was read has the statements of which the definition of sound speaks.
+use Rattle.std.proofs.Common.{◌≡◌, ◌≤◌, ℕ, List, Option, Some, None, Result, Ok, ap, sym, ◌∙◌, subst}
+use Rattle.std.specs.Prelude.{MatchOption}
+use Rattle.rdl_text.specs.Word.{Word}
+use Rattle.rdl_text.specs.Words.{words}
+use Rattle.rdl_text.specs.declared.fault.TextFault.{TextFault}
+use Rattle.rdl_tree.specs.Items.{Items}
+use Rattle.rdl_tree.specs.Limits.{IsWithinLimits}
+use Rattle.rdl_origin.specs.Traces.{Traces}
+use Rattle.rdl_parse.specs.declared.places.ItemPlace.{ItemPlace}
+use Rattle.rdl_source.specs.Laid.{Laid, depth}
+use Rattle.rdl_source.specs.LaidOut.{IsLaidOut}
+use Rattle.rdl_weave.specs.Sound.{Fits, IsSound}
+use Rattle.rdl_weave.specs.Weaving.{AreStatements}
+
+pub laid_fits : (source canonical : List ℕ) (t : Traces) (d : Items) (l : Laid) → ((laid : Laid) (s : AreStatements source laid) → IsWithinLimits s.map → depth laid ≤ 16 → l ≡ laid)
+    → IsSound source t d canonical → Fits source l t d canonical
+laid_fits source canonical t d l only s = subst (λ m. Fits source m t d canonical) (sym (only s.laid s.laid_out s.within s.shallow)) s.fits
+
+same_words : (vs ws : List Word) → ◌≡◌ {A = Result (List Word) TextFault} (Ok vs) (Ok ws) → vs ≡ ws
+same_words vs ws e = cc
+
+-- the words and the places that were read are those of the statements
+pub lie_so : (source : List ℕ) (ws : List Word) (ps : List ItemPlace) (laid : Laid) (s : AreStatements source laid) → words source ≡ Ok ws → ps ≡ s.places.places → IsLaidOut source ws ps laid
+lie_so source ws ps laid s e f =
+    subst (λ qs. IsLaidOut source ws qs laid) (sym f) (subst (λ vs. IsLaidOut source vs s.places.places laid) (same_words s.words ws (sym s.has_words.cut ∙ e)) s.laid_out)
+
+abbrev Found : Type 0
+Found = Option Laid
+
+pub some_same : (a b : Laid) → ◌≡◌ {A = Found} (Some a) (Some b) → a ≡ b
+some_same a b e = cc
+
+pub none_some : (b : Laid) → ◌≡◌ {A = Found} None (Some b) → ⊥
+none_some b e = cc
+
+pub not_found : {X : Type 0} (o : Option X) (Q : X → Type 0) → o ≡ None → MatchOption o ⊥ Q → ⊥
+not_found o Q e h = subst (λ p. MatchOption p ⊥ Q) e h

@@ -1,0 +1,20 @@
+use Rattle.std.proofs.Common.{rules, ◌≡◌, ◌≤◌, None, sym, subst}
+use Rattle.std.specs.Prelude.{MatchOption}
+use Rattle.rdl_tree.specs.Limits.{IsWithinLimits}
+use Rattle.rdl_source.specs.Laid.{Laid, depth}
+use Rattle.rdl_weave.specs.Sound.{Fits}
+use Rattle.rdl_weave.specs.Weaving.{AreStatements}
+use Rattle.rdl_weave.proofs.Sounding.{laid_fits, not_found}
+use Rattle.rdl_weave.proofs.weave.weave.Goals as goal
+
+pub returns-in_default-clause-refused : goal.returns-in_default-clause-refused
+returns-in_default-clause-refused c = λ e s.
+    let none : c.in_ok-laid.field-0 ≡ None = search rules in
+    not_found c.in_ok-laid.field-0 _ none (c.in_ok-laid.ensures.only s.laid s.laid_out s.within s.shallow)
+
+pub returns-clause-refused : goal.returns-clause-refused
+returns-clause-refused c = λ e s.
+    let only : (laid : Laid) (q : AreStatements c.args.source.now laid) → IsWithinLimits q.map → depth laid ≤ 16 → c.in-Some.laid.statements ≡ laid =
+    λ laid q w d. subst (λ o. MatchOption o ⊥ (λ x. x.statements ≡ laid)) c.in-Some.is (c.in_ok-laid.ensures.only laid q w d) in
+    let fits = laid_fits c.args.source.now c.args.canonical.now c.args.origins.now c.args.last.now.items c.in-Some.laid.statements only s in
+    c.in_ok-text-3.ensures.sound (subst (λ b. Fits b c.in-Some.laid.statements c.args.origins.now c.args.last.now.items c.args.canonical.now) (sym c.as_bytes.ensures.value) fits) c.in-None.is
