@@ -1,6 +1,11 @@
 pub mod Lookups
 pub mod RowsAt
+pub mod Places
+pub mod Walks
+pub mod Insides
+pub mod Matches
 pub mod Changed
+pub mod Broken
 pub mod Listed
 pub mod Alike
 pub mod Members
@@ -9,5 +14,6 @@ pub mod SameLines
 pub mod TurnedLines
 pub mod PartNames
 pub mod RowPaths
+pub mod Bases
 pub mod Passing
 pub mod Escapes

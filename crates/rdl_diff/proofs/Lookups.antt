@@ -9,7 +9,7 @@ use denote.Ref.{Bor}
 use Rattle.indexmap.specs.IndexMap.{get_by, insert_entry}
 use Rattle.rdl_elab.specs.declared.row.Row.{Row}
 use Rattle.rdl_diff.specs.ByPath.{Key, texts, is_key, row_under}
-use Rattle.rdl_diff.specs.DiffText.{same_path}
+use Rattle.rdl_diff.specs.Paths.{same_path}
 use Rattle.rdl_diff.specs.declared.by_path.ByPath.{ByPath}
 
 -- paths are the same where the test says so
@@ -34,6 +34,32 @@ pub got : (m : ByPath) (names : List (Bor (List ℕ))) (found : Option (Bor Row)
 got m names found e =
     ap (option_map (λ (r : Bor Row). r.now)) (e ∙ ap (λ (test : Key → Bool). get_by test m.rows) (λ i (k : Key). names_eq-texts names k.items i))
 
+-- where one key takes the place of another, or stands beside it
+chosen : {X : Type 0} (a m n : Bool) (x y z : X) → (a ≡ true → m ≡ n) → (m ≡ true → n ≡ true → a ≡ true) → cond a (cond n x z) (cond n y (cond m x z)) ≡ cond m x (cond n y z)
+chosen true true true x y z h g = refl
+chosen true true false x y z h g = let e : true ≡ false = h refl in cc
+chosen true false true x y z h g = let e : false ≡ true = h refl in cc
+chosen true false false x y z h g = refl
+chosen false true true x y z h g = let e : false ≡ true = g refl refl in cc
+chosen false true false x y z h g = refl
+chosen false false true x y z h g = refl
+chosen false false false x y z h g = refl
+
+-- a key that comes is found first by a test that doesn't tell equal keys apart, and takes equal ones alone
+pub inserted-by : {K V : Type 0} (eq : K → K → Bool) (is : K → Bool) → ((k q : K) → eq k q ≡ true → is k ≡ is q) → ((k q : K) → is k ≡ true → is q ≡ true → eq k q ≡ true)
+    → (es : List (K × V)) (k : K) (v : V) → lookup is (insert_entry eq es k v) ≡ cond (is k) (Some v) (lookup is es)
+inserted-by eq is same both [] k v = refl
+inserted-by {K} {V} eq is same both (e ∷ es) k v =
+    let found = lookup is es in
+    first (eq k e.0) e es k v
+    ∙ ap (λ r. cond (eq k e.0) (cond (is e.0) (Some v) found) (cond (is e.0) (Some e.1) r)) (inserted-by eq is same both es k v)
+    ∙ chosen (eq k e.0) (is k) (is e.0) (Some v) (Some e.1) found (same k e.0) (both k e.0)
+  where
+    first : (a : Bool) (e : K × V) (es : List (K × V)) (k : K) (v : V)
+        → lookup is (if a then (e.0, v) ∷ es else e ∷ insert_entry eq es k v) ≡ cond a (cond (is e.0) (Some v) (lookup is es)) (cond (is e.0) (Some e.1) (lookup is (insert_entry eq es k v)))
+    first true e es k v = refl
+    first false e es k v = refl
+
 module _ (p : List (List ℕ)) where
   same : (k q : Key) → key_eq k q ≡ true → is_key p k ≡ is_key p q
   same k q e = ap (same_path p) ((same_path-Decides (texts k.items) (texts q.items)).0 (sym (names_eq-texts k.items q.items) ∙ e))
@@ -44,27 +70,5 @@ module _ (p : List (List ℕ)) where
       let other = (same_path-Decides p (texts q.items)).0 f in
       names_eq-texts k.items q.items ∙ (same_path-Decides (texts k.items) (texts q.items)).1 (sym one ∙ other)
 
-  -- where one key takes the place of another, or stands beside it
-  chosen : {X : Type 0} (a m n : Bool) (x y z : X) → (a ≡ true → m ≡ n) → (m ≡ true → n ≡ true → a ≡ true) → cond a (cond n x z) (cond n y (cond m x z)) ≡ cond m x (cond n y z)
-  chosen true true true x y z h g = refl
-  chosen true true false x y z h g = let e : true ≡ false = h refl in cc
-  chosen true false true x y z h g = let e : false ≡ true = h refl in cc
-  chosen true false false x y z h g = refl
-  chosen false true true x y z h g = let e : false ≡ true = g refl refl in cc
-  chosen false true false x y z h g = refl
-  chosen false false true x y z h g = refl
-  chosen false false false x y z h g = refl
-
-  -- a key that comes is found first under its path
   pub inserted : {V : Type 0} (es : List (Key × V)) (k : Key) (v : V) → lookup (is_key p) (insert_entry key_eq es k v) ≡ cond (is_key p k) (Some v) (lookup (is_key p) es)
-  inserted [] k v = refl
-  inserted {V} (e ∷ es) k v =
-      let found = lookup (is_key p) es in
-      first (key_eq k e.0) e es k v
-      ∙ ap (λ r. cond (key_eq k e.0) (cond (is_key p e.0) (Some v) found) (cond (is_key p e.0) (Some e.1) r)) (inserted es k v)
-      ∙ chosen (key_eq k e.0) (is_key p k) (is_key p e.0) (Some v) (Some e.1) found (same k e.0) (both k e.0)
-    where
-      first : (a : Bool) (e : Key × V) (es : List (Key × V)) (k : Key) (v : V)
-          → lookup (is_key p) (if a then (e.0, v) ∷ es else e ∷ insert_entry key_eq es k v) ≡ cond a (cond (is_key p e.0) (Some v) (lookup (is_key p) es)) (cond (is_key p e.0) (Some e.1) (lookup (is_key p) (insert_entry key_eq es k v)))
-      first true e es k v = refl
-      first false e es k v = refl
+  inserted es k v = inserted-by key_eq (is_key p) same both es k v

@@ -63,7 +63,7 @@ among-map g [] x h = absurd h
 among-map g (z ∷ xs) x (inl e) = inl (ap g e)
 among-map g (z ∷ xs) x (inr h) = inr (among-map g xs x h)
 
-map-append : {A B : Type 0} (g : A → B) (xs ys : List A) → map g (xs ++ ys) ≡ map g xs ++ map g ys
+pub map-append : {A B : Type 0} (g : A → B) (xs ys : List A) → map g (xs ++ ys) ≡ map g xs ++ map g ys
 map-append g [] ys = refl
 map-append g (x ∷ xs) ys = ap (λ zs. g x ∷ zs) (map-append g xs ys)
 

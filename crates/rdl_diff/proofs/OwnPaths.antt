@@ -2,7 +2,7 @@
 use Rattle.std.proofs.Common.{◌≡◌, inl, inr, ℕ, Bool, true, false, List, [], ◌∷◌, Option, Some, None, refl, sym, ap, ◌∙◌, subst, if◌then◌else◌}
 use Rattle.std.specs.Option.{option_or}
 use Rattle.rdl_elab.specs.declared.row.Row.{Row}
-use Rattle.rdl_diff.specs.DiffText.{path, same_path, row_at}
+use Rattle.rdl_diff.specs.Paths.{path, same_path, row_at}
 use Rattle.rdl_diff.specs.SameRows.{HaveOwnPaths, IsAmong}
 use Rattle.rdl_diff.proofs.Lookups.{same_path-Decides}
 

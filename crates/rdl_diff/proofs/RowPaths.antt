@@ -12,7 +12,7 @@ use Rattle.rdl_elab.specs.Layouts.{layout_of}
 use Rattle.rdl_elab.specs.Rows.{Around, Judged, judged_row, inside, rows_in, rows_of, around_top, top_layout}
 use Rattle.rdl_elab.specs.declared.layout.Span.{Span}
 use Rattle.rdl_elab.specs.declared.row.Row.{Row}
-use Rattle.rdl_diff.specs.DiffText.{path, same_path, row_at}
+use Rattle.rdl_diff.specs.Paths.{path, same_path, row_at}
 use Rattle.rdl_diff.specs.SameRows.{HaveOwnPaths}
 use Rattle.rdl_diff.proofs.Lookups.{same_path-Decides}
 use Rattle.rdl_diff.proofs.PartNames.{IsNamed, AllApart, all-apart}

@@ -1,9 +1,15 @@
 pub mod Escaped
 pub mod Told
 pub mod Seen
+pub mod Breaking
+pub mod Choices
+pub mod Paths
+pub mod Renames
 pub mod DiffText
 pub mod Left
+pub mod Matched
 pub mod ByPath
+pub mod ByPlace
 pub mod Changed
 pub mod SameRows
 pub mod Endings

@@ -66,9 +66,9 @@ told what.Stride r = number (stride_at r.location)
 told what.Bits r = bits (bits_at r.location)
 told (what.Value p) r = value (value_under p r.values)
 
--- all that it tells, in order
+-- all that it tells behind its kind and its base, in order
 unfoldable pub whats : List What
-whats = what.Kind ∷ what.Base ∷ what.Offset ∷ what.Size ∷ what.Dims ∷ what.Stride ∷ what.Bits ∷ map what.Value properties
+whats = what.Offset ∷ what.Size ∷ what.Dims ∷ what.Stride ∷ what.Bits ∷ map what.Value properties
 
 -- ---- Whether two rows tell the same.
 

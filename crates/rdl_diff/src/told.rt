@@ -67,7 +67,8 @@ fn is_same_span(a: Option<Span>, b: Option<Span>) -> bool
     }
 }
 
-fn is_same_value(a: &Value, b: &Value) -> bool
+/// Whether two values are the same.
+pub(crate) fn is_same_value(a: &Value, b: &Value) -> bool
     ensures { result ≡ same_value a.now b.now }
 {
     match (a, b) {
@@ -141,7 +142,7 @@ fn push_string(text: &mut String, string: &str) -> Result<(), AllocError>
 }
 
 /// Appends a value; a number stands as in the lines of rows.
-fn push_given(text: &mut String, value: &Value) -> Result<(), AllocError>
+pub(crate) fn push_given(text: &mut String, value: &Value) -> Result<(), AllocError>
     ensures { OnOk result (string_bytes text.new ≡ string_bytes text.old ++ told_value_text value.now) }
 {
     match value {
