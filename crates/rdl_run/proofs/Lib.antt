@@ -3,6 +3,7 @@ pub mod Closings
 pub mod Continued
 pub mod Histories
 pub mod Leading
+pub mod LedBack
 pub mod Opened
 pub mod OpenedOnce
 pub mod Openings
@@ -24,4 +25,4 @@ pub mod Written
 pub mod WrittenLines
 pub mod Compared
 pub mod Said
-pub mod EditedOf
+pub mod Besides

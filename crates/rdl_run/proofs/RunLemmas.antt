@@ -15,6 +15,7 @@ use Rattle.rdl_run.specs.Opening.{RefusesToOpen}
 use Rattle.rdl_run.specs.OwnSteps.{AllOwn, IsOwnSession, OpensKept}
 use Rattle.rdl_run.specs.Output.{AreTexts, HaveTaken, Holds, Outputs, Ran, RanCounted, outputs}
 use Rattle.rdl_run.specs.RunTexts.{AreRun, AreRunCounted, in_memory}
+use Rattle.rdl_run.specs.Sources.{without_source}
 use Rattle.rdl_run.specs.Turns.{HasTaken, Tallies, tallies}
 use Rattle.rdl_run.specs.Writers.{ServesAll}
 use Rattle.rdl_run.specs.declared.closing.Closing.{Closing}
@@ -61,7 +62,7 @@ closes_script_if are_own asked first last script refuses m m' a b (Err fault) se
 
 -- the map was refused
 pub closes_refused : (options : Options) (map script : Option (List ℕ)) (map_bytes script_bytes message : List ℕ) (m : Option (List ℕ)) (a : Counts) (closing : Closing)
-    → Gives map map_bytes → Gives script script_bytes → RefusesToOpen options.top map_bytes message
+    → Gives map map_bytes → Gives script script_bytes → RefusesToOpen options.top (without_source map_bytes) message
     → string_bytes closing.message ≡ message → string_bytes closing.rdl ≡ [] → string_bytes closing.header ≡ [] → string_bytes closing.session ≡ [] → closing.status ≡ MapRefused
     → ClosesRun options map script m m a a closing
 closes_refused options map script map_bytes script_bytes message m a closing p q refused said no_rdl no_header no_session status = record {
@@ -71,7 +72,7 @@ closes_refused options map script map_bytes script_bytes message m a closing p q
   script_given = q;
   replies = [];
   wrote = record {
-    is_output = inl (record { refused = subst (RefusesToOpen options.top map_bytes) (sym said) refused; rdl = no_rdl; header = no_header; session = no_session; status = status });
+    is_output = inl (record { refused = subst (RefusesToOpen options.top (without_source map_bytes)) (sym said) refused; rdl = no_rdl; header = no_header; session = no_session; status = status });
     texts = are-texts [] closing;
     own = tt;
   };
@@ -81,7 +82,7 @@ closes_refused options map script map_bytes script_bytes message m a closing p q
 
 -- the script was run from what was opened
 closes-opened : (options : Options) (map script : Option (List ℕ)) (map_bytes script_bytes : List ℕ) (k : Kept State Reversal) (m m' : Option (List ℕ)) (a b : Counts) (closing : Closing)
-    → Gives map map_bytes → Gives script script_bytes → OpensKept options.top options.history map_bytes k
+    → Gives map map_bytes → Gives script script_bytes → OpensKept options.top options.history (without_source map_bytes) k
     → ClosesScript (AllOwn k) options.session k.history script_bytes m m' a b closing → ClosesRun options map script m m' a b closing
 closes-opened options map script map_bytes script_bytes k m m' a b closing p q o c = record {
   map_bytes = map_bytes;
@@ -99,7 +100,7 @@ closes-opened options map script map_bytes script_bytes k m m' a b closing p q o
 }
 
 pub closes_if : (options : Options) (map script : Option (List ℕ)) (map_bytes script_bytes : List ℕ) (k : Kept State Reversal) (m m' : Option (List ℕ)) (a b : Counts) (r : Result Closing RunFault)
-    → Gives map map_bytes → Gives script script_bytes → OpensKept options.top options.history map_bytes k
+    → Gives map map_bytes → Gives script script_bytes → OpensKept options.top options.history (without_source map_bytes) k
     → IfOk r (ClosesScript (AllOwn k) options.session k.history script_bytes m m' a b) → IfOk r (ClosesRun options map script m m' a b)
 closes_if options map script map_bytes script_bytes k m m' a b (Ok closing) p q o c = closes-opened options map script map_bytes script_bytes k m m' a b closing p q o c
 closes_if options map script map_bytes script_bytes k m m' a b (Err fault) p q o c = tt

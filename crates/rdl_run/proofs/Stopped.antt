@@ -11,6 +11,7 @@ use Rattle.rdl_run.specs.Faulted.{IsWholeLines, Leaves, LeavesLines, FaultedFrom
 use Rattle.rdl_run.specs.Known.{Gives, AppendsFront}
 use Rattle.rdl_run.specs.Opening.{EachElaborates, OpensHistory}
 use Rattle.rdl_run.specs.Output.{Output, Outputs, outputs}
+use Rattle.rdl_run.specs.Sources.{without_source}
 use Rattle.rdl_run.specs.declared.closing.Closing.{Closing}
 use Rattle.rdl_run.specs.declared.counted.Counts.{Counts}
 use Rattle.rdl_run.specs.declared.run.Options.{Options}
@@ -136,7 +137,7 @@ module _ (options : Options) (map script : Option (List ℕ)) where
   -- nothing was written
   pub unwritten : (fault : RunFault) (all : Outputs) → fault ≢ Write → Faulted options map script all all fault
   unwritten fault all h =
-      let o = has_output options (given map) (given script) in
+      let o = has_output options (without_source (given map)) (given script) in
       record {
         map_bytes = given map;
         script_bytes = given script;
@@ -149,7 +150,7 @@ module _ (options : Options) (map script : Option (List ℕ)) where
 
   -- the script was run from the history that was opened
   pub faulted_script : (map_bytes script_bytes : List ℕ) (first : History') (old new : Outputs) (fault : RunFault) → Gives map map_bytes → Gives script script_bytes
-      → OpensHistory options.top options.history map_bytes first → FaultedFrom options.session first script_bytes old new fault → Faulted options map script old new fault
+      → OpensHistory options.top options.history (without_source map_bytes) first → FaultedFrom options.session first script_bytes old new fault → Faulted options map script old new fault
   faulted_script map_bytes script_bytes first old new fault p q opens stopped = record {
     map_bytes = map_bytes;
     script_bytes = script_bytes;
@@ -174,7 +175,7 @@ module _ (options : Options) (map script : Option (List ℕ)) where
   }
 
   pub stops_if : (map_bytes script_bytes : List ℕ) (first : History') (old new : Option (List ℕ)) (r : Result Closing RunFault) → Gives map map_bytes → Gives script script_bytes
-      → OpensHistory options.top options.history map_bytes first → IfErr r (StopsScript options.session first script_bytes old new) → IfErr r (StopsRun options map script old new)
+      → OpensHistory options.top options.history (without_source map_bytes) first → IfErr r (StopsScript options.session first script_bytes old new) → IfErr r (StopsRun options map script old new)
   stops_if map_bytes script_bytes first old new (Ok closing) p q o stopped = tt
   stops_if map_bytes script_bytes first old new (Err fault) p q o stopped =
       λ rdl header session. faulted_script map_bytes script_bytes first (outputs old rdl header session) (outputs new rdl header session) fault p q o (stopped rdl header session)

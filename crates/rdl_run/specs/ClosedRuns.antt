@@ -7,6 +7,7 @@ use Rattle.rdl_run.specs.Faulted.{Faulted, FaultedFrom}
 use Rattle.rdl_run.specs.Known.{Gives}
 use Rattle.rdl_run.specs.Output.{AreTexts, Output, Runs, Wrote, outputs}
 use Rattle.rdl_run.specs.OwnSteps.{IsOwnSession}
+use Rattle.rdl_run.specs.Sources.{without_source}
 use Rattle.rdl_run.specs.Turns.{HasTaken}
 use Rattle.rdl_run.specs.declared.closing.Closing.{Closing}
 use Rattle.rdl_run.specs.declared.counted.Counts.{Counts}
@@ -33,7 +34,7 @@ pub record ClosesRun (options : Options) (map script : Option (List ℕ)) (old n
   pub map_given : Gives map map_bytes
   pub script_given : Gives script script_bytes
   pub replies : List ℕ
-  pub wrote : Wrote options map_bytes script_bytes (behind replies (texts_of closing))
+  pub wrote : Wrote options (without_source map_bytes) script_bytes (behind replies (texts_of closing))
   pub said : Appends old new replies
   pub took : HasTaken counted counts (length replies)
 

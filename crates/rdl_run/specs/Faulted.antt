@@ -5,6 +5,7 @@ use Rattle.rdl_write.specs.Texts.{newline}
 use Rattle.rdl_run.specs.Answers.{History', Serves}
 use Rattle.rdl_run.specs.Known.{Gives, AppendsFront}
 use Rattle.rdl_run.specs.Output.{Output, Outputs, Runs, IsOutput}
+use Rattle.rdl_run.specs.Sources.{without_source}
 use Rattle.rdl_run.specs.declared.run.Options.{Options}
 use Rattle.rdl_run.specs.declared.status.RunFault.{RunFault}
 use Rattle.rdl_run.specs.declared.status.RunFault.TheVariants.{Read, Write, Memory, TooLong, Interrupted}
@@ -76,7 +77,7 @@ pub record Faulted (options : Options) (map script : Option (List ℕ)) (old new
   pub map_given : Gives map map_bytes
   pub script_given : Gives script script_bytes
   pub out : Output
-  pub is_output : IsOutput options map_bytes script_bytes out
+  pub is_output : IsOutput options (without_source map_bytes) script_bytes out
   pub leaves : Leaves fault old new out
 
 -- ---- Serving the lines of a script.

@@ -23,6 +23,9 @@ pub mod ScriptLines
 pub mod Sessions
 pub mod Shown
 pub mod Turns
+pub mod Beside
 pub mod Edited
+pub mod Saved
+pub mod Sources
 pub mod Waiting
 pub mod OwnSteps

@@ -8,6 +8,7 @@ use Rattle.rdl_run.specs.Closing.{Closes}
 use Rattle.rdl_run.specs.Known.{Gives}
 use Rattle.rdl_run.specs.Opening.{OpensHistory, RefusesToOpen}
 use Rattle.rdl_run.specs.OwnSteps.{IsOwnSession, OpensOwn}
+use Rattle.rdl_run.specs.Sources.{without_source}
 use Rattle.rdl_run.specs.Turns.{HasTaken, Tallies}
 use Rattle.rdl_run.specs.declared.run.Options.{Options}
 use Rattle.rdl_run.specs.declared.status.Status.{Status}
@@ -113,7 +114,7 @@ pub record Ran (options : Options) (map script : Option (List ℕ)) (old new : O
   pub map_given : Gives map map_bytes
   pub script_given : Gives script script_bytes
   pub out : Output
-  pub wrote : Wrote options map_bytes script_bytes out
+  pub wrote : Wrote options (without_source map_bytes) script_bytes out
   pub holds : Holds old new status out
 
 -- the same, with what the outputs took

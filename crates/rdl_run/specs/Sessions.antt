@@ -1,5 +1,5 @@
 -- Sessions: which bytes are one, the history that it opens, and the session of a history at its place. Own.
-use Rattle.std.specs.Prelude.{◌≡◌, ◌⊎◌, ◌≤◌, ◌<◌, ◌+◌, ◌-◌, ℕ, Bool, true, false, List, [], ◌++◌, length, map, take, slice_get, Option, Some, None, bytes_eq, codes, IsUtf8}
+use Rattle.std.specs.Prelude.{◌≡◌, ◌⊎◌, ◌≤◌, ◌<◌, ◌+◌, ◌-◌, ℕ, Bool, true, false, ◌||◌, List, [], ◌++◌, length, map, take, slice_get, Option, Some, None, bytes_eq, codes, IsUtf8}
 use Rattle.journal_core.specs.Along.{led_through}
 use Rattle.journal_core.specs.History.{IsAt, resumed}
 use Rattle.rdl_tree.specs.Items.{Items}
@@ -25,8 +25,15 @@ use Rattle.rdl_run.specs.Messages.{session_line, unread_text, unresumed_text, un
 abbrev pub session_head : List ℕ
 session_head = codes "regedit session 1" ++ newline
 
+-- and the one with which each begins that keeps its source text
+abbrev pub source_head : List ℕ
+source_head = codes "regedit session 2" ++ newline
+
+abbrev pub begins : (head bytes : List ℕ) → Bool
+begins head bytes = bytes_eq head (take (length head) bytes)
+
 abbrev pub is_session : List ℕ → Bool
-is_session bytes = bytes_eq session_head (take (length session_head) bytes)
+is_session bytes = begins session_head bytes || begins source_head bytes
 
 -- ---- Opening.
 

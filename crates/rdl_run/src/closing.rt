@@ -6,10 +6,13 @@ ghost use Rattle.rdl_run.specs.Shown.{AreOf};
 ghost use Rattle.rdl_run.specs.declared.status.RunFault.{RunFault};
 
 use crate::edited::{Edited, edited_part};
+use crate::observer::{Observer, Scene};
 use crate::part::Part;
 use crate::run::Options;
+use crate::saved::{Saved, saved_part};
 use crate::saving::session_part;
 use crate::shown::rows_of;
+use crate::sources::source_of;
 use crate::status::{Missing, RunFault, Status};
 use journal_core::journal::Journal;
 use rdl_edit::map::Map;
@@ -27,6 +30,7 @@ pub struct Closing {
     pub header: String,
     pub session: String,
     pub edited: Edited,
+    pub saved: Saved,
     pub status: Status,
 }
 
@@ -39,8 +43,14 @@ fn clash_line(alloc: Global, name: &str) -> Result<String, AllocError>
     Ok(text)
 }
 
-/// The header of a map, whose rows may be kept, or what is said in its place.
-fn header_part(alloc: Global, map: &Map, kept: Option<Rows>) -> Result<Part, RunFault>
+/// The header of a map, whose rows may be kept, or what is said in its place. The observer is told of two macros with one name.
+fn header_part<O: Observer>(
+    alloc: Global,
+    map: &Map,
+    kept: Option<Rows>,
+    source: Option<&[u8]>,
+    observer: &mut O,
+) -> Result<Part, RunFault>
     requires { AreOf map.now.state kept }
     ensures heads { IfOk result (λ part. Heads map.now.state (string_bytes part.message) (string_bytes part.text) part.is_left_out) }
     ensures fault { IsOkUnless result RunFault.Memory }
@@ -50,6 +60,7 @@ fn header_part(alloc: Global, map: &Map, kept: Option<Rows>) -> Result<Part, Run
         Ok(text) => Ok(Part::made(alloc, text)),
         Err(HeaderFault::Clash(name)) => {
             let message = clash_line(alloc, name.as_str())?;
+            observer.header_clashes(name.as_str(), Scene { map, source });
             Ok(Part::left_out(alloc, message))
         }
         Err(HeaderFault::Memory) => Err(RunFault::Memory),
@@ -77,9 +88,13 @@ fn joined(mut text: String, more: &String) -> Result<String, AllocError>
 }
 
 impl Closing {
-    ghost use Rattle.std.specs.Prelude.{◌≡◌, [], string_bytes, IfOk, IsOkUnless};
+    ghost use Rattle.std.specs.Prelude.{◌≡◌, ◌&&◌, [], string_bytes, IfOk, IsOkUnless};
     ghost use Rattle.rdl_run.specs.Closing.{Closes};
     ghost use Rattle.rdl_run.specs.Edited.{IsEdited};
+    ghost use Rattle.rdl_run.specs.Missing.{has_session};
+    ghost use Rattle.rdl_run.specs.Saved.{IsKept};
+    ghost use Rattle.rdl_run.specs.Sources.{kept_source, source_of};
+    ghost use Rattle.rdl_run.specs.declared.saved.Saved.{Saved};
     ghost use Rattle.rdl_run.specs.declared.edited.Edited.{Edited};
     ghost use Rattle.rdl_run.specs.OwnSteps.{AllOwn, IsOwnSession};
     ghost use Rattle.rdl_run.specs.Shown.{AreAt};
@@ -93,6 +108,7 @@ impl Closing {
         ensures header { string_bytes result.header ≡ [] }
         ensures session { string_bytes result.session ≡ [] }
         ensures edited { result.edited ≡ Edited.NotAsked }
+        ensures saved { result.saved ≡ Saved.Plain }
         ensures status { result.status ≡ Status.MapRefused }
     {
         Closing {
@@ -101,37 +117,49 @@ impl Closing {
             header: String::new(alloc),
             session: String::new(alloc),
             edited: Edited::NotAsked,
+            saved: Saved::Plain,
             status: Status::MapRefused,
         }
     }
 
     /// Makes the texts of the map to which a script led, and of the history if the session is asked for, or the messages in
-    /// their places. The rows are those of the map, if they are there, and the source is the bytes that were opened.
-    pub fn of(
+    /// their places. The rows are those of the map, if they are there, and the bytes are those that were read.
+    pub fn of<O: Observer>(
         alloc: Global,
         journal: &Journal<Map>,
         kept: Option<Rows>,
         is_refused: bool,
         options: &Options,
-        source: &[u8],
+        bytes: &[u8],
+        observer: &mut O,
     ) -> Result<Closing, RunFault>
         requires { AreAt journal.now.history kept }
         ensures closes { IfOk result (λ c. Closes options.now.session journal.now.history is_refused (string_bytes c.message) (string_bytes c.rdl) (string_bytes c.header) (string_bytes c.session) c.status) }
-        ensures edited { IfOk result (λ c. IsEdited options.now.edited source.now (string_bytes c.rdl) c.edited) }
+        ensures edited { IfOk result (λ c. IsEdited options.now.edited journal.now.history (source_of bytes.now) (string_bytes c.rdl) c.edited) }
+        ensures saved { IfOk result (λ c. IsKept (kept_source (options.now.session && has_session c.status) options.now.edited bytes.now) (string_bytes c.session) c.saved) }
         ensures own { AllOwn journal.now → IfOk result (λ c. IsOwnSession journal.now.history (string_bytes c.session)) }
         ensures fault { IsOkUnless result RunFault.Memory }
     {
         let rdl = rdl(alloc, journal.map().description())?;
-        let header = header_part(alloc, journal.map(), kept)?;
+        let header = header_part(alloc, journal.map(), kept, source_of(bytes), observer)?;
         let session = session_part(alloc, journal, options.session)?;
-        let edited = edited_part(alloc, journal, source, rdl.as_str(), options.edited)?;
+        let edited = edited_part(alloc, journal, bytes, rdl.as_str(), options.edited)?;
         let status = status_of(is_refused, header.is_left_out, session.is_left_out);
+        let is_saved = options.session && status.has_session();
+        let saved = saved_part(
+            alloc,
+            bytes,
+            session.text.as_str(),
+            is_saved,
+            options.edited,
+        )?;
         Ok(Closing {
             message: joined(header.message, &session.message)?,
             rdl,
             header: header.text,
             session: session.text,
             edited,
+            saved,
             status,
         })
     }

@@ -1,10 +1,13 @@
 //! The text of MAP with only the edits woven in.
-ghost use Rattle.std.specs.Prelude.{◌≡◌, ◌↔◌, IfOk, IsOkUnless, IsUtf8, string_bytes};
-ghost use Rattle.rdl_run.specs.Edited.{IsEdited, IsMade, IsSame};
+ghost use Rattle.std.specs.Prelude.{◌≡◌, IfOk, IsOkUnless, IsTrue, IsUtf8, map, string_bytes};
+ghost use Rattle.std.specs.Option.{option_copied};
+ghost use Rattle.rdl_origin.specs.Numbered.{origins_of};
+ghost use Rattle.rdl_run.specs.Edited.{IsEdited, IsMade, IsMissing, IsSame, IsTaken, all_led_back, are_all_placed};
+ghost use Rattle.rdl_run.specs.Sources.{source_of};
 ghost use Rattle.rdl_run.specs.declared.status.RunFault.{RunFault};
 
-use crate::open::is_session;
 use crate::saving::steps_back;
+use crate::sources::source_of;
 use crate::status::RunFault;
 use journal_core::journal::Journal;
 use rdl_edit::map::Map;
@@ -37,25 +40,53 @@ pub enum Unwoven {
     /// No text was found that has only these edits.
     #[error("K2 edited text not woven")]
     NotWoven,
-    /// MAP is a session, which has no source text.
+    /// MAP is a session that keeps no source text.
     #[error("K3 no source text in the session")]
     NoSource,
 }
 
-/// Which items of the last map those of the first one became, to which the steps lead back. It stops at a step that leads nowhere,
-/// which no journal has.
-fn origins_of(
-    alloc: Global,
-    last: &Description,
-    steps: &[&[Patch]],
-) -> Result<Origins, AllocError> {
+/// Which items of the last map those of the first one became, and whether all steps led back to that.
+#[derive(Drop)]
+struct Led {
+    origins: Origins,
+    is_whole: bool,
+}
+
+/// Takes the steps back. Each leads somewhere: those of a journal do.
+fn led_back(alloc: Global, last: &Description, steps: &[&[Patch]]) -> Result<Led, AllocError>
+    ensures led { IfOk result (λ led. IsTrue led.is_whole → led.origins ≡ all_led_back (map (λ step. step.now) steps.entry.now) (origins_of last.now.items)) }
+    ensures whole { IfOk result (λ led. led.is_whole ≡ are_all_placed (map (λ step. step.now) steps.entry.now) (origins_of last.now.items)) }
+{
     let mut origins = Origins::new(alloc, last)?;
-    for step in steps {
+    'steps: for step in steps {
         if !origins.go_back(alloc, step)? {
-            return Ok(origins);
+            return Ok(Led {
+                origins,
+                is_whole: false,
+            });
         }
     }
-    Ok(origins)
+    Ok(Led {
+        origins,
+        is_whole: true,
+    })
+}
+
+/// The edited text of what was woven. Where a step led nowhere, it is the source or none.
+fn edited_of(
+    woven: Result<String, WeaveFault>,
+    source: &str,
+    is_whole: bool,
+) -> Result<Edited, RunFault>
+    ensures taken { IfOk result (IsTaken is_whole source.now woven) }
+    ensures fault { IsOkUnless result RunFault.Memory }
+{
+    match woven {
+        Ok(text) if is_whole || text.as_str() == source => Ok(Edited::Woven(text)),
+        Ok(_) | Err(WeaveFault::NotWoven) => Ok(Edited::Missing(Unwoven::NotWoven)),
+        Err(WeaveFault::TooLong) => Ok(Edited::Missing(Unwoven::TooLong)),
+        Err(WeaveFault::Memory) => Err(RunFault::Memory),
+    }
 }
 
 /// The source with the edits of the journal woven in. The canonical text is that of the journal's map.
@@ -65,38 +96,35 @@ fn woven(
     source: &str,
     canonical: &str,
 ) -> Result<Edited, RunFault>
-    ensures made { IfOk result (IsMade canonical.now) }
+    ensures made { IfOk result (IsMade journal.now.history source.now canonical.now) }
     ensures same { IfOk result (IsSame source.now canonical.now) }
     ensures fault { IsOkUnless result RunFault.Memory }
 {
     let steps = steps_back(alloc, journal)?;
     let last = journal.map().description();
-    let origins = origins_of(alloc, last, steps.as_slice())?;
-    match weave(alloc, source, &origins, last, canonical) {
-        Ok(text) => Ok(Edited::Woven(text)),
-        Err(WeaveFault::TooLong) => Ok(Edited::Missing(Unwoven::TooLong)),
-        Err(WeaveFault::NotWoven) => Ok(Edited::Missing(Unwoven::NotWoven)),
-        Err(WeaveFault::Memory) => Err(RunFault::Memory),
-    }
+    let led = led_back(alloc, last, steps.as_slice())?;
+    let text = weave(alloc, source, &led.origins, last, canonical);
+    edited_of(text, source, led.is_whole)
 }
 
-/// The edited text of the bytes of MAP, if it is asked for. The canonical text is that of the journal's map.
+/// The edited text of a journal that was opened of these bytes, if it is asked for. The canonical text is that of its map.
+#[tactic(auto, using(crate::proofs::Besides::no_text))]
 pub(crate) fn edited_part(
     alloc: Global,
     journal: &Journal<Map>,
-    source: &[u8],
+    bytes: &[u8],
     canonical: &str,
     is_asked: bool,
 ) -> Result<Edited, RunFault>
-    ensures edited { IfOk result (IsEdited is_asked source.now canonical.now) }
+    ensures edited { IfOk result (IsEdited is_asked journal.now.history (source_of bytes.now) canonical.now) }
     ensures fault { IsOkUnless result RunFault.Memory }
 {
     if !is_asked {
         return Ok(Edited::NotAsked);
     }
-    if is_session(source) {
+    let Some(source) = source_of(bytes) else {
         return Ok(Edited::Missing(Unwoven::NoSource));
-    }
+    };
     match str::from_utf8(source) {
         Ok(text) => woven(alloc, journal, text, canonical),
         Err(_) => Ok(Edited::Missing(Unwoven::NotWoven)),

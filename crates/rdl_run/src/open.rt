@@ -13,10 +13,12 @@ ghost use Rattle.rdl_run.specs.OwnSteps.{OpensKept};
 ghost use Rattle.rdl_run.specs.Resumed.{ResumesFrom};
 ghost use Rattle.rdl_run.specs.Sessions.{is_session, ReadsSession, IsNoSession, FaultySession, OpensSession, RefusedSession};
 ghost use Rattle.rdl_run.specs.OpeningFaults.{IfRefusedToOpen};
+ghost use Rattle.rdl_run.specs.Sources.{without_source};
 
 use crate::reading::{ReadingFault, map_of};
 use crate::reply::{fault_text, map_line, parse_fault_text};
 use crate::session_message::{unread_line, unresumed_line};
+use crate::sources::without_source;
 use journal_core::journal::Journal;
 use rdl_edit::map::{Map, Resumed};
 use rdl_edit::refusal::is_memory;
@@ -205,28 +207,29 @@ fn open_session(
 pub(crate) fn is_session(bytes: &[u8]) -> bool
     ensures { result ≡ is_session bytes.now }
 {
-    bytes.starts_with(b"regedit session 1\n")
+    bytes.starts_with(b"regedit session 1\n") || bytes.starts_with(b"regedit session 2\n")
 }
 
-/// The history that begins with the map that the bytes spell, or with the session.
+/// The history that begins with the map that the bytes spell, or with the session. A source text that the session keeps isn't read.
 pub fn open(
     alloc: Global,
     bytes: &[u8],
     name: Option<&Name>,
     limit: u32,
 ) -> Result<Journal<Map>, OpenFault>
-    ensures opens { IfOk result (λ journal. OpensHistory (option_copied name.entry) limit bytes.now journal.history) }
-    ensures kept { IfOk result (OpensKept (option_copied name.entry) limit bytes.now) }
+    ensures opens { IfOk result (λ journal. OpensHistory (option_copied name.entry) limit (without_source bytes.now) journal.history) }
+    ensures kept { IfOk result (OpensKept (option_copied name.entry) limit (without_source bytes.now)) }
     ensures elaborates { IfOk result (λ journal. EachElaborates journal.history) }
-    ensures refused { IfErr result (λ fault. IfRefusedToOpen fault (RefusesToOpen (option_copied name.entry) bytes.now)) }
+    ensures refused { IfErr result (λ fault. IfRefusedToOpen fault (RefusesToOpen (option_copied name.entry) (without_source bytes.now))) }
 {
-    match open_shown(alloc, bytes, name, limit, false) {
+    match open_shown(alloc, without_source(bytes), name, limit, false) {
         Ok((journal, _rows)) => Ok(journal),
         Err(fault) => Err(fault),
     }
 }
 
-/// Does the same as `open`. Where the map is to be listed before it is edited, its rows are made with it.
+/// Does the same as `open`, of a map or a session without a source text. Where the map is to be listed before it is edited, its rows
+/// are made with it.
 pub(crate) fn open_shown(
     alloc: Global,
     bytes: &[u8],

@@ -1,7 +1,11 @@
 //! A whole run, from two inputs to four outputs.
-ghost use Rattle.std.specs.Prelude.{◌≡◌, ◌≢◌, ◌⊎◌, ◌^◌, ◌<◌, ◌≤◌, [], true, length, string_bytes, Err, IfOk, IfErr, IsErrOf, IsOkUnless, OnErr, OnOk};
+ghost use Rattle.std.specs.Prelude.{◌≡◌, ◌≢◌, ◌⊎◌, ◌&&◌, ◌^◌, ◌<◌, ◌≤◌, [], true, length, string_bytes, Err, IfOk, IfErr, IsErrOf, IsOkUnless, OnErr, OnOk};
 ghost use Rattle.rdl_run.specs.ClosedRuns.{ClosesRun, ClosesScript, StopsRun, StopsScript};
-ghost use Rattle.rdl_run.specs.Edited.{IsEdited, IsEditedOf};
+ghost use Rattle.rdl_run.specs.Beside.{MakesBeside};
+ghost use Rattle.rdl_run.specs.Edited.{EditsScript};
+ghost use Rattle.rdl_run.specs.Missing.{has_session};
+ghost use Rattle.rdl_run.specs.Saved.{IsKept};
+ghost use Rattle.rdl_run.specs.Sources.{kept_source, source_of};
 ghost use Rattle.rdl_run.specs.Opening.{EachElaborates};
 ghost use Rattle.rdl_run.specs.Faulted.{Faulted, Leaves};
 ghost use Rattle.rdl_run.specs.ClosingTexts.{texts_of};
@@ -18,10 +22,13 @@ use crate::closing::Closing;
 use crate::counted::{CountedReader, CountedWriter};
 use crate::edited::Edited;
 use crate::input::read_counted;
+use crate::observer::{Observer, Silent};
 use crate::open::{OpenFault, open_shown};
 use crate::output::write_counted;
 use crate::outputs::Outputs;
+use crate::saved::Saved;
 use crate::serve::serve_all;
+use crate::sources::{source_of, without_source};
 use crate::status::{RunFault, Status};
 use journal_core::journal::Journal;
 use rdl_edit::map::Map;
@@ -51,6 +58,8 @@ pub struct Texts {
     pub header: String,
     pub session: String,
     pub edited: Edited,
+    /// How the session goes out.
+    pub saved: Saved,
 }
 
 /// The greatest map or session and the greatest script, in bytes.
@@ -83,21 +92,23 @@ fn write_closing<R: Write, H: Write, Z: Write, E: Write>(
 /// Runs a script from where a history stands, with the rows of its map if they are there, and makes what closes the run: the
 /// map that it leads to, that map's header, and the session if it is asked for. Where two of the header's macros have one name,
 /// that is said, and there is no header; where the session is too long, that is said, and there is none.
-fn run_script<E: Write>(
+fn run_script<E: Write, O: Observer>(
     alloc: Global,
     journal: &mut Journal<Map>,
     mut kept: Option<Rows>,
     options: &Options,
-    source: &[u8],
+    bytes: &[u8],
     script: &[u8],
     messages: &mut CountedWriter<'_, E>,
+    observer: &mut O,
 ) -> Result<Closing, RunFault>
     requires length { length script.now < 2 ^ 32 }
     requires kept { AreAt journal.old.history kept }
     requires asked { IsOpen messages.old.counts }
     ensures closes { IfOk result (ClosesScript (AllOwn journal.old) options.now.session journal.old.history script.now
         (E.contents messages.old.writer.now) (E.contents messages.new.writer.now) messages.old.counts messages.new.counts) }
-    ensures edited { IfOk result (λ closing. IsEdited options.now.edited source.now (string_bytes closing.rdl) closing.edited) }
+    ensures edited { IfOk result (λ closing. EditsScript options.now.edited journal.old.history script.now (source_of bytes.now) (string_bytes closing.rdl) closing.edited) }
+    ensures saved { IfOk result (λ closing. IsKept (kept_source (options.now.session && has_session closing.status) options.now.edited bytes.now) (string_bytes closing.session) closing.saved) }
     ensures stops { EachElaborates journal.old.history
         → IfErr result (StopsScript options.now.session journal.old.history script.now (E.contents messages.old.writer.now) (E.contents messages.new.writer.now)) }
     ensures write_ended { IsErrOf result RunFault.Write → IsGivenUp messages.new.counts }
@@ -109,8 +120,16 @@ fn run_script<E: Write>(
     ensures few { messages.new.counts.interrupts ≤ 1000 }
     ensures same_reference { messages.new.writer.ghost_name ≡ messages.old.writer.ghost_name }
 {
-    let is_refused = serve_all(alloc, journal, &mut kept, script, messages)?;
-    Closing::of(alloc, journal, kept, is_refused, options, source)
+    let is_refused = serve_all(
+        alloc,
+        journal,
+        &mut kept,
+        script,
+        messages,
+        source_of(bytes),
+        observer,
+    )?;
+    Closing::of(alloc, journal, kept, is_refused, options, bytes, observer)
 }
 
 /// Whether rows are shown of the map that is opened, as far as the front of a script tells.
@@ -119,19 +138,21 @@ fn is_listed(script: &[u8]) -> bool {
 }
 
 /// The run up to what closes it, on inputs and a writer of messages that weren't asked before. The replies are written.
-fn run_lines<M: Read, S: Read, E: Write>(
+fn run_lines<M: Read, S: Read, E: Write, O: Observer>(
     alloc: Global,
     map: &mut CountedReader<'_, M>,
     script: &mut CountedReader<'_, S>,
     options: &Options,
     messages: &mut CountedWriter<'_, E>,
+    observer: &mut O,
 ) -> Result<Closing, RunFault>
     requires map_fresh { map.old.counts ≡ unread }
     requires script_fresh { script.old.counts ≡ unread }
     requires fresh { messages.old.counts ≡ unwritten }
     ensures closes { IfOk result (ClosesRun options.now (M.remaining map.old.reader.now) (S.remaining script.old.reader.now)
         (E.contents messages.old.writer.now) (E.contents messages.new.writer.now) messages.old.counts messages.new.counts) }
-    ensures edited { IfOk result (λ closing. IsEditedOf options.now.edited (M.remaining map.old.reader.now) closing.status (string_bytes closing.rdl) closing.edited) }
+    ensures beside { IfOk result (λ closing. MakesBeside options.now (M.remaining map.old.reader.now) (S.remaining script.old.reader.now)
+        closing.status (string_bytes closing.rdl) (string_bytes closing.session) closing.edited closing.saved) }
     ensures stops { IfErr result (StopsRun options.now (M.remaining map.old.reader.now) (S.remaining script.old.reader.now)
         (E.contents messages.old.writer.now) (E.contents messages.new.writer.now)) }
     ensures write_ended { IsErrOf result RunFault.Write → IsGivenUp messages.new.counts }
@@ -150,7 +171,7 @@ fn run_lines<M: Read, S: Read, E: Write>(
     let script_bytes = read_counted(alloc, script, MOST_BYTES)?;
     let opened = open_shown(
         alloc,
-        map_bytes.as_slice(),
+        without_source(map_bytes.as_slice()),
         options.top.as_ref(),
         options.history,
         is_listed(script_bytes.as_slice()),
@@ -166,9 +187,13 @@ fn run_lines<M: Read, S: Read, E: Write>(
                 map_bytes.as_slice(),
                 script_bytes.as_slice(),
                 messages,
+                observer,
             )
         }
-        Err(OpenFault::Refused(message)) => Ok(Closing::refused(alloc, message)),
+        Err(OpenFault::Refused(message)) => {
+            observer.map_refused(map_bytes.as_slice(), options.top.as_ref());
+            Ok(Closing::refused(alloc, message))
+        }
         Err(OpenFault::Memory) => Err(RunFault::Memory),
     }
 }
@@ -200,7 +225,14 @@ fn run_counted<M: Read, S: Read, R: Write, H: Write, Z: Write, E: Write>(
     ensures few { AreFew (counts_of outputs.new) }
     ensures same { SameWriters outputs.old outputs.new }
 {
-    let closing = run_lines(alloc, map, script, options, &mut outputs.messages)?;
+    let closing = run_lines(
+        alloc,
+        map,
+        script,
+        options,
+        &mut outputs.messages,
+        &mut Silent,
+    )?;
     write_closing(&closing, outputs)?;
     Ok(closing.status)
 }
@@ -238,19 +270,21 @@ pub fn run<M: Read, S: Read, R: Write, H: Write, Z: Write, E: Write>(
 }
 
 /// The run whose texts are handed out, on inputs and a writer of messages that weren't asked before.
-fn texts_counted<M: Read, S: Read, E: Write>(
+fn texts_counted<M: Read, S: Read, E: Write, O: Observer>(
     alloc: Global,
     map: &mut CountedReader<'_, M>,
     script: &mut CountedReader<'_, S>,
     options: &Options,
     messages: &mut CountedWriter<'_, E>,
+    observer: &mut O,
 ) -> Result<Texts, RunFault>
     requires map_fresh { map.old.counts ≡ unread }
     requires script_fresh { script.old.counts ≡ unread }
     requires fresh { messages.old.counts ≡ unwritten }
     ensures ran { IfOk result (AreRunCounted options.now (M.remaining map.old.reader.now) (S.remaining script.old.reader.now)
         (E.contents messages.old.writer.now) (E.contents messages.new.writer.now) messages.old.counts messages.new.counts) }
-    ensures edited { IfOk result (λ texts. IsEditedOf options.now.edited (M.remaining map.old.reader.now) texts.status (string_bytes texts.rdl) texts.edited) }
+    ensures beside { IfOk result (λ texts. MakesBeside options.now (M.remaining map.old.reader.now) (S.remaining script.old.reader.now)
+        texts.status (string_bytes texts.rdl) (string_bytes texts.session) texts.edited texts.saved) }
     ensures faulted { IfErr result (Faulted options.now (M.remaining map.old.reader.now) (S.remaining script.old.reader.now)
         (in_memory (E.contents messages.old.writer.now) [] [] []) (in_memory (E.contents messages.new.writer.now) [] [] [])) }
     ensures write_ended { IsErrOf result RunFault.Write → IsGivenUp messages.new.counts }
@@ -265,7 +299,7 @@ fn texts_counted<M: Read, S: Read, E: Write>(
     ensures few { messages.new.counts.interrupts ≤ 1000 }
     ensures same_reference { messages.new.writer.ghost_name ≡ messages.old.writer.ghost_name }
 {
-    let closing = run_lines(alloc, map, script, options, messages)?;
+    let closing = run_lines(alloc, map, script, options, messages, observer)?;
     write_counted(messages, closing.message.as_bytes())?;
     Ok(Texts {
         status: closing.status,
@@ -273,20 +307,24 @@ fn texts_counted<M: Read, S: Read, E: Write>(
         header: closing.header,
         session: closing.session,
         edited: closing.edited,
+        saved: closing.saved,
     })
 }
 
-/// The same run, which hands out the texts of the map, its header and the session in place of writing them.
-pub fn run_texts<M: Read, S: Read, E: Write>(
+/// The same run, which hands out the texts of the map, its header and the session in place of writing them, and tells an observer what it
+/// refuses.
+pub fn run_observed<M: Read, S: Read, E: Write, O: Observer>(
     alloc: Global,
     map: &mut M,
     script: &mut S,
     options: &Options,
     messages: &mut E,
+    observer: &mut O,
 ) -> Result<Texts, RunFault>
     ensures ran { IfOk result (AreRun options.now (M.remaining map.old) (S.remaining script.old) (E.contents messages.old) (E.contents messages.new)) }
-    // The edited text is of the map that was read and of the one that is handed out with it.
-    ensures edited { IfOk result (λ texts. IsEditedOf options.now.edited (M.remaining map.old) texts.status (string_bytes texts.rdl) texts.edited) }
+    // The edited text is of the map that was read and of the one that is handed out with it. The session keeps its source.
+    ensures beside { IfOk result (λ texts. MakesBeside options.now (M.remaining map.old) (S.remaining script.old)
+        texts.status (string_bytes texts.rdl) (string_bytes texts.session) texts.edited texts.saved) }
     ensures faulted { IfErr result (Faulted options.now (M.remaining map.old) (S.remaining script.old)
         (in_memory (E.contents messages.old) [] [] []) (in_memory (E.contents messages.new) [] [] [])) }
 
@@ -297,5 +335,34 @@ pub fn run_texts<M: Read, S: Read, E: Write>(
     let mut map = CountedReader::new(map);
     let mut script = CountedReader::new(script);
     let mut messages = CountedWriter::new(messages, 0);
-    texts_counted(alloc, &mut map, &mut script, options, &mut messages)
+    texts_counted(
+        alloc,
+        &mut map,
+        &mut script,
+        options,
+        &mut messages,
+        observer,
+    )
+}
+
+/// Does the same as `run_observed`, with no observer.
+pub fn run_texts<M: Read, S: Read, E: Write>(
+    alloc: Global,
+    map: &mut M,
+    script: &mut S,
+    options: &Options,
+    messages: &mut E,
+) -> Result<Texts, RunFault>
+    ensures ran { IfOk result (AreRun options.now (M.remaining map.old) (S.remaining script.old) (E.contents messages.old) (E.contents messages.new)) }
+    // The edited text is of the map that was read and of the one that is handed out with it. The session keeps its source.
+    ensures beside { IfOk result (λ texts. MakesBeside options.now (M.remaining map.old) (S.remaining script.old)
+        texts.status (string_bytes texts.rdl) (string_bytes texts.session) texts.edited texts.saved) }
+    ensures faulted { IfErr result (Faulted options.now (M.remaining map.old) (S.remaining script.old)
+        (in_memory (E.contents messages.old) [] [] []) (in_memory (E.contents messages.new) [] [] [])) }
+
+    // Where a reader tells its bytes, it stops for too many only if there are more than 67,108,864.
+    ensures too_long { IsErrOf result RunFault.TooLong → IsOver (M.remaining map.old) ⊎ IsOver (S.remaining script.old) }
+    ensures bound { OnOk result (IsWithin (M.remaining map.old) × IsWithin (S.remaining script.old)) }
+{
+    run_observed(alloc, map, script, options, messages, &mut Silent)
 }

@@ -20,6 +20,7 @@ ghost use Rattle.rdl_run.specs.Waiting.{Says};
 ghost use Rattle.rdl_run.specs.Writers.{ServesAll};
 
 use crate::counted::CountedWriter;
+use crate::observer::{Observer, Scene};
 use crate::output::write_counted;
 use crate::reading::{ReadingFault, items_of};
 use crate::reply::{LineRefusal, Reply, push_reply};
@@ -185,14 +186,30 @@ fn split_line(bytes: &[u8]) -> (&[u8], Option<&[u8]>)
     }
 }
 
-/// Puts one line's message into the text, and answers whether the line is refused.
-fn serve_line(
+/// Tells an observer of a line's refusal, if it is refused.
+fn tell<O: Observer>(
+    observer: &mut O,
+    number: usize,
+    line: &[u8],
+    reply: &Reply,
+    scene: Scene<'_>,
+) {
+    if let Reply::Refused(refusal) = reply {
+        observer.line_refused(number, line, refusal, scene);
+    }
+}
+
+/// Puts one line's message into the text, and answers whether the line is refused. The observer is told of that, and of the
+/// source.
+fn serve_line<O: Observer>(
     alloc: Global,
     journal: &mut Journal<Map>,
     kept: &mut Option<Rows>,
     number: usize,
     line: &[u8],
     message: &mut String,
+    source: Option<&[u8]>,
+    observer: &mut O,
 ) -> Result<bool, RunFault>
     requires { AreAt journal.old.history kept.old }
     ensures replied { IfOk result (λ refused. Replied journal.old.history line.now number (string_bytes message.new) refused journal.new.history) }
@@ -209,6 +226,8 @@ fn serve_line(
         Ok(reply) => reply,
         Err(_) => return Err(RunFault::Memory),
     };
+    let map = journal.map();
+    tell(observer, number, line, &reply, Scene { map, source });
     match push_reply(message, number, &reply) {
         Ok(()) => Ok(reply.is_refused()),
         Err(_) => Err(RunFault::Memory),
@@ -258,12 +277,14 @@ fn is_either(one: bool, other: bool) -> bool
 
 /// Serves the lines of a script, and writes the messages of all of them in their order, also where it stops for want of memory.
 /// Answers whether one was refused. The rows are those of the map at the place, if they are there.
-pub fn serve_all<E: Write>(
+pub fn serve_all<E: Write, O: Observer>(
     alloc: Global,
     journal: &mut Journal<Map>,
     kept: &mut Option<Rows>,
     script: &[u8],
     messages: &mut CountedWriter<'_, E>,
+    source: Option<&[u8]>,
+    observer: &mut O,
 ) -> Result<bool, RunFault>
     requires length { length script.now < 2 ^ 32 }
     requires asked { IsOpen messages.old.counts }
@@ -288,7 +309,16 @@ pub fn serve_all<E: Write>(
     'lines: while let Some(bytes) = rest {
         let (line, behind) = split_line(bytes);
         number += 1;
-        let refuses = match serve_line(alloc, journal, kept, number, line, &mut message) {
+        let refuses = match serve_line(
+            alloc,
+            journal,
+            kept,
+            number,
+            line,
+            &mut message,
+            source,
+            observer,
+        ) {
             Ok(refuses) => refuses,
             Err(_) => {
                 if write_counted(messages, waiting.as_bytes()).is_err() {

@@ -16,3 +16,4 @@ pub mod OpenedAgain
 pub mod SavedRuns
 pub mod GoneOn
 pub mod Stops
+pub mod FirstStays

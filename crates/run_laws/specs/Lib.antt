@@ -1,3 +1,4 @@
 pub mod NewParts
 pub mod Histories
 pub mod Stops
+pub mod Found

@@ -8,14 +8,14 @@ use Rattle.rdl_run.proofs.Closings.{heads_with_header, heads_with_clash}
 use Rattle.rdl_run.proofs.closing.header_part.Goals as goal
 
 pub returns-in-Ok-clause-heads : goal.returns-in-Ok-clause-heads
-returns-in-Ok-clause-heads c =
+returns-in-Ok-clause-heads g c =
     let part = c.made.result in
     subst (Heads c.args.map.now.state (string_bytes part.message) (string_bytes part.text)) (sym c.made.ensures.made)
     (heads_with_header c.args.map.now.state c.in_ok-rows.rows (string_bytes part.message) (string_bytes part.text) c.in_ok-rows.ensures
     (ap header_of (sym c.as_slice.ensures) ∙ c.in-Ok.ensures.ok ∙ ap (λ (t : List ℕ). let r : Result (List ℕ) (List ℕ) = Ok t in r) (sym (c.made.ensures.text ∙ ap string_bytes c.in-Ok.text-is))) c.made.ensures.message)
 
 pub returns-in-Err-Clash-clause-heads : goal.returns-in-Err-Clash-clause-heads
-returns-in-Err-Clash-clause-heads c =
+returns-in-Err-Clash-clause-heads g c =
     let part = c.left_out.result in
     let rows = c.in_ok-rows.rows in
     let name = c.in-Err-Clash.name in

@@ -2,4 +2,4 @@ use Rattle.rdl_run.proofs.Undone.{undone-none}
 use Rattle.rdl_run.proofs.laws.undone_edits_have_no_lines.Goals as goal
 
 pub returns : goal.returns
-returns c = λ old mid e before after made at there old_rows new_rows laid_out again. undone-none old mid e before after old_rows new_rows made at there laid_out again
+returns c = λ old mid e before after made at there m old_rows new_rows laid_out again. undone-none old mid e before after m old_rows new_rows made at there laid_out again

@@ -15,7 +15,7 @@ returns-clause-ran g c =
     let new = g.E.Write.contents c.write_counted.new.output.writer.now in
     let counts = c.write_counted.new.output.counts in
     let closing = c.in_ok-closing.closing in
-    texts_counted c.args.options.now _ _ _ mid _ _ closing c.in_ok-closing.ensures.closes new counts (record { status = closing.status; rdl = closing.rdl; header = closing.header; session = closing.session; edited = closing.edited })
+    texts_counted c.args.options.now _ _ _ mid _ _ closing c.in_ok-closing.ensures.closes new counts (record { status = closing.status; rdl = closing.rdl; header = closing.header; session = closing.session; edited = closing.edited; saved = closing.saved })
     (record { messages = subst (Appends mid new) c.as_bytes.ensures.value c.in_ok-write_counted.ensures.ok; rdl = refl; header = refl; session = refl; answer = refl })
     (subst (λ (bytes : List ℕ). HasTaken c.run_lines.new.messages.counts counts (length bytes)) c.as_bytes.ensures.value c.in_ok-write_counted.ensures.took)
 
