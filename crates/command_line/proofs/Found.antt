@@ -208,8 +208,8 @@ whole c m is p = record {
     d : Arg
     d = first_arg (args_of c) (rw (as_many regedit_command edit_rules edit_program c is) (lit< tt))
 
-    has : (k : ℕ) (lt : k < 9) (id : Text) → (rule_of_place edit_rules k).id ≡ id → (rule_of_place edit_rules k).action ≡ Some Set → (rule_of_place edit_rules k).range ≡ None
-        → clear_of edit_rules k (rule_of_place edit_rules k).id 9 ≡ true → bytes_eq id [] ≡ false → bytes_eq id (codes "help") ≡ false → bytes_eq id (codes "version") ≡ false
+    has : (k : ℕ) (lt : k < length edit_rules) (id : Text) → (rule_of_place edit_rules k).id ≡ id → (rule_of_place edit_rules k).action ≡ Some Set → (rule_of_place edit_rules k).range ≡ None
+        → clear_of edit_rules k (rule_of_place edit_rules k).id (length edit_rules) ≡ true → bytes_eq id [] ≡ false → bytes_eq id (codes "help") ≡ false → bytes_eq id (codes "version") ≡ false
         → (rule_of_place edit_rules k).required ≡ true → is_some (value id (rows_of (found_of m))) ≡ true
     has = has_value regedit_command edit_rules edit_program c m is p d
 

@@ -3,3 +3,4 @@ pub mod Found
 pub mod History
 pub mod Lone
 pub mod Order
+pub mod Unknown

@@ -203,6 +203,7 @@ module _ (map script rdl header : Text) (plain_map : is_plain map ≡ true) (pla
     session_value = ap (first_of (codes "session")) (values [] last refl);
     edited_value = ap (first_of (codes "edited")) (values [] last refl);
     strict_value = ap (first_of (codes "strict")) (values [] last refl);
+    quiet_value = ap (first_of (codes "quiet")) (values [] last refl);
   }
 
   module _ (session : Text) (plain_session : is_plain session ≡ true) where
@@ -245,4 +246,5 @@ module _ (map script rdl header : Text) (plain_map : is_plain map ≡ true) (pla
       session_value = ap (first_of (codes "session")) (values asked end to_end);
       edited_value = ap (first_of (codes "edited")) (values asked end to_end);
       strict_value = ap (first_of (codes "strict")) (values asked end to_end);
+      quiet_value = ap (first_of (codes "quiet")) (values asked end to_end);
     }

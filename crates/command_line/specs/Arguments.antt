@@ -1,4 +1,4 @@
--- The arguments of the programs as `clap` sees them: two operands, and seven options or one. Own.
+-- The arguments of the programs as `clap` sees them: two operands, and eight options or four. Own.
 use Rattle.std.specs.Prelude.{[], ◌∷◌, Some, true, codes, pos}
 use Rattle.clap.specs.Words.{App, Rule, Text, new_app, new_rule, with_rule}
 use Rattle.clap.specs.declared.builder.action.ArgAction.TheVariants.{Set, SetTrue}
@@ -16,6 +16,10 @@ output_rule id = record (new_rule id) { long = Some id; action = Some Set; requi
 abbrev pub top_rule : Rule
 top_rule = record (new_rule (codes "top")) { long = Some (codes "top"); action = Some Set; value_names = 1 }
 
+-- --ignore PROP,..
+abbrev pub ignore_rule : Rule
+ignore_rule = record (new_rule (codes "ignore")) { long = Some (codes "ignore"); action = Some Set; value_names = 1 }
+
 -- --history N, a number from 1 to 1,000,000
 abbrev pub history_rule : Rule
 history_rule = record (new_rule (codes "history")) {
@@ -30,9 +34,9 @@ history_rule = record (new_rule (codes "history")) {
 abbrev pub optional_output_rule : Text → Rule
 optional_output_rule id = record (new_rule id) { long = Some id; action = Some Set; value_names = 1 }
 
--- --strict, which has no value
-abbrev pub strict_rule : Rule
-strict_rule = record (new_rule (codes "strict")) { long = Some (codes "strict"); action = Some SetTrue }
+-- --strict, --quiet, --each and --breaking, which have no value
+abbrev pub switch_rule : Text → Rule
+switch_rule id = record (new_rule id) { long = Some id; action = Some SetTrue }
 
 -- the words don't begin with the program's name
 abbrev pub without_name : App → App
@@ -47,8 +51,9 @@ abbrev pub program_with : Text → (first second : Rule) → App
 program_with name first second = with_rule (with_rule (with_version (without_name (new_app name))) first) second
 
 unfoldable pub regedit_command : App
-regedit_command = with_rule (with_rule (with_rule (with_rule (with_rule (with_rule (with_rule (program_with (codes "regedit") (operand_rule (codes "map")) (operand_rule (codes "script")))
-    (output_rule (codes "rdl"))) (output_rule (codes "header"))) (optional_output_rule (codes "edited"))) top_rule) history_rule) (optional_output_rule (codes "session"))) strict_rule
+regedit_command = with_rule (with_rule (with_rule (with_rule (with_rule (with_rule (with_rule (with_rule (program_with (codes "regedit") (operand_rule (codes "map")) (operand_rule (codes "script")))
+    (output_rule (codes "rdl"))) (output_rule (codes "header"))) (optional_output_rule (codes "edited"))) top_rule) history_rule) (optional_output_rule (codes "session"))) (switch_rule (codes "strict"))) (switch_rule (codes "quiet"))
 
 unfoldable pub regdiff_command : App
-regdiff_command = with_rule (program_with (codes "regdiff") (operand_rule (codes "old")) (operand_rule (codes "new"))) top_rule
+regdiff_command = with_rule (with_rule (with_rule (with_rule (program_with (codes "regdiff") (operand_rule (codes "old")) (operand_rule (codes "new")))
+    top_rule) (switch_rule (codes "each"))) (switch_rule (codes "breaking"))) ignore_rule

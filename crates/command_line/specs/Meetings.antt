@@ -1,5 +1,5 @@
 -- Which paths of a line lead to one file or stream, as far as words tell. Own.
-use Rattle.std.specs.Prelude.{◌≡◌, ℕ, nat_eq, Bool, true, false, ◌||◌, ◌&&◌, if◌then◌else◌, List, Option, Some, None, codes, bytes_eq, option_map, option_and_then, string_bytes}
+use Rattle.std.specs.Prelude.{◌≡◌, nat_eq, Bool, false, ◌||◌, ◌&&◌, if◌then◌else◌, List, Option, Some, None, codes, bytes_eq, option_map, option_and_then, string_bytes}
 use Rattle.std.specs.List.{starts_with}
 use Rattle.clap.specs.Words.{Row, Text, first_of}
 use Rattle.command_line.specs.declared.line.Line.{Line}

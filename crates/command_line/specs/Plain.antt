@@ -32,6 +32,7 @@ pub record AreRead (words : List Text) (map script rdl header : Text) (session :
   pub session_value : value (codes "session") (found words) ≡ session
   pub edited_value : value (codes "edited") (found words) ≡ None
   pub strict_value : value (codes "strict") (found words) ≡ Some (codes "false")
+  pub quiet_value : value (codes "quiet") (found words) ≡ Some (codes "false")
 
 abbrev pub ReadsInOrder : (map script rdl header : Text) → Type 0
 ReadsInOrder map script rdl header = AreRead (in_order map script rdl header) map script rdl header None

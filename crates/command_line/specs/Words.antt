@@ -46,6 +46,7 @@ pub record Means (rows : List Row) (line : Line) : Type 0 where
   pub session : value (codes "session") rows ≡ option_map string_bytes line.session
   pub edited : value (codes "edited") rows ≡ option_map string_bytes line.edited
   pub strict : line.strict ≡ says_true (value (codes "strict") rows)
+  pub quiet : line.quiet ≡ says_true (value (codes "quiet") rows)
 
 -- what is told of the words: nothing where `clap` takes them, else the kind of the first thing that it doesn't take, where
 -- `--help` and `--version` are such things

@@ -1,7 +1,7 @@
 //! The arguments of the programs, as `clap` reads them and as their help shows them.
 ghost use Rattle.std.specs.Prelude.{◌≡◌, IfOk, false};
 ghost use Rattle.clap.specs.Words.{app_of, rule_of};
-ghost use Rattle.command_line.specs.Arguments.{history_rule, operand_rule, optional_output_rule, output_rule, program_with, regdiff_command, regedit_command, strict_rule, top_rule};
+ghost use Rattle.command_line.specs.Arguments.{history_rule, ignore_rule, operand_rule, optional_output_rule, output_rule, program_with, regdiff_command, regedit_command, switch_rule, top_rule};
 
 use clap::{Arg, ArgAction, Command, value_parser};
 use std::alloc::{AllocError, Global};
@@ -47,6 +47,17 @@ fn top<'a>(alloc: Global, help: &'a str) -> Arg<'a>
         .help(help)
 }
 
+fn ignore<'a>(alloc: Global, help: &'a str) -> Arg<'a>
+    ensures rule { rule_of result ≡ ignore_rule }
+    ensures own { result.global ≡ false }
+{
+    Arg::new(alloc, "ignore")
+        .long("ignore")
+        .value_name("PROP,..")
+        .action(ArgAction::Set)
+        .help(help)
+}
+
 fn history<'a>(alloc: Global) -> Arg<'a>
     ensures rule { rule_of result ≡ history_rule }
     ensures own { result.global ≡ false }
@@ -71,14 +82,14 @@ fn optional_output<'a>(alloc: Global, id: &'a str, help: &'a str) -> Arg<'a>
         .help(help)
 }
 
-fn strict<'a>(alloc: Global) -> Arg<'a>
-    ensures rule { rule_of result ≡ strict_rule }
+fn switch<'a>(alloc: Global, id: &'a str, help: &'a str) -> Arg<'a>
+    ensures rule { rule_of result ≡ switch_rule id.entry.now }
     ensures own { result.global ≡ false }
 {
-    Arg::new(alloc, "strict")
-        .long("strict")
+    Arg::new(alloc, id)
+        .long(id)
         .action(ArgAction::SetTrue)
-        .help("Changes files only where each line was accepted")
+        .help(help)
 }
 
 /// A program of this name with two operands.
@@ -137,7 +148,12 @@ pub(crate) fn regedit_command<'a>(alloc: Global) -> Result<Command<'a>, AllocErr
         "session",
         "Where the session is written: the map with its undos and redos",
     ))?
-    .arg(strict(alloc))
+    .arg(switch(
+        alloc,
+        "strict",
+        "Changes files only where each line was accepted",
+    ))?
+    .arg(switch(alloc, "quiet", "Explains no refusal on standard error"))
 }
 
 /// The command `regdiff`, with its help.
@@ -154,5 +170,19 @@ pub(crate) fn regdiff_command<'a>(alloc: Global) -> Result<Command<'a>, AllocErr
     .arg(top(
         alloc,
         "The address map of the root that is the top of both; with none, the last one of each",
+    ))?
+    .arg(switch(
+        alloc,
+        "each",
+        "Tells each row that has another base, also where only what holds it has moved",
+    ))?
+    .arg(switch(
+        alloc,
+        "breaking",
+        "Tells what breaks software alone; the status is 1 only where something does",
+    ))?
+    .arg(ignore(
+        alloc,
+        "Tells no differences of these properties, as name,desc",
     ))
 }

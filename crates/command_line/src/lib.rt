@@ -4,6 +4,7 @@
 mod arguments;
 pub mod comparison;
 pub mod fault;
+mod ignored;
 pub mod laws;
 pub mod line;
 pub mod meeting;

@@ -24,6 +24,8 @@ pub struct Line {
     pub edited: Option<String>,
     /// Whether files change only where each line of the script was accepted.
     pub strict: bool,
+    /// Whether no refusal is explained on standard error.
+    pub quiet: bool,
 }
 
 /// Why words are no command line.

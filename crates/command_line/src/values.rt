@@ -3,6 +3,7 @@ ghost use Rattle.std.specs.Prelude.{◌≡◌, Some, codes, is_some, true, strin
 ghost use Rattle.clap.specs.Words.{found_of, rows_of};
 ghost use Rattle.rdl_text.specs.Name.{IsName};
 ghost use Rattle.command_line.specs.Faults.{RefusesFound, value};
+ghost use Rattle.command_line.specs.Words.{says_true};
 
 use crate::fault::WordsFault;
 use clap::ArgMatches;
@@ -34,5 +35,15 @@ pub(crate) fn top_of(alloc: Global, matches: &ArgMatches<'_>) -> Result<Option<N
         Ok(name) => Ok(Some(name)),
         Err(NameFault::NotSuch) => Err(WordsFault::BadTop),
         Err(NameFault::Memory) => Err(WordsFault::Memory),
+    }
+}
+
+/// Whether an option is given that has no value.
+pub(crate) fn is_set(matches: &ArgMatches<'_>, id: &str) -> bool
+    ensures { result ≡ says_true (value id.now (rows_of (found_of matches.now))) }
+{
+    match matches.get_str(id) {
+        Some(text) => text == "true",
+        None => false,
     }
 }

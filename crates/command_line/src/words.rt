@@ -4,13 +4,13 @@ ghost use Rattle.clap.specs.Words.{found_of, kind_of, rows_of};
 ghost use Rattle.command_line.specs.Faults.{HasFault, IsTold, RefusesFound, value};
 ghost use Rattle.command_line.specs.Faults.{IsBehindClap as AreBehindClap};
 ghost use Rattle.command_line.specs.Meetings.{meeting_of};
-ghost use Rattle.command_line.specs.Words.{AreTaken, HasHistory, IsBehindClap, IsWhole, Means, NumbersHistory, Refuses, found, mistakes, says_true};
+ghost use Rattle.command_line.specs.Words.{AreTaken, HasHistory, IsBehindClap, IsWhole, Means, NumbersHistory, Refuses, found, mistakes};
 
 use crate::arguments::regedit_command;
 use crate::fault::WordsFault;
 use crate::line::{Line, LineFault};
 use crate::meeting::{Meeting, meeting_between};
-use crate::values::{argument, top_of};
+use crate::values::{argument, is_set, top_of};
 use clap::error::ErrorKind;
 use clap::{ArgMatches, Error};
 use std::alloc::{AllocError, Global};
@@ -48,15 +48,6 @@ fn session_of(alloc: Global, matches: &ArgMatches<'_>) -> Result<Option<String>,
         return Ok(None);
     };
     Ok(Some(String::from_str(alloc, text)?))
-}
-
-fn is_strict(matches: &ArgMatches<'_>) -> bool
-    ensures { result ≡ says_true (value (codes "strict") (rows_of (found_of matches.now))) }
-{
-    match matches.get_str("strict") {
-        Some(text) => text == "true",
-        None => false,
-    }
 }
 
 /// The path of an output that may not be asked for.
@@ -98,7 +89,8 @@ fn line_of(alloc: Global, matches: &ArgMatches<'_>) -> Result<Line, WordsFault>
         history: history_of(matches),
         session: session_of(alloc, matches)?,
         edited: edited_of(alloc, matches)?,
-        strict: is_strict(matches),
+        strict: is_set(matches, "strict"),
+        quiet: is_set(matches, "quiet"),
     })
 }
 

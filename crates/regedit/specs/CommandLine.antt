@@ -1,11 +1,11 @@
 -- The exit status of the program. Own.
-use Rattle.std.specs.Prelude.{◌≡◌, ◌⊎◌, ℕ, ◌≤◌, List, Option, Some, None, Result, Ok, Err}
+use Rattle.std.specs.Prelude.{◌≡◌, ◌⊎◌, ℕ, ◌≤◌, List, Result, Ok, Err, if◌then◌else◌}
 use Rattle.command_line.specs.Words.{AreBadAtTop, AreMistaken, Meet}
 use Rattle.command_line.specs.declared.meeting.Meeting.{Meeting}
 use Rattle.command_line.specs.declared.fault.WordsFault.{WordsFault}
 use Rattle.command_line.specs.declared.fault.WordsFault.TheVariants as faults
 use Rattle.rdl_run.specs.declared.run.Options.{Options}
-use Rattle.rdl_run.specs.declared.edited.Unwoven.{Unwoven}
+use Rattle.regedit.specs.Files.{lacks_text}
 use Rattle.regedit.specs.OfOutput.{IsEndingOf}
 use Rattle.regedit.specs.declared.files.Ending.{Ending}
 use Rattle.regedit.specs.declared.command.Failure.{Failure}
@@ -26,18 +26,18 @@ failure_code failures.BadTop = 5
 failure_code (failures.Meets meeting) = 5
 
 -- a text that is missing counts more than a line that was refused
-abbrev pub ending_code : Status → Option Unwoven → ℕ
-ending_code status None = status_code status
-ending_code status (Some why) = 3
+abbrev pub ending_code : Ending → ℕ
+ending_code ending = if lacks_text ending then 3 else status_code ending.status
 
 -- that of a run that ended so
 abbrev pub exit_code : {E : Type 0} → Result Ending E → ℕ
-exit_code (Ok ending) = ending_code ending.status ending.unwoven
+exit_code (Ok ending) = ending_code ending
 exit_code (Err stop) = 4
 
--- the run stopped, or it ended with the status of an output of some map and script, or without an edited text that was asked for
+-- the run stopped, or it ended with the status of an output of some map and script, or without an edited or a source text that was
+-- asked for
 abbrev pub EndsRun : Options → ℕ → Type 0
-EndsRun options n = (n ≡ 4) ⊎ ((ending : Ending) × IsEndingOf options ending × (n ≡ ending_code ending.status ending.unwoven))
+EndsRun options n = (n ≡ 4) ⊎ ((ending : Ending) × IsEndingOf options ending × (n ≡ ending_code ending))
 
 -- how the program ends where the words are no command line; help and the version may find no memory, or be cut off
 abbrev pub EndsWords : WordsFault → ℕ → Type 0

@@ -12,6 +12,7 @@ use command_line::meeting::Meeting;
 use command_line::words::line;
 use rdl_run::counted::CountedWriter;
 use rdl_run::output::write_counted;
+use rdl_run::saved::WITHOUT_SOURCE;
 use rdl_run::status::{RunFault, Status};
 use std::alloc::Global;
 use std::fs::File;
@@ -70,16 +71,25 @@ fn report_stop<E: Write>(stop: &Stop<'_>, errors: &mut E) {
     }
 }
 
-/// The exit status of a run that wrote its texts. Why the edited text isn't there is said, where it is asked for and isn't.
+/// Says which texts are missing that aren't told of on standard output.
+fn report_missing<E: Write>(ending: Ending, errors: &mut E) {
+    if let Some(why) = ending.unwoven {
+        let _ = writeln!(errors, "regedit: {why}");
+    }
+    if ending.is_sourceless {
+        let _ = writeln!(errors, "regedit: {WITHOUT_SOURCE}");
+    }
+}
+
+/// The exit status of a run that wrote its texts. Which are missing is said.
 fn finished<E: Write>(ending: Ending, errors: &mut E) -> u8
-    ensures { result ≡ ending_code ending.status ending.unwoven }
+    ensures { result ≡ ending_code ending }
 {
-    match ending.unwoven {
-        None => status_code(ending.status),
-        Some(why) => {
-            let _ = writeln!(errors, "regedit: {why}");
-            3
-        }
+    report_missing(ending, errors);
+    if ending.lacks_text() {
+        3
+    } else {
+        status_code(ending.status)
     }
 }
 
@@ -96,7 +106,8 @@ fn ended<E: Write>(outcome: &Result<Ending, Stop<'_>>, errors: &mut E) -> u8
     }
 }
 
-/// Does what a line asks, unless two of its paths lead to one file: then nothing is read or written.
+/// Does what a line asks, unless two of its paths lead to one file: then nothing is read or written. What is refused is explained on
+/// `errors`.
 fn obey<R: Files<File = File> + Input, M: Write, E: Write>(
     rt: &R,
     alloc: Global,
@@ -108,9 +119,19 @@ fn obey<R: Files<File = File> + Input, M: Write, E: Write>(
 {
     let outcome = match meeting_of_files(rt, alloc, &asked.paths) {
         Some(obstacle) => Err(Stop::at(RunFault::Write, obstacle)),
-        None => edit_files(rt, alloc, asked, messages),
+        None => edit_files(rt, alloc, asked, messages, errors),
     };
     ended(&outcome, errors)
+}
+
+/// Prints a text, and answers the exit status.
+pub(crate) fn print_text<M: Write, E: Write>(text: &str, messages: &mut M, errors: &mut E) -> u8
+    ensures { (result ≡ 0) ⊎ (result ≡ 4) }
+{
+    match write_counted(&mut CountedWriter::new(messages, 0), text.as_bytes()) {
+        Ok(()) => 0,
+        Err(fault) => report(Failure::Fault(fault), errors),
+    }
 }
 
 /// Prints the help or the version.

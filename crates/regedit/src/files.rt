@@ -1,8 +1,8 @@
 //! A run over files: they are read whole before it, and replaced whole after it.
 ghost use Rattle.std.specs.Prelude.{◌≡◌, ◌++◌, IfOk, IsOkUnless, OnOk, map, option_map, string_bytes};
 ghost use Rattle.std.specs.Io.KnownBytes.{Appends};
-ghost use Rattle.regedit.specs.Files.{edited_files, ending_of, files_of, goes_out, if_there, lent, seen, to_files, to_output, unwoven_of};
-ghost use Rattle.rdl_run.specs.Edited.{IsEditedOf};
+ghost use Rattle.regedit.specs.Files.{edited_files, ending_of, files_of, goes_out, if_there, is_sourceless, lacks_text, lent, saved_text, seen, to_files, to_output, unwoven_of};
+ghost use Rattle.rdl_run.specs.Beside.{MakesBeside};
 ghost use Rattle.rdl_run.specs.RunTexts.{AreRun};
 ghost use Rattle.regedit.specs.OfOutput.{IsEndingOf, IsLeft};
 ghost use Rattle.rdl_run.specs.Turns.{IsOpen};
@@ -11,11 +11,15 @@ ghost use Rattle.rdl_run.specs.declared.status.RunFault.{RunFault};
 use crate::paths::{Asked, Paths};
 use crate::source::Source;
 use command_line::streams::{is_standard_input, is_standard_output};
+use explainer::explainer::{Explainer, MOST};
+use rdl_explain::explain::Names;
 use rdl_run::counted::CountedWriter;
 use rdl_run::edited::{Edited, Unwoven};
 use rdl_run::output::write_counted;
-use rdl_run::run::{MOST_BYTES, Options, Texts, run_texts};
+use rdl_run::run::{MOST_BYTES, Options, Texts, run_observed};
+use rdl_run::saved::Saved;
 use rdl_run::status::{RunFault, Status};
+use rdl_warn::warn::{Outlet, warnings};
 use std::alloc::{AllocError, Global};
 use std::fs::{File, Files};
 use std::io::{Read, Write};
@@ -53,11 +57,36 @@ pub(crate) struct Filed<'a> {
     text: String,
 }
 
-/// How a run ended, and why its edited text isn't there, where it is asked for and isn't.
+/// How a run ended.
 #[derive(Clone, Copy, Debug, Drop)]
 pub(crate) struct Ending {
     pub(crate) status: Status,
+    /// Why the edited text isn't there, where it is asked for and isn't.
     pub(crate) unwoven: Option<Unwoven>,
+    /// Whether the session goes out without the source text that it is to keep.
+    pub(crate) is_sourceless: bool,
+}
+
+impl Ending {
+    ghost use Rattle.std.specs.Prelude.{◌≡◌};
+    ghost use Rattle.regedit.specs.Files.{ending_of, lacks_text};
+
+    fn of(texts: &Texts) -> Ending
+        ensures { result ≡ ending_of texts.now }
+    {
+        Ending {
+            status: texts.status,
+            unwoven: unwoven_of(&texts.edited),
+            is_sourceless: matches!(texts.saved, Saved::WithoutSource),
+        }
+    }
+
+    /// Whether the edited text is missing, or a source text.
+    pub(crate) fn lacks_text(self) -> bool
+        ensures { result ≡ lacks_text self }
+    {
+        self.unwoven.is_some() || self.is_sourceless
+    }
 }
 
 /// What a run leaves: how it ended, and the texts that go out.
@@ -105,22 +134,66 @@ fn stopped<'a, F, W>(
     Stop { fault, obstacle }
 }
 
-/// Runs the script of the second input on the map or session of the first. The texts are those of the run, each under its name.
-fn run_inputs<'a, F: Read, M: Write>(
+/// The name of the top that is asked, if one is.
+fn top_of(options: &Options) -> Option<&str> {
+    match &options.top {
+        Some(name) => Some(name.as_str()),
+        None => None,
+    }
+}
+
+/// What tells on `errors` why something is refused, unless the run is to be quiet.
+fn explainer_of<'x, E: Write>(
     alloc: Global,
-    paths: &'a Paths,
-    options: &Options,
+    asked: &'x Asked,
+    errors: &'x mut E,
+) -> Explainer<'x, E> {
+    let names = Names {
+        map: asked.paths.map.as_str(),
+        script: asked.paths.script.as_str(),
+    };
+    let most = if asked.quiet { 0 } else { MOST };
+    Explainer::new(alloc, names, top_of(&asked.options), most, errors)
+}
+
+/// Runs the script of the second input on the map or session of the first. Why something is refused is told on `errors`, unless the run
+/// is to be quiet; the texts are the same whatever is told.
+fn run_explained<F: Read, M: Write, E: Write>(
+    alloc: Global,
+    asked: &Asked,
     map: &mut NotedReader<F>,
     script: &mut NotedReader<F>,
     messages: &mut NotedWriter<'_, M>,
-) -> Result<Texts, Stop<'a>>
-    ensures ran { IfOk result (AreRun options.now (F.remaining map.old.reader) (F.remaining script.old.reader)
+    errors: &mut E,
+) -> Result<Texts, RunFault>
+    ensures ran { IfOk result (AreRun asked.entry.now.options (F.remaining map.old.reader) (F.remaining script.old.reader)
         (M.contents messages.old.writer.now) (M.contents messages.new.writer.now)) }
-    ensures edited { IfOk result (λ texts. IsEditedOf options.now.edited (F.remaining map.old.reader) texts.status (string_bytes texts.rdl) texts.edited) }
+    ensures beside { IfOk result (λ texts. MakesBeside asked.entry.now.options (F.remaining map.old.reader) (F.remaining script.old.reader)
+        texts.status (string_bytes texts.rdl) (string_bytes texts.session) texts.edited texts.saved) }
 {
-    match run_texts(alloc, map, script, options, messages) {
+    let mut explainer = explainer_of(alloc, asked, errors);
+    let ran = run_observed(alloc, map, script, &asked.options, messages, &mut explainer);
+    explainer.finish();
+    ran
+}
+
+/// The same, and at which file a run stopped. The texts are those of the run, each under its name.
+fn run_inputs<'a, F: Read, M: Write, E: Write>(
+    alloc: Global,
+    asked: &'a Asked,
+    map: &mut NotedReader<F>,
+    script: &mut NotedReader<F>,
+    messages: &mut NotedWriter<'_, M>,
+    errors: &mut E,
+) -> Result<Texts, Stop<'a>>
+    ensures ran { IfOk result (AreRun asked.entry.now.options (F.remaining map.old.reader) (F.remaining script.old.reader)
+        (M.contents messages.old.writer.now) (M.contents messages.new.writer.now)) }
+    ensures beside { IfOk result (λ texts. MakesBeside asked.entry.now.options (F.remaining map.old.reader) (F.remaining script.old.reader)
+        texts.status (string_bytes texts.rdl) (string_bytes texts.session) texts.edited texts.saved) }
+{
+    match run_explained(alloc, asked, map, script, messages, errors) {
         Ok(texts) => Ok(texts),
-        Err(fault) => Err(stopped(fault, paths, map, script, messages)),
+        Err(fault) => Err(stopped(fault, &asked.paths, map, script, messages)),
     }
 }
 
@@ -153,7 +226,7 @@ fn unwoven_of(edited: &Edited) -> Option<Unwoven>
 fn goes_out(strict: bool, ending: Ending) -> bool
     ensures { result ≡ goes_out strict ending }
 {
-    !strict || ending.status == Status::Accepted && ending.unwoven.is_none()
+    !strict || ending.status == Status::Accepted && !ending.lacks_text()
 }
 
 /// Puts the edited text behind the others, if it is there and has a path.
@@ -173,6 +246,16 @@ fn push_edited<'a>(
     Ok(())
 }
 
+/// The session as it goes out.
+fn saved_text(session: String, saved: Saved) -> String
+    ensures { string_bytes result ≡ saved_text (string_bytes session) saved }
+{
+    match saved {
+        Saved::WithSource(text) => text,
+        Saved::Plain | Saved::WithoutSource => session,
+    }
+}
+
 /// The texts that go out, each with its path. With `strict` none does unless each line was accepted and no text is missing.
 fn outputs_of<'a>(
     alloc: Global,
@@ -183,17 +266,17 @@ fn outputs_of<'a>(
     ensures { IfOk result (λ outputs. map seen outputs.items ≡ files_of strict texts paths.entry.now) }
 {
     let mut outputs = Vec::new(alloc);
+    if !goes_out(strict, Ending::of(&texts)) {
+        return Ok(outputs);
+    }
     let Texts {
         status,
         rdl,
         header,
         session,
         edited,
+        saved,
     } = texts;
-    let unwoven = unwoven_of(&edited);
-    if !goes_out(strict, Ending { status, unwoven }) {
-        return Ok(outputs);
-    }
     push_if(&mut outputs, status.has_map(), paths.rdl.as_str(), rdl)?;
     push_if(
         &mut outputs,
@@ -202,7 +285,8 @@ fn outputs_of<'a>(
         header,
     )?;
     if let Some(path) = &paths.session {
-        push_if(&mut outputs, status.has_session(), path.as_str(), session)?;
+        let text = saved_text(session, saved);
+        push_if(&mut outputs, status.has_session(), path.as_str(), text)?;
     }
     push_edited(&mut outputs, &paths.edited, edited)?;
     Ok(outputs)
@@ -213,36 +297,53 @@ fn left_by<'a>(alloc: Global, texts: Texts, asked: &'a Asked) -> Result<Left<'a>
     ensures ending { IfOk result (λ left. left.ending ≡ ending_of texts) }
     ensures outputs { IfOk result (λ left. map seen left.outputs.items ≡ files_of asked.entry.now.strict texts asked.entry.now.paths) }
 {
-    let ending = Ending {
-        status: texts.status,
-        unwoven: unwoven_of(&texts.edited),
-    };
+    let ending = Ending::of(&texts);
     match outputs_of(alloc, texts, &asked.paths, asked.strict) {
         Ok(outputs) => Ok(Left { ending, outputs }),
         Err(_) => Err(Stop::for_memory()),
     }
 }
 
+/// Whether a text that goes to this path is kept in a file of this name.
+fn is_filed(path: &str) -> bool {
+    !is_standard_output(path) && path != "/dev/null"
+}
+
+/// Warns of what is odd of the map that a run leaves, at its place in the text that goes out, unless it is asked to be quiet.
+fn warn<E: Write>(alloc: Global, asked: &Asked, texts: &Texts, errors: &mut E) {
+    if asked.quiet {
+        return;
+    }
+    let paths = &asked.paths;
+    let (path, text) = match (&paths.edited, &texts.edited) {
+        (Some(path), Edited::Woven(text)) => (path.as_str(), text.as_str()),
+        _ => (paths.rdl.as_str(), texts.rdl.as_str()),
+    };
+    let told = if is_filed(path) {
+        warnings(alloc, path, Outlet::File, text)
+    } else {
+        warnings(alloc, paths.map.as_str(), Outlet::Nowhere, text)
+    };
+    if let Ok(told) = told {
+        let _ = write!(errors, "{}", told.as_str());
+    }
+}
+
 /// The run that is asked. What goes out is of one output of a run of some map and script, each text at its path.
-fn run_in_memory<'a, R: Files<File = File> + Input, M: Write>(
+fn run_in_memory<'a, R: Files<File = File> + Input, M: Write, E: Write>(
     rt: &R,
     alloc: Global,
     asked: &'a Asked,
     messages: &mut NotedWriter<'_, M>,
+    errors: &mut E,
 ) -> Result<Left<'a>, Stop<'a>>
     ensures left { IfOk result (IsLeft asked.entry.now) }
 {
     let paths = &asked.paths;
     let mut map = opened(rt, paths.map.as_str())?;
     let mut script = opened(rt, paths.script.as_str())?;
-    let texts = run_inputs(
-        alloc,
-        paths,
-        &asked.options,
-        &mut map,
-        &mut script,
-        messages,
-    )?;
+    let texts = run_inputs(alloc, asked, &mut map, &mut script, messages, errors)?;
+    warn(alloc, asked, &texts, errors);
     left_by(alloc, texts, asked)
 }
 
@@ -312,17 +413,19 @@ fn write_files<'a, R: Files<File = File>>(
 }
 
 /// Runs the script on its map or session. Behind the messages, standard output gets the text that goes there. The files are
-/// replaced only when all that is written: none where the map is refused, and all but those whose text is missing.
-pub(crate) fn edit_files<'a, R: Files<File = File> + Input, M: Write>(
+/// replaced only when all that is written: none where the map is refused, and all but those whose text is missing. Why something is
+/// refused goes to `errors`.
+pub(crate) fn edit_files<'a, R: Files<File = File> + Input, M: Write, E: Write>(
     rt: &R,
     alloc: Global,
     asked: &'a Asked,
     messages: &mut M,
+    errors: &mut E,
 ) -> Result<Ending, Stop<'a>>
     ensures ending { IfOk result (IsEndingOf asked.entry.now.options) }
 {
     let mut messages = NotedWriter::new(messages);
-    let Left { ending, outputs } = run_in_memory(rt, alloc, asked, &mut messages)?;
+    let Left { ending, outputs } = run_in_memory(rt, alloc, asked, &mut messages, errors)?;
     if let Err(fault) = write_behind(outputs.as_slice(), &mut messages) {
         let obstacle = obstacle_of_output(&mut messages);
         return Err(Stop { fault, obstacle });

@@ -2,6 +2,7 @@
 #![tactic(auto)]
 
 mod command;
+mod explanation;
 mod files;
 mod paths;
 mod source;
@@ -9,6 +10,7 @@ mod source;
 mod tests;
 
 use crate::command::{command, refuse_words};
+use crate::explanation::{asked_number, explain};
 use std::alloc::{AllocError, Global};
 use std::process::ExitCode;
 use std::{env, io};
@@ -27,6 +29,9 @@ fn keep_freed_memory(alloc: Global) {
 fn run_words(rt: &HostRuntime, alloc: Global) -> io::Result<u8> {
     let owned: Vec<String> = env::args(rt)?.skip(1).collect(alloc)?;
     let words: Vec<&str> = owned.iter().map(|word| word.as_str()).collect(alloc)?;
+    if let Some(number) = asked_number(words.as_slice()) {
+        return Ok(explain(number, &mut rt.stdout(), &mut rt.stderr()));
+    }
     Ok(command(
         rt,
         alloc,

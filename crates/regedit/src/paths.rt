@@ -28,6 +28,8 @@ pub(crate) struct Asked {
     pub(crate) options: Options,
     /// Whether files change only where each line of the script was accepted.
     pub(crate) strict: bool,
+    /// Whether no refusal is explained.
+    pub(crate) quiet: bool,
 }
 
 /// What a line asks for.
@@ -35,6 +37,7 @@ pub(crate) fn parts(line: Line) -> Asked
     ensures paths { result.paths ≡ record { map = line.map; script = line.script; rdl = line.rdl; header = line.header; session = line.session; edited = line.edited } }
     ensures options { result.options ≡ record { top = line.top; history = line.history; session = is_some line.session; edited = is_some line.edited } }
     ensures strict { result.strict ≡ line.strict }
+    ensures quiet { result.quiet ≡ line.quiet }
 {
     let Line {
         map,
@@ -46,6 +49,7 @@ pub(crate) fn parts(line: Line) -> Asked
         top,
         history,
         strict,
+        quiet,
     } = line;
     let options = Options {
         top,
@@ -65,6 +69,7 @@ pub(crate) fn parts(line: Line) -> Asked
         paths,
         options,
         strict,
+        quiet,
     }
 }
 

@@ -8,6 +8,7 @@ use std::str;
 use std::test::Fail;
 
 mod bytes;
+mod edited;
 mod examples;
 mod faults;
 mod files;

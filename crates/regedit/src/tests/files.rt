@@ -179,7 +179,13 @@ type Names = (&'static str, &'static str, &'static str, &'static str);
 
 const NAMES: Names = ("map.rdl", "script.txt", "out.rdl", "out.h");
 
-fn run_in(rt: &HostRuntime, folder: &Folder, names: Names) -> Result<Said, Fail> {
+/// Runs on these files, with an option that has no value.
+fn run_in(
+    rt: &HostRuntime,
+    folder: &Folder,
+    names: Names,
+    option: &'static str,
+) -> Result<Said, Fail> {
     let map = folder.file(rt, names.0)?;
     let script = folder.file(rt, names.1)?;
     let rdl = folder.file(rt, names.2)?;
@@ -191,6 +197,7 @@ fn run_in(rt: &HostRuntime, folder: &Folder, names: Names) -> Result<Said, Fail>
         rdl.as_str(),
         "--header",
         header.as_str(),
+        option,
     ];
     Ok(run_words(rt, &words))
 }
@@ -248,7 +255,7 @@ fn assert_run_in(
     behind: Texts,
 ) -> Result<(), Fail> {
     write_each(rt, folder, before)?;
-    let said = run_in(rt, folder, NAMES)?;
+    let said = run_in(rt, folder, NAMES, "--quiet")?;
     assert_says(abort, &said, want)?;
     assert_each_holds(abort, rt, folder, behind)
 }
@@ -377,7 +384,8 @@ fn assert_written_in_place(
     folder: &Folder,
 ) -> Result<(), Fail> {
     write_each(rt, folder, &[("map.rdl", MAP), ("script.txt", SCRIPT)])?;
-    let said = run_in(rt, folder, ("map.rdl", "script.txt", "map.rdl", "out.h"))?;
+    let names = ("map.rdl", "script.txt", "map.rdl", "out.h");
+    let said = run_in(rt, folder, names, "--quiet")?;
     assert_says(abort, &said, (0, MESSAGES, ""))?;
     assert_holds(abort, rt, folder, "map.rdl", WRITTEN)
 }
@@ -429,6 +437,7 @@ fn run_saving(rt: &HostRuntime, folder: &Folder, map: &str, script: &str) -> Res
         header.as_str(),
         "--session",
         session.as_str(),
+        "--quiet",
     ];
     Ok(run_words(rt, &words))
 }
@@ -459,5 +468,42 @@ fn assert_saved(abort: &impl Abort, rt: &HostRuntime, folder: &Folder) -> Result
 fn of_sessions_are_written(rt: HostRuntime) -> Result<(), Fail> {
     let folder = Folder::new(&rt, "session")?;
     assert_saved(&rt, &rt, &folder)?;
+    folder.remove(&rt)
+}
+
+/// Adds a register where another one stands.
+const MEETING: &str = "add /$top last reg { field {} g; } y @ 0x0;\n";
+
+const MEETING_MESSAGE: &str =
+    "script:1: X9 the edited map has a fault: E20 address overlap at item 0.1\n";
+
+/// What is told of that line besides, of a map and a script of these paths.
+fn meeting_told(rt: &HostRuntime, map: &str, script: &str) -> Result<String, AllocError> {
+    format!(in rt.alloc();
+        "{script}:1:38: E20 address overlap: y at 0x0 to 0x3 meets a at 0x0 to 0x3
+  add /$top last reg {{ field {{}} g; }} y @ 0x0;
+                                       ^~~~~
+  /$top/a stands at {map}:1:44; the next free address in /$top is 0x4
+"
+    )
+}
+
+fn assert_explained(abort: &impl Abort, rt: &HostRuntime, folder: &Folder) -> Result<(), Fail> {
+    write_each(rt, folder, &[("map.rdl", MAP), ("script.txt", MEETING)])?;
+    let map = folder.file(rt, "map.rdl")?;
+    let script = folder.file(rt, "script.txt")?;
+    let told = meeting_told(rt, map.as_str(), script.as_str())?;
+    let said = run_in(rt, folder, NAMES, "--strict")?;
+    assert_same(abort, said.errors()?, told.as_str(), "the explanation");
+    assert_same(abort, said.messages()?, MEETING_MESSAGE, "the messages");
+    assert!(abort; said.status == 1);
+    Ok(())
+}
+
+// Without `--quiet` standard error says what a refused line means, and standard output says what it always says.
+#[test]
+fn that_meet_are_explained(rt: HostRuntime) -> Result<(), Fail> {
+    let folder = Folder::new(&rt, "explained")?;
+    assert_explained(&rt, &rt, &folder)?;
     folder.remove(&rt)
 }

@@ -10,15 +10,15 @@ use std::process::Abort;
 use std::test::Fail;
 
 /// Words, of which those that begin with no hyphen and no slash are names in a folder.
-type Words = &'static [&'static str];
+pub(super) type Words = &'static [&'static str];
 
 /// A status, the first line on standard error, and how the second one ends.
-type Ending = (u8, &'static str, &'static str);
+pub(super) type Ending = (u8, &'static str, &'static str);
 
 /// What stands in a folder, the words of a run, how it ends, what stands there then, and how many files that are.
-type Case = (Texts, Words, Ending, Texts, usize);
+pub(super) type Case = (Texts, Words, Ending, Texts, usize);
 
-const BEFORE: Texts = &[
+pub(super) const BEFORE: Texts = &[
     ("map.rdl", MAP),
     ("script.txt", SCRIPT),
     ("out.rdl", "old map"),
@@ -40,26 +40,16 @@ const STRICTLY: Words = &[
     "map.rdl",
     "script.txt",
     "--strict",
+    "--quiet",
     "--rdl",
     "out.rdl",
     "--header",
     "out.h",
 ];
 
-/// Words of a run that replaces the map by its edited text.
-const IN_PLACE: Words = &[
-    "map.rdl",
-    "script.txt",
-    "--rdl",
-    "/dev/null",
-    "--header",
-    "/dev/null",
-    "--edited",
-    "map.rdl",
-];
-
 /// A session of a map without registers.
-const SESSION: &str = "regedit session 1\nmap 17\naddrmap top {\n};\nundo 0\nredo 0\nend\n";
+pub(super) const SESSION: &str =
+    "regedit session 1\nmap 17\naddrmap top {\n};\nundo 0\nredo 0\nend\n";
 
 /// A name of 255 bytes.
 const LONGEST: &str = "\
@@ -67,15 +57,13 @@ nnnnnnnnnnnnnnnnnnnnnnnnnnnnnnnnnnnnnnnnnnnnnnnnnnnnnnnnnnnnnnnnnnnnnnnnnnnnnnnn
 nnnnnnnnnnnnnnnnnnnnnnnnnnnnnnnnnnnnnnnnnnnnnnnnnnnnnnnnnnnnnnnnnnnnnnnnnnnnnnnnnnnnn\
 nnnnnnnnnnnnnnnnnnnnnnnnnnnnnnnnnnnnnnnnnnnnnnnnnnnnnnnnnnnnnnnnnnnnnnnnnnnnnnnnnnnnn";
 
-const WELL: Ending = (0, "", "");
+pub(super) const WELL: Ending = (0, "", "");
 
-const TWO_OUTPUTS: Ending = (5, "regedit: two outputs in one file\n", "");
+pub(super) const TWO_OUTPUTS: Ending = (5, "regedit: two outputs in one file\n", "");
 
-const OVER_SCRIPT: Ending = (5, "regedit: an output over SCRIPT\n", "");
+pub(super) const OVER_SCRIPT: Ending = (5, "regedit: an output over SCRIPT\n", "");
 
 const OVER_MAP: Ending = (5, "regedit: header over MAP\n", "");
-
-const NO_SOURCE: Ending = (3, "regedit: K3 no source text in the session\n", "");
 
 const TWO_INPUTS: Ending = (5, "regedit: MAP and SCRIPT both from standard input\n", "");
 
@@ -87,13 +75,17 @@ const OVER_RDL: Ending = (4, WRITE_FAULT, "/./out.h: it is the file of --rdl\n")
 
 const OVER_HEADER: Ending = (4, WRITE_FAULT, "/./new: it is the file of --header\n");
 
-const OVER_FILE_OF_SCRIPT: Ending = (4, WRITE_FAULT, "/./script.txt: it is the file of SCRIPT\n");
+pub(super) const OVER_FILE_OF_SCRIPT: Ending = (
+    4,
+    WRITE_FAULT,
+    "/./script.txt: it is the file of SCRIPT\n",
+);
 
 const OVER_FILE_OF_MAP: Ending = (4, WRITE_FAULT, "/./map.rdl: it is the file of MAP\n");
 
 const OVER_LINKED: Ending = (4, WRITE_FAULT, "/new: it is the file of --rdl\n");
 
-static CASES: [Case; 26] = [
+static CASES: [Case; 21] = [
     // old files give their places, and nothing stands beside them
     (
         BEFORE,
@@ -386,74 +378,6 @@ static CASES: [Case; 26] = [
         BEFORE,
         4,
     ),
-    // the edited text may take the place of the map, whose other bytes stay
-    (
-        &[
-            ("map.rdl", "// kept\n\naddrmap top {};  // too"),
-            ("script.txt", "rename /$top chip"),
-        ],
-        IN_PLACE,
-        WELL,
-        &[("map.rdl", "// kept\n\naddrmap chip {};  // too")],
-        2,
-    ),
-    // but not that of another output or of the script
-    (
-        BEFORE,
-        &[
-            "map.rdl",
-            "script.txt",
-            "--rdl",
-            "out.rdl",
-            "--header",
-            "out.h",
-            "--edited",
-            "out.rdl",
-        ],
-        TWO_OUTPUTS,
-        BEFORE,
-        4,
-    ),
-    (
-        BEFORE,
-        &[
-            "map.rdl",
-            "script.txt",
-            "--rdl",
-            "out.rdl",
-            "--header",
-            "out.h",
-            "--edited",
-            "script.txt",
-        ],
-        OVER_SCRIPT,
-        BEFORE,
-        4,
-    ),
-    (
-        BEFORE,
-        &[
-            "map.rdl",
-            "script.txt",
-            "--rdl",
-            "/dev/null",
-            "--header",
-            "out.h",
-            "--edited",
-            "./script.txt",
-        ],
-        OVER_FILE_OF_SCRIPT,
-        BEFORE,
-        4,
-    ),
-    // a session has no source text
-    (
-        &[("map.rdl", SESSION), ("script.txt", "")],
-        IN_PLACE,
-        NO_SOURCE,
-        &[("map.rdl", SESSION)],
-        2,
-    ),
 ];
 
 fn cases() -> &'static [Case] {
@@ -524,7 +448,11 @@ fn assert_case(
     assert_each_holds(abort, rt, folder, case.3)
 }
 
-fn assert_in_new_folder(abort: &impl Abort, rt: &HostRuntime, case: &Case) -> Result<(), Fail> {
+pub(super) fn assert_in_new_folder(
+    abort: &impl Abort,
+    rt: &HostRuntime,
+    case: &Case,
+) -> Result<(), Fail> {
     let folder = Folder::new(rt, "whole")?;
     assert_case(abort, rt, &folder, case)?;
     folder.remove(rt)

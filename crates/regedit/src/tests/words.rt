@@ -1,7 +1,9 @@
 //! The words behind the program's name.
 use super::MAP;
 use super::files::{Folder, Said, run_words};
+use crate::explanation::{asked_number, explain};
 use std::process::Abort;
+use std::str;
 use std::test::Fail;
 
 const TWO_TOPS: &str =
@@ -127,4 +129,25 @@ fn pick_the_top(rt: HostRuntime) -> Result<(), Fail> {
 fn bound_the_history(rt: HostRuntime) -> Result<(), Fail> {
     let full = "script:2: J1 history full\n";
     assert_run_with(&rt, &rt, (MAP, TWO_EDITS), ["--history", "1"], 1, full)
+}
+
+// The form of all of them is that of `docs/faults.txt`, with which tools/check-faults compares what is printed.
+#[test]
+fn that_ask_for_a_fault_are_told_it(rt: HostRuntime) -> Result<(), Fail> {
+    let cases: [(&[&str], u8, &str, &str); 4] = [
+        (&["--explain", "J2"], 0, "J2 nothing to undo\n", ""),
+        (&["--explain=X3"], 0, "X3 name taken\n", ""),
+        (&["--explain", "E99"], 5, "", "'E99'"),
+        (&["--explain"], 5, "", "''"),
+    ];
+    for (words, status, told, error) in cases {
+        let mut messages: Vec<u8> = Vec::new(rt.alloc());
+        let mut errors: Vec<u8> = Vec::new(rt.alloc());
+        let number = asked_number(words).unwrap_or("none");
+        assert!(rt; explain(number, &mut messages, &mut errors) == status);
+        assert!(rt; messages.as_slice().starts_with(told.as_bytes()));
+        assert!(rt; str::from_utf8(errors.as_slice())?.contains(error));
+    }
+    assert!(rt; asked_number(&["map", "--explain"]).is_none());
+    Ok(())
 }

@@ -15,4 +15,5 @@ returns c =
     let top = c.in_ok-arg-4.ensures.shape c.top.ensures.own ∙ ap₂ with_rule edited c.top.ensures.rule in
     let history = c.in_ok-arg-5.ensures.shape c.history.ensures.own ∙ ap₂ with_rule top c.history.ensures.rule in
     let session = c.in_ok-arg-6.ensures.shape c.optional_output-2.ensures.own ∙ ap₂ with_rule history c.optional_output-2.ensures.rule in
-    IfOk-weaker c.arg-7.result _ _ (λ command adds. adds.shape c.strict.ensures.own ∙ ap₂ with_rule session c.strict.ensures.rule) c.arg-7.ensures
+    let strict = c.in_ok-arg-7.ensures.shape c.switch.ensures.own ∙ ap₂ with_rule session c.switch.ensures.rule in
+    IfOk-weaker c.arg-8.result _ _ (λ command adds. adds.shape c.switch-2.ensures.own ∙ ap₂ with_rule strict c.switch-2.ensures.rule) c.arg-8.ensures
