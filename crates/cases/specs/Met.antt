@@ -36,5 +36,7 @@ pub record IsMet (found : Found) (wanted : Wanted) (status : ℕ) : Type 0 where
   pub writes : IsWanted found.rdl.items wanted.writes
   pub header : IsWanted found.header.items wanted.header
   pub session : IsWanted found.session.items wanted.session
+  pub saved : IsWanted found.saved.items wanted.saved
   pub edited : IsWantedWhole found.edited.items wanted.edited
   pub woven : found.is_unwoven ≡ false
+  pub goes_on : found.goes_astray ≡ false

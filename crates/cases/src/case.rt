@@ -1,5 +1,7 @@
 //! A case: what a run or a comparison is given, and what is wanted of it.
 use crate::heading::Heading;
+use rdl_diff::choice::Severity;
+use rdl_diff::moves::Moves;
 
 /// Lines that are wanted: none, or a text to which a last line feed is to be added.
 pub type Lines<'a> = Option<&'a str>;
@@ -13,6 +15,12 @@ pub struct Given<'a> {
     pub script: &'a str,
     pub top: Option<&'a str>,
     pub history: u32,
+    /// Which moves are told of two maps.
+    pub moves: Moves,
+    /// Which lines are told of them.
+    pub severity: Severity,
+    /// The name of a property whose differences aren't told.
+    pub ignored: Option<&'a str>,
 }
 
 /// What is wanted of a run. Where nothing is said of a text it may be any.
@@ -23,6 +31,8 @@ pub struct Wanted<'a> {
     pub writes: Option<Lines<'a>>,
     pub header: Option<Lines<'a>>,
     pub session: Option<Lines<'a>>,
+    /// The session as it goes out.
+    pub saved: Option<Lines<'a>>,
     /// The whole edited text.
     pub edited: Option<&'a str>,
 }
@@ -52,6 +62,9 @@ impl<'a> Given<'a> {
             script: "",
             top: None,
             history: 10_000,
+            moves: Moves::Own,
+            severity: Severity::Any,
+            ignored: None,
         }
     }
 
@@ -72,6 +85,9 @@ impl<'a> Given<'a> {
             "new" => self.new = Some(heading.text()),
             "script" => self.script = heading.text(),
             "top" => self.top = Some(heading.word),
+            "each" => self.moves = Moves::Each,
+            "breaking" => self.severity = Severity::Breaking,
+            "ignore" => self.ignored = Some(heading.word),
             "history" => return self.read_history(heading.word),
             _ => return false,
         }
@@ -87,6 +103,7 @@ impl<'a> Wanted<'a> {
             writes: None,
             header: None,
             session: None,
+            saved: None,
             edited: None,
         }
     }
@@ -111,6 +128,7 @@ impl<'a> Wanted<'a> {
             "writes" => say(&mut self.writes, heading.lines),
             "header" => say(&mut self.header, heading.lines),
             "session" => say(&mut self.session, heading.lines),
+            "saved" => say(&mut self.saved, heading.lines),
             "edited" => self.read_edited(heading.text()),
             _ => false,
         }

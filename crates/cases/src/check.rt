@@ -147,8 +147,10 @@ fn is_met(found: &Found, wanted: &Wanted, status: u8) -> bool
         && is_wanted(&found.rdl, wanted.writes)
         && is_wanted(&found.header, wanted.header)
         && is_wanted(&found.session, wanted.session)
+        && is_wanted(&found.saved, wanted.saved)
         && is_wanted_whole(&found.edited, wanted.edited)
         && !found.is_unwoven
+        && !found.goes_astray
 }
 
 /// Prints what came in place of what is wanted.
@@ -160,6 +162,10 @@ fn print_found(rt: &HostRuntime, found: &Found, wanted: &Wanted, status: u8) -> 
     print_part(rt, "writes", &found.rdl, wanted.writes)?;
     print_part(rt, "header", &found.header, wanted.header)?;
     print_part(rt, "session", &found.session, wanted.session)?;
+    print_part(rt, "saved", &found.saved, wanted.saved)?;
+    if found.goes_astray {
+        println!(rt; "came another map or edited text where the session goes on")?;
+    }
     print_edited(rt, found, wanted.edited)
 }
 

@@ -21,10 +21,12 @@ impl<'a> Heading<'a> {
         Heading { name, word, lines }
     }
 
-    /// Whether the heading has a word and no lines, or no word, as its name asks.
+    /// Whether the heading has a word and no lines, no word, or neither, as its name asks.
     pub fn is_formed(&self) -> bool {
         match self.name {
-            "top" | "history" | "status" => !self.word.is_empty() && self.lines.is_none(),
+            "top" | "ignore" | "history" | "status" => !self.word.is_empty()
+                && self.lines.is_none(),
+            "each" | "breaking" => self.word.is_empty() && self.lines.is_none(),
             _ => self.word.is_empty(),
         }
     }

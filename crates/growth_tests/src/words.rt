@@ -92,6 +92,7 @@ Options:
       --history <N>    How many changes can be undone, from 1 to 1000000 [default: 10000]
       --session <OUT>  Where the session is written: the map with its undos and redos
       --strict         Changes files only where each line was accepted
+      --quiet          Explains no refusal on standard error
   -h, --help           Print help
   -V, --version        Print version
 ";

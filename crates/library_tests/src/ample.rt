@@ -2,7 +2,9 @@
 use crate::assert_holds;
 use crate::layouts::elaborated;
 use crate::parse::{description, repeated};
+use rdl_diff::choice::{Choice, Severity};
 use rdl_diff::diff_text;
+use rdl_diff::moves::Moves;
 use rdl_elab::row::Rows;
 use rdl_header::header;
 use rdl_list::list_text;
@@ -83,10 +85,19 @@ fn described(alloc: Global) -> Result<String, AllocError> {
     )
 }
 
+/// All but moves with what holds a row.
+fn all(alloc: Global) -> Choice {
+    Choice {
+        moves: Moves::Own,
+        severity: Severity::Any,
+        ignored: Vec::new(alloc),
+    }
+}
+
 fn is_copied_and_written(alloc: Global, text: &str) -> Result<bool, Fail> {
     let description = description(alloc, text)?.try_copy(alloc)?;
     let rows = elaborated(alloc, text)?;
-    let lines = diff_text(alloc, &[], rows.as_slice())?;
+    let lines = diff_text(alloc, &all(alloc), &[], rows.as_slice())?;
     Ok(rdl(alloc, &description)?.len() > LONG && !lines.is_empty())
 }
 
@@ -122,7 +133,7 @@ addrmap top { t11 a; };";
 fn are_long(alloc: Global, rows: &Rows) -> Result<bool, Fail> {
     let list = list_text(alloc, rows.as_slice())?;
     let header = header(alloc, rows.as_slice())?;
-    let lines = diff_text(alloc, &[], rows.as_slice())?;
+    let lines = diff_text(alloc, &all(alloc), &[], rows.as_slice())?;
     Ok(list.len() > LONG && header.len() > LONG && lines.len() > LONG)
 }
 

@@ -2,11 +2,14 @@
 use Rattle.std.specs.Prelude.{◌≡◌, ◌≢◌, ◌⊎◌, ℕ, List, [], ◌∷◌, Option, Result, Ok, Err}
 use Rattle.clap.specs.declared.error.kind.ErrorKind.{ErrorKind}
 use Rattle.clap.specs.declared.error.kind.ErrorKind.TheVariants.{DisplayHelp, DisplayVersion}
-use Rattle.command_line.specs.ComparisonWords.{found, mistakes}
+use Rattle.command_line.specs.ComparisonWords.{HasBadProperty, found, mistakes}
 use Rattle.command_line.specs.Faults.{HasBadTop}
+use Rattle.command_line.specs.declared.comparison.ComparisonFault.{ComparisonFault}
+use Rattle.command_line.specs.declared.comparison.ComparisonFault.TheVariants.{Words, BadProperty}
 use Rattle.command_line.specs.declared.fault.WordsFault.{WordsFault}
 use Rattle.command_line.specs.declared.fault.WordsFault.TheVariants as faults
 use Rattle.rdl_diff.specs.Endings.{status_code}
+use Rattle.rdl_diff.specs.declared.choice.Choice.{Choice}
 use Rattle.rdl_diff.specs.declared.status.Status.{Status}
 use Rattle.regdiff.specs.OfMaps.{IsStatusOf}
 
@@ -20,8 +23,8 @@ exit_code (Ok status) = status_code status
 exit_code (Err stop) = 4
 
 -- the comparison stopped, or it ended with the status of what is written of some two maps
-abbrev pub EndsComparison : (top : Option (List ℕ)) → ℕ → Type 0
-EndsComparison top n = (n ≡ 4) ⊎ ((status : Status) × IsStatusOf top status × (n ≡ status_code status))
+abbrev pub EndsComparison : (top : Option (List ℕ)) → Choice → ℕ → Type 0
+EndsComparison top c n = (n ≡ 4) ⊎ ((status : Status) × IsStatusOf top c status × (n ≡ status_code status))
 
 -- or of words that are none
 abbrev pub IsExit : ℕ → Type 0
@@ -35,6 +38,11 @@ EndsWords (faults.Refused mistake) n = n ≡ 5
 EndsWords faults.BadTop n = n ≡ 5
 EndsWords faults.Memory n = n ≡ 4
 
+-- also where a property that is to be ignored is none
+abbrev pub EndsRefused : ComparisonFault → ℕ → Type 0
+EndsRefused (Words fault) n = EndsWords fault n
+EndsRefused BadProperty n = n ≡ 5
+
 -- help is asked for, before anything is wrong
 abbrev pub AskForHelp : List (List ℕ) → Type 0
 AskForHelp words = mistakes words ≡ DisplayHelp ∷ []
@@ -47,9 +55,9 @@ AskForVersion words = mistakes words ≡ DisplayVersion ∷ []
 abbrev pub AreMistaken : List (List ℕ) → Type 0
 AreMistaken words = (kind : ErrorKind) × (kind ≢ DisplayHelp) × (kind ≢ DisplayVersion) × (mistakes words ≡ kind ∷ [])
 
--- nothing else is wrong
-abbrev pub AreBadAtTop : List (List ℕ) → Type 0
-AreBadAtTop words = (mistakes words ≡ []) × HasBadTop (found words)
+-- nothing else is wrong than the name of the top or of a property
+abbrev pub HaveBadNames : List (List ℕ) → Type 0
+HaveBadNames words = (mistakes words ≡ []) × (HasBadTop (found words) ⊎ HasBadProperty (found words))
 
 abbrev pub AreRefused : List (List ℕ) → Type 0
-AreRefused words = AreMistaken words ⊎ AreBadAtTop words
+AreRefused words = AreMistaken words ⊎ HaveBadNames words

@@ -1,9 +1,10 @@
 //! The program's edge: its words, its messages and its exit status.
 ghost use Rattle.std.specs.Prelude.{◌≡◌, ◌⊎◌, map};
-ghost use Rattle.regdiff.specs.CommandLine.{AreRefused, AskForHelp, AskForVersion, EndsComparison, EndsWords, IsExit, IsOfComparison, exit_code};
+ghost use Rattle.regdiff.specs.OfMaps.{choice_of};
+ghost use Rattle.regdiff.specs.CommandLine.{AreRefused, AskForHelp, AskForVersion, EndsComparison, EndsRefused, EndsWords, IsExit, IsOfComparison, exit_code};
 
-use crate::files::{Stop, compare_files};
-use command_line::comparison::{Comparison, line};
+use crate::files::{Stop, asked_by, compare_files};
+use command_line::comparison::{Comparison, ComparisonFault, line};
 use command_line::fault::WordsFault;
 use rdl_diff::status::{Status, status_code};
 use rdl_run::counted::CountedWriter;
@@ -15,7 +16,7 @@ use std::io::{ErrorKind, Write};
 use std::rt::Files;
 use whole_files::shown::has_control;
 
-/// Says that the words are no command line, or that their top is no name. Where that can't be said, the exit status still
+/// Says that the words are no command line, or that their top is no name, or a property none. Where that can't be said, the exit status still
 /// shows it.
 fn report_words<E: Write>(what: &str, errors: &mut E) -> u8
     ensures { result ≡ 5 }
@@ -56,14 +57,15 @@ fn ended<E: Write>(outcome: &Result<Status, Stop<'_>>, errors: &mut E) -> u8
 fn obey<R: Files, M: Write, E: Write>(
     rt: &R,
     alloc: Global,
-    line: &Comparison,
+    line: Comparison,
     messages: &mut M,
     errors: &mut E,
 ) -> u8
     ensures known { IsOfComparison result }
-    ensures ends { EndsComparison line.now.top result }
+    ensures ends { EndsComparison line.top (choice_of line) result }
 {
-    ended(&compare_files(rt, alloc, line, messages), errors)
+    let asked = asked_by(line);
+    ended(&compare_files(rt, alloc, &asked, messages), errors)
 }
 
 /// Prints the help or the version.
@@ -105,6 +107,22 @@ fn refuse<M: Write, E: Write>(
     }
 }
 
+/// Answers words of which no line is made, as `refuse` does, and those that name a property that isn't there.
+fn refuse_line<M: Write, E: Write>(
+    alloc: Global,
+    words: &[&str],
+    fault: ComparisonFault,
+    messages: &mut M,
+    errors: &mut E,
+) -> u8
+    ensures { EndsRefused fault result }
+{
+    match fault {
+        ComparisonFault::Words(fault) => refuse(alloc, words, fault, messages, errors),
+        ComparisonFault::BadProperty => report_words("property name", errors),
+    }
+}
+
 /// Does what the words behind the program's name ask, and answers the exit status.
 pub(crate) fn command<R: Files, M: Write, E: Write>(
     rt: &R,
@@ -122,8 +140,8 @@ pub(crate) fn command<R: Files, M: Write, E: Write>(
     ensures help { AskForHelp (map (λ w. w.now) words.now) → (result ≡ 0) ⊎ (result ≡ 4) }
 {
     match line(alloc, words) {
-        Ok(line) => obey(rt, alloc, &line, messages, errors),
-        Err(fault) => refuse(alloc, words, fault, messages, errors),
+        Ok(line) => obey(rt, alloc, line, messages, errors),
+        Err(fault) => refuse_line(alloc, words, fault, messages, errors),
     }
 }
 
