@@ -1,0 +1,7 @@
+# What fish completes behind `regdiff`: its options, and files.
+complete -c regdiff -l each -d 'Tell each row that differs, also by its base alone'
+complete -c regdiff -l breaking -d 'Tell what breaks software alone'
+complete -c regdiff -l ignore -x -d 'Tell no differences of these properties'
+complete -c regdiff -l top -x -d 'The address map that is the top of both'
+complete -c regdiff -s h -l help -d 'Print the options'
+complete -c regdiff -s V -l version -d 'Print the version'

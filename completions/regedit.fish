@@ -1,0 +1,12 @@
+# What fish completes behind `regedit`: its options, and files for paths.
+complete -c regedit -l rdl -r -F -d 'Where the edited map goes'
+complete -c regedit -l header -r -F -d 'Where the C header goes'
+complete -c regedit -l edited -r -F -d 'Where MAP goes with only the edits woven in'
+complete -c regedit -l session -r -F -d 'Where the map with its undos and redos goes'
+complete -c regedit -l top -x -d 'The address map that is the top'
+complete -c regedit -l history -x -d 'How many edits can be undone'
+complete -c regedit -l strict -d 'Change no file unless each line was accepted'
+complete -c regedit -l quiet -d 'Explain no refusal, and give no warning'
+complete -c regedit -l explain -x -d 'Print what the fault of a number is'
+complete -c regedit -s h -l help -d 'Print the options'
+complete -c regedit -s V -l version -d 'Print the version'
