@@ -1,5 +1,5 @@
 -- How the program ends by its words: what refuses them, and what doesn't.
-use Rattle.std.proofs.Common.{◌≡◌, ◌⊎◌, inl, inr, ℕ, List, [], ◌∷◌, map, Option, Some, None, refl, sym, ap, ◌∙◌, subst, IfSome, codes, arith}
+use Rattle.std.proofs.Common.{◌≡◌, ◌⊎◌, inl, inr, ℕ, List, [], ◌∷◌, map, Option, Some, None, refl, sym, ap, ◌∙◌, subst, IfSome, codes, arith, Result, Ok, Err, IfOk}
 use Rattle.std.specs.Prelude.{IsSomeAnd}
 use Rattle.clap.specs.Words.{Row, Text, kind_of}
 use Rattle.clap.specs.declared.error.kind.ErrorKind.{ErrorKind}
@@ -14,7 +14,10 @@ use Rattle.command_line.specs.declared.comparison.ComparisonFault.{ComparisonFau
 use Rattle.command_line.specs.declared.comparison.ComparisonFault.TheVariants.{Words, BadProperty}
 use Rattle.command_line.specs.declared.fault.WordsFault.{WordsFault}
 use Rattle.command_line.specs.declared.fault.WordsFault.TheVariants.{Help, Version, Refused, BadTop, Memory}
-use Rattle.regdiff.specs.CommandLine.{AreMistaken, AreRefused, AskForHelp, AskForVersion, EndsRefused, EndsWords, HaveBadNames, IsExit}
+use Rattle.rdl_diff.specs.declared.choice.Choice.{Choice}
+use Rattle.rdl_diff.specs.declared.status.Status.{Status}
+use Rattle.regdiff.specs.OfMaps.{IsStatusOf}
+use Rattle.regdiff.specs.CommandLine.{AreMistaken, AreRefused, AskForHelp, AskForVersion, EndsComparison, EndsRefused, exit_code, EndsWords, HaveBadNames, IsExit}
 
 no-kind : (k : ErrorKind) (ks : List ErrorKind) → ks ≡ [] → ks ≡ k ∷ [] → ⊥
 no-kind k ks e f = cc
@@ -102,3 +105,10 @@ help_ends ws (Words (Refused mistake)) n has ends asked = absurd (has.0 (one-kin
 help_ends ws (Words BadTop) n has ends asked = absurd (no-kind DisplayHelp (mistakes ws) has.0 asked)
 help_ends ws (Words Memory) n has ends asked = inr ends
 help_ends ws BadProperty n has ends asked = absurd (no-kind DisplayHelp (mistakes ws) has.0 asked)
+
+-- ---- A line that is obeyed.
+
+-- the status is that of a comparison of what was asked
+pub ends_of : {X : Type 0} (top asked : Option (List ℕ)) (c choice : Choice) (r : Result Status X) (n : ℕ) → top ≡ asked → c ≡ choice → IfOk r (IsStatusOf top c) → n ≡ exit_code r → EndsComparison asked choice n
+ends_of top asked c choice (Ok status) n e f is same = inr (status, subst (λ t. IsStatusOf t choice status) e (subst (λ d. IsStatusOf top d status) f is), same)
+ends_of top asked c choice (Err stop) n e f is same = inl same
