@@ -1,8 +1,7 @@
 -- The number behind items, item by item.
-use Rattle.std.proofs.Common.{◌≡◌, ℕ, zero, suc, ◌+◌, ◌<◌, ◌≤◌, length, List, [], ◌∷◌, get_or, refl, ap, sym, ◌∙◌, arith, Option, Some, None, Bool, true, false}
-use Rattle.std.specs.Prelude.{if◌then◌else◌, ◌||◌, not, option_and_then}
-use Rattle.rdl_origin.specs.Traces.{Traces, no_traces, trace, traces_count}
-use Rattle.rdl_origin.specs.View.{add, traces_of, list_of}
+use Rattle.std.proofs.Common.{◌≡◌, ℕ, zero, suc, ◌+◌, ◌<◌, ◌≤◌, length, List, [], ◌∷◌, get_or, refl, ap, sym, ◌∙◌, arith, Some, None, true, false}
+use Rattle.rdl_origin.specs.Traces.{traces_count}
+use Rattle.rdl_origin.specs.View.{traces_of}
 use Rattle.rdl_origin.specs.declared.origin.Origin.{Origin}
 use Rattle.rdl_weave.specs.Untouched.{is_now, ends_before, behind}
 

@@ -1,11 +1,10 @@
 -- Blanks in front of bytes and at their end, and bytes that stand in a text.
-use Rattle.std.proofs.Common.{◌≡◌, ℕ, zero, suc, ◌+◌, ◌-◌, ◌<◌, ◌≤◌, length, true, List, [], ◌∷◌, ◌++◌, take, drop, get_or, refl, ap, sym, ◌∙◌, arith, IsTrue, subst, drop-cons, add-one}
-use Rattle.std.proofs.lemmas.List.{take_more, take-append-drop, drop_all}
+use Rattle.std.proofs.Common.{◌≡◌, ℕ, suc, ◌+◌, ◌-◌, ◌<◌, ◌≤◌, length, true, List, [], ◌∷◌, ◌++◌, take, drop, get_or, ap, sym, ◌∙◌, arith, IsTrue, subst, drop-cons}
+use Rattle.std.proofs.lemmas.List.{take_more, take-append-drop, drop_all, drop-drop}
 use Rattle.std.proofs.lemmas.Slice.Eq.{bytes_eq-Decides}
 use Rattle.std.specs.Prelude.{bytes_eq, slice_range}
 use Rattle.rdl_text.specs.Words.{is_blank}
-use Rattle.rdl_source.specs.declared.span.Span.{Span}
-use Rattle.rdl_weave.specs.Standing.{AreBlanks, Trims, Occurs, Stands}
+use Rattle.rdl_weave.specs.Standing.{AreBlanks, Comes, Trims, Occurs}
 
 blanks_more : (s : List ℕ) (c : ℕ) → AreBlanks s → IsTrue (is_blank c) → AreBlanks (s ++ (c ∷ []))
 blanks_more [] c a h = (h, tt)
@@ -38,14 +37,22 @@ occurs_at bytes text at end h =
     let split : drop at text ≡ bytes ++ tail = sym (take-append-drop (end - at) (drop at text)) ∙ ap (λ (b : List ℕ). b ++ tail) same in
     record { before = take at text; behind = tail; parts = sym (take-append-drop at text) ∙ ap (λ (b : List ℕ). take at text ++ b) split }
 
--- a span of which the bytes between the blanks stand in the text
-pub stands_by : (source text bytes rest core : List ℕ) (s : Span) (front end : ℕ) → bytes ≡ slice_range source s.from s.to → AreBlanks (take front bytes) → rest ≡ drop front bytes
-    → AreBlanks (drop end rest) → core ≡ take end rest → Occurs core text → Stands source s text
-stands_by source text bytes rest core s front end p a q b r o =
-    let inner : rest ≡ core ++ drop end rest = sym (take-append-drop end rest) ∙ ap (λ (c : List ℕ). c ++ drop end rest) (sym r) in
-    let whole : bytes ≡ take front bytes ++ (core ++ drop end rest) = sym (take-append-drop front bytes) ∙ ap (λ (c : List ℕ). take front bytes ++ c) (sym q ∙ inner) in
+-- bytes that are read at a place of the text, not before another, come there
+pub comes_at : (bytes text : List ℕ) (at begin end : ℕ) → at ≤ begin → begin ≤ end → bytes_eq (slice_range text begin end) bytes ≡ true → Comes bytes (drop at text) (drop end text)
+comes_at bytes text at begin end later forward h =
+    let same : slice_range text begin end ≡ bytes = (bytes_eq-Decides (slice_range text begin end) bytes).0 h in
+    let behind : drop (end - begin) (drop begin text) ≡ drop end text = drop-drop (end - begin) begin text ∙ ap (λ (n : ℕ). drop n text) (omega arith) in
+    let there : drop begin text ≡ bytes ++ drop end text =
+    sym (take-append-drop (end - begin) (drop begin text)) ∙ (ap (λ (b : List ℕ). b ++ drop (end - begin) (drop begin text)) same ∙ ap (λ (r : List ℕ). bytes ++ r) behind) in
+    let from : drop (begin - at) (drop at text) ≡ drop begin text = drop-drop (begin - at) at text ∙ ap (λ (n : ℕ). drop n text) (omega arith) in
     record {
-      core = core;
-      trims = record { front = take front bytes; back = drop end rest; blank_front = a; blank_back = b; parts = sym p ∙ whole };
-      there = o;
+      before = take (begin - at) (drop at text);
+      parts = sym (take-append-drop (begin - at) (drop at text)) ∙ ap (λ (r : List ℕ). take (begin - at) (drop at text) ++ r) (from ∙ there);
     }
+
+-- bytes between blanks
+pub trims_by : (whole bytes rest core : List ℕ) (front end : ℕ) → bytes ≡ whole → AreBlanks (take front bytes) → rest ≡ drop front bytes → AreBlanks (drop end rest) → core ≡ take end rest → Trims whole core
+trims_by whole bytes rest core front end p a q b r =
+    let inner : rest ≡ core ++ drop end rest = sym (take-append-drop end rest) ∙ ap (λ (c : List ℕ). c ++ drop end rest) (sym r) in
+    let all : bytes ≡ take front bytes ++ (core ++ drop end rest) = sym (take-append-drop front bytes) ∙ ap (λ (c : List ℕ). take front bytes ++ c) (sym q ∙ inner) in
+    record { front = take front bytes; back = drop end rest; blank_front = a; blank_back = b; parts = sym p ∙ all }

@@ -1,5 +1,5 @@
 -- A text that was read, and the canonical text of its map.
-use Rattle.std.proofs.Common.{◌≡◌, ℕ, List, true, Bool, refl, ap, sym, ◌∙◌, IsTrue}
+use Rattle.std.proofs.Common.{◌≡◌, ℕ, List, Bool, ap, sym, ◌∙◌, IsTrue}
 use Rattle.std.proofs.lemmas.Slice.Eq.{bytes_eq-Decides}
 use Rattle.std.specs.Prelude.{bytes_eq}
 use Rattle.rdl_tree.specs.Items.{Items}

@@ -1,9 +1,9 @@
 -- What is among the spans that were put in stands in the text.
-use Rattle.std.proofs.Common.{◌≡◌, ℕ, zero, suc, ◌<◌, Bool, true, false, cond, ◌&&◌, ◌||◌, List, [], ◌∷◌, ◌++◌, length, take, drop, refl, ap, sym, ◌∙◌, subst, append_assoc, arith, IsTrue}
+use Rattle.std.proofs.Common.{◌≡◌, ℕ, zero, suc, ◌<◌, Bool, true, false, cond, ◌||◌, List, [], ◌∷◌, ◌++◌, length, take, drop, refl, ap, sym, ◌∙◌, subst, append_assoc, arith, IsTrue}
 use Rattle.std.specs.Prelude.{not, slice_index_or}
 use Rattle.std.proofs.lemmas.Bool.{and_parts, eqb-true, false≢true}
 use Rattle.std.proofs.lemmas.List.{append-nil}
-use Rattle.std.specs.List.{All, list_all, list_any}
+use Rattle.std.specs.List.{All, list_all}
 use Rattle.std.specs.Prelude.{nat_eq}
 use Rattle.rdl_origin.specs.View as origins
 use Rattle.rdl_origin.specs.declared.origin.Origin.{Origin}
@@ -11,9 +11,9 @@ use Rattle.rdl_source.specs.Beside.{ends_line, line}
 use Rattle.rdl_source.specs.Laid.{Bare, Laid, ended, bare, braced}
 use Rattle.rdl_source.specs.LaidText.{part}
 use Rattle.rdl_source.specs.declared.span.Span.{Span}
-use Rattle.rdl_weave.specs.Coarse.{Piece, old, new, piece_text, text_of, piece_spans, spans_of, is_span, has, covers_one, covers}
+use Rattle.rdl_weave.specs.Coarse.{Piece, old, new, text_of, spans_of, is_span, has, covers_one, covers}
 use Rattle.rdl_weave.specs.Keeping.{core, holds_items, KeepsOne, Keeps}
-use Rattle.rdl_weave.specs.Standing.{Trims, Occurs, Stands}
+use Rattle.rdl_weave.specs.Standing.{Occurs, Stands}
 use Rattle.rdl_weave.specs.Untouched.{is_untouched}
 
 occurs_line : (s rest : List ℕ) → Occurs s (line s ++ rest)

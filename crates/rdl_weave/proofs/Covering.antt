@@ -3,7 +3,7 @@ use Rattle.std.proofs.Common.{◌≡◌, ℕ, suc, ◌+◌, ◌<◌, ◌≤◌, 
 use Rattle.std.proofs.lemmas.List.{drop_all}
 use Rattle.rdl_origin.specs.declared.origin.Origin.{Origin}
 use Rattle.rdl_source.specs.Laid.{Bare, Laid, ended}
-use Rattle.rdl_source.specs.View.{add_to, add, put, list_of, last_of, bare_of, laid_of}
+use Rattle.rdl_source.specs.View.{add_to, put, list_of, last_of, bare_of}
 use Rattle.rdl_source.specs.declared.span.Span.{Span}
 use Rattle.rdl_source.specs.declared.statement.Inner.{Inner}
 use Rattle.rdl_source.specs.declared.statement.Statement.{Statement}

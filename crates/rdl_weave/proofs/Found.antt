@@ -1,17 +1,17 @@
 -- The statement whose first item has a number, and the body that was inside the item of a number, are those of items of the last map.
-use Rattle.std.proofs.Common.{◌≡◌, ℕ, zero, suc, ◌+◌, ◌-◌, ◌^◌, ◌<◌, ◌≤◌, Bool, true, false, cond, ◌&&◌, List, [], ◌∷◌, ◌++◌, length, take, drop, Option, Some, None, inl, inr, ◌⊎◌, refl, ap, sym, ◌∙◌, arith, subst, append_assoc}
-use Rattle.std.specs.Prelude.{slice_get, nat_eq, not, is_some}
+use Rattle.std.proofs.Common.{◌≡◌, ℕ, zero, suc, ◌+◌, ◌^◌, ◌≤◌, Bool, true, false, cond, List, [], ◌∷◌, ◌++◌, length, take, drop, Option, Some, None, inl, inr, ◌⊎◌, refl, ap, sym, ◌∙◌, arith, subst}
+use Rattle.std.specs.Prelude.{nat_eq, is_some}
 use Rattle.std.specs.Option.{option_map, option_map_or}
 use Rattle.std.specs.Str.{IsUtf8}
-use Rattle.std.proofs.lemmas.Bool.{eqb-true, false≢true, and_parts, and_from}
+use Rattle.std.proofs.lemmas.Bool.{eqb-true, false≢true, and_parts}
 use Rattle.rdl_tree.specs.Items.{Items, no_items, plain, holder, Plain, Holder, count}
-use Rattle.rdl_tree.specs.View.{add, items_of, list_of, plain_item, holder_item, own_body}
+use Rattle.rdl_tree.specs.View.{items_of, list_of, holder_item, own_body}
 use Rattle.rdl_tree.specs.declared.description.Item.{Item}
 use Rattle.rdl_tree.specs.declared.description.Item.TheVariants.{Define, Instance, Own, Default, Dynamic}
 use Rattle.rdl_tree.specs.declared.description.Of.TheVariants.{Named, Anonymous}
 use Rattle.rdl_tree.proofs.Rounds.{list_of-items_of, items_of-list_of}
 use Rattle.rdl_origin.specs.Once.{number_list, numbers, Lacks, LacksAll, StandOnce}
-use Rattle.rdl_origin.specs.Traces.{Traces, no_traces, trace}
+use Rattle.rdl_origin.specs.Traces.{Traces}
 use Rattle.rdl_origin.specs.Values.{item_with, IsPlainValue, IsHolderValue, AreValues}
 use Rattle.rdl_origin.specs.View as origins
 use Rattle.rdl_origin.specs.declared.origin.Origin.{Origin}
@@ -28,7 +28,7 @@ use Rattle.rdl_weave.specs.Coarse.{is_kept, kept_at, inside_now, changed_in, fir
 use Rattle.rdl_weave.specs.Keeping.{core}
 use Rattle.rdl_weave.specs.Sound.{IsAlone, StandsFor, unless, Matches}
 use Rattle.rdl_weave.specs.Untouched.{is_now, behind, is_untouched}
-use Rattle.rdl_weave.proofs.Same.{At, at_plain, at_body, at_rest, First, same, Skips, some_same, same_holder, plain_holder, list-before}
+use Rattle.rdl_weave.proofs.Same.{At, at_plain, at_body, at_rest, same, Skips, some_same, same_holder, plain_holder, list-before}
 
 -- ---- Origins that have a number.
 

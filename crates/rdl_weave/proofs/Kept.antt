@@ -2,7 +2,7 @@
 use Rattle.std.proofs.Common.{◌≡◌, ℕ, zero, suc, ◌+◌, ◌<◌, ◌≤◌, length, List, [], ◌∷◌, take, drop, get_or, refl, ap, sym, ◌∙◌, subst, arith, drop-cons, Option, Some, None}
 use Rattle.std.proofs.lemmas.List.{drop_all}
 use Rattle.rdl_origin.specs.declared.origin.Origin.{Origin}
-use Rattle.rdl_source.specs.Laid.{Bare, Braces, Laid, ended, bare, braced, count}
+use Rattle.rdl_source.specs.Laid.{Bare, Laid, ended, bare, braced, count}
 use Rattle.rdl_source.specs.View.{add_to, add, put, laid_of, list_of, last_of, bare_of}
 use Rattle.rdl_source.specs.declared.span.Span.{Span}
 use Rattle.rdl_source.specs.declared.statement.Inner.{Inner}

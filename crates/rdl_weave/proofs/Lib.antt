@@ -6,11 +6,13 @@ pub mod Covering
 pub mod Fitting
 pub mod Found
 pub mod Kept
+pub mod Ordered
 pub mod Pieces
 pub mod Reading
 pub mod Same
 pub mod Sized
 pub mod Sounding
 pub mod Spoken
+pub mod Turning
 pub mod Visited
 pub mod Walking

@@ -8,7 +8,7 @@ use Rattle.rdl_tree.specs.declared.description.Component.{Component}
 use Rattle.rdl_tree.specs.declared.shell.Shell.{Shell}
 use Rattle.rdl_source.specs.Beside.{line}
 use Rattle.rdl_source.specs.LaidText.{part}
-use Rattle.rdl_tree.specs.Items.{Items, no_items, holder, named, own, default, dynamic, Holder, define, anonymous, count}
+use Rattle.rdl_tree.specs.Items.{Items, no_items, holder, Holder, define, anonymous, count}
 use Rattle.rdl_tree.specs.View.{add, items_of, list_of}
 use Rattle.rdl_tree.proofs.Rounds.{items_of-list_of}
 use Rattle.rdl_weave.specs.Untouched.{is_untouched}

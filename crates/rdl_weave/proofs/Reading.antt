@@ -1,44 +1,36 @@
 -- The text of the pieces that go out has the words of statements that stand for the items of the last map.
-use Rattle.std.proofs.Common.{◌≡◌, ℕ, zero, suc, ◌+◌, ◌-◌, ◌≤◌, Bool, true, false, cond, List, [], ◌∷◌, ◌++◌, length, take, drop, Option, Some, None, Ok, refl, ap, sym, ◌∙◌, subst, append_assoc, arith}
-use Rattle.std.proofs.lemmas.Bool.{false≢true}
-use Rattle.std.proofs.lemmas.List.{append-nil, take-append-drop}
+use Rattle.std.proofs.Common.{◌≡◌, ℕ, cond, List, [], ◌∷◌, ◌++◌, refl, ap, sym, ◌∙◌, subst, append_assoc}
+use Rattle.std.proofs.lemmas.List.{append-nil}
 use Rattle.std.proofs.lemmas.Str.{is_utf8-from_IsUtf8}
-use Rattle.std.specs.Str.{is_utf8, IsUtf8}
+use Rattle.std.specs.Str.{IsUtf8}
 use Rattle.rdl_text.specs.declared.token.Mark.TheVariants.{Semicolon}
 use Rattle.rdl_tree.specs.Items.{Items, no_items, plain, holder, Plain, Holder, count}
 use Rattle.rdl_tree.specs.Items as items
 use Rattle.rdl_tree.specs.View.{items_of, list_of, plain_item, holder_item}
 use Rattle.rdl_tree.specs.declared.description.Item.{Item}
 use Rattle.rdl_tree.proofs.Rounds.{list_of-items_of, items_of-list_of}
-use Rattle.rdl_origin.specs.Traces.{Traces}
-use Rattle.rdl_origin.specs.View as origins
-use Rattle.rdl_origin.specs.declared.origin.Origin.{Origin}
 use Rattle.rdl_parse.specs.Spelling as grammar
 use Rattle.rdl_parse.specs.Spelling.{Statement, Statements, none, one}
 use Rattle.rdl_parse.specs.Symbol.{Symbol, symbols, mark}
 use Rattle.rdl_round.specs.OfWords.{IsPlainOfWords, IsHolderOfWords, IsOfWords}
 use Rattle.rdl_round.specs.Spellable.{IsPlain, IsHolder, IsSpellable}
-use Rattle.rdl_round.specs.WrittenWords.{open_words, close_words}
+use Rattle.rdl_round.specs.WrittenWords.{close_words}
 use Rattle.rdl_round.proofs.Lines.{statement-line, open-line, close-line, body-part, deeper-blank}
 use Rattle.rdl_round.proofs.Parts.{AllBlank}
 use Rattle.rdl_round.proofs.Statements as written
 use Rattle.rdl_round.proofs.Statements.{plain_statement, plain-words, plain-items, holder_statement, holder-words, holder-items, words-are, items-are}
 use Rattle.rdl_source.specs.Beside.{line}
-use Rattle.rdl_source.specs.Laid.{Laid, ended, bare, braced}
 use Rattle.rdl_source.specs.LaidText.{part}
-use Rattle.rdl_source.specs.View as views
-use Rattle.rdl_source.specs.View.{bare_of, last_of}
+use Rattle.rdl_source.specs.View.{bare_of}
 use Rattle.rdl_source.specs.declared.span.Span.{Span}
-use Rattle.rdl_source.specs.declared.statement.Inner.{Inner}
 use Rattle.rdl_source.specs.declared.statement.Statement.{Statement as Old}
 use Rattle.rdl_source.proofs.Appended.{joined, items_joined, statement_goes}
 use Rattle.rdl_source.proofs.Behind.{Cut, cut_from, cut_line}
 use Rattle.rdl_write.specs.ItemText.{holder_text}
 use Rattle.rdl_write.specs.MapText.{statement_line, open_line, close_line, deeper, body_text}
-use Rattle.rdl_weave.specs.Coarse.{is_kept, kept_at, inside_now, changed_in, first_of, changed_at, Piece, old, new, cut, text_of, loose, kept_or, others, next, walk, body_pieces}
+use Rattle.rdl_weave.specs.Coarse.{Piece, old, new, cut, text_of}
 use Rattle.rdl_weave.specs.Keeping.{core}
-use Rattle.rdl_weave.specs.Sound.{IsSilent, FloatsAreSilent, IsAlone, StandsFor, unless, Matches}
-use Rattle.rdl_weave.specs.Untouched.{is_untouched}
+use Rattle.rdl_weave.specs.Sound.{IsSilent, IsAlone}
 
 -- ---- Pieces that stand for items.
 

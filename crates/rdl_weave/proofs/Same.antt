@@ -1,19 +1,18 @@
 -- A statement that no edit touched has the items of the last map from the number of its first one on.
-use Rattle.std.proofs.Common.{◌≡◌, ℕ, zero, suc, ◌+◌, ◌-◌, ◌^◌, ◌<◌, ◌≤◌, Bool, true, false, cond, ◌||◌, List, [], ◌∷◌, ◌++◌, length, take, drop, Option, Some, None, refl, ap, sym, ◌∙◌, arith, subst, append_assoc}
+use Rattle.std.proofs.Common.{◌≡◌, ℕ, zero, suc, ◌+◌, ◌^◌, ◌≤◌, Bool, true, false, cond, List, [], ◌∷◌, ◌++◌, length, drop, Option, Some, None, refl, ap, sym, ◌∙◌, arith, subst, append_assoc}
 use Rattle.std.specs.Prelude.{slice_get, nat_eq, not}
 use Rattle.std.specs.Option.{option_and_then, option_map_or}
-use Rattle.std.proofs.lemmas.Bool.{eqb-true, false≢true}
+use Rattle.std.proofs.lemmas.Bool.{eqb-true}
 use Rattle.rdl_tree.specs.Items.{Items, no_items, plain, holder, Plain, Holder, named, own, default, dynamic, define, anonymous, count}
-use Rattle.rdl_tree.specs.View.{add, items_of, list_of, plain_item, holder_item}
+use Rattle.rdl_tree.specs.View.{add, list_of, plain_item, holder_item}
 use Rattle.rdl_tree.specs.Weight.{capped}
 use Rattle.rdl_tree.specs.declared.description.Item.{Item}
 use Rattle.rdl_origin.specs.Once.{number_list, numbers, Lacks}
 use Rattle.rdl_origin.specs.Traces.{Traces, no_traces, trace}
 use Rattle.rdl_origin.specs.Values.{item_with, IsPlainValue, IsHolderValue, AreValues}
 use Rattle.rdl_origin.specs.View as origins
-use Rattle.rdl_origin.proofs.Values.{Ends, plain_here, holder_here, plain_past, holder_past, ends_plain, ends_holder}
-use Rattle.rdl_weave.specs.Coarse.{next}
-use Rattle.rdl_weave.specs.Untouched.{sizes_of, is_now, ends_before, behind}
+use Rattle.rdl_origin.proofs.Values.{Ends, plain_here, holder_here, ends_plain, ends_holder}
+use Rattle.rdl_weave.specs.Untouched.{sizes_of, ends_before, behind}
 
 -- ---- Items before others.
 

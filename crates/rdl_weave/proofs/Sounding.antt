@@ -1,5 +1,5 @@
 -- A source that was read has the statements of which the definition of sound speaks.
-use Rattle.std.proofs.Common.{◌≡◌, ◌≤◌, ℕ, List, Option, Some, None, Result, Ok, ap, sym, ◌∙◌, subst}
+use Rattle.std.proofs.Common.{◌≡◌, ◌≤◌, ◌<◌, ℕ, length, inr, List, Option, Some, None, Result, Ok, sym, ◌∙◌, subst}
 use Rattle.std.specs.Prelude.{MatchOption}
 use Rattle.rdl_text.specs.Word.{Word}
 use Rattle.rdl_text.specs.Words.{words}
@@ -7,11 +7,14 @@ use Rattle.rdl_text.specs.declared.fault.TextFault.{TextFault}
 use Rattle.rdl_tree.specs.Items.{Items}
 use Rattle.rdl_tree.specs.Limits.{IsWithinLimits}
 use Rattle.rdl_origin.specs.Traces.{Traces}
+use Rattle.rdl_parse.specs.Faults.{max_text}
 use Rattle.rdl_parse.specs.declared.places.ItemPlace.{ItemPlace}
 use Rattle.rdl_source.specs.Laid.{Laid, depth}
 use Rattle.rdl_source.specs.LaidOut.{IsLaidOut}
+use Rattle.rdl_weave.specs.Coarse.{text_of, coarse}
 use Rattle.rdl_weave.specs.Sound.{Fits, IsSound}
-use Rattle.rdl_weave.specs.Weaving.{AreStatements}
+use Rattle.rdl_weave.specs.Untouched.{sizes_of}
+use Rattle.rdl_weave.specs.Weaving.{AreStatements, MayBeTooLong}
 
 pub laid_fits : (source canonical : List ℕ) (t : Traces) (d : Items) (l : Laid) → ((laid : Laid) (s : AreStatements source laid) → IsWithinLimits s.map → depth laid ≤ 16 → l ≡ laid)
     → IsSound source t d canonical → Fits source l t d canonical
@@ -36,3 +39,9 @@ none_some b e = cc
 
 pub not_found : {X : Type 0} (o : Option X) (Q : X → Type 0) → o ≡ None → MatchOption o ⊥ Q → ⊥
 not_found o Q e h = subst (λ p. MatchOption p ⊥ Q) e h
+
+-- a text that is put together of the source's bytes is too long
+pub coarse_long : (source canonical bytes sizes : List ℕ) (l : Laid) (t : Traces) (d : Items) → AreStatements source l → bytes ≡ source → sizes ≡ sizes_of d → max_text < length (text_of bytes (coarse bytes sizes l t d))
+    → MayBeTooLong source t d canonical
+coarse_long source canonical bytes sizes l t d s e z h =
+    inr (record { laid = l; statements = s; long = subst (λ b. max_text < length (text_of b (coarse b (sizes_of d) l t d))) e (subst (λ n. max_text < length (text_of bytes (coarse bytes n l t d))) z h) })

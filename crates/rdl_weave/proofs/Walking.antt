@@ -1,9 +1,9 @@
 -- What goes out stands for the items of the last map.
-use Rattle.std.proofs.Common.{◌≡◌, ℕ, zero, suc, ◌+◌, ◌-◌, ◌≤◌, Bool, true, false, cond, List, [], ◌∷◌, ◌++◌, length, take, drop, Option, Some, None, refl, ap, sym, ◌∙◌, subst, append_assoc, arith}
+use Rattle.std.proofs.Common.{◌≡◌, ℕ, zero, suc, ◌+◌, ◌-◌, Bool, true, false, cond, List, [], ◌∷◌, ◌++◌, take, drop, Option, Some, None, refl, ap, sym, ◌∙◌, subst, arith}
 use Rattle.std.specs.Option.{option_map}
 use Rattle.std.proofs.lemmas.List.{append-nil, take-append-drop}
-use Rattle.rdl_tree.specs.Items.{Items, no_items, plain, holder, Plain, Holder, count}
-use Rattle.rdl_tree.specs.View.{items_of, list_of, plain_item, holder_item}
+use Rattle.rdl_tree.specs.Items.{Items, no_items, plain, holder, Holder, count}
+use Rattle.rdl_tree.specs.View.{list_of, plain_item, holder_item}
 use Rattle.rdl_tree.specs.declared.description.Item.{Item}
 use Rattle.rdl_origin.specs.Traces.{Traces}
 use Rattle.rdl_origin.specs.View as origins
@@ -14,14 +14,13 @@ use Rattle.rdl_round.specs.Spellable.{IsSpellable}
 use Rattle.rdl_round.proofs.Lines.{deeper-blank}
 use Rattle.rdl_round.proofs.Parts.{AllBlank}
 use Rattle.rdl_source.specs.Laid.{Laid, ended, bare, braced}
-use Rattle.rdl_source.specs.LaidText.{part}
 use Rattle.rdl_source.specs.View as views
 use Rattle.rdl_source.specs.View.{bare_of, last_of}
 use Rattle.rdl_source.specs.declared.statement.Inner.{Inner}
 use Rattle.rdl_source.specs.declared.statement.Statement.{Statement}
 use Rattle.rdl_write.specs.ItemText.{holder_text}
 use Rattle.rdl_write.specs.MapText.{statement_line, open_line, close_line, deeper}
-use Rattle.rdl_weave.specs.Coarse.{is_kept, kept_at, inside_now, changed_in, first_of, changed_at, Piece, old, new, cut, text_of, loose, kept_or, others, next, walk, body_pieces}
+use Rattle.rdl_weave.specs.Coarse.{is_kept, kept_at, inside_now, changed_in, first_of, changed_at, Piece, new, cut, loose, kept_or, others, next, walk, body_pieces}
 use Rattle.rdl_weave.specs.Keeping.{core}
 use Rattle.rdl_weave.specs.Sound.{IsSilent, FloatsAreSilent, IsAlone, StandsFor, unless, Matches}
 use Rattle.rdl_weave.specs.Untouched.{is_untouched}

@@ -6,8 +6,7 @@ use Rattle.rdl_origin.specs.Traces.{Traces, no_traces, trace}
 use Rattle.rdl_origin.specs.View.{list_of}
 use Rattle.rdl_origin.specs.declared.origin.Origin.{Origin}
 pub use Rattle.rdl_source.specs.Alone.{core}
-use Rattle.rdl_source.specs.Laid.{Bare, Braces, Laid, ended, bare, braced}
-use Rattle.rdl_source.specs.declared.span.Span.{Span}
+use Rattle.rdl_source.specs.Laid.{Bare, Laid, ended, bare, braced}
 use Rattle.rdl_source.specs.declared.statement.Inner.{Inner}
 use Rattle.rdl_weave.specs.Standing.{Stands}
 use Rattle.rdl_weave.specs.Untouched.{is_untouched}

@@ -5,6 +5,7 @@ use Rattle.std.specs.Str.{IsUtf8}
 use Rattle.rdl_tree.specs.Items.{Items}
 use Rattle.rdl_tree.specs.Limits.{IsWithinLimits}
 use Rattle.rdl_origin.specs.Once.{StandOnce}
+use Rattle.rdl_origin.specs.Order.{AreInOrder}
 use Rattle.rdl_origin.specs.Traces.{Traces}
 use Rattle.rdl_origin.specs.Values.{AreValues}
 use Rattle.rdl_origin.specs.View.{list_of}
@@ -13,6 +14,7 @@ use Rattle.rdl_round.specs.Writable.{IsWritable}
 use Rattle.rdl_source.specs.Laid.{Laid}
 use Rattle.rdl_write.specs.MapText.{map_text}
 use Rattle.rdl_weave.specs.Coarse.{text_of, spans_of, coarse, covers}
+use Rattle.rdl_weave.specs.InTurn.{KeepsOrder}
 use Rattle.rdl_weave.specs.Keeping.{Keeps}
 use Rattle.rdl_weave.specs.Sound.{Fits, IsSound}
 use Rattle.rdl_weave.specs.Spelled.{SpellsAs}
@@ -30,6 +32,12 @@ abbrev pub CoarseSpells : Type 0
 CoarseSpells =
     (source canonical : List ℕ) (l : Laid) (t : Traces) (last : Items) → Fits source l t last canonical → length (text_of source (coarse source (sizes_of last) l t last)) ≤ max_text
     → SpellsAs canonical (text_of source (coarse source (sizes_of last) l t last))
+
+-- it keeps the order, where these origins say which items of the source's map those of the last map are, and which weren't moved
+abbrev pub CoarseKeepsOrder : Type 0
+CoarseKeepsOrder =
+    (source : List ℕ) (l : Laid) (t : Traces) (last : Items) (s : AreStatements source l) → IsUtf8 source → IsWritable last → AreValues 0 last t s.map → StandOnce t → AreInOrder t
+    → KeepsOrder source (sizes_of last) (text_of source (coarse source (sizes_of last) l t last)) l (list_of t)
 
 -- a source is sound for each map that can be written, and of whose items these origins say which items of the source's map they are
 abbrev pub SourcesAreSound : Type 0

@@ -2,6 +2,7 @@ pub mod Spelled
 pub mod Standing
 pub mod Untouched
 pub mod Keeping
+pub mod InTurn
 pub mod Weaving
 pub mod Coarse
 pub mod Sound

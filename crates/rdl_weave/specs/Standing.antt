@@ -22,6 +22,11 @@ pub record Occurs (bytes text : List ℕ) : Type 0 where
   pub behind : List ℕ
   pub parts : text ≡ before ++ (bytes ++ behind)
 
+-- the bytes stand in the text, and behind them is the rest
+pub record Comes (bytes text rest : List ℕ) : Type 0 where
+  pub before : List ℕ
+  pub parts : text ≡ before ++ (bytes ++ rest)
+
 -- what the source has in the span stands in the text, but for blanks in front and at the end
 pub record Stands (source : List ℕ) (s : Span) (text : List ℕ) : Type 0 where
   pub core : List ℕ

@@ -1,6 +1,6 @@
 -- Which statements no edit touched.
 -- own: SystemRDL 2.0 has no edits.
-use Rattle.std.specs.Prelude.{ℕ, ◌+◌, ◌==◌, Bool, true, false, ◌&&◌, ◌||◌, not, nat_eq, if◌then◌else◌, List, [], ◌∷◌, ◌++◌, length, Option, Some, None, is_some, slice_get, option_and_then}
+use Rattle.std.specs.Prelude.{ℕ, ◌+◌, Bool, false, ◌&&◌, ◌||◌, not, nat_eq, if◌then◌else◌, List, [], ◌∷◌, ◌++◌, length, Option, Some, None, is_some, slice_get, option_and_then}
 use Rattle.std.specs.Option.{option_map_or}
 use Rattle.rdl_tree.specs.Items.{Items, no_items, plain, holder, count}
 use Rattle.rdl_tree.specs.Weight.{capped}

@@ -1,6 +1,7 @@
 //! The last text that is tried: each statement that no edit touched as it stood, and the other items of the last map spelled anew.
-ghost use Rattle.std.specs.Prelude.{◌≡◌, ◌++◌, [], Err, IfOk, IfSome, OnOk, MatchOption, Some, None, string_bytes, option_copied, slice_range};
+ghost use Rattle.std.specs.Prelude.{◌≡◌, ◌<◌, ◌++◌, [], length, Err, IfOk, IfSome, OnOk, MatchOption, Some, None, string_bytes, option_copied, slice_range};
 ghost use Rattle.rdl_origin.specs.View.{list_of};
+ghost use Rattle.rdl_parse.specs.Faults.{max_text};
 ghost use Rattle.rdl_source.specs.Beside as beside;
 ghost use Rattle.rdl_source.specs.View as source_view;
 ghost use Rattle.rdl_write.specs.MapText.{deeper};
@@ -11,7 +12,7 @@ ghost use Rattle.rdl_weave.specs.Sound.{Fits};
 ghost use Rattle.rdl_weave.specs.Spelled.{SpellsAs};
 ghost use Rattle.rdl_weave.specs.Untouched as untouched;
 ghost use Rattle.rdl_weave.specs.Untouched.{sizes_of};
-ghost use Rattle.rdl_weave.specs.declared.fault.WeaveFault.TheVariants.{NotWoven};
+ghost use Rattle.rdl_weave.specs.declared.fault.WeaveFault.TheVariants.{NotWoven, TooLong};
 
 use crate::covers::covers;
 use crate::fault::WeaveFault;
@@ -379,7 +380,11 @@ pub(crate) fn coarse(
     requires { ground.sizes.now ≡ sizes_of last.now }
     ensures found { IfOk result (λ found. IfSome found (λ text. SpellsAs canonical.now (string_bytes text)
         × Keeps ground.entry.source.now ground.entry.sizes.now (string_bytes text) was.entry.statements.now (list_of was.entry.origins.now))) }
+    ensures text { IfOk result (λ found. IfSome found (λ text. string_bytes text
+        ≡ text_of ground.entry.source.now (spec.coarse ground.entry.source.now ground.entry.sizes.now was.entry.statements.now was.entry.origins.now last.now))) }
     ensures sound { Fits ground.entry.source.now was.entry.statements.now was.entry.origins.now last.now canonical.now → IfOk result (λ found. found ≡ None → ⊥) }
+    ensures long { result ≡ Err TooLong
+        → max_text < length (text_of ground.entry.source.now (spec.coarse ground.entry.source.now ground.entry.sizes.now was.entry.statements.now was.entry.origins.now last.now)) }
     ensures fault { result ≡ Err NotWoven → ⊥ }
 {
     let mut sheet = Sheet {

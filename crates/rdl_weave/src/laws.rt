@@ -1,11 +1,12 @@
 //! Laws of the text that is put together item by item. They do nothing when they run.
-ghost use Rattle.rdl_weave.specs.Laws.{CoarseKeeps, CoarseSpells, SourcesAreSound};
+ghost use Rattle.rdl_weave.specs.Laws.{CoarseKeeps, CoarseKeepsOrder, CoarseSpells, SourcesAreSound};
 
 /// The text in which every statement that no edit touched stands as it stood, and the other items of the last map are spelled
-/// anew, keeps what no edit touched, where the spans that stand in it cover the source's statements; and it spells the last
-/// map, where these statements fit it and the text isn't too long.
+/// anew, keeps what no edit touched, where the spans that stand in it cover the source's statements; it keeps the order of what wasn't
+/// moved either, where the origins say so; and it spells the last map, where these statements fit it and the text isn't too long.
 pub fn coarse_texts_stand()
     ensures keeps { CoarseKeeps }
+    ensures order { CoarseKeepsOrder }
     ensures spells { CoarseSpells }
 {}
 

@@ -20,6 +20,7 @@ mod standing;
 mod stands;
 #[cfg(test)]
 mod tests;
+mod turn;
 mod unit;
 mod untouched;
 pub mod weave;

@@ -1,7 +1,7 @@
 //! A statement of the source with the edits in its words.
 
 use crate::assigned::put_assignment;
-use crate::bytes::{behind_blanks, part};
+use crate::bytes::{are_blanks, behind_blanks, part};
 use crate::inst::put_inst;
 use crate::lexeme::{Inst, Lexeme, insts, lexemes};
 use crate::member::{Member, Past};
@@ -273,7 +273,7 @@ impl<'a> Group<'a> {
         self.with_instances(alloc, writer, words, begin)
     }
 
-    /// What stands before the body.
+    /// What stands before the body. Before a copy of it there are no comments: they stand before the first body.
     fn head(
         &self,
         alloc: Global,
@@ -305,6 +305,9 @@ impl<'a> Group<'a> {
             if old != new {
                 writer.replace(word.from, word.to, new)?;
             }
+        }
+        if !self.is_first && !self.defines() {
+            leave_comments_out(&mut writer, self.source, words)?;
         }
         writer.copy_to(inner.open)?;
         let mut woven = Woven::new(alloc);
@@ -425,6 +428,20 @@ fn outside_count(words: &[Lexeme], at: usize) -> usize {
         Some(word) => usize::from(word.is_outside),
         None => 0,
     }
+}
+
+/// Writes the words, with a blank in the place of the comments between two of them.
+fn leave_comments_out(
+    writer: &mut Writer<'_>,
+    source: &[u8],
+    words: &[Lexeme],
+) -> Result<(), AllocError> {
+    'words: for (word, next) in words.iter().zip(words.iter().skip(1)) {
+        if !writer.is_past(word.to) && !are_blanks(part(source, word.to, next.from)) {
+            writer.replace(word.to, next.from, " ")?;
+        }
+    }
+    Ok(())
 }
 
 /// Writes what is said of the instances, where the word for it stands, or would stand, at this place.

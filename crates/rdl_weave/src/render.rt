@@ -294,6 +294,17 @@ impl<'a> Page<'a> {
         }
     }
 
+    /// Whether that stands on one line with the statement behind it in the source.
+    fn shares_line(&self, statements: &Statements) -> bool {
+        let (Some(number), Some(statement)) = (self.before, self.sibling(statements)) else {
+            return false;
+        };
+        let Some(next) = statements.as_slice().get(number.saturating_add(1)) else {
+            return false;
+        };
+        !has_line_feed(part(self.loom.source, statement.words.to, next.words.from))
+    }
+
     /// A new item.
     fn put_new(
         &mut self,
@@ -303,7 +314,11 @@ impl<'a> Page<'a> {
     ) -> Result<(), AllocError> {
         let indent = self.indent(alloc, statements)?;
         let text = self.spelled(alloc, statements, indent.as_str(), item)?;
-        if has_line_feed(text.as_bytes()) && self.follows_blank(statements) {
+        let has_lines = has_line_feed(text.as_bytes());
+        if !has_lines && !self.is_at_line_start() && self.shares_line(statements) {
+            return self.put_beside(text.as_str());
+        }
+        if has_lines && self.follows_blank(statements) {
             self.end_line()?;
             if !self.is_behind_blank() {
                 self.text.push_str(self.loom.style.line_end)?;
@@ -312,6 +327,15 @@ impl<'a> Page<'a> {
         self.begin_new(indent.as_str())?;
         self.text.push_str(text.as_str())?;
         self.end_new()
+    }
+
+    /// A new statement behind another on its line.
+    fn put_beside(&mut self, text: &str) -> Result<(), AllocError> {
+        self.at = None;
+        if !ends_blank(self.text.as_slice()) {
+            self.text.push_str(" ")?;
+        }
+        self.text.push_str(text)
     }
 
     /// The items of a unit, spelled anew one behind another.

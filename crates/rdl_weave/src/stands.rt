@@ -1,6 +1,7 @@
 //! Whether what a span of the source has stands in another text.
-ghost use Rattle.std.specs.Prelude.{◌≤◌, IsTrue, length, take, drop};
-ghost use Rattle.rdl_weave.specs.Standing.{AreBlanks, Occurs, Stands};
+ghost use Rattle.std.specs.Prelude.{◌≤◌, IfSome, IsTrue, length, take, drop, slice_range};
+ghost use Rattle.rdl_weave.specs.InTurn.{StandsBefore};
+ghost use Rattle.rdl_weave.specs.Standing.{AreBlanks, Comes, Occurs, Stands, Trims};
 
 use crate::bytes::is_blank;
 use crate::woven::Kept;
@@ -48,27 +49,75 @@ fn occurs(bytes: &[u8], text: &[u8], at: usize) -> bool
     &text[at..end] == bytes
 }
 
-/// Where the byte of the source stands in the woven text, as far as it is noted. They are in the order of the source.
-fn place_of(kept: &[Kept], from: usize) -> usize {
-    match kept.binary_search_by_key(&from, |kept: &Kept| kept.from) {
-        Ok(index) => match kept.get(index) {
-            Some(kept) => kept.at,
-            None => 0,
-        },
-        Err(_) => 0,
+/// Where the bytes end in the text if they begin at a place there, which isn't before another.
+fn end_at(bytes: &[u8], text: &[u8], at: usize, begin: usize) -> Option<usize>
+    ensures { IfSome result (λ end. Comes bytes.now (drop at text.now) (drop end text.now)) }
+{
+    if begin < at || begin > text.len() || bytes.len() > text.len() - begin {
+        return None;
     }
+    let end = begin + bytes.len();
+    if &text[begin..end] == bytes {
+        Some(end)
+    } else {
+        None
+    }
+}
+
+/// Where the byte of the source stands in the woven text, not before a place, as far as it is noted. They are in the order of the source,
+/// and at one byte in that of the text.
+fn place_of(kept: &[Kept], from: usize, at: usize) -> usize {
+    let is_before = |kept: &Kept| kept.from < from || (kept.from == from && kept.at < at);
+    match kept.get(kept.partition_point(is_before)) {
+        Some(kept) if kept.from == from => kept.at,
+        _ => at,
+    }
+}
+
+/// What a source has in a span, but for blanks in front and at the end, and its first byte there.
+#[derive(Clone, Copy)]
+struct Core<'a> {
+    from: usize,
+    bytes: &'a [u8],
+}
+
+/// What the source has in the span, if it has it.
+fn trimmed(source: &[u8], span: Span) -> Option<Core<'_>>
+    ensures { IfSome result (λ found. Trims (slice_range source.now span.from span.to) found.bytes.now) }
+{
+    if span.from > span.to || span.to > source.len() {
+        return None;
+    }
+    let bytes = &source[span.from..span.to];
+    let front = front_blanks(bytes);
+    let rest = &bytes[front..];
+    let end = before_blanks(rest);
+    Some(Core {
+        from: span.from + front,
+        bytes: &rest[..end],
+    })
 }
 
 /// Whether what the source has in the span stands in the text, but for blanks in front and at the end.
 pub(crate) fn stands(source: &[u8], span: Span, text: &[u8], kept: &[Kept]) -> bool
     ensures { IsTrue result → Stands source.now span text.now }
 {
-    if span.from > span.to || span.to > source.len() {
-        return false;
+    match trimmed(source, span) {
+        Some(found) => occurs(found.bytes, text, place_of(kept, found.from, 0)),
+        None => false,
     }
-    let bytes = &source[span.from..span.to];
-    let front = front_blanks(bytes);
-    let rest = &bytes[front..];
-    let end = before_blanks(rest);
-    occurs(&rest[..end], text, place_of(kept, span.from + front))
+}
+
+/// Where it ends there, if it stands there from a place on.
+pub(crate) fn end_of(
+    source: &[u8],
+    span: Span,
+    text: &[u8],
+    kept: &[Kept],
+    at: usize,
+) -> Option<usize>
+    ensures { IfSome result (λ end. StandsBefore source.now span (drop at text.now) (drop end text.now)) }
+{
+    let found = trimmed(source, span)?;
+    end_at(found.bytes, text, at, place_of(kept, found.from, at))
 }

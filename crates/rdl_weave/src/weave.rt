@@ -1,14 +1,16 @@
 //! The woven text.
-ghost use Rattle.std.specs.Prelude.{◌≡◌, ◌≤◌, ◌⊎◌, IsTrue, string_bytes, Err, IfOk, IfSome, MatchOption, MatchResult};
+ghost use Rattle.std.specs.Prelude.{◌≡◌, ◌≤◌, ◌<◌, ◌+◌, ◌⊎◌, IsTrue, string_bytes, length, Err, IfOk, IfSome, None, MatchOption, MatchResult};
 ghost use Rattle.rdl_source.specs.Laid as lying;
 ghost use Rattle.rdl_tree.specs.Limits.{IsWithinLimits};
+ghost use Rattle.rdl_parse.specs.Faults.{max_text};
 ghost use Rattle.rdl_origin.specs.View.{list_of};
+ghost use Rattle.rdl_weave.specs.InTurn.{KeepsOrder};
 ghost use Rattle.rdl_weave.specs.Keeping.{Keeps};
 ghost use Rattle.rdl_weave.specs.Sound.{IsSound};
 ghost use Rattle.rdl_weave.specs.Spelled.{SpellsAs};
 ghost use Rattle.rdl_weave.specs.Untouched.{sizes_of};
-ghost use Rattle.rdl_weave.specs.Weaving.{AreStatements, IsWoven};
-ghost use Rattle.rdl_weave.specs.declared.fault.WeaveFault.TheVariants.{Memory, NotWoven};
+ghost use Rattle.rdl_weave.specs.Weaving.{AreStatements, IsWoven, MayBeTooLong};
+ghost use Rattle.rdl_weave.specs.declared.fault.WeaveFault.TheVariants.{Memory, NotWoven, TooLong};
 
 use crate::coarse::{Ground, Was, coarse};
 use crate::fault::WeaveFault;
@@ -17,6 +19,7 @@ use crate::member::Past;
 use crate::plan::{LEVELS, Loom, weave_body};
 use crate::render::Room;
 use crate::spelled::spells_as;
+use crate::turn::keeps_order;
 use crate::unit::style_of;
 use crate::untouched::push_sizes;
 use crate::woven::Woven;
@@ -89,7 +92,7 @@ fn text_of(
     weave_body(alloc, loom, Room::root(bytes), past, &last.items, 0, LEVELS)
 }
 
-/// Whether the text spells the map with the canonical text, and keeps what no edit touched of the source.
+/// Whether the text spells the map with the canonical text, and keeps what no edit touched of the source, and its order.
 fn holds(
     alloc: Global,
     canonical: &str,
@@ -100,12 +103,26 @@ fn holds(
 ) -> Result<bool, AllocError>
     requires { check.text.now ≡ text.now }
     ensures { IfOk result (λ answer. IsTrue answer → SpellsAs canonical.now text.now
-        × Keeps check.entry.source.now check.entry.sizes.now text.now statements.now (list_of origins.now)) }
+        × Keeps check.entry.source.now check.entry.sizes.now text.now statements.now (list_of origins.now)
+        × KeepsOrder check.entry.source.now check.entry.sizes.now text.now statements.now (list_of origins.now)) }
 {
-    if !keeps(check, statements, origins.as_slice()) {
+    let origins = origins.as_slice();
+    if !keeps(check, statements, origins) || !keeps_order(check, statements, origins) {
         return Ok(false);
     }
     spells_as(alloc, canonical, text)
+}
+
+/// What is answered of a text that is too long: none, if the source and the canonical text are short, so that another may be found.
+fn too_long(source: &str, canonical: &str) -> Result<Option<String>, WeaveFault>
+    ensures none { IfOk result (λ found. found ≡ None) }
+    ensures long { result ≡ Err TooLong → max_text < length source.now + length canonical.now }
+    ensures fault { result ≡ Err NotWoven → ⊥ }
+{
+    if source.len() > MAX_LEN || canonical.len() > MAX_LEN - source.len() {
+        return Err(WeaveFault::TooLong);
+    }
+    Ok(None)
 }
 
 /// The text that is woven, if it is one that the map asks for.
@@ -121,7 +138,9 @@ fn woven(
 ) -> Result<Option<String>, WeaveFault>
     requires { sizes.now ≡ sizes_of last.now.items }
     ensures found { IfOk result (λ found. IfSome found (λ text. SpellsAs canonical.now (string_bytes text)
-        × Keeps source.now sizes.now (string_bytes text) laid.now.statements (list_of origins.now))) }
+        × Keeps source.now sizes.now (string_bytes text) laid.now.statements (list_of origins.now)
+        × KeepsOrder source.now sizes.now (string_bytes text) laid.now.statements (list_of origins.now))) }
+    ensures long { result ≡ Err TooLong → max_text < length source.now + length canonical.now }
     ensures fault { result ≡ Err NotWoven → ⊥ }
 {
     let mut woven = text_of(alloc, source, laid, origins, last, sizes, is_coarse)?;
@@ -130,7 +149,7 @@ fn woven(
         return Ok(None);
     };
     if text.len() > MAX_LEN {
-        return Err(WeaveFault::TooLong);
+        return too_long(source, canonical);
     }
     let check = Check {
         source: source.as_bytes(),
@@ -159,8 +178,11 @@ pub fn weave(
     ensures reads { IfOk result (λ text. SpellsAs canonical.now (string_bytes text)) }
     // Where the source does so already, it is the answer, unless memory runs out.
     ensures same { SpellsAs canonical.now source.now → MatchResult result (λ text. string_bytes text ≡ source.now) (λ fault. fault ≡ Memory) }
-    // Else each statement that no edit touched stands in the answer as it stood, with its comments, and so does what floats.
+    // Else each statement that no edit touched stands in the answer as it stood, with its comments, and so does what floats; and those that
+    // weren't moved stand in their order.
     ensures woven { IfOk result (λ text. (string_bytes text ≡ source.now) ⊎ IsWoven source.now origins.now last.now.items (string_bytes text)) }
+    // A text is too long only where source and canonical text together are longer than a text may be, or the last text that is tried is.
+    ensures long { result ≡ Err TooLong → MayBeTooLong source.now origins.now last.now.items canonical.now }
     // There is always an answer where each statement that no edit touched spells by itself the items of the last map that are its own, what
     // floats holds no word, and the last map can be written, but for want of memory and a text that would be too long.
     ensures refused { result ≡ Err NotWoven → IsSound source.now origins.now last.now.items canonical.now → ⊥ }

@@ -49,11 +49,11 @@ impl Woven {
         Ok(())
     }
 
-    /// What was noted, in the order of the source.
+    /// What was noted, in the order of the source, and of one byte in that of the text.
     pub(crate) fn sort(&mut self) {
         self.kept
             .as_mut_slice()
-            .sort_unstable_by_key(|kept: &Kept| kept.from);
+            .sort_unstable_by_key(|kept: &Kept| (kept.from, kept.at));
     }
 
     /// Appends another text with what it keeps.

@@ -28,6 +28,11 @@ impl<'a> Writer<'a> {
         Ok(())
     }
 
+    /// Whether what goes on stands behind a place of the source.
+    pub(crate) fn is_past(&self, place: usize) -> bool {
+        self.at > place
+    }
+
     /// Goes to a place of the source.
     pub(crate) fn skip_to(&mut self, to: usize) {
         self.at = to;

@@ -19,7 +19,7 @@ ghost use Rattle.rdl_run.specs.Output.{Output, RunsScript};
 ghost use Rattle.rdl_run.specs.Readings.{ReadsItems};
 ghost use Rattle.rdl_run.specs.declared.run.Options.{Options};
 ghost use Rattle.rdl_round.specs.Writable.{ReadsBack};
-ghost use Rattle.run_laws.specs.Found.{EditedTextsAreFound, MapsStayFirst};
+ghost use Rattle.run_laws.specs.Found.{EditedTextsAreFound, EditedTextsKeepOrder, MapsStayFirst};
 ghost use Rattle.run_laws.specs.Histories.{Action, Follows, BringWords, ScriptLeads, AllReadBack, AllWritable, AllHaveOption};
 ghost use Rattle.run_laws.specs.NewParts.{BringsWords};
 ghost use Rattle.run_laws.specs.Stops.{SpellsHistory, OpensAgain, SavesSession, GoesOnFromMap, SavesAfterStops, GoesOnAlike, LeavesSameFiles, joined};
@@ -61,10 +61,11 @@ pub fn runs_read_back()
 {}
 
 /// The text of a map stays a text of the first map of its history. So a run on a map never ends with K2: there is an edited text where it
-/// is asked for, unless it is too long or memory runs out.
+/// is asked for, unless it is too long or memory runs out. It is the map's own, or keeps the order of what no edit touched or moved.
 pub fn edited_texts_are_found()
     ensures first { MapsStayFirst }
     ensures found { EditedTextsAreFound }
+    ensures order { EditedTextsKeepOrder }
 {}
 
 /// All maps of a history that was opened, and all to which a script leads from it, have the option of the run.

@@ -1,10 +1,10 @@
-use Rattle.std.proofs.Common.{rules, ◌≡◌, ◌≤◌, ℕ, true, false, List, ◌++◌, length, ap, sym, subst, ◌∙◌, string_bytes}
+use Rattle.std.proofs.Common.{rules, ◌≡◌, ◌≤◌, true, false, ◌++◌, length, ap, sym, subst, ◌∙◌, string_bytes}
 use Rattle.rdl_origin.specs.View.{list_of}
 use Rattle.rdl_parse.specs.Faults.{max_text}
 use Rattle.rdl_weave.specs.Coarse as spec
 use Rattle.rdl_weave.specs.Coarse.{text_of, spans_of}
 use Rattle.rdl_weave.specs.Spelled.{SpellsAs}
-use Rattle.rdl_weave.proofs.Spoken.{answer_keeps, not_uncovered, not_unspelled}
+use Rattle.rdl_weave.proofs.Spoken.{answer_keeps, not_unspelled}
 use Rattle.rdl_weave.proofs.coarse.coarse.Goals as goal
 
 pub returns-then-not-branch-clause-sound : goal.returns-then-not-branch-clause-sound

@@ -1,6 +1,5 @@
-use Rattle.std.proofs.Common.{◌≡◌, ◌+◌, ◌*◌, ◌<◌, arith, ap, sym, ◌∙◌, refl}
-use Rattle.rdl_source.specs.Laid.{count}
-use Rattle.rdl_weave.proofs.Covering.{covers_begun, covers_more, covers_not, covers_done}
+use Rattle.std.proofs.Common.{◌+◌, ◌*◌, ◌<◌, arith}
+use Rattle.rdl_weave.proofs.Covering.{covers_begun}
 use Rattle.rdl_weave.proofs.Kept.{inside_count, count-statement}
 use Rattle.rdl_weave.proofs.covers.+covers.Goals as goal
 

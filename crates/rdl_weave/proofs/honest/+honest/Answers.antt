@@ -1,6 +1,5 @@
-use Rattle.std.proofs.Common.{◌≡◌, ◌+◌, ◌*◌, ◌<◌, arith, refl}
-use Rattle.rdl_source.specs.Laid.{count}
-use Rattle.rdl_weave.proofs.Kept.{inside_count, count-statement, keeps-begun, keeps-more, keeps-done}
+use Rattle.std.proofs.Common.{◌+◌, ◌*◌, ◌<◌, arith, refl}
+use Rattle.rdl_weave.proofs.Kept.{inside_count, count-statement, keeps-begun, keeps-more}
 use Rattle.rdl_weave.proofs.honest.+honest.Goals as goal
 
 pub keeps-statements-init : goal.keeps-statements-init

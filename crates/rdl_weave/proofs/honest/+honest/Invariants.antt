@@ -1,6 +1,6 @@
-use Rattle.std.proofs.Common.{◌≡◌, ℕ, ◌+◌, ◌*◌, ◌<◌, drop, get_or, IsTrue}
+use Rattle.std.proofs.Common.{ℕ, ◌+◌, ◌*◌, ◌<◌, drop, get_or, IsTrue}
 use Rattle.rdl_source.specs.Laid.{count, ended}
-use Rattle.rdl_source.specs.View.{list_of, last_of, put}
+use Rattle.rdl_source.specs.View.{last_of, put}
 use Rattle.rdl_origin.specs.View as origins
 use Rattle.rdl_origin.specs.declared.origin.Origin.{Origin}
 use Rattle.rdl_weave.specs.Keeping.{Keeps, holds_items}

@@ -1,4 +1,4 @@
-use Rattle.std.proofs.Common.{◌≡◌, ◌+◌, ◌*◌, ◌<◌, arith}
+use Rattle.std.proofs.Common.{◌*◌, ◌<◌, arith}
 use Rattle.rdl_tree.proofs.Sizes.{item_count}
 use Rattle.rdl_weave.proofs.Sized.{count-item}
 use Rattle.rdl_weave.proofs.spell.+lines.Goals as goal

@@ -1,4 +1,4 @@
-use Rattle.std.proofs.Common.{◌≡◌, sym, ◌∙◌}
+use Rattle.std.proofs.Common.{◌∙◌}
 use Rattle.rdl_weave.proofs.Canonical.{spelled_iff}
 use Rattle.rdl_weave.proofs.spelled.spells_as.Goals as goal
 

@@ -1,4 +1,4 @@
-use Rattle.std.proofs.Common.{◌≡◌, ◌+◌, ◌*◌, ◌<◌, arith, ap}
+use Rattle.std.proofs.Common.{◌<◌, arith, ap}
 use Rattle.rdl_source.specs.Laid.{count}
 use Rattle.rdl_weave.proofs.Kept.{inside_count, count-statement}
 use Rattle.rdl_weave.proofs.unit.+unit.Goals as goal

@@ -1,6 +1,6 @@
-use Rattle.std.proofs.Common.{◌≡◌, ◌+◌, ◌*◌, ◌<◌, arith, ap, sym, ◌∙◌}
+use Rattle.std.proofs.Common.{◌+◌, ◌*◌, ◌<◌, arith, ap, sym, ◌∙◌}
 use Rattle.rdl_origin.specs.Traces.{traces_count}
-use Rattle.rdl_origin.specs.View.{traces_of, list_of}
+use Rattle.rdl_origin.specs.View.{traces_of}
 use Rattle.rdl_origin.proofs.Rounds.{traces_of-list_of}
 use Rattle.rdl_weave.specs.Untouched.{behind}
 use Rattle.rdl_weave.proofs.Behind.{traces-item, behind_none, behind_some, behind_longer}

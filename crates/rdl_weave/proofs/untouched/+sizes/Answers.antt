@@ -1,5 +1,4 @@
-use Rattle.std.proofs.Common.{◌≡◌, ◌+◌, ◌*◌, ◌<◌, arith}
-use Rattle.rdl_tree.specs.Items.{count}
+use Rattle.std.proofs.Common.{◌*◌, ◌<◌, arith}
 use Rattle.rdl_tree.proofs.Sizes.{item_count}
 use Rattle.rdl_weave.proofs.Sized.{count-item, sizes_done}
 use Rattle.rdl_weave.proofs.untouched.+sizes.Goals as goal

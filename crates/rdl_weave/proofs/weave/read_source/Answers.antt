@@ -1,4 +1,4 @@
-use Rattle.std.proofs.Common.{◌≡◌, ap, sym, ◌∙◌}
+use Rattle.std.proofs.Common.{ap, sym, ◌∙◌}
 use Rattle.rdl_weave.proofs.Sounding.{lie_so, some_same, none_some}
 use Rattle.rdl_weave.proofs.weave.read_source.Goals as goal
 
