@@ -2,7 +2,7 @@
 _rovneath() {
     local word=${COMP_WORDS[COMP_CWORD]} option=${COMP_WORDS[COMP_CWORD - 1]} before
     local options='--rdl --header --edited --session --top --history --strict --quiet --explain --help --version -h -V'
-    [[ ${1##*/} != regdiff ]] || options='--top --each --breaking --ignore --help --version -h -V'
+    [[ ${1##*/} != regdiff ]] || options='--top --each --breaking --ignore --format --help --version -h -V'
     COMPREPLY=()
     # bash makes three words of `--rdl=out.rdl`
     if [[ $word == = ]]; then
@@ -15,6 +15,10 @@ _rovneath() {
         [[ $before != -- ]] || option=--
     done
     case $option in
+        --format)
+            mapfile -t COMPREPLY < <(compgen -W 'text markdown json' -- "$word")
+            return
+            ;;
         --top | --history | --ignore | --explain) return ;;
         --rdl | --header | --edited | --session | --) ;;
         *)

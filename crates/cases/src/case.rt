@@ -1,6 +1,6 @@
 //! A case: what a run or a comparison is given, and what is wanted of it.
 use crate::heading::Heading;
-use rdl_diff::choice::Severity;
+use rdl_diff::choice::{Format, Severity};
 use rdl_diff::moves::Moves;
 
 /// Lines that are wanted: none, or a text to which a last line feed is to be added.
@@ -21,6 +21,8 @@ pub struct Given<'a> {
     pub severity: Severity,
     /// The name of a property whose differences aren't told.
     pub ignored: Option<&'a str>,
+    /// How they are written.
+    pub format: Format,
 }
 
 /// What is wanted of a run. Where nothing is said of a text it may be any.
@@ -65,6 +67,7 @@ impl<'a> Given<'a> {
             moves: Moves::Own,
             severity: Severity::Any,
             ignored: None,
+            format: Format::Text,
         }
     }
 
@@ -78,6 +81,15 @@ impl<'a> Given<'a> {
         }
     }
 
+    fn read_format(&mut self, word: &str) -> bool {
+        self.format = match word {
+            "markdown" => Format::Markdown,
+            "json" => Format::Json,
+            _ => return false,
+        };
+        true
+    }
+
     /// Reads a heading, and answers whether it is one of these.
     fn read(&mut self, heading: &Heading<'a>) -> bool {
         match heading.name {
@@ -88,6 +100,7 @@ impl<'a> Given<'a> {
             "each" => self.moves = Moves::Each,
             "breaking" => self.severity = Severity::Breaking,
             "ignore" => self.ignored = Some(heading.word),
+            "format" => return self.read_format(heading.word),
             "history" => return self.read_history(heading.word),
             _ => return false,
         }

@@ -148,6 +148,7 @@ fn choice_of(alloc: Global, given: &Given) -> Result<Choice, AllocError> {
         moves: given.moves,
         severity: given.severity,
         ignored,
+        format: given.format,
     })
 }
 

@@ -24,7 +24,7 @@ impl<'a> Heading<'a> {
     /// Whether the heading has a word and no lines, no word, or neither, as its name asks.
     pub fn is_formed(&self) -> bool {
         match self.name {
-            "top" | "ignore" | "history" | "status" => !self.word.is_empty()
+            "top" | "ignore" | "format" | "history" | "status" => !self.word.is_empty()
                 && self.lines.is_none(),
             "each" | "breaking" => self.word.is_empty() && self.lines.is_none(),
             _ => self.word.is_empty(),

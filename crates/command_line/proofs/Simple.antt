@@ -15,7 +15,7 @@ use Rattle.clap.proofs.OnLiterals.{clap_on_literals}
 use Rattle.clap.proofs.FaultLemmas.{free_args}
 use Rattle.clap.proofs.SimpleLemmas.{ready_simple, simple_groups}
 use Rattle.clap.proofs.WalkLemmas.{both}
-use Rattle.command_line.specs.Arguments.{history_rule, ignore_rule, operand_rule, optional_output_rule, output_rule, regdiff_command, regedit_command, switch_rule, top_rule}
+use Rattle.command_line.specs.Arguments.{format_rule, history_rule, ignore_rule, operand_rule, optional_output_rule, output_rule, regdiff_command, regedit_command, switch_rule, top_rule}
 
 pub simple_command : is_simple regedit_command ≡ true
 unfolding regedit_command clap_on_literals
@@ -39,7 +39,7 @@ abbrev pub edit_rules : List Rule
 edit_rules = operand_rule (codes "map") ∷ operand_rule (codes "script") ∷ output_rule (codes "rdl") ∷ output_rule (codes "header") ∷ optional_output_rule (codes "edited") ∷ top_rule ∷ history_rule ∷ optional_output_rule (codes "session") ∷ switch_rule (codes "strict") ∷ switch_rule (codes "quiet") ∷ []
 
 abbrev pub comparison_rules : List Rule
-comparison_rules = operand_rule (codes "old") ∷ operand_rule (codes "new") ∷ top_rule ∷ switch_rule (codes "each") ∷ switch_rule (codes "breaking") ∷ ignore_rule ∷ []
+comparison_rules = operand_rule (codes "old") ∷ operand_rule (codes "new") ∷ top_rule ∷ switch_rule (codes "each") ∷ switch_rule (codes "breaking") ∷ ignore_rule ∷ format_rule ∷ []
 
 -- what is computed of a command that has these arguments
 pub record IsProgram (app : App) (rules : List Rule) : Type 0 where

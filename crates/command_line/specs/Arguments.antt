@@ -1,4 +1,4 @@
--- The arguments of the programs as `clap` sees them: two operands, and eight options or four. Own.
+-- The arguments of the programs as `clap` sees them: two operands, and eight options or five. Own.
 use Rattle.std.specs.Prelude.{[], ◌∷◌, Some, true, codes, pos}
 use Rattle.clap.specs.Words.{App, Rule, Text, new_app, new_rule, with_rule}
 use Rattle.clap.specs.declared.builder.action.ArgAction.TheVariants.{Set, SetTrue}
@@ -19,6 +19,10 @@ top_rule = record (new_rule (codes "top")) { long = Some (codes "top"); action =
 -- --ignore PROP,..
 abbrev pub ignore_rule : Rule
 ignore_rule = record (new_rule (codes "ignore")) { long = Some (codes "ignore"); action = Some Set; value_names = 1 }
+
+-- --format FORMAT
+abbrev pub format_rule : Rule
+format_rule = record (new_rule (codes "format")) { long = Some (codes "format"); action = Some Set; value_names = 1 }
 
 -- --history N, a number from 1 to 1,000,000
 abbrev pub history_rule : Rule
@@ -55,5 +59,5 @@ regedit_command = with_rule (with_rule (with_rule (with_rule (with_rule (with_ru
     (output_rule (codes "rdl"))) (output_rule (codes "header"))) (optional_output_rule (codes "edited"))) top_rule) history_rule) (optional_output_rule (codes "session"))) (switch_rule (codes "strict"))) (switch_rule (codes "quiet"))
 
 unfoldable pub regdiff_command : App
-regdiff_command = with_rule (with_rule (with_rule (with_rule (program_with (codes "regdiff") (operand_rule (codes "old")) (operand_rule (codes "new")))
-    top_rule) (switch_rule (codes "each"))) (switch_rule (codes "breaking"))) ignore_rule
+regdiff_command = with_rule (with_rule (with_rule (with_rule (with_rule (program_with (codes "regdiff") (operand_rule (codes "old")) (operand_rule (codes "new")))
+    top_rule) (switch_rule (codes "each"))) (switch_rule (codes "breaking"))) ignore_rule) format_rule

@@ -1,7 +1,7 @@
 //! The arguments of the programs, as `clap` reads them and as their help shows them.
 ghost use Rattle.std.specs.Prelude.{◌≡◌, IfOk, false};
 ghost use Rattle.clap.specs.Words.{app_of, rule_of};
-ghost use Rattle.command_line.specs.Arguments.{history_rule, ignore_rule, operand_rule, optional_output_rule, output_rule, program_with, regdiff_command, regedit_command, switch_rule, top_rule};
+ghost use Rattle.command_line.specs.Arguments.{format_rule, history_rule, ignore_rule, operand_rule, optional_output_rule, output_rule, program_with, regdiff_command, regedit_command, switch_rule, top_rule};
 
 use clap::{Arg, ArgAction, Command, value_parser};
 use std::alloc::{AllocError, Global};
@@ -54,6 +54,17 @@ fn ignore<'a>(alloc: Global, help: &'a str) -> Arg<'a>
     Arg::new(alloc, "ignore")
         .long("ignore")
         .value_name("PROP,..")
+        .action(ArgAction::Set)
+        .help(help)
+}
+
+fn format<'a>(alloc: Global, help: &'a str) -> Arg<'a>
+    ensures rule { rule_of result ≡ format_rule }
+    ensures own { result.global ≡ false }
+{
+    Arg::new(alloc, "format")
+        .long("format")
+        .value_name("FORMAT")
         .action(ArgAction::Set)
         .help(help)
 }
@@ -174,7 +185,7 @@ pub(crate) fn regdiff_command<'a>(alloc: Global) -> Result<Command<'a>, AllocErr
     .arg(switch(
         alloc,
         "each",
-        "Tells each row that has another base, also where only what holds it has moved",
+        "Tells each row that has another base, and what is the same in several blocks of each",
     ))?
     .arg(switch(
         alloc,
@@ -184,5 +195,9 @@ pub(crate) fn regdiff_command<'a>(alloc: Global) -> Result<Command<'a>, AllocErr
     .arg(ignore(
         alloc,
         "Tells no differences of these properties, as name,desc",
+    ))?
+    .arg(format(
+        alloc,
+        "How lines are written: text, markdown or json; with none, text",
     ))
 }

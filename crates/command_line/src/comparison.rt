@@ -7,6 +7,7 @@ ghost use Rattle.command_line.specs.ComparisonWords.{AreTaken, HasOperands, IsBe
 
 use crate::arguments::regdiff_command;
 use crate::fault::WordsFault;
+use crate::format::{Format, format_of};
 use crate::ignored::ignored_of;
 use crate::values::{argument, is_set, top_of};
 use clap::error::ErrorKind;
@@ -24,12 +25,15 @@ pub struct Comparison {
     pub new: String,
     /// The name of both tops; with none it is the last address map of each root.
     pub top: Option<Name>,
-    /// Each row is told that has another base, and not those alone that have another offset.
+    /// Each row is told that has another base, and not those alone that have another offset; and what is the same in several
+    /// blocks of each.
     pub each: bool,
     /// Lines are told of what breaks software alone.
     pub breaking: bool,
     /// The properties whose differences aren't told.
     pub ignored: Vec<Property>,
+    /// How the lines are written.
+    pub format: Format,
 }
 
 /// Why words are no command line.
@@ -39,6 +43,8 @@ pub enum ComparisonFault {
     Words(WordsFault),
     /// L7: a property to ignore is unknown.
     BadProperty,
+    /// L8: the format is unknown.
+    BadFormat,
 }
 
 impl From<WordsFault> for ComparisonFault {
@@ -92,6 +98,7 @@ fn line_of(alloc: Global, matches: &ArgMatches<'_>) -> Result<Comparison, Compar
 {
     let top = top_of(alloc, matches)?;
     let ignored = ignored_of(alloc, matches)?;
+    let format = format_of(matches)?;
     Ok(Comparison {
         old: argument(alloc, matches, "old")?,
         new: argument(alloc, matches, "new")?,
@@ -99,6 +106,7 @@ fn line_of(alloc: Global, matches: &ArgMatches<'_>) -> Result<Comparison, Compar
         each: is_set(matches, "each"),
         breaking: is_set(matches, "breaking"),
         ignored,
+        format,
     })
 }
 

@@ -4,6 +4,7 @@
 mod arguments;
 pub mod comparison;
 pub mod fault;
+pub mod format;
 mod ignored;
 pub mod laws;
 pub mod line;

@@ -12,7 +12,7 @@ use Rattle.rdl_diff.specs.Escaped.{shown, escaped, IsShown}
 
 -- ---- What holds of each.
 
-Each : (ℕ → Type 0) → List ℕ → Type 0
+unfoldable pub Each : (ℕ → Type 0) → List ℕ → Type 0
 Each P [] = Unit {0}
 Each P (x ∷ xs) = P x × Each P xs
 
@@ -217,7 +217,7 @@ unfolding Each
 high-text [] h = refl
 high-text (b ∷ bs) h = (λ i. high-form b (b ∷ []) h.0 i ++ high-text bs h.1 i)
 
-high-bytes : (c : ℕ) → 128 ≤ c → Each (λ b. 128 ≤ b) (encode c)
+pub high-bytes : (c : ℕ) → 128 ≤ c → Each (λ b. 128 ≤ b) (encode c)
 unfolding encode Each
 high-bytes c h = by (ltb c 128) refl (ltb c 2048) (ltb c 65536)
   where

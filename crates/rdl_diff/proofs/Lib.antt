@@ -4,8 +4,7 @@ pub mod Places
 pub mod Walks
 pub mod Insides
 pub mod Matches
-pub mod Changed
-pub mod Broken
+pub mod Lines
 pub mod Listed
 pub mod Alike
 pub mod Members
@@ -17,3 +16,9 @@ pub mod RowPaths
 pub mod Bases
 pub mod Passing
 pub mod Escapes
+pub mod Cuts
+pub mod Joining
+pub mod Texts
+pub mod JsonLines
+pub mod Spans
+pub mod Paired

@@ -1,23 +1,20 @@
 -- Nothing is said exactly where two maps have the same rows.
 use Rattle.std.proofs.Common.{◌≡◌, ◌⊎◌, inl, inr, ℕ, Bool, true, false, List, [], ◌∷◌, ◌++◌, map, flat_map, Option, Some, None, refl, sym, ap, ◌∙◌, subst, if◌then◌else◌, bytes_eq}
-use Rattle.std.specs.Prelude.{◌||◌, codes}
-use Rattle.std.specs.List.{list_any}
-use Rattle.rdl_list.specs.ListText.{path_text}
-use Rattle.rdl_write.specs.Texts.{newline}
-use Rattle.rdl_diff.specs.Breaking.{mark}
+use Rattle.std.specs.Prelude.{◌||◌}
 use Rattle.rdl_elab.proofs.Names.{is_named, all-named, names-apart}
 use Rattle.rdl_elab.specs.declared.row.Row.{Row}
 use Rattle.rdl_tree.specs.Properties.{row as row_of, properties}
 use Rattle.rdl_tree.specs.declared.property.Property.{Property}
 use Rattle.std.specs.List.{filter}
 use Rattle.rdl_diff.specs.Choices.{is_told, is_always_told, tells_each}
-use Rattle.rdl_diff.specs.DiffText.{Change, change, base_change, told_change, changes, Line, renamed, gone, come, changed, gone_line, changed_line, new_line, lines_beside, lines, is_breaking, is_kept, change_text, listed, line_text, diff_text}
+use Rattle.rdl_diff.specs.DiffText.{Change, change, base_change, told_change, changes, Line, renamed, gone, come, gone_line, changed_line, new_line, lines_beside, is_kept}
 use Rattle.rdl_diff.specs.Renames.{lone, lone_if, new_path, renames, renames_of, row_from}
 use Rattle.rdl_diff.specs.declared.choice.Choice.{Choice}
 use Rattle.rdl_diff.specs.declared.choice.Severity.TheVariants.{Any}
 use Rattle.rdl_diff.specs.Paths.{path, row_at}
 use Rattle.rdl_diff.specs.SameRows.{HaveOwnPaths, TellTheSame, TellAlike, TellAsAsked, TellsAll, AreBoth, AreAtEachPath, HaveTheSameRows, HaveRowsAlike, IsAmong}
 use Rattle.rdl_diff.specs.Told.{told, same, whats}
+use Rattle.rdl_diff.specs.Written.{diff_text}
 use Rattle.rdl_diff.specs.declared.moves.Moves.{Moves}
 use Rattle.rdl_diff.specs.declared.moves.Moves.TheVariants.{Own, Each}
 use Rattle.rdl_diff.specs.declared.what.What.{What}
@@ -25,6 +22,7 @@ use Rattle.rdl_diff.specs.declared.what.What.TheVariants as what
 use Rattle.rdl_diff.proofs.Alike.{sound, itself}
 use Rattle.rdl_diff.proofs.Members.{among-map, none-flat, empty-flat, empty-parts}
 use Rattle.rdl_diff.proofs.OwnPaths.{found-own, at-among, among-at}
+use Rattle.rdl_diff.proofs.Texts.{no_lines, no_text}
 
 -- ---- All parts are compared.
 
@@ -191,8 +189,7 @@ module _ (c : Choice) where
 
   pub asked-none : (old new : List Row) → HaveOwnPaths new → AreAtEachPath Asked old new → diff_text c old new ≡ []
   asked-none old new own t =
-      ap (λ xs. flat_map line_text (filter (is_kept c.severity) (lines_beside xs c old new))) no-renames
-      ∙ ap (λ ls. flat_map line_text (filter (is_kept c.severity) ls)) (λ i. gone-part i ++ new-part i)
+      no_text c old new (ap (λ xs. filter (is_kept c.severity) (lines_beside xs c old new)) no-renames ∙ ap (filter (is_kept c.severity)) (λ i. gone-part i ++ new-part i))
     where
       there : (r : Row) → IsAmong r old → (o : Row) × AreBoth Asked (Some o) (row_at (path r) new)
       there r h = let f = among-at old r h in (f.row, subst (λ o. AreBoth Asked o (row_at (path r) new)) f.at (t (path r)))
@@ -228,22 +225,6 @@ module _ (c : Choice) where
 
 -- ---- And back.
 
--- each line has a text
-marked : (b : Bool) (path colon texts end more : List ℕ) → mark b ++ codes "~ " ++ path ++ colon ++ texts ++ end ++ more ≡ [] → ⊥
-marked true path colon texts end more e = cc
-marked false path colon texts end more e = cc
-
-said : (l : Line) (more : List ℕ) → line_text l ++ more ≡ [] → ⊥
-unfolding line_text
-said (renamed o n) more e = cc
-said (gone r) more e = cc
-said (come r) more e = cc
-said (changed p cs) more e = marked (list_any is_breaking cs) (path_text p) (codes ": ") (listed (map change_text cs)) newline more e
-
-no-lines : (ls : List Line) → flat_map line_text ls ≡ [] → ls ≡ []
-no-lines [] e = refl
-no-lines (l ∷ ls) e = absurd (said l (flat_map line_text ls) e)
-
 -- all lines are kept
 all-kept : (ls : List Line) → filter (is_kept Any) ls ≡ ls
 all-kept [] = refl
@@ -268,7 +249,7 @@ module _ (c : Choice) (any : c.severity ≡ Any) where
   none-asked old new e = at
     where
       whole : lines_beside (renames old new) c old new ≡ []
-      whole = sym (all-kept (lines_beside (renames old new) c old new)) ∙ ap (λ s. filter (is_kept s) (lines_beside (renames old new) c old new)) (sym any) ∙ no-lines (lines c old new) e
+      whole = sym (all-kept (lines_beside (renames old new) c old new)) ∙ ap (λ s. filter (is_kept s) (lines_beside (renames old new) c old new)) (sym any) ∙ no_lines c old new e
 
       none : renames old new ≡ []
       none =

@@ -3,6 +3,8 @@ use Rattle.std.specs.Prelude.{Bool, true, false, not, List, bytes_eq}
 use Rattle.std.specs.List.{list_any}
 use Rattle.rdl_tree.specs.Properties.{row as row_of}
 use Rattle.rdl_tree.specs.declared.property.Property.{Property}
+use Rattle.rdl_diff.specs.declared.choice.Severity.{Severity}
+use Rattle.rdl_diff.specs.declared.choice.Severity.TheVariants.{Any, Breaking}
 use Rattle.rdl_diff.specs.declared.moves.Moves.{Moves}
 use Rattle.rdl_diff.specs.declared.moves.Moves.TheVariants.{Own, Each}
 use Rattle.rdl_diff.specs.declared.what.What.{What}
@@ -24,3 +26,8 @@ tells_each Each = true
 abbrev pub is_always_told : Moves → (ignored : List Property) → What → Bool
 is_always_told m ignored what.Base = tells_each m
 is_always_told m ignored w = is_told ignored w
+
+-- a line is asked that tells of what breaks software, or doesn't
+abbrev pub is_asked : Severity → (is_breaking : Bool) → Bool
+is_asked Any b = true
+is_asked Breaking b = b

@@ -113,8 +113,11 @@ abbrev pub stated_text : Property → Option Value → List ℕ
 stated_text p None = []
 stated_text p (Some v) = if option_eq same_value (Some v) (row_of p).built_in then [] else codes " " ++ (row_of p).name ++ codes " " ++ told_value_text v
 
+abbrev pub stated_texts : Row → List ℕ
+stated_texts r = flat_map (λ p. stated_text p (value_under p r.values)) told_anew
+
 unfoldable pub whole_text : Row → List ℕ
-whole_text r = text_of (path_text (path r)) r ++ flat_map (λ p. stated_text p (value_under p r.values)) told_anew
+whole_text r = text_of (path_text (path r)) r ++ stated_texts r
 
 -- `= PATH -> PATH`, `- ROW`, `+ ROW` and `~ PATH: CHANGE, ..`, with a mark in front of what breaks software; the PATH of a row is
 -- below the top, too
@@ -123,6 +126,3 @@ line_text (renamed old new) = codes "! = " ++ path_text (path old) ++ codes " ->
 line_text (gone r) = codes "! - " ++ line_of (path_text (path r)) r
 line_text (come r) = codes "+ " ++ whole_text r ++ newline
 line_text (changed p cs) = mark (list_any is_breaking cs) ++ codes "~ " ++ path_text p ++ codes ": " ++ listed (map change_text cs) ++ newline
-
-abbrev pub diff_text : Choice → (old new : List Row) → List ℕ
-diff_text c old new = flat_map line_text (lines c old new)

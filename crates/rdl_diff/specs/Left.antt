@@ -1,34 +1,24 @@
--- The lines of two maps that are still to come. Own.
-use Rattle.std.specs.Prelude.{◌≡◌, ◌+◌, ℕ, List, ◌++◌, length, map}
-use Rattle.std.specs.List.{filter, flat_map}
+-- The texts of two maps that are still to come.
+-- own: how far they are.
+use Rattle.std.specs.Prelude.{◌≡◌, ℕ, List, [], ◌∷◌, ◌++◌, length, map, flat_map, Option, Some, None}
 use Rattle.std.specs.Vec.Iter.{into_iter_items}
-use Rattle.rdl_diff.specs.ByPath.{row_under}
-use Rattle.rdl_diff.specs.DiffText.{Line, renamed, gone, is_kept, new_line, line_text}
-use Rattle.rdl_diff.specs.Paths.{path}
-use Rattle.rdl_diff.specs.declared.by_path.Lone.{Lone}
+use denote.Ref.{Bor}
+use Rattle.rdl_diff.specs.Seen.{entry_seen}
+use Rattle.rdl_diff.specs.Written.{text_in}
 use Rattle.rdl_diff.specs.declared.diff.Differences.{Differences}
-use Rattle.rdl_diff.specs.declared.rename.Rename.{Rename}
 
--- of a row that was renamed, and of one that is gone
-abbrev pub renamed_line : Rename → Line
-renamed_line x = renamed x.old.now x.new.now
+abbrev pub head_left : Option (Bor (List ℕ)) → List (List ℕ)
+head_left None = []
+head_left (Some text) = text.now ∷ []
 
-abbrev pub lone_line : Lone → Line
-lone_line x = gone x.row.now
+abbrev pub left : Differences → List (List ℕ)
+left d = head_left d.head ++ map (λ e. text_in d.format (entry_seen e)) (into_iter_items d.entries)
 
-abbrev pub all_left : Differences → List Line
-all_left d = map renamed_line (into_iter_items d.renames)
-    ++ map lone_line (into_iter_items d.gone)
-    ++ flat_map (λ r. new_line d.choice.now (row_under d.old_by_path (path r)) r) d.new_rows.now
+abbrev pub texts_left : Differences → ℕ
+texts_left d = length (left d)
 
-abbrev pub left : Differences → List Line
-left d = filter (is_kept d.choice.now.severity) (all_left d)
-
-abbrev pub rows_left : Differences → ℕ
-rows_left d = length (into_iter_items d.renames) + length (into_iter_items d.gone) + length d.new_rows.now
-
--- the next lines, of which there may be none, were appended to a text
+-- the next texts, of which there may be none, were appended to a text
 pub record Passes (before after : Differences) (old new : List ℕ) : Type 0 where
-  pub passed : List Line
+  pub passed : List (List ℕ)
   pub next : left before ≡ passed ++ left after
-  pub said : new ≡ old ++ flat_map line_text passed
+  pub said : new ≡ old ++ flat_map (λ t. t) passed

@@ -6,7 +6,7 @@ use Rattle.rdl_diff.specs.ByPath.{pairs, row_under}
 use Rattle.rdl_diff.specs.ByPlace.{all_standing}
 use Rattle.rdl_diff.specs.Paths.{path, last_by, row_at}
 use Rattle.rdl_diff.specs.Renames.{lone, new_path, renamed_to, renames, row_from, walked}
-use Rattle.rdl_diff.specs.declared.diff.Matched.{Matched}
+use Rattle.rdl_diff.specs.declared.matched.Matched.{Matched}
 use Rattle.rdl_diff.specs.declared.rename.Rename.{Rename}
 
 -- these were renamed, which may be none: the rows of the first map by the paths to which names of these lead

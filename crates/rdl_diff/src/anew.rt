@@ -3,7 +3,7 @@ ghost use Rattle.std.specs.Prelude.{◌≡◌, ◌++◌, codes, flat_map, string
 ghost use Rattle.std.specs.Option.{option_eq};
 ghost use Rattle.rdl_tree.specs.Properties.{row as row_of};
 ghost use Rattle.rdl_elab.specs.Reaches.{value_under};
-ghost use Rattle.rdl_diff.specs.DiffText.{stated_text, whole_text};
+ghost use Rattle.rdl_diff.specs.DiffText.{stated_text, stated_texts, whole_text};
 ghost use Rattle.rdl_diff.specs.Told.{same_value, told_value_text};
 
 use crate::told::{is_same_value, push_given};
@@ -41,7 +41,7 @@ fn push_property(text: &mut String, property: Property, value: &Value) -> Result
 }
 
 /// Appends a property and its value, if it has one that isn't built in.
-fn push_stated(
+fn push_stated_if(
     text: &mut String,
     property: Property,
     value: Option<&Value>,
@@ -59,16 +59,24 @@ fn push_all_stated(text: &mut String, properties: &[Property], row: &Row) -> Res
     ensures { OnOk result (string_bytes text.new ≡ string_bytes text.old ++ flat_map (λ p. stated_text p (value_under p row.now.values)) properties.now) }
 {
     'properties: for property in properties {
-        push_stated(text, *property, row.values.get(*property))?;
+        push_stated_if(text, *property, row.values.get(*property))?;
     }
     Ok(())
 }
 
+/// Appends what is told of a new row behind what `list` prints.
+#[tactic(auto, unfolding(crate::specs::DiffText::told_anew))]
+pub(crate) fn push_stated(text: &mut String, row: &Row) -> Result<(), AllocError>
+    ensures { OnOk result (string_bytes text.new ≡ string_bytes text.old ++ stated_texts row.now) }
+{
+    push_all_stated(text, &TOLD, row)
+}
+
 /// Appends a row with all that is told of a new one.
-#[tactic(auto, unfolding(crate::specs::DiffText::whole_text, crate::specs::DiffText::told_anew))]
+#[tactic(auto, unfolding(crate::specs::DiffText::whole_text))]
 pub(crate) fn push_whole(text: &mut String, row: &Row) -> Result<(), AllocError>
     ensures { OnOk result (string_bytes text.new ≡ string_bytes text.old ++ whole_text row.now) }
 {
     push_row_text(text, row, 1)?;
-    push_all_stated(text, &TOLD, row)
+    push_stated(text, row)
 }

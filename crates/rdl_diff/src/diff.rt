@@ -1,158 +1,169 @@
-//! The lines of all rows.
-ghost use Rattle.std.specs.Prelude.{◌≡◌, ◌++◌, flat_map, string_bytes, IfOk, OnOk};
-ghost use Rattle.std.specs.List.{filter};
-ghost use Rattle.rdl_diff.specs.ByPath.{row_under};
-ghost use Rattle.rdl_diff.specs.DiffText.{diff_text, is_kept, new_line, line_text};
-ghost use Rattle.rdl_diff.specs.Matched.{IsMatched, MatchesBeside};
-ghost use Rattle.rdl_diff.specs.Paths.{path};
+//! The texts that say how the rows of one map differ from those of another.
+ghost use Rattle.std.specs.Prelude.{◌≡◌, ◌++◌, map, string_bytes, IfOk, OnOk};
+ghost use Rattle.rdl_diff.specs.Left.{head_left};
+ghost use Rattle.rdl_diff.specs.Seen.{entry_seen, items_seen, lines_seen};
+ghost use Rattle.rdl_diff.specs.Written.{diff_text, entries_of, head_of, text_in, told_items};
+ghost use Rattle.rdl_diff.specs.declared.choice.Format.{Format};
 
-use crate::by_path::{ByPath, Lone, Paths, lone_rows, put_names_below};
-use crate::choice::Choice;
-use crate::line::{push_gone, push_new, push_renamed};
-use crate::rename::{Rename, renames};
+use crate::choice::{Choice, Format};
+use crate::entry::{Entry, Item, entries_of, items_of};
+use crate::json::push_json;
+use crate::line::Line;
+use crate::markdown::{push_markdown, table_head};
+use crate::matched::{lines, lines_of_own};
+use crate::moves::Moves;
+use crate::once::told_once;
+use crate::plain::push_plain;
 use rdl_elab::row::Row;
 use std::alloc::{AllocError, Global};
 use std::vec::IntoIter;
 
-/// Appends the line of a row of the second map, if it has one that is asked. What the list of names has doesn't matter.
-fn push_new_at<'a>(
+/// Appends an entry.
+fn push_entry(
     alloc: Global,
     text: &mut String,
-    names: &mut Vec<&'a str>,
-    choice: &Choice,
-    row: &'a Row,
-    old: &ByPath<'_>,
+    format: Format,
+    entry: &Entry<'_>,
 ) -> Result<(), AllocError>
-    ensures { OnOk result (string_bytes text.new ≡ string_bytes text.old ++ flat_map line_text (filter (is_kept choice.now.severity) (new_line choice.now (row_under old.now (path row.now)) row.now))) }
+    ensures { OnOk result (string_bytes text.new ≡ string_bytes text.old ++ text_in format (entry_seen entry.now)) }
 {
-    put_names_below(names, &row.names)?;
-    push_new(alloc, text, choice, row, old.get(names.as_slice()))
-}
-
-/// Which rows of the first map stand for which of the second.
-#[derive(Drop)]
-struct Matched<'a> {
-    /// Those that have another name.
-    renames: Vec<Rename<'a>>,
-    /// Those that the second map doesn't have.
-    gone: Vec<Lone<'a>>,
-    /// All, under the paths of the second map.
-    old_by_path: ByPath<'a>,
-}
-
-/// Matches the rows of two maps, of which these were renamed.
-fn match_beside<'a>(
-    alloc: Global,
-    renames: Vec<Rename<'a>>,
-    old: &'a [Row],
-    new_by_path: &ByPath<'_>,
-) -> Result<Matched<'a>, AllocError>
-    ensures { IfOk result (λ m. MatchesBeside renames.entry.items old.now (row_under new_by_path.now) m) }
-{
-    let renamed = ByPath::of_renames(alloc, renames.as_slice())?;
-    let paths = Paths::New(renamed);
-    let gone = lone_rows(alloc, old, &paths, new_by_path)?;
-    let old_by_path = ByPath::of(alloc, old, &paths)?;
-    Ok(Matched {
-        renames,
-        gone,
-        old_by_path,
-    })
-}
-
-/// Matches the rows of two maps.
-fn match_rows<'a>(alloc: Global, old: &'a [Row], new: &'a [Row]) -> Result<Matched<'a>, AllocError>
-    ensures { IfOk result (IsMatched old.now new.now) }
-{
-    let old_by_path = ByPath::of(alloc, old, &Paths::Own)?;
-    let new_by_path = ByPath::of(alloc, new, &Paths::Own)?;
-    let gone = lone_rows(alloc, old, &Paths::Own, &new_by_path)?;
-    let renames = renames(alloc, gone.as_slice(), new, &old_by_path)?;
-    if !renames.is_empty() {
-        return match_beside(alloc, renames, old, &new_by_path);
+    match format {
+        Format::Text => push_plain(text, entry),
+        Format::Markdown => push_markdown(alloc, text, entry),
+        Format::Json => push_json(alloc, text, entry),
     }
-    Ok(Matched {
-        renames,
-        gone,
-        old_by_path,
-    })
 }
 
-/// The lines that say how the rows of one map differ from those of another, a row at a time: `= PATH -> PATH` for each row that has
-/// another name, `- ROW` for each path that only the first map has, and then, in the order of the second, `+ ROW` for each path
-/// that only that has, and `~ PATH: WHAT OLD -> NEW, ..` for each path of both where something differs. Rows have the lines of
-/// `list`, but for the name of the top.
+/// What is told once, or of each.
+fn told_items<'a>(
+    alloc: Global,
+    moves: Moves,
+    items: Vec<Item<'a>>,
+) -> Result<Vec<Item<'a>>, AllocError>
+    ensures { IfOk result (λ told. items_seen told.items ≡ told_items moves (items_seen items.entry.items)) }
+{
+    match moves {
+        Moves::Own => told_once(alloc, items),
+        Moves::Each => Ok(items),
+    }
+}
+
+/// What is written of lines.
+fn entries_told<'a>(
+    alloc: Global,
+    moves: Moves,
+    lines: Vec<Line<'a>>,
+) -> Result<Vec<Entry<'a>>, AllocError>
+    ensures { IfOk result (λ es. map entry_seen es.items ≡ entries_of moves (lines_seen lines.entry.items)) }
+{
+    let items = items_of(alloc, lines)?;
+    let told = told_items(alloc, moves, items)?;
+    entries_of(alloc, told)
+}
+
+/// The head of a table that has these entries.
+#[tactic(auto, using(crate::proofs::Texts::some_head))]
+fn head_above(entries: &[Entry<'_>]) -> Option<&'static str>
+    ensures { head_left result ≡ head_of Format.Markdown (map entry_seen entries.now) }
+{
+    match entries {
+        [] => None,
+        [_, ..] => Some(table_head()),
+    }
+}
+
+/// The head of the table, where one is asked that has a row.
+fn head_of(format: Format, entries: &[Entry<'_>]) -> Option<&'static str>
+    ensures { head_left result ≡ head_of format (map entry_seen entries.now) }
+{
+    match format {
+        Format::Markdown => head_above(entries),
+        Format::Text | Format::Json => None,
+    }
+}
+
+/// The texts that say how the rows of one map differ from those of another, one after another, each with its line feed: those of rows
+/// that have another name, of those that are gone, and of those of the second map that are new or differ. What is the same of things
+/// beside each other is told once, unless each is asked, and a table has a head.
 #[derive(Drop)]
 pub struct Differences<'a> {
-    choice: &'a Choice,
-    /// What was renamed, what is gone and the rows of the second map, whose lines are still to come.
-    renames: IntoIter<Rename<'a>>,
-    gone: IntoIter<Lone<'a>>,
-    new_rows: &'a [Row],
-    old_by_path: ByPath<'a>,
-    /// Room for the names of a path.
-    names: Vec<&'a str>,
+    format: Format,
+    /// What is still to come.
+    head: Option<&'a str>,
+    entries: IntoIter<Entry<'a>>,
 }
 
 impl<'a> Differences<'a> {
     ghost use Rattle.std.specs.Prelude.{◌≡◌, ◌<◌, true, false, string_bytes, [], IfOk, OnOk};
-    ghost use Rattle.rdl_diff.specs.DiffText.{lines};
-    ghost use Rattle.rdl_diff.specs.Left.{Passes, left, rows_left};
+    ghost use Rattle.rdl_diff.specs.Left.{Passes, left, texts_left};
+    ghost use Rattle.rdl_diff.specs.SameRows.{HaveOwnPaths};
+    ghost use Rattle.rdl_diff.specs.Seen.{lines_seen};
+    ghost use Rattle.rdl_diff.specs.Written.{diff_texts, entries_of, texts_of};
 
-    /// All lines that are asked.
-    #[tactic(auto, using(crate::proofs::Matches::all_lines))]
-    pub fn new(
+    /// What is written of lines.
+    fn of_lines(
         alloc: Global,
-        choice: &'a Choice,
-        old: &'a [Row],
-        new: &'a [Row],
+        choice: &Choice,
+        lines: Vec<Line<'a>>,
     ) -> Result<Differences<'a>, AllocError>
-        ensures { IfOk result (λ d. left d ≡ lines choice.now old.now new.now) }
+        ensures { IfOk result (λ d. left d ≡ texts_of choice.now.format (entries_of choice.now.moves (lines_seen lines.entry.items))) }
     {
-        let matched = match_rows(alloc, old, new)?;
+        let entries = entries_told(alloc, choice.moves, lines)?;
         Ok(Differences {
-            choice,
-            renames: matched.renames.into_iter(),
-            gone: matched.gone.into_iter(),
-            new_rows: new,
-            old_by_path: matched.old_by_path,
-            names: Vec::new(alloc),
+            format: choice.format,
+            head: head_of(choice.format, entries.as_slice()),
+            entries: entries.into_iter(),
         })
     }
 
-    /// Appends the lines of the next row, and answers whether there was one. Without memory that row's lines are lost, and the
-    /// text may have a front of them.
-    #[tactic(auto, using(crate::proofs::Passing::next_renamed, crate::proofs::Passing::next_gone, crate::proofs::Passing::next_new, crate::proofs::Passing::no_next))]
+    /// All that is asked.
+    pub fn new(
+        alloc: Global,
+        choice: &Choice,
+        old: &'a [Row],
+        new: &'a [Row],
+    ) -> Result<Differences<'a>, AllocError>
+        ensures { IfOk result (λ d. left d ≡ diff_texts choice.now old.now new.now) }
+    {
+        let lines = lines(alloc, choice, old, new)?;
+        Differences::of_lines(alloc, choice, lines)
+    }
+
+    /// The same of rows of which no two of the first map have one path, as none of a map have that elaborates: in less time.
+    pub fn of_own(
+        alloc: Global,
+        choice: &Choice,
+        old: &'a [Row],
+        new: &'a [Row],
+    ) -> Result<Differences<'a>, AllocError>
+        requires { HaveOwnPaths old.now }
+        ensures { IfOk result (λ d. left d ≡ diff_texts choice.now old.now new.now) }
+    {
+        let lines = lines_of_own(alloc, choice, old, new)?;
+        Differences::of_lines(alloc, choice, lines)
+    }
+
+    /// Appends the next text, and answers whether there was one. Without memory that text is lost, and the text may have a front of
+    /// it.
+    #[tactic(auto, using(crate::proofs::Passing::next_head, crate::proofs::Passing::next_entry, crate::proofs::Passing::no_next))]
     pub fn push_next(&mut self, alloc: Global, text: &mut String) -> Result<bool, AllocError>
         ensures passes { OnOk result (Passes self.old self.new (string_bytes text.old) (string_bytes text.new)) }
-        ensures falls { IfOk result (λ has_next. has_next ≡ true → rows_left self.new < rows_left self.old) }
+        ensures falls { IfOk result (λ has_next. has_next ≡ true → texts_left self.new < texts_left self.old) }
         ensures ends { IfOk result (λ has_next. has_next ≡ false → left self.new ≡ []) }
     {
-        if let Some(rename) = self.renames.next() {
-            push_renamed(text, &rename)?;
+        if let Some(head) = self.head.take() {
+            text.push_str(head)?;
             return Ok(true);
         }
-        if let Some(lone) = self.gone.next() {
-            push_gone(text, lone.row)?;
-            return Ok(true);
-        }
-        if let [row, rest @ ..] = self.new_rows {
-            self.new_rows = rest;
-            push_new_at(
-                alloc,
-                text,
-                &mut self.names,
-                self.choice,
-                row,
-                &self.old_by_path,
-            )?;
+        if let Some(entry) = self.entries.next() {
+            push_entry(alloc, text, self.format, &entry)?;
             return Ok(true);
         }
         Ok(false)
     }
 }
 
-/// All lines that say how the rows of one map differ from those of another, of those that are asked.
+/// All of that text.
 #[tactic(auto, using(crate::proofs::Passing::passed_on, crate::proofs::Passing::passed_all))]
 pub fn diff_text(
     alloc: Global,
@@ -164,6 +175,6 @@ pub fn diff_text(
 {
     let mut differences = Differences::new(alloc, choice, old, new)?;
     let mut text = String::new(alloc);
-    'rows: while differences.push_next(alloc, &mut text)? {}
+    'texts: while differences.push_next(alloc, &mut text)? {}
     Ok(text)
 }

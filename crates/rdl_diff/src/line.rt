@@ -1,72 +1,61 @@
-//! The lines of one row.
-ghost use Rattle.std.specs.Prelude.{◌≡◌, ◌||◌, ◌++◌, [], ◌∷◌, flat_map, drop, map, string_bytes, OnOk, option_copied};
+//! The lines of rows.
+ghost use Rattle.std.specs.Prelude.{◌≡◌, ◌++◌, [], ◌∷◌, OnOk, drop, option_copied, map};
 ghost use Rattle.std.specs.List.{filter};
-ghost use Rattle.rdl_diff.specs.Changed.{changed_text, changed_text_if, is_asked};
-ghost use Rattle.rdl_diff.specs.DiffText.{changes, come, gone, changed_line, is_kept, listed, new_line, line_text};
-ghost use Rattle.rdl_diff.specs.Left.{renamed_line};
+ghost use Rattle.rdl_diff.specs.ByPath.{pair};
+ghost use Rattle.rdl_diff.specs.ByPlace.{standing};
+ghost use Rattle.rdl_diff.specs.Choices.{is_asked};
+ghost use Rattle.rdl_diff.specs.DiffText.{changed_line, changes, come, gone, is_kept, new_line, renamed};
 ghost use Rattle.rdl_diff.specs.Paths.{path};
+ghost use Rattle.rdl_diff.specs.Seen.{changes_seen, lines_seen};
 
-use crate::anew::push_whole;
-use crate::breaking::changed_front;
-use crate::change::change_texts;
+use crate::by_path::Lone;
+use crate::change::{Change, are_breaking, changes};
 use crate::choice::{Choice, Severity};
 use crate::rename::Rename;
 use rdl_elab::row::{Row, RowPath};
-use rdl_list::{push_path, push_row};
 use std::alloc::{AllocError, Global};
 
-/// Appends the line of a row that is gone.
-#[tactic(auto, unfolding(crate::specs::DiffText::line_text))]
-pub(crate) fn push_gone(text: &mut String, row: &Row) -> Result<(), AllocError>
-    ensures { OnOk result (string_bytes text.new ≡ string_bytes text.old ++ line_text (gone row.now)) }
-{
-    text.push_str("! - ")?;
-    push_row(text, row, 1)
+/// What is told of one row.
+#[derive(Drop)]
+pub(crate) enum Line<'a> {
+    /// It has another name.
+    Renamed(Rename<'a>),
+    /// Only the first map has it.
+    Gone(&'a Row),
+    /// Only the second map has it.
+    Come(&'a Row),
+    /// Both have its path, which is this one below the first name, and this differs.
+    Changed(&'a RowPath, Vec<Change<'a>>),
 }
 
-/// Appends texts with commas between them.
-fn push_listed(text: &mut String, texts: &[String]) -> Result<(), AllocError>
-    ensures { OnOk result (string_bytes text.new ≡ string_bytes text.old ++ listed (map string_bytes texts.now)) }
+fn push<'a>(lines: &mut Vec<Line<'a>>, line: Line<'a>) -> Result<(), AllocError>
+    ensures { OnOk result (lines_seen lines.new.items ≡ lines_seen lines.old.items ++ lines_seen (line.entry ∷ [])) }
 {
-    match texts {
-        [] => Ok(()),
-        [first, others @ ..] => {
-            text.push_str(first.as_str())?;
-            'others: for other in others {
-                write!(text, ", {other}")?;
-            }
-            Ok(())
-        }
-    }
+    lines.push(line)?;
+    Ok(())
 }
 
-fn push_changed(
-    text: &mut String,
-    is_breaking: bool,
-    names: &RowPath,
-    texts: &[String],
+/// Adds the lines of rows that have another name.
+pub(crate) fn push_renamed<'a>(
+    lines: &mut Vec<Line<'a>>,
+    renames: &[Rename<'a>],
 ) -> Result<(), AllocError>
-    ensures { OnOk result (string_bytes text.new ≡ string_bytes text.old ++ changed_text is_breaking (drop 1 names.now) (map string_bytes texts.now)) }
+    ensures { OnOk result (lines_seen lines.new.items ≡ lines_seen lines.old.items ++ map (λ x. renamed (pair x).0 (pair x).1) renames.now) }
 {
-    text.push_str(changed_front(is_breaking))?;
-    push_path(text, names, 1)?;
-    text.push_str(": ")?;
-    push_listed(text, texts)?;
-    text.push_str("\n")
+    'renames: for rename in renames {
+        push(lines, Line::Renamed(*rename))?;
+    }
+    Ok(())
 }
 
-fn push_changed_if(
-    text: &mut String,
-    is_breaking: bool,
-    names: &RowPath,
-    texts: &[String],
-) -> Result<(), AllocError>
-    ensures { OnOk result (string_bytes text.new ≡ string_bytes text.old ++ changed_text_if is_breaking (drop 1 names.now) (map string_bytes texts.now)) }
+/// Adds the lines of rows that are gone.
+pub(crate) fn push_gone<'a>(lines: &mut Vec<Line<'a>>, rows: &[Lone<'a>]) -> Result<(), AllocError>
+    ensures { OnOk result (lines_seen lines.new.items ≡ lines_seen lines.old.items ++ map (λ x. gone (standing x).0) rows.now) }
 {
-    match texts {
-        [] => Ok(()),
-        [_, ..] => push_changed(text, is_breaking, names, texts),
+    'rows: for lone in rows {
+        push(lines, Line::Gone(lone.row))?;
     }
+    Ok(())
 }
 
 /// Whether a line is asked that tells of what breaks software, or doesn't.
@@ -79,73 +68,63 @@ fn is_asked(severity: Severity, is_breaking: bool) -> bool
     }
 }
 
-/// Appends the line of a path that both maps have, if something differs there and is asked.
-#[tactic(auto, using(crate::proofs::Changed::changed_is))]
-fn push_changes(
-    alloc: Global,
-    text: &mut String,
-    choice: &Choice,
-    old: &Row,
-    new: &Row,
+/// Adds the line of a path that both maps have, where this differs, if something does and is asked.
+#[tactic(auto, using(crate::proofs::Lines::line_kept, crate::proofs::Lines::no_line_kept, crate::proofs::Lines::none_kept, crate::proofs::Lines::some_changed))]
+fn push_changed<'a>(
+    lines: &mut Vec<Line<'a>>,
+    severity: Severity,
+    names: &'a RowPath,
+    mut changes: Vec<Change<'a>>,
 ) -> Result<(), AllocError>
-    ensures { OnOk result (string_bytes text.new ≡ string_bytes text.old ++ flat_map line_text (filter (is_kept choice.now.severity) (changed_line (path new.now) (changes choice.now old.now new.now)))) }
+    ensures { OnOk result (lines_seen lines.new.items ≡ lines_seen lines.old.items ++ filter (is_kept severity) (changed_line (drop 1 names.now) (changes_seen changes.entry.items))) }
 {
-    let changes = change_texts(alloc, choice, old, new)?;
-    if !is_asked(choice.severity, changes.is_breaking) {
+    if changes.is_empty() || !is_asked(severity, are_breaking(changes.as_slice())) {
         return Ok(());
     }
-    push_changed_if(
-        text,
-        changes.is_breaking,
-        &new.names,
-        changes.texts.as_slice(),
-    )
+    changes.shrink_to_fit();
+    push(lines, Line::Changed(names, changes))
 }
 
-/// Appends the line of a new row.
-#[tactic(auto, unfolding(crate::specs::DiffText::line_text))]
-fn push_come(text: &mut String, row: &Row) -> Result<(), AllocError>
-    ensures { OnOk result (string_bytes text.new ≡ string_bytes text.old ++ line_text (come row.now)) }
+/// Adds the line of a path that both maps have, if something differs there and is asked.
+pub(crate) fn push_changes<'a>(
+    alloc: Global,
+    lines: &mut Vec<Line<'a>>,
+    choice: &Choice,
+    old: &'a Row,
+    new: &'a Row,
+) -> Result<(), AllocError>
+    ensures { OnOk result (lines_seen lines.new.items ≡ lines_seen lines.old.items ++ filter (is_kept choice.now.severity) (changed_line (path new.now) (changes choice.now old.now new.now))) }
 {
-    text.push_str("+ ")?;
-    push_whole(text, row)?;
-    text.push_str("\n")
+    let changes = changes(alloc, choice, old, new)?;
+    push_changed(lines, choice.severity, &new.names, changes)
 }
 
-/// Appends the line of a new row, if that is asked.
-fn push_come_if(text: &mut String, severity: Severity, row: &Row) -> Result<(), AllocError>
-    ensures { OnOk result (string_bytes text.new ≡ string_bytes text.old ++ flat_map line_text (filter (is_kept severity) (come row.now ∷ []))) }
+/// Adds the line of a new row, if that is asked.
+fn push_come<'a>(
+    lines: &mut Vec<Line<'a>>,
+    severity: Severity,
+    row: &'a Row,
+) -> Result<(), AllocError>
+    ensures { OnOk result (lines_seen lines.new.items ≡ lines_seen lines.old.items ++ filter (is_kept severity) (come row.now ∷ [])) }
 {
     match severity {
-        Severity::Any => push_come(text, row),
+        Severity::Any => push(lines, Line::Come(row)),
         Severity::Breaking => Ok(()),
     }
 }
 
-/// Appends the line of a row that has another name.
-#[tactic(auto, unfolding(crate::specs::DiffText::line_text))]
-pub(crate) fn push_renamed(text: &mut String, rename: &Rename<'_>) -> Result<(), AllocError>
-    ensures { OnOk result (string_bytes text.new ≡ string_bytes text.old ++ line_text (renamed_line rename.now)) }
-{
-    text.push_str("! = ")?;
-    push_path(text, &rename.old.names, 1)?;
-    text.push_str(" -> ")?;
-    push_path(text, &rename.new.names, 1)?;
-    text.push_str("\n")
-}
-
-/// Appends the line of a row of the second map, where the first has this at its path.
-pub(crate) fn push_new(
+/// Adds the line of a row of the second map, where the first has this at its path.
+pub(crate) fn push_new<'a>(
     alloc: Global,
-    text: &mut String,
+    lines: &mut Vec<Line<'a>>,
     choice: &Choice,
-    row: &Row,
-    found: Option<&Row>,
+    row: &'a Row,
+    found: Option<&'a Row>,
 ) -> Result<(), AllocError>
-    ensures { OnOk result (string_bytes text.new ≡ string_bytes text.old ++ flat_map line_text (filter (is_kept choice.now.severity) (new_line choice.now (option_copied found.entry) row.now))) }
+    ensures { OnOk result (lines_seen lines.new.items ≡ lines_seen lines.old.items ++ filter (is_kept choice.now.severity) (new_line choice.now (option_copied found.entry) row.now)) }
 {
     match found {
-        Some(old) => push_changes(alloc, text, choice, old, row),
-        None => push_come_if(text, choice.severity, row),
+        Some(old) => push_changes(alloc, lines, choice, old, row),
+        None => push_come(lines, choice.severity, row),
     }
 }

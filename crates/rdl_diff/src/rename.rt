@@ -19,7 +19,7 @@ pub(crate) struct Rename<'a> {
 }
 
 /// The names from this depth on.
-fn below<'a>(names: &'a [&'a str], depth: usize) -> &'a [&'a str]
+pub(crate) fn below<'a>(names: &'a [&'a str], depth: usize) -> &'a [&'a str]
     ensures { texts result.now ≡ drop depth (texts names.now) }
 {
     if depth > names.len() {
@@ -30,7 +30,7 @@ fn below<'a>(names: &'a [&'a str], depth: usize) -> &'a [&'a str]
 }
 
 /// Whether two lists have the same names from this depth on.
-fn are_same(depth: usize, a: &[&str], b: &[&str]) -> bool
+pub(crate) fn are_same(depth: usize, a: &[&str], b: &[&str]) -> bool
     ensures { result ≡ same_path (drop depth (texts a.now)) (drop depth (texts b.now)) }
 {
     below(a, depth) == below(b, depth)

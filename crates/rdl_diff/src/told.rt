@@ -114,7 +114,8 @@ fn push_number(text: &mut String, number: Option<Number>) -> Result<(), AllocErr
     }
 }
 
-fn push_sizes(text: &mut String, dims: &[Number]) -> Result<(), AllocError>
+/// Appends the sizes of an array.
+pub(crate) fn push_sizes(text: &mut String, dims: &[Number]) -> Result<(), AllocError>
     ensures { OnOk result (string_bytes text.new ≡ string_bytes text.old ++ sizes_text dims.now) }
 {
     match dims {

@@ -7,11 +7,11 @@ use Rattle.clap.specs.declared.error.kind.ErrorKind.TheVariants.{DisplayHelp, Di
 use Rattle.rdl_text.specs.Name.{IsName}
 use Rattle.rdl_tree.specs.Properties.{property_of}
 use Rattle.rdl_tree.specs.declared.property.Property.{Property}
-use Rattle.command_line.specs.ComparisonWords.{ArePropertiesOf, HasBadProperty, IsUnknownAmong, Means, Refuses, found, mistakes, names_in}
+use Rattle.command_line.specs.ComparisonWords.{ArePropertiesOf, HasBadFormat, HasBadProperty, IsUnknownAmong, Means, Refuses, found, mistakes, names_in}
 use Rattle.command_line.specs.Faults.{HasBadTop, HasFault, value}
 use Rattle.command_line.specs.declared.comparison.Comparison.{Comparison}
 use Rattle.command_line.specs.declared.comparison.ComparisonFault.{ComparisonFault}
-use Rattle.command_line.specs.declared.comparison.ComparisonFault.TheVariants.{Words, BadProperty}
+use Rattle.command_line.specs.declared.comparison.ComparisonFault.TheVariants.{Words, BadProperty, BadFormat}
 use Rattle.command_line.specs.declared.fault.WordsFault.{WordsFault}
 use Rattle.command_line.specs.declared.fault.WordsFault.TheVariants.{Help, Version, Refused, BadTop, Memory}
 use Rattle.rdl_diff.specs.declared.choice.Choice.{Choice}
@@ -41,9 +41,10 @@ no_bad_top : (o : Option Text) → IfSome o IsName → IsSomeAnd o (λ name. ¬ 
 no_bad_top None is h = h
 no_bad_top (Some name) is h = h is
 
-bad_names : (rows : List Row) (line : Comparison) → Means rows line → HasBadTop rows ⊎ HasBadProperty rows → ⊥
+bad_names : (rows : List Row) (line : Comparison) → Means rows line → HasBadTop rows ⊎ (HasBadProperty rows ⊎ HasBadFormat rows) → ⊥
 bad_names rows line m (inl top) = no_bad_top (value (codes "top") rows) (subst (λ o. IfSome o IsName) (sym m.top) m.top_is_name) top
-bad_names rows line m (inr property) = no_bad_property (value (codes "ignore") rows) line.ignored.items m.ignored property
+bad_names rows line m (inr (inl property)) = no_bad_property (value (codes "ignore") rows) line.ignored.items m.ignored property
+bad_names rows line m (inr (inr format)) = let no : Some line.format ≡ None = sym m.format ∙ format in cc
 
 -- they aren't refused
 pub taken_well : (ws : List Text) (line : Comparison) → Means (found ws) line → mistakes ws ≡ [] → AreRefused ws → ⊥
@@ -61,6 +62,7 @@ ends_exit (Words (Refused mistake)) n ends = inr ends
 ends_exit (Words BadTop) n ends = inr ends
 ends_exit (Words Memory) n ends = inl (inr (inr (inr ends)))
 ends_exit BadProperty n ends = inr ends
+ends_exit BadFormat n ends = inr ends
 
 no-help : (ws : List Text) → mistakes ws ≡ DisplayHelp ∷ [] → AreRefused ws → ⊥
 no-help ws e (inl are) = are.1 (one-kind are.0 DisplayHelp (mistakes ws) are.3 e)
@@ -77,6 +79,7 @@ refused_ends ws (Words (Refused mistake)) n has ends are = inl ends
 refused_ends ws (Words BadTop) n has ends are = inl ends
 refused_ends ws (Words Memory) n has ends are = inr ends
 refused_ends ws BadProperty n has ends are = inl ends
+refused_ends ws BadFormat n has ends are = inl ends
 
 no-five : (n : ℕ) → (n ≡ 0) ⊎ (n ≡ 4) → n ≡ 5 → ⊥
 no-five n (inl z) five = absurd (omega arith)
@@ -88,7 +91,8 @@ only_refused ws (Words (Version told)) n has ends five = absurd (no-five n ends 
 only_refused ws (Words (Refused mistake)) n has ends five = inl (kind_of mistake, has.0, has.1, has.2)
 only_refused ws (Words BadTop) n has ends five = inr (has.0, inl has.1)
 only_refused ws (Words Memory) n has ends five = absurd (no-five n (inr ends) five)
-only_refused ws BadProperty n has ends five = inr (has.0, inr has.1)
+only_refused ws BadProperty n has ends five = inr (has.0, inr (inl has.1))
+only_refused ws BadFormat n has ends five = inr (has.0, inr (inr has.1))
 
 pub version_ends : (ws : List Text) (fault : ComparisonFault) (n : ℕ) → Refuses ws fault → EndsRefused fault n → AskForVersion ws → (n ≡ 0) ⊎ (n ≡ 4)
 version_ends ws (Words (Help told)) n has ends asked = ends
@@ -97,6 +101,7 @@ version_ends ws (Words (Refused mistake)) n has ends asked = absurd (has.1 (one-
 version_ends ws (Words BadTop) n has ends asked = absurd (no-kind DisplayVersion (mistakes ws) has.0 asked)
 version_ends ws (Words Memory) n has ends asked = inr ends
 version_ends ws BadProperty n has ends asked = absurd (no-kind DisplayVersion (mistakes ws) has.0 asked)
+version_ends ws BadFormat n has ends asked = absurd (no-kind DisplayVersion (mistakes ws) has.0 asked)
 
 pub help_ends : (ws : List Text) (fault : ComparisonFault) (n : ℕ) → Refuses ws fault → EndsRefused fault n → AskForHelp ws → (n ≡ 0) ⊎ (n ≡ 4)
 help_ends ws (Words (Help told)) n has ends asked = ends
@@ -105,6 +110,7 @@ help_ends ws (Words (Refused mistake)) n has ends asked = absurd (has.0 (one-kin
 help_ends ws (Words BadTop) n has ends asked = absurd (no-kind DisplayHelp (mistakes ws) has.0 asked)
 help_ends ws (Words Memory) n has ends asked = inr ends
 help_ends ws BadProperty n has ends asked = absurd (no-kind DisplayHelp (mistakes ws) has.0 asked)
+help_ends ws BadFormat n has ends asked = absurd (no-kind DisplayHelp (mistakes ws) has.0 asked)
 
 -- ---- A line that is obeyed.
 

@@ -2,10 +2,10 @@
 use Rattle.std.specs.Prelude.{◌≡◌, ◌≢◌, ◌⊎◌, ℕ, List, [], ◌∷◌, Option, Result, Ok, Err}
 use Rattle.clap.specs.declared.error.kind.ErrorKind.{ErrorKind}
 use Rattle.clap.specs.declared.error.kind.ErrorKind.TheVariants.{DisplayHelp, DisplayVersion}
-use Rattle.command_line.specs.ComparisonWords.{HasBadProperty, found, mistakes}
+use Rattle.command_line.specs.ComparisonWords.{HasBadFormat, HasBadProperty, found, mistakes}
 use Rattle.command_line.specs.Faults.{HasBadTop}
 use Rattle.command_line.specs.declared.comparison.ComparisonFault.{ComparisonFault}
-use Rattle.command_line.specs.declared.comparison.ComparisonFault.TheVariants.{Words, BadProperty}
+use Rattle.command_line.specs.declared.comparison.ComparisonFault.TheVariants.{Words, BadProperty, BadFormat}
 use Rattle.command_line.specs.declared.fault.WordsFault.{WordsFault}
 use Rattle.command_line.specs.declared.fault.WordsFault.TheVariants as faults
 use Rattle.rdl_diff.specs.Endings.{status_code}
@@ -38,10 +38,11 @@ EndsWords (faults.Refused mistake) n = n ≡ 5
 EndsWords faults.BadTop n = n ≡ 5
 EndsWords faults.Memory n = n ≡ 4
 
--- also where a property that is to be ignored is none
+-- also where a property that is to be ignored or a format is none
 abbrev pub EndsRefused : ComparisonFault → ℕ → Type 0
 EndsRefused (Words fault) n = EndsWords fault n
 EndsRefused BadProperty n = n ≡ 5
+EndsRefused BadFormat n = n ≡ 5
 
 -- help is asked for, before anything is wrong
 abbrev pub AskForHelp : List (List ℕ) → Type 0
@@ -55,9 +56,9 @@ AskForVersion words = mistakes words ≡ DisplayVersion ∷ []
 abbrev pub AreMistaken : List (List ℕ) → Type 0
 AreMistaken words = (kind : ErrorKind) × (kind ≢ DisplayHelp) × (kind ≢ DisplayVersion) × (mistakes words ≡ kind ∷ [])
 
--- nothing else is wrong than the name of the top or of a property
+-- nothing else is wrong than the name of the top, of a property or of a format
 abbrev pub HaveBadNames : List (List ℕ) → Type 0
-HaveBadNames words = (mistakes words ≡ []) × (HasBadTop (found words) ⊎ HasBadProperty (found words))
+HaveBadNames words = (mistakes words ≡ []) × (HasBadTop (found words) ⊎ (HasBadProperty (found words) ⊎ HasBadFormat (found words)))
 
 abbrev pub AreRefused : List (List ℕ) → Type 0
 AreRefused words = AreMistaken words ⊎ HaveBadNames words

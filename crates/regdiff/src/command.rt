@@ -16,8 +16,8 @@ use std::io::{ErrorKind, Write};
 use std::rt::Files;
 use whole_files::shown::has_control;
 
-/// Says that the words are no command line, or that their top is no name, or a property none. Where that can't be said, the exit status still
-/// shows it.
+/// Says that the words are no command line, or that their top is no name, or a property or a format none. Where that can't be said, the exit
+/// status still shows it.
 fn report_words<E: Write>(what: &str, errors: &mut E) -> u8
     ensures { result ≡ 5 }
 {
@@ -107,7 +107,7 @@ fn refuse<M: Write, E: Write>(
     }
 }
 
-/// Answers words of which no line is made, as `refuse` does, and those that name a property that isn't there.
+/// Answers words of which no line is made, as `refuse` does, and those that name a property or a format that isn't there.
 fn refuse_line<M: Write, E: Write>(
     alloc: Global,
     words: &[&str],
@@ -120,6 +120,7 @@ fn refuse_line<M: Write, E: Write>(
     match fault {
         ComparisonFault::Words(fault) => refuse(alloc, words, fault, messages, errors),
         ComparisonFault::BadProperty => report_words("property name", errors),
+        ComparisonFault::BadFormat => report_words("format", errors),
     }
 }
 

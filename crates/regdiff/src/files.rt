@@ -1,10 +1,11 @@
 //! A comparison over files.
 ghost use Rattle.std.specs.Prelude.{◌≡◌, IfOk};
 ghost use Rattle.rdl_run.specs.Comparing.{Ran};
-ghost use Rattle.regdiff.specs.OfMaps.{IsStatusOf, choice_of, moves_of, severity_of};
+ghost use Rattle.regdiff.specs.OfMaps.{IsStatusOf, choice_of, format_of, moves_of, severity_of};
 
 use command_line::comparison::Comparison;
-use rdl_diff::choice::{Choice, Severity};
+use command_line::format;
+use rdl_diff::choice::{Choice, Format, Severity};
 use rdl_diff::moves::Moves;
 use rdl_diff::status::Status;
 use rdl_run::comparison::compare;
@@ -52,6 +53,17 @@ fn severity_of(breaking: bool) -> Severity
     }
 }
 
+/// How lines are written.
+fn format_of(format: format::Format) -> Format
+    ensures { result ≡ format_of format }
+{
+    match format {
+        format::Format::Text => Format::Text,
+        format::Format::Markdown => Format::Markdown,
+        format::Format::Json => Format::Json,
+    }
+}
+
 /// What is compared, and what is told of it.
 #[derive(Drop)]
 pub(crate) struct Asked {
@@ -74,6 +86,7 @@ pub(crate) fn asked_by(line: Comparison) -> Asked
             moves: moves_of(line.each),
             severity: severity_of(line.breaking),
             ignored: line.ignored,
+            format: format_of(line.format),
         },
     }
 }

@@ -11,4 +11,5 @@ returns c =
     let top = c.in_ok-arg.ensures.shape c.top.ensures.own ∙ ap₂ with_rule bare c.top.ensures.rule in
     let each = c.in_ok-arg-2.ensures.shape c.switch.ensures.own ∙ ap₂ with_rule top c.switch.ensures.rule in
     let breaking = c.in_ok-arg-3.ensures.shape c.switch-2.ensures.own ∙ ap₂ with_rule each c.switch-2.ensures.rule in
-    IfOk-weaker c.arg-4.result _ _ (λ command adds. adds.shape c.ignore.ensures.own ∙ ap₂ with_rule breaking c.ignore.ensures.rule) c.arg-4.ensures
+    let ignore = c.in_ok-arg-4.ensures.shape c.ignore.ensures.own ∙ ap₂ with_rule breaking c.ignore.ensures.rule in
+    IfOk-weaker c.arg-5.result _ _ (λ command adds. adds.shape c.format.ensures.own ∙ ap₂ with_rule ignore c.format.ensures.rule) c.arg-5.ensures

@@ -1,0 +1,7 @@
+use Rattle.std.proofs.Common.{◌≡◌, ◌++◌, flat_map, take, codes, string_bytes}
+use Rattle.rdl_diff.specs.DiffText.{change_text}
+use Rattle.rdl_diff.specs.Seen.{change_seen}
+use Rattle.rdl_diff.proofs.plain.push_others.Given as goal
+
+abbrev pub invariant-changes : goal.invariant-changes
+invariant-changes l = string_bytes l.text ≡ string_bytes l.initial.text ++ flat_map (λ c. codes ", " ++ change_text (change_seen c)) (take l.change-index l.changes)
