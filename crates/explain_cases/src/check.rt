@@ -59,7 +59,7 @@ fn tell(
         &mut messages,
         &mut explainer,
     );
-    explainer.finish();
+    let _is_odd = explainer.finish();
     match ran {
         Ok(_texts) => true,
         Err(_fault) => false,

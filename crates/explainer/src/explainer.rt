@@ -1,17 +1,20 @@
-//! What is told of refusals, as they come.
+//! What is told of lines and refusals, as they come.
 
 use crate::line::line_fault;
 use crate::opening::explain_opening;
+use crate::top::{Top, exchanged};
+use rdl_edit::map::Map;
 use rdl_explain::explain::{Names, explain_line};
 use rdl_explain_map::header::explain_header;
 use rdl_explain_map::view::{Met, Source};
 use rdl_run::observer::{Observer, Scene};
 use rdl_run::reply::LineRefusal;
 use rdl_text::name::Name;
+use rdl_warn::warn::is_odd;
 use std::alloc::{AllocError, Global};
 use std::io::Write;
 
-/// Of so many refusals each is explained, if it isn't asked to be quiet.
+/// Of so many refusals each is explained, if it isn't asked to be quiet, and of so many lines that exchange the top each has a warning.
 pub const MOST: usize = 20;
 
 /// The map as it was read.
@@ -23,18 +26,23 @@ enum Reading {
     Read(Option<Source>),
 }
 
-/// Writes why lines, maps, sessions and headers are refused. Where there is no memory for that, or the output takes nothing, it is
-/// left out.
+/// Writes why lines, maps, sessions and headers are refused, and which lines exchange the top. Where there is no memory for that, or
+/// the output takes nothing, it is left out.
 #[derive(Drop)]
 pub struct Explainer<'a, W> {
     alloc: Global,
     names: Names<'a>,
     top: Option<&'a str>,
     output: &'a mut W,
-    /// How many refusals are explained at most.
+    /// How many refusals, and how many exchanges of the top, are told at most.
     most: usize,
-    /// How many came.
+    /// How many refusals came.
     refusals: usize,
+    /// How many lines exchanged the top.
+    exchanges: usize,
+    last_top: Top,
+    /// Whether the map that the run leaves has a warning.
+    is_odd: bool,
     reading: Reading,
 }
 
@@ -54,6 +62,9 @@ impl<'a, W: Write> Explainer<'a, W> {
             output,
             most,
             refusals: 0,
+            exchanges: 0,
+            last_top: Top::new(),
+            is_odd: false,
             reading: Reading::Unread,
         }
     }
@@ -62,6 +73,11 @@ impl<'a, W: Write> Explainer<'a, W> {
     fn is_explained(&mut self) -> bool {
         self.refusals = self.refusals.saturating_add(1);
         self.refusals <= self.most
+    }
+
+    /// Whether lines may exchange the top, and that is told.
+    fn watches_top(&self) -> bool {
+        self.most > 0 && self.top.is_none()
     }
 
     fn read(&mut self, source: Option<&[u8]>) {
@@ -91,13 +107,20 @@ impl<'a, W: Write> Explainer<'a, W> {
         }
     }
 
-    /// Says how many refusals were not explained, if there were some and any was.
-    pub fn finish(&mut self) {
-        let more = self.refusals.saturating_sub(self.most);
+    /// Says how many more there are of a sort that isn't told to its end, if any of it was told.
+    fn count_more(&mut self, count: usize, what: &str) {
+        let more = count.saturating_sub(self.most);
         let script = self.names.script;
         if self.most > 0 && more > 0 {
-            let _ = writeln!(self.output, "{script}: {more} more lines are refused");
+            let _ = writeln!(self.output, "{script}: {more} more lines {what}");
         }
+    }
+
+    /// Says how many lines were not told of, if some were. Answers whether the map that the run leaves has a warning.
+    pub fn finish(&mut self) -> bool {
+        self.count_more(self.exchanges, "make another addrmap the top");
+        self.count_more(self.refusals, "are refused");
+        self.is_odd
     }
 }
 
@@ -109,6 +132,39 @@ fn read_source(alloc: Global, source: Option<&[u8]>) -> Option<Source> {
 }
 
 impl<W: Write> Observer for Explainer<'_, W> {
+    fn map_opened(&mut self, map: &Map) {
+        if self.watches_top() {
+            self.last_top.note(self.alloc, map.description());
+        }
+    }
+
+    fn line_done(&mut self, number: usize, line: &[u8], map: &Map) {
+        if !self.watches_top() {
+            return;
+        }
+        let description = map.description();
+        let Some(before) = self.last_top.follow(self.alloc, line, description) else {
+            return;
+        };
+        self.exchanges = self.exchanges.saturating_add(1);
+        if self.exchanges <= self.most {
+            let script = self.names.script;
+            let text = exchanged(
+                self.alloc,
+                script,
+                number,
+                line,
+                before.as_str(),
+                description,
+            );
+            self.tell(text);
+        }
+    }
+
+    fn map_left(&mut self, map: &Map) {
+        self.is_odd = self.most > 0 && is_odd(self.alloc, map.description());
+    }
+
     fn line_refused(
         &mut self,
         number: usize,
@@ -119,7 +175,9 @@ impl<W: Write> Observer for Explainer<'_, W> {
         if !self.is_explained() {
             return;
         }
-        self.read(scene.source);
+        if let LineRefusal::Edit(_) = refusal {
+            self.read(scene.source);
+        }
         let met = self.met(scene);
         let text = explain_line(
             self.alloc,

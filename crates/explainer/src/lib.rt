@@ -4,3 +4,4 @@
 pub mod explainer;
 mod line;
 mod opening;
+mod top;

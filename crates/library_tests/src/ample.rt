@@ -2,7 +2,7 @@
 use crate::assert_holds;
 use crate::layouts::elaborated;
 use crate::parse::{description, repeated};
-use rdl_diff::choice::{Choice, Severity};
+use rdl_diff::choice::{Choice, Format, Severity};
 use rdl_diff::diff_text;
 use rdl_diff::moves::Moves;
 use rdl_elab::row::Rows;
@@ -91,6 +91,7 @@ fn all(alloc: Global) -> Choice {
         moves: Moves::Own,
         severity: Severity::Any,
         ignored: Vec::new(alloc),
+        format: Format::Text,
     }
 }
 

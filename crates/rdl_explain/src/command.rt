@@ -117,22 +117,24 @@ fn note_usage(alloc: Global, telling: &mut Telling, usage: &Usage) -> Result<(),
     telling.note(note.as_str())
 }
 
+/// Tells which operand is of another form, and what cures that.
+fn note_misfit(telling: &mut Telling, misfit: &Misfit) -> Result<(), AllocError> {
+    write!(telling.what, ": {}", misfit.what)?;
+    if misfit.cure.is_empty() {
+        return Ok(());
+    }
+    telling.note(misfit.cure.as_str())
+}
+
 fn bad_operands(alloc: Global, line: &[u8]) -> Result<Telling, AllocError> {
     let what = command_fault(CommandFault::BadOperands);
     let verb = str::from_utf8(nth_word(line, 0).of(line)).unwrap_or("");
     let Some(usage) = usage_of(verb) else {
         return Telling::new(alloc, nth_word(line, 0), what);
     };
-    let Misfit {
-        mark,
-        what: meant,
-        cure,
-    } = misfit_in(alloc, line, usage)?;
-    let mut telling = Telling::new(alloc, mark, what)?;
-    write!(telling.what, ": {}", meant)?;
-    if !cure.is_empty() {
-        telling.note(cure.as_str())?;
-    }
+    let misfit = misfit_in(alloc, line, usage)?;
+    let mut telling = Telling::new(alloc, misfit.mark, what)?;
+    note_misfit(&mut telling, &misfit)?;
     note_usage(alloc, &mut telling, &usage)?;
     Ok(telling)
 }

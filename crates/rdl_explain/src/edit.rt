@@ -128,6 +128,39 @@ fn no_such_path(view: View<'_>, line: &[u8], edit: &Edit) -> Result<Telling, All
     Ok(telling)
 }
 
+/// The name of a body's definitions, or of its other items, that is nearest to a written one.
+fn nearest<'a>(
+    view: View<'_>,
+    body: &'a Body,
+    written: &str,
+    is_definition: bool,
+) -> Result<Option<&'a str>, AllocError> {
+    let mut nearest = Nearest::to(written);
+    for item in body.as_slice() {
+        if let Some((name, defines)) = name_of(item) {
+            if defines == is_definition {
+                nearest.see(view.alloc, name.as_str())?;
+            }
+        }
+    }
+    Ok(nearest.best())
+}
+
+/// Says that a name is one of the other sort.
+fn push_other_sort(note: &mut String, name: &str, is_definition: bool) -> Result<(), AllocError> {
+    if is_definition {
+        write!(note, "`{name}` is an instance there: write it without `$`")
+    } else {
+        write!(note, "`{name}` is a definition there: write `${name}`")
+    }
+}
+
+/// Asks whether a name is meant.
+fn push_meant(note: &mut String, name: &str, is_definition: bool) -> Result<(), AllocError> {
+    let mark = if is_definition { "$" } else { "" };
+    write!(note, "did you mean `{mark}{name}`?")
+}
+
 /// Notes which name of a body is meant by a segment.
 fn note_near(
     view: View<'_>,
@@ -136,30 +169,14 @@ fn note_near(
     segment: &Segment,
 ) -> Result<(), AllocError> {
     let (written, is_definition) = parts(segment);
-    let mut same = Nearest::to(written.as_str());
-    let mut other = Nearest::to(written.as_str());
-    for item in body.as_slice() {
-        if let Some((name, defines)) = name_of(item) {
-            if defines == is_definition {
-                same.see(view.alloc, name.as_str())?;
-            } else {
-                other.see(view.alloc, name.as_str())?;
-            }
-        }
-    }
+    let written = written.as_str();
+    let same = nearest(view, body, written, is_definition)?;
+    let other = nearest(view, body, written, !is_definition)?;
     let mut note = String::new(view.alloc);
-    let mark = if is_definition { "$" } else { "" };
-    match (same.best(), other.best()) {
-        (_, Some(name)) if name == written.as_str() => {
-            if is_definition {
-                write!(note, "`{name}` is an instance there: write it without `$`")?;
-            } else {
-                write!(note, "`{name}` is a definition there: write `${name}`")?;
-            }
-        }
-        (Some(name), _) => write!(note, "did you mean `{mark}{name}`?")?,
-        (None, Some(name)) if is_definition => write!(note, "did you mean `{name}`?")?,
-        (None, Some(name)) => write!(note, "did you mean `${name}`?")?,
+    match (same, other) {
+        (_, Some(name)) if name == written => push_other_sort(&mut note, name, is_definition)?,
+        (Some(name), _) => push_meant(&mut note, name, is_definition)?,
+        (None, Some(name)) => push_meant(&mut note, name, !is_definition)?,
         (None, None) => push_names(&mut note, body)?,
     }
     telling.note(note.as_str())
@@ -210,23 +227,41 @@ fn body_of<'a>(view: View<'a>, edit: &Edit) -> Option<(Address, &'a Body)> {
     Some((end.address, end.body?))
 }
 
-fn no_such_sibling(view: View<'_>, line: &[u8], edit: &Edit) -> Result<Telling, AllocError> {
-    let mark = nth_word(line, 3);
-    let mut telling = Telling::new(view.alloc, mark, "X2 no such sibling")?;
-    let Some(Place::Before(segment) | Place::After(segment)) = place_of(edit) else {
-        return Ok(telling);
-    };
-    let Some((address, body)) = body_of(view, edit) else {
-        return Ok(telling);
-    };
-    let path = view.path(address.as_slice());
+/// The sibling that an edit names.
+fn sibling_of(edit: &Edit) -> Option<&Segment> {
+    match place_of(edit)? {
+        Place::Before(segment) => Some(segment),
+        Place::After(segment) => Some(segment),
+        Place::First => None,
+        Place::Last => None,
+    }
+}
+
+/// Tells why the body at an address has no such sibling of what moves.
+fn note_sibling(
+    view: View<'_>,
+    telling: &mut Telling,
+    segment: &Segment,
+    around: &[usize],
+    body: &Body,
+) -> Result<(), AllocError> {
     if body.position(segment).is_some() {
         write!(telling.what, ": {} is what moves", SegmentText(segment))?;
-        telling.note("name another item of the same body")?;
-        return Ok(telling);
+        return telling.note("name another item of the same body");
     }
+    let path = view.path(around);
     write!(telling.what, ": {} isn't in {path}", SegmentText(segment))?;
-    note_near(view, &mut telling, body, segment)?;
+    note_near(view, telling, body, segment)
+}
+
+fn no_such_sibling(view: View<'_>, line: &[u8], edit: &Edit) -> Result<Telling, AllocError> {
+    let mut telling = Telling::new(view.alloc, nth_word(line, 3), "X2 no such sibling")?;
+    let Some(segment) = sibling_of(edit) else {
+        return Ok(telling);
+    };
+    if let Some((address, body)) = body_of(view, edit) {
+        note_sibling(view, &mut telling, segment, address.as_slice(), body)?;
+    }
     Ok(telling)
 }
 

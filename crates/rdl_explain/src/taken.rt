@@ -56,19 +56,26 @@ fn instance_in(body: &Body, name: &Name, at: &Address) -> Option<Address> {
 struct Clash<'a> {
     name: &'a Name,
     at: Address,
+    /// It is the item itself that gets the name.
+    is_own: bool,
 }
 
 fn clash_of<'e>(view: View<'_>, item: &'e Item, at: &Address) -> Option<Clash<'e>> {
     match item {
         Item::Define(name, _) => {
             let at = definition_of(view, name)?;
-            Some(Clash { name, at })
+            Some(Clash {
+                name,
+                at,
+                is_own: false,
+            })
         }
         Item::Instance(shell, _) => {
             let at = instance_in(view.body(at.as_slice())?, shell.name(), at)?;
             Some(Clash {
                 name: shell.name(),
                 at,
+                is_own: false,
             })
         }
         _ => None,
@@ -91,7 +98,12 @@ fn clash_of_renamed<'e>(view: View<'_>, name: &'e Name, at: &Address) -> Option<
         Item::Define(..) => definition_of(view, name)?,
         _ => instance_in(view.body(body)?, name, &holder)?,
     };
-    Some(Clash { name, at: found })
+    let is_own = found.as_slice() == at.as_slice();
+    Some(Clash {
+        name,
+        at: found,
+        is_own,
+    })
 }
 
 /// The last word of a line from this one on that is spelled so.
@@ -110,47 +122,58 @@ fn spelled(line: &[u8], from: Stretch, name: &str) -> Stretch {
     found
 }
 
+/// What a line takes that is taken, if it is found.
+fn clash_of_edit<'e>(view: View<'_>, edit: &'e Edit) -> Option<Clash<'e>> {
+    let at = view.description.find(edit.path()).ok()?;
+    match edit {
+        Edit::Rename(_, name) => clash_of_renamed(view, name, &at),
+        Edit::Add(_, _, added) => clash_of_added(view, added, &at),
+        _ => None,
+    }
+}
+
+/// Where the name stands that a line gives.
+fn names_of(line: &[u8], edit: &Edit) -> Stretch {
+    match edit {
+        Edit::Rename(..) => nth_word(line, 2),
+        Edit::Add(..) => words_from(line, 3),
+        _ => words_from(line, 2),
+    }
+}
+
+const TAKEN: &str = "X3 name taken";
+
+fn clash_telling(
+    view: View<'_>,
+    line: &[u8],
+    names: Stretch,
+    clash: &Clash<'_>,
+) -> Result<Telling, AllocError> {
+    let mark = spelled(line, names, clash.name.as_str());
+    let mut telling = Telling::new(view.alloc, mark, TAKEN)?;
+    let at = clash.at.as_slice();
+    let path = view.path(at);
+    if clash.is_own {
+        write!(telling.what, ": {path} has this name already")?;
+        telling.note("leave the line out")?;
+    } else {
+        write!(telling.what, ": {path} is there already")?;
+        view.note_standing(&mut telling, at, "take another name")?;
+    }
+    Ok(telling)
+}
+
 /// What is told of a line that gives a name which is taken.
 pub(crate) fn taken_telling(
     view: View<'_>,
     line: &[u8],
     edit: &Edit,
 ) -> Result<Telling, AllocError> {
-    let what = "X3 name taken";
-    let (mark, clash, is_own) = match edit {
-        Edit::Rename(path, name) => {
-            let Ok(at) = view.description.find(path) else {
-                return Telling::new(view.alloc, words_from(line, 2), what);
-            };
-            let clash = clash_of_renamed(view, name, &at);
-            let is_own = match &clash {
-                Some(clash) => clash.at.as_slice() == at.as_slice(),
-                None => false,
-            };
-            (nth_word(line, 2), clash, is_own)
-        }
-        Edit::Add(path, _, added) => {
-            let Ok(at) = view.description.find(path) else {
-                return Telling::new(view.alloc, words_from(line, 3), what);
-            };
-            (words_from(line, 3), clash_of_added(view, added, &at), false)
-        }
-        _ => (words_from(line, 2), None, false),
-    };
-    let Some(clash) = clash else {
-        let mut telling = Telling::new(view.alloc, mark, what)?;
-        telling.note("a name stands twice, or is one of another definition: take another name")?;
-        return Ok(telling);
-    };
-    let mark = spelled(line, mark, clash.name.as_str());
-    let mut telling = Telling::new(view.alloc, mark, what)?;
-    let path = view.path(clash.at.as_slice());
-    if is_own {
-        write!(telling.what, ": {path} has this name already")?;
-        telling.note("leave the line out")?;
-    } else {
-        write!(telling.what, ": {path} is there already")?;
-        view.note_standing(&mut telling, clash.at.as_slice(), "take another name")?;
+    let names = names_of(line, edit);
+    if let Some(clash) = clash_of_edit(view, edit) {
+        return clash_telling(view, line, names, &clash);
     }
+    let mut telling = Telling::new(view.alloc, names, TAKEN)?;
+    telling.note("a name stands twice, or is one of another definition: take another name")?;
     Ok(telling)
 }

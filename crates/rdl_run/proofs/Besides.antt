@@ -24,6 +24,7 @@ use Rattle.rdl_weave.specs.declared.fault.WeaveFault.{WeaveFault}
 use Rattle.rdl_weave.specs.declared.fault.WeaveFault.TheVariants.{Memory as WeaveMemory, TooLong as WeaveTooLong, NotWoven as WeaveNotWoven}
 use Rattle.rdl_run.specs.Answers.{History'}
 use Rattle.rdl_run.specs.Beside.{MakesBeside}
+use Rattle.rdl_run.specs.Closing.{Closes}
 use Rattle.rdl_run.specs.Edited.{EditsScript, IsEdited, IsLeft, IsMade, IsMissing, IsSame, IsTaken, KeepsUntouched, SpellsFirst, all_led_back, are_all_placed}
 use Rattle.rdl_run.specs.Known.{Gives}
 use Rattle.rdl_run.specs.Missing.{has_session}
@@ -133,11 +134,24 @@ module _ (whole : Bool) (source canonical : List ℕ) where
 
 -- ---- From the bytes that were read.
 
-pub edits_script_if : (asked : Bool) (first last : History') (script : List ℕ) (source : Option (List ℕ)) (refuses : Bool) (m m' : Option (List ℕ)) (a b : Counts) (r : Result Closing RunFault)
-    → ServesAll first last (lines_of script) m m' a b refuses → IfOk r (λ c. IsEdited asked last source (string_bytes c.rdl) c.edited)
-    → IfOk r (λ c. EditsScript asked first script source (string_bytes c.rdl) c.edited)
-edits_script_if asked first last script source refuses m m' a b (Ok closing) served is = record { last = last; replies = served.0; refuses = refuses; serves = served.1; is = is }
-edits_script_if asked first last script source refuses m m' a b (Err fault) served is = tt
+module _ (asked saved : Bool) (first last : History') (script : List ℕ) (source : Option (List ℕ)) (refuses : Bool) (m m' : Option (List ℕ)) (a b : Counts) where
+  -- how a run closes, whose map is the one of the edited text
+  abbrev pub ClosesAt : Closing → Type 0
+  ClosesAt c = Closes saved last refuses (string_bytes c.message) (string_bytes c.rdl) (string_bytes c.header) (string_bytes c.session) c.status
+
+  pub edits_script_if : (r : Result Closing RunFault) → ServesAll first last (lines_of script) m m' a b refuses → IfOk r ClosesAt → IfOk r (λ c. IsEdited asked last source (string_bytes c.rdl) c.edited)
+      → IfOk r (λ c. EditsScript asked first script source (string_bytes c.rdl) c.edited)
+  edits_script_if (Ok closing) served closes is = record {
+    last = last;
+    replies = served.0;
+    refuses = refuses;
+    serves = served.1;
+    now = closes.now;
+    at = closes.at;
+    spelled = sym closes.rdl_is;
+    is = is;
+  }
+  edits_script_if (Err fault) served closes is = tt
 
 module _ (options : Options) (map script : Option (List ℕ)) (map_bytes script_bytes : List ℕ) (of_map : Gives map map_bytes) (of_script : Gives script script_bytes) where
   -- what a closing has is so of what a run makes beside its output

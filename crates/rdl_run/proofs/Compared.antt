@@ -1,9 +1,11 @@
 -- From what is judged and written of two maps to what their comparison leaves.
-use Rattle.std.proofs.Common.{◌≡◌, ◌⊎◌, inl, inr, ℕ, List, Option, Result, Ok, Err, IfOk, IfErr, refl, flat_map, subst}
+use Rattle.std.proofs.Common.{◌≡◌, ◌⊎◌, inl, inr, ℕ, List, [], ◌∷◌, Option, Result, Ok, Err, IfOk, IfErr, refl, sym, subst}
 use Rattle.std.specs.Io.KnownBytes.{Appends}
 use Rattle.rdl_elab.specs.declared.row.Row.{Row}
-use Rattle.rdl_diff.specs.DiffText.{diff_text, lines}
+use Rattle.rdl_diff.specs.Written.{diff_text, diff_texts}
 use Rattle.rdl_diff.specs.Endings.{status_of}
+use Rattle.rdl_diff.specs.SameRows.{HaveOwnPaths}
+use Rattle.rdl_diff.proofs.RowPaths.{own-paths}
 use Rattle.rdl_diff.specs.declared.choice.Choice.{Choice}
 use Rattle.rdl_diff.specs.declared.status.Status.{Status}
 use Rattle.rdl_diff.specs.declared.status.Status.TheVariants.{MapRefused}
@@ -43,12 +45,12 @@ module _ (top : Option (List ℕ)) (c : Choice) (old new : Option (List ℕ)) (o
     unfolding compared
     is-compared = inr (inr (record { old_rows = old_rows; new_rows = new_rows; of_old = opens.0; of_new = opens.1; text = refl; status = refl }))
 
-    pub ran_lines : (r : Result Status RunFault) → IfOk r (WritesLines (lines c old_rows new_rows) a b) → IfOk r (Ran top c old new a b)
+    pub ran_lines : (r : Result Status RunFault) → IfOk r (WritesLines (diff_texts c old_rows new_rows) a b) → IfOk r (Ran top c old new a b)
     unfolding compared
     ran_lines (Ok status) w = ran compared status is-compared w.wrote w.answer
     ran_lines (Err fault) w = tt
 
-    stops : (fault : RunFault) → StopsLines (lines c old_rows new_rows) a b fault → Stopped top c old new a b fault
+    stops : (fault : RunFault) → StopsLines (diff_texts c old_rows new_rows) a b fault → Stopped top c old new a b fault
     unfolding compared
     stops Write w = front compared is-compared w
     stops Memory w = inr (record {
@@ -66,6 +68,13 @@ module _ (top : Option (List ℕ)) (c : Choice) (old new : Option (List ℕ)) (o
     stops TooLong w = absurd w
     stops Interrupted w = absurd w
 
-    pub stopped_lines : (r : Result Status RunFault) → IfErr r (StopsLines (lines c old_rows new_rows) a b) → IfErr r (Stopped top c old new a b)
+    pub stopped_lines : (r : Result Status RunFault) → IfErr r (StopsLines (diff_texts c old_rows new_rows) a b) → IfErr r (Stopped top c old new a b)
     stopped_lines (Ok status) w = tt
     stopped_lines (Err fault) w = stops fault w
+
+-- ---- Rows that are compared.
+
+-- no two have one path
+pub own_of : (top : Option (List ℕ)) (bytes : List ℕ) (rows : List Row) → StandsFor top bytes rows → HaveOwnPaths rows
+own_of top [] rows stands = subst HaveOwnPaths (sym stands) tt
+own_of top (b ∷ bytes) rows stands = own-paths stands.now.description stands.now.option rows stands.are

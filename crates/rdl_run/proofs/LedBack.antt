@@ -10,10 +10,12 @@ use Rattle.rdl_tree.specs.declared.patch.Patch.{Patch}
 use Rattle.rdl_origin.specs.Back.{all_gone_back, are_placed}
 use Rattle.rdl_origin.specs.Numbered.{origins_of, unnumbered}
 use Rattle.rdl_origin.specs.Once.{StandOnce}
+use Rattle.rdl_origin.specs.Order.{AreInOrder}
 use Rattle.rdl_origin.specs.Shape.{shape}
 use Rattle.rdl_origin.specs.Traces.{Traces}
 use Rattle.rdl_origin.specs.Values.{AreValues}
 use Rattle.rdl_origin.proofs.Once.{numbered-once, all-once}
+use Rattle.rdl_origin.proofs.Order.{numbered-in_order, all-in_order}
 use Rattle.rdl_origin.proofs.Shapes.{shape-numbered, all_placed, all_shape}
 use Rattle.rdl_origin.proofs.Values.{numbered-values, all-values}
 use Rattle.rdl_run.specs.Answers.{History'}
@@ -25,12 +27,14 @@ pub record AreOf (last : Items) (t : Traces) (d : Items) : Type 0 where
   pub values : AreValues 0 last t d
   pub nested : shape t ≡ unnumbered d
   pub once : StandOnce t
+  pub order : AreInOrder t
 
 begun : (last : Items) → count last ≤ 2 ^ 32 → AreOf last (origins_of last) last
 begun last h = record {
   values = numbered-values 0 last 0 last (omega (arith, h)) (λ m k. refl);
   nested = shape-numbered 0 last;
   once = numbered-once 0 last (omega (arith, h));
+  order = numbered-in_order 0 last (omega (arith, h));
 }
 
 further : (last : Items) (ps : List Patch) (t : Traces) (d : Items) → AreOf last t d → AllFit ps d → AreOf last (all_gone_back ps t) (image ps d)
@@ -38,6 +42,7 @@ further last ps t d a f = record {
   values = all-values 0 last ps d t a.values f;
   nested = all_shape ps d t a.nested f;
   once = all-once ps t a.once;
+  order = all-in_order ps t a.order;
 }
 
 pub record IsLed (states : List State) (last : Items) (steps : List (List Patch)) (t : Traces) : Type 0 where

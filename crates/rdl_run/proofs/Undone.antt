@@ -4,7 +4,7 @@ use Rattle.std.specs.Prelude.{slice_get}
 use Rattle.std.proofs.lemmas.Option.{slice_get_within}
 use Rattle.journal_core.specs.History.{IsAt, IsHistory, after_edit, after_undo}
 use Rattle.journal_core.proofs.Runs.{kept-edit, same_item}
-use Rattle.rdl_diff.specs.DiffText.{diff_text}
+use Rattle.rdl_diff.specs.Written.{diff_text}
 use Rattle.rdl_diff.specs.declared.choice.Choice.{Choice}
 use Rattle.rdl_diff.proofs.RowPaths.{own-paths}
 use Rattle.rdl_diff.proofs.SameLines.{itself-none}

@@ -1,11 +1,11 @@
 -- A comparison of two maps or sessions: from their bytes to the text that is written, and the status. Own.
-use Rattle.std.specs.Prelude.{◌≡◌, ◌⊎◌, ℕ, List, [], ◌∷◌, map, Option, Ok, codes}
+use Rattle.std.specs.Prelude.{◌≡◌, ◌⊎◌, ℕ, List, [], ◌∷◌, Option, Ok, codes}
 use Rattle.std.specs.Io.KnownBytes.{Appends}
 use Rattle.std.specs.List.{flat_map}
 use Rattle.rdl_edit.specs.Step.{State}
 use Rattle.rdl_elab.specs.Faults.{elaborated}
 use Rattle.rdl_elab.specs.declared.row.Row.{Row}
-use Rattle.rdl_diff.specs.DiffText.{Line, diff_text, line_text, lines}
+use Rattle.rdl_diff.specs.Written.{diff_text, diff_texts}
 use Rattle.rdl_run.specs.Known.{Gives, AppendsFront, AppendsSome}
 use Rattle.rdl_run.specs.OpenedRows.{OpensRows}
 use Rattle.rdl_run.specs.Opening.{RefusesToOpen}
@@ -92,7 +92,7 @@ pub record Fronts (top : Option (List ℕ)) (c : Choice) (old new : Option (List
   pub is_output : IsOutput top c (without_source old_bytes) (without_source new_bytes) out
   pub wrote : AppendsFront before after out.text
 
--- the first of the lines were, whole ones
+-- the first of the texts were, whole ones
 pub record FirstLines (top : Option (List ℕ)) (c : Choice) (old new : Option (List ℕ)) (before after : Option (List ℕ)) : Type 0 where
   pub old_bytes : List ℕ
   pub new_bytes : List ℕ
@@ -102,23 +102,23 @@ pub record FirstLines (top : Option (List ℕ)) (c : Choice) (old new : Option (
   pub new_rows : List Row
   pub of_old : StandsFor top (without_source old_bytes) old_rows
   pub of_new : StandsFor top (without_source new_bytes) new_rows
-  pub wrote : AppendsSome before after (map line_text (lines c old_rows new_rows))
+  pub wrote : AppendsSome before after (diff_texts c old_rows new_rows)
 
--- nothing is written before both maps are read and judged; want of memory may come between two lines, or before the first
+-- nothing is written before both maps are read and judged; want of memory may come between two texts, or before the first
 abbrev pub Stopped : (top : Option (List ℕ)) → Choice → (old new : Option (List ℕ)) → (before after : Option (List ℕ)) → RunFault → Type 0
 Stopped top c old new before after Write = Fronts top c old new before after
 Stopped top c old new before after Memory = (after ≡ before) ⊎ FirstLines top c old new before after
 Stopped top c old new before after fault = after ≡ before
 
--- ---- The lines of two maps.
+-- ---- The texts of the lines of two maps.
 
 -- all are written, and the status says whether there is one
-pub record WritesLines (ls : List Line) (before after : Option (List ℕ)) (status : Status) : Type 0 where
-  pub wrote : Appends before after (flat_map line_text ls)
-  pub answer : status ≡ status_of (flat_map line_text ls)
+pub record WritesLines (ts : List (List ℕ)) (before after : Option (List ℕ)) (status : Status) : Type 0 where
+  pub wrote : Appends before after (flat_map (λ t. t) ts)
+  pub answer : status ≡ status_of (flat_map (λ t. t) ts)
 
 -- a write that fails leaves a front of them; want of memory comes between two
-abbrev pub StopsLines : List Line → (before after : Option (List ℕ)) → RunFault → Type 0
-StopsLines ls before after Write = AppendsFront before after (flat_map line_text ls)
-StopsLines ls before after Memory = AppendsSome before after (map line_text ls)
-StopsLines ls before after fault = ⊥
+abbrev pub StopsLines : (texts : List (List ℕ)) → (before after : Option (List ℕ)) → RunFault → Type 0
+StopsLines ts before after Write = AppendsFront before after (flat_map (λ t. t) ts)
+StopsLines ts before after Memory = AppendsSome before after ts
+StopsLines ts before after fault = ⊥

@@ -96,10 +96,13 @@ abbrev pub IsEdited : (asked : Bool) → History' → (source : Option (List ℕ
 IsEdited false h source canonical edited = edited ≡ NotAsked
 IsEdited true h source canonical edited = IsAsked h source canonical edited
 
--- the same where the lines of a script lead
+-- the same where the lines of a script lead, with the canonical text of the map there
 pub record EditsScript (asked : Bool) (first : History') (script : List ℕ) (source : Option (List ℕ)) (canonical : List ℕ) (edited : Edited) : Type 0 where
   pub last : History'
   pub replies : List ℕ
   pub refuses : Bool
   pub serves : Serves first (lines_of script) replies refuses last
+  pub now : State
+  pub at : IsAt last now
+  pub spelled : map_text now.description ≡ canonical
   pub is : IsEdited asked last source canonical edited

@@ -1,7 +1,8 @@
 //! A whole comparison, from two inputs to one output.
 ghost use Rattle.std.specs.Prelude.{◌≡◌, ◌⊎◌, true, ℕ, List, Option, IfOk, IfErr, IsErrOf, OnOk, option_copied};
-ghost use Rattle.rdl_diff.specs.DiffText.{lines};
 ghost use Rattle.rdl_diff.specs.Left.{left};
+ghost use Rattle.rdl_diff.specs.SameRows.{HaveOwnPaths};
+ghost use Rattle.rdl_diff.specs.Written.{diff_texts};
 ghost use Rattle.rdl_run.specs.Comparing.{Ran, RefusesToCompare, StandsFor, Stopped, StopsLines, WritesLines};
 ghost use Rattle.rdl_run.specs.Judging.{AreJudged, IsRefusal, rows_in};
 ghost use Rattle.rdl_run.specs.Known.{IsOver, IsWithin};
@@ -116,7 +117,7 @@ fn write_all<W: Write>(
     Ok(status)
 }
 
-/// Writes the lines of the rows of two maps.
+/// Writes the lines of the rows of two maps, of which the first has no two of one path.
 fn write_lines<W: Write>(
     alloc: Global,
     choice: &Choice,
@@ -124,14 +125,15 @@ fn write_lines<W: Write>(
     new: &[Row],
     output: &mut CountedWriter<'_, W>,
 ) -> Result<Status, RunFault>
+    requires own { HaveOwnPaths old.now }
     requires asked { IsOpen output.old.counts }
-    ensures wrote { IfOk result (WritesLines (lines choice.now old.now new.now) (W.contents output.old.writer.now) (W.contents output.new.writer.now)) }
-    ensures stopped { IfErr result (StopsLines (lines choice.now old.now new.now) (W.contents output.old.writer.now) (W.contents output.new.writer.now)) }
+    ensures wrote { IfOk result (WritesLines (diff_texts choice.now old.now new.now) (W.contents output.old.writer.now) (W.contents output.new.writer.now)) }
+    ensures stopped { IfErr result (StopsLines (diff_texts choice.now old.now new.now) (W.contents output.old.writer.now) (W.contents output.new.writer.now)) }
     ensures ended { IsErrOf result RunFault.Write → IsGivenUp output.new.counts }
     ensures open { OnOk result (IsOpen output.new.counts) }
     ensures same_output { output.new.writer.ghost_name ≡ output.old.writer.ghost_name }
 {
-    let mut differences = Differences::new(alloc, choice, old, new)?;
+    let mut differences = Differences::of_own(alloc, choice, old, new)?;
     write_all(alloc, &mut differences, output)
 }
 

@@ -10,8 +10,18 @@ pub struct Scene<'a> {
     pub source: Option<&'a [u8]>,
 }
 
-/// Is told what a run refuses. Whatever an observer does, the run is the same: it writes the same messages and texts, and ends so.
+/// Is told what a run does and refuses. Whatever an observer does, the run is the same: it writes the same messages and texts, and
+/// ends so.
 pub trait Observer {
+    /// A map or session is opened, whose place has this map.
+    fn map_opened(&mut self, map: &Map);
+
+    /// The line of this number is done, and behind it the map is this one. Lines count from 1; one that lists is not told.
+    fn line_done(&mut self, number: usize, line: &[u8], map: &Map);
+
+    /// Each line is done or refused, and the run leaves this map.
+    fn map_left(&mut self, map: &Map);
+
     /// The line of this number is refused at this map. Lines count from 1.
     fn line_refused(&mut self, number: usize, line: &[u8], refusal: &LineRefusal, scene: Scene<'_>);
 
@@ -27,6 +37,12 @@ pub trait Observer {
 pub struct Silent;
 
 impl Observer for Silent {
+    fn map_opened(&mut self, _map: &Map) {}
+
+    fn line_done(&mut self, _number: usize, _line: &[u8], _map: &Map) {}
+
+    fn map_left(&mut self, _map: &Map) {}
+
     fn line_refused(
         &mut self,
         _number: usize,

@@ -120,6 +120,7 @@ fn run_script<E: Write, O: Observer>(
     ensures few { messages.new.counts.interrupts ≤ 1000 }
     ensures same_reference { messages.new.writer.ghost_name ≡ messages.old.writer.ghost_name }
 {
+    observer.map_opened(journal.map());
     let is_refused = serve_all(
         alloc,
         journal,
@@ -129,6 +130,7 @@ fn run_script<E: Write, O: Observer>(
         source_of(bytes),
         observer,
     )?;
+    observer.map_left(journal.map());
     Closing::of(alloc, journal, kept, is_refused, options, bytes, observer)
 }
 
@@ -312,7 +314,7 @@ fn texts_counted<M: Read, S: Read, E: Write, O: Observer>(
 }
 
 /// The same run, which hands out the texts of the map, its header and the session in place of writing them, and tells an observer what it
-/// refuses.
+/// does and refuses.
 pub fn run_observed<M: Read, S: Read, E: Write, O: Observer>(
     alloc: Global,
     map: &mut M,

@@ -186,7 +186,7 @@ fn split_line(bytes: &[u8]) -> (&[u8], Option<&[u8]>)
     }
 }
 
-/// Tells an observer of a line's refusal, if it is refused.
+/// Tells an observer that a line is done or refused.
 fn tell<O: Observer>(
     observer: &mut O,
     number: usize,
@@ -194,13 +194,14 @@ fn tell<O: Observer>(
     reply: &Reply,
     scene: Scene<'_>,
 ) {
-    if let Reply::Refused(refusal) = reply {
-        observer.line_refused(number, line, refusal, scene);
+    match reply {
+        Reply::Done => observer.line_done(number, line, scene.map),
+        Reply::Refused(refusal) => observer.line_refused(number, line, refusal, scene),
+        Reply::Listed(_) => {}
     }
 }
 
-/// Puts one line's message into the text, and answers whether the line is refused. The observer is told of that, and of the
-/// source.
+/// Puts one line's message into the text, and answers whether the line is refused. The observer is told of that.
 fn serve_line<O: Observer>(
     alloc: Global,
     journal: &mut Journal<Map>,

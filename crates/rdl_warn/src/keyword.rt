@@ -48,7 +48,8 @@ fn is_kept_for_later(name: &str) -> bool {
     )
 }
 
-/// Whether a name of this profile is a keyword of SystemRDL 2.0.
+/// Whether a name of this profile is a keyword of SystemRDL 2.0. Those are of small letters alone.
 pub(crate) fn is_keyword_elsewhere(name: &str) -> bool {
-    is_keyword(name) || is_kept_for_later(name)
+    let is_small = name.as_bytes().iter().all(|byte| byte.is_ascii_lowercase());
+    is_small && (is_keyword(name) || is_kept_for_later(name))
 }

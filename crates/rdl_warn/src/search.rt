@@ -32,6 +32,19 @@ pub(crate) struct Odd {
     pub(crate) oddity: Oddity,
 }
 
+/// The item of this number in the body at an address.
+#[derive(Clone, Copy)]
+struct Spot<'a> {
+    around: &'a Address,
+    number: usize,
+}
+
+impl Spot<'_> {
+    fn address(self) -> Option<Address> {
+        behind(self.around, self.number)
+    }
+}
+
 /// What is found, as far as it is told.
 #[derive(Drop)]
 pub(crate) struct Findings {
@@ -51,9 +64,12 @@ impl Findings {
         }
     }
 
-    fn add(&mut self, address: Address, oddity: Oddity) -> Result<(), AllocError> {
+    fn add(&mut self, spot: Spot<'_>, oddity: Oddity) -> Result<(), AllocError> {
         self.count = self.count.saturating_add(1);
-        if self.count <= self.most {
+        if self.count > self.most {
+            return Ok(());
+        }
+        if let Some(address) = spot.address() {
             self.told.push(Odd { address, oddity })?;
         }
         Ok(())
@@ -182,24 +198,30 @@ fn seek_shell(
     findings: &mut Findings,
     shell: &Shell,
     component: &Component,
-    at: &Address,
+    spot: Spot<'_>,
     widths: Widths,
 ) -> Result<(), AllocError> {
     if let Some(oddity) = misplaced(shell, component, widths) {
-        findings.add(at.copy(), oddity)?;
+        findings.add(spot, oddity)?;
     }
     let (Some(reset), Some(number)) = (shell.reset(), own_number(&component.body, "reset")) else {
         return Ok(());
     };
-    match behind(at, number) {
-        Some(address) => findings.add(address, Oddity::Covered(reset)),
+    match spot.address() {
+        Some(around) => {
+            let inside = Spot {
+                around: &around,
+                number,
+            };
+            findings.add(inside, Oddity::Covered(reset))
+        }
         None => Ok(()),
     }
 }
 
-fn seek_name(findings: &mut Findings, name: &str, at: &Address) -> Result<(), AllocError> {
+fn seek_name(findings: &mut Findings, name: &str, spot: Spot<'_>) -> Result<(), AllocError> {
     if is_keyword_elsewhere(name) {
-        findings.add(at.copy(), Oddity::Keyword)?;
+        findings.add(spot, Oddity::Keyword)?;
     }
     Ok(())
 }
@@ -208,30 +230,29 @@ fn seek_default(
     findings: &mut Findings,
     name: &str,
     rest: &[Item],
-    at: &Address,
+    spot: Spot<'_>,
 ) -> Result<(), AllocError> {
     if is_lost(name, rest) {
-        findings.add(at.copy(), Oddity::Lost)?;
+        findings.add(spot, Oddity::Lost)?;
     }
     Ok(())
 }
 
-/// Looks at the items of a body, before which these defaults stand, so many levels deep.
+/// Looks at the items of the body at an address, before which these defaults stand, so many levels deep.
 #[cycle(seek)]
 pub(crate) fn seek(
     findings: &mut Findings,
     body: &Body,
-    at: &Address,
+    around: &Address,
     before: Widths,
     levels: usize,
 ) -> Result<(), AllocError> {
     let mut widths = before;
     let items = body.as_slice();
     for (number, item) in items.iter().enumerate() {
-        if let Some(address) = behind(at, number) {
-            let rest = items.get(number..).unwrap_or(&[]);
-            seek_item(findings, item, rest, &address, widths, levels)?;
-        }
+        let rest = items.get(number..).unwrap_or(&[]);
+        let spot = Spot { around, number };
+        seek_item(findings, item, rest, spot, widths, levels)?;
         widths = widths.behind(item);
     }
     Ok(())
@@ -243,25 +264,31 @@ fn seek_item(
     findings: &mut Findings,
     item: &Item,
     rest: &[Item],
-    at: &Address,
+    spot: Spot<'_>,
     widths: Widths,
     levels: usize,
 ) -> Result<(), AllocError> {
     if levels == 0 {
         return Ok(());
     }
-    match item {
+    let body = match item {
         Item::Define(name, component) => {
-            seek_name(findings, name.as_str(), at)?;
-            seek(findings, &component.body, at, widths, levels - 1)
+            seek_name(findings, name.as_str(), spot)?;
+            &component.body
         }
         Item::Instance(shell, Of::Anonymous(component)) => {
-            seek_name(findings, shell.name().as_str(), at)?;
-            seek_shell(findings, shell, component, at, widths)?;
-            seek(findings, &component.body, at, widths, levels - 1)
+            seek_name(findings, shell.name().as_str(), spot)?;
+            seek_shell(findings, shell, component, spot, widths)?;
+            &component.body
         }
-        Item::Instance(shell, Of::Named(_)) => seek_name(findings, shell.name().as_str(), at),
-        Item::Default(name, _) => seek_default(findings, name.as_str(), rest, at),
-        _ => Ok(()),
+        Item::Instance(shell, Of::Named(_)) => {
+            return seek_name(findings, shell.name().as_str(), spot);
+        }
+        Item::Default(name, _) => return seek_default(findings, name.as_str(), rest, spot),
+        _ => return Ok(()),
+    };
+    match spot.address() {
+        Some(address) => seek(findings, body, &address, widths, levels - 1),
+        None => Ok(()),
     }
 }

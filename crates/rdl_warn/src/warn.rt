@@ -153,6 +153,31 @@ fn all_of<'a>(
     Ok(warnings)
 }
 
+/// Looks for what is odd of the items of a description, of which so many are told.
+fn findings_of(
+    alloc: Global,
+    description: &Description,
+    most: usize,
+) -> Result<Findings, AllocError> {
+    let mut findings = Findings::new(alloc, most);
+    seek(
+        &mut findings,
+        &description.items,
+        &Address::new(),
+        Widths::none(),
+        Address::MAX_LEN,
+    )?;
+    Ok(findings)
+}
+
+/// Whether a map has a warning, which its text tells.
+pub fn is_odd(alloc: Global, description: &Description) -> bool {
+    match findings_of(alloc, description, 0) {
+        Ok(findings) => findings.count > 0,
+        Err(_) => false,
+    }
+}
+
 /// Warnings of what is odd of the map that a text spells, which goes into a file of this name or nowhere.
 pub fn warnings(
     alloc: Global,
@@ -163,13 +188,6 @@ pub fn warnings(
     let Ok((description, places)) = parse(alloc, text) else {
         return Ok(String::new(alloc));
     };
-    let mut findings = Findings::new(alloc, MOST);
-    seek(
-        &mut findings,
-        &description.items,
-        &Address::new(),
-        Widths::none(),
-        Address::MAX_LEN,
-    )?;
+    let findings = findings_of(alloc, &description, MOST)?;
     all_of(alloc, file, outlet, text, &description, &places, &findings)
 }

@@ -156,8 +156,35 @@ fn explainer_of<'x, E: Write>(
     Explainer::new(alloc, names, top_of(&asked.options), most, errors)
 }
 
+/// What a run came to, and whether the map that it leaves has a warning.
+#[derive(Drop)]
+struct Told {
+    ran: Result<Texts, RunFault>,
+    is_odd: bool,
+}
+
 /// Runs the script of the second input on the map or session of the first. Why something is refused is told on `errors`, unless the run
 /// is to be quiet; the texts are the same whatever is told.
+fn run_told<F: Read, M: Write, E: Write>(
+    alloc: Global,
+    asked: &Asked,
+    map: &mut NotedReader<F>,
+    script: &mut NotedReader<F>,
+    messages: &mut NotedWriter<'_, M>,
+    errors: &mut E,
+) -> Told
+    ensures ran { IfOk result.ran (AreRun asked.entry.now.options (F.remaining map.old.reader) (F.remaining script.old.reader)
+        (M.contents messages.old.writer.now) (M.contents messages.new.writer.now)) }
+    ensures beside { IfOk result.ran (λ texts. MakesBeside asked.entry.now.options (F.remaining map.old.reader) (F.remaining script.old.reader)
+        texts.status (string_bytes texts.rdl) (string_bytes texts.session) texts.edited texts.saved) }
+{
+    let mut explainer = explainer_of(alloc, asked, errors);
+    let ran = run_observed(alloc, map, script, &asked.options, messages, &mut explainer);
+    let is_odd = explainer.finish();
+    Told { ran, is_odd }
+}
+
+/// The same, and then warns of what is odd of the map that the run leaves.
 fn run_explained<F: Read, M: Write, E: Write>(
     alloc: Global,
     asked: &Asked,
@@ -171,10 +198,12 @@ fn run_explained<F: Read, M: Write, E: Write>(
     ensures beside { IfOk result (λ texts. MakesBeside asked.entry.now.options (F.remaining map.old.reader) (F.remaining script.old.reader)
         texts.status (string_bytes texts.rdl) (string_bytes texts.session) texts.edited texts.saved) }
 {
-    let mut explainer = explainer_of(alloc, asked, errors);
-    let ran = run_observed(alloc, map, script, &asked.options, messages, &mut explainer);
-    explainer.finish();
-    ran
+    let Told { ran, is_odd } = run_told(alloc, asked, map, script, messages, errors);
+    let texts = ran?;
+    if is_odd {
+        warn(alloc, &asked.paths, &texts, errors);
+    }
+    Ok(texts)
 }
 
 /// The same, and at which file a run stopped. The texts are those of the run, each under its name.
@@ -309,12 +338,8 @@ fn is_filed(path: &str) -> bool {
     !is_standard_output(path) && path != "/dev/null"
 }
 
-/// Warns of what is odd of the map that a run leaves, at its place in the text that goes out, unless it is asked to be quiet.
-fn warn<E: Write>(alloc: Global, asked: &Asked, texts: &Texts, errors: &mut E) {
-    if asked.quiet {
-        return;
-    }
-    let paths = &asked.paths;
+/// Warns of what is odd of the map that a run leaves, at its place in the text that goes out.
+fn warn<E: Write>(alloc: Global, paths: &Paths, texts: &Texts, errors: &mut E) {
     let (path, text) = match (&paths.edited, &texts.edited) {
         (Some(path), Edited::Woven(text)) => (path.as_str(), text.as_str()),
         _ => (paths.rdl.as_str(), texts.rdl.as_str()),
@@ -343,7 +368,6 @@ fn run_in_memory<'a, R: Files<File = File> + Input, M: Write, E: Write>(
     let mut map = opened(rt, paths.map.as_str())?;
     let mut script = opened(rt, paths.script.as_str())?;
     let texts = run_inputs(alloc, asked, &mut map, &mut script, messages, errors)?;
-    warn(alloc, asked, &texts, errors);
     left_by(alloc, texts, asked)
 }
 

@@ -4,7 +4,7 @@ use Rattle.rdl_run.specs.Comparing.{StandsFor, Stopped}
 use Rattle.rdl_run.specs.Judging.{AreJudged}
 use Rattle.rdl_run.specs.Known.{AppendsFront, Gives, IsWithin}
 use Rattle.rdl_run.specs.Sources.{without_source}
-use Rattle.rdl_run.proofs.Compared.{ran_lines, stopped_lines, stopped_refused}
+use Rattle.rdl_run.proofs.Compared.{own_of, ran_lines, stopped_lines, stopped_refused}
 use Rattle.rdl_run.proofs.Stopped.{went}
 use Rattle.rdl_run.proofs.WholeInput.{within}
 use Rattle.rdl_run.proofs.comparison.compare_counted.Goals as goal
@@ -28,6 +28,12 @@ returns-in_err-write_counted-in-Refused-clause-stopped g c =
     let stopped = stopped_refused top m old new c.as_slice.result.now c.as_slice-2.result.now given_old given_new a b c.in-Refused.message.items refuses wrote in
     went c.from_residual-in_err-write_counted-in-Refused.result c.in_err-write_counted-in-Refused.field-0.0 (Stopped top m old new a b) c.from_residual-in_err-write_counted-in-Refused.ensures.1
     (subst (Stopped top m old new a b) (sym c.in_err-write_counted-in-Refused.ensures.fault) stopped)
+
+pub write_lines-requires-clause-own : goal.write_lines-requires-clause-own
+write_lines-requires-clause-own g c =
+    let top = option_copied c.args.top in
+    let opens = subst (AreJudged top (without_source c.as_slice.result.now) (without_source c.as_slice-2.result.now)) c.in-Accepted.is c.in_ok-message.ensures in
+    own_of top (without_source c.as_slice.result.now) c.rows_in.result.now (subst (StandsFor top (without_source c.as_slice.result.now)) (sym c.rows_in.ensures) opens.0)
 
 pub returns-clause-bound : goal.returns-clause-bound
 returns-clause-bound g c =

@@ -1,5 +1,5 @@
 use Rattle.std.proofs.Common.{◌≡◌, string_bytes}
-use Rattle.rdl_diff.specs.Left.{left, rows_left}
+use Rattle.rdl_diff.specs.Left.{left, texts_left}
 use Rattle.rdl_run.specs.Turns.{IsOpen}
 use Rattle.rdl_run.proofs.WrittenLines.{Waits}
 use Rattle.rdl_run.proofs.comparison.write_all.Given as goal
@@ -12,4 +12,4 @@ invariant-rows g l = record {
 }
 
 abbrev pub decreases-rows : goal.decreases-rows
-decreases-rows g l = rows_left l.differences
+decreases-rows g l = texts_left l.differences

@@ -26,5 +26,5 @@ returns-in_err-is_refused-clause-stops g c = λ whole.
 
 pub returns-clause-edited : goal.returns-clause-edited
 returns-clause-edited g c =
-    edits_script_if c.args.options.now.edited c.args.journal.now.history c.serve_all.new.journal.history c.args.script.now (source_of c.args.bytes.now) c.in_ok-is_refused.is_refused _ _ _ _ c.of.result
-    c.in_ok-is_refused.ensures.served c.of.ensures.edited
+    edits_script_if c.args.options.now.edited c.args.options.now.session c.args.journal.now.history c.serve_all.new.journal.history c.args.script.now (source_of c.args.bytes.now) c.in_ok-is_refused.is_refused _ _ _ _
+    c.of.result c.in_ok-is_refused.ensures.served c.of.ensures.closes c.of.ensures.edited
