@@ -18,6 +18,8 @@ mod layouts;
 mod list;
 pub mod map;
 #[cfg(test)]
+mod origins;
+#[cfg(test)]
 mod parse;
 #[cfg(test)]
 mod resumed;
@@ -25,6 +27,8 @@ mod resumed;
 mod roots;
 #[cfg(test)]
 mod rows;
+#[cfg(test)]
+mod statements;
 #[cfg(test)]
 mod text;
 #[cfg(test)]

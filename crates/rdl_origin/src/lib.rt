@@ -5,5 +5,3 @@ mod back;
 pub mod laws;
 mod numbered;
 pub mod origin;
-#[cfg(test)]
-mod tests;

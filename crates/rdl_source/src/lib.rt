@@ -6,6 +6,4 @@ pub mod laws;
 mod lay;
 pub mod span;
 pub mod statement;
-#[cfg(test)]
-mod tests;
 mod walk;

@@ -18,8 +18,6 @@ mod spell;
 mod spelled;
 mod standing;
 mod stands;
-#[cfg(test)]
-mod tests;
 mod turn;
 mod unit;
 mod untouched;

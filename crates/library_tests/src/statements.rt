@@ -1,8 +1,10 @@
-use crate::span::Span;
-use crate::statement::{Statement, Statements};
+//! The statements of texts, with the blanks and comments around them.
+
+use crate::assert_same;
 use rdl_parse::parse::parse;
+use rdl_source::span::Span;
+use rdl_source::statement::{Statement, Statements};
 use std::alloc::{AllocError, Global};
-use std::process::Abort;
 use std::test::Fail;
 
 fn push_span(into: &mut String, text: &str, span: Span) -> Result<(), AllocError> {
@@ -172,16 +174,14 @@ const SHOWN: [(&str, &str); 24] = [
     ),
 ];
 
-fn assert_shown(rt: &impl Abort, alloc: Global, text: &str, want: &str) -> Result<(), Fail> {
-    let found = shown(alloc, text)?;
-    assert!(rt; found.as_str() == want, "{found} for {want}");
-    Ok(())
+fn shown_texts() -> &'static [(&'static str, &'static str)] {
+    &SHOWN
 }
 
 #[test]
 fn shows_each_part(rt: HostRuntime) -> Result<(), Fail> {
-    for (text, want) in &SHOWN {
-        assert_shown(&rt, rt.alloc(), text, want)?;
+    for (text, wanted) in shown_texts() {
+        assert_same(&rt, shown(rt.alloc(), text)?.as_str(), wanted, text);
     }
     Ok(())
 }

@@ -1,5 +1,5 @@
 use Rattle.std.proofs.Common.{◌+◌, ◌*◌}
-use Rattle.rdl_source.proofs.tests.+shown.Given as goal
+use Rattle.library_tests.proofs.statements.+shown.Given as goal
 
 abbrev pub decreases-push_statement : goal.decreases-push_statement
 decreases-push_statement l = 2 * l.levels
