@@ -27,6 +27,7 @@ pub mod Insides
 pub mod PlacedParts
 pub mod Bare
 pub mod InstanceLists
+pub mod SameValues
 pub mod Making
 pub mod Goings
 pub mod Writing

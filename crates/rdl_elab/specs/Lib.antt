@@ -15,6 +15,7 @@ pub mod Reaches
 pub mod Onward
 pub mod Access
 pub mod InstanceValues
+pub mod SameValues
 pub mod Kept
 pub mod HeldAddress
 pub mod HeldPath

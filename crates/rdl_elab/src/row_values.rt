@@ -5,6 +5,7 @@ ghost use Rattle.rdl_tree.specs.Properties.{on};
 ghost use Rattle.rdl_tree.specs.declared.property.Property.TheVariants.{Reset};
 ghost use Rattle.rdl_elab.specs.Access.{access_of};
 ghost use Rattle.rdl_elab.specs.Reaches.{value_under};
+ghost use Rattle.rdl_elab.specs.SameValues.{HaveSameValues};
 ghost use Rattle.rdl_elab.specs.Shown.{valued};
 
 use crate::row::PropertyValue;
@@ -22,6 +23,43 @@ use std::rc::Rc;
 pub(crate) struct Access {
     pub is_read_only: bool,
     pub is_write_only: bool,
+}
+
+/// Whether the values are known to be the same.
+fn is_same_value(value: &Value, other: &Value) -> bool
+    ensures { result ≡ true → value.now ≡ other.now }
+{
+    match (value, other) {
+        (Value::Number(value), Value::Number(other)) => *value == *other,
+        (Value::Text(value), Value::Text(other)) => value.as_str() == other.as_str(),
+        (Value::Bool(value), Value::Bool(other)) => *value == *other,
+        (Value::Word(value), Value::Word(other)) => *value == *other,
+        _ => false,
+    }
+}
+
+/// Whether both are known to give the same property the same value.
+fn is_same_property_value(given: &PropertyValue, other: &PropertyValue) -> bool
+    ensures { result ≡ true → given.now ≡ other.now }
+{
+    given.property == other.property && is_same_value(&given.value, &other.value)
+}
+
+/// Whether both lists are known to be the same.
+fn are_same_values(values: &[PropertyValue], others: &[PropertyValue]) -> bool
+    ensures { result ≡ true → values.now ≡ others.now }
+{
+    let mut rest = others;
+    for value in values {
+        let Some((other, behind)) = rest.split_first() else {
+            return false;
+        };
+        if !is_same_property_value(value, other) {
+            return false;
+        }
+        rest = behind;
+    }
+    rest.is_empty()
 }
 
 /// How software accesses a component with this value of `sw`.
@@ -75,11 +113,12 @@ impl Model for ComponentValues {
 }
 
 impl ComponentValues {
-    ghost use Rattle.std.specs.Prelude.{◌≡◌, Some, IfOk, option_copied};
+    ghost use Rattle.std.specs.Prelude.{◌≡◌, Some, true, IfOk, option_copied};
     ghost use Rattle.rdl_tree.specs.declared.property.Property.{Property};
     ghost use Rattle.rdl_tree.specs.declared.property.Property.TheVariants.{Sw};
     ghost use Rattle.rdl_elab.specs.Access.{access_of};
     ghost use Rattle.rdl_elab.specs.Reaches.{value_under};
+    ghost use Rattle.rdl_elab.specs.SameValues.{HaveSameValues};
     ghost use Rattle.rdl_elab.specs.StatedValues.{over, under_either};
 
     /// Those of a component that states none.
@@ -135,6 +174,15 @@ impl ComponentValues {
     {
         let (stated, built_ins) = self.parts();
         under_either(property, stated, built_ins)
+    }
+
+    /// Whether both are known to have the same value of each property.
+    fn are_same(&self, other: &ComponentValues) -> bool
+        ensures { result ≡ true → HaveSameValues self.now other.now }
+    {
+        let (stated, built_ins) = self.parts();
+        let (other_stated, other_built_ins) = other.parts();
+        are_same_values(stated, other_stated) && are_same_values(built_ins, other_built_ins)
     }
 
     /// How software accesses a component with these values.
@@ -242,9 +290,11 @@ pub(crate) enum Instead {
 }
 
 impl Instead {
-    ghost use Rattle.std.specs.Prelude.{◌≡◌, option_copied};
+    ghost use Rattle.std.specs.Prelude.{◌≡◌, List, true, option_copied};
     ghost use Rattle.rdl_elab.specs.InstanceValues.{with_instance};
     ghost use Rattle.rdl_elab.specs.Reaches.{value_under};
+    ghost use Rattle.rdl_elab.specs.SameValues.{HaveSameValues};
+    ghost use Rattle.rdl_elab.specs.declared.row.PropertyValue.{PropertyValue};
 
     /// The value of a property of the instance, whose component has these values.
     fn get<'v>(&'v self, own: &'v ComponentValues, property: Property) -> Option<&'v Value>
@@ -260,6 +310,20 @@ impl Instead {
                 let first = value_under(property, values.as_slice());
                 before_own(*kind, property, first, own)
             }
+        }
+    }
+
+    /// Whether both are known to change the values of a component in the same way. What is assigned isn't compared.
+    fn is_same(&self, other: &Instead) -> bool
+        ensures { result ≡ true → (own others : List PropertyValue) → HaveSameValues own others → HaveSameValues (with_instance self.now own) (with_instance other.now others) }
+    {
+        match (self, other) {
+            (Instead::Own, Instead::Own) => true,
+            (Instead::Nothing(kind), Instead::Nothing(other)) => *kind == *other,
+            (Instead::Reset(kind, value), Instead::Reset(other, second)) => {
+                *kind == *other && is_same_value(value, second)
+            }
+            _ => false,
         }
     }
 }
@@ -284,10 +348,11 @@ impl Model for RowValues {
 }
 
 impl RowValues {
-    ghost use Rattle.std.specs.Prelude.{◌≡◌, [], Some, IfOk, option_copied};
+    ghost use Rattle.std.specs.Prelude.{◌≡◌, [], Some, true, IfOk, option_copied};
     ghost use Rattle.rdl_elab.specs.Layouts.{number_in};
     ghost use Rattle.rdl_elab.specs.InstanceValues.{instance_values};
     ghost use Rattle.rdl_elab.specs.Reaches.{value_under, values_along};
+    ghost use Rattle.rdl_elab.specs.SameValues.{HaveSameValues};
 
     pub fn from_vec(alloc: Global, items: Vec<PropertyValue>) -> Result<RowValues, AllocError>
         ensures { IfOk result (λ values. values ≡ items.items) }
@@ -341,6 +406,14 @@ impl RowValues {
         ensures { option_copied result ≡ value_under property self.now }
     {
         self.instance.get(&self.own, property)
+    }
+
+    /// Whether both are known to have the same value of each property. It may say no of rows that have, where something is assigned to
+    /// one of them from outside.
+    pub fn are_same(&self, other: &RowValues) -> bool
+        ensures { result ≡ true → HaveSameValues self.now other.now }
+    {
+        self.instance.is_same(&other.instance) && self.own.are_same(&other.own)
     }
 
     /// The value of the property, if that is a number.
