@@ -22,3 +22,4 @@ pub mod Texts
 pub mod JsonLines
 pub mod Spans
 pub mod Paired
+pub mod Unchanged

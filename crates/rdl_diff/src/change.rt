@@ -1,7 +1,7 @@
 //! What differs between two rows of a path.
 ghost use Rattle.std.specs.Prelude.{◌≡◌, ◌++◌, bytes_eq, flat_map, IfOk, OnOk};
 ghost use Rattle.std.specs.List.{list_any};
-ghost use Rattle.rdl_tree.specs.Properties.{row as row_of};
+ghost use Rattle.rdl_tree.specs.Properties.{properties, row as row_of};
 ghost use Rattle.rdl_diff.specs.Choices.{is_among};
 ghost use Rattle.rdl_diff.specs.DiffText.{base_change, change, changes, is_breaking, told_change};
 ghost use Rattle.rdl_diff.specs.Seen.{change_seen, changes_seen};
@@ -136,6 +136,22 @@ fn push_values<'a>(
     Ok(())
 }
 
+/// Adds the values that differ of all properties, but for those that are ignored.
+#[tactic(auto, using(crate::proofs::Unchanged::nothing_told))]
+fn push_all_values<'a>(
+    changes: &mut Vec<Change<'a>>,
+    ignored: &[Property],
+    old: &'a Row,
+    new: &'a Row,
+) -> Result<(), AllocError>
+    ensures { OnOk result (changes_seen changes.new.items ≡ changes_seen changes.old.items ++ flat_map (λ p. told_change ignored.now old.now new.now (What.Value p)) properties) }
+{
+    if old.values.are_same(&new.values) {
+        return Ok(());
+    }
+    push_values(changes, ignored, &Property::ALL, old, new)
+}
+
 /// All that differs and is told.
 #[tactic(auto, unfolding(crate::specs::Told::whats))]
 pub(crate) fn changes<'a>(
@@ -154,7 +170,6 @@ pub(crate) fn changes<'a>(
     push_change(&mut changes, What::Dims, old, new)?;
     push_change(&mut changes, What::Stride, old, new)?;
     push_change(&mut changes, What::Bits, old, new)?;
-    let ignored = choice.ignored.as_slice();
-    push_values(&mut changes, ignored, &Property::ALL, old, new)?;
+    push_all_values(&mut changes, choice.ignored.as_slice(), old, new)?;
     Ok(changes)
 }

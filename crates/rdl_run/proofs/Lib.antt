@@ -5,6 +5,7 @@ pub mod Histories
 pub mod Leading
 pub mod LedBack
 pub mod Opened
+pub mod MapRows
 pub mod OpenedOnce
 pub mod Openings
 pub mod Pieces

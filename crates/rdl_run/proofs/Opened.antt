@@ -21,7 +21,7 @@ use Rattle.rdl_session.specs.declared.fault.SessionReadFault.{SessionReadFault}
 use Rattle.rdl_session.specs.declared.fault.SessionReadFault.TheVariants as reading
 use Rattle.rdl_run.specs.Answers.{History'}
 use Rattle.rdl_run.specs.Messages.{session_line, unread_text, unresumed_text}
-use Rattle.rdl_run.specs.Opening.{Opens, OpensHistory, EachElaborates, one_map}
+use Rattle.rdl_run.specs.Opening.{Opens, OpensHistory, EachElaborates, RefusedMap, RefusedText, one_map}
 use Rattle.rdl_run.specs.OpeningFaults.{IfRefusedToOpen}
 use Rattle.rdl_run.specs.OwnSteps.{OpensKept}
 use Rattle.rdl_run.specs.Readings.{ReadsMap}
@@ -39,6 +39,12 @@ opened option name bytes d places m read is whole same =
       whole = whole;
       same_option = same;
     })
+
+-- the message of a text that isn't read is one of a map that isn't opened
+pub only_text : (option : Option (List ℕ)) (bytes : List ℕ) (r : OpenFault) → IfRefusedToOpen r (RefusedText bytes)
+    → IfRefusedToOpen r (λ text. RefusedText bytes text ⊎ RefusedMap option bytes text)
+only_text option bytes (opens.Refused message) h = inl h
+only_text option bytes opens.Memory h = tt
 
 -- ---- A session that is refused.
 

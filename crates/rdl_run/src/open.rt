@@ -10,6 +10,7 @@ ghost use Rattle.rdl_edit.specs.declared.resume_fault.ResumeFault.TheVariants as
 ghost use Rattle.rdl_run.specs.Messages.{session_line, unread_text, unresumed_text};
 ghost use Rattle.rdl_run.specs.Opening.{text_line, fault_line, Opens, OpensHistory, EachElaborates, RefusedText, RefusedMap, RefusesToOpen};
 ghost use Rattle.rdl_run.specs.OwnSteps.{OpensKept};
+ghost use Rattle.rdl_run.specs.Readings.{ReadsMap};
 ghost use Rattle.rdl_run.specs.Resumed.{ResumesFrom};
 ghost use Rattle.rdl_run.specs.Sessions.{is_session, ReadsSession, IsNoSession, FaultySession, OpensSession, RefusedSession};
 ghost use Rattle.rdl_run.specs.OpeningFaults.{IfRefusedToOpen};
@@ -64,7 +65,11 @@ fn text_line(alloc: Global, bytes: &[u8], fault: ParseFault) -> Result<String, A
     )
 }
 
-fn fault_line(alloc: Global, places: &Places<'_>, fault: &Fault) -> Result<String, AllocError>
+pub(crate) fn fault_line(
+    alloc: Global,
+    places: &Places<'_>,
+    fault: &Fault,
+) -> Result<String, AllocError>
     ensures { IfOk result (λ text. string_bytes text ≡ fault_line places.now fault.now) }
 {
     let place = places.at(&fault.address).unwrap_or((1, 1));
@@ -104,7 +109,25 @@ fn map_shown(
     }
 }
 
+/// The description that the bytes spell, and the places of its items.
+pub(crate) fn read_map<'a>(
+    alloc: Global,
+    bytes: &'a [u8],
+) -> Result<(Description, Places<'a>), OpenFault>
+    ensures read { IfOk result (λ x. ReadsMap bytes.now x.0.items x.1) }
+    ensures refused { IfErr result (λ fault. IfRefusedToOpen fault (RefusedText bytes.now)) }
+{
+    match map_of(alloc, bytes) {
+        Ok(read) => Ok(read),
+        Err(ReadingFault::Refused(fault)) => {
+            Err(OpenFault::Refused(text_line(alloc, bytes, fault)?))
+        }
+        Err(ReadingFault::Memory) => Err(OpenFault::Memory),
+    }
+}
+
 /// The map that the bytes spell, if it has no fault.
+#[tactic(auto, using(crate::proofs::Opened::only_text))]
 fn open_map(
     alloc: Global,
     bytes: &[u8],
@@ -115,12 +138,9 @@ fn open_map(
     ensures rows { IfOk result (λ shown. AreOf shown.0.state shown.1) }
     ensures refused { IfErr result (λ fault. IfRefusedToOpen fault (λ text. RefusedText bytes.now text ⊎ RefusedMap (option_copied name.entry) bytes.now text)) }
 {
-    let (description, places) = match map_of(alloc, bytes) {
+    let (description, places) = match read_map(alloc, bytes) {
         Ok(read) => read,
-        Err(ReadingFault::Refused(fault)) => {
-            return Err(OpenFault::Refused(text_line(alloc, bytes, fault)?));
-        }
-        Err(ReadingFault::Memory) => return Err(OpenFault::Memory),
+        Err(fault) => return Err(fault),
     };
     match map_shown(alloc, description, copied(alloc, name)?, is_listed) {
         Ok(shown) => Ok(shown),
@@ -186,7 +206,7 @@ fn resumed(alloc: Global, bytes: &[u8], name: Option<&Name>) -> Result<Resumed, 
 }
 
 /// The history that a session holds, if each of its places elaborates.
-fn open_session(
+pub(crate) fn open_session(
     alloc: Global,
     bytes: &[u8],
     name: Option<&Name>,
