@@ -1,0 +1,4 @@
+pub mod Modes
+pub mod Names
+pub mod PropertySet
+pub mod Values
