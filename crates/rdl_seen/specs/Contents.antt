@@ -1,8 +1,8 @@
 -- What is inside a component, all its items taken together.
 -- own: SystemRDL 2.0 has no edits. Sums are not capped here, as those of `Seen` are.
 use Rattle.std.specs.Prelude.{ℕ, ◌+◌, ◌*◌, max, min, ◌^◌, ◌||◌, ◌&&◌, Bool, true, false, length, Option, Some, None}
-use Rattle.rdl_tree.specs.Items.{Items, no_items, plain, holder, Plain, named, own, default, dynamic, Holder, define, anonymous}
-use Rattle.rdl_tree.specs.Weight.{value_weight}
+use Rattle.rdl_tree.specs.Items.{Items, no_items, plain, holder, Plain, dynamic}
+use Rattle.rdl_tree.specs.Weight.{value_weight, plain_weight, holder_weight}
 use Rattle.rdl_seen.specs.declared.names.NameSet.{NameSet}
 use Rattle.rdl_seen.specs.declared.property_set.PropertySet.{PropertySet}
 use Rattle.rdl_seen.specs.declared.seen.Modes.{Modes}
@@ -104,20 +104,15 @@ item_count no_items = 0
 item_count (plain p rest) = 1 + item_count rest
 item_count (holder h body rest) = 1 + item_count rest
 
--- a number that the weight of an item isn't above, but for what is inside it: a name of a target counts as 255 bytes
-abbrev pub plain_weight : Plain → ℕ
-plain_weight (named s t) = 1 + length s.name + length t
-plain_weight (own p v) = 1 + length p + value_weight v
-plain_weight (default p v) = 1 + length p + value_weight v
-plain_weight (dynamic t p v) = length t * 255 + 1 + length p + value_weight v
+-- a number that the weight of an item isn't above: a name of a target counts as 255 bytes
+abbrev pub weight_of : Plain → ℕ
+weight_of (dynamic t p v) = length t * 255 + length p + value_weight v + 1
+weight_of p = plain_weight p
 
-abbrev pub holder_weight : Holder → ℕ
-holder_weight (define n k) = 1 + length n
-holder_weight (anonymous s k) = 1 + length s.name
-
+-- the same of some items, but for what is inside them
 abbrev pub items_weight : Items → ℕ
 items_weight no_items = 0
-items_weight (plain p rest) = plain_weight p + items_weight rest
+items_weight (plain p rest) = weight_of p + items_weight rest
 items_weight (holder h body rest) = holder_weight h + items_weight rest
 
 abbrev pub own_weight : Items → ℕ
