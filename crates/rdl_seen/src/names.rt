@@ -53,6 +53,7 @@ pub fn class_of(name: &Name) -> Class
 }
 
 impl NameSet {
+    /// No class.
     pub fn none() -> NameSet
         ensures { result ≡ no_names }
     {
@@ -68,6 +69,7 @@ impl NameSet {
         }
     }
 
+    /// Whether it has no class.
     pub fn is_empty(self) -> bool
         ensures { result ≡ is_no_name self }
     {
@@ -90,6 +92,7 @@ impl NameSet {
         self.bits & other.bits != 0
     }
 
+    /// Whether it has the class.
     pub fn has(self, class: Class) -> bool
         ensures { result ≡ has_class self class }
     {

@@ -7,7 +7,7 @@ use rdl_tree::properties::property;
 use rdl_tree::property::Property;
 use rdl_tree::shell::Kind;
 
-/// Some of the seven properties.
+/// Some of the seven properties on which layouts and the faults of rows depend.
 #[derive(Clone, Copy, Debug, PartialEq, Eq)]
 pub struct PropertySet {
     bits: u8,
@@ -29,6 +29,7 @@ fn bit_of(property: Property) -> u8
 }
 
 impl PropertySet {
+    /// No property.
     pub fn none() -> PropertySet
         ensures { result ≡ no_properties }
     {
@@ -80,6 +81,7 @@ impl PropertySet {
         PropertySet { bits }
     }
 
+    /// Whether it has no property.
     pub fn is_empty(self) -> bool
         ensures { result ≡ is_no_property self }
     {

@@ -74,6 +74,7 @@ impl Modes {
         }
     }
 
+    /// Whether the mode is one of them.
     pub fn has(self, mode: Mode) -> bool
         ensures { result ≡ has_mode self mode }
     {
@@ -108,6 +109,7 @@ impl ByMode {
         }
     }
 
+    /// The number of the mode.
     pub fn under(self, mode: Mode) -> u64
         ensures { result ≡ number_under self mode }
     {
