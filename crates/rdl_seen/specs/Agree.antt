@@ -1,6 +1,6 @@
 -- Where two bodies see the same, as far as they listen.
 -- own: SystemRDL 2.0 has no edits.
-use Rattle.std.specs.Prelude.{◌≡◌, ℕ, Bool, true, false, List, option_map}
+use Rattle.std.specs.Prelude.{◌≡◌, ℕ, Bool, true, false, List, Option, option_map}
 use Rattle.rdl_tree.specs.declared.property.Property.TheVariants.{Addressing, Alignment, Regwidth, Accesswidth, Fieldwidth, Sw, Reset}
 use Rattle.rdl_scope.specs.Closed.{lookup}
 use Rattle.rdl_seen.specs.declared.names.NameSet.{NameSet}
@@ -27,9 +27,13 @@ abbrev pub shown : Bool → Known → Known
 shown true k = k
 shown false k = record { seen = k.seen; within = nothing_within }
 
+-- the same of the type of a name, if there is one
+abbrev pub shown_of : Bool → List ℕ → Around → Option Known
+shown_of deep name a = option_map (shown deep) (lookup name a.types)
+
 -- each name of these classes leads to the same of a type, and the same is stated of each of these properties
 pub record AgreeOn (deep : Bool) (asks : NameSet) (takes : PropertySet) (a b : Around) : Type 0 where
-  pub types : (name : List ℕ) → has_class asks (class_of name) ≡ true → option_map (shown deep) (lookup name a.types) ≡ option_map (shown deep) (lookup name b.types)
+  pub types : (name : List ℕ) → has_class asks (class_of name) ≡ true → shown_of deep name a ≡ shown_of deep name b
   pub defaults : SameValues takes a.defaults b.defaults
 
 -- they agree as far as a component listens of which this is seen

@@ -72,13 +72,28 @@ abbrev pub no_contents : Contents
 no_contents = record { levels = 0; depth = 0; rows = 0; has_instances = false; count = 0; weight = 0; has_empty = false; sound = all_modes true }
 
 abbrev pub with_field : FieldBody → Contents → Contents
-with_field f c = record c { levels = max 1 c.levels; depth = max 1 c.depth; rows = 1 + c.rows; has_instances = true; count = f.count + c.count; weight = f.weight + c.weight }
+with_field f c =
+    record c {
+      levels = max 1 c.levels;
+      depth = max 1 c.depth;
+      rows = 1 + c.rows;
+      has_instances = true;
+      count = f.count + c.count;
+      weight = f.weight + c.weight;
+    }
 
 abbrev pub with_written : Seen → Contents → Contents
 with_written s c = record c { depth = max (s.depth + 1) c.depth; count = s.count + c.count; weight = s.weight + c.weight }
 
 abbrev pub with_instance : Seen → Contents → Contents
-with_instance s c = record c { levels = max (s.levels + 1) c.levels; rows = s.rows + 1 + c.rows; has_instances = true; has_empty = s.has_empty || s.is_empty || c.has_empty; sound = and_modes s.sound c.sound }
+with_instance s c =
+    record c {
+      levels = max (s.levels + 1) c.levels;
+      rows = s.rows + 1 + c.rows;
+      has_instances = true;
+      has_empty = s.has_empty || s.is_empty || c.has_empty;
+      sound = and_modes s.sound c.sound;
+    }
 
 abbrev pub with_named : Option Seen → Contents → Contents
 with_named None c = c
@@ -121,4 +136,5 @@ own_weight body = min (items_weight body) (2 ^ 31)
 -- the body of a field that is written where it is instantiated
 abbrev pub field_of : Items → FieldBody
 field_of body =
-    record { width = (own_values body).fieldwidth; access = (own_values body).sw; reset = (own_values body).reset; count = min (item_count body) 255; weight = own_weight body }
+    let own = own_values body in
+    record { width = own.fieldwidth; access = own.sw; reset = own.reset; count = min (item_count body) 255; weight = own_weight body }

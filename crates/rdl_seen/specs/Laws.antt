@@ -19,7 +19,8 @@ Coincides =
 -- the same is known of it inside, too, where that agrees which is known inside of the types that it asks for
 abbrev pub CoincidesWithin : Type 0
 CoincidesWithin =
-    (lay : Laying) (a b : Around) (k : Kind) (body : Items) → AgreeOn true (node lay a k body).core.seen.asks (node lay a k body).core.seen.takes a b
+    (lay : Laying) (a b : Around) (k : Kind) (body : Items)
+    → AgreeOn true (node lay a k body).core.seen.asks (node lay a k body).core.seen.takes a b
     → known lay b k body ≡ known lay a k body
 
 -- another type of a name of which the same is seen changes nothing for who assigns nothing

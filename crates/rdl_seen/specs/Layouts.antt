@@ -70,4 +70,9 @@ is_apart_under l members mode = are_strides_wide mode members && are_apart (layo
 
 -- the modes in which no two instances overlap and no stride is too small
 abbrev pub apart_modes : Layouts → List Member → Modes
-apart_modes l members = record { compact = is_apart_under l members Compact; regalign = is_apart_under l members Regalign; fullalign = is_apart_under l members Fullalign }
+apart_modes l members =
+    record {
+      compact = is_apart_under l members Compact;
+      regalign = is_apart_under l members Regalign;
+      fullalign = is_apart_under l members Fullalign;
+    }

@@ -131,7 +131,8 @@ are_shares_allowed lay k defaults body s =
 -- a component whose items are these, under the defaults that reach it
 abbrev pub core_of : Laying → Kind → Values → Items → Slots → Core
 core_of lay k defaults body s =
-    core_by k body s (values_of k defaults body) (members defaults body s) (layouts_of lay k defaults body s) (resets defaults body s) (are_shares_allowed lay k defaults body s)
+    core_by k body s (values_of k defaults body) (members defaults body s)
+    (layouts_of lay k defaults body s) (resets defaults body s) (are_shares_allowed lay k defaults body s)
 
 -- the items of a body, and the instances among them
 pub record Walked : Type 0 where
@@ -139,7 +140,9 @@ pub record Walked : Type 0 where
   pub instances : Inside
 
 abbrev pub known_of : Core → Inside → Known
-known_of c instances = record { seen = c.seen; within = record { spots = record { spans = c.layouts.compact.spans; is_ordered = c.seen.is_ordered }; inside = instances } }
+known_of c instances =
+    let spots : Spots = record { spans = c.layouts.compact.spans; is_ordered = c.seen.is_ordered } in
+    record { seen = c.seen; within = record { spots = spots; inside = instances } }
 
 abbrev pub within_type : Option Known → Within
 within_type None = nothing_within
