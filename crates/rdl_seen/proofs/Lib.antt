@@ -1,0 +1,9 @@
+pub mod Around
+pub mod Bits
+pub mod Core
+pub mod Each
+pub mod Examples
+pub mod Own
+pub mod Stated
+pub mod Unmoved
+pub mod Walked

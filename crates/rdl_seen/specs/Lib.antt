@@ -1,0 +1,12 @@
+pub mod Agree
+pub mod Contents
+pub mod Fields
+pub mod Inside
+pub mod Laws
+pub mod Layouts
+pub mod Modes
+pub mod Names
+pub mod Node
+pub mod PropertySet
+pub mod Slots
+pub mod Values
