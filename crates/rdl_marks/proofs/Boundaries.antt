@@ -1,5 +1,5 @@
 -- Pieces that are cut where an item begins, or where it stands by itself.
-use Rattle.std.proofs.Common.{◌≡◌, ℕ, ◌+◌, ◌-◌, ◌<◌, ◌≤◌, length, List, [], ◌∷◌, ◌++◌, take, drop, get_or, Option, Some, None, refl, ap, sym, ◌∙◌, arith, subst, add-one, length-append}
+use Rattle.std.proofs.Common.{◌≡◌, ℕ, ◌+◌, ◌<◌, ◌≤◌, length, List, [], ◌∷◌, ◌++◌, take, drop, get_or, Option, Some, None, refl, ap, sym, ◌∙◌, arith, subst, add-one, length-append}
 use Rattle.std.specs.Prelude.{insert, slice_get, slice_set, IfSome, IsSomeAnd}
 use Rattle.std.proofs.lemmas.List.{take_all, take_at, nil_from_length}
 use Rattle.std.proofs.lemmas.List.Edits.{length-insert}

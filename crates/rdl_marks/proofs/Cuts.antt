@@ -1,11 +1,11 @@
 -- Pieces, and what is told of their items one by one.
-use Rattle.std.proofs.Common.{◌≡◌, ℕ, zero, suc, ◌+◌, ◌-◌, ◌<◌, ◌≤◌, length, List, [], ◌∷◌, ◌++◌, take, drop, get_or, Option, Some, None, refl, ap, sym, ◌∙◌, arith, subst, append_assoc, length-append, add-one}
+use Rattle.std.proofs.Common.{◌≡◌, ℕ, zero, suc, ◌+◌, ◌-◌, ◌<◌, ◌≤◌, length, List, [], ◌∷◌, ◌++◌, take, drop, get_or, Some, refl, ap, sym, ◌∙◌, arith, subst, append_assoc, length-append, add-one}
 use Rattle.std.specs.Prelude.{insert, remove, slice_get, slice_set, replicate, IfSome}
 use Rattle.std.proofs.lemmas.List.{append-nil, take-append-drop, take_more, take_all, length-replicate, replicate-append-replicate}
 use Rattle.std.proofs.lemmas.Option.{slice_get_read, slice_get_past}
 use Rattle.rdl_marks.specs.Marks.{no_firsts, no_marks}
 use Rattle.rdl_marks.specs.View.{Trace, new_item, old_item, same_item, run, firsts_of, marked, piece_traces, pieces_traces}
-use Rattle.rdl_marks.specs.Cut.{rest_traces, IsSingle, the_trace, Reaches}
+use Rattle.rdl_marks.specs.Cut.{IsSingle, the_trace, Reaches}
 use Rattle.rdl_marks.specs.declared.marks.Mark.{Mark}
 use Rattle.rdl_marks.specs.declared.marks.Piece.{Piece}
 use Rattle.rdl_marks.specs.declared.marks.Piece.TheVariants.{New, Kept, Marked}

@@ -1,13 +1,13 @@
 -- Items that became of others, one by one.
-use Rattle.std.proofs.Common.{◌≡◌, ℕ, zero, suc, ◌+◌, ◌-◌, ◌<◌, ◌≤◌, length, List, [], ◌∷◌, ◌++◌, drop, Option, Some, None, refl, ap, sym, ◌∙◌, arith, subst, add-one}
+use Rattle.std.proofs.Common.{◌≡◌, ℕ, zero, suc, ◌+◌, ◌<◌, ◌≤◌, length, List, [], ◌∷◌, ◌++◌, drop, Some, refl, ap, sym, ◌∙◌, arith, subst, add-one}
 use Rattle.std.specs.Prelude.{insert, remove, slice_get, slice_set}
-use Rattle.rdl_tree.specs.Items.{Items, no_items, plain, holder}
+use Rattle.rdl_tree.specs.Items.{Items, no_items}
 use Rattle.rdl_tree.specs.View as tree
 use Rattle.rdl_tree.specs.declared.description.Item.{Item}
 use Rattle.rdl_tree.specs.declared.description.Item.TheVariants.{Define, Instance, Own, Default, Dynamic}
 use Rattle.rdl_tree.specs.declared.description.Of.TheVariants.{Named, Anonymous}
 use Rattle.rdl_tree.proofs.Rounds as tree_rounds
-use Rattle.rdl_marks.specs.Marks.{no_firsts, Traces, no_traces, Marks, no_marks}
+use Rattle.rdl_marks.specs.Marks.{Traces, no_traces}
 use Rattle.rdl_marks.specs.View.{Trace, new_item, old_item, same_item, run, add, traces_of}
 use Rattle.rdl_marks.specs.Describes.{AreFrom}
 use Rattle.rdl_marks.proofs.Times.{none_once}

@@ -1,5 +1,5 @@
 -- Marks and their lists are one another's images.
-use Rattle.std.proofs.Common.{◌≡◌, List, [], ◌∷◌, refl, ap, ◌∙◌}
+use Rattle.std.proofs.Common.{◌≡◌, List, [], ◌∷◌, refl, ap}
 use Rattle.rdl_tree.proofs.Rounds as tree
 use Rattle.rdl_marks.specs.Marks.{Traces, no_traces, new_trace, old_trace, Marks}
 use Rattle.rdl_marks.specs.View.{Trace, new_item, old_item, Told, traces_of, list_of, marks_of, told_of}

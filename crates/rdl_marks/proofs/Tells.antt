@@ -1,5 +1,5 @@
 -- What marks tell of a body, as lists, and how it changes with the body.
-use Rattle.std.proofs.Common.{◌≡◌, ℕ, zero, suc, ◌+◌, ◌-◌, ◌<◌, ◌≤◌, length, List, [], ◌∷◌, ◌++◌, drop, Option, Some, None, IsTrue, refl, ap, sym, ◌∙◌, arith, subst, length-append}
+use Rattle.std.proofs.Common.{◌≡◌, ℕ, zero, suc, ◌+◌, ◌-◌, ◌<◌, ◌≤◌, length, List, [], ◌∷◌, drop, Some, IsTrue, refl, ap, sym, ◌∙◌, arith, subst, length-append}
 use Rattle.std.specs.Prelude.{insert, remove, slice_get, slice_set}
 use Rattle.rdl_tree.specs.Items.{Items, no_items, plain, holder}
 use Rattle.rdl_tree.specs.View as tree
@@ -17,8 +17,8 @@ use Rattle.rdl_marks.specs.Noted.{exchanged, moved, changed_inside, reach, put_i
 use Rattle.rdl_marks.specs.Describes.{AreFrom, times, Describes}
 use Rattle.rdl_marks.proofs.Rounds.{traces_of-list_of}
 use Rattle.rdl_marks.proofs.Cuts.{length-run}
-use Rattle.rdl_marks.proofs.Times.{times_of, times_in, times-add, times-append, times-insert, times-remove, times-set, below, if-below, times-run}
-use Rattle.rdl_marks.proofs.From.{IsFrom, AreSo, new_from, none_more, insert_from, remove_from, get_from, set_from, push_from, reach_from, from-length}
+use Rattle.rdl_marks.proofs.Times.{times_of, times_in, times-append, times-insert, times-remove, times-set, below, if-below, times-run}
+use Rattle.rdl_marks.proofs.From.{IsFrom, AreSo, new_from, none_more, insert_from, remove_from, set_from, push_from, reach_from, from-length}
 
 -- so much is told, but for the numbers that are at hand so often
 pub record Tells (t : Told) (old : Items) (xs : List Item) (at_hand : ℕ → ℕ) : Type 0 where

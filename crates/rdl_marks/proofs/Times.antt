@@ -1,9 +1,9 @@
 -- How often a number stands among those of items.
-use Rattle.std.proofs.Common.{◌≡◌, ℕ, zero, suc, ◌+◌, ◌-◌, ◌<◌, ◌≤◌, min, length, List, [], ◌∷◌, ◌++◌, Option, Some, None, cond, refl, ap, sym, ◌∙◌, arith}
+use Rattle.std.proofs.Common.{◌≡◌, ℕ, zero, suc, ◌+◌, ◌-◌, min, List, [], ◌∷◌, ◌++◌, Some, refl, ap, sym, ◌∙◌, arith}
 use Rattle.std.specs.Prelude.{◌==◌, if◌then◌else◌, nat_lt, insert, remove, slice_get, slice_set}
 use Rattle.std.proofs.lemmas.Bool.Decides.{nat_tests}
-use Rattle.rdl_marks.specs.Marks.{Traces, no_traces, Marks}
-use Rattle.rdl_marks.specs.View.{Trace, new_item, old_item, same_item, run, add, traces_of}
+use Rattle.rdl_marks.specs.Marks.{no_traces}
+use Rattle.rdl_marks.specs.View.{Trace, new_item, old_item, run, add, traces_of}
 use Rattle.rdl_marks.specs.Describes.{times, StandOnce}
 
 -- how often it is that of the item

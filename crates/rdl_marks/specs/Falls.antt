@@ -1,10 +1,10 @@
 -- A body has more items than what is inside each of them, so that marks end.
 -- own: no part of what marks mean.
-use Rattle.std.specs.Prelude.{◌≡◌, ℕ, zero, suc, ◌+◌, ◌-◌, ◌≤◌, max, List, [], ◌∷◌, ◌++◌, map, replicate, refl}
+use Rattle.std.specs.Prelude.{ℕ, ◌-◌, ◌≤◌, max, List, [], ◌∷◌, ◌++◌, map, replicate}
 use Rattle.std.proofs.Common.{arith}
 use denote.Param.Weighed.{most}
-use Rattle.rdl_marks.specs.Marks.{Traces, marks_count, traces_count}
-use Rattle.rdl_marks.specs.View.{Trace, new_item, old_item, run, traces_of, marks_of, piece_traces, pieces_traces, gone_trace, told}
+use Rattle.rdl_marks.specs.Marks.{marks_count, traces_count}
+use Rattle.rdl_marks.specs.View.{Trace, new_item, old_item, run, traces_of, marks_of, pieces_traces, gone_trace, told}
 use Rattle.rdl_marks.specs.declared.marks.Piece.{Piece}
 use Rattle.rdl_marks.specs.declared.marks.Piece.TheVariants.{New, Kept, Marked}
 use Rattle.rdl_marks.specs.declared.marks.Gone.{Gone}

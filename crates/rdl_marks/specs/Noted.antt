@@ -1,6 +1,6 @@
 -- What a patch makes of marks, told by the patch that takes it back.
 -- own: SystemRDL 2.0 has no edits.
-use Rattle.std.specs.Prelude.{ℕ, ◌+◌, ◌-◌, true, if◌then◌else◌, nat_le, List, [], ◌∷◌, ◌++◌, length, Option, Some, None, option_map, unwrap_or, insert, remove, slice_get, slice_set}
+use Rattle.std.specs.Prelude.{ℕ, ◌+◌, ◌-◌, true, if◌then◌else◌, nat_le, List, [], ◌∷◌, ◌++◌, length, Option, Some, None, unwrap_or, insert, remove, slice_get, slice_set}
 use Rattle.rdl_tree.specs.Address.{holder_of, number_of}
 use Rattle.rdl_tree.specs.Patch.{address_of}
 use Rattle.rdl_tree.specs.declared.description.Item.{Item}
