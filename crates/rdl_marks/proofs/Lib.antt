@@ -1,0 +1,9 @@
+pub mod Boundaries
+pub mod Cuts
+pub mod Described
+pub mod From
+pub mod Noting
+pub mod Rounds
+pub mod Tells
+pub mod Times
+pub mod Ways

@@ -1,0 +1,7 @@
+pub mod Codes
+pub mod Cut
+pub mod Describes
+pub mod Falls
+pub mod Marks
+pub mod Noted
+pub mod View
