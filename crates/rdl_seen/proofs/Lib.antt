@@ -4,6 +4,11 @@ pub mod Core
 pub mod Each
 pub mod Examples
 pub mod Own
+pub mod Owned
+pub mod Puts
+pub mod Stands
 pub mod Stated
+pub mod Taken
 pub mod Unmoved
 pub mod Walked
+pub mod Whole
