@@ -3,6 +3,7 @@ pub mod Bits
 pub mod Core
 pub mod Each
 pub mod Examples
+pub mod KeptAt
 pub mod Own
 pub mod Owned
 pub mod Puts

@@ -79,15 +79,12 @@ holder-clear d around b body n h inside rest e =
     let deeper = neither within more both.1 in
     record { within = deeper.0; behind = deeper.1 }
 
--- each value that is found under a property's name is one that it takes
-pub AreTaken : (List ℕ → Option Value) → Type 0
-AreTaken found = (q : Property) (x : Value) → found (row q).name ≡ Some x → takes q x ≡ true
-
 either-taken : (q : Property) (x : Value) (o p : Option Value) → (o ≡ Some x → takes q x ≡ true) → (p ≡ Some x → takes q x ≡ true) → option_or o p ≡ Some x → takes q x ≡ true
 either-taken q x None p first second e = second e
 either-taken q x (Some y) p first second e = first e
 
-here-taken : (p : List ℕ) (q : Property) (x y : Value) → ((r : Property) → property_of p ≡ Some r → takes r y ≡ true) → (if bytes_eq p (row q).name then Some y else None) ≡ Some x → takes q x ≡ true
+here-taken : (p : List ℕ) (q : Property) (x y : Value) → ((r : Property) → property_of p ≡ Some r → takes r y ≡ true)
+    → (if bytes_eq p (row q).name then Some y else None) ≡ Some x → takes q x ≡ true
 here-taken p q x y fine e = by (bytes_eq p (row q).name) refl e
   where
     by : (b : Bool) → bytes_eq p (row q).name ≡ b → (if b then Some y else None) ≡ Some x → takes q x ≡ true
@@ -127,7 +124,8 @@ record IsClear (d body : Items) : Type 0 where
   place : List ℕ
   clear : first_fault d around place body 0 body ≡ None
 
-inner-clear : (d : Items) (around : Option Kind) (b : List ℕ) (body : Items) (n i : ℕ) (t inside : Items) → first_fault d around b body n t ≡ None → inner i t ≡ Some inside → IsClear d inside
+inner-clear : (d : Items) (around : Option Kind) (b : List ℕ) (body : Items) (n i : ℕ) (t inside : Items) → first_fault d around b body n t ≡ None
+    → inner i t ≡ Some inside → IsClear d inside
 inner-clear d around b body n i no_items inside h e = absurd cc
 inner-clear d around b body n zero (plain p rest) inside h e = absurd cc
 inner-clear d around b body n zero (holder k within rest) inside h e =

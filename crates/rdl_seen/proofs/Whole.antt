@@ -126,7 +126,8 @@ fill : {Y : Type 0} (back : Y → Value) (o : Option Y) (y : Y) → option_or (o
 fill back None y = refl
 fill back (Some x) y = refl
 
-filled : {Y : Type 0} (f : Value → Option Y) (back : Y → Value) (o : Option Value) (y : Y) → KeepsWhole f back o → option_or o (Some (back y)) ≡ Some (back (unwrap_or (option_and_then f o) y))
+filled : {Y : Type 0} (f : Value → Option Y) (back : Y → Value) (o : Option Value) (y : Y) → KeepsWhole f back o
+    → option_or o (Some (back y)) ≡ Some (back (unwrap_or (option_and_then f o) y))
 filled f back o y whole = ap (λ z. option_or z (Some (back y))) (sym (all-whole f back o whole)) ∙ fill back (option_and_then f o) y
 
 access-filled : (o : Option Value) → option_map access_of (option_or o (Some (value.Word word.Rw))) ≡ Some (unwrap_or (option_map access_of o) Other)

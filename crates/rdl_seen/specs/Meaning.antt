@@ -1,10 +1,12 @@
 -- What the values of a component mean: what is stated for each property, by its own assignments and the defaults that reach it.
 -- SystemRDL 2.0, clause 5, property assignment. own: each value as `Values` keeps it.
 use Rattle.std.specs.Prelude.{◌≡◌, ℕ, zero, suc, true, List, [], ◌∷◌, Option, Some, None, option_map, option_and_then}
+use Rattle.std.specs.Option.{option_or}
 use Rattle.rdl_tree.specs.Address.{inner}
 use Rattle.rdl_tree.specs.Component.{holder_kind}
 use Rattle.rdl_tree.specs.Items.{Items, no_items, plain, holder}
 use Rattle.rdl_tree.specs.Properties.{row, on}
+use Rattle.rdl_tree.specs.declared.shell.Kind.TheVariants.{Field}
 use Rattle.rdl_tree.specs.declared.value.Value.{Value}
 use Rattle.rdl_tree.specs.declared.value.Value.TheVariants.{Number, Word as Worded}
 use Rattle.rdl_tree.specs.declared.value.Word.{Word}
@@ -15,8 +17,10 @@ use Rattle.rdl_scope.specs.Closed.{Head, Made, Standing, lookup, stated, head_va
 use Rattle.rdl_seen.specs.declared.mode.Mode.{Mode}
 use Rattle.rdl_seen.specs.declared.mode.Mode.TheVariants.{Compact, Regalign, Fullalign}
 use Rattle.rdl_seen.specs.declared.values.Values.{Values}
+use Rattle.rdl_seen.specs.Contents.{field_of}
 use Rattle.rdl_seen.specs.Layouts.{Laying}
-use Rattle.rdl_seen.specs.Node.{Around, mode_inside, after_plain, after_holder, known, node}
+use Rattle.rdl_seen.specs.Node.{Around, mode_inside, after_plain, after_holder, values_of, known, node}
+use Rattle.rdl_seen.specs.Slots.{Slots, no_slots, slot, written, Node}
 use Rattle.rdl_seen.specs.Values.{mode_of, number_of, width_of, access_of, reset_bits, no_values, of_kind, register_bits, access_bits, field_bits, access}
 
 -- the value of each property, as it is kept
@@ -82,3 +86,23 @@ pub record IsMeant (lay : Laying) (d : Items) (c : List ℕ) (m : Made) : Type 0
   pub there : around_at lay nothing_around c d ≡ Some around
   pub stated : (node lay around m.head.kind m.head.body).core.values ≡ stated_of m.head
   pub whole : HasValues m.head (node lay around m.head.kind m.head.body).core.values
+
+-- the node of item i of a body, if that is kept by itself
+abbrev pub kept_at : ℕ → Slots → Option Node
+kept_at i no_slots = None
+kept_at zero (slot s rest) = None
+kept_at zero (written w c inside rest) = Some (record { core = c; slots = inside })
+kept_at (suc i) (slot s rest) = kept_at i rest
+kept_at (suc i) (written w c inside rest) = kept_at i rest
+
+-- the node that is kept at this address
+abbrev pub node_at : List ℕ → Slots → Option Node
+node_at [] s = None
+node_at (i ∷ []) s = kept_at i s
+node_at (i ∷ j ∷ c) s = option_and_then (λ (n : Node). node_at (j ∷ c) n.slots) (kept_at i s)
+
+-- what is kept of a field that is written where it is instantiated, under these defaults, is what its node would have as its values
+pub record IsLikeNode (defaults : Values) (body : Items) : Type 0 where
+  pub width : option_or (field_of body).width defaults.fieldwidth ≡ (values_of Field defaults body).fieldwidth
+  pub access : option_or (field_of body).access defaults.sw ≡ (values_of Field defaults body).sw
+  pub reset : option_or (field_of body).reset defaults.reset ≡ (values_of Field defaults body).reset

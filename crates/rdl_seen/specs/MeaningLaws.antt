@@ -8,9 +8,11 @@ use Rattle.rdl_tree.specs.declared.property.Property.{Property}
 use Rattle.rdl_scope.specs.Closed as scope
 use Rattle.rdl_scope.specs.Closed.{Parts, Made, Standing, stated, nothing, standing_at, component}
 use Rattle.rdl_scope.specs.ItemFaults.{fault_of}
+use Rattle.rdl_seen.specs.declared.values.Values.{Values}
 use Rattle.rdl_seen.specs.Layouts.{Laying}
-use Rattle.rdl_seen.specs.Meaning.{defaults_of, stated_of, HasValues, Means, nothing_around, around_at, IsMeant}
-use Rattle.rdl_seen.specs.Node.{Known, Around, values_of, after_plain, after_holder}
+use Rattle.rdl_seen.specs.Meaning.{defaults_of, stated_of, HasValues, Means, nothing_around, around_at, IsMeant, node_at, IsLikeNode}
+use Rattle.rdl_seen.specs.Node.{Known, Around, values_of, after_plain, after_holder, body_of, node}
+use Rattle.rdl_seen.specs.Slots.{Node}
 
 -- each value that is stated of a component is one that its property takes
 abbrev pub StatedAreTaken : Type 0
@@ -49,3 +51,13 @@ MeansAt =
 -- the node of each component has that component's values
 abbrev pub NodesHaveValues : Type 0
 NodesHaveValues = (lay : Laying) (d : Items) (c : List ℕ) (m : Made) → fault_of d ≡ None → component d c ≡ Some m → IsMeant lay d c m
+
+-- the node that is kept at the address of a component in a description is that of the component, by what that address sees
+abbrev pub KeptAreNodes : Type 0
+KeptAreNodes =
+    (lay : Laying) (d : Items) (c : List ℕ) (m : Made) (a : Around) → component d c ≡ Some m → around_at lay nothing_around c d ≡ Some a
+    → (n : Node) → node_at c (body_of lay nothing_around d).slots ≡ Some n → n ≡ node lay a m.head.kind m.head.body
+
+-- a field that is written where it is instantiated isn't kept by itself; what is kept of it is the same
+abbrev pub FieldsAreLikeNodes : Type 0
+FieldsAreLikeNodes = (defaults : Values) (body : Items) → IsLikeNode defaults body

@@ -1,6 +1,6 @@
 //! What holds of all components. Nothing here does anything when it runs.
 ghost use Rattle.rdl_seen.specs.Laws.{Coincides, CoincidesWithin, CutsOff, IgnoresOtherTypes, IgnoresOtherDefaults};
-ghost use Rattle.rdl_seen.specs.MeaningLaws.{StatedAreTaken, ValuesAreStated, ValuesAreWhole, MeansBehind, MeansBehindComponent, MeansAt, NodesHaveValues};
+ghost use Rattle.rdl_seen.specs.MeaningLaws.{StatedAreTaken, ValuesAreStated, ValuesAreWhole, MeansBehind, MeansBehindComponent, MeansAt, NodesHaveValues, KeptAreNodes, FieldsAreLikeNodes};
 
 /// A component is kept as the same where what stands around it agrees as far as it listens: each name of a class that it asks for
 /// leads to a type of which the same is seen, and, if a dynamic assignment stands inside it, of which the same is known inside; and
@@ -35,4 +35,11 @@ pub fn nodes_mean()
     ensures behind_component { MeansBehindComponent }
     ensures at { MeansAt }
     ensures values { NodesHaveValues }
+{}
+
+/// The nodes that are kept of a description are those of its components, each by what its address sees. A field that is written where
+/// it is instantiated isn't kept by itself; what is kept of it are the values that its node would have.
+pub fn kept_are_nodes()
+    ensures nodes { KeptAreNodes }
+    ensures fields { FieldsAreLikeNodes }
 {}
