@@ -3,7 +3,13 @@ pub mod Bits
 pub mod Core
 pub mod Each
 pub mod Examples
+pub mod KeptAt
 pub mod Own
+pub mod Owned
+pub mod Puts
+pub mod Stands
 pub mod Stated
+pub mod Taken
 pub mod Unmoved
 pub mod Walked
+pub mod Whole

@@ -4,6 +4,8 @@ pub mod Fields
 pub mod Inside
 pub mod Laws
 pub mod Layouts
+pub mod Meaning
+pub mod MeaningLaws
 pub mod Modes
 pub mod Names
 pub mod Node

@@ -1,5 +1,6 @@
 //! What holds of all components. Nothing here does anything when it runs.
 ghost use Rattle.rdl_seen.specs.Laws.{Coincides, CoincidesWithin, CutsOff, IgnoresOtherTypes, IgnoresOtherDefaults};
+ghost use Rattle.rdl_seen.specs.MeaningLaws.{StatedAreTaken, ValuesAreStated, ValuesAreWhole, MeansBehind, MeansBehindComponent, MeansAt, NodesHaveValues, KeptAreNodes, FieldsAreLikeNodes};
 
 /// A component is kept as the same where what stands around it agrees as far as it listens: each name of a class that it asks for
 /// leads to a type of which the same is seen, and, if a dynamic assignment stands inside it, of which the same is known inside; and
@@ -16,4 +17,29 @@ pub fn components_listen_no_further()
     ensures cut_off { CutsOff }
     ensures types { IgnoresOtherTypes }
     ensures defaults { IgnoresOtherDefaults }
+{}
+
+/// Of a description without a fault, each value that is stated of a component, by its own assignments or by a default, is one that
+/// its property takes. The values of its node are what is stated of it, and, with the built-in values, those that it has: nothing is
+/// cut off them.
+pub fn values_mean()
+    ensures taken { StatedAreTaken }
+    ensures stated { ValuesAreStated }
+    ensures whole { ValuesAreWhole }
+{}
+
+/// Where a body sees the defaults that stand before an item, it does so behind that item and inside it. So each item of a description
+/// sees the defaults that stand before it, and the node of each component has that component's values.
+pub fn nodes_mean()
+    ensures behind { MeansBehind }
+    ensures behind_component { MeansBehindComponent }
+    ensures at { MeansAt }
+    ensures values { NodesHaveValues }
+{}
+
+/// The nodes that are kept of a description are those of its components, each by what its address sees. A field that is written where
+/// it is instantiated isn't kept by itself; what is kept of it are the values that its node would have.
+pub fn kept_are_nodes()
+    ensures nodes { KeptAreNodes }
+    ensures fields { FieldsAreLikeNodes }
 {}
