@@ -13,3 +13,13 @@ pub record SpellsAs (canonical text : List ℕ) : Type 0 where
   pub spelled : SpellsText text map places
   pub within : IsWithinLimits map
   pub is : map_text map ≡ canonical
+
+-- this is the map that the text spells, and no other is; its items have these places
+pub record IsRead (text : List ℕ) (d : Items) (p : Located) : Type 0 where
+  pub spelled : SpellsText text d p
+  pub within : IsWithinLimits d
+  pub only : (e : Items) (q : Located) → SpellsText text e q → IsWithinLimits e → (d ≡ e) × (p ≡ q)
+
+-- the text spells no map within the limits
+abbrev pub SpellsNone : List ℕ → Type 0
+SpellsNone text = (e : Items) (q : Located) → SpellsText text e q → IsWithinLimits e → ⊥

@@ -1,12 +1,35 @@
 //! Whether a text spells a map with a certain canonical text.
-ghost use Rattle.std.specs.Prelude.{◌≡◌, ◌↔◌, IsTrue, IfOk, bytes_eq};
-ghost use Rattle.rdl_weave.specs.Spelled.{SpellsAs};
+ghost use Rattle.std.specs.Prelude.{◌≡◌, ◌↔◌, IsTrue, IfOk, MatchOption, bytes_eq};
+ghost use Rattle.rdl_weave.specs.Spelled.{IsRead, SpellsAs, SpellsNone};
 
 use rdl_parse::fault::{ParseFault, ParseFaultKind};
 use rdl_parse::parse::parse;
+use rdl_parse::places::Places;
 use rdl_text::fault::WordFault;
+use rdl_tree::description::Description;
 use rdl_write::rdl;
 use std::alloc::{AllocError, Global};
+
+/// A text that spells a map, with this and the places of its items.
+#[derive(Drop)]
+pub(crate) struct Read<'a> {
+    pub(crate) text: &'a str,
+    pub(crate) map: Description,
+    pub(crate) places: Places<'a>,
+}
+
+/// The map that the text spells, if it spells one.
+pub(crate) fn read_map<'a>(alloc: Global, text: &'a str) -> Result<Option<Read<'a>>, AllocError>
+    ensures { IfOk result (λ found. MatchOption found (SpellsNone text.now) (λ read. (read.text.now ≡ text.now) × IsRead text.now read.map.items read.places)) }
+{
+    match parse(alloc, text) {
+        Ok((map, places)) => Ok(Some(Read { text, map, places })),
+        Err(fault) => match fault.kind {
+            ParseFaultKind::Words(WordFault::Memory) => Err(AllocError),
+            _ => Ok(None),
+        },
+    }
+}
 
 fn has_bytes(bytes: &[u8], text: &str) -> bool
     ensures { result ≡ bytes_eq bytes.now text.now }
@@ -14,15 +37,25 @@ fn has_bytes(bytes: &[u8], text: &str) -> bool
     bytes == text.as_bytes()
 }
 
+/// Whether this is the canonical text of the map that was read.
+pub(crate) fn is_canonical(
+    alloc: Global,
+    canonical: &str,
+    read: &Read<'_>,
+) -> Result<bool, AllocError>
+    requires { IsRead read.now.text.now read.now.map.items read.now.places }
+    ensures { IfOk result (λ answer. IsTrue answer ↔ SpellsAs canonical.now read.now.text.now) }
+{
+    let text = rdl(alloc, &read.map)?;
+    Ok(has_bytes(text.as_bytes(), canonical))
+}
+
 /// Whether the text spells a map whose canonical text is this.
 pub(crate) fn spells_as(alloc: Global, canonical: &str, text: &str) -> Result<bool, AllocError>
     ensures { IfOk result (λ answer. IsTrue answer ↔ SpellsAs canonical.now text.now) }
 {
-    match parse(alloc, text) {
-        Ok((description, _)) => Ok(has_bytes(rdl(alloc, &description)?.as_bytes(), canonical)),
-        Err(fault) => match fault.kind {
-            ParseFaultKind::Words(WordFault::Memory) => Err(AllocError),
-            _ => Ok(false),
-        },
+    match read_map(alloc, text)? {
+        Some(read) => is_canonical(alloc, canonical, &read),
+        None => Ok(false),
     }
 }

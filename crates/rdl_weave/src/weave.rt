@@ -7,7 +7,7 @@ ghost use Rattle.rdl_origin.specs.View.{list_of};
 ghost use Rattle.rdl_weave.specs.InTurn.{KeepsOrder};
 ghost use Rattle.rdl_weave.specs.Keeping.{Keeps};
 ghost use Rattle.rdl_weave.specs.Sound.{IsSound};
-ghost use Rattle.rdl_weave.specs.Spelled.{SpellsAs};
+ghost use Rattle.rdl_weave.specs.Spelled.{IsRead, SpellsAs};
 ghost use Rattle.rdl_weave.specs.Untouched.{sizes_of};
 ghost use Rattle.rdl_weave.specs.Weaving.{AreStatements, IsWoven, MayBeTooLong};
 ghost use Rattle.rdl_weave.specs.declared.fault.WeaveFault.TheVariants.{Memory, NotWoven, TooLong};
@@ -18,14 +18,13 @@ use crate::honest::{Check, keeps};
 use crate::member::Past;
 use crate::plan::{LEVELS, Loom, weave_body};
 use crate::render::Room;
-use crate::spelled::spells_as;
+use crate::spelled::{Read, is_canonical, read_map, spells_as};
 use crate::turn::keeps_order;
 use crate::unit::style_of;
 use crate::untouched::push_sizes;
 use crate::woven::Woven;
 use rdl_origin::origin::Origins;
-use rdl_parse::fault::ParseFaultKind;
-use rdl_parse::parse::{MAX_LEN, parse};
+use rdl_parse::parse::MAX_LEN;
 use rdl_source::statement::Statements;
 use rdl_text::fault::WordFault;
 use rdl_text::tokens;
@@ -40,29 +39,24 @@ struct Laid {
     statements: Statements,
 }
 
-/// The statements of a text, where it spells a map.
+/// The statements of a text that was read.
 #[tactic(auto, using(crate::proofs::Sounding::lie_so))]
-fn read_source(alloc: Global, source: &str) -> Result<Option<Laid>, AllocError>
-    ensures found { IfOk result (λ found. IfSome found (λ laid. AreStatements source.now laid.statements)) }
+fn read_source(alloc: Global, read: Read<'_>) -> Result<Option<Laid>, AllocError>
+    requires { IsRead read.text.now read.map.items read.places }
+    ensures found { IfOk result (λ found. IfSome found (λ laid. AreStatements read.entry.text.now laid.statements)) }
     // They are the only ones.
-    ensures only { (laid : lying.Laid) (s : AreStatements source.now laid) → IsWithinLimits s.map → lying.depth laid ≤ 16
+    ensures only { (laid : lying.Laid) (s : AreStatements read.entry.text.now laid) → IsWithinLimits s.map → lying.depth laid ≤ 16
         → IfOk result (λ found. MatchOption found ⊥ (λ x. x.statements ≡ laid)) }
 {
-    let (map, places) = match parse(alloc, source) {
-        Ok(read) => read,
-        Err(fault) => match fault.kind {
-            ParseFaultKind::Words(WordFault::Memory) => return Err(AllocError),
-            _ => return Ok(None),
-        },
-    };
-    let words = match tokens(alloc, source) {
+    let Read { text, map, places } = read;
+    let words = match tokens(alloc, text) {
         Ok(words) => words,
         Err(fault) => match fault.kind {
             WordFault::Memory => return Err(AllocError),
             _ => return Ok(None),
         },
     };
-    match Statements::of(alloc, source, &words, places.as_slice())? {
+    match Statements::of(alloc, text, &words, places.as_slice())? {
         Some(statements) => Ok(Some(Laid { map, statements })),
         None => Ok(None),
     }
@@ -187,10 +181,13 @@ pub fn weave(
     // floats holds no word, and the last map can be written, but for want of memory and a text that would be too long.
     ensures refused { result ≡ Err NotWoven → IsSound source.now origins.now last.now.items canonical.now → ⊥ }
 {
-    if spells_as(alloc, canonical, source)? {
+    let Some(read) = read_map(alloc, source)? else {
+        return Err(WeaveFault::NotWoven);
+    };
+    if is_canonical(alloc, canonical, &read)? {
         return Ok(String::from_str(alloc, source)?);
     }
-    let Some(laid) = read_source(alloc, source)? else {
+    let Some(laid) = read_source(alloc, read)? else {
         return Err(WeaveFault::NotWoven);
     };
     let mut sizes = Vec::new(alloc);

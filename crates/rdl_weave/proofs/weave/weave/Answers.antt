@@ -10,23 +10,29 @@ use Rattle.rdl_weave.specs.Weaving.{AreStatements}
 use Rattle.rdl_weave.proofs.Sounding.{coarse_long, laid_fits, not_found}
 use Rattle.rdl_weave.proofs.weave.weave.Goals as goal
 
-pub returns-in_default-clause-refused : goal.returns-in_default-clause-refused
-returns-in_default-clause-refused c = λ e s.
+pub returns-in_default-2-clause-refused : goal.returns-in_default-2-clause-refused
+returns-in_default-2-clause-refused c = λ e s.
     let none : c.in_ok-laid.field-0 ≡ None = search rules in
-    not_found c.in_ok-laid.field-0 _ none (c.in_ok-laid.ensures.only s.laid s.laid_out s.within s.shallow)
+    let same : c.in-Some.read.text.now ≡ c.args.source.now = search rules in
+    let only : (laid : Laid) (q : AreStatements c.args.source.now laid) → IsWithinLimits q.map → depth laid ≤ 16 → MatchOption c.in_ok-laid.field-0 ⊥ (λ x. x.statements ≡ laid) =
+    subst (λ t. (laid : Laid) (q : AreStatements t laid) → IsWithinLimits q.map → depth laid ≤ 16 → MatchOption c.in_ok-laid.field-0 ⊥ (λ x. x.statements ≡ laid)) same c.in_ok-laid.ensures.only in
+    not_found c.in_ok-laid.field-0 _ none (only s.laid s.laid_out s.within s.shallow)
 
 pub returns-clause-refused : goal.returns-clause-refused
 returns-clause-refused c = λ e s.
-    let only : (laid : Laid) (q : AreStatements c.args.source.now laid) → IsWithinLimits q.map → depth laid ≤ 16 → c.in-Some.laid.statements ≡ laid =
-    λ laid q w d. subst (λ o. MatchOption o ⊥ (λ x. x.statements ≡ laid)) c.in-Some.is (c.in_ok-laid.ensures.only laid q w d) in
-    let fits = laid_fits c.args.source.now c.args.canonical.now c.args.origins.now c.args.last.now.items c.in-Some.laid.statements only s in
-    c.in_ok-text-3.ensures.sound (subst (λ b. Fits b c.in-Some.laid.statements c.args.origins.now c.args.last.now.items c.args.canonical.now) (sym c.as_bytes.ensures.value) fits) c.in-None.is
+    let same : c.in-Some.read.text.now ≡ c.args.source.now = search rules in
+    let found : (laid : Laid) (q : AreStatements c.args.source.now laid) → IsWithinLimits q.map → depth laid ≤ 16 → MatchOption c.in_ok-laid.field-0 ⊥ (λ x. x.statements ≡ laid) =
+    subst (λ t. (laid : Laid) (q : AreStatements t laid) → IsWithinLimits q.map → depth laid ≤ 16 → MatchOption c.in_ok-laid.field-0 ⊥ (λ x. x.statements ≡ laid)) same c.in_ok-laid.ensures.only in
+    let only : (laid : Laid) (q : AreStatements c.args.source.now laid) → IsWithinLimits q.map → depth laid ≤ 16 → c.in-Some-2.laid.statements ≡ laid =
+    λ laid q w d. subst (λ o. MatchOption o ⊥ (λ x. x.statements ≡ laid)) c.in-Some-2.is (found laid q w d) in
+    let fits = laid_fits c.args.source.now c.args.canonical.now c.args.origins.now c.args.last.now.items c.in-Some-2.laid.statements only s in
+    c.in_ok-text-3.ensures.sound (subst (λ b. Fits b c.in-Some-2.laid.statements c.args.origins.now c.args.last.now.items c.args.canonical.now) (sym c.as_bytes.ensures.value) fits) c.in-None.is
 
 pub returns-in_err-text-3-clause-long : goal.returns-in_err-text-3-clause-long
 returns-in_err-text-3-clause-long c = λ e.
     let bytes = c.as_bytes.result.now in
     let sizes = c.as_slice-sizes.result.now in
-    let laid = c.in-Some.laid.statements in
+    let laid = c.in-Some-2.laid.statements in
     let last = c.args.last.now.items in
     let statements : AreStatements c.args.source.now laid = search rules in
     let counted : sizes ≡ sizes_of last = search rules in
