@@ -1,5 +1,6 @@
 pub mod Around
 pub mod Bits
+pub mod Clean
 pub mod Core
 pub mod Each
 pub mod Examples

@@ -1,5 +1,5 @@
 //! What holds of all components. Nothing here does anything when it runs.
-ghost use Rattle.rdl_seen.specs.Laws.{Coincides, CoincidesWithin, CutsOff, IgnoresOtherTypes, IgnoresOtherDefaults};
+ghost use Rattle.rdl_seen.specs.Laws.{Coincides, CoincidesWithin, FaultsCoincide, CutsOff, IgnoresOtherTypes, IgnoresOtherDefaults};
 ghost use Rattle.rdl_seen.specs.MeaningLaws.{StatedAreTaken, ValuesAreStated, ValuesAreWhole, MeansBehind, MeansBehindComponent, MeansAt, NodesHaveValues, KeptAreNodes, FieldsAreLikeNodes};
 
 /// A component is kept as the same where what stands around it agrees as far as it listens: each name of a class that it asks for
@@ -9,6 +9,12 @@ ghost use Rattle.rdl_seen.specs.MeaningLaws.{StatedAreTaken, ValuesAreStated, Va
 pub fn components_coincide()
     ensures kept { Coincides }
     ensures within { CoincidesWithin }
+{}
+
+/// Where what stands around a component agrees as far as it listens, its items have a fault here where they have one there: none of them
+/// has to be judged again.
+pub fn faults_coincide()
+    ensures { FaultsCoincide }
 {}
 
 /// Who assigns nothing inside is kept as the same under another type of a name of which the same is seen. Who doesn't ask for the name
