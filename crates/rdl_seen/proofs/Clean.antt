@@ -114,7 +114,7 @@ part_coincides lay deep sh k inner rest inside behind around body i a b m n agre
     λ j. is_none (holder_fault around body i (anonymous sh k)) && (inner_e j && there_e j)
 
 -- a field holds no instances and no definitions, whatever stands around it
-no_instance : (twice : Bool) (sh : Shell) (o : Option Kind) → is_none (instance_fault (Some Field) twice sh o) ≡ false
+pub no_instance : (twice : Bool) (sh : Shell) (o : Option Kind) → is_none (instance_fault (Some Field) twice sh o) ≡ false
 unfolding instance_fault
 no_instance true sh None = refl
 no_instance false sh None = refl
@@ -126,7 +126,7 @@ unfolding define_fault
 no_definition true k = refl
 no_definition false k = refl
 
-no_holder : (body : Items) (i : ℕ) (h : Holder) → is_none (holder_fault (Some Field) body i h) ≡ false
+pub no_holder : (body : Items) (i : ℕ) (h : Holder) → is_none (holder_fault (Some Field) body i h) ≡ false
 no_holder body i (define name k) = no_definition (is_some (last_definition name i body)) k
 no_holder body i (anonymous sh k) = no_instance (is_some (instance_before sh.name i body)) sh (Some k)
 

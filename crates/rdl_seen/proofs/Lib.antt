@@ -4,6 +4,7 @@ pub mod Clean
 pub mod Core
 pub mod Each
 pub mod Examples
+pub mod Judged
 pub mod KeptAt
 pub mod Own
 pub mod Owned
