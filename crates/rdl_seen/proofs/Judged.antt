@@ -278,11 +278,11 @@ clear_both : (o p : Option Fault) → is_none (option_or o p) ≡ (is_none o && 
 clear_both None p = refl
 clear_both (Some f) p = refl
 
-both_first : (x y : Bool) → (x && y) ≡ true → x ≡ true
+pub both_first : (x y : Bool) → (x && y) ≡ true → x ≡ true
 both_first true y h = refl
 both_first false y h = h
 
-both_second : (x y : Bool) → (x && y) ≡ true → y ≡ true
+pub both_second : (x y : Bool) → (x && y) ≡ true → y ≡ true
 both_second true y h = h
 both_second false y h = absurd cc
 
@@ -353,7 +353,7 @@ told_component lay d c k held a kind is tells = record { kind = kind; inside = n
         ap (λ m. target_kind d c m (q ∷ rest)) e ∙ tells q rest
 
 -- a field without a fault has no instances
-no_clean : (x y : Bool) → x ≡ false → (x && y) ≡ true → ⊥
+pub no_clean : (x y : Bool) → x ≡ false → (x && y) ≡ true → ⊥
 no_clean x y e h = both_ways x e (both_first x y h)
 
 field_empty : (lay : Laying) (body : Items) (i : ℕ) (a : Around) (t : Items) → are_clean lay a (Some Field) body i no_instances t ≡ true → (walked lay a no_instances t).instances ≡ no_instances

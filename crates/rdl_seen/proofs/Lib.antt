@@ -9,6 +9,7 @@ pub mod KeptAt
 pub mod Own
 pub mod Owned
 pub mod Puts
+pub mod Sizes
 pub mod Stands
 pub mod Stated
 pub mod Taken

@@ -1,6 +1,6 @@
 -- What the values of a node mean, in a description without a fault.
 -- SystemRDL 2.0, clause 5, property assignment.
-use Rattle.std.specs.Prelude.{◌≡◌, ℕ, ◌&&◌, not, Bool, true, List, [], Some, None}
+use Rattle.std.specs.Prelude.{◌≡◌, ℕ, ◌&&◌, not, Bool, true, false, List, [], Some, None}
 use Rattle.std.specs.Option.{is_none}
 use Rattle.rdl_tree.specs.Items.{Items, Plain, Holder}
 use Rattle.rdl_tree.specs.Properties.{row, takes}
@@ -11,6 +11,7 @@ use Rattle.rdl_scope.specs.Closed.{Parts, Made, Standing, stated, nothing, stand
 use Rattle.rdl_scope.specs.ItemFaults.{fault_of, is_too_large}
 use Rattle.rdl_seen.specs.declared.values.Values.{Values}
 use Rattle.rdl_seen.specs.Clean.{are_clean}
+use Rattle.rdl_seen.specs.Contents.{is_large}
 use Rattle.rdl_seen.specs.Inside.{no_instances}
 use Rattle.rdl_seen.specs.Layouts.{Laying}
 use Rattle.rdl_seen.specs.Meaning.{defaults_of, stated_of, HasValues, Means, nothing_around, around_at, IsMeant, node_at, IsLikeNode}
@@ -72,3 +73,7 @@ is_clean_map lay d = are_clean lay nothing_around None d 0 no_instances d
 -- a description that isn't too large has no fault exactly where each item has none by what its body sees
 abbrev pub FaultsAreFound : Type 0
 FaultsAreFound = (lay : Laying) (d : Items) → is_none (fault_of d) ≡ (not (is_too_large d) && is_clean_map lay d)
+
+-- a description whose items have no fault, and whose slots don't add up to too much, has none
+abbrev pub SmallMapsFit : Type 0
+SmallMapsFit = (lay : Laying) (d : Items) → is_clean_map lay d ≡ true → is_large (body_of lay nothing_around d).slots d ≡ false → fault_of d ≡ None
