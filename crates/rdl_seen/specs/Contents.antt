@@ -55,8 +55,8 @@ are_harmless spots no_slots = true
 are_harmless spots (slot s rest) = slot_harmless spots s && are_harmless spots rest
 are_harmless spots (written w c inside rest) = are_harmless spots rest
 
--- the names of the longest path, how deep bodies nest, the rows, whether there is an instance, the items inside and their weight, whether a register file or an address map without instances is inside, and the modes in which all instances
--- are sound
+-- the names of the longest path, how deep bodies nest, the rows, whether there is an instance, the items inside and their weight, whether
+-- a register file or an address map without instances is inside, and the modes in which all instances are sound
 pub record Contents : Type 0 where
   pub levels : ℕ
   pub depth : ℕ
