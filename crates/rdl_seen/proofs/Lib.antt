@@ -1,12 +1,15 @@
 pub mod Around
 pub mod Bits
+pub mod Clean
 pub mod Core
 pub mod Each
 pub mod Examples
+pub mod Judged
 pub mod KeptAt
 pub mod Own
 pub mod Owned
 pub mod Puts
+pub mod Sizes
 pub mod Stands
 pub mod Stated
 pub mod Taken

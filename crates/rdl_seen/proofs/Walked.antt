@@ -38,7 +38,7 @@ Coincide lay deep t =
     (a b : Around) (m n : Inside) → AgreeOn deep (asks (walked lay a m t).slots) (takes (walked lay a m t).slots) a b
     → IsDeepFor deep (walked lay a m t).slots → (deep ≡ true → m ≡ n) → SameWalked deep (walked lay a m t) (walked lay b n t)
 
-found_same : (deep : Bool) (a b : Around) (t : List ℕ) (more : NameSet) (s : PropertySet) → AgreeOn deep (with_names (names_of (class_of t)) more) s a b
+pub found_same : (deep : Bool) (a b : Around) (t : List ℕ) (more : NameSet) (s : PropertySet) → AgreeOn deep (with_names (names_of (class_of t)) more) s a b
     → option_map (shown deep) (lookup t a.types) ≡ option_map (shown deep) (lookup t b.types)
 found_same deep a b t more s agree = agree.types t (has_first (names_of (class_of t)).bits more.bits (class_of t) (has_own (class_of t)))
 
@@ -51,7 +51,7 @@ slot_same deep (own p x) a b m n more s agree all before = refl
 slot_same deep (default p x) a b m n more s agree all before = refl
 slot_same deep (dynamic t p x) a b m n more s agree all before = ap (λ (k : Inside). dynamic_slot (verdict_of (asked p x) t k)) (before (all refl))
 
-instances_same : (deep : Bool) (p : Plain) (a b : Around) (m n : Inside) (more : NameSet) (s : PropertySet)
+pub instances_same : (deep : Bool) (p : Plain) (a b : Around) (m n : Inside) (more : NameSet) (s : PropertySet)
     → AgreeOn deep (with_names (slot_asks (plain_slot a m p)) more) s a b → (deep ≡ true → m ≡ n) → deep ≡ true → plain_instances a p m ≡ plain_instances b p n
 instances_same deep (named sh t) a b m n more s agree before all =
     let found : lookup t a.types ≡ lookup t b.types = same_known deep (lookup t a.types) (lookup t b.types) (found_same deep a b t more s agree) all in
@@ -80,16 +80,21 @@ pub record SameNode (lay : Laying) (deep : Bool) (a b : Around) (k : Kind) (body
   pub slots : (node lay a k body).slots ≡ (node lay b k body).slots
   pub instances : deep ≡ true → (body_of lay a body).instances ≡ (body_of lay b body).instances
 
+-- what stands around a component agrees as far as its items listen
+pub agree_inside : (lay : Laying) (deep : Bool) (k : Kind) (body : Items) (a b : Around) → AgreeOn deep (node lay a k body).core.seen.asks (node lay a k body).core.seen.takes a b
+    → AgreeOn deep (asks (body_of lay a body).slots) (takes (body_of lay a body).slots) a b
+agree_inside lay deep k body a b agree =
+    let s = (body_of lay a body).slots in
+    let own = without_properties (kind_set k) (stated (own_values body)) in
+    let fields = without_access (is_ordered k (layouts_of lay k a.defaults body s)) (field_takes body s) in
+    record { types = agree.types; defaults = same_second fields (takes s) a.defaults b.defaults (same_second own (with_properties fields (takes s)) a.defaults b.defaults agree.defaults) }
+
 pub node_same : (lay : Laying) (deep : Bool) (k : Kind) (body : Items) → Coincide lay deep body → (a b : Around)
     → AgreeOn deep (node lay a k body).core.seen.asks (node lay a k body).core.seen.takes a b → IsDeepFor deep (node lay a k body).slots
     → SameNode lay deep a b k body
 node_same lay deep k body coincide a b agree all =
     let s = (body_of lay a body).slots in
-    let own = without_properties (kind_set k) (stated (own_values body)) in
-    let fields = without_access (is_ordered k (layouts_of lay k a.defaults body s)) (field_takes body s) in
-    let rest : AgreeOn deep (asks s) (with_properties fields (takes s)) a b = record { types = agree.types; defaults = same_second own (with_properties fields (takes s)) a.defaults b.defaults agree.defaults } in
-    let inner : AgreeOn deep (asks s) (takes s) a b = record { types = agree.types; defaults = same_second fields (takes s) a.defaults b.defaults rest.defaults } in
-    let walked_e : SameWalked deep (body_of lay a body) (body_of lay b body) = coincide a b no_instances no_instances inner all (λ e. refl) in
+    let walked_e : SameWalked deep (body_of lay a body) (body_of lay b body) = coincide a b no_instances no_instances (agree_inside lay deep k body a b agree) all (λ e. refl) in
     let core_e : core_of lay k a.defaults body s ≡ core_of lay k b.defaults body s = core_same lay k a.defaults b.defaults body s agree.defaults in
     record {
       core = core_e ∙ ap (core_of lay k b.defaults body) walked_e.slots;
@@ -100,7 +105,7 @@ node_same lay deep k body coincide a b agree all =
 pub known_same : (lay : Laying) (deep : Bool) (a b : Around) (k : Kind) (body : Items) → SameNode lay deep a b k body → deep ≡ true → known lay a k body ≡ known lay b k body
 known_same lay deep a b k body same all = λ i. known_of (same.core i) (same.instances all i)
 
-shown_same : (lay : Laying) (deep : Bool) (a b : Around) (k : Kind) (body : Items) → SameNode lay deep a b k body → shown deep (known lay a k body) ≡ shown deep (known lay b k body)
+pub shown_same : (lay : Laying) (deep : Bool) (a b : Around) (k : Kind) (body : Items) → SameNode lay deep a b k body → shown deep (known lay a k body) ≡ shown deep (known lay b k body)
 shown_same lay deep a b k body same =
     same_shown deep (known lay a k body) (known lay b k body) (ap (λ (c : Core). c.seen) same.core) (known_same lay deep a b k body same)
 

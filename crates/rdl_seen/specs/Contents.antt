@@ -1,8 +1,8 @@
 -- What is inside a component, all its items taken together.
 -- own: SystemRDL 2.0 has no edits. Sums are not capped here, as those of `Seen` are.
-use Rattle.std.specs.Prelude.{ℕ, ◌+◌, ◌*◌, max, min, ◌^◌, ◌||◌, ◌&&◌, Bool, true, false, length, Option, Some, None}
-use Rattle.rdl_tree.specs.Items.{Items, no_items, plain, holder, Plain, dynamic}
-use Rattle.rdl_tree.specs.Weight.{value_weight, plain_weight, holder_weight}
+use Rattle.std.specs.Prelude.{ℕ, ◌+◌, max, min, ◌^◌, nat_lt, ◌||◌, ◌&&◌, Bool, true, false, Option, Some, None}
+use Rattle.rdl_tree.specs.Items.{Items, no_items, plain, holder}
+use Rattle.rdl_tree.specs.Weight.{plain_weight, holder_weight}
 use Rattle.rdl_seen.specs.declared.names.NameSet.{NameSet}
 use Rattle.rdl_seen.specs.declared.property_set.PropertySet.{PropertySet}
 use Rattle.rdl_seen.specs.declared.seen.Modes.{Modes}
@@ -55,9 +55,8 @@ are_harmless spots no_slots = true
 are_harmless spots (slot s rest) = slot_harmless spots s && are_harmless spots rest
 are_harmless spots (written w c inside rest) = are_harmless spots rest
 
--- the names of the longest path, how deep bodies nest, the rows, whether there is an instance, the items inside, a number that their
--- weight isn't above, whether a register file or an address map without instances is inside, and the modes in which all instances
--- are sound
+-- the names of the longest path, how deep bodies nest, the rows, whether there is an instance, the items inside and their weight, whether
+-- a register file or an address map without instances is inside, and the modes in which all instances are sound
 pub record Contents : Type 0 where
   pub levels : ℕ
   pub depth : ℕ
@@ -119,15 +118,10 @@ item_count no_items = 0
 item_count (plain p rest) = 1 + item_count rest
 item_count (holder h body rest) = 1 + item_count rest
 
--- a number that the weight of an item isn't above: a name of a target counts as 255 bytes
-abbrev pub weight_of : Plain → ℕ
-weight_of (dynamic t p v) = length t * 255 + length p + value_weight v + 1
-weight_of p = plain_weight p
-
--- the same of some items, but for what is inside them
+-- the weight of some items, but for what is inside them
 abbrev pub items_weight : Items → ℕ
 items_weight no_items = 0
-items_weight (plain p rest) = weight_of p + items_weight rest
+items_weight (plain p rest) = plain_weight p + items_weight rest
 items_weight (holder h body rest) = holder_weight h + items_weight rest
 
 abbrev pub own_weight : Items → ℕ
@@ -137,4 +131,10 @@ own_weight body = min (items_weight body) (2 ^ 31)
 abbrev pub field_of : Items → FieldBody
 field_of body =
     let own = own_values body in
-    record { width = own.fieldwidth; access = own.sw; reset = own.reset; count = min (item_count body) 255; weight = own_weight body }
+    record { width = own.fieldwidth; access = own.sw; reset = own.reset; count = min (item_count body) (2 ^ 30); weight = own_weight body }
+
+-- bodies nest more than 16 deep, or there are too many items, or they weigh too much
+abbrev pub is_large : Slots → Items → Bool
+is_large s body =
+    let c = contents s in
+    nat_lt 16 c.depth || nat_lt 65536 (c.count + min (item_count body) (2 ^ 30)) || nat_lt 8388608 (c.weight + own_weight body)

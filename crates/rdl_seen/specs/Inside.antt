@@ -1,12 +1,15 @@
 -- What the target of a dynamic assignment finds inside a component, and whether what is assigned there fits.
 -- SystemRDL 2.0, clause 5, dynamic assignment: the target names instances, one inside the other.
 use Rattle.std.specs.Prelude.{ℕ, ◌+◌, ◌-◌, nat_le, Bool, true, false, List, [], ◌∷◌, Option, Some, None, option_map, option_and_then, slice_get, bytes_eq, codes, if◌then◌else◌}
+use Rattle.rdl_tree.specs.declared.shell.Kind.{Kind}
+use Rattle.rdl_tree.specs.declared.shell.Kind.TheVariants.{Field}
 use Rattle.rdl_tree.specs.declared.value.Value.{Value}
 use Rattle.rdl_seen.specs.Layouts.{Span}
 use Rattle.rdl_seen.specs.Values.{reset_bits}
 
--- where the instances of a component lie, and whether they are fields of which no two share a bit
+-- a component: its kind, where its instances lie, and whether these are fields of which no two share a bit
 pub record Spots : Type 0 where
+  pub kind : Kind
   pub spans : List Span
   pub is_ordered : Bool
 
@@ -20,8 +23,9 @@ pub record Within : Type 0 where
   pub spots : Spots
   pub inside : Inside
 
+-- a field
 abbrev pub nothing_within : Within
-nothing_within = record { spots = record { spans = []; is_ordered = false }; inside = no_instances }
+nothing_within = record { spots = record { kind = Field; spans = []; is_ordered = false }; inside = no_instances }
 
 abbrev pub how_many : Inside → ℕ
 how_many no_instances = 0

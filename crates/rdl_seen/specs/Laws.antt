@@ -5,6 +5,7 @@ use Rattle.rdl_tree.specs.Items.{Items}
 use Rattle.rdl_tree.specs.declared.shell.Kind.{Kind}
 use Rattle.rdl_tree.specs.declared.value.Value.{Value}
 use Rattle.rdl_seen.specs.Agree.{AgreeOn, Agree}
+use Rattle.rdl_seen.specs.Clean.{is_clean}
 use Rattle.rdl_seen.specs.Layouts.{Laying}
 use Rattle.rdl_seen.specs.Names.{class_of, has_class}
 use Rattle.rdl_seen.specs.Node.{Known, Around, with_type, with_default, node, known}
@@ -43,3 +44,8 @@ IgnoresOtherDefaults =
     (lay : Laying) (a : Around) (p : List ℕ) (x : Value) (k : Kind) (body : Items)
     → do_properties_meet (node lay a k body).core.seen.takes (set_named p) ≡ false
     → node lay (with_default p x a) k body ≡ node lay a k body
+
+-- its items have a fault, or have none, wherever what stands around it agrees as far as it listens
+abbrev pub FaultsCoincide : Type 0
+FaultsCoincide =
+    (lay : Laying) (a b : Around) (k : Kind) (body : Items) → Agree (node lay a k body).core.seen a b → is_clean lay b k body ≡ is_clean lay a k body

@@ -1,4 +1,5 @@
 pub mod Agree
+pub mod Clean
 pub mod Contents
 pub mod Fields
 pub mod Inside

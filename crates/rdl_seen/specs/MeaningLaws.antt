@@ -1,14 +1,18 @@
 -- What the values of a node mean, in a description without a fault.
 -- SystemRDL 2.0, clause 5, property assignment.
-use Rattle.std.specs.Prelude.{◌≡◌, ℕ, true, List, [], Some, None}
+use Rattle.std.specs.Prelude.{◌≡◌, ℕ, ◌&&◌, not, Bool, true, false, List, [], Some, None}
+use Rattle.std.specs.Option.{is_none}
 use Rattle.rdl_tree.specs.Items.{Items, Plain, Holder}
 use Rattle.rdl_tree.specs.Properties.{row, takes}
 use Rattle.rdl_tree.specs.declared.value.Value.{Value}
 use Rattle.rdl_tree.specs.declared.property.Property.{Property}
 use Rattle.rdl_scope.specs.Closed as scope
 use Rattle.rdl_scope.specs.Closed.{Parts, Made, Standing, stated, nothing, standing_at, component}
-use Rattle.rdl_scope.specs.ItemFaults.{fault_of}
+use Rattle.rdl_scope.specs.ItemFaults.{fault_of, is_too_large}
 use Rattle.rdl_seen.specs.declared.values.Values.{Values}
+use Rattle.rdl_seen.specs.Clean.{are_clean}
+use Rattle.rdl_seen.specs.Contents.{is_large}
+use Rattle.rdl_seen.specs.Inside.{no_instances}
 use Rattle.rdl_seen.specs.Layouts.{Laying}
 use Rattle.rdl_seen.specs.Meaning.{defaults_of, stated_of, HasValues, Means, nothing_around, around_at, IsMeant, node_at, IsLikeNode}
 use Rattle.rdl_seen.specs.Node.{Known, Around, values_of, after_plain, after_holder, body_of, node}
@@ -61,3 +65,15 @@ KeptAreNodes =
 -- a field that is written where it is instantiated isn't kept by itself; what is kept of it is the same
 abbrev pub FieldsAreLikeNodes : Type 0
 FieldsAreLikeNodes = (defaults : Values) (body : Items) → IsLikeNode defaults body
+
+-- no item of a description has a fault
+abbrev pub is_clean_map : Laying → Items → Bool
+is_clean_map lay d = are_clean lay nothing_around None d 0 no_instances d
+
+-- a description that isn't too large has no fault exactly where each item has none by what its body sees
+abbrev pub FaultsAreFound : Type 0
+FaultsAreFound = (lay : Laying) (d : Items) → is_none (fault_of d) ≡ (not (is_too_large d) && is_clean_map lay d)
+
+-- a description whose items have no fault, and whose slots don't add up to too much, has none
+abbrev pub SmallMapsFit : Type 0
+SmallMapsFit = (lay : Laying) (d : Items) → is_clean_map lay d ≡ true → is_large (body_of lay nothing_around d).slots d ≡ false → fault_of d ≡ None

@@ -1,6 +1,6 @@
 //! What holds of all components. Nothing here does anything when it runs.
-ghost use Rattle.rdl_seen.specs.Laws.{Coincides, CoincidesWithin, CutsOff, IgnoresOtherTypes, IgnoresOtherDefaults};
-ghost use Rattle.rdl_seen.specs.MeaningLaws.{StatedAreTaken, ValuesAreStated, ValuesAreWhole, MeansBehind, MeansBehindComponent, MeansAt, NodesHaveValues, KeptAreNodes, FieldsAreLikeNodes};
+ghost use Rattle.rdl_seen.specs.Laws.{Coincides, CoincidesWithin, FaultsCoincide, CutsOff, IgnoresOtherTypes, IgnoresOtherDefaults};
+ghost use Rattle.rdl_seen.specs.MeaningLaws.{StatedAreTaken, ValuesAreStated, ValuesAreWhole, MeansBehind, MeansBehindComponent, MeansAt, NodesHaveValues, KeptAreNodes, FieldsAreLikeNodes, FaultsAreFound, SmallMapsFit};
 
 /// A component is kept as the same where what stands around it agrees as far as it listens: each name of a class that it asks for
 /// leads to a type of which the same is seen, and, if a dynamic assignment stands inside it, of which the same is known inside; and
@@ -9,6 +9,12 @@ ghost use Rattle.rdl_seen.specs.MeaningLaws.{StatedAreTaken, ValuesAreStated, Va
 pub fn components_coincide()
     ensures kept { Coincides }
     ensures within { CoincidesWithin }
+{}
+
+/// Where what stands around a component agrees as far as it listens, its items have a fault here where they have one there: none of them
+/// has to be judged again.
+pub fn faults_coincide()
+    ensures { FaultsCoincide }
 {}
 
 /// Who assigns nothing inside is kept as the same under another type of a name of which the same is seen. Who doesn't ask for the name
@@ -42,4 +48,12 @@ pub fn nodes_mean()
 pub fn kept_are_nodes()
     ensures nodes { KeptAreNodes }
     ensures fields { FieldsAreLikeNodes }
+{}
+
+/// A description that isn't too large has no fault exactly where each of its items has none by what the body around it sees: the kinds of
+/// the types by name, the instances that stand before it with those inside, and the items before it in its own body. Whether it is too large is told by the sums along its slots, where
+/// its items have no fault.
+pub fn faults_are_found()
+    ensures found { FaultsAreFound }
+    ensures small { SmallMapsFit }
 {}

@@ -50,9 +50,9 @@ pub struct Seen {
     pub is_assigned: bool,
     /// The rows below it, at most 65,536.
     pub rows: u32,
-    /// The items inside it.
+    /// The items inside it; more than 2^32 - 1 are as many.
     pub count: u32,
-    /// A number that the weight of these, in bytes, isn't above.
+    /// What these weigh, in bytes; more than 2^32 - 1 is as much.
     pub weight: u32,
     /// The widest access inside, in bytes.
     pub widest: ByMode,
