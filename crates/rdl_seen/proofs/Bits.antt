@@ -14,15 +14,15 @@ zero_or_one zero below = inl refl
 zero_or_one (suc zero) below = inr refl
 zero_or_one (suc (suc x)) below = absurd (omega arith)
 
-bit_cases : (a k : ℕ) → (bit_at a k ≡ 0) ⊎ (bit_at a k ≡ 1)
+pub bit_cases : (a k : ℕ) → (bit_at a k ≡ 0) ⊎ (bit_at a k ≡ 1)
 bit_cases a k = zero_or_one (bit_at a k) (bit_at-lt a k)
 
-lacks_from : (a k : ℕ) → bit_at a k ≡ 0 → meet a (2 ^ k) ≡ false
+pub lacks_from : (a k : ℕ) → bit_at a k ≡ 0 → meet a (2 ^ k) ≡ false
 lacks_from a k e =
     let none : bit_and a (2 ^ k) ≡ 0 = and_pow a k ∙ (ap (λ x. x * 2 ^ k) e ∙ zero-mul (2 ^ k)) in
     ap (λ (t : Bool). not t) (eq-eqb (bit_and a (2 ^ k)) 0 none)
 
-has_from : (a k : ℕ) → bit_at a k ≡ 1 → meet a (2 ^ k) ≡ true
+pub has_from : (a k : ℕ) → bit_at a k ≡ 1 → meet a (2 ^ k) ≡ true
 has_from a k e =
     let some : bit_and a (2 ^ k) ≡ 2 ^ k = and_pow a k ∙ (ap (λ x. x * 2 ^ k) e ∙ one-mul (2 ^ k)) in
     let over : 0 < 2 ^ k = pow_pos k in

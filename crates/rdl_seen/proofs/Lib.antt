@@ -1,3 +1,4 @@
+pub mod Alerts
 pub mod Around
 pub mod Bits
 pub mod Clean

@@ -23,7 +23,7 @@ use Rattle.rdl_seen.proofs.Around.{agree_type, same_shown}
 use Rattle.rdl_seen.proofs.Walked.{coincide, SameNode, node_same, known_same}
 
 -- the same values on both sides
-same_values : (s : PropertySet) (v : Values) → SameValues s v v
+pub same_values : (s : PropertySet) (v : Values) → SameValues s v v
 same_values s v = record { addressing = λ has. refl; alignment = λ has. refl; regwidth = λ has. refl; accesswidth = λ has. refl; fieldwidth = λ has. refl; sw = λ has. refl; reset = λ has. refl }
 
 node_by : (lay : Laying) (deep : Bool) (a b : Around) (k : Kind) (body : Items) → AgreeOn deep (node lay a k body).core.seen.asks (node lay a k body).core.seen.takes a b
@@ -82,7 +82,7 @@ untaken Sw x s v lacks = record { addressing = λ has. refl; alignment = λ has.
 untaken Reset x s v lacks = record { addressing = λ has. refl; alignment = λ has. refl; regwidth = λ has. refl; accesswidth = λ has. refl; fieldwidth = λ has. refl; sw = λ has. refl; reset = never (meet s.bits 64) lacks }
 untaken q x s v lacks = same_values s v
 
-untaken_found : (q : Option Property) (x : Value) (s : PropertySet) (v : Values) → do_properties_meet s (set_of_found q) ≡ false → SameValues s v (put_found q x v)
+pub untaken_found : (q : Option Property) (x : Value) (s : PropertySet) (v : Values) → do_properties_meet s (set_of_found q) ≡ false → SameValues s v (put_found q x v)
 untaken_found None x s v lacks = same_values s v
 untaken_found (Some q) x s v lacks = untaken q x s v lacks
 

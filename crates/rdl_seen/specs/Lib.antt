@@ -1,4 +1,6 @@
 pub mod Agree
+pub mod Alert
+pub mod AlertLaws
 pub mod Clean
 pub mod Contents
 pub mod Fields

@@ -1,5 +1,6 @@
 //! What holds of all components. Nothing here does anything when it runs.
 ghost use Rattle.rdl_seen.specs.Laws.{Coincides, CoincidesWithin, FaultsCoincide, CutsOff, IgnoresOtherTypes, IgnoresOtherDefaults};
+ghost use Rattle.rdl_seen.specs.AlertLaws.{UnreachedAreKept, UnreachedAreKnown, NothingDiffers, MoreMayDiffer, StaysBehind, StaysBehindType, TypesComeAndGo, DefaultsComeAndGo};
 ghost use Rattle.rdl_seen.specs.MeaningLaws.{StatedAreTaken, ValuesAreStated, ValuesAreWhole, MeansBehind, MeansBehindComponent, MeansAt, NodesHaveValues, KeptAreNodes, FieldsAreLikeNodes, FaultsAreFound, SmallMapsFit};
 
 /// A component is kept as the same where what stands around it agrees as far as it listens: each name of a class that it asks for
@@ -23,6 +24,20 @@ pub fn components_listen_no_further()
     ensures cut_off { CutsOff }
     ensures types { IgnoresOtherTypes }
     ensures defaults { IgnoresOtherDefaults }
+{}
+
+/// Where what two bodies see differs in nothing but what an alert tells of, a component that listens to nothing of that is kept as the
+/// same, and its items have a fault here where they have one there. The two still differ in no more behind the same item, behind a
+/// definition of which as much is seen as isn't told of, and where a definition or a default that is told of came or went.
+pub fn alerts_tell()
+    ensures kept { UnreachedAreKept }
+    ensures known { UnreachedAreKnown }
+    ensures nothing { NothingDiffers }
+    ensures more { MoreMayDiffer }
+    ensures behind { StaysBehind }
+    ensures behind_type { StaysBehindType }
+    ensures types { TypesComeAndGo }
+    ensures defaults { DefaultsComeAndGo }
 {}
 
 /// Of a description without a fault, each value that is stated of a component, by its own assignments or by a default, is one that
