@@ -3,6 +3,7 @@ pub mod Cuts
 pub mod Described
 pub mod From
 pub mod Noting
+pub mod Orders
 pub mod Rounds
 pub mod Tells
 pub mod Times
