@@ -9,6 +9,7 @@ pub mod Judged
 pub mod KeptAt
 pub mod Own
 pub mod Owned
+pub mod Passing
 pub mod Puts
 pub mod Sizes
 pub mod Stands

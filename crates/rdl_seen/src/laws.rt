@@ -1,6 +1,7 @@
 //! What holds of all components. Nothing here does anything when it runs.
 ghost use Rattle.rdl_seen.specs.Laws.{Coincides, CoincidesWithin, FaultsCoincide, CutsOff, IgnoresOtherTypes, IgnoresOtherDefaults};
 ghost use Rattle.rdl_seen.specs.AlertLaws.{UnreachedAreKept, UnreachedAreKnown, NothingDiffers, MoreMayDiffer, StaysBehind, StaysBehindType, TypesComeAndGo, DefaultsComeAndGo};
+ghost use Rattle.rdl_seen.specs.Passing.{StandsBehindItem, ItemsComeAndGo, ItemsStay, ItemsArePassedOver};
 ghost use Rattle.rdl_seen.specs.MeaningLaws.{StatedAreTaken, ValuesAreStated, ValuesAreWhole, MeansBehind, MeansBehindComponent, MeansAt, NodesHaveValues, KeptAreNodes, FieldsAreLikeNodes, FaultsAreFound, SmallMapsFit};
 
 /// A component is kept as the same where what stands around it agrees as far as it listens: each name of a class that it asks for
@@ -38,6 +39,16 @@ pub fn alerts_tell()
     ensures behind_type { StaysBehindType }
     ensures types { TypesComeAndGo }
     ensures defaults { DefaultsComeAndGo }
+{}
+
+/// What stands behind an item is what stood before it and what the item brings. Where two bodies see the same but for what an alert
+/// tells of, no more differs behind an item that came or went and is told of, behind one that stayed, if of a definition as much is seen
+/// as isn't told of, and where items that are told of are passed over.
+pub fn items_are_told_of()
+    ensures behind { StandsBehindItem }
+    ensures come_and_go { ItemsComeAndGo }
+    ensures stay { ItemsStay }
+    ensures passed { ItemsArePassedOver }
 {}
 
 /// Of a description without a fault, each value that is stated of a component, by its own assignments or by a default, is one that
