@@ -1,0 +1,56 @@
+-- What holds of sound components in a description without a fault among its items.
+-- own: SystemRDL 2.0 speaks of maps as a whole.
+use Rattle.std.specs.Prelude.{◌≡◌, ℕ, ◌+◌, ◌^◌, ◌≤◌, true, List, [], Some, None}
+use Rattle.std.specs.List.{list_all}
+use Rattle.rdl_tree.specs.Items.{Items}
+use Rattle.rdl_tree.specs.declared.shell.Kind.TheVariants.{Addrmap, Reg}
+use Rattle.rdl_scope.specs.Target.{passes}
+use Rattle.rdl_scope.specs.Closed.{Made, component}
+use Rattle.rdl_scope.specs.ItemFaults.{fault_of}
+use Rattle.rdl_elab.specs.declared.layout.Mode.{Mode}
+use Rattle.rdl_elab.specs.declared.layout.Mode.TheVariants.{Regalign}
+use Rattle.rdl_elab.specs.Layouts.{values_of, mode_inside, layout_of}
+use Rattle.rdl_elab.specs.Reaches.{Reach, reaches, along}
+use Rattle.rdl_elab.specs.Rows.{Around, rows_in, top_layout}
+use Rattle.rdl_elab.specs.Faults.{levels, count, first_empty, first_row_fault, fault_of_top}
+use Rattle.sound_laws.specs.Harmless.{are_harmless, is_unjudged}
+use Rattle.sound_laws.specs.Sound.{is_sound}
+use Rattle.sound_laws.specs.Targets.{target_in}
+
+-- what stands around the instances of this component is what it is where the component stands under this mode
+pub record IsInside (m : Mode) (c : Made) (o : Around) : Type 0 where
+  pub mode : o.mode ≡ mode_inside c.head.kind (values_of c.head) m
+  pub bits : c.head.kind ≡ Reg → o.bits ≡ (values_of c.head).regwidth
+
+-- no row below a component has a fault
+abbrev pub IsFaultlessBelow : Items → Mode → Made → Around → Type 0
+IsFaultlessBelow d m c o = first_row_fault d (rows_in d o [] (layout_of m c.head c.parts).spans c.parts) ≡ None
+
+-- a target passes the instances that its names find among those of the component
+abbrev pub TargetsAreNamed : Type 0
+TargetsAreNamed =
+    (d : Items) (a : List ℕ) (c : Made) → fault_of d ≡ None → component d a ≡ Some c
+    → (n : ℕ) (names : List (List ℕ)) → target_in c.parts n names ≡ passes d a n names
+
+-- the dynamic assignments in the body of a sound component are harmless
+abbrev pub SoundAssignsNoHarm : Type 0
+SoundAssignsNoHarm =
+    (d : Items) (a : List ℕ) (c : Made) (m : Mode) → fault_of d ≡ None → component d a ≡ Some c → is_sound m c.head c.parts ≡ true
+    → are_harmless c.head c.parts (reaches d a 0 c.head.body) ≡ true
+
+-- below a sound component no row has a fault, if what is assigned from around it is harmless
+abbrev pub SoundHasNoFault : Type 0
+SoundHasNoFault =
+    (d : Items) (a : List ℕ) (c : Made) (m : Mode) (o : Around) → fault_of d ≡ None → component d a ≡ Some c → is_sound m c.head c.parts ≡ true
+    → IsInside m c o → are_harmless c.head c.parts (along d [] o.path) ≡ true → IsFaultlessBelow d m c o
+
+-- as it is if neither `sw` nor `reset` is
+abbrev pub UnjudgedAreHarmless : Type 0
+UnjudgedAreHarmless = (c : Made) (rs : List Reach) → list_all is_unjudged rs ≡ true → are_harmless c.head c.parts rs ≡ true
+
+-- a map within the limits whose top is sound has no fault
+abbrev pub SoundMapHasNoFault : Type 0
+SoundMapHasNoFault =
+    (d : Items) (a name : List ℕ) (c : Made) → fault_of d ≡ None → component d a ≡ Some c → c.head.kind ≡ Addrmap → is_sound Regalign c.head c.parts ≡ true
+    → levels c.parts + 1 ≤ 16 → count c.parts + 1 ≤ 65536 → first_empty c.parts ≡ None → (top_layout c).size ≤ 2 ^ 40
+    → fault_of_top d a name c ≡ None

@@ -1,0 +1,5 @@
+pub mod Harmless
+pub mod Targets
+pub mod Sound
+pub mod Verdicts
+pub mod Laws
