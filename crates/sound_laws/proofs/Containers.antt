@@ -1,15 +1,14 @@
 -- No row below a sound component has a fault.
 use Rattle.std.proofs.Common.{◌≡◌, ℕ, List, [], ◌∷◌, ◌++◌, Bool, true, false, Some, None, Option, refl, ap, sym, subst, ◌∙◌}
-use Rattle.std.specs.Prelude.{◌&&◌, ◌||◌, not, nat_lt, nat_le, map, unwrap_or, if◌then◌else◌}
+use Rattle.std.specs.Prelude.{◌&&◌, ◌||◌, not, nat_lt, nat_le, map, unwrap_or}
 use Rattle.std.specs.List.{list_all}
 use Rattle.rdl_tree.specs.Items.{Items}
 use Rattle.rdl_tree.specs.declared.shell.Kind.{Kind}
 use Rattle.rdl_tree.specs.declared.shell.Kind.TheVariants.{Addrmap, Regfile, Reg, Field}
-use Rattle.rdl_tree.specs.declared.shell.Shell.{Shell}
 use Rattle.rdl_tree.specs.declared.value.Value.{Value}
 use Rattle.rdl_tree.specs.declared.fault.FaultKind.{FaultKind}
 use Rattle.rdl_tree.specs.declared.fault.FaultKind.TheVariants.{AccessTooWide, StrideTooSmall, AddressOverlap}
-use Rattle.rdl_scope.specs.Target.{body_of, passes}
+use Rattle.rdl_scope.specs.Target.{body_of}
 use Rattle.rdl_scope.specs.ItemFaults.{first_of, fault_of, may_instantiate}
 use Rattle.rdl_scope.specs.Closed.{Head, Parts, no_parts, part, Made, component}
 use Rattle.rdl_scope.proofs.AsFound.{as_found}
@@ -18,7 +17,7 @@ use Rattle.rdl_elab.specs.declared.layout.Mode.TheVariants.{Compact}
 use Rattle.rdl_elab.specs.declared.layout.Member.{Member}
 use Rattle.rdl_elab.specs.declared.layout.Span.{Span}
 use Rattle.rdl_elab.specs.Bits.{bits_from}
-use Rattle.rdl_elab.specs.Found.{IsPartFound, ArePartsFound}
+use Rattle.rdl_elab.specs.Found.{ArePartsFound}
 use Rattle.rdl_elab.specs.Layouts.{values_of, mode_inside, member, laid_out, layouts, layout_of}
 use Rattle.rdl_elab.specs.Rows.{Around, Judged, judged_row, inside, rows_in}
 use Rattle.rdl_elab.specs.Faults.{overlap, overlaps_one, kind_fault, first_row_fault}

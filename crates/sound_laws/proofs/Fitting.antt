@@ -1,7 +1,6 @@
 -- Names tell of a dynamic assignment whether it is harmless.
-use Rattle.std.proofs.Common.{◌≡◌, ℕ, suc, ◌+◌, ◌<◌, ◌≤◌, List, [], ◌∷◌, ◌++◌, Bool, true, false, Some, None, Option, option_map, refl, ap, sym, subst, ◌∙◌, arith}
-use Rattle.std.specs.Prelude.{nat_eq, nat_lt, bytes_eq, ◌&&◌, option_and_then, if◌then◌else◌}
-use Rattle.std.specs.List.{list_all}
+use Rattle.std.proofs.Common.{◌≡◌, ℕ, suc, ◌<◌, ◌≤◌, List, [], ◌∷◌, ◌++◌, Bool, true, false, Some, None, Option, option_map, refl, ap, sym, subst, ◌∙◌, arith}
+use Rattle.std.specs.Prelude.{nat_eq, bytes_eq, ◌&&◌, option_and_then, if◌then◌else◌}
 use Rattle.std.specs.Cmp.Lexicographic.{pointwise}
 use Rattle.std.proofs.lemmas.Slice.Eq.{bytes_eq-Decides}
 use Rattle.rdl_tree.specs.Items.{Items, no_items, plain, holder, named as named_item, own, default, dynamic, define, anonymous}
@@ -14,11 +13,10 @@ use Rattle.rdl_scope.specs.Closed.{Head, Parts, no_parts, part, Made, component,
 use Rattle.rdl_scope.proofs.AsFound.{as_found}
 use Rattle.rdl_elab.proofs.PartsFound.{parts-found}
 use Rattle.rdl_elab.specs.Reaches.{Reach, with_path, reaches_by}
-use Rattle.sound_laws.specs.Harmless.{Spot, elsewhere, is_fitting, spots_in, each_at, is_harmless_along, is_harmless, are_harmless}
+use Rattle.sound_laws.specs.Harmless.{Spot, elsewhere, spots_in, each_at, is_harmless_along, are_harmless}
 use Rattle.sound_laws.specs.Targets.{Instance, named, passed_by, is_before, first_named, target_in}
 use Rattle.sound_laws.specs.Verdicts.{Stand, stand_named, end_in, is_end_fitting, is_item_fitting, are_items_fitting, FittingIsHarmless}
-use Rattle.sound_laws.proofs.Lists.{and_both}
-use Rattle.sound_laws.proofs.Named.{IsOne, one_named}
+use Rattle.sound_laws.proofs.Named.{one_named}
 
 -- ---- No two instances of a body are the same item.
 

@@ -8,3 +8,4 @@ pub mod Named
 pub mod Fitting
 pub mod Unjudged
 pub mod Maps
+pub mod Searching

@@ -18,7 +18,7 @@ use Rattle.rdl_tree.proofs.Places.{number-place}
 use Rattle.rdl_scope.specs.Types.{component_of, component_at, items_in}
 use Rattle.rdl_scope.specs.Target.{plain_named, holder_named, instance_before, instance_in, passes}
 use Rattle.rdl_scope.specs.ItemFaults.{kind_at, instance_kind, instance_fault, item_fault, fault_of}
-use Rattle.rdl_scope.specs.Closed.{Head, Made, Parts, no_parts, part, component, instances, with_made}
+use Rattle.rdl_scope.specs.Closed.{Made, Parts, no_parts, part, component, instances, with_made}
 use Rattle.rdl_scope.proofs.AsFound.{as_found}
 use Rattle.rdl_scope.proofs.Accepted.{clear-inside}
 use Rattle.rdl_scope.proofs.Holds.{holds}

@@ -1,6 +1,6 @@
 -- What is harmless stays so behind an instance, and what ends at one fits there.
-use Rattle.std.proofs.Common.{◌≡◌, ℕ, List, [], ◌∷◌, Bool, true, false, Some, None, Option, refl, ap, sym, ◌∙◌}
-use Rattle.std.specs.Prelude.{nat_eq, bytes_eq, ◌&&◌, not, if◌then◌else◌}
+use Rattle.std.proofs.Common.{◌≡◌, ℕ, List, [], ◌∷◌, Bool, true, false, Some, None, Option, refl, sym, ◌∙◌}
+use Rattle.std.specs.Prelude.{nat_eq, bytes_eq, ◌&&◌, if◌then◌else◌}
 use Rattle.std.specs.List.{list_all, cons_option}
 use Rattle.std.specs.Cmp.Lexicographic.{pointwise}
 use Rattle.std.proofs.lemmas.Slice.Eq.{bytes_eq-Decides}

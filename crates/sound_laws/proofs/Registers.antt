@@ -1,6 +1,6 @@
 -- The rows of the fields of a sound register have no fault.
 use Rattle.std.proofs.Common.{◌≡◌, ℕ, List, [], ◌∷◌, ◌++◌, Bool, true, false, Some, None, Option, refl, ap, sym, ◌∙◌}
-use Rattle.std.specs.Prelude.{◌&&◌, ◌||◌, not, nat_lt, nat_le, map, if◌then◌else◌}
+use Rattle.std.specs.Prelude.{not, nat_lt, nat_le, map}
 use Rattle.std.specs.Option.{option_or}
 use Rattle.std.specs.List.{list_all}
 use Rattle.std.proofs.lemmas.Bool.{le-ltb, leb-true}
@@ -19,23 +19,19 @@ use Rattle.rdl_scope.specs.ItemFaults.{first_of, fault_at, fault_of, may_instant
 use Rattle.rdl_scope.specs.Closed.{Head, Parts, no_parts, part, Made, component}
 use Rattle.rdl_scope.proofs.Accepted.{neither}
 use Rattle.rdl_elab.specs.declared.layout.Mode.{Mode}
-use Rattle.rdl_elab.specs.declared.layout.Mode.TheVariants.{Compact}
-use Rattle.rdl_elab.specs.declared.layout.Member.{Member}
 use Rattle.rdl_elab.specs.declared.layout.Span.{Span}
-use Rattle.rdl_elab.specs.declared.layout.Layout.{Layout}
-use Rattle.rdl_elab.specs.Bits.{bits_from}
 use Rattle.rdl_elab.specs.Found.{IsPartFound, ArePartsFound}
 use Rattle.rdl_elab.specs.Layouts.{number_in, values_of, mode_inside, member, laid_out, layouts, layout_of}
 use Rattle.rdl_elab.specs.Rows.{row_value, Around, Judged, judged_row, inside, rows_in}
-use Rattle.rdl_elab.specs.Faults.{overlap, may_share, clashes, is_reset_too_wide, kind_fault, row_fault, first_row_fault}
+use Rattle.rdl_elab.specs.Faults.{clashes, is_reset_too_wide, kind_fault, row_fault, first_row_fault}
 use Rattle.rdl_elab.specs.Reaches.{Reach, behind, along, reached}
 use Rattle.rdl_elab.proofs.FieldsInside.{kind-allowed}
-use Rattle.sound_laws.specs.Harmless.{are_apart, in_register, field_spans, is_harmless_at}
+use Rattle.sound_laws.specs.Harmless.{in_register}
 use Rattle.sound_laws.specs.Sound.{value_with, fields_of, clash_none, resets_fit}
-use Rattle.sound_laws.proofs.Lists.{both, and_both, not_false, free, free_first, free_rest, free_more}
+use Rattle.sound_laws.proofs.Lists.{both, free, free_first, free_rest, free_more}
 use Rattle.sound_laws.proofs.Passing.{is_harmless_among, pass}
 use Rattle.sound_laws.proofs.RowValues.{row_with}
-use Rattle.sound_laws.proofs.FieldValues.{reset_fits, access_own, fields_with, clash, apart_none}
+use Rattle.sound_laws.proofs.FieldValues.{reset_fits, access_own, fields_with, clash}
 
 -- ---- Faults of rows, one after the other.
 

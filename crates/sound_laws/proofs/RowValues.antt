@@ -1,5 +1,5 @@
 -- The value of a row by what has come along its path.
-use Rattle.std.proofs.Common.{◌≡◌, ℕ, List, [], ◌∷◌, ◌++◌, Some, Option, refl, ap, sym}
+use Rattle.std.proofs.Common.{◌≡◌, ℕ, List, [], ◌∷◌, ◌++◌, Some, refl, ap, sym}
 use Rattle.std.specs.Prelude.{option_map, option_and_then, None, if◌then◌else◌}
 use Rattle.std.specs.Option.{option_or}
 use Rattle.rdl_tree.specs.ItemAt.{item_at}

@@ -1,6 +1,6 @@
 -- What assigns neither `sw` nor `reset` is harmless.
-use Rattle.std.proofs.Common.{◌≡◌, ℕ, List, [], ◌∷◌, Bool, true, false, Some, refl, ap, sym, ◌∙◌}
-use Rattle.std.specs.Prelude.{nat_eq, bytes_eq, ◌&&◌, not, if◌then◌else◌}
+use Rattle.std.proofs.Common.{◌≡◌, ℕ, List, [], ◌∷◌, Bool, true, false, Some, refl}
+use Rattle.std.specs.Prelude.{nat_eq, bytes_eq, not, if◌then◌else◌}
 use Rattle.std.specs.List.{list_all}
 use Rattle.std.specs.Cmp.Lexicographic.{pointwise}
 use Rattle.rdl_tree.specs.Properties.{row}
@@ -9,7 +9,6 @@ use Rattle.rdl_tree.specs.declared.property.Property.TheVariants.{Sw, Reset}
 use Rattle.rdl_scope.specs.Closed.{Head, Parts, no_parts, part}
 use Rattle.rdl_elab.specs.Layouts.{number_in}
 use Rattle.rdl_elab.specs.Faults.{is_reset_too_wide}
-use Rattle.rdl_elab.specs.Reaches.{Reach}
 use Rattle.sound_laws.specs.Harmless.{Spot, elsewhere, in_register, is_fitting, spots_in, each_at, is_harmless_along, is_harmless, are_harmless, is_unjudged}
 use Rattle.sound_laws.specs.Laws.{UnjudgedAreHarmless}
 use Rattle.sound_laws.proofs.Lists.{both, and_both, not_false}

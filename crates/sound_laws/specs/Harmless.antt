@@ -1,7 +1,7 @@
 -- Which dynamic assignments can give no row a fault.
 -- SystemRDL 2.0, clause 5, dynamic assignment: the target names instances, one inside the other. own: of what is assigned, `sw` and
 -- `reset` alone are judged in the rows of a map.
-use Rattle.std.specs.Prelude.{ℕ, nat_eq, nat_lt, ◌&&◌, ◌||◌, not, Bool, true, false, List, [], ◌∷◌, map, Option, Some, None, bytes_eq, if◌then◌else◌}
+use Rattle.std.specs.Prelude.{ℕ, nat_eq, ◌&&◌, not, Bool, true, List, [], ◌∷◌, map, Some, bytes_eq, if◌then◌else◌}
 use Rattle.std.specs.List.{list_all}
 use Rattle.std.specs.Cmp.Lexicographic.{pointwise}
 use Rattle.rdl_tree.specs.Properties.{row}

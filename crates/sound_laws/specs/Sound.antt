@@ -2,18 +2,18 @@
 -- It is told by its body and by its instances with all below them: neither its address nor its names around it matter.
 -- SystemRDL 2.0: field positions and access (clause 9), register and access width (10), instance addresses (5, 13).
 -- own: that it is told of a component and not of rows. The faults of rows `Faults` of `rdl_elab` says.
-use Rattle.std.specs.Prelude.{ℕ, nat_lt, nat_le, ◌&&◌, ◌||◌, not, Bool, true, false, List, [], ◌∷◌, Option, Some, None, option_map, unwrap_or, if◌then◌else◌}
+use Rattle.std.specs.Prelude.{ℕ, nat_lt, nat_le, ◌&&◌, ◌||◌, not, Bool, true, List, [], ◌∷◌, Option, None, option_map, unwrap_or, if◌then◌else◌}
 use Rattle.std.specs.Option.{option_or}
 use Rattle.std.specs.List.{list_all}
 use Rattle.rdl_tree.specs.Properties.{row, on}
 use Rattle.rdl_tree.specs.declared.shell.Kind.{Kind}
-use Rattle.rdl_tree.specs.declared.shell.Kind.TheVariants.{Addrmap, Regfile, Reg, Field}
+use Rattle.rdl_tree.specs.declared.shell.Kind.TheVariants.{Reg, Field}
 use Rattle.rdl_tree.specs.declared.shell.Shell.{Shell}
 use Rattle.rdl_tree.specs.declared.value.Value.{Value}
 use Rattle.rdl_tree.specs.declared.property.Property.{Property}
 use Rattle.rdl_tree.specs.declared.property.Property.TheVariants.{Sw, Reset}
 use Rattle.rdl_scope.specs.Value.{shown}
-use Rattle.rdl_scope.specs.Closed.{Head, Parts, no_parts, part, Made, head_value}
+use Rattle.rdl_scope.specs.Closed.{Head, Parts, no_parts, part, head_value}
 use Rattle.rdl_elab.specs.declared.layout.Mode.{Mode}
 use Rattle.rdl_elab.specs.declared.layout.Span.{Span}
 use Rattle.rdl_elab.specs.Faults.{overlap, may_share, is_reset_too_wide}

@@ -1,7 +1,7 @@
 -- Whether the dynamic assignments of a component can give a row a fault, told by names alone.
 -- SystemRDL 2.0, clause 5, dynamic assignment: the target names instances that stand before it, one inside the other.
 -- own: it is the same as that they are harmless, for which the items on the way are looked up.
-use Rattle.std.specs.Prelude.{◌≡◌, ℕ, suc, ◌&&◌, Bool, true, false, List, [], ◌∷◌, Option, Some, None, option_and_then, bytes_eq, if◌then◌else◌}
+use Rattle.std.specs.Prelude.{◌≡◌, ℕ, suc, ◌&&◌, Bool, true, List, [], ◌∷◌, Option, Some, None, option_and_then, bytes_eq, if◌then◌else◌}
 use Rattle.rdl_tree.specs.Items.{Items, no_items, plain, holder, Plain, named, own, default, dynamic}
 use Rattle.rdl_tree.specs.declared.value.Value.{Value}
 use Rattle.rdl_scope.specs.Closed.{Head, Parts, no_parts, part, Made, component}
