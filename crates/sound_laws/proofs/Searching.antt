@@ -7,6 +7,7 @@ use Rattle.rdl_tree.specs.declared.value.Value.{Value}
 use Rattle.rdl_scope.specs.Target.{body_of}
 use Rattle.rdl_scope.specs.ItemFaults.{fault_of}
 use Rattle.rdl_scope.specs.Closed.{Head, Parts, no_parts, part, component}
+use Rattle.rdl_elab.specs.declared.layout.Mode.{Mode}
 use Rattle.rdl_elab.specs.declared.layout.Span.{Span}
 use Rattle.rdl_elab.specs.Found.{ArePartsFound}
 use Rattle.rdl_elab.specs.Layouts.{layout_of}
@@ -18,7 +19,7 @@ use Rattle.rdl_elab.proofs.RowsAlong.{along-inside}
 use Rattle.sound_laws.specs.Harmless.{are_harmless}
 use Rattle.sound_laws.specs.Sound.{is_sound}
 use Rattle.sound_laws.specs.Targets.{own_assignments}
-use Rattle.sound_laws.specs.Search.{is_passed_over, rows_asked}
+use Rattle.sound_laws.specs.Search.{IsCautious, rows_asked}
 use Rattle.sound_laws.specs.Laws.{SearchFindsFirst}
 use Rattle.sound_laws.proofs.Lists.{both}
 use Rattle.sound_laws.proofs.Named.{own_found}
@@ -43,12 +44,12 @@ passed_or : (d : Items) (t : Bool) (asked all : List Judged) → (t ≡ true →
 passed_or d true asked all over below = sym (over refl)
 passed_or d false asked all over below = below
 
-module _ (d : Items) (none : fault_of d ≡ None) where
+module _ (over : Mode → Head → Parts → List Reach → Bool) (cautious : IsCautious over) (d : Items) (none : fault_of d ≡ None) where
   -- among the instances of a component and below them
   abbrev IsSame : Parts → Type 0
   IsSame ps =
       (b : List ℕ) → ArePartsFound d b ps → (o : Around) (going : List Reach) → ((at : List ℕ) → body_of at ≡ b → along d [] (o.path ++ at ∷ []) ≡ behind at going)
-      → (before : List (Span × Option Value)) (spans : List Span) → first_row_fault d (rows_asked d o going before spans ps) ≡ first_row_fault d (rows_in d o before spans ps)
+      → (before : List (Span × Option Value)) (spans : List Span) → first_row_fault d (rows_asked over d o going before spans ps) ≡ first_row_fault d (rows_in d o before spans ps)
 
   goes_on : (path : List (List ℕ)) (h : Head) (within : Parts) → component d h.at ≡ Some (record { head = h; parts = within })
       → (at : List ℕ) → body_of at ≡ h.at → along d [] (path ++ at ∷ []) ≡ behind at (along d [] path ++ own_assignments h within)
@@ -69,16 +70,16 @@ module _ (d : Items) (none : fault_of d ≡ None) where
       same within h.at (parts-found d h.at (record { head = h; parts = within }) holds) (inside r) (coming ++ own_assignments h within)
       (λ x e. goes_on (inside r).path h within holds x e ∙ ap (λ rs. behind x (rs ++ own_assignments h within)) arrives) [] l.spans in
       same_then d r
-      (if is_passed_over o.mode h within coming then [] else rows_asked d (inside r) (coming ++ own_assignments h within) [] l.spans within)
-      (rows_asked d o going (before ++ (span, r.access) ∷ []) spans rest)
+      (if over o.mode h within coming then [] else rows_asked over d (inside r) (coming ++ own_assignments h within) [] l.spans within)
+      (rows_asked over d o going (before ++ (span, r.access) ∷ []) spans rest)
       (rows_in d (inside r) [] l.spans within) (rows_in d o (before ++ (span, r.access) ∷ []) spans rest)
-      (passed_or d (is_passed_over o.mode h within coming) (rows_asked d (inside r) (coming ++ own_assignments h within) [] l.spans within) (rows_in d (inside r) [] l.spans within)
-      (λ e. let t = both (is_sound o.mode h within) (are_harmless h within coming) e in
+      (passed_or d (over o.mode h within coming) (rows_asked over d (inside r) (coming ++ own_assignments h within) [] l.spans within) (rows_in d (inside r) [] l.spans within)
+      (λ e. let t = both (is_sound o.mode h within) (are_harmless h within coming) (cautious o.mode h within coming e) in
       faultless d h.at (record { head = h; parts = within }) o.mode (inside r) none holds t.0 (record { mode = refl; bits = λ k. refl })
       (ap (are_harmless h within) arrives ∙ t.1)) below)
       (same rest b found.2 o going come (before ++ (span, r.access) ∷ []) spans)
 
 pub search : SearchFindsFirst
-search d a c none holds o spans = same d none c.parts a (parts-found d a c holds) o
+search over cautious d a c none holds o spans = same over cautious d none c.parts a (parts-found d a c holds) o
     (along d [] o.path ++ own_assignments c.head c.parts)
     (λ at e. along-inside d o.path at a c e holds ∙ ap (λ rs. behind at (along d [] o.path ++ rs)) (sym (own_found d none a c holds))) [] spans

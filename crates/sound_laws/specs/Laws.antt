@@ -1,11 +1,11 @@
 -- What holds of sound components in a description without a fault among its items.
 -- own: SystemRDL 2.0 speaks of maps as a whole.
-use Rattle.std.specs.Prelude.{◌≡◌, ℕ, ◌+◌, ◌^◌, ◌≤◌, true, List, [], ◌∷◌, ◌++◌, Option, Some, None, Ok}
+use Rattle.std.specs.Prelude.{◌≡◌, Bool, ℕ, ◌+◌, ◌^◌, ◌≤◌, true, List, [], ◌∷◌, ◌++◌, Option, Some, None, Ok}
 use Rattle.std.specs.List.{list_all}
 use Rattle.rdl_tree.specs.Items.{Items}
 use Rattle.rdl_tree.specs.declared.shell.Kind.TheVariants.{Addrmap, Regfile, Reg}
 use Rattle.rdl_scope.specs.Target.{passes}
-use Rattle.rdl_scope.specs.Closed.{Made, component}
+use Rattle.rdl_scope.specs.Closed.{Head, Parts, Made, component}
 use Rattle.rdl_scope.specs.ItemFaults.{fault_of}
 use Rattle.rdl_elab.specs.declared.layout.Mode.{Mode}
 use Rattle.rdl_elab.specs.declared.layout.Mode.TheVariants.{Regalign}
@@ -17,7 +17,7 @@ use Rattle.rdl_elab.specs.Faults.{levels, count, first_empty, first_row_fault, t
 use Rattle.sound_laws.specs.Harmless.{are_harmless, is_unjudged}
 use Rattle.sound_laws.specs.Sound.{is_sound}
 use Rattle.sound_laws.specs.Targets.{target_in, own_assignments}
-use Rattle.sound_laws.specs.Search.{rows_asked}
+use Rattle.sound_laws.specs.Search.{IsCautious, rows_asked}
 
 -- what stands around the instances of this component is what it is where the component stands under this mode
 pub record IsInside (m : Mode) (c : Made) (o : Around) : Type 0 where
@@ -73,8 +73,10 @@ SoundMapIsItsRows =
 abbrev pub ModesMatterToRegisterFiles : Type 0
 ModesMatterToRegisterFiles = (m n : Mode) (c : Made) → (c.head.kind ≡ Regfile → ⊥) → is_sound m c.head c.parts ≡ is_sound n c.head c.parts
 
--- the first fault below a component is found where all is passed over that can have none
+-- the first fault below a component is found where nothing is passed over but what can have none
 abbrev pub SearchFindsFirst : Type 0
 SearchFindsFirst =
-    (d : Items) (a : List ℕ) (c : Made) → fault_of d ≡ None → component d a ≡ Some c → (o : Around) (spans : List Span)
-    → first_row_fault d (rows_asked d o (along d [] o.path ++ own_assignments c.head c.parts) [] spans c.parts) ≡ first_row_fault d (rows_in d o [] spans c.parts)
+    (over : Mode → Head → Parts → List Reach → Bool) → IsCautious over
+    → (d : Items) (a : List ℕ) (c : Made) → fault_of d ≡ None → component d a ≡ Some c → (o : Around) (spans : List Span)
+    → first_row_fault d (rows_asked over d o (along d [] o.path ++ own_assignments c.head c.parts) [] spans c.parts)
+    ≡ first_row_fault d (rows_in d o [] spans c.parts)

@@ -25,8 +25,8 @@ pub fn modes_matter_to_register_files()
     ensures { ModesMatterToRegisterFiles }
 {}
 
-/// In a description without a fault among its items, the first fault below a component is found where all is passed over
-/// that is sound and to which nothing harmful comes.
+/// In a description without a fault among its items, the first fault below a component is found where components are passed
+/// over, if each of those is sound and nothing harmful comes to it.
 pub fn search_finds_first_fault()
     ensures { SearchFindsFirst }
 {}
