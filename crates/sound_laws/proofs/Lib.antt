@@ -1,3 +1,4 @@
+pub mod Examples
 pub mod Lists
 pub mod Passing
 pub mod RowValues
