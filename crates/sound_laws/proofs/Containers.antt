@@ -91,7 +91,7 @@ free_of_none : {X Y : Type 0} (f : Y → X → Bool) (later : List Y) → free f
 free_of_none f later = refl
 
 module _ (d : Items) (none : fault_of d ≡ None)
-    (own : (a : List ℕ) (c : Made) → component d a ≡ Some c → are_own_harmless c.head c.parts ≡ true → are_harmless c.head c.parts (reaches d a 0 c.head.body) ≡ true) where
+    (own : (a : List ℕ) (c : Made) → component d a ≡ Some c → are_own_harmless layout_of c.head c.parts ≡ true → are_harmless layout_of c.head c.parts (reaches d a 0 c.head.body) ≡ true) where
   -- the instances of a container have no fault, nor have the rows below them
   abbrev Faultless : Parts → Type 0
   Faultless ps =
@@ -99,13 +99,13 @@ module _ (d : Items) (none : fault_of d ≡ None)
       → (o : Around) (before : List (Span × Option Value)) (spans : List Span) (rs : List Reach)
       → ((at : List ℕ) → body_of at ≡ b → along d [] (o.path ++ at ∷ []) ≡ behind at rs)
       → list_all (is_harmless_among (all_elsewhere ps) ps) rs ≡ true
-      → are_strides_wide o.mode ps ≡ true → are_apart spans ≡ true → free meets before spans ≡ true → are_sound o.mode ps ≡ true
+      → are_strides_wide layout_of o.mode ps ≡ true → are_apart spans ≡ true → free meets before spans ≡ true → are_sound layout_of o.mode ps ≡ true
       → first_row_fault d (rows_in d o before spans ps) ≡ None
 
   -- a component that stands there under a mode, if that holds of its instances
   module _ (h : Head) (within : Parts) (deeper : Faultless within) (holds : component d h.at ≡ Some (record { head = h; parts = within }))
-      (x : Mode) (sound : is_sound x h within ≡ true) (o : Around) (here : IsInside x (record { head = h; parts = within }) o)
-      (spot : Spot) (harmless : list_all (is_harmless_at spot h within) (along d [] o.path) ≡ true) where
+      (x : Mode) (sound : is_sound layout_of x h within ≡ true) (o : Around) (here : IsInside x (record { head = h; parts = within }) o)
+      (spot : Spot) (harmless : list_all (is_harmless_at layout_of spot h within) (along d [] o.path) ≡ true) where
     abbrev c : Made
     c = record { head = h; parts = within }
 
@@ -124,68 +124,68 @@ module _ (d : Items) (none : fault_of d ≡ None)
     come : (at : List ℕ) → body_of at ≡ h.at → along d [] (o.path ++ at ∷ []) ≡ behind at arrived
     come at e = along-inside d o.path at h.at c e holds
 
-    all_harmless : are_own_harmless h within ≡ true → list_all (is_harmless_among (spots_in h within) within) arrived ≡ true
+    all_harmless : are_own_harmless layout_of h within ≡ true → list_all (is_harmless_among (spots_in layout_of h within) within) arrived ≡ true
     all_harmless e =
-        all_append (is_harmless_among (spots_in h within) within) (along d [] o.path) (reaches d h.at 0 h.body)
+        all_append (is_harmless_among (spots_in layout_of h within) within) (along d [] o.path) (reaches d h.at 0 h.body)
         (enter spot h within (along d [] o.path) harmless) (enter elsewhere h within (reaches d h.at 0 h.body) (own h.at c holds e))
 
-    of_kind : (k : Kind) → h.kind ≡ k → are_own_harmless h within ≡ true → list_all (is_harmless_among (spots_by k (field_spans h within) within) within) arrived ≡ true
-    of_kind k e a = subst (λ j. list_all (is_harmless_among (spots_by j (field_spans h within) within) within) arrived ≡ true) e (all_harmless a)
+    of_kind : (k : Kind) → h.kind ≡ k → are_own_harmless layout_of h within ≡ true → list_all (is_harmless_among (spots_by k (field_spans layout_of h within) within) within) arrived ≡ true
+    of_kind k e a = subst (λ j. list_all (is_harmless_among (spots_by j (field_spans layout_of h within) within) within) arrived ≡ true) e (all_harmless a)
 
-    container : is_container h.kind ≡ true → list_all (is_harmless_among (all_elsewhere within) within) arrived ≡ true → is_apart_under x h within ≡ true
-        → are_sound (mode_inside h.kind (values_of h) x) within ≡ true → Goal
+    container : is_container h.kind ≡ true → list_all (is_harmless_among (all_elsewhere within) within) arrived ≡ true → is_apart_under layout_of x h within ≡ true
+        → are_sound layout_of (mode_inside h.kind (values_of h) x) within ≡ true → Goal
     container k e a s =
-        let t = both (are_strides_wide (mode_inside h.kind (values_of h) x) within) (are_apart places) a in
+        let t = both (are_strides_wide layout_of (mode_inside h.kind (values_of h) x) within) (are_apart places) a in
         deeper h.at c holds k parts_there o [] places arrived come e
-        (ap (λ y. are_strides_wide y within) here.mode ∙ t.0) t.1 (free_of_none meets places) (ap (λ y. are_sound y within) here.mode ∙ s)
+        (ap (λ y. are_strides_wide layout_of y within) here.mode ∙ t.0) t.1 (free_of_none meets places) (ap (λ y. are_sound layout_of y within) here.mode ∙ s)
 
-    spans_same : h.kind ≡ Reg → places ≡ field_spans h within
+    spans_same : h.kind ≡ Reg → places ≡ field_spans layout_of h within
     spans_same k =
         let bits : (y : Mode) → (layout_of y h within).spans ≡ bits_from 0 (map (λ (i : Member). i.bits) (map member (layouts y within))) =
         λ y. ap (λ j. (laid_out j (values_of h) (mode_inside j (values_of h) y) (map member (layouts (mode_inside j (values_of h) y) within))).spans) k in
         bits x ∙ ap (λ ls. bits_from 0 (map (λ (i : Member). i.bits) (map member ls))) (same_layouts d none h.at c holds x Compact within k parts_there) ∙ sym (bits Compact)
 
-    register : h.kind ≡ Reg → list_all (is_harmless_among (map (in_register (are_apart (field_spans h within))) (field_spans h within)) within) arrived ≡ true
-        → are_fields_sound h within ≡ true → Goal
+    register : h.kind ≡ Reg → list_all (is_harmless_among (map (in_register (are_apart (field_spans layout_of h within))) (field_spans layout_of h within)) within) arrived ≡ true
+        → are_fields_sound layout_of h within ≡ true → Goal
     register k e f =
-        let ss = field_spans h within in
+        let ss = field_spans layout_of h within in
         let told = fields_told (values_of h).regwidth (values_of h).accesswidth ss within f in
         let ends = ap (λ n. list_all (λ (s : Span). nat_le s.end n) ss) (here.bits k) ∙ told.ends in
         ap (λ ts. first_row_fault d (rows_in d o [] ts within)) (spans_same k)
         ∙ fields_faultless d none h.at c holds k o arrived come (are_apart ss) within parts_there [] ss e ends told.resets
         (by (are_apart ss) refl told.shares) (free_of_none clash (fields_with d o.path ss within))
       where
-        by : (b : Bool) → are_apart (field_spans h within) ≡ b → (b || clash_none (fields_of (field_spans h within) within)) ≡ true → clash_none (fields_with d o.path (field_spans h within) within) ≡ true
-        by true a t = apart_none d o.path (field_spans h within) within a
-        by false a t = ap clash_none (fields_own d none h.at c holds k o arrived come (are_apart (field_spans h within)) a (field_spans h within) within parts_there e) ∙ t
+        by : (b : Bool) → are_apart (field_spans layout_of h within) ≡ b → (b || clash_none (fields_of (field_spans layout_of h within) within)) ≡ true → clash_none (fields_with d o.path (field_spans layout_of h within) within) ≡ true
+        by true a t = apart_none d o.path (field_spans layout_of h within) within a
+        by false a t = ap clash_none (fields_own d none h.at c holds k o arrived come (are_apart (field_spans layout_of h within)) a (field_spans layout_of h within) within parts_there e) ∙ t
 
     by_kind : (k : Kind) → h.kind ≡ k
-        → sound_by k (are_fields_sound h within) (is_apart_under x h within) (are_sound (mode_inside h.kind (values_of h) x) within) (are_own_harmless h within) ≡ true → Goal
+        → sound_by k (are_fields_sound layout_of h within) (is_apart_under layout_of x h within) (are_sound layout_of (mode_inside h.kind (values_of h) x) within) (are_own_harmless layout_of h within) ≡ true → Goal
     by_kind Field e s = nothing_below d h.at c none holds e within parts_there o [] places
     by_kind Reg e s =
-        let t = both (are_fields_sound h within) (are_own_harmless h within) s in
+        let t = both (are_fields_sound layout_of h within) (are_own_harmless layout_of h within) s in
         register e (of_kind Reg e t.1) t.0
     by_kind Addrmap e s =
-        let inner = are_sound (mode_inside h.kind (values_of h) x) within in
-        let t = both (inner && is_apart_under x h within) (are_own_harmless h within) s in
-        let u = both inner (is_apart_under x h within) t.0 in
+        let inner = are_sound layout_of (mode_inside h.kind (values_of h) x) within in
+        let t = both (inner && is_apart_under layout_of x h within) (are_own_harmless layout_of h within) s in
+        let u = both inner (is_apart_under layout_of x h within) t.0 in
         container (ap is_container e) (of_kind Addrmap e t.1) u.1 u.0
     by_kind Regfile e s =
-        let inner = are_sound (mode_inside h.kind (values_of h) x) within in
-        let t = both (inner && is_apart_under x h within) (are_own_harmless h within) s in
-        let u = both inner (is_apart_under x h within) t.0 in
+        let inner = are_sound layout_of (mode_inside h.kind (values_of h) x) within in
+        let t = both (inner && is_apart_under layout_of x h within) (are_own_harmless layout_of h within) s in
+        let u = both inner (is_apart_under layout_of x h within) t.0 in
         container (ap is_container e) (of_kind Regfile e t.1) u.1 u.0
 
     faultless_below : Goal
     faultless_below = by_kind h.kind refl sound
 
   -- a register's access is no wider than the register
-  access_fits : (x : Mode) (h : Head) (within : Parts) → is_sound x h within ≡ true → h.kind ≡ Reg → nat_lt (values_of h).regwidth (values_of h).accesswidth ≡ false
+  access_fits : (x : Mode) (h : Head) (within : Parts) → is_sound layout_of x h within ≡ true → h.kind ≡ Reg → nat_lt (values_of h).regwidth (values_of h).accesswidth ≡ false
   access_fits x h within sound k =
-      let by_reg : (are_fields_sound h within && are_own_harmless h within) ≡ true =
-      sym (ap (λ j. sound_by j (are_fields_sound h within) (is_apart_under x h within) (are_sound (mode_inside h.kind (values_of h) x) within) (are_own_harmless h within)) k) ∙ sound in
-      let fields = (both (are_fields_sound h within) (are_own_harmless h within) by_reg).0 in
-      let told = fields_told (values_of h).regwidth (values_of h).accesswidth (field_spans h within) within fields in
+      let by_reg : (are_fields_sound layout_of h within && are_own_harmless layout_of h within) ≡ true =
+      sym (ap (λ j. sound_by j (are_fields_sound layout_of h within) (is_apart_under layout_of x h within) (are_sound layout_of (mode_inside h.kind (values_of h) x) within) (are_own_harmless layout_of h within)) k) ∙ sound in
+      let fields = (both (are_fields_sound layout_of h within) (are_own_harmless layout_of h within) by_reg).0 in
+      let told = fields_told (values_of h).regwidth (values_of h).accesswidth (field_spans layout_of h within) within fields in
       at_most (values_of h).accesswidth (values_of h).regwidth told.access
 
   faultless : (ps : Parts) → Faultless ps
@@ -195,51 +195,51 @@ module _ (d : Items) (none : fault_of d ≡ None)
       let l = layout_of o.mode h within in
       let r = judged_row d o before span at s h l in
       let t = pass at s h within rest elsewhere (all_elsewhere rest) rs harmless in
-      let w = both (not (nat_lt (unwrap_or s.stride l.size) l.size)) (are_strides_wide o.mode rest) strides in
+      let w = both (not (nat_lt (unwrap_or s.stride l.size) l.size)) (are_strides_wide layout_of o.mode rest) strides in
       let a = both (list_all (λ t. not (overlap t span)) spans) (are_apart spans) apart in
-      let u = both (is_sound o.mode h within) (are_sound o.mode rest) sound in
+      let u = both (is_sound layout_of o.mode h within) (are_sound layout_of o.mode rest) sound in
       let no = no_field m.head.kind h.kind k (kind-allowed d b m at s h within none holds found.0) in
       let fault =
       faultless_row d r h.kind no (access_fits o.mode h within u.0) (not_false (nat_lt (unwrap_or s.stride l.size) l.size) w.0)
       (free_first meets before span spans clear) in
-      let come_in : list_all (is_harmless_at elsewhere h within) (along d [] (inside r).path) ≡ true =
-      ap (list_all (is_harmless_at elsewhere h within)) (come at found.0.around) ∙ t.0 in
+      let come_in : list_all (is_harmless_at layout_of elsewhere h within) (along d [] (inside r).path) ≡ true =
+      ap (list_all (is_harmless_at layout_of elsewhere h within)) (come at found.0.around) ∙ t.0 in
       let below =
       faultless_below h within (faultless within) found.0.component o.mode u.0 (inside r) (record { mode = refl; bits = λ e. refl }) elsewhere come_in in
       row_then d r (rows_in d (inside r) [] l.spans within) (rows_in d o (before ++ (span, r.access) ∷ []) spans rest) fault below
       (faultless rest b m holds k found.2 o (before ++ (span, r.access) ∷ []) spans rs come t.1 w.1 a.1
       (free_more meets before (span, r.access) spans (free_rest meets before span spans clear) a.0) u.1)
 
-  pub below : (a : List ℕ) (c : Made) (x : Mode) (o : Around) → component d a ≡ Some c → is_sound x c.head c.parts ≡ true → IsInside x c o
-      → are_harmless c.head c.parts (along d [] o.path) ≡ true → IsFaultlessBelow d x c o
+  pub below : (a : List ℕ) (c : Made) (x : Mode) (o : Around) → component d a ≡ Some c → is_sound layout_of x c.head c.parts ≡ true → IsInside x c o
+      → are_harmless layout_of c.head c.parts (along d [] o.path) ≡ true → IsFaultlessBelow d x c o
   below a c x o holds sound here harmless =
       faultless_below c.head c.parts (faultless c.parts) (ap (component d) (as_found d a c holds).place ∙ holds) x sound o here elsewhere harmless
 
   -- nothing is inside a field, so what a field assigns leads nowhere
-  harmless_in_nothing : (h : Head) (rs : List Reach) → are_harmless h no_parts rs ≡ true
+  harmless_in_nothing : (h : Head) (rs : List Reach) → are_harmless layout_of h no_parts rs ≡ true
   harmless_in_nothing h [] = refl
-  harmless_in_nothing h (r ∷ rs) = and_both (is_harmless h no_parts r) (are_harmless h no_parts rs) (one r.path) (harmless_in_nothing h rs)
+  harmless_in_nothing h (r ∷ rs) = and_both (is_harmless layout_of h no_parts r) (are_harmless layout_of h no_parts rs) (one r.path) (harmless_in_nothing h rs)
     where
-      one : (path : List (List ℕ)) → is_harmless_along r.property r.value path elsewhere h no_parts ≡ true
+      one : (path : List (List ℕ)) → is_harmless_along layout_of r.property r.value path elsewhere h no_parts ≡ true
       one [] = refl
       one (a ∷ path) = refl
 
   harmless_in_field : (a : List ℕ) (c : Made) → component d a ≡ Some c → c.head.kind ≡ Field → (ps : Parts) → ArePartsFound d a ps
-      → (rs : List Reach) → are_harmless c.head ps rs ≡ true
+      → (rs : List Reach) → are_harmless layout_of c.head ps rs ≡ true
   harmless_in_field a c holds k no_parts found rs = harmless_in_nothing c.head rs
   harmless_in_field a c holds k (part at s h within rest) found rs =
       absurd (nothing_in_fields h.kind (ap (λ j. may_instantiate (Some j) h.kind) (sym k) ∙ kind-allowed d a c at s h within none holds found.0))
 
-  pub no_harm : (a : List ℕ) (c : Made) (x : Mode) → component d a ≡ Some c → is_sound x c.head c.parts ≡ true
-      → are_harmless c.head c.parts (reaches d a 0 c.head.body) ≡ true
+  pub no_harm : (a : List ℕ) (c : Made) (x : Mode) → component d a ≡ Some c → is_sound layout_of x c.head c.parts ≡ true
+      → are_harmless layout_of c.head c.parts (reaches d a 0 c.head.body) ≡ true
   no_harm a c x holds sound = by c.head.kind refl sound
     where
       by : (k : Kind) → c.head.kind ≡ k
-          → sound_by k (are_fields_sound c.head c.parts) (is_apart_under x c.head c.parts) (are_sound (mode_inside c.head.kind (values_of c.head) x) c.parts) (are_own_harmless c.head c.parts) ≡ true
-          → are_harmless c.head c.parts (reaches d a 0 c.head.body) ≡ true
+          → sound_by k (are_fields_sound layout_of c.head c.parts) (is_apart_under layout_of x c.head c.parts) (are_sound layout_of (mode_inside c.head.kind (values_of c.head) x) c.parts) (are_own_harmless layout_of c.head c.parts) ≡ true
+          → are_harmless layout_of c.head c.parts (reaches d a 0 c.head.body) ≡ true
       by Field e s = harmless_in_field a c holds e c.parts (parts-found d a c holds) (reaches d a 0 c.head.body)
-      by Reg e s = own a c holds (both (are_fields_sound c.head c.parts) (are_own_harmless c.head c.parts) s).1
+      by Reg e s = own a c holds (both (are_fields_sound layout_of c.head c.parts) (are_own_harmless layout_of c.head c.parts) s).1
       by Addrmap e s =
-          own a c holds (both (are_sound (mode_inside c.head.kind (values_of c.head) x) c.parts && is_apart_under x c.head c.parts) (are_own_harmless c.head c.parts) s).1
+          own a c holds (both (are_sound layout_of (mode_inside c.head.kind (values_of c.head) x) c.parts && is_apart_under layout_of x c.head c.parts) (are_own_harmless layout_of c.head c.parts) s).1
       by Regfile e s =
-          own a c holds (both (are_sound (mode_inside c.head.kind (values_of c.head) x) c.parts && is_apart_under x c.head c.parts) (are_own_harmless c.head c.parts) s).1
+          own a c holds (both (are_sound layout_of (mode_inside c.head.kind (values_of c.head) x) c.parts && is_apart_under layout_of x c.head c.parts) (are_own_harmless layout_of c.head c.parts) s).1

@@ -10,6 +10,7 @@ use Rattle.rdl_tree.specs.declared.value.Value.TheVariants.{Number, Word as Word
 use Rattle.rdl_tree.specs.declared.value.Word.{Word}
 use Rattle.rdl_tree.specs.declared.value.Word.TheVariants as word
 use Rattle.rdl_scope.specs.Closed.{root_type}
+use Rattle.rdl_elab.specs.Layouts.{layout_of}
 use Rattle.rdl_elab.specs.declared.layout.Mode.TheVariants.{Regalign}
 use Rattle.sound_laws.specs.Sound.{is_sound}
 
@@ -25,7 +26,7 @@ field_at name w high low reset rest =
     holder (anonymous (record (bare_shell name) { range = Some (high, low); reset = Some reset }) Field) (plain (own (codes "sw") (Worded w)) no_items) rest
 
 abbrev is_top_sound : Items → Option Bool
-is_top_sound d = option_map (λ c. is_sound Regalign c.head c.parts) (root_type d (codes "top"))
+is_top_sound d = option_map (λ c. is_sound layout_of Regalign c.head c.parts) (root_type d (codes "top"))
 
 -- a register r of two fields f and g, behind which this stands
 abbrev two_fields : Word → Word → ℕ → ℕ → Items → Items

@@ -10,7 +10,7 @@ use Rattle.rdl_tree.specs.declared.value.Value.{Value}
 use Rattle.rdl_tree.specs.declared.property.Property.TheVariants.{Sw, Reset}
 use Rattle.rdl_scope.specs.Closed.{Head, Parts, no_parts, part}
 use Rattle.rdl_elab.specs.declared.layout.Span.{Span}
-use Rattle.rdl_elab.specs.Layouts.{number_in}
+use Rattle.rdl_elab.specs.Layouts.{number_in, layout_of}
 use Rattle.rdl_elab.specs.Faults.{overlap, may_share, is_reset_too_wide}
 use Rattle.rdl_elab.specs.Rows.{row_value}
 use Rattle.rdl_elab.specs.Reaches.{Reach, reached}
@@ -19,7 +19,7 @@ use Rattle.sound_laws.specs.Sound.{value_with, clash_none}
 use Rattle.sound_laws.proofs.Lists.{both, and_both, not_false, not_and}
 use Rattle.sound_laws.proofs.Passing.{reached_fits}
 
-module _ (apart : Bool) (span : Span) (s : Shell) (h : Head) (inside : Parts) (rs : List Reach) (harmless : list_all (is_harmless_at (in_register apart span) h inside) rs ≡ true) where
+module _ (apart : Bool) (span : Span) (s : Shell) (h : Head) (inside : Parts) (rs : List Reach) (harmless : list_all (is_harmless_at layout_of (in_register apart span) h inside) rs ≡ true) where
   pub reset_fits : h.kind ≡ Field → not (is_reset_too_wide (number_in (value_with None s h Reset)) span) ≡ true
       → is_reset_too_wide (number_in (value_with (reached (row Reset).name rs) s h Reset)) span ≡ false
   reset_fits kind own = by (reached (row Reset).name rs) refl

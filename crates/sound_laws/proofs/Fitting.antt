@@ -13,7 +13,7 @@ use Rattle.rdl_scope.specs.Closed.{Head, Parts, no_parts, part, Made, component,
 use Rattle.rdl_scope.proofs.AsFound.{as_found}
 use Rattle.rdl_elab.proofs.PartsFound.{parts-found}
 use Rattle.rdl_elab.specs.Reaches.{Reach, with_path, reaches_by}
-use Rattle.sound_laws.specs.Harmless.{Spot, elsewhere, spots_in, each_at, is_harmless_along, are_harmless}
+use Rattle.sound_laws.specs.Harmless.{Laying, Spot, elsewhere, spots_in, each_at, is_harmless_along, are_harmless}
 use Rattle.sound_laws.specs.Targets.{Instance, named, passed_by, is_before, first_named, target_in}
 use Rattle.sound_laws.specs.Verdicts.{Stand, stand_named, end_in, is_end_fitting, is_item_fitting, are_items_fitting, FittingIsHarmless}
 use Rattle.sound_laws.proofs.Named.{one_named}
@@ -141,44 +141,44 @@ passed_some name (next ∷ names) ps e = by (named name ps) e
     by None g = cc
     by (Some i) g = more i (passed_by (next ∷ names) i.inside) g
 
-module _ (p : List ℕ) (v : Value) where
+module _ (lay : Laying) (p : List ℕ) (v : Value) where
   -- an assignment along these items, if they are there
   abbrev is_harmless_if : Head → Parts → Option (List (List ℕ)) → Bool
   is_harmless_if h inside None = true
-  is_harmless_if h inside (Some path) = is_harmless_along p v path elsewhere h inside
+  is_harmless_if h inside (Some path) = is_harmless_along lay p v path elsewhere h inside
 
   -- at an instance that stands there
   on_from : (h : Head) (ps : Parts) (i : Instance) (spot : Spot) (path : Option (List (List ℕ))) → (path ≡ Some [] → ⊥)
-      → ((f : Test) → each_at f i.at (spots_in h ps) ps ≡ f spot i.head i.inside)
+      → ((f : Test) → each_at f i.at (spots_in lay h ps) ps ≡ f spot i.head i.inside)
       → is_harmless_if h ps (option_map (λ more. i.at ∷ more) path) ≡ is_harmless_if i.head i.inside path
   on_from h ps i spot None some f = refl
   on_from h ps i spot (Some []) some f = absurd (some refl)
-  on_from h ps i spot (Some (a ∷ path)) some f = f (is_harmless_along p v (a ∷ path))
+  on_from h ps i spot (Some (a ∷ path)) some f = f (is_harmless_along lay p v (a ∷ path))
 
-  nothing_from : (h : Head) (ps : Parts) (i : Instance) (path : Option (List (List ℕ))) → ((f : Test) → each_at f i.at (spots_in h ps) ps ≡ true)
+  nothing_from : (h : Head) (ps : Parts) (i : Instance) (path : Option (List (List ℕ))) → ((f : Test) → each_at f i.at (spots_in lay h ps) ps ≡ true)
       → is_harmless_if h ps (option_map (λ more. i.at ∷ more) path) ≡ true
   nothing_from h ps i None f = refl
-  nothing_from h ps i (Some path) f = f (is_harmless_along p v path)
+  nothing_from h ps i (Some path) f = f (is_harmless_along lay p v path)
 
   -- one name
-  last_name : (name : List ℕ) (h : Head) (ps : Parts) → Meets name (spots_in h ps) ps
-      → is_harmless_if h ps (passed_by (name ∷ []) ps) ≡ is_end_fitting p v (end_in (name ∷ []) (spots_in h ps) ps)
+  last_name : (name : List ℕ) (h : Head) (ps : Parts) → Meets name (spots_in lay h ps) ps
+      → is_harmless_if h ps (passed_by (name ∷ []) ps) ≡ is_end_fitting p v (end_in lay (name ∷ []) (spots_in lay h ps) ps)
   last_name name h ps (nowhere a b) = ap (λ o. is_harmless_if h ps (option_map (λ (i : Instance). i.at ∷ []) o)) a ∙ sym (ap (is_end_fitting p v) b)
   last_name name h ps (unseen i a b f) =
-      ap (λ o. is_harmless_if h ps (option_map (λ (i : Instance). i.at ∷ []) o)) a ∙ f (is_harmless_along p v []) ∙ sym (ap (is_end_fitting p v) b)
+      ap (λ o. is_harmless_if h ps (option_map (λ (i : Instance). i.at ∷ []) o)) a ∙ f (is_harmless_along lay p v []) ∙ sym (ap (is_end_fitting p v) b)
   last_name name h ps (seen i spot a b f) =
-      ap (λ o. is_harmless_if h ps (option_map (λ (i : Instance). i.at ∷ []) o)) a ∙ f (is_harmless_along p v []) ∙ sym (ap (is_end_fitting p v) b)
+      ap (λ o. is_harmless_if h ps (option_map (λ (i : Instance). i.at ∷ []) o)) a ∙ f (is_harmless_along lay p v []) ∙ sym (ap (is_end_fitting p v) b)
 
   module _ (next : List ℕ) (names : List (List ℕ)) where
     abbrev go : Option Instance → Option (List (List ℕ))
     go o = option_and_then (λ (i : Instance). option_map (λ more. i.at ∷ more) (passed_by (next ∷ names) i.inside)) o
 
     abbrev end_from : Option Stand → Option Stand
-    end_from o = option_and_then (λ (e : Stand). end_in (next ∷ names) (spots_in e.head e.inside) e.inside) o
+    end_from o = option_and_then (λ (e : Stand). end_in lay (next ∷ names) (spots_in lay e.head e.inside) e.inside) o
 
-    more_names : (name : List ℕ) (h : Head) (ps : Parts) → Meets name (spots_in h ps) ps
-        → ((i : Instance) → named name ps ≡ Some i → is_harmless_if i.head i.inside (passed_by (next ∷ names) i.inside) ≡ is_end_fitting p v (end_in (next ∷ names) (spots_in i.head i.inside) i.inside))
-        → is_harmless_if h ps (passed_by (name ∷ next ∷ names) ps) ≡ is_end_fitting p v (end_in (name ∷ next ∷ names) (spots_in h ps) ps)
+    more_names : (name : List ℕ) (h : Head) (ps : Parts) → Meets name (spots_in lay h ps) ps
+        → ((i : Instance) → named name ps ≡ Some i → is_harmless_if i.head i.inside (passed_by (next ∷ names) i.inside) ≡ is_end_fitting p v (end_in lay (next ∷ names) (spots_in lay i.head i.inside) i.inside))
+        → is_harmless_if h ps (passed_by (name ∷ next ∷ names) ps) ≡ is_end_fitting p v (end_in lay (name ∷ next ∷ names) (spots_in lay h ps) ps)
     more_names name h ps (nowhere a b) deeper = ap (λ o. is_harmless_if h ps (go o)) a ∙ sym (ap (λ o. is_end_fitting p v (end_from o)) b)
     more_names name h ps (unseen i a b f) deeper =
         ap (λ o. is_harmless_if h ps (go o)) a ∙ nothing_from h ps i (passed_by (next ∷ names) i.inside) f ∙ sym (ap (λ o. is_end_fitting p v (end_from o)) b)
@@ -187,12 +187,12 @@ module _ (p : List ℕ) (v : Value) where
         ∙ deeper i a ∙ sym (ap (λ o. is_end_fitting p v (end_from o)) b)
 
   module _ (d : Items) where
-    meets_in : (name b : List ℕ) (c : Made) → component d b ≡ Some c → Meets name (spots_in c.head c.parts) c.parts
+    meets_in : (name b : List ℕ) (c : Made) → component d b ≡ Some c → Meets name (spots_in lay c.head c.parts) c.parts
     meets_in name b c holds =
-        meets name 0 (spots_in c.head c.parts) c.parts (subst (AreFrom 0) (sym (as_found d b c holds).parts) (from_instances d b c.head.body 0))
+        meets name 0 (spots_in lay c.head c.parts) c.parts (subst (AreFrom 0) (sym (as_found d b c holds).parts) (from_instances d b c.head.body 0))
 
     along_names : (names : List (List ℕ)) (b : List ℕ) (c : Made) → component d b ≡ Some c
-        → is_harmless_if c.head c.parts (passed_by names c.parts) ≡ is_end_fitting p v (end_in names (spots_in c.head c.parts) c.parts)
+        → is_harmless_if c.head c.parts (passed_by names c.parts) ≡ is_end_fitting p v (end_in lay names (spots_in lay c.head c.parts) c.parts)
     along_names [] b c holds = refl
     along_names (name ∷ []) b c holds = last_name name c.head c.parts (meets_in name b c holds)
     along_names (name ∷ next ∷ names) b c holds =
@@ -200,28 +200,28 @@ module _ (p : List ℕ) (v : Value) where
         (λ i e. let one = one_named d b name c.parts i (parts-found d b c holds) e in along_names (next ∷ names) i.head.at (record { head = i.head; parts = i.inside }) one.made)
 
     of_target : (b : List ℕ) (c : Made) → component d b ≡ Some c → (n : ℕ) (t : List (List ℕ))
-        → is_harmless_if c.head c.parts (target_in c.parts n t) ≡ is_item_fitting c.head c.parts n (dynamic t p v)
+        → is_harmless_if c.head c.parts (target_in c.parts n t) ≡ is_item_fitting lay c.head c.parts n (dynamic t p v)
     of_target b c holds n t = by (is_before n (first_named t c.parts))
       where
-        by : (z : Bool) → is_harmless_if c.head c.parts (if z then passed_by t c.parts else None) ≡ (if z then is_end_fitting p v (end_in t (spots_in c.head c.parts) c.parts) else true)
+        by : (z : Bool) → is_harmless_if c.head c.parts (if z then passed_by t c.parts else None) ≡ (if z then is_end_fitting p v (end_in lay t (spots_in lay c.head c.parts) c.parts) else true)
         by true = along_names t b c holds
         by false = refl
 
   with_path_harmless : (h : Head) (inside : Parts) (o : Option (List (List ℕ))) (more : List Reach)
-      → are_harmless h inside (with_path o p v more) ≡ (is_harmless_if h inside o && are_harmless h inside more)
+      → are_harmless lay h inside (with_path o p v more) ≡ (is_harmless_if h inside o && are_harmless lay h inside more)
   with_path_harmless h inside None more = refl
   with_path_harmless h inside (Some path) more = refl
 
-module _ (d : Items) (b : List ℕ) (c : Made) (holds : component d b ≡ Some c) where
-  of_items : (n : ℕ) (t : Items) → are_harmless c.head c.parts (reaches_by (target_in c.parts) n t) ≡ are_items_fitting c.head c.parts n t
+module _ (lay : Laying) (d : Items) (b : List ℕ) (c : Made) (holds : component d b ≡ Some c) where
+  of_items : (n : ℕ) (t : Items) → are_harmless lay c.head c.parts (reaches_by (target_in c.parts) n t) ≡ are_items_fitting lay c.head c.parts n t
   of_items n no_items = refl
   of_items n (plain (named_item s t) rest) = of_items (suc n) rest
   of_items n (plain (own p v) rest) = of_items (suc n) rest
   of_items n (plain (default p v) rest) = of_items (suc n) rest
   of_items n (plain (dynamic t p v) rest) =
-      with_path_harmless p v c.head c.parts (target_in c.parts n t) (reaches_by (target_in c.parts) (suc n) rest)
-      ∙ (λ i. of_target p v d b c holds n t i && of_items (suc n) rest i)
+      with_path_harmless lay p v c.head c.parts (target_in c.parts n t) (reaches_by (target_in c.parts) (suc n) rest)
+      ∙ (λ i. of_target lay p v d b c holds n t i && of_items (suc n) rest i)
   of_items n (holder h body rest) = of_items (suc n) rest
 
 pub fitting_harmless : FittingIsHarmless
-fitting_harmless d a c holds = of_items d a c holds 0 c.head.body
+fitting_harmless lay d a c holds = of_items lay d a c holds 0 c.head.body

@@ -18,7 +18,7 @@ use Rattle.rdl_scope.specs.ItemFaults.{first_of, fault_at, fault_of}
 use Rattle.rdl_elab.specs.declared.layout.Mode.{Mode}
 use Rattle.rdl_elab.specs.declared.layout.Mode.TheVariants.{Regalign}
 use Rattle.rdl_elab.specs.declared.layout.LayoutValues.{LayoutValues}
-use Rattle.rdl_elab.specs.Layouts.{values_of, mode_inside, member, laid_out, layouts}
+use Rattle.rdl_elab.specs.Layouts.{values_of, mode_inside, member, laid_out, layouts, layout_of}
 use Rattle.rdl_elab.specs.Reaches.{reaches}
 use Rattle.rdl_elab.specs.Rows.{rows_below, rows_of, around_top, top_layout}
 use Rattle.rdl_elab.specs.Faults.{has_name, may_be_top, name_of, top_from, levels, count, first_row_fault, rows_or, under_top, with_top, unless_fault}
@@ -31,9 +31,9 @@ use Rattle.sound_laws.proofs.Named.{target_same, own_found}
 pub named : TargetsAreNamed
 named d a c none holds = target_same d none a c holds
 
-own : (d : Items) → fault_of d ≡ None → (a : List ℕ) (c : Made) → component d a ≡ Some c → are_own_harmless c.head c.parts ≡ true
-    → are_harmless c.head c.parts (reaches d a 0 c.head.body) ≡ true
-own d none a c holds e = ap (are_harmless c.head c.parts) (sym (own_found d none a c holds)) ∙ e
+own : (d : Items) → fault_of d ≡ None → (a : List ℕ) (c : Made) → component d a ≡ Some c → are_own_harmless layout_of c.head c.parts ≡ true
+    → are_harmless layout_of c.head c.parts (reaches d a 0 c.head.body) ≡ true
+own d none a c holds e = ap (are_harmless layout_of c.head c.parts) (sym (own_found d none a c holds)) ∙ e
 
 pub harmless : SoundAssignsNoHarm
 harmless d a c m none holds sound = no_harm d none (own d none) a c m holds sound
@@ -116,10 +116,10 @@ module _ (c : Made) where
   -- of this kind, if its instances are placed in this mode
   abbrev sound_in : Kind → Mode → Bool
   sound_in k y =
-      sound_by k (are_fields_sound c.head c.parts) (are_strides_wide y c.parts && are_apart (laid_out c.head.kind v y (map member (layouts y c.parts))).spans)
-      (are_sound y c.parts) (are_own_harmless c.head c.parts)
+      sound_by k (are_fields_sound layout_of c.head c.parts) (are_strides_wide layout_of y c.parts && are_apart (laid_out c.head.kind v y (map member (layouts y c.parts))).spans)
+      (are_sound layout_of y c.parts) (are_own_harmless layout_of c.head c.parts)
 
-  same_sound : (m n : Mode) (k : Kind) → c.head.kind ≡ k → (c.head.kind ≡ Regfile → ⊥) → is_sound m c.head c.parts ≡ is_sound n c.head c.parts
+  same_sound : (m n : Mode) (k : Kind) → c.head.kind ≡ k → (c.head.kind ≡ Regfile → ⊥) → is_sound layout_of m c.head c.parts ≡ is_sound layout_of n c.head c.parts
   same_sound m n Addrmap e other =
       ap (λ k. sound_in c.head.kind (mode_inside k v m)) e ∙ sym (ap (λ k. sound_in c.head.kind (mode_inside k v n)) e)
   same_sound m n Regfile e other = absurd (other e)

@@ -74,9 +74,9 @@ module _ (over : Mode → Head → Parts → List Reach → Bool) (cautious : Is
       (rows_asked over d o going (before ++ (span, r.access) ∷ []) spans rest)
       (rows_in d (inside r) [] l.spans within) (rows_in d o (before ++ (span, r.access) ∷ []) spans rest)
       (passed_or d (over o.mode h within coming) (rows_asked over d (inside r) (coming ++ own_assignments h within) [] l.spans within) (rows_in d (inside r) [] l.spans within)
-      (λ e. let t = both (is_sound o.mode h within) (are_harmless h within coming) (cautious o.mode h within coming e) in
+      (λ e. let t = both (is_sound layout_of o.mode h within) (are_harmless layout_of h within coming) (cautious o.mode h within coming e) in
       faultless d h.at (record { head = h; parts = within }) o.mode (inside r) none holds t.0 (record { mode = refl; bits = λ k. refl })
-      (ap (are_harmless h within) arrives ∙ t.1)) below)
+      (ap (are_harmless layout_of h within) arrives ∙ t.1)) below)
       (same rest b found.2 o going come (before ++ (span, r.access) ∷ []) spans)
 
 pub search : SearchFindsFirst

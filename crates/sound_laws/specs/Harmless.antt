@@ -10,11 +10,21 @@ use Rattle.rdl_tree.specs.declared.shell.Kind.TheVariants.{Reg}
 use Rattle.rdl_tree.specs.declared.value.Value.{Value}
 use Rattle.rdl_tree.specs.declared.property.Property.TheVariants.{Sw, Reset}
 use Rattle.rdl_scope.specs.Closed.{Head, Parts, no_parts, part}
+use Rattle.rdl_elab.specs.declared.layout.Mode.{Mode}
 use Rattle.rdl_elab.specs.declared.layout.Mode.TheVariants.{Compact}
+use Rattle.rdl_elab.specs.declared.layout.Layout.{Layout}
 use Rattle.rdl_elab.specs.declared.layout.Span.{Span}
+use Rattle.rdl_elab.specs.Capped.{capped_layout}
 use Rattle.rdl_elab.specs.Faults.{overlap, is_reset_too_wide}
 use Rattle.rdl_elab.specs.Layouts.{number_in, layout_of}
 use Rattle.rdl_elab.specs.Reaches.{Reach}
+
+-- how a component that stands under a mode is laid out: as it is, or as far as it is kept
+abbrev pub Laying : Type 0
+Laying = Mode → Head → Parts → Layout
+
+abbrev pub kept_layout : Mode → Head → Parts → Layout
+kept_layout m h inside = capped_layout (layout_of m h inside)
 
 -- no two of the spans overlap
 abbrev pub are_apart : List Span → Bool
@@ -33,8 +43,8 @@ is_fitting (in_register apart span) p v =
     if bytes_eq p (row Reset).name then not (is_reset_too_wide (number_in (Some v)) span) else (if bytes_eq p (row Sw).name then apart else true)
 
 -- the bits of the fields of a register, which are the same under each mode
-abbrev pub field_spans : Head → Parts → List Span
-field_spans h inside = (layout_of Compact h inside).spans
+abbrev pub field_spans : Laying → Head → Parts → List Span
+field_spans lay h inside = (lay Compact h inside).spans
 
 -- where the instances of a component stand, if its fields have these bits
 abbrev pub all_elsewhere : Parts → List Spot
@@ -45,8 +55,8 @@ abbrev pub spots_by : Kind → List Span → Parts → List Spot
 spots_by Reg spans inside = map (in_register (are_apart spans)) spans
 spots_by kind spans inside = all_elsewhere inside
 
-abbrev pub spots_in : Head → Parts → List Spot
-spots_in h inside = spots_by h.kind (field_spans h inside) inside
+abbrev pub spots_in : Laying → Head → Parts → List Spot
+spots_in lay h inside = spots_by h.kind (field_spans lay h inside) inside
 
 -- this holds of each of these instances that is the item at this address
 abbrev pub each_at : (Spot → Head → Parts → Bool) → List ℕ → List Spot → Parts → Bool
@@ -55,19 +65,19 @@ each_at f a [] (part at s h inside rest) = true
 each_at f a (spot ∷ spots) (part at s h inside rest) = (if pointwise nat_eq a at then f spot h inside else true) && each_at f a spots rest
 
 -- an assignment to a component that stands there, or along these instances inside it. One that leads nowhere is harmless
-abbrev pub is_harmless_along : List ℕ → Value → List (List ℕ) → Spot → Head → Parts → Bool
-is_harmless_along p v [] spot h inside = is_fitting spot p v
-is_harmless_along p v (a ∷ path) spot h inside = each_at (is_harmless_along p v path) a (spots_in h inside) inside
+abbrev pub is_harmless_along : Laying → List ℕ → Value → List (List ℕ) → Spot → Head → Parts → Bool
+is_harmless_along lay p v [] spot h inside = is_fitting spot p v
+is_harmless_along lay p v (a ∷ path) spot h inside = each_at (is_harmless_along lay p v path) a (spots_in lay h inside) inside
 
-abbrev pub is_harmless_at : Spot → Head → Parts → Reach → Bool
-is_harmless_at spot h inside r = is_harmless_along r.property r.value r.path spot h inside
+abbrev pub is_harmless_at : Laying → Spot → Head → Parts → Reach → Bool
+is_harmless_at lay spot h inside r = is_harmless_along lay r.property r.value r.path spot h inside
 
 -- the same of a component itself, in which such an assignment goes on, wherever it stands
-abbrev pub is_harmless : Head → Parts → Reach → Bool
-is_harmless h inside r = is_harmless_at elsewhere h inside r
+abbrev pub is_harmless : Laying → Head → Parts → Reach → Bool
+is_harmless lay h inside r = is_harmless_at lay elsewhere h inside r
 
-abbrev pub are_harmless : Head → Parts → List Reach → Bool
-are_harmless h inside rs = list_all (is_harmless h inside) rs
+abbrev pub are_harmless : Laying → Head → Parts → List Reach → Bool
+are_harmless lay h inside rs = list_all (is_harmless lay h inside) rs
 
 -- assignments of other properties
 abbrev pub is_unjudged : Reach → Bool

@@ -14,7 +14,7 @@ use Rattle.rdl_elab.specs.Layouts.{values_of, mode_inside, layout_of}
 use Rattle.rdl_elab.specs.Reaches.{Reach, reaches, along}
 use Rattle.rdl_elab.specs.Rows.{Around, rows_in, rows_of, top_layout}
 use Rattle.rdl_elab.specs.Faults.{levels, count, first_empty, first_row_fault, top_from, fault_of_top, elaborated}
-use Rattle.sound_laws.specs.Harmless.{are_harmless, is_unjudged}
+use Rattle.sound_laws.specs.Harmless.{Laying, are_harmless, is_unjudged}
 use Rattle.sound_laws.specs.Sound.{is_sound}
 use Rattle.sound_laws.specs.Targets.{target_in, own_assignments}
 use Rattle.sound_laws.specs.Search.{IsCautious, rows_asked}
@@ -37,18 +37,18 @@ TargetsAreNamed =
 -- the dynamic assignments in the body of a sound component are harmless
 abbrev pub SoundAssignsNoHarm : Type 0
 SoundAssignsNoHarm =
-    (d : Items) (a : List ℕ) (c : Made) (m : Mode) → fault_of d ≡ None → component d a ≡ Some c → is_sound m c.head c.parts ≡ true
-    → are_harmless c.head c.parts (reaches d a 0 c.head.body) ≡ true
+    (d : Items) (a : List ℕ) (c : Made) (m : Mode) → fault_of d ≡ None → component d a ≡ Some c → is_sound layout_of m c.head c.parts ≡ true
+    → are_harmless layout_of c.head c.parts (reaches d a 0 c.head.body) ≡ true
 
 -- below a sound component no row has a fault, if what is assigned from around it is harmless
 abbrev pub SoundHasNoFault : Type 0
 SoundHasNoFault =
-    (d : Items) (a : List ℕ) (c : Made) (m : Mode) (o : Around) → fault_of d ≡ None → component d a ≡ Some c → is_sound m c.head c.parts ≡ true
-    → IsInside m c o → are_harmless c.head c.parts (along d [] o.path) ≡ true → IsFaultlessBelow d m c o
+    (d : Items) (a : List ℕ) (c : Made) (m : Mode) (o : Around) → fault_of d ≡ None → component d a ≡ Some c → is_sound layout_of m c.head c.parts ≡ true
+    → IsInside m c o → are_harmless layout_of c.head c.parts (along d [] o.path) ≡ true → IsFaultlessBelow d m c o
 
 -- as it is if neither `sw` nor `reset` is
 abbrev pub UnjudgedAreHarmless : Type 0
-UnjudgedAreHarmless = (c : Made) (rs : List Reach) → list_all is_unjudged rs ≡ true → are_harmless c.head c.parts rs ≡ true
+UnjudgedAreHarmless = (lay : Laying) (c : Made) (rs : List Reach) → list_all is_unjudged rs ≡ true → are_harmless lay c.head c.parts rs ≡ true
 
 -- a map with this top is within the limits, and no register file or address map in it is without instances
 pub record IsWithinLimits (c : Made) : Type 0 where
@@ -60,18 +60,18 @@ pub record IsWithinLimits (c : Made) : Type 0 where
 -- a map within the limits whose top is sound has no fault
 abbrev pub SoundMapHasNoFault : Type 0
 SoundMapHasNoFault =
-    (d : Items) (a name : List ℕ) (c : Made) → fault_of d ≡ None → component d a ≡ Some c → c.head.kind ≡ Addrmap → is_sound Regalign c.head c.parts ≡ true
+    (d : Items) (a name : List ℕ) (c : Made) → fault_of d ≡ None → component d a ≡ Some c → c.head.kind ≡ Addrmap → is_sound layout_of Regalign c.head c.parts ≡ true
     → IsWithinLimits c → fault_of_top d a name c ≡ None
 
 -- so it is its rows
 abbrev pub SoundMapIsItsRows : Type 0
 SoundMapIsItsRows =
     (d : Items) (wanted : Option (List ℕ)) (top : ℕ × List ℕ) (c : Made) → fault_of d ≡ None → top_from wanted 0 d ≡ Some top → component d (top.0 ∷ []) ≡ Some c
-    → is_sound Regalign c.head c.parts ≡ true → IsWithinLimits c → elaborated d wanted ≡ Ok (rows_of d top.1 c)
+    → is_sound layout_of Regalign c.head c.parts ≡ true → IsWithinLimits c → elaborated d wanted ≡ Ok (rows_of d top.1 c)
 
 -- the mode under which a component stands matters to a register file alone
 abbrev pub ModesMatterToRegisterFiles : Type 0
-ModesMatterToRegisterFiles = (m n : Mode) (c : Made) → (c.head.kind ≡ Regfile → ⊥) → is_sound m c.head c.parts ≡ is_sound n c.head c.parts
+ModesMatterToRegisterFiles = (m n : Mode) (c : Made) → (c.head.kind ≡ Regfile → ⊥) → is_sound layout_of m c.head c.parts ≡ is_sound layout_of n c.head c.parts
 
 -- the first fault below a component is found where nothing is passed over but what can have none
 abbrev pub SearchFindsFirst : Type 0

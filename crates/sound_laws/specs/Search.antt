@@ -15,7 +15,7 @@ use Rattle.sound_laws.specs.Targets.{own_assignments}
 
 -- all below a component may be passed over: it is sound under the mode, and what is assigned from around it is harmless
 abbrev pub may_be_passed_over : Mode → Head → Parts → List Reach → Bool
-may_be_passed_over m h within coming = is_sound m h within && are_harmless h within coming
+may_be_passed_over m h within coming = is_sound layout_of m h within && are_harmless layout_of h within coming
 
 -- whoever decides by this passes over nothing else
 abbrev pub IsCautious : (Mode → Head → Parts → List Reach → Bool) → Type 0

@@ -17,9 +17,9 @@ use Rattle.rdl_scope.specs.Closed.{Head, Parts, no_parts, part, head_value}
 use Rattle.rdl_elab.specs.declared.layout.Mode.{Mode}
 use Rattle.rdl_elab.specs.declared.layout.Span.{Span}
 use Rattle.rdl_elab.specs.Faults.{overlap, may_share, is_reset_too_wide}
-use Rattle.rdl_elab.specs.Layouts.{number_in, values_of, mode_inside, layout_of}
+use Rattle.rdl_elab.specs.Layouts.{number_in, values_of, mode_inside}
 use Rattle.rdl_elab.specs.Reaches.{reset_value}
-use Rattle.sound_laws.specs.Harmless.{are_apart, field_spans, are_harmless}
+use Rattle.sound_laws.specs.Harmless.{Laying, are_apart, field_spans, are_harmless}
 use Rattle.sound_laws.specs.Targets.{own_assignments}
 
 -- the value that a row of an instance with this shell has of a property, if this is assigned to it from outside
@@ -50,18 +50,18 @@ are_fields_sound_in register access spans inside =
     nat_le access register && list_all (λ (s : Span). nat_le s.end register) spans && resets_fit spans inside
     && (are_apart spans || clash_none (fields_of spans inside))
 
-abbrev pub are_fields_sound : Head → Parts → Bool
-are_fields_sound h inside = are_fields_sound_in (values_of h).regwidth (values_of h).accesswidth (field_spans h inside) inside
+abbrev pub are_fields_sound : Laying → Head → Parts → Bool
+are_fields_sound lay h inside = are_fields_sound_in (values_of h).regwidth (values_of h).accesswidth (field_spans lay h inside) inside
 
 -- no stride is smaller than an element
-abbrev pub are_strides_wide : Mode → Parts → Bool
-are_strides_wide m no_parts = true
-are_strides_wide m (part at s h inside rest) =
-    not (nat_lt (unwrap_or s.stride (layout_of m h inside).size) (layout_of m h inside).size) && are_strides_wide m rest
+abbrev pub are_strides_wide : Laying → Mode → Parts → Bool
+are_strides_wide lay m no_parts = true
+are_strides_wide lay m (part at s h inside rest) =
+    not (nat_lt (unwrap_or s.stride (lay m h inside).size) (lay m h inside).size) && are_strides_wide lay m rest
 
 -- the instances of a component that stands under a mode lie apart
-abbrev pub is_apart_under : Mode → Head → Parts → Bool
-is_apart_under m h inside = are_strides_wide (mode_inside h.kind (values_of h) m) inside && are_apart (layout_of m h inside).spans
+abbrev pub is_apart_under : Laying → Mode → Head → Parts → Bool
+is_apart_under lay m h inside = are_strides_wide lay (mode_inside h.kind (values_of h) m) inside && are_apart (lay m h inside).spans
 
 -- a component by its kind: whether its fields are sound, its instances lie apart and are sound, and its own dynamic assignments harmless
 abbrev pub sound_by : Kind → (fields apart inside own : Bool) → Bool
@@ -69,17 +69,17 @@ sound_by Field fields apart inside own = true
 sound_by Reg fields apart inside own = fields && own
 sound_by kind fields apart inside own = inside && apart && own
 
-abbrev pub are_own_harmless : Head → Parts → Bool
-are_own_harmless h inside = are_harmless h inside (own_assignments h inside)
+abbrev pub are_own_harmless : Laying → Head → Parts → Bool
+are_own_harmless lay h inside = are_harmless lay h inside (own_assignments h inside)
 
 -- these instances are sound under the mode in which they are placed
-abbrev pub are_sound : Mode → Parts → Bool
-are_sound m no_parts = true
-are_sound m (part at s h inside rest) =
-    sound_by h.kind (are_fields_sound h inside) (is_apart_under m h inside) (are_sound (mode_inside h.kind (values_of h) m) inside) (are_own_harmless h inside)
-    && are_sound m rest
+abbrev pub are_sound : Laying → Mode → Parts → Bool
+are_sound lay m no_parts = true
+are_sound lay m (part at s h inside rest) =
+    sound_by h.kind (are_fields_sound lay h inside) (is_apart_under lay m h inside) (are_sound lay (mode_inside h.kind (values_of h) m) inside) (are_own_harmless lay h inside)
+    && are_sound lay m rest
 
 -- a component that stands under a mode
-abbrev pub is_sound : Mode → Head → Parts → Bool
-is_sound m h inside =
-    sound_by h.kind (are_fields_sound h inside) (is_apart_under m h inside) (are_sound (mode_inside h.kind (values_of h) m) inside) (are_own_harmless h inside)
+abbrev pub is_sound : Laying → Mode → Head → Parts → Bool
+is_sound lay m h inside =
+    sound_by h.kind (are_fields_sound lay h inside) (is_apart_under lay m h inside) (are_sound lay (mode_inside h.kind (values_of h) m) inside) (are_own_harmless lay h inside)
