@@ -14,7 +14,7 @@ use Rattle.rdl_elab.specs.Layouts.{values_of, mode_inside, layout_of}
 use Rattle.rdl_elab.specs.Reaches.{Reach, reaches, along}
 use Rattle.rdl_elab.specs.Rows.{Around, rows_in, rows_of, top_layout}
 use Rattle.rdl_elab.specs.Faults.{levels, count, first_empty, first_row_fault, top_from, fault_of_top, elaborated}
-use Rattle.sound_laws.specs.Harmless.{Laying, are_harmless, is_unjudged}
+use Rattle.sound_laws.specs.Harmless.{Laying, kept_layout, are_harmless, is_unjudged}
 use Rattle.sound_laws.specs.Sound.{is_sound}
 use Rattle.sound_laws.specs.Targets.{target_in, own_assignments}
 use Rattle.sound_laws.specs.Search.{IsCautious, rows_asked}
@@ -72,6 +72,17 @@ SoundMapIsItsRows =
 -- the mode under which a component stands matters to a register file alone
 abbrev pub ModesMatterToRegisterFiles : Type 0
 ModesMatterToRegisterFiles = (m n : Mode) (c : Made) → (c.head.kind ≡ Regfile → ⊥) → is_sound layout_of m c.head c.parts ≡ is_sound layout_of n c.head c.parts
+
+-- a component is sound, and what is harmless there is told by what is kept of layouts
+pub record IsTold (m : Mode) (c : Made) : Type 0 where
+  pub sound : is_sound layout_of m c.head c.parts ≡ true
+  pub harmless : (rs : List Reach) → are_harmless kept_layout c.head c.parts rs ≡ are_harmless layout_of c.head c.parts rs
+
+-- so it is of a component that is sound by what is kept of layouts, and of no more than 2^40 bytes
+abbrev pub KeptSuffices : Type 0
+KeptSuffices =
+    (d : Items) (a : List ℕ) (c : Made) (m : Mode) → fault_of d ≡ None → component d a ≡ Some c → (kept_layout m c.head c.parts).size ≤ 2 ^ 40
+    → is_sound kept_layout m c.head c.parts ≡ true → IsTold m c
 
 -- the first fault below a component is found where nothing is passed over but what can have none
 abbrev pub SearchFindsFirst : Type 0

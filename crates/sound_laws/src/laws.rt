@@ -1,5 +1,5 @@
 //! What holds of sound components. Nothing here does anything when it runs.
-ghost use Rattle.sound_laws.specs.Laws.{TargetsAreNamed, SoundAssignsNoHarm, SoundHasNoFault, UnjudgedAreHarmless, SoundMapHasNoFault, SoundMapIsItsRows, ModesMatterToRegisterFiles, SearchFindsFirst};
+ghost use Rattle.sound_laws.specs.Laws.{TargetsAreNamed, SoundAssignsNoHarm, SoundHasNoFault, UnjudgedAreHarmless, SoundMapHasNoFault, SoundMapIsItsRows, ModesMatterToRegisterFiles, KeptSuffices, SearchFindsFirst};
 ghost use Rattle.sound_laws.specs.Verdicts.{FittingIsHarmless};
 
 /// In a description without a fault among its items, no row below a sound component has a fault, if what is assigned from
@@ -23,6 +23,12 @@ pub fn sound_components_do_no_harm()
 /// Whether a component is sound depends on the mode under which it stands for a register file alone.
 pub fn modes_matter_to_register_files()
     ensures { ModesMatterToRegisterFiles }
+{}
+
+/// A component of no more than 2^40 bytes is sound where it is so by what is kept of layouts, which is exact up to there. What
+/// is harmless in it is told so, too.
+pub fn kept_layouts_tell()
+    ensures { KeptSuffices }
 {}
 
 /// In a description without a fault among its items, the first fault below a component is found where components are passed
