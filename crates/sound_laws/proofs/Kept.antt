@@ -33,7 +33,8 @@ use Rattle.rdl_elab.proofs.SameLevels.{bits-small}
 use Rattle.sound_laws.specs.Harmless.{Spot, elsewhere, kept_layout, are_apart, field_spans, all_elsewhere, spots_by, spots_in, each_at, is_harmless_along, is_harmless, are_harmless}
 use Rattle.sound_laws.specs.Targets.{own_assignments}
 use Rattle.sound_laws.specs.Sound.{are_fields_sound_in, are_fields_sound, are_strides_wide, is_apart_under, sound_by, are_own_harmless, are_sound, is_sound}
-use Rattle.sound_laws.specs.Laws.{KeptSuffices}
+use Rattle.sound_laws.specs.Laws.{KeptSuffices, KeptIsCautious}
+use Rattle.sound_laws.specs.Search.{IsKeptWhole}
 use Rattle.sound_laws.proofs.Lists.{both, and_both}
 use Rattle.sound_laws.proofs.Containers.{fields_told}
 use Rattle.sound_laws.proofs.Registers.{nothing_in_fields, field_there}
@@ -71,6 +72,12 @@ bytes_exact around m end (p ∷ ps) h =
     let t = at_most_both (end_of start p) (greatest_end (spans_from around m (end_of start p) ps)) (2 ^ 40) h in
     let first = span_small (record { start = start; end = end_of start p }) (omega arith) t.0 in
     λ i. first i ∷ bytes_exact around m (end_of start p) ps t.1 i
+
+pub kept_whole : (k : Kind) (n : ℕ) → n ≤ 2 ^ 40 → IsKeptWhole k n
+kept_whole Addrmap n e = e
+kept_whole Regfile n e = e
+kept_whole Reg n e = tt
+kept_whole Field n e = tt
 
 -- ---- Where the fields of all registers are kept whole, the same is harmless.
 
@@ -139,7 +146,7 @@ module _ (d : Items) (none : fault_of d ≡ None) where
       → (are_strides_wide layout_of y ps ≡ true) × (are_sound layout_of y ps ≡ true) × AreExact ps
 
   module _ (h : Head) (within : Parts) (deeper : Converts within) (holds : component d h.at ≡ Some (record { head = h; parts = within }))
-      (x : Mode) (small : (layout_of x h within).size ≤ 2 ^ 40) where
+      (x : Mode) (small : IsKeptWhole h.kind (layout_of x h within).size) where
     abbrev c : Made
     c = record { head = h; parts = within }
 
@@ -182,13 +189,13 @@ module _ (d : Items) (none : fault_of d ≡ None) where
           deeper = deep;
         }
 
-    filled : (k : Kind) → h.kind ≡ k → (layout_of x h within ≡ container v.alignment y (map (λ (i : Member). i.placement) (map member (layouts y within))))
+    filled : (k : Kind) → h.kind ≡ k → (layout_of x h within).size ≤ 2 ^ 40 → (layout_of x h within ≡ container v.alignment y (map (λ (i : Member). i.placement) (map member (layouts y within))))
         → ((spans : List Span) → spots_by k spans within ≡ all_elsewhere within)
         → ((inner apart own : Bool) → inner ≡ true → apart ≡ true → own ≡ true → sound_by k (are_fields_sound layout_of h within) apart inner own ≡ true)
         → are_sound kept_layout y within ≡ true → is_apart_under kept_layout x h within ≡ true → are_own_harmless kept_layout h within ≡ true → IsWhole x h within
-    filled k e is spots joined s a o =
+    filled k e few is spots joined s a o =
         let ps = map (λ (i : Member). i.placement) (map member (layouts y within)) in
-        let size : greatest_end (spans_from v.alignment y 0 ps) ≤ 2 ^ 40 = subst (λ (l : Layout). l.size ≤ 2 ^ 40) is small in
+        let size : greatest_end (spans_from v.alignment y 0 ps) ≤ 2 ^ 40 = subst (λ (l : Layout). l.size ≤ 2 ^ 40) is few in
         let t = both (are_strides_wide kept_layout y within) (are_apart (map capped_span (layout_of x h within).spans)) a in
         let inner = deeper h.at parts_there y v.alignment 0 size t.0 s in
         let same : map capped_span (layout_of x h within).spans ≡ (layout_of x h within).spans =
@@ -218,11 +225,11 @@ module _ (d : Items) (none : fault_of d ≡ None) where
     by_kind Addrmap e s =
         let t = both (are_sound kept_layout y within && is_apart_under kept_layout x h within) (are_own_harmless kept_layout h within) s in
         let u = both (are_sound kept_layout y within) (is_apart_under kept_layout x h within) t.0 in
-        filled Addrmap e (ap (λ j. laid_out j v y (map member (layouts y within))) e) (λ spans. refl) (λ i a o f g j. and_both (i && a) o (and_both i a f g) j) u.0 u.1 t.1
+        filled Addrmap e (subst (λ j. IsKeptWhole j (layout_of x h within).size) e small) (ap (λ j. laid_out j v y (map member (layouts y within))) e) (λ spans. refl) (λ i a o f g j. and_both (i && a) o (and_both i a f g) j) u.0 u.1 t.1
     by_kind Regfile e s =
         let t = both (are_sound kept_layout y within && is_apart_under kept_layout x h within) (are_own_harmless kept_layout h within) s in
         let u = both (are_sound kept_layout y within) (is_apart_under kept_layout x h within) t.0 in
-        filled Regfile e (ap (λ j. laid_out j v y (map member (layouts y within))) e) (λ spans. refl) (λ i a o f g j. and_both (i && a) o (and_both i a f g) j) u.0 u.1 t.1
+        filled Regfile e (subst (λ j. IsKeptWhole j (layout_of x h within).size) e small) (ap (λ j. laid_out j v y (map member (layouts y within))) e) (λ spans. refl) (λ i a o f g j. and_both (i && a) o (and_both i a f g) j) u.0 u.1 t.1
 
     whole : is_sound kept_layout x h within ≡ true → IsWhole x h within
     whole s = by_kind h.kind refl s
@@ -239,7 +246,7 @@ module _ (d : Items) (none : fault_of d ≡ None) where
       let kept : capped l.size ≡ l.size = omega (arith, size) in
       let w = both (not (nat_lt (unwrap_or s.stride (capped l.size)) (capped l.size))) (are_strides_wide kept_layout y rest) strides in
       let u = both (is_sound kept_layout y h within) (are_sound kept_layout y rest) sound in
-      let one = whole h within (converts within) found.0.component y size u.0 in
+      let one = whole h within (converts within) found.0.component y (kept_whole h.kind l.size size) u.0 in
       let more = converts rest b found.2 y around (end_of start p) t.1 w.1 u.1 in
       let wide : not (nat_lt (unwrap_or s.stride l.size) l.size) ≡ true = ap (λ n. not (nat_lt (unwrap_or s.stride n) n)) (sym kept) ∙ w.0 in (
         and_both (not (nat_lt (unwrap_or s.stride l.size) l.size)) (are_strides_wide layout_of y rest) wide more.0,
@@ -247,9 +254,26 @@ module _ (d : Items) (none : fault_of d ≡ None) where
         (one.exact, one.deeper, more.2),
       )
 
+from_kept : (k : Kind) (n : ℕ) → IsKeptWhole k (capped n) → IsKeptWhole k n
+from_kept Addrmap n e = omega (arith, e)
+from_kept Regfile n e = omega (arith, e)
+from_kept Reg n e = tt
+from_kept Field n e = tt
+
+to_kept : (k : Kind) (n : ℕ) → IsKeptWhole k n → IsKeptWhole k (capped n)
+to_kept Addrmap n e = omega (arith, e)
+to_kept Regfile n e = omega (arith, e)
+to_kept Reg n e = tt
+to_kept Field n e = tt
+
 pub kept_suffices : KeptSuffices
 kept_suffices d a c m none holds small sound =
-    let size : (layout_of m c.head c.parts).size ≤ 2 ^ 40 = omega (arith, small) in
     let there = ap (component d) (as_found d a c holds).place ∙ holds in
-    let w = whole d none c.head c.parts (converts d none c.parts) there m size sound in
+    let w = whole d none c.head c.parts (converts d none c.parts) there m (from_kept c.head.kind (layout_of m c.head c.parts).size small) sound in
     record { sound = w.sound; harmless = λ rs. same_harmless c.head c.parts rs w.exact w.deeper }
+
+pub kept_is_cautious : KeptIsCautious
+kept_is_cautious d none m c coming holds small e =
+    let t = both (is_sound kept_layout m c.head c.parts) (are_harmless kept_layout c.head c.parts coming) e in
+    let told = kept_suffices d c.head.at c m none holds (to_kept c.head.kind (layout_of m c.head c.parts).size small) t.0 in
+    and_both (is_sound layout_of m c.head c.parts) (are_harmless layout_of c.head c.parts coming) told.sound (sym (told.harmless coming) ∙ t.1)
