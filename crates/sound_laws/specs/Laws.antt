@@ -9,7 +9,6 @@ use Rattle.rdl_scope.specs.Closed.{Head, Parts, Made, component}
 use Rattle.rdl_scope.specs.ItemFaults.{fault_of}
 use Rattle.rdl_elab.specs.declared.layout.Mode.{Mode}
 use Rattle.rdl_elab.specs.declared.layout.Mode.TheVariants.{Regalign}
-use Rattle.rdl_elab.specs.declared.layout.Span.{Span}
 use Rattle.rdl_elab.specs.Layouts.{values_of, mode_inside, layout_of}
 use Rattle.rdl_elab.specs.Reaches.{Reach, reaches, along}
 use Rattle.rdl_elab.specs.Rows.{Around, rows_in, rows_of, top_layout}

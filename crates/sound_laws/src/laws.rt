@@ -1,5 +1,6 @@
 //! What holds of sound components. Nothing here does anything when it runs.
 ghost use Rattle.sound_laws.specs.Laws.{TargetsAreNamed, SoundAssignsNoHarm, SoundHasNoFault, UnjudgedAreHarmless, SoundMapHasNoFault, SoundMapIsItsRows, ModesMatterToRegisterFiles, KeptSuffices, SearchFindsFirst, KeptIsCautious};
+ghost use Rattle.sound_laws.specs.Exact.{SoundIsExact};
 ghost use Rattle.sound_laws.specs.Verdicts.{FittingIsHarmless};
 
 /// In a description without a fault among its items, no row below a sound component has a fault, if what is assigned from
@@ -18,6 +19,12 @@ pub fn sound_components_do_no_harm()
     ensures named { TargetsAreNamed }
     ensures harmless { SoundAssignsNoHarm }
     ensures told { FittingIsHarmless }
+{}
+
+/// Where no dynamic assignment of `sw` or `reset` stands inside a component or comes to it, it is sound if no row below it has a
+/// fault, in a description without a fault among its items.
+pub fn soundness_is_exact()
+    ensures { SoundIsExact }
 {}
 
 /// Whether a component is sound depends on the mode under which it stands for a register file alone.
