@@ -1,2 +1,5 @@
 pub mod Kept
+pub mod Laid
 pub mod Laws
+pub mod Meant
+pub mod Seen
