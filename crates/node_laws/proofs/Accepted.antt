@@ -5,6 +5,7 @@ use Rattle.std.specs.Option.{option_or, is_some}
 use Rattle.std.proofs.lemmas.Bool.{false≢true}
 use Rattle.rdl_tree.specs.Address.{inner}
 use Rattle.rdl_tree.specs.Component.{holder_kind, own_component}
+use Rattle.rdl_tree.specs.Depth.{depth}
 use Rattle.rdl_tree.specs.ItemAt.{item_at}
 use Rattle.rdl_tree.specs.Items.{Items, no_items, plain, holder, Plain, named, own, default, dynamic, Holder, define, anonymous}
 use Rattle.rdl_tree.specs.View.{list_of, plain_item, holder_item}
@@ -88,6 +89,11 @@ fields-hold-nothing zero e b n (holder k body rest) inside h is =
     let first : HolderAccepted (Some Field) e (b ++ n ∷ []) k body = h.0 in stand-in-field k first.stands
 fields-hold-nothing (suc i) e b n (holder k body rest) inside h is =
     fields-hold-nothing i (after_holder k (b ++ n ∷ []) body (parts e (b ++ n ∷ []) 0 body) e) b (suc n) rest inside h.2 is
+
+pub fields-are-flat : (e : Standing) (b : List ℕ) (n : ℕ) (t : Items) → AreAccepted (Some Field) e b n t → depth t ≡ 0
+fields-are-flat e b n no_items h = refl
+fields-are-flat e b n (plain p rest) h = fields-are-flat (after_plain p e) b (suc n) rest h.1
+fields-are-flat e b n (holder k body rest) h = let first : HolderAccepted (Some Field) e (b ++ n ∷ []) k body = h.0 in absurd (stand-in-field k first.stands)
 
 -- a field stands in a register
 pub field-in-register : (around : Option Kind) → may_instantiate around Field ≡ true → around ≡ Some Reg

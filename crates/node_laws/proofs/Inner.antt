@@ -10,9 +10,11 @@ use Rattle.rdl_scope.specs.Closed.{Parts, no_parts, part, Made, Standing, head_a
 use Rattle.rdl_elab.specs.Faults.{levels, count, is_empty, first_empty}
 use Rattle.rdl_seen.specs.declared.seen.Seen.{Seen}
 use Rattle.rdl_seen.specs.Contents.{Contents, no_contents, with_field, with_instance, with_written}
+use Rattle.rdl_seen.specs.Modes.{and_modes}
 use Rattle.rdl_seen.specs.Node.{is_container}
 use Rattle.rdl_seen.specs.Slots.{FieldBody}
-use Rattle.node_laws.specs.Seen.{IsSeen}
+use Rattle.node_laws.specs.Meant.{IsSeen}
+use Rattle.node_laws.specs.Sound.{sound_by, all_sound}
 
 abbrev pub has_parts : Parts → Bool
 has_parts no_parts = false
@@ -24,12 +26,13 @@ pub record IsInner (c : Contents) (ps : Parts) : Type 0 where
   pub rows : min c.rows 65536 ≡ min (count ps) 65536
   pub has_instances : c.has_instances ≡ has_parts ps
   pub has_empty : c.has_empty ≡ is_some (first_empty ps)
+  pub sound : c.sound ≡ all_sound ps
 
 pub inner-none : IsInner no_contents no_parts
-inner-none = record { levels = refl; rows = refl; has_instances = refl; has_empty = refl }
+inner-none = record { levels = refl; rows = refl; has_instances = refl; has_empty = refl; sound = refl }
 
 pub inner-written : (s : Seen) (c : Contents) (ps : Parts) → IsInner c ps → IsInner (with_written s c) ps
-inner-written s c ps h = record { levels = h.levels; rows = h.rows; has_instances = h.has_instances; has_empty = h.has_empty }
+inner-written s c ps h = record { levels = h.levels; rows = h.rows; has_instances = h.has_instances; has_empty = h.has_empty; sound = h.sound }
 
 more-levels : (a b x y : ℕ) → a ≡ min x 16 → min b 16 ≡ min y 16 → min (max (a + 1) b) 16 ≡ min (max (x + 1) y) 16
 more-levels a b x y e f = omega arith
@@ -52,6 +55,7 @@ inner-part m s c at sh rest is h = record {
   has_empty =
       (λ i. is.has_empty i || is.is_empty i || h.has_empty i)
       ∙ more-empty (is_empty m.head.kind m.parts) at (first_empty m.parts) (first_empty rest);
+  sound = λ i. and_modes (is.sound i) (h.sound i);
 }
 
 field-levels : (b y : ℕ) → min b 16 ≡ min y 16 → min (max 1 b) 16 ≡ min (max (0 + 1) y) 16
@@ -62,12 +66,21 @@ field-rows b y e = omega arith
 
 pub inner-field : (f : FieldBody) (c : Contents) (at place : List ℕ) (sh : Shell) (body : Items) (e : Standing) (rest : Parts) → IsInner c rest
     → IsInner (with_field f c) (part at sh (head_at place Field body e) no_parts rest)
+unfolding sound_by
 inner-field f c at place sh body e rest h = record {
   levels = field-levels c.levels (levels rest) h.levels;
   rows = field-rows c.rows (count rest) h.rows;
   has_instances = refl;
   has_empty = h.has_empty;
+  sound = h.sound;
 }
+
+-- how deep bodies nest
+pub more-depth : (a b x y : ℕ) → a ≡ min x 255 → min b 255 ≡ min y 255 → min (max (a + 1) b) 255 ≡ min (max (x + 1) y) 255
+more-depth a b x y e f = omega arith
+
+pub field-depth : (b x y : ℕ) → x ≡ 0 → min b 255 ≡ min y 255 → min (max 1 b) 255 ≡ min (max (x + 1) y) 255
+field-depth b x y e f = omega arith
 
 pub empty-is : (k : Kind) (ps : Parts) → (is_container k && not (has_parts ps)) ≡ is_empty k ps
 empty-is Addrmap no_parts = refl

@@ -29,10 +29,12 @@ use Rattle.rdl_seen.specs.declared.values.Values.{Values}
 use Rattle.rdl_seen.specs.Fields.{says_some, of_field, of_seen, room_of, member_of}
 use Rattle.rdl_seen.specs.Layouts as seen
 use Rattle.rdl_seen.specs.Meaning.{stated_of, HasValues}
+use Rattle.rdl_seen.specs.Node.{apart_of}
 use Rattle.rdl_seen.specs.Slots.{FieldBody}
 use Rattle.rdl_seen.specs.Values.{width_of, field_bits}
 use Rattle.node_laws.specs.Laid.{value_in, each_of, made_by, seen_layouts, laying}
-use Rattle.node_laws.specs.Seen.{layouts_seen, member_seen, members_seen, IsSeen}
+use Rattle.node_laws.specs.Meant.{IsSeen}
+use Rattle.node_laws.specs.Seen.{layouts_seen, member_seen, members_seen}
 
 -- ---- Instances that are laid out alike in a component of a kind: of a register, its fields have the same bits.
 
@@ -174,3 +176,11 @@ field-member v w s f at body e ps values stated width = λ m next. by m next
     by Compact next = same next
     by Regalign next = same next
     by Fullalign next = same next
+
+-- ---- The modes in which instances lie apart.
+
+pub apart-alike : (k : Kind) (v : Values) (l : seen.Layouts) (xs ys : List seen.Member) → AreAlike (Some k) xs ys → apart_of k v l xs ≡ apart_of k v l ys
+apart-alike Addrmap v l xs ys alike = ap (apart_of Addrmap v l) (all-same (Some Addrmap) (λ x y e. e) xs ys alike)
+apart-alike Regfile v l xs ys alike = ap (apart_of Regfile v l) (all-same (Some Regfile) (λ x y e. e) xs ys alike)
+apart-alike Reg v l xs ys alike = refl
+apart-alike Field v l xs ys alike = refl

@@ -15,8 +15,7 @@ use Rattle.rdl_seen.proofs.KeptAt.{kept_are_nodes}
 use Rattle.rdl_seen.proofs.Stands.{nodes_have_values}
 use Rattle.node_laws.specs.Laid.{laying}
 use Rattle.node_laws.specs.Laws.{MeansAllAt, NodesAreSeen, NodesAreKnown, KeptAreSeen}
-use Rattle.node_laws.specs.Meant.{MeansAll}
-use Rattle.node_laws.specs.Seen.{IsCore}
+use Rattle.node_laws.specs.Meant.{IsCore, MeansAll}
 use Rattle.node_laws.proofs.Accepted.{AreAccepted, all-accepted}
 use Rattle.node_laws.proofs.Along.{accepted-there}
 use Rattle.node_laws.proofs.Walks.{IsNode, made_here, means_all_behind, means_all_behind_component, node-here}

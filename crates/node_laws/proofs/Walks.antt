@@ -1,7 +1,9 @@
 -- What is walked of some items is what stands there.
 use Rattle.std.proofs.Common.{◌≡◌, ℕ, suc, true, false, List, [], ◌∷◌, ◌++◌, Option, Some, option_map, bytes_eq, if◌then◌else◌, refl, sym, ap, subst, ◌∙◌}
-use Rattle.std.specs.Prelude.{Bool, ◌&&◌, not}
+use Rattle.std.specs.Prelude.{min, ◌||◌, Bool, ◌&&◌, not}
+use Rattle.std.specs.Option.{option_or}
 use Rattle.rdl_tree.specs.Component.{holder_kind}
+use Rattle.rdl_tree.specs.Depth.{depth}
 use Rattle.rdl_tree.specs.Items.{Items, no_items, plain, holder, Plain, named, own, default, dynamic, Holder, define, anonymous}
 use Rattle.rdl_tree.specs.declared.shell.Kind.{Kind}
 use Rattle.rdl_tree.specs.declared.shell.Kind.TheVariants.{Addrmap, Regfile, Reg, Field}
@@ -10,23 +12,24 @@ use Rattle.rdl_tree.specs.Properties.{row}
 use Rattle.rdl_scope.specs.Closed as scope
 use Rattle.rdl_scope.specs.Closed.{Parts, no_parts, part, Made, Standing, lookup, head_at, with_made, parts}
 use Rattle.rdl_seen.specs.declared.values.Values.{Values}
-use Rattle.rdl_seen.specs.Contents.{contents, with_slot, with_instance as contents_with, field_of}
-use Rattle.rdl_seen.specs.Fields.{of_field, of_seen, member_of, members}
-use Rattle.rdl_seen.specs.Inside.{Inside, no_instances, nothing_within, with_instance}
-use Rattle.rdl_seen.specs.Layouts.{sizes, accesses}
+use Rattle.rdl_seen.specs.Contents.{are_harmless, contents, with_slot, with_instance as contents_with, field_of}
+use Rattle.rdl_seen.specs.Fields.{of_field, of_seen, member_of, members, resets, accesses, clash_none, are_fields_sound}
+use Rattle.rdl_seen.specs.Inside.{Spots, asked, verdict_of, is_harmless, Inside, no_instances, nothing_within, with_instance}
+use Rattle.rdl_seen.specs.Layouts.{sizes, accesses as widest}
 use Rattle.rdl_seen.specs.Meaning.{defaults_of, stated_of, HasValues}
 use Rattle.rdl_seen.specs.Names.{class_of}
-use Rattle.rdl_seen.specs.Node.{Known, Around, with_type, after_plain, is_container, is_ordered, values_of, core_of, known_of, within_type, Walked, walked, known}
+use Rattle.rdl_seen.specs.Node.{Known, Around, with_type, after_plain, is_container, is_ordered, values_of, core_of, known_of, within_type, Walked, walked, known, spots_of, apart_of, sound_inside, sound_of}
 use Rattle.rdl_seen.specs.Slots.{Core, slot, written, field_slot, named_slot, part_slot}
-use Rattle.rdl_seen.specs.Values.{access, put_named}
+use Rattle.rdl_seen.specs.Values.{bit_count, access, put_named}
 use Rattle.rdl_seen.proofs.Puts.{put-kept}
 use Rattle.node_laws.specs.Laid.{laying}
 use Rattle.node_laws.specs.Laws.{MeansAllBehind, MeansAllBehindComponent}
-use Rattle.node_laws.specs.Meant.{AreKnown, MeansAll}
-use Rattle.node_laws.specs.Seen.{layouts_seen, member_seen, members_seen, behind, within_seen, IsSeen, IsCore, IsKnown}
-use Rattle.node_laws.proofs.Accepted.{IsNamed, HolderAccepted, AreAccepted, not-in-field, field-in-register}
-use Rattle.node_laws.proofs.Inner.{IsInner, inner-none, inner-written, inner-part, inner-field, empty-is}
-use Rattle.node_laws.proofs.Laying.{IsAlike, AreAlike, same-alike, laid-seen, seen-member, field-member}
+use Rattle.node_laws.specs.Meant.{AreKnown, MeansAll, IsSeen, IsCore, IsKnown}
+use Rattle.node_laws.specs.Seen.{layouts_seen, member_seen, members_seen, behind, within_seen, spots_seen}
+use Rattle.node_laws.specs.Sound.{resets_seen, accesses_seen, apart_seen, harmless, sound_by, sound_seen}
+use Rattle.node_laws.proofs.Accepted.{IsNamed, HolderAccepted, AreAccepted, not-in-field, field-in-register, fields-are-flat}
+use Rattle.node_laws.proofs.Inner.{IsInner, inner-none, inner-written, inner-part, inner-field, empty-is, more-depth, field-depth}
+use Rattle.node_laws.proofs.Laying.{IsAlike, AreAlike, same-alike, laid-seen, seen-member, field-member, apart-alike}
 
 -- ---- What is seen behind an item.
 
@@ -70,6 +73,10 @@ known-there name (x ∷ xs) (y ∷ ys) m are h =
 pub record IsWalked (around : Option Kind) (v : Values) (t : Items) (w : Walked) (before : Inside) (ps : Parts) : Type 0 where
   pub members : AreAlike around (members v t w.slots) (members_seen ps)
   pub inner : IsInner (contents w.slots) ps
+  pub depth : min (contents w.slots).depth 255 ≡ min (depth t) 255
+  pub resets : resets v t w.slots ≡ resets_seen ps
+  pub accesses : accesses v t w.slots ≡ accesses_seen ps
+  pub harmless : (spots : Spots) → are_harmless spots w.slots ≡ harmless spots t ps before
   pub instances : w.instances ≡ behind ps before
 
 -- what is kept of a component, and known of it
@@ -95,6 +102,19 @@ module _ (e : Standing) (a : Around) (same : MeansAll e a) (at : List ℕ) (k : 
   laid : core.layouts ≡ layouts_seen made
   laid = laid-seen (head_at at k body e) core.values (members a.defaults body w.slots) ps has-values walks.members
 
+  is-apart : core.apart ≡ apart_seen made
+  is-apart = apart-alike k core.values core.layouts (members a.defaults body w.slots) (members_seen ps) walks.members ∙ (λ i. apart_of k (is-stated i) (laid i) (members_seen ps))
+
+  is-harmless : are_harmless (spots_of k core.layouts) w.slots ≡ harmless (spots_seen made) body ps no_instances
+  is-harmless = ap (λ l. are_harmless (spots_of k l) w.slots) laid ∙ walks.harmless (spots_seen made)
+
+  is-sound : core.seen.sound ≡ sound_seen made
+  unfolding sound_by
+  is-sound = λ i.
+      sound_of k (sound_inside k (is-stated i) (walks.inner.sound i)) (is-apart i)
+      (are_fields_sound (is-stated i) (laid i).compact.spans (walks.resets i) (is_ordered k (laid i) || clash_none (laid i).compact.spans (walks.accesses i)))
+      (is-harmless i)
+
   is-seen : IsSeen made core.seen
   is-seen = record {
     kind = refl;
@@ -103,15 +123,17 @@ module _ (e : Standing) (a : Around) (same : MeansAll e a) (at : List ℕ) (k : 
     is_empty = ap (λ b. is_container k && not b) walks.inner.has_instances ∙ empty-is k ps;
     has_empty = walks.inner.has_empty;
     size = ap sizes laid;
-    widest = ap accesses laid;
+    widest = ap widest laid;
     is_ordered = ap (is_ordered k) laid;
+    depth = walks.depth;
     access = ap access is-stated;
     reset = ap (λ (v : Values). v.reset) is-stated;
+    sound = is-sound;
   }
 
   is-node : IsNode made core w.instances
   is-node = record {
-    core = record { seen = is-seen; layouts = laid; stated = is-stated; whole = has-values };
+    core = record { seen = is-seen; layouts = laid; apart = is-apart; stated = is-stated; whole = has-values };
     known = record {
       seen = is-seen;
       within = λ i. record { spots = record { spans = (laid i).compact.spans; is_ordered = is_ordered k (laid i) }; inside = walks.instances i };
@@ -140,6 +162,10 @@ named-here : (around : Option Kind) (v : Values) (s : Shell) (t : List ℕ) (res
 named-here around v s t rest w before at ps m k is more = record {
   members = (same-alike around (member_of v s (of_seen k.seen)) (member_seen s m) (seen-member v s m k.seen is.seen), more.members);
   inner = inner-part m k.seen (contents w.slots) at s ps is.seen more.inner;
+  depth = more.depth;
+  resets = λ i. option_or (option_map bit_count s.reset) (is.seen.reset i) ∷ more.resets i;
+  accesses = λ i. is.seen.access i ∷ more.accesses i;
+  harmless = λ spots. more.harmless spots ∙ ap (λ z. harmless spots rest ps (with_instance s.name z before)) is.within;
   instances = instances-more s m k at w.instances before ps is more.instances;
 }
 
@@ -157,13 +183,13 @@ named-walks s t rest walks around e a b n before same accepted =
 plain-walks : (p : Plain) (rest : Items) → Walks rest → Walks (plain p rest)
 plain-walks (named s t) rest walks around e a b n before same accepted = named-walks s t rest walks around e a b n before same accepted
 plain-walks (own p x) rest walks around e a b n before same accepted =
-    let more = walks around e a b (suc n) before same accepted.1 in record { members = more.members; inner = more.inner; instances = more.instances }
+    let more = walks around e a b (suc n) before same accepted.1 in record { members = more.members; inner = more.inner; depth = more.depth; resets = more.resets; accesses = more.accesses; harmless = more.harmless; instances = more.instances }
 plain-walks (default p x) rest walks around e a b n before same accepted =
     let more =
     walks around (scope.after_plain (default p x) e) (after_plain (default p x) a) b (suc n) before (means_all_behind e a same (default p x)) accepted.1 in
-    record { members = more.members; inner = more.inner; instances = more.instances }
+    record { members = more.members; inner = more.inner; depth = more.depth; resets = more.resets; accesses = more.accesses; harmless = more.harmless; instances = more.instances }
 plain-walks (dynamic t p x) rest walks around e a b n before same accepted =
-    let more = walks around e a b (suc n) before same accepted.1 in record { members = more.members; inner = more.inner; instances = more.instances }
+    let more = walks around e a b (suc n) before same accepted.1 in record { members = more.members; inner = more.inner; depth = more.depth; resets = more.resets; accesses = more.accesses; harmless = λ spots. ap (λ z. is_harmless spots (verdict_of (asked p x) t before) && z) (more.harmless spots); instances = more.instances }
 
 -- a component among the items
 abbrev pub made_here : Standing → List ℕ → Kind → Items → Made
@@ -191,6 +217,10 @@ define-walks name k body rest inside walks around e a b n before same accepted =
     record {
       members = more.members;
       inner = inner-written (core_here a k body).seen (contents (walked laying around_is before rest).slots) (parts e_is b (suc n) rest) more.inner;
+      depth = more-depth (core_here a k body).seen.depth (contents (walked laying around_is before rest).slots).depth (depth body) (depth rest) node_is.known.seen.depth more.depth;
+      resets = more.resets;
+      accesses = more.accesses;
+      harmless = more.harmless;
       instances = more.instances;
     }
 
@@ -218,6 +248,10 @@ part-walks s k body rest inside walks around e a b n before same accepted =
     record {
       members = (same-alike around (member_of a.defaults s (of_seen seen)) (member_seen s made_is) (seen-member a.defaults s made_is seen node_is.known.seen), more.members);
       inner = inner-written seen (contents_with seen (contents w.slots)) (part at s made_is.head made_is.parts ps) (inner-part made_is seen (contents w.slots) at s ps node_is.known.seen more.inner);
+      depth = more-depth seen.depth (contents w.slots).depth (depth body) (depth rest) node_is.known.seen.depth more.depth;
+      resets = λ i. option_or (option_map bit_count s.reset) (node_is.known.seen.reset i) ∷ more.resets i;
+      accesses = λ i. node_is.known.seen.access i ∷ more.accesses i;
+      harmless = λ spots. more.harmless spots ∙ ap (λ z. harmless spots rest ps (with_instance s.name z before)) node_is.known.within;
       instances = instances-more s made_is known_is at w.instances before ps node_is.known more.instances;
     }
 
@@ -246,6 +280,7 @@ field-walks s body rest walks around e a b n before same accepted =
     let ps = parts e b (suc n) rest in
     let more = walks around e a b (suc n) (with_instance s.name nothing_within before) same accepted.2 in
     let made_is = made_here e at Field body in
+    let stated : values_of Field a.defaults body ≡ stated_of (head_at at Field body e) = ap (λ v. values_of Field v body) same.defaults ∙ component.stated in
     let alike : IsAlike (Some Reg) (member_of a.defaults s (of_field (field_of body))) (member_seen s made_is) =
     field-member a.defaults (values_of Field (defaults_of e.defaults) body) s (field_of body) at body e (parts e at 0 body) component.whole component.stated
     (ap (λ v. (values_of Field v body).fieldwidth) (sym same.defaults)) in
@@ -257,6 +292,10 @@ field-walks s body rest walks around e a b n before same accepted =
       inner =
           subst (λ z. IsInner (with_slot (field_slot (field_of body)) (contents w.slots)) (part at s (head_at at Field body e) z ps)) (sym empty)
           (inner-field (field_of body) (contents w.slots) at at s body e ps more.inner);
+      depth = field-depth (contents w.slots).depth (depth body) (depth rest) (fields-are-flat e at 0 body accepted.1) more.depth;
+      resets = λ i. option_or (option_map bit_count s.reset) (stated i).reset ∷ more.resets i;
+      accesses = λ i. access (stated i) ∷ more.accesses i;
+      harmless = λ spots. more.harmless spots ∙ ap (λ z. harmless spots rest ps (with_instance s.name z before)) (field-within at body e (parts e at 0 body) empty);
       instances = more.instances ∙ ap (λ z. behind ps (with_instance s.name z before)) (field-within at body e (parts e at 0 body) empty);
     }
 
@@ -268,7 +307,7 @@ holder-walks (anonymous s Regfile) body rest inside walks = part-walks s Regfile
 holder-walks (anonymous s Reg) body rest inside walks = part-walks s Reg body rest inside walks
 
 none-walk : Walks no_items
-none-walk around e a b n before same accepted = record { members = tt; inner = inner-none; instances = refl }
+none-walk around e a b n before same accepted = record { members = tt; inner = inner-none; depth = refl; resets = refl; accesses = refl; harmless = λ spots. refl; instances = refl }
 
 pub walks : (t : Items) → Walks t
 walks no_items = none-walk

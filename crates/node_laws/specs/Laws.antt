@@ -13,8 +13,7 @@ use Rattle.rdl_seen.specs.Node.{Known, Around, after_plain, after_holder, body_o
 use Rattle.rdl_seen.specs.Slots.{Node}
 use Rattle.node_laws.specs.Kept.{is_field_there, IsKept}
 use Rattle.node_laws.specs.Laid.{laying}
-use Rattle.node_laws.specs.Meant.{MeansAll}
-use Rattle.node_laws.specs.Seen.{IsCore, IsKnown}
+use Rattle.node_laws.specs.Meant.{IsCore, IsKnown, MeansAll}
 
 -- what is seen behind an item is what stands there
 abbrev pub MeansAllBehind : Type 0

@@ -3,3 +3,4 @@ pub mod Laid
 pub mod Laws
 pub mod Meant
 pub mod Seen
+pub mod Sound
