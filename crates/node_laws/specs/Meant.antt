@@ -1,8 +1,8 @@
 -- What is kept of a component is what stands at its address, and what its body sees is what stands around it.
 -- SystemRDL 2.0, clause 5: a definition stands before its use, and a default before what it reaches. own: what is kept of a component.
+use Rattle.std.specs.Prelude.{◌≡◌, ℕ, min, List, [], ◌∷◌}
 use Rattle.std.specs.Option.{is_some}
 use Rattle.rdl_tree.specs.Depth.{depth}
-use Rattle.std.specs.Prelude.{◌≡◌, ℕ, min, List, [], ◌∷◌}
 use Rattle.rdl_scope.specs.Closed.{Made, Standing}
 use Rattle.rdl_elab.specs.Faults as fault
 use Rattle.rdl_elab.specs.Faults.{count, first_empty}

@@ -9,9 +9,9 @@ pub fn bodies_see_what_stands()
     ensures at { MeansAllAt }
 {}
 
-/// In a description without a fault, the node of each component is what is seen of it: its layouts, its kind, its levels, its rows,
-/// whether something in it is empty, and its values; and targets find inside it what stands there. So it is of the node that is kept at
-/// its address.
+/// In a description without a fault, the node of each component is what is seen of it: its kind, layouts and values, how deep it is, its
+/// levels and its rows, whether something in it is empty, and in which modes it is sound; and targets find inside it what stands there.
+/// So it is of the node that is kept at its address.
 pub fn nodes_are_seen()
     ensures seen { NodesAreSeen }
     ensures known { NodesAreKnown }
