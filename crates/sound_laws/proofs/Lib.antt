@@ -1,0 +1,12 @@
+pub mod Examples
+pub mod Lists
+pub mod Passing
+pub mod RowValues
+pub mod FieldValues
+pub mod Registers
+pub mod Containers
+pub mod Named
+pub mod Fitting
+pub mod Unjudged
+pub mod Maps
+pub mod Searching

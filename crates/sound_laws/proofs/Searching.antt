@@ -1,0 +1,85 @@
+-- The first fault is found where sound components are passed over.
+use Rattle.std.proofs.Common.{◌≡◌, ℕ, List, [], ◌∷◌, ◌++◌, Bool, true, false, Some, None, Option, refl, ap, sym, ◌∙◌}
+use Rattle.std.specs.Prelude.{if◌then◌else◌}
+use Rattle.std.specs.Option.{option_or}
+use Rattle.rdl_tree.specs.Items.{Items}
+use Rattle.rdl_tree.specs.declared.value.Value.{Value}
+use Rattle.rdl_scope.specs.Target.{body_of}
+use Rattle.rdl_scope.specs.ItemFaults.{fault_of}
+use Rattle.rdl_scope.specs.Closed.{Head, Parts, no_parts, part, component}
+use Rattle.rdl_elab.specs.declared.layout.Mode.{Mode}
+use Rattle.rdl_elab.specs.declared.layout.Span.{Span}
+use Rattle.rdl_elab.specs.Found.{ArePartsFound}
+use Rattle.rdl_elab.specs.Layouts.{layout_of}
+use Rattle.rdl_elab.specs.Rows.{Around, Judged, judged_row, inside, rows_in}
+use Rattle.rdl_elab.specs.Faults.{row_fault, first_row_fault}
+use Rattle.rdl_elab.specs.Reaches.{Reach, behind, along}
+use Rattle.rdl_elab.proofs.PartsFound.{parts-found}
+use Rattle.rdl_elab.proofs.RowsAlong.{along-inside}
+use Rattle.sound_laws.specs.Harmless.{are_harmless}
+use Rattle.sound_laws.specs.Sound.{is_sound}
+use Rattle.sound_laws.specs.Targets.{own_assignments}
+use Rattle.sound_laws.specs.Search.{IsCautious, rows_asked}
+use Rattle.sound_laws.specs.Laws.{SearchFindsFirst}
+use Rattle.sound_laws.proofs.Lists.{both}
+use Rattle.sound_laws.proofs.Named.{own_found}
+use Rattle.sound_laws.proofs.Maps.{faultless}
+
+or_assoc : {X : Type 0} (a b c : Option X) → option_or (option_or a b) c ≡ option_or a (option_or b c)
+or_assoc None b c = refl
+or_assoc (Some x) b c = refl
+
+faults_split : (d : Items) (xs ys : List Judged) → first_row_fault d (xs ++ ys) ≡ option_or (first_row_fault d xs) (first_row_fault d ys)
+faults_split d [] ys = refl
+faults_split d (r ∷ xs) ys = ap (option_or (row_fault d r)) (faults_split d xs ys) ∙ sym (or_assoc (row_fault d r) (first_row_fault d xs) (first_row_fault d ys))
+
+-- a row with those below it and those behind them
+same_then : (d : Items) (r : Judged) (xs ys us vs : List Judged) → first_row_fault d xs ≡ first_row_fault d us → first_row_fault d ys ≡ first_row_fault d vs
+    → first_row_fault d (r ∷ (xs ++ ys)) ≡ first_row_fault d (r ∷ (us ++ vs))
+same_then d r xs ys us vs e g =
+    ap (option_or (row_fault d r)) (faults_split d xs ys ∙ (λ i. option_or (e i) (g i)) ∙ sym (faults_split d us vs))
+
+passed_or : (d : Items) (t : Bool) (asked all : List Judged) → (t ≡ true → first_row_fault d all ≡ None) → first_row_fault d asked ≡ first_row_fault d all
+    → first_row_fault d (if t then [] else asked) ≡ first_row_fault d all
+passed_or d true asked all over below = sym (over refl)
+passed_or d false asked all over below = below
+
+module _ (over : Mode → Head → Parts → List Reach → Bool) (cautious : IsCautious over) (d : Items) (none : fault_of d ≡ None) where
+  -- among the instances of a component and below them
+  abbrev IsSame : Parts → Type 0
+  IsSame ps =
+      (b : List ℕ) → ArePartsFound d b ps → (o : Around) (going : List Reach) → ((at : List ℕ) → body_of at ≡ b → along d [] (o.path ++ at ∷ []) ≡ behind at going)
+      → (before : List (Span × Option Value)) (spans : List Span) → first_row_fault d (rows_asked over d o going before spans ps) ≡ first_row_fault d (rows_in d o before spans ps)
+
+  goes_on : (path : List (List ℕ)) (h : Head) (within : Parts) → component d h.at ≡ Some (record { head = h; parts = within })
+      → (at : List ℕ) → body_of at ≡ h.at → along d [] (path ++ at ∷ []) ≡ behind at (along d [] path ++ own_assignments h within)
+  goes_on path h within holds at e =
+      along-inside d path at h.at (record { head = h; parts = within }) e holds
+      ∙ ap (λ rs. behind at (along d [] path ++ rs)) (sym (own_found d none h.at (record { head = h; parts = within }) holds))
+
+  same : (ps : Parts) → IsSame ps
+  same no_parts b found o going come before spans = refl
+  same (part at s h within rest) b found o going come before [] = refl
+  same (part at s h within rest) b found o going come before (span ∷ spans) =
+      let l = layout_of o.mode h within in
+      let r = judged_row d o before span at s h l in
+      let coming = behind at going in
+      let holds = found.0.component in
+      let arrives = come at found.0.around in
+      let below =
+      same within h.at (parts-found d h.at (record { head = h; parts = within }) holds) (inside r) (coming ++ own_assignments h within)
+      (λ x e. goes_on (inside r).path h within holds x e ∙ ap (λ rs. behind x (rs ++ own_assignments h within)) arrives) [] l.spans in
+      same_then d r
+      (if over o.mode h within coming then [] else rows_asked over d (inside r) (coming ++ own_assignments h within) [] l.spans within)
+      (rows_asked over d o going (before ++ (span, r.access) ∷ []) spans rest)
+      (rows_in d (inside r) [] l.spans within) (rows_in d o (before ++ (span, r.access) ∷ []) spans rest)
+      (passed_or d (over o.mode h within coming) (rows_asked over d (inside r) (coming ++ own_assignments h within) [] l.spans within) (rows_in d (inside r) [] l.spans within)
+      (λ e. let t = both (is_sound layout_of o.mode h within) (are_harmless layout_of h within coming) (cautious o.mode h within coming e) in
+      faultless d h.at (record { head = h; parts = within }) o.mode (inside r) none holds t.0 (record { mode = refl; bits = λ k. refl })
+      (ap (are_harmless layout_of h within) arrives ∙ t.1)) below)
+      (same rest b found.2 o going come (before ++ (span, r.access) ∷ []) spans)
+
+pub search : SearchFindsFirst
+search over cautious d a c none holds o spans = same over cautious d none c.parts a (parts-found d a c holds) o
+    (along d [] o.path ++ own_assignments c.head c.parts)
+    (λ at e. along-inside d o.path at a c e holds ∙ ap (λ rs. behind at (along d [] o.path ++ rs)) (sym (own_found d none a c holds))) [] spans

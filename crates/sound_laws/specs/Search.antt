@@ -1,0 +1,34 @@
+-- The rows among which the first fault of a map is looked for, where what can have none is passed over.
+-- own: SystemRDL 2.0 says nothing of how a map is judged. What its rows are `rows_in` of `rdl_elab` says.
+use Rattle.std.specs.Prelude.{◌≡◌, true, ◌&&◌, Bool, List, [], ◌∷◌, ◌++◌, Option, if◌then◌else◌}
+use Rattle.rdl_tree.specs.Items.{Items}
+use Rattle.rdl_tree.specs.declared.value.Value.{Value}
+use Rattle.rdl_scope.specs.Closed.{Head, Parts, no_parts, part}
+use Rattle.rdl_elab.specs.declared.layout.Mode.{Mode}
+use Rattle.rdl_elab.specs.declared.layout.Span.{Span}
+use Rattle.rdl_elab.specs.Layouts.{layout_of}
+use Rattle.rdl_elab.specs.Reaches.{Reach, behind}
+use Rattle.rdl_elab.specs.Rows.{Around, Judged, judged_row, inside}
+use Rattle.sound_laws.specs.Harmless.{are_harmless}
+use Rattle.sound_laws.specs.Sound.{is_sound}
+use Rattle.sound_laws.specs.Targets.{own_assignments}
+
+-- all below a component may be passed over: it is sound under the mode, and what is assigned from around it is harmless
+abbrev pub may_be_passed_over : Mode → Head → Parts → List Reach → Bool
+may_be_passed_over m h within coming = is_sound layout_of m h within && are_harmless layout_of h within coming
+
+-- whoever decides by this passes over nothing else
+abbrev pub IsCautious : (Mode → Head → Parts → List Reach → Bool) → Type 0
+IsCautious over = (m : Mode) (h : Head) (within : Parts) (coming : List Reach) → over m h within coming ≡ true → may_be_passed_over m h within coming ≡ true
+
+-- the rows of the instances of a component, and those below them that aren't passed over, where these assignments go on to them
+abbrev pub rows_asked : (Mode → Head → Parts → List Reach → Bool) → Items → Around → List Reach → List (Span × Option Value) → List Span → Parts → List Judged
+rows_asked over d o going before spans no_parts = []
+rows_asked over d o going before [] (part at s h within rest) = []
+rows_asked over d o going before (span ∷ spans) (part at s h within rest) =
+    let l = layout_of o.mode h within in
+    let r = judged_row d o before span at s h l in
+    let coming = behind at going in
+    r
+    ∷ ((if over o.mode h within coming then [] else rows_asked over d (inside r) (coming ++ own_assignments h within) [] l.spans within)
+    ++ rows_asked over d o going (before ++ (span, r.access) ∷ []) spans rest)

@@ -1,0 +1,32 @@
+//! What holds of sound components. Nothing here does anything when it runs.
+ghost use Rattle.sound_laws.specs.Laws.{TargetsAreNamed, SoundAssignsNoHarm, SoundHasNoFault, UnjudgedAreHarmless, SoundMapHasNoFault, SoundMapIsItsRows, ModesMatterToRegisterFiles, SearchFindsFirst};
+ghost use Rattle.sound_laws.specs.Verdicts.{FittingIsHarmless};
+
+/// In a description without a fault among its items, no row below a sound component has a fault, if what is assigned from
+/// around it is harmless there; and what neither assigns `sw` nor `reset` is. So a map within the limits whose top is sound
+/// has no fault, and is its rows.
+pub fn sound_components_have_no_fault()
+    ensures below { SoundHasNoFault }
+    ensures unjudged { UnjudgedAreHarmless }
+    ensures map { SoundMapHasNoFault }
+    ensures rows { SoundMapIsItsRows }
+{}
+
+/// A target of a component's body passes the instances that its names find among those of the component. The dynamic
+/// assignments of a sound component, found so, are harmless; and names alone tell whether they are.
+pub fn sound_components_do_no_harm()
+    ensures named { TargetsAreNamed }
+    ensures harmless { SoundAssignsNoHarm }
+    ensures told { FittingIsHarmless }
+{}
+
+/// Whether a component is sound depends on the mode under which it stands for a register file alone.
+pub fn modes_matter_to_register_files()
+    ensures { ModesMatterToRegisterFiles }
+{}
+
+/// In a description without a fault among its items, the first fault below a component is found where components are passed
+/// over, if each of those is sound and nothing harmful comes to it.
+pub fn search_finds_first_fault()
+    ensures { SearchFindsFirst }
+{}
