@@ -71,13 +71,13 @@ faultless_row d r Field f a s o = absurd (f refl)
 
 -- ---- Sound fields, told apart.
 
-record AreFieldsSound (register least : ℕ) (spans : List Span) (ps : Parts) : Type 0 where
-  access : nat_le least register ≡ true
-  ends : list_all (λ (s : Span). nat_le s.end register) spans ≡ true
-  resets : resets_fit spans ps ≡ true
-  shares : (are_apart spans || clash_none (fields_of spans ps)) ≡ true
+pub record AreFieldsSound (register least : ℕ) (spans : List Span) (ps : Parts) : Type 0 where
+  pub access : nat_le least register ≡ true
+  pub ends : list_all (λ (s : Span). nat_le s.end register) spans ≡ true
+  pub resets : resets_fit spans ps ≡ true
+  pub shares : (are_apart spans || clash_none (fields_of spans ps)) ≡ true
 
-fields_told : (register access : ℕ) (spans : List Span) (ps : Parts) → are_fields_sound_in register access spans ps ≡ true → AreFieldsSound register access spans ps
+pub fields_told : (register access : ℕ) (spans : List Span) (ps : Parts) → are_fields_sound_in register access spans ps ≡ true → AreFieldsSound register access spans ps
 fields_told register access spans ps e =
     let a = nat_le access register in
     let n = list_all (λ (s : Span). nat_le s.end register) spans in

@@ -9,4 +9,5 @@ pub mod Named
 pub mod Fitting
 pub mod Unjudged
 pub mod Maps
+pub mod Kept
 pub mod Searching

@@ -14,10 +14,10 @@ use Rattle.rdl_elab.specs.Layouts.{values_of, mode_inside, layout_of}
 use Rattle.rdl_elab.specs.Reaches.{Reach, reaches, along}
 use Rattle.rdl_elab.specs.Rows.{Around, rows_in, rows_of, top_layout}
 use Rattle.rdl_elab.specs.Faults.{levels, count, first_empty, first_row_fault, top_from, fault_of_top, elaborated}
-use Rattle.sound_laws.specs.Harmless.{Laying, are_harmless, is_unjudged}
+use Rattle.sound_laws.specs.Harmless.{Laying, kept_layout, are_harmless, is_unjudged}
 use Rattle.sound_laws.specs.Sound.{is_sound}
 use Rattle.sound_laws.specs.Targets.{target_in, own_assignments}
-use Rattle.sound_laws.specs.Search.{IsCautious, rows_asked}
+use Rattle.sound_laws.specs.Search.{may_be_passed_over, IsKeptWhole, IsCautious, rows_asked}
 
 -- what stands around the instances of this component is what it is where the component stands under this mode
 pub record IsInside (m : Mode) (c : Made) (o : Around) : Type 0 where
@@ -73,10 +73,25 @@ SoundMapIsItsRows =
 abbrev pub ModesMatterToRegisterFiles : Type 0
 ModesMatterToRegisterFiles = (m n : Mode) (c : Made) → (c.head.kind ≡ Regfile → ⊥) → is_sound layout_of m c.head c.parts ≡ is_sound layout_of n c.head c.parts
 
+-- a component is sound, and what is harmless there is told by what is kept of layouts
+pub record IsTold (m : Mode) (c : Made) : Type 0 where
+  pub sound : is_sound layout_of m c.head c.parts ≡ true
+  pub harmless : (rs : List Reach) → are_harmless kept_layout c.head c.parts rs ≡ are_harmless layout_of c.head c.parts rs
+
+-- so it is of a component that is sound by what is kept of layouts, if that is exact
+abbrev pub KeptSuffices : Type 0
+KeptSuffices =
+    (d : Items) (a : List ℕ) (c : Made) (m : Mode) → fault_of d ≡ None → component d a ≡ Some c → IsKeptWhole c.head.kind (kept_layout m c.head c.parts).size
+    → is_sound kept_layout m c.head c.parts ≡ true → IsTold m c
+
 -- the first fault below a component is found where nothing is passed over but what can have none
 abbrev pub SearchFindsFirst : Type 0
 SearchFindsFirst =
-    (over : Mode → Head → Parts → List Reach → Bool) → IsCautious over
-    → (d : Items) (a : List ℕ) (c : Made) → fault_of d ≡ None → component d a ≡ Some c → (o : Around) (spans : List Span)
-    → first_row_fault d (rows_asked over d o (along d [] o.path ++ own_assignments c.head c.parts) [] spans c.parts)
-    ≡ first_row_fault d (rows_in d o [] spans c.parts)
+    (d : Items) (over : Mode → Head → Parts → List Reach → Bool) (a : List ℕ) (c : Made) (m : Mode) (o : Around) → IsCautious d over
+    → fault_of d ≡ None → component d a ≡ Some c → IsInside m c o → IsKeptWhole c.head.kind (layout_of m c.head c.parts).size
+    → first_row_fault d (rows_asked over d o (along d [] o.path ++ own_assignments c.head c.parts) [] (layout_of m c.head c.parts).spans c.parts)
+    ≡ first_row_fault d (rows_in d o [] (layout_of m c.head c.parts).spans c.parts)
+
+-- so it is where what is kept of layouts tells what may be passed over
+abbrev pub KeptIsCautious : Type 0
+KeptIsCautious = (d : Items) → fault_of d ≡ None → IsCautious d (may_be_passed_over kept_layout)

@@ -1,25 +1,35 @@
 -- The rows among which the first fault of a map is looked for, where what can have none is passed over.
 -- own: SystemRDL 2.0 says nothing of how a map is judged. What its rows are `rows_in` of `rdl_elab` says.
-use Rattle.std.specs.Prelude.{◌≡◌, true, ◌&&◌, Bool, List, [], ◌∷◌, ◌++◌, Option, if◌then◌else◌}
+use Rattle.std.specs.Prelude.{◌≡◌, ℕ, ◌^◌, ◌≤◌, true, ◌&&◌, Bool, Some, List, [], ◌∷◌, ◌++◌, Option, if◌then◌else◌}
 use Rattle.rdl_tree.specs.Items.{Items}
 use Rattle.rdl_tree.specs.declared.value.Value.{Value}
-use Rattle.rdl_scope.specs.Closed.{Head, Parts, no_parts, part}
+use Rattle.rdl_tree.specs.declared.shell.Kind.{Kind}
+use Rattle.rdl_tree.specs.declared.shell.Kind.TheVariants.{Addrmap, Regfile}
+use Rattle.rdl_scope.specs.Closed.{Head, Parts, no_parts, part, Made, component}
 use Rattle.rdl_elab.specs.declared.layout.Mode.{Mode}
 use Rattle.rdl_elab.specs.declared.layout.Span.{Span}
 use Rattle.rdl_elab.specs.Layouts.{layout_of}
 use Rattle.rdl_elab.specs.Reaches.{Reach, behind}
 use Rattle.rdl_elab.specs.Rows.{Around, Judged, judged_row, inside}
-use Rattle.sound_laws.specs.Harmless.{are_harmless}
+use Rattle.sound_laws.specs.Harmless.{Laying, are_harmless}
 use Rattle.sound_laws.specs.Sound.{is_sound}
 use Rattle.sound_laws.specs.Targets.{own_assignments}
 
 -- all below a component may be passed over: it is sound under the mode, and what is assigned from around it is harmless
-abbrev pub may_be_passed_over : Mode → Head → Parts → List Reach → Bool
-may_be_passed_over m h within coming = is_sound layout_of m h within && are_harmless layout_of h within coming
+abbrev pub may_be_passed_over : Laying → Mode → Head → Parts → List Reach → Bool
+may_be_passed_over lay m h within coming = is_sound lay m h within && are_harmless lay h within coming
 
--- whoever decides by this passes over nothing else
-abbrev pub IsCautious : (Mode → Head → Parts → List Reach → Bool) → Type 0
-IsCautious over = (m : Mode) (h : Head) (within : Parts) (coming : List Reach) → over m h within coming ≡ true → may_be_passed_over m h within coming ≡ true
+-- what is kept of its layout is exact, by its kind and its size: a map of more bytes is refused, and no bits of a register are cut off
+abbrev pub IsKeptWhole : Kind → ℕ → Type 0
+IsKeptWhole Addrmap size = size ≤ 2 ^ 40
+IsKeptWhole Regfile size = size ≤ 2 ^ 40
+IsKeptWhole kind size = Unit {0}
+
+-- whoever decides by this passes over no component of a description that may not be, as far as layouts are kept whole
+abbrev pub IsCautious : Items → (Mode → Head → Parts → List Reach → Bool) → Type 0
+IsCautious d over =
+    (m : Mode) (c : Made) (coming : List Reach) → component d c.head.at ≡ Some c → IsKeptWhole c.head.kind (layout_of m c.head c.parts).size
+    → over m c.head c.parts coming ≡ true → may_be_passed_over layout_of m c.head c.parts coming ≡ true
 
 -- the rows of the instances of a component, and those below them that aren't passed over, where these assignments go on to them
 abbrev pub rows_asked : (Mode → Head → Parts → List Reach → Bool) → Items → Around → List Reach → List (Span × Option Value) → List Span → Parts → List Judged

@@ -1,5 +1,5 @@
 //! What holds of sound components. Nothing here does anything when it runs.
-ghost use Rattle.sound_laws.specs.Laws.{TargetsAreNamed, SoundAssignsNoHarm, SoundHasNoFault, UnjudgedAreHarmless, SoundMapHasNoFault, SoundMapIsItsRows, ModesMatterToRegisterFiles, SearchFindsFirst};
+ghost use Rattle.sound_laws.specs.Laws.{TargetsAreNamed, SoundAssignsNoHarm, SoundHasNoFault, UnjudgedAreHarmless, SoundMapHasNoFault, SoundMapIsItsRows, ModesMatterToRegisterFiles, KeptSuffices, SearchFindsFirst, KeptIsCautious};
 ghost use Rattle.sound_laws.specs.Verdicts.{FittingIsHarmless};
 
 /// In a description without a fault among its items, no row below a sound component has a fault, if what is assigned from
@@ -25,8 +25,15 @@ pub fn modes_matter_to_register_files()
     ensures { ModesMatterToRegisterFiles }
 {}
 
+/// A component is sound where it is so by what is kept of layouts, if that is exact, as it is of a component of no more than
+/// 2^40 bytes. What is harmless in it is told so, too.
+pub fn kept_layouts_tell()
+    ensures { KeptSuffices }
+{}
+
 /// In a description without a fault among its items, the first fault below a component is found where components are passed
-/// over, if each of those is sound and nothing harmful comes to it.
+/// over, if each of those is sound and nothing harmful comes to it. What is kept of layouts tells which may be.
 pub fn search_finds_first_fault()
-    ensures { SearchFindsFirst }
+    ensures first { SearchFindsFirst }
+    ensures kept { KeptIsCautious }
 {}

@@ -1,5 +1,9 @@
+use Rattle.sound_laws.proofs.Kept.{kept_is_cautious}
 use Rattle.sound_laws.proofs.Searching.{search}
 use Rattle.sound_laws.proofs.laws.search_finds_first_fault.Goals as goal
 
-pub returns : goal.returns
-returns c = search
+pub returns-clause-first : goal.returns-clause-first
+returns-clause-first c = search
+
+pub returns-clause-kept : goal.returns-clause-kept
+returns-clause-kept c = kept_is_cautious
