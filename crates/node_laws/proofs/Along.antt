@@ -9,7 +9,8 @@ use Rattle.rdl_tree.specs.Items.{Items, no_items, plain, holder, Holder, define,
 use Rattle.rdl_tree.specs.View.{list_of}
 use Rattle.rdl_tree.specs.declared.shell.Kind.{Kind}
 use Rattle.rdl_tree.specs.declared.shell.Kind.TheVariants.{Addrmap, Regfile, Reg, Field}
-use Rattle.rdl_scope.specs.Closed.{Made, Standing, parts, after_plain, after_holder, nothing, before, component_in, closed}
+use Rattle.rdl_scope.specs.Closed.{Made, Standing, head_at, parts, after_plain, after_holder, nothing, before, component_in, closed, component}
+use Rattle.rdl_scope.specs.ItemFaults.{fault_of}
 use Rattle.rdl_seen.specs.Inside.{Inside, no_instances}
 use Rattle.rdl_seen.specs.Layouts.{Laying}
 use Rattle.rdl_seen.specs.Meaning.{nothing_around, around_before, kept_at, node_at}
@@ -66,6 +67,39 @@ pub accepted-there : (i : ℕ) (around : Option Kind) (e : Standing) (b : List �
 accepted-there i around e b t inside h is =
     let number : 0 + i ≡ i = omega arith in
     subst (λ k. IsAcceptedInside (before i e b 0 t) (b ++ k ∷ []) (is_field_there (item_at (i ∷ []) t)) inside) number (accepted-inside i around e b 0 t inside h is)
+
+-- a component whose items are accepted, and whose instances are among them
+pub record IsAcceptedMade (m : Made) : Type 0 where
+  pub place : List ℕ
+  pub standing : Standing
+  pub accepted : AreAccepted (Some m.head.kind) standing place 0 m.head.body
+  pub parts : m.parts ≡ parts standing place 0 m.head.body
+
+accepted-made : (i : ℕ) (around : Option Kind) (e : Standing) (b : List ℕ) (n : ℕ) (t : Items) (m : Made) → AreAccepted around e b n t → component_in i e b n t ≡ Some m
+    → IsAcceptedMade m
+accepted-made i around e b n no_items m h is = absurd cc
+accepted-made zero around e b n (plain p rest) m h is = absurd cc
+accepted-made zero around e b n (holder k body rest) m h is =
+    let made : Made = record { head = head_at (b ++ n ∷ []) (holder_kind k) body e; parts = parts e (b ++ n ∷ []) 0 body } in
+    let same : made ≡ m = cc in
+    subst IsAcceptedMade same (record { place = b ++ n ∷ []; standing = e; accepted = h.1; parts = refl })
+accepted-made (suc i) around e b n (plain p rest) m h is = accepted-made i around (after_plain p e) b (suc n) rest m h.1 is
+accepted-made (suc i) around e b n (holder k body rest) m h is =
+    accepted-made i around (after_holder k (b ++ n ∷ []) body (parts e (b ++ n ∷ []) 0 body) e) b (suc n) rest m h.2 is
+
+accepted-along : (c : List ℕ) (around : Option Kind) (e : Standing) (b : List ℕ) (t : Items) (m : Made) → AreAccepted around e b 0 t → closed e b c t ≡ Some m → IsAcceptedMade m
+accepted-along [] around e b t m h is = absurd cc
+accepted-along (i ∷ []) around e b t m h is = accepted-made i around e b 0 t m h is
+accepted-along (i ∷ j ∷ c) around e b t m h is =
+    by (λ inside kind. accepted-along (j ∷ c) (Some kind) (before i e b 0 t) (b ++ i ∷ []) inside m) (inner i t) refl is
+  where
+    by : ((inside : Items) (kind : Kind) → AreAccepted (Some kind) (before i e b 0 t) (b ++ i ∷ []) 0 inside → closed (before i e b 0 t) (b ++ i ∷ []) (j ∷ c) inside ≡ Some m → IsAcceptedMade m)
+        → (o : Option Items) → inner i t ≡ o → option_and_then (closed (before i e b 0 t) (b ++ i ∷ []) (j ∷ c)) o ≡ Some m → IsAcceptedMade m
+    by deeper None there is = absurd cc
+    by deeper (Some inside) there is = let within = accepted-there i around e b t inside h there in deeper inside within.kind within.accepted is
+
+pub made-accepted : (d : Items) (c : List ℕ) (m : Made) → fault_of d ≡ None → component d c ≡ Some m → IsAcceptedMade m
+made-accepted d c m h is = accepted-along c None nothing [] d m (all-accepted d h) is
 
 -- ---- Nodes that are kept.
 
