@@ -1,0 +1,6 @@
+pub mod Accepted
+pub mod Along
+pub mod Inner
+pub mod Laying
+pub mod Nodes
+pub mod Walks

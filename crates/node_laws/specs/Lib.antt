@@ -1,0 +1,6 @@
+pub mod Kept
+pub mod Laid
+pub mod Laws
+pub mod Meant
+pub mod Seen
+pub mod Sound

@@ -1,0 +1,7 @@
+pub mod Assigned
+pub mod Ends
+pub mod Fields
+pub mod Nodes
+pub mod Shortness
+pub mod Soundness
+pub mod Unique

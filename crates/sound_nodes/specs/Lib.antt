@@ -1,0 +1,4 @@
+pub mod Laws
+pub mod Modes
+pub mod Says
+pub mod Short

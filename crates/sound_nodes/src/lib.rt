@@ -1,0 +1,4 @@
+//! Where a node says that its component is sound, it is.
+#![tactic(auto)]
+
+pub mod laws;
