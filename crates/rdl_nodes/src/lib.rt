@@ -1,0 +1,8 @@
+//! What is kept of a map: a tree of nodes, one for each component that is written in it.
+#![tactic(auto)]
+
+pub mod contents;
+pub mod field;
+pub mod layouts;
+pub mod node;
+pub mod verdict;
