@@ -4,4 +4,6 @@ pub mod EachMode
 pub mod Falls
 pub mod Folded
 pub mod HeldVerdict
+pub mod Part
+pub mod Parts
 pub mod View

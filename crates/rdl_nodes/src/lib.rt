@@ -5,4 +5,5 @@ pub mod contents;
 pub mod field;
 pub mod layouts;
 pub mod node;
+pub mod parts;
 pub mod verdict;
