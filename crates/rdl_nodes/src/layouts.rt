@@ -1,5 +1,5 @@
 //! Layouts of components under the three modes.
-ghost use Rattle.std.specs.Prelude.{◌≡◌, IfOk};
+ghost use Rattle.std.specs.Prelude.{◌≡◌};
 
 use rdl_seen::mode::Mode;
 use rdl_seen::seen::ByMode;
@@ -25,6 +25,9 @@ impl Model for Span {
 }
 
 impl Span {
+    ghost use Rattle.std.specs.Prelude.{◌≡◌};
+    ghost use Rattle.rdl_seen.specs.Layouts.{overlaps};
+
     /// From the start up to the end.
     pub fn new(start: u64, end: u64) -> Span
         ensures { result ≡ record { start = start; end = end } }
@@ -44,6 +47,16 @@ impl Span {
         ensures { result ≡ self.end }
     {
         self.end
+    }
+
+    /// Whether something lies in both.
+    pub fn overlaps(self, other: Span) -> bool
+        ensures { result ≡ overlaps self other }
+    {
+        self.start < self.end
+            && other.start < other.end
+            && self.start < other.end
+            && other.start < self.end
     }
 }
 

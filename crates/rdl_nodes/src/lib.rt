@@ -1,8 +1,10 @@
 //! What is kept of a map: a tree of nodes, one for each component that is written in it.
 #![tactic(auto)]
 
+pub mod apart;
 pub mod contents;
 pub mod field;
+pub mod fields;
 pub mod layouts;
 pub mod node;
 pub mod parts;
