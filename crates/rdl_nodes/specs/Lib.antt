@@ -1,6 +1,7 @@
 pub mod Apart
 pub mod Bodies
 pub mod Codes
+pub mod CoreWith
 pub mod EachMode
 pub mod Falls
 pub mod Folded

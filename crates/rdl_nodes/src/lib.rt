@@ -3,6 +3,7 @@
 
 pub mod apart;
 pub mod contents;
+pub mod core_of;
 pub mod field;
 pub mod fields;
 pub mod layouts;
