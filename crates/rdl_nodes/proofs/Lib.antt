@@ -1,3 +1,5 @@
 pub mod Bodies
 pub mod FromBehind
+pub mod Instances
 pub mod Kept
+pub mod Targets

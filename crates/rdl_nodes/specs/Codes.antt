@@ -15,7 +15,7 @@ use Rattle.rdl_seen.specs.declared.seen.Modes.{Modes}
 use Rattle.rdl_seen.specs.declared.seen.Seen.{Seen}
 use Rattle.rdl_seen.specs.declared.values.Access.{Access}
 use Rattle.rdl_seen.specs.declared.values.Values.{Values}
-use Rattle.rdl_seen.specs.Inside.{Asked, order, room, Verdict, known, asks_own}
+use Rattle.rdl_seen.specs.Inside.{Asked, order, room, Verdict, known, asks_own, Spots, Inside, no_instances, instance}
 use Rattle.rdl_seen.specs.Layouts.{Span, Layout, Layouts}
 use Rattle.rdl_seen.specs.Slots.{FieldBody, Slot, own_slot, default_slot, dynamic_slot, field_slot, named_slot, Written, type_slot, part_slot, Core, Slots, no_slots, slot, written, Node}
 
@@ -178,3 +178,29 @@ coded_slots = record { code = slots_code; inj = slots_inj }
 
 abbrev pub coded_node : Coded Node
 coded_node = code_by (Core × Slots) (coded× coded_core coded_slots) (λ n. (n.core, n.slots)) (λ p. record { core = p.0; slots = p.1 }) (λ _. refl)
+
+-- ---- Instances as targets find them.
+
+abbrev coded_spots : Coded Spots
+coded_spots = code_by (List Span × Bool) (coded× (coded_list coded_span) coded_bool) (λ s. (s.spans, s.is_ordered)) (λ p. record { spans = p.0; is_ordered = p.1 }) (λ _. refl)
+
+-- of an instance, what is no instance
+abbrev coded_alone : Coded (List ℕ × (ℕ × Spots))
+coded_alone = coded× (coded_list coded_ℕ) (coded× coded_ℕ coded_spots)
+
+abbrev inside_code : Inside → Gv
+inside_code no_instances = gnil
+inside_code (instance name number spots inside before) = gcons (gcons (coded_alone.code (name, (number, spots))) (inside_code inside)) (inside_code before)
+
+pub inside_inj : (x y : Inside) → inside_code x ≡ inside_code y → x ≡ y
+inside_inj no_instances no_instances p = refl
+inside_inj no_instances (instance b0 b1 b2 b3 b4) p = absurd (differ (ap is_cons p))
+inside_inj (instance a0 a1 a2 a3 a4) no_instances p = absurd (differ (sym (ap is_cons p)))
+inside_inj (instance a0 a1 a2 a3 a4) (instance b0 b1 b2 b3 b4) p =
+    let alone = coded_alone.inj (a0, (a1, a2)) (b0, (b1, b2)) (ap (λ g. head (head g)) p) in
+    let inside = inside_inj a3 b3 (ap (λ g. tail (head g)) p) in
+    let before = inside_inj a4 b4 (ap tail p) in
+    λ i. instance (alone i).0 (alone i).1.0 (alone i).1.1 (inside i) (before i)
+
+abbrev pub coded_inside : Coded Inside
+coded_inside = record { code = inside_code; inj = inside_inj }

@@ -5,7 +5,11 @@ pub mod CoreWith
 pub mod EachMode
 pub mod Falls
 pub mod Folded
+pub mod Found
+pub mod HeldInside
 pub mod HeldVerdict
+pub mod InsideFalls
 pub mod Part
 pub mod Parts
+pub mod Targets
 pub mod View
