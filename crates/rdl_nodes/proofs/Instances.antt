@@ -7,7 +7,7 @@ use Rattle.rdl_seen.specs.Inside.{how_many, find, no_instances}
 use Rattle.rdl_nodes.specs.declared.inside.Instance.{Instance}
 use Rattle.rdl_nodes.specs.HeldInside.{within_of, with_held, inside_over, inside_of}
 
-take_one : (xs : List Instance) (k : ℕ) (x : Instance) → k < length xs → x ≡ get_or xs k x → take (suc k) xs ≡ take k xs ++ x ∷ []
+pub take_one : {X : Type 0} (xs : List X) (k : ℕ) (x : X) → k < length xs → x ≡ get_or xs k x → take (suc k) xs ≡ take k xs ++ x ∷ []
 take_one [] k x h e = absurd (omega arith)
 take_one (y ∷ ys) zero x h e = let same : x ≡ y = e in ap (λ z. z ∷ []) (sym same)
 take_one (y ∷ ys) (suc k) x h e = ap (λ zs. y ∷ zs) (take_one ys k x (omega arith) e)

@@ -1,4 +1,5 @@
 pub mod Bodies
+pub mod Defined
 pub mod FromBehind
 pub mod Instances
 pub mod Kept

@@ -6,8 +6,10 @@ pub mod EachMode
 pub mod Falls
 pub mod Folded
 pub mod Found
+pub mod HeldAround
 pub mod HeldInside
 pub mod HeldVerdict
+pub mod HeldWalked
 pub mod InsideFalls
 pub mod Part
 pub mod Parts

@@ -2,13 +2,16 @@
 #![tactic(auto)]
 
 pub mod apart;
+pub mod around;
 pub mod contents;
 pub mod core_of;
 pub mod field;
 pub mod fields;
 pub mod inside;
 pub mod layouts;
+pub mod lays;
 pub mod node;
 pub mod parts;
 pub mod target;
 pub mod verdict;
+mod walk;
