@@ -4,3 +4,4 @@ pub mod FromBehind
 pub mod Instances
 pub mod Kept
 pub mod Targets
+pub mod Walks
