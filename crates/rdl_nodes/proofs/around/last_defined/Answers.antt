@@ -1,0 +1,26 @@
+use Rattle.std.proofs.Common.{◌≡◌, ◌<◌, ◌-◌, suc, length, true, false, sym, ◌∙◌, arith}
+use Rattle.std.specs.Prelude.{bytes_eq}
+use Rattle.rdl_nodes.proofs.Defined.{type_here, type_not_here}
+use Rattle.rdl_nodes.proofs.around.last_defined.Goals as goal
+
+pub returns-then-is_same : goal.returns-then-is_same
+returns-then-is_same c =
+    let xs = c.args.types.now in
+    let q = c.args.name.now in
+    let k = c.loop-i.i - 1 in
+    let x = c.index-types-i.result in
+    let within : k < length xs = omega (arith, c.loop-i.auto.i, c.loop-i-test.true) in
+    let next : c.loop-i.i ≡ suc k = omega (arith, c.loop-i-test.true) in
+    let same : bytes_eq x.name.now q ≡ true = (λ i. bytes_eq (sym c.as_str.ensures i) (sym c.as_str-in-loop-i.ensures i)) ∙ sym c.is_same.ensures ∙ c.if-is_same.true in
+    sym (c.loop-i.invariant ∙ type_here q xs k c.loop-i.i x next within c.index-types-i.is same)
+
+pub loop-i-preserved : goal.loop-i-preserved
+loop-i-preserved c =
+    let xs = c.args.types.now in
+    let q = c.args.name.now in
+    let k = c.loop-i.i - 1 in
+    let x = c.index-types-i.result in
+    let within : k < length xs = omega (arith, c.loop-i.auto.i, c.loop-i-test.true) in
+    let next : c.loop-i.i ≡ suc k = omega (arith, c.loop-i-test.true) in
+    let other : bytes_eq x.name.now q ≡ false = (λ i. bytes_eq (sym c.as_str.ensures i) (sym c.as_str-in-loop-i.ensures i)) ∙ sym c.is_same.ensures ∙ c.if-is_same.false in
+    c.loop-i.invariant ∙ type_not_here q xs k c.loop-i.i x next within c.index-types-i.is other

@@ -1,0 +1,17 @@
+pub mod Apart
+pub mod Bodies
+pub mod Codes
+pub mod CoreWith
+pub mod EachMode
+pub mod Falls
+pub mod Folded
+pub mod Found
+pub mod HeldAround
+pub mod HeldInside
+pub mod HeldVerdict
+pub mod HeldWalked
+pub mod InsideFalls
+pub mod Part
+pub mod Parts
+pub mod Targets
+pub mod View

@@ -1,0 +1,148 @@
+//! The bodies of fields that are written where they are instantiated.
+ghost use Rattle.std.specs.Prelude.{◌≡◌, ◌+◌, ◌*◌, length};
+ghost use Rattle.rdl_nodes.specs.Bodies.{after_own_item, shallow_weight};
+ghost use Rattle.rdl_seen.specs.Contents.{own_weight};
+ghost use Rattle.rdl_seen.specs.Values.{own_values};
+ghost use Rattle.rdl_tree.specs.Weight.{capped, value_weight};
+
+use rdl_seen::values::{Access, Values};
+use rdl_text::name::Name;
+use rdl_tree::description::{Body, Item, Of};
+use rdl_tree::target::Target;
+use rdl_tree::value::Value;
+use std::marker::Model;
+
+/// What is kept of the body of a field that is written where it is instantiated. A contract sees the record of `rdl_seen`.
+#[derive(Clone, Copy, Debug, PartialEq, Eq)]
+pub struct FieldBody {
+    /// In bits.
+    width: Option<u8>,
+    access: Option<Access>,
+    /// How many bits its reset needs.
+    reset: Option<u8>,
+    /// Its items, at most 255.
+    count: u8,
+    /// What these weigh, at most 2^31.
+    weight: u32,
+}
+
+impl Model for FieldBody {
+    ghost use Rattle.rdl_seen.specs.Slots.{FieldBody};
+    ghost use Rattle.rdl_nodes.specs.Codes.{coded_field};
+
+    ghost Value = { FieldBody };
+
+    ghost coded = { coded_field };
+
+    ghost view = { λ f. record { width = f.width; access = f.access; reset = f.reset; count = f.count; weight = f.weight } };
+
+    ghost inverse = { λ f. record { width = f.width; access = f.access; reset = f.reset; count = f.count; weight = f.weight } };
+}
+
+/// States what an own assignment states; another item states nothing.
+fn put_own(own: &mut Values, item: &Item)
+    ensures { own.new ≡ after_own_item item.now own.old }
+{
+    if let Item::Own(name, value) = item {
+        own.put_named(name, value);
+    }
+}
+
+/// What the own assignments among the items of a body state.
+pub fn own_values(body: &Body) -> Values
+    ensures { result ≡ own_values body.now }
+{
+    let mut own = Values::none();
+    for item in body.as_slice() {
+        put_own(&mut own, item);
+    }
+    own
+}
+
+/// A number that the weight of a dynamic assignment isn't above: each name of the target counts as 255 bytes.
+fn dynamic_weight(target: &Target, name: &Name, value: &Value) -> u64
+    ensures { result ≡ capped (length target.now * 255 + length name.now + value_weight value.now + 1) }
+{
+    let names = (target.names().len() as u64).saturating_mul(255);
+    names
+        .saturating_add(name.len() as u64)
+        .saturating_add(value.weight())
+        .saturating_add(1)
+}
+
+/// A number that the weight of an item isn't above, but for what is inside it.
+fn shallow_weight(item: &Item) -> u64
+    ensures { result ≡ capped (shallow_weight item.now) }
+{
+    match item {
+        Item::Define(name, _) => (name.len() as u64).saturating_add(1),
+        Item::Instance(shell, Of::Anonymous(_)) => (shell.name().len() as u64).saturating_add(1),
+        Item::Instance(_, Of::Named(_)) | Item::Own(_, _) | Item::Default(_, _) => item.weight(),
+        Item::Dynamic(target, name, value) => dynamic_weight(target, name, value),
+    }
+}
+
+/// What the items of a body weigh but for what is inside them, at most 2^31.
+pub fn own_weight(body: &Body) -> u32
+    ensures { result ≡ own_weight body.now }
+{
+    let mut weight = 0u64;
+    for item in body.as_slice() {
+        weight = weight.saturating_add(shallow_weight(item));
+    }
+    weight.min(1 << 31) as u32
+}
+
+impl FieldBody {
+    ghost use Rattle.std.specs.Prelude.{◌≡◌};
+    ghost use Rattle.rdl_seen.specs.Contents.{field_of};
+
+    /// That of a field whose body this is.
+    pub fn of(body: &Body) -> FieldBody
+        ensures { result ≡ field_of body.now }
+    {
+        let own = own_values(body);
+        FieldBody {
+            width: own.fieldwidth,
+            access: own.sw,
+            reset: own.reset,
+            count: body.len().min(255) as u8,
+            weight: own_weight(body),
+        }
+    }
+
+    /// In bits, if it is stated.
+    pub fn width(self) -> Option<u8>
+        ensures { result ≡ self.width }
+    {
+        self.width
+    }
+
+    /// How software accesses it, if that is stated.
+    pub fn access(self) -> Option<Access>
+        ensures { result ≡ self.access }
+    {
+        self.access
+    }
+
+    /// How many bits its reset needs, if one is stated.
+    pub fn reset(self) -> Option<u8>
+        ensures { result ≡ self.reset }
+    {
+        self.reset
+    }
+
+    /// Its items, at most 255.
+    pub fn count(self) -> u8
+        ensures { result ≡ self.count }
+    {
+        self.count
+    }
+
+    /// What these weigh, at most 2^31.
+    pub fn weight(self) -> u32
+        ensures { result ≡ self.weight }
+    {
+        self.weight
+    }
+}

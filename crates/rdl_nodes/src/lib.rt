@@ -1,0 +1,17 @@
+//! What is kept of a map: a tree of nodes, one for each component that is written in it.
+#![tactic(auto)]
+
+pub mod apart;
+pub mod around;
+pub mod contents;
+pub mod core_of;
+pub mod field;
+pub mod fields;
+pub mod inside;
+pub mod layouts;
+pub mod lays;
+pub mod node;
+pub mod parts;
+pub mod target;
+pub mod verdict;
+mod walk;

@@ -1,0 +1,114 @@
+//! What is kept of a component that is written in a map.
+ghost use Rattle.std.specs.Prelude.{◌≡◌, IfOk};
+
+use crate::field::FieldBody;
+use crate::layouts::Layouts;
+use crate::verdict::Verdict;
+use rdl_seen::names::Class;
+use rdl_seen::property_set::PropertySet;
+use rdl_seen::seen::{Modes, Seen};
+use rdl_seen::values::Values;
+use std::marker::Model;
+use std::rc::Rc;
+
+/// What is kept of a component but for its items. A contract sees the record of `rdl_seen`.
+#[derive(Debug, Drop)]
+pub struct Core {
+    /// What is seen of it.
+    pub seen: Seen,
+    /// What its own assignments state.
+    pub own: Values,
+    /// Its values, by its own assignments and the defaults that reach it.
+    pub values: Values,
+    pub layouts: Rc<Layouts>,
+    /// The modes in which its instances lie apart, and no stride is too small.
+    pub apart: Modes,
+    /// What its items weigh but for what is inside them, at most 2^31.
+    pub own_weight: u32,
+}
+
+impl Model for Core {
+    ghost use Rattle.rdl_seen.specs.Slots.{Core};
+    ghost use Rattle.rdl_nodes.specs.Codes.{coded_core};
+
+    ghost Value = { Core };
+
+    ghost coded = { coded_core };
+
+    ghost view = { λ c. record { seen = c.seen; own = c.own; values = c.values; layouts = c.layouts.value; apart = c.apart; own_weight = c.own_weight } };
+}
+
+/// What is kept of a component: no address, and no name but in classes. A contract sees the tree of `rdl_seen`.
+#[cycle(nodes)]
+#[derive(Debug, Drop)]
+pub struct Node {
+    core: Core,
+    /// One for each item of its body.
+    slots: Vec<Slot>,
+}
+
+/// What is kept of an item.
+#[cycle(nodes)]
+#[derive(Debug, Drop)]
+pub enum Slot {
+    /// An own assignment.
+    Own,
+    /// A default of this property, or of none of the seven.
+    Default(PropertySet),
+    /// A dynamic assignment, and whether it can give a row a fault.
+    Dynamic(Verdict),
+    /// An instance of a field that is written there.
+    Field(FieldBody),
+    /// An instance of a type of this class of names, and what it sees of that, if there is one.
+    Named(Class, Option<Rc<Seen>>),
+    /// A definition of a name of this class, and what its instances see of it. They share that, so it stands beside the node, and what the
+    /// node itself has of it isn't looked at.
+    Define(Class, Rc<Seen>, Rc<Node>),
+    /// An instance of another component that is written there.
+    Part(Rc<Node>),
+}
+
+impl Model for Node {
+    ghost use Rattle.rdl_seen.specs.Slots.{Node};
+    ghost use Rattle.rdl_nodes.specs.Codes.{coded_node};
+
+    ghost Value = { Node };
+
+    ghost coded = { coded_node };
+
+    ghost use Rattle.rdl_nodes.specs.View.{slots_of, slots_count};
+
+    ghost view = { λ n. record { core = n.core; slots = slots_of n.slots.items } };
+
+    ghost size = { λ n. slots_count n.slots };
+
+    ghost use Rattle.rdl_nodes.specs.Falls.{deep_le-count};
+
+    ghost size_decreases = { λ n h. deep_le-count n.slots.items };
+}
+
+impl Node {
+    ghost use Rattle.std.specs.Prelude.{◌≡◌};
+    ghost use Rattle.rdl_nodes.specs.View.{slots_of};
+
+    /// A component of which this is kept, with these items.
+    pub fn new(core: Core, slots: Vec<Slot>) -> Node
+        ensures { result ≡ record { core = core; slots = slots_of slots.items } }
+    {
+        Node { core, slots }
+    }
+
+    /// All but its items.
+    pub fn core(&self) -> &Core
+        ensures { result.now ≡ self.now.core }
+    {
+        &self.core
+    }
+
+    /// One for each item of its body.
+    pub fn slots(&self) -> &[Slot]
+        ensures { slots_of result.now ≡ self.now.slots }
+    {
+        self.slots.as_slice()
+    }
+}
