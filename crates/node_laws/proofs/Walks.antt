@@ -136,7 +136,7 @@ module _ (e : Standing) (a : Around) (same : MeansAll e a) (at : List ℕ) (k : 
     core = record { seen = is-seen; layouts = laid; apart = is-apart; stated = is-stated; whole = has-values };
     known = record {
       seen = is-seen;
-      within = λ i. record { spots = record { spans = (laid i).compact.spans; is_ordered = is_ordered k (laid i) }; inside = walks.instances i };
+      within = λ i. record { kind = k; spots = record { spans = (laid i).compact.spans; is_ordered = is_ordered k (laid i) }; inside = walks.instances i };
     };
   }
 
@@ -269,7 +269,7 @@ fields-empty e b n (holder (anonymous s k) body rest) h =
 
 field-within : (at : List ℕ) (body : Items) (e : Standing) (ps : Parts) → ps ≡ no_parts → nothing_within ≡ within_seen (record { head = head_at at Field body e; parts = ps })
 unfolding layouts_seen
-field-within at body e ps is = λ i. record { spots = record { spans = []; is_ordered = false }; inside = behind (sym is i) no_instances }
+field-within at body e ps is = λ i. record { kind = Field; spots = record { spans = []; is_ordered = false }; inside = behind (sym is i) no_instances }
 
 field-walks : (s : Shell) (body rest : Items) → Walks rest → Walks (holder (anonymous s Field) body rest)
 field-walks s body rest walks around e a b n before same accepted =

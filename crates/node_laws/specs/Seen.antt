@@ -29,11 +29,11 @@ members_seen (part at s h inside rest) = member_seen s (record { head = h; parts
 abbrev pub behind : Parts → Inside → Inside
 behind no_parts before = before
 behind (part at s h inside rest) before =
-    behind rest (with_instance s.name (record { spots = spots_seen (record { head = h; parts = inside }); inside = behind inside no_instances }) before)
+    behind rest (with_instance s.name (record { kind = h.kind; spots = spots_seen (record { head = h; parts = inside }); inside = behind inside no_instances }) before)
 
 abbrev pub inside_seen : Parts → Inside
 inside_seen ps = behind ps no_instances
 
 -- what targets find inside it
 abbrev pub within_seen : Made → Within
-within_seen m = record { spots = spots_seen m; inside = inside_seen m.parts }
+within_seen m = record { kind = m.head.kind; spots = spots_seen m; inside = inside_seen m.parts }

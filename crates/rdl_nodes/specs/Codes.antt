@@ -5,6 +5,8 @@ use Rattle.std.proofs.Common.{inl, inr, ap, sym}
 use Rattle.std.proofs.Math.Nat.{suc-ne-zero}
 use Rattle.std.specs.Coded.{Coded, code_by, coded×, coded_ℕ, coded_bool, coded_list, coded_option, coded⊎}
 use base.Stored.{Gv, gnil, gnum, gcons}
+use Rattle.rdl_tree.specs.contracts.shell.Kind as kind
+use Rattle.rdl_tree.specs.declared.shell.Kind.{Kind}
 use Rattle.rdl_seen.specs.contracts.property_set.PropertySet as properties
 use Rattle.rdl_seen.specs.contracts.seen.Modes as modes
 use Rattle.rdl_seen.specs.contracts.seen.Seen as seen
@@ -185,22 +187,22 @@ abbrev coded_spots : Coded Spots
 coded_spots = code_by (List Span × Bool) (coded× (coded_list coded_span) coded_bool) (λ s. (s.spans, s.is_ordered)) (λ p. record { spans = p.0; is_ordered = p.1 }) (λ _. refl)
 
 -- of an instance, what is no instance
-abbrev coded_alone : Coded (List ℕ × (ℕ × Spots))
-coded_alone = coded× (coded_list coded_ℕ) (coded× coded_ℕ coded_spots)
+abbrev coded_alone : Coded (List ℕ × (ℕ × (Kind × Spots)))
+coded_alone = coded× (coded_list coded_ℕ) (coded× coded_ℕ (coded× kind.the_row.coded coded_spots))
 
 abbrev inside_code : Inside → Gv
 inside_code no_instances = gnil
-inside_code (instance name number spots inside before) = gcons (gcons (coded_alone.code (name, (number, spots))) (inside_code inside)) (inside_code before)
+inside_code (instance name number kind spots inside before) = gcons (gcons (coded_alone.code (name, (number, (kind, spots)))) (inside_code inside)) (inside_code before)
 
 pub inside_inj : (x y : Inside) → inside_code x ≡ inside_code y → x ≡ y
 inside_inj no_instances no_instances p = refl
-inside_inj no_instances (instance b0 b1 b2 b3 b4) p = absurd (differ (ap is_cons p))
-inside_inj (instance a0 a1 a2 a3 a4) no_instances p = absurd (differ (sym (ap is_cons p)))
-inside_inj (instance a0 a1 a2 a3 a4) (instance b0 b1 b2 b3 b4) p =
-    let alone = coded_alone.inj (a0, (a1, a2)) (b0, (b1, b2)) (ap (λ g. head (head g)) p) in
-    let inside = inside_inj a3 b3 (ap (λ g. tail (head g)) p) in
-    let before = inside_inj a4 b4 (ap tail p) in
-    λ i. instance (alone i).0 (alone i).1.0 (alone i).1.1 (inside i) (before i)
+inside_inj no_instances (instance b0 b1 b2 b3 b4 b5) p = absurd (differ (ap is_cons p))
+inside_inj (instance a0 a1 a2 a3 a4 a5) no_instances p = absurd (differ (sym (ap is_cons p)))
+inside_inj (instance a0 a1 a2 a3 a4 a5) (instance b0 b1 b2 b3 b4 b5) p =
+    let alone = coded_alone.inj (a0, (a1, (a2, a3))) (b0, (b1, (b2, b3))) (ap (λ g. head (head g)) p) in
+    let inside = inside_inj a4 b4 (ap (λ g. tail (head g)) p) in
+    let before = inside_inj a5 b5 (ap tail p) in
+    λ i. instance (alone i).0 (alone i).1.0 (alone i).1.1.0 (alone i).1.1.1 (inside i) (before i)
 
 abbrev pub coded_inside : Coded Inside
 coded_inside = record { code = inside_code; inj = inside_inj }

@@ -9,7 +9,7 @@ use Rattle.rdl_seen.specs.Inside.{nothing_within, with_instance, no_instances, i
 
 abbrev pub within_of : Within → seen.Within
 within_of Nothing = nothing_within
-within_of (Of layouts ordered inside) = record { spots = record { spans = layouts.value.compact.spans; is_ordered = ordered }; inside = inside.value }
+within_of (Of kind layouts ordered inside) = record { kind = kind; spots = record { spans = layouts.value.compact.spans; is_ordered = ordered }; inside = inside.value }
 
 -- one more instance behind these
 abbrev pub with_held : Instance → seen.Inside → seen.Inside
@@ -26,4 +26,4 @@ inside_of xs = inside_over no_instances xs
 -- how many instances there are, those inside included
 abbrev pub inside_count : seen.Inside → ℕ
 inside_count no_instances = 0
-inside_count (instance name number spots inside before) = inside_count inside + 1 + inside_count before
+inside_count (instance name number kind spots inside before) = inside_count inside + 1 + inside_count before

@@ -16,7 +16,7 @@ count_over (x ∷ xs) before = omega (arith, count_over xs (with_held x before))
 
 deep_le-within : (w : Within) → deep-Within w ≤ inside_count (within_of w).inside + 1
 deep_le-within Nothing = omega arith
-deep_le-within (Of layouts ordered inside) = omega arith
+deep_le-within (Of kind layouts ordered inside) = omega arith
 
 deep_le-over : (xs : List Instance) (before : seen.Inside) → most deep-Instance xs ≤ inside_count (inside_over before xs)
 deep_le-over [] before = omega arith

@@ -1,15 +1,12 @@
 //! The bodies of fields that are written where they are instantiated.
-ghost use Rattle.std.specs.Prelude.{◌≡◌, ◌+◌, ◌*◌, length};
+ghost use Rattle.std.specs.Prelude.{◌≡◌};
 ghost use Rattle.rdl_nodes.specs.Bodies.{after_own_item, shallow_weight};
 ghost use Rattle.rdl_seen.specs.Contents.{own_weight};
 ghost use Rattle.rdl_seen.specs.Values.{own_values};
-ghost use Rattle.rdl_tree.specs.Weight.{capped, value_weight};
+ghost use Rattle.rdl_tree.specs.Weight.{capped};
 
 use rdl_seen::values::{Access, Values};
-use rdl_text::name::Name;
 use rdl_tree::description::{Body, Item, Of};
-use rdl_tree::target::Target;
-use rdl_tree::value::Value;
 use std::marker::Model;
 
 /// What is kept of the body of a field that is written where it is instantiated. A contract sees the record of `rdl_seen`.
@@ -20,8 +17,8 @@ pub struct FieldBody {
     access: Option<Access>,
     /// How many bits its reset needs.
     reset: Option<u8>,
-    /// Its items, at most 255.
-    count: u8,
+    /// Its items, at most 2^30.
+    count: u32,
     /// What these weigh, at most 2^31.
     weight: u32,
 }
@@ -59,26 +56,14 @@ pub fn own_values(body: &Body) -> Values
     own
 }
 
-/// A number that the weight of a dynamic assignment isn't above: each name of the target counts as 255 bytes.
-fn dynamic_weight(target: &Target, name: &Name, value: &Value) -> u64
-    ensures { result ≡ capped (length target.now * 255 + length name.now + value_weight value.now + 1) }
-{
-    let names = (target.names().len() as u64).saturating_mul(255);
-    names
-        .saturating_add(name.len() as u64)
-        .saturating_add(value.weight())
-        .saturating_add(1)
-}
-
-/// A number that the weight of an item isn't above, but for what is inside it.
+/// What an item weighs but for what is inside it.
 fn shallow_weight(item: &Item) -> u64
     ensures { result ≡ capped (shallow_weight item.now) }
 {
     match item {
         Item::Define(name, _) => (name.len() as u64).saturating_add(1),
         Item::Instance(shell, Of::Anonymous(_)) => (shell.name().len() as u64).saturating_add(1),
-        Item::Instance(_, Of::Named(_)) | Item::Own(_, _) | Item::Default(_, _) => item.weight(),
-        Item::Dynamic(target, name, value) => dynamic_weight(target, name, value),
+        _ => item.weight(),
     }
 }
 
@@ -106,7 +91,7 @@ impl FieldBody {
             width: own.fieldwidth,
             access: own.sw,
             reset: own.reset,
-            count: body.len().min(255) as u8,
+            count: body.len().min(1 << 30) as u32,
             weight: own_weight(body),
         }
     }
@@ -132,8 +117,8 @@ impl FieldBody {
         self.reset
     }
 
-    /// Its items, at most 255.
-    pub fn count(self) -> u8
+    /// Its items, at most 2^30.
+    pub fn count(self) -> u32
         ensures { result ≡ self.count }
     {
         self.count

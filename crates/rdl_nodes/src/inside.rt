@@ -5,8 +5,9 @@ ghost use Rattle.rdl_nodes.specs.HeldInside.{within_of, inside_of};
 ghost use Rattle.rdl_seen.specs.Inside.{find};
 
 use crate::layouts::Layouts;
-use rdl_text::name::Name;
 use rdl_text::is_same;
+use rdl_text::name::Name;
+use rdl_tree::shell::Kind;
 use std::alloc::{AllocError, Global};
 use std::marker::Model;
 use std::rc::Rc;
@@ -25,8 +26,8 @@ pub struct Instance<'a> {
 pub enum Within<'a> {
     /// The component isn't known, or it is a field.
     Nothing,
-    /// Its layouts, whether its instances are fields of which no two share a bit, and its instances.
-    Of(Rc<Layouts>, bool, Rc<Inside<'a>>),
+    /// Its kind, its layouts, whether its instances are fields of which no two share a bit, and its instances.
+    Of(Kind, Rc<Layouts>, bool, Rc<Inside<'a>>),
 }
 
 /// The instances of a body, in order, as targets find them. A contract sees the tree of `rdl_seen`.
@@ -83,10 +84,10 @@ impl<'a> Within<'a> {
     {
         match self {
             Within::Nothing => Ok(Within::Nothing),
-            Within::Of(layouts, is_ordered, inside) => {
+            Within::Of(kind, layouts, is_ordered, inside) => {
                 let layouts = layouts.clone()?;
                 let inside = inside.clone()?;
-                Ok(Within::Of(layouts, *is_ordered, inside))
+                Ok(Within::Of(*kind, layouts, *is_ordered, inside))
             }
         }
     }

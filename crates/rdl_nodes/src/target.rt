@@ -34,7 +34,7 @@ fn is_fitting_end(asked: Asked, names: &[Name], within: &Within) -> bool
 {
     match within {
         Within::Nothing => true,
-        Within::Of(layouts, is_ordered, inside) => match names {
+        Within::Of(_, layouts, is_ordered, inside) => match names {
             [] => true,
             [name] => match inside.as_ref().find(name) {
                 Some(found) => {

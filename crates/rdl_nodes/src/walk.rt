@@ -69,11 +69,7 @@ fn named<'a>(
 }
 
 /// An instance of a field that is written there, with this body.
-fn field<'a>(
-    before: &mut Inside<'a>,
-    shell: &'a Shell,
-    body: &Body,
-) -> Result<Slot, AllocError>
+fn field<'a>(before: &mut Inside<'a>, shell: &'a Shell, body: &Body) -> Result<Slot, AllocError>
     ensures slot { IfOk result (λ x. (rest : Slots) → add x rest ≡ slot (field_slot (field_of body.now)) rest) }
     ensures instances { OnOk result (before.new ≡ with_instance shell.now.name nothing_within before.old) }
 {
@@ -149,7 +145,7 @@ fn finish<'a, L: Lays>(
     let instances = Rc::new(alloc, instances)?;
     Ok(Made {
         node: Node::new(core, slots),
-        within: Within::Of(kept, is_ordered, instances),
+        within: Within::Of(component.kind, kept, is_ordered, instances),
     })
 }
 

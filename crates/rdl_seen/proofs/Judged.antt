@@ -40,7 +40,7 @@ use Rattle.rdl_seen.proofs.Clean.{no_instance, no_holder}
 
 -- the kind of the component at which names end that begin inside a component
 abbrev within_kind : List (List ℕ) → Within → Option Kind
-within_kind [] w = Some w.spots.kind
+within_kind [] w = Some w.kind
 within_kind (q ∷ rest) w = kind_in (q ∷ rest) w.inside
 
 -- what targets find inside a component is what the search finds inside the one at this address
@@ -203,7 +203,7 @@ holder_judged d b n body held rest around (anonymous s k) here =
 in_split : (q : List ℕ) (rest : List (List ℕ)) (before : Inside) → kind_in (q ∷ rest) before ≡ option_and_then (λ (f : Found). within_kind rest f.within) (find q before)
 in_split q [] before = into (find q before)
   where
-    into : (o : Option Found) → option_map (λ (f : Found). f.within.spots.kind) o ≡ option_and_then (λ (f : Found). within_kind [] f.within) o
+    into : (o : Option Found) → option_map (λ (f : Found). f.within.kind) o ≡ option_and_then (λ (f : Found). within_kind [] f.within) o
     into None = refl
     into (Some f) = refl
 in_split q (r ∷ rest) before = refl

@@ -24,7 +24,7 @@ kind_of name a = option_map (λ (k : Known). k.seen.kind) (lookup name a.types)
 -- the kind of the component at which a target ends, the first of whose instances is among these
 abbrev pub kind_in : List (List ℕ) → Inside → Option Kind
 kind_in [] before = None
-kind_in (name ∷ []) before = option_map (λ (f : Found). f.within.spots.kind) (find name before)
+kind_in (name ∷ []) before = option_map (λ (f : Found). f.within.kind) (find name before)
 kind_in (name ∷ next ∷ names) before = option_and_then (λ (f : Found). kind_in (next ∷ names) f.within.inside) (find name before)
 
 -- the fault of item n of the body of a component of this kind, or of the root, behind these instances of the body

@@ -7,33 +7,34 @@ use Rattle.rdl_tree.specs.declared.value.Value.{Value}
 use Rattle.rdl_seen.specs.Layouts.{Span}
 use Rattle.rdl_seen.specs.Values.{reset_bits}
 
--- a component: its kind, where its instances lie, and whether these are fields of which no two share a bit
+-- where the instances of a component lie, and whether they are fields of which no two share a bit
 pub record Spots : Type 0 where
-  pub kind : Kind
   pub spans : List Span
   pub is_ordered : Bool
 
--- the instances of a body, the last one first: the name of each, how many stand before it, and what is inside its component
+-- the instances of a body, the last one first: the name of each, how many stand before it, and the kind of its component, with what is
+-- inside that
 pub data Inside : Type 0 where
   no_instances : Inside
-  instance : (name : List ℕ) → (number : ℕ) → Spots → (inside : Inside) → (before : Inside) → Inside
+  instance : (name : List ℕ) → (number : ℕ) → Kind → Spots → (inside : Inside) → (before : Inside) → Inside
 
--- what a target finds inside a component
+-- what a target finds of a component, and inside it
 pub record Within : Type 0 where
+  pub kind : Kind
   pub spots : Spots
   pub inside : Inside
 
--- a field
+-- in a field
 abbrev pub nothing_within : Within
-nothing_within = record { spots = record { kind = Field; spans = []; is_ordered = false }; inside = no_instances }
+nothing_within = record { kind = Field; spots = record { spans = []; is_ordered = false }; inside = no_instances }
 
 abbrev pub how_many : Inside → ℕ
 how_many no_instances = 0
-how_many (instance name number spots inside before) = 1 + how_many before
+how_many (instance name number kind spots inside before) = 1 + how_many before
 
 -- one more instance behind these
 abbrev pub with_instance : List ℕ → Within → Inside → Inside
-with_instance name w before = instance name (how_many before) w.spots w.inside before
+with_instance name w before = instance name (how_many before) w.kind w.spots w.inside before
 
 -- an instance: how many stand before it, and what is inside its component
 pub record Found : Type 0 where
@@ -42,8 +43,8 @@ pub record Found : Type 0 where
 
 abbrev pub find : List ℕ → Inside → Option Found
 find name no_instances = None
-find name (instance n number spots inside before) =
-    if bytes_eq n name then Some (record { number = number; within = record { spots = spots; inside = inside } }) else find name before
+find name (instance n number kind spots inside before) =
+    if bytes_eq n name then Some (record { number = number; within = record { kind = kind; spots = spots; inside = inside } }) else find name before
 
 -- the instance at which a target ends: where the instances of its body lie, and how many of them stand before it
 pub record End : Type 0 where

@@ -46,7 +46,7 @@ is_ordered Reg l = are_apart l.compact.spans
 is_ordered kind l = false
 
 abbrev pub spots_of : Kind → Layouts → Spots
-spots_of k l = record { kind = k; spans = l.compact.spans; is_ordered = is_ordered k l }
+spots_of k l = record { spans = l.compact.spans; is_ordered = is_ordered k l }
 
 -- the mode under which the instances of an address map stand, whatever the one around it is
 abbrev pub mode_inside : Values → Mode
@@ -141,8 +141,8 @@ pub record Walked : Type 0 where
 
 abbrev pub known_of : Core → Inside → Known
 known_of c instances =
-    let spots : Spots = record { kind = c.seen.kind; spans = c.layouts.compact.spans; is_ordered = c.seen.is_ordered } in
-    record { seen = c.seen; within = record { spots = spots; inside = instances } }
+    let spots : Spots = record { spans = c.layouts.compact.spans; is_ordered = c.seen.is_ordered } in
+    record { seen = c.seen; within = record { kind = c.seen.kind; spots = spots; inside = instances } }
 
 abbrev pub within_type : Option Known → Within
 within_type None = nothing_within
