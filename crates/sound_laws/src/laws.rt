@@ -1,5 +1,5 @@
 //! What holds of sound components. Nothing here does anything when it runs.
-ghost use Rattle.sound_laws.specs.Laws.{TargetsAreNamed, SoundAssignsNoHarm, SoundHasNoFault, UnjudgedAreHarmless, SoundMapHasNoFault, SoundMapIsItsRows, ModesMatterToRegisterFiles, KeptSuffices, SearchFindsFirst, KeptIsCautious};
+ghost use Rattle.sound_laws.specs.Laws.{TargetsAreNamed, SoundAssignsNoHarm, SoundHasNoFault, UnjudgedAreHarmless, SoundMapHasNoFault, SoundMapIsItsRows, ModesMatterToRegisterFiles, KeptSuffices, SearchFindsFirst, SearchFindsMapFault, KeptIsCautious};
 ghost use Rattle.sound_laws.specs.Exact.{SoundIsExact};
 ghost use Rattle.sound_laws.specs.Verdicts.{FittingIsHarmless};
 
@@ -39,8 +39,10 @@ pub fn kept_layouts_tell()
 {}
 
 /// In a description without a fault among its items, the first fault below a component is found where components are passed
-/// over, if each of those is sound and nothing harmful comes to it. What is kept of layouts tells which may be.
+/// over, if each of those is sound and nothing harmful comes to it; so is the fault of a map. What is kept of layouts tells which
+/// may be.
 pub fn search_finds_first_fault()
     ensures first { SearchFindsFirst }
+    ensures map { SearchFindsMapFault }
     ensures kept { KeptIsCautious }
 {}
