@@ -17,19 +17,19 @@ pub types_more : (xs : List Defined) (x : Defined) → types_of (xs ++ x ∷ [])
 types_more xs x = over_append xs (x ∷ []) []
 
 lookup_next : (q : List ℕ) (xs : List Defined) (k n : ℕ) (x : Defined) → n ≡ suc k → k < length xs → x ≡ get_or xs k x
-  → lookup q (types_of (take n xs)) ≡ (if bytes_eq x.name.now q then Some (known_of x.known) else lookup q (types_of (take k xs)))
+    → lookup q (types_of (take n xs)) ≡ (if bytes_eq x.name.now q then Some (known_of x.known) else lookup q (types_of (take k xs)))
 lookup_next q xs k n x next h e =
     ap (λ m. lookup q (types_of (take m xs))) next
     ∙ ap (λ ys. lookup q (types_of ys)) (take_one xs k x h e)
     ∙ ap (lookup q) (types_more (take k xs) x)
 
 pub type_here : (q : List ℕ) (xs : List Defined) (k n : ℕ) (x : Defined) → n ≡ suc k → k < length xs → x ≡ get_or xs k x → bytes_eq x.name.now q ≡ true
-  → lookup q (types_of (take n xs)) ≡ Some (known_of x.known)
+    → lookup q (types_of (take n xs)) ≡ Some (known_of x.known)
 type_here q xs k n x next h e same =
     lookup_next q xs k n x next h e ∙ ap (λ (b : Bool). if b then Some (known_of x.known) else lookup q (types_of (take k xs))) same
 
 pub type_not_here : (q : List ℕ) (xs : List Defined) (k n : ℕ) (x : Defined) → n ≡ suc k → k < length xs → x ≡ get_or xs k x → bytes_eq x.name.now q ≡ false
-  → lookup q (types_of (take n xs)) ≡ lookup q (types_of (take k xs))
+    → lookup q (types_of (take n xs)) ≡ lookup q (types_of (take k xs))
 type_not_here q xs k n x next h e other =
     lookup_next q xs k n x next h e ∙ ap (λ (b : Bool). if b then Some (known_of x.known) else lookup q (types_of (take k xs))) other
 

@@ -28,7 +28,7 @@ how_many_before : (xs : List Instance) (k : ℕ) → k < length xs → how_many 
 how_many_before xs k h = omega (arith, how_many_over (take k xs) no_instances, length-take k xs)
 
 found_next : (q : List ℕ) (xs : List Instance) (k n : ℕ) (x : Instance) → n ≡ suc k → k < length xs → x ≡ get_or xs k x
-  → find q (inside_of (take n xs)) ≡ (if bytes_eq x.name.now q then Some (record { number = k; within = within_of x.within }) else find q (inside_of (take k xs)))
+    → find q (inside_of (take n xs)) ≡ (if bytes_eq x.name.now q then Some (record { number = k; within = within_of x.within }) else find q (inside_of (take k xs)))
 found_next q xs k n x next h e =
     ap (λ m. find q (inside_of (take m xs))) next
     ∙ ap (λ ys. find q (inside_of ys)) (take_one xs k x h e)
@@ -36,12 +36,12 @@ found_next q xs k n x next h e =
     ∙ (λ i. if bytes_eq x.name.now q then Some (record { number = how_many_before xs k h i; within = within_of x.within }) else find q (inside_of (take k xs)))
 
 pub found_here : (q : List ℕ) (xs : List Instance) (k n : ℕ) (x : Instance) → n ≡ suc k → k < length xs → x ≡ get_or xs k x → bytes_eq x.name.now q ≡ true
-  → find q (inside_of (take n xs)) ≡ Some (record { number = k; within = within_of x.within })
+    → find q (inside_of (take n xs)) ≡ Some (record { number = k; within = within_of x.within })
 found_here q xs k n x next h e same =
     found_next q xs k n x next h e ∙ ap (λ (b : Bool). if b then Some (record { number = k; within = within_of x.within }) else find q (inside_of (take k xs))) same
 
 pub not_here : (q : List ℕ) (xs : List Instance) (k n : ℕ) (x : Instance) → n ≡ suc k → k < length xs → x ≡ get_or xs k x → bytes_eq x.name.now q ≡ false
-  → find q (inside_of (take n xs)) ≡ find q (inside_of (take k xs))
+    → find q (inside_of (take n xs)) ≡ find q (inside_of (take k xs))
 not_here q xs k n x next h e other =
     found_next q xs k n x next h e ∙ ap (λ (b : Bool). if b then Some (record { number = k; within = within_of x.within }) else find q (inside_of (take k xs))) other
 

@@ -5,8 +5,8 @@ ghost use Rattle.rdl_nodes.specs.HeldInside.{within_of, inside_of};
 ghost use Rattle.rdl_seen.specs.Inside.{find};
 
 use crate::layouts::Layouts;
-use rdl_text::name::Name;
 use rdl_text::is_same;
+use rdl_text::name::Name;
 use std::alloc::{AllocError, Global};
 use std::marker::Model;
 use std::rc::Rc;

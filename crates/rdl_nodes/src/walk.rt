@@ -69,11 +69,7 @@ fn named<'a>(
 }
 
 /// An instance of a field that is written there, with this body.
-fn field<'a>(
-    before: &mut Inside<'a>,
-    shell: &'a Shell,
-    body: &Body,
-) -> Result<Slot, AllocError>
+fn field<'a>(before: &mut Inside<'a>, shell: &'a Shell, body: &Body) -> Result<Slot, AllocError>
     ensures slot { IfOk result (λ x. (rest : Slots) → add x rest ≡ slot (field_slot (field_of body.now)) rest) }
     ensures instances { OnOk result (before.new ≡ with_instance shell.now.name nothing_within before.old) }
 {

@@ -47,9 +47,9 @@ walk-returns-clause-walked g t c =
     let slots = c.loop-item.slots.items in
     let done = items_past xs n c.loop-item-test.false in
     sym (
-      c.loop-item.invariant.walked
-      ∙ ap (λ t. behind slots (walked lay a c.loop-item.instances t)) done
-      ∙ (λ i. record { slots = onto_none slots i; instances = c.loop-item.instances })
+    c.loop-item.invariant.walked
+    ∙ ap (λ t. behind slots (walked lay a c.loop-item.instances t)) done
+    ∙ (λ i. record { slots = onto_none slots i; instances = c.loop-item.instances })
     )
 
 pub walk-walk_item-requires : goal.walk-walk_item-requires

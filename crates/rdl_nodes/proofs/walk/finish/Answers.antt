@@ -16,7 +16,7 @@ use Rattle.rdl_nodes.proofs.walk.finish.Goals.{After-drop-parts-2}
 
 -- what is kept of the component, and its layouts
 core_is : (g : Over) (c : After-drop-parts-2 g)
-  → c.of-core.result ≡ core_of g.L.Lays.laying c.args.component.now.kind c.args.defaults.now c.args.component.now.body (slots_of c.args.items.slots.items)
+    → c.of-core.result ≡ core_of g.L.Lays.laying c.args.component.now.kind c.args.defaults.now c.args.component.now.body (slots_of c.args.items.slots.items)
 core_is g c =
     let k = c.args.component.now.kind in
     let v = c.args.defaults.now in
@@ -32,11 +32,11 @@ core_is g c =
     let laid : c.in_ok-layouts.layouts ≡ layouts_of lay k v t (slots_of xs) = said ∙ (λ i. lay k (values i) (members_are v t (slots_of xs) c.as_slice-2.result.now second i)) in
     let boxed : c.in_ok-layouts-2.layouts.value ≡ c.in_ok-layouts.layouts = c.in_ok-layouts-2.ensures.ok in
     let made : c.in_ok-layouts-2.layouts.value ≡ layouts_of lay k v t (slots_of c.as_slice-3.result.now) → c.of-core.result ≡ core_of lay k v t (slots_of c.as_slice-3.result.now) =
-        c.of-core.ensures.however_laid lay in
+    c.of-core.ensures.however_laid lay in
     made (boxed ∙ laid ∙ ap (λ (ys : List Slot). layouts_of lay k v t (slots_of ys)) (sym third)) ∙ ap (λ (ys : List Slot). core_of lay k v t (slots_of ys)) third
 
 layouts_are : (g : Over) (c : After-drop-parts-2 g)
-  → c.in_ok-kept.kept.value ≡ layouts_of g.L.Lays.laying c.args.component.now.kind c.args.defaults.now c.args.component.now.body (slots_of c.args.items.slots.items)
+    → c.in_ok-kept.kept.value ≡ layouts_of g.L.Lays.laying c.args.component.now.kind c.args.defaults.now c.args.component.now.body (slots_of c.args.items.slots.items)
 layouts_are g c =
     let k = c.args.component.now.kind in
     let v = c.args.defaults.now in

@@ -34,16 +34,16 @@ returns-clause-with_layouts c =
     let apart : c.apart_of-apart.result ≡ apart_of k (values_of k v t) l (members v t s) = c.apart_of-apart.ensures ∙ (λ i. apart_of k (values i) (kept i) (members_are v t s ps c.requires i)) in
     let inside = c.of-contents.ensures in
     let sound : c.sound_of-sound.result
-          ≡ sound_of k (sound_inside k (values_of k v t) (contents s).sound) (apart_of k (values_of k v t) l (members v t s))
-            (are_fields_sound (values_of k v t) l.compact.spans (resets v t s) (may_share k l v t s)) (are_harmless (spots_of k l) s) =
-        c.sound_of-sound.ensures
-        ∙ (λ i. sound_of k (sound_inside k (values i) (inside.sound i)) (apart i)
-          (are_fields_sound (values i) (spans i) (resets_are v t s ps c.requires i) (ordered i || clash_none (spans i) (accesses_are v t s ps c.requires i)))
-          (are_harmless (record { spans = spans i; is_ordered = ordered i }) s)) in
+    ≡ sound_of k (sound_inside k (values_of k v t) (contents s).sound) (apart_of k (values_of k v t) l (members v t s))
+    (are_fields_sound (values_of k v t) l.compact.spans (resets v t s) (may_share k l v t s)) (are_harmless (spots_of k l) s) =
+    c.sound_of-sound.ensures
+    ∙ (λ i. sound_of k (sound_inside k (values i) (inside.sound i)) (apart i)
+    (are_fields_sound (values i) (spans i) (resets_are v t s ps c.requires i) (ordered i || clash_none (spans i) (accesses_are v t s ps c.requires i)))
+    (are_harmless (record { spans = spans i; is_ordered = ordered i }) s)) in
     let fields : c.without_access-fields.result ≡ without_access (is_ordered k l) (field_takes t s) =
-        c.without_access-fields.ensures ∙ (λ i. without_access (ordered i) (c.field_takes.ensures i)) in
+    c.without_access-fields.ensures ∙ (λ i. without_access (ordered i) (c.field_takes.ensures i)) in
     let takes_all : c.takes_of-takes.result ≡ takes_of k t s (is_ordered k l) =
-        c.takes_of-takes.ensures ∙ (λ i. with_properties (without_properties (kind_set k) (stated (own i))) (with_properties (fields i) (inside.takes i))) in
+    c.takes_of-takes.ensures ∙ (λ i. with_properties (without_properties (kind_set k) (stated (own i))) (with_properties (fields i) (inside.takes i))) in
     let items : c.len.result ≡ item_count t = c.len.ensures ∙ sym (item_count_is t) in
     let seen = c.seen_of-seen.ensures s inside ∙ (λ i. seen_with k (values i) (kept i) s (takes_all i) (sound i) (ordered i) (items i) (weight i)) in
     λ i. record { seen = seen i; own = own i; values = values i; layouts = l; apart = apart i; own_weight = weight i }
