@@ -3,5 +3,6 @@ pub mod Defined
 pub mod FromBehind
 pub mod Instances
 pub mod Kept
+pub mod Paths
 pub mod Targets
 pub mod Walks

@@ -175,7 +175,7 @@ slots_inj (written a0 a1 a2 a3) (written b0 b1 b2 b3) p =
     let rest = slots_inj a3 b3 (ap tail p) in
     λ i. written (own i).0 (own i).1 (inside i) (rest i)
 
-abbrev coded_slots : Coded Slots
+abbrev pub coded_slots : Coded Slots
 coded_slots = record { code = slots_code; inj = slots_inj }
 
 abbrev pub coded_node : Coded Node

@@ -11,6 +11,7 @@ pub mod HeldInside
 pub mod HeldVerdict
 pub mod HeldWalked
 pub mod InsideFalls
+pub mod KeptNode
 pub mod Part
 pub mod Parts
 pub mod Targets

@@ -13,5 +13,6 @@ pub mod lays;
 pub mod node;
 pub mod parts;
 pub mod target;
+pub mod tree;
 pub mod verdict;
 mod walk;

@@ -1,6 +1,4 @@
 //! What is kept of a component that is written in a map.
-ghost use Rattle.std.specs.Prelude.{◌≡◌, IfOk};
-
 use crate::field::FieldBody;
 use crate::layouts::Layouts;
 use crate::verdict::Verdict;
@@ -8,6 +6,7 @@ use rdl_seen::names::Class;
 use rdl_seen::property_set::PropertySet;
 use rdl_seen::seen::{Modes, Seen};
 use rdl_seen::values::Values;
+use std::alloc::AllocError;
 use std::marker::Model;
 use std::rc::Rc;
 
@@ -110,5 +109,68 @@ impl Node {
         ensures { slots_of result.now ≡ self.now.slots }
     {
         self.slots.as_slice()
+    }
+}
+
+/// What is kept of a component, as it is lent: what is seen of it, and all else in its node, where what the node itself has of that isn't
+/// looked at.
+#[derive(Clone, Copy)]
+pub struct Kept<'t> {
+    pub seen: &'t Seen,
+    pub node: &'t Node,
+}
+
+impl Slot {
+    ghost use Rattle.std.specs.Prelude.{◌≡◌, IfOk, option_map};
+    ghost use Rattle.rdl_nodes.specs.KeptNode.{kept_of, slot_node};
+    ghost use Rattle.rdl_nodes.specs.View.{add};
+    ghost use Rattle.rdl_seen.specs.Slots.{Slots};
+
+    /// What is kept of the item's own component, if that is kept by itself.
+    pub fn kept(&self) -> Option<Kept>
+        ensures { option_map kept_of result ≡ slot_node self.now }
+    {
+        match self {
+            Slot::Define(_, seen, node) => Some(Kept {
+                seen: seen.as_ref(),
+                node: node.as_ref(),
+            }),
+            Slot::Part(node) => {
+                let node = node.as_ref();
+                let seen = &node.core().seen;
+                Some(Kept { seen, node })
+            }
+            Slot::Own => None,
+            Slot::Default(_) => None,
+            Slot::Dynamic(_) => None,
+            Slot::Field(_) => None,
+            Slot::Named(_, _) => None,
+        }
+    }
+
+    /// The same, for one more. What is inside is shared.
+    pub fn try_copy(&self) -> Result<Slot, AllocError>
+        ensures { IfOk result (λ slot. (rest : Slots) → add slot rest ≡ add self.now rest) }
+    {
+        match self {
+            Slot::Own => Ok(Slot::Own),
+            Slot::Default(property) => Ok(Slot::Default(*property)),
+            Slot::Dynamic(verdict) => Ok(Slot::Dynamic(verdict.copy())),
+            Slot::Field(field) => Ok(Slot::Field(*field)),
+            Slot::Named(class, None) => Ok(Slot::Named(*class, None)),
+            Slot::Named(class, Some(seen)) => {
+                let seen = seen.clone()?;
+                Ok(Slot::Named(*class, Some(seen)))
+            }
+            Slot::Define(class, seen, node) => {
+                let seen = seen.clone()?;
+                let node = node.clone()?;
+                Ok(Slot::Define(*class, seen, node))
+            }
+            Slot::Part(node) => {
+                let node = node.clone()?;
+                Ok(Slot::Part(node))
+            }
+        }
     }
 }

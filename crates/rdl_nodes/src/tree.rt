@@ -1,0 +1,86 @@
+//! What is kept of a map.
+ghost use Rattle.std.specs.Prelude.{◌≡◌, option_map};
+ghost use Rattle.rdl_nodes.specs.KeptNode.{kept_of};
+ghost use Rattle.rdl_nodes.specs.View.{slots_of};
+ghost use Rattle.rdl_seen.specs.Meaning.{kept_at, node_at};
+
+use crate::around::Around;
+use crate::lays::Lays;
+use crate::node::{Kept, Slot};
+use crate::walk::walk;
+use rdl_tree::address::Address;
+use rdl_tree::description::Description;
+use std::alloc::{AllocError, Global};
+use std::marker::Model;
+
+/// What is kept of a map: of each component that is written in it, a node. A contract sees the slots of the root's items.
+#[derive(Debug, Drop)]
+pub struct Tree {
+    slots: Vec<Slot>,
+}
+
+impl Model for Tree {
+    ghost use Rattle.rdl_seen.specs.Slots.{Slots};
+    ghost use Rattle.rdl_nodes.specs.Codes.{coded_slots};
+
+    ghost Value = { Slots };
+
+    ghost coded = { coded_slots };
+
+    ghost use Rattle.rdl_nodes.specs.View.{slots_of};
+
+    ghost view = { λ t. slots_of t.slots.items };
+}
+
+/// What is kept of the item of this number.
+fn kept_at(slots: &[Slot], number: usize) -> Option<Kept>
+    ensures { option_map kept_of result ≡ kept_at number (slots_of slots.now) }
+{
+    match slots.get(number) {
+        Some(slot) => slot.kept(),
+        None => None,
+    }
+}
+
+/// What is kept at the end of this path.
+fn node_at<'t>(slots: &'t [Slot], path: &[usize]) -> Option<Kept<'t>>
+    ensures { option_map kept_of result ≡ node_at path.now (slots_of slots.now) }
+{
+    match path {
+        [] => None,
+        [number] => kept_at(slots, *number),
+        [number, rest @ ..] => match kept_at(slots, *number) {
+            Some(kept) => node_at(kept.node.slots(), rest),
+            None => None,
+        },
+    }
+}
+
+impl Tree {
+    ghost use Rattle.std.specs.Prelude.{◌≡◌, IfOk, option_map};
+    ghost use Rattle.rdl_nodes.specs.KeptNode.{kept_of};
+    ghost use Rattle.rdl_seen.specs.Meaning.{nothing_around, node_at};
+    ghost use Rattle.rdl_seen.specs.Node.{body_of};
+
+    /// That of a description, whose instances are laid out so.
+    pub fn of<L: Lays>(
+        alloc: Global,
+        lay: &L,
+        description: &Description,
+    ) -> Result<Tree, AllocError>
+        ensures { IfOk result (λ tree. tree ≡ (body_of L.laying nothing_around description.now.items).slots) }
+    {
+        let mut around = Around::nothing(alloc);
+        let walked = walk(alloc, lay, &mut around, &description.items)?;
+        Ok(Tree {
+            slots: walked.slots,
+        })
+    }
+
+    /// What is kept of the component that the item at this address holds, if that is kept by itself.
+    pub fn node(&self, address: &Address) -> Option<Kept>
+        ensures { option_map kept_of result ≡ node_at address.now self.now }
+    {
+        node_at(self.slots.as_slice(), address.as_slice())
+    }
+}
