@@ -35,13 +35,13 @@ use Rattle.sound_laws.proofs.Registers.{row_then, none_of_three, at_most, nothin
 
 -- ---- What a container may hold.
 
-abbrev is_container : Kind → Bool
+abbrev pub is_container : Kind → Bool
 is_container Addrmap = true
 is_container Regfile = true
 is_container Reg = false
 is_container Field = false
 
-no_field : (k j : Kind) → is_container k ≡ true → may_instantiate (Some k) j ≡ true → j ≡ Field → ⊥
+pub no_field : (k j : Kind) → is_container k ≡ true → may_instantiate (Some k) j ≡ true → j ≡ Field → ⊥
 no_field Addrmap Addrmap c m e = cc
 no_field Addrmap Regfile c m e = cc
 no_field Addrmap Reg c m e = cc
@@ -54,7 +54,7 @@ no_field Reg j c m e = cc
 no_field Field j c m e = cc
 
 -- a later span against an earlier row
-abbrev meets : Span → Span × Option Value → Bool
+abbrev pub meets : Span → Span × Option Value → Bool
 meets t b = overlap t b.0
 
 none_of_two : (b c : Bool) (j k : FaultKind) → b ≡ false → c ≡ false → first_of ((b, j) ∷ (c, k) ∷ []) ≡ None

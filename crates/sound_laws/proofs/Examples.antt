@@ -1,7 +1,7 @@
 -- Small maps, sound and not, by computing.
-use Rattle.std.proofs.Common.{◌≡◌, ℕ, ◌+◌, List, [], ◌∷◌, Some, None, Option, true, false, Bool, refl}
+use Rattle.std.proofs.Common.{◌≡◌, ℕ, ◌+◌, List, [], ◌∷◌, Some, Option, true, false, Bool, refl}
 use Rattle.std.specs.Prelude.{codes, option_map}
-use Rattle.rdl_tree.specs.Items.{Items, no_items, plain, holder, named, own, dynamic, define, anonymous}
+use Rattle.rdl_tree.specs.Items.{Items, no_items, plain, holder, own, dynamic, define, anonymous}
 use Rattle.rdl_tree.specs.Shell.{bare_shell}
 use Rattle.rdl_tree.specs.declared.shell.Kind.{Kind}
 use Rattle.rdl_tree.specs.declared.shell.Kind.TheVariants.{Addrmap, Regfile, Reg, Field}

@@ -1,13 +1,12 @@
 -- A component of at most 2^40 bytes is sound if it is by what is kept of layouts.
-use Rattle.std.proofs.Common.{◌≡◌, ℕ, ◌+◌, ◌^◌, ◌≤◌, max, List, [], ◌∷◌, map, Bool, true, false, Some, None, Option, refl, ap, sym, subst, ◌∙◌, arith}
-use Rattle.std.specs.Prelude.{◌&&◌, ◌||◌, not, nat_eq, nat_lt, nat_le, unwrap_or, if◌then◌else◌}
+use Rattle.std.proofs.Common.{◌≡◌, ℕ, ◌^◌, ◌≤◌, max, List, [], ◌∷◌, map, Bool, true, Some, None, Option, refl, ap, sym, subst, ◌∙◌, arith}
+use Rattle.std.specs.Prelude.{◌&&◌, not, nat_eq, nat_lt, nat_le, unwrap_or, if◌then◌else◌}
 use Rattle.std.specs.List.{list_all}
 use Rattle.std.specs.Cmp.Lexicographic.{pointwise}
 use Rattle.std.proofs.lemmas.Bool.{leb-true}
 use Rattle.rdl_tree.specs.Items.{Items}
 use Rattle.rdl_tree.specs.declared.shell.Kind.{Kind}
 use Rattle.rdl_tree.specs.declared.shell.Kind.TheVariants.{Addrmap, Regfile, Reg, Field}
-use Rattle.rdl_tree.specs.declared.shell.Shell.{Shell}
 use Rattle.rdl_tree.specs.declared.value.Value.{Value}
 use Rattle.rdl_scope.specs.ItemFaults.{fault_of, may_instantiate}
 use Rattle.rdl_scope.specs.Closed.{Head, Parts, no_parts, part, Made, component}
@@ -30,7 +29,7 @@ use Rattle.rdl_elab.specs.Start.{start_of, spans_from}
 use Rattle.rdl_elab.proofs.FieldsInside.{kind-allowed}
 use Rattle.rdl_elab.proofs.PartsFound.{parts-found}
 use Rattle.rdl_elab.proofs.SameLevels.{bits-small}
-use Rattle.sound_laws.specs.Harmless.{Spot, elsewhere, kept_layout, are_apart, field_spans, all_elsewhere, spots_by, spots_in, each_at, is_harmless_along, is_harmless, are_harmless}
+use Rattle.sound_laws.specs.Harmless.{Spot, elsewhere, kept_layout, are_apart, field_spans, all_elsewhere, spots_by, spots_in, each_at, is_harmless_along, are_harmless}
 use Rattle.sound_laws.specs.Targets.{own_assignments}
 use Rattle.sound_laws.specs.Sound.{are_fields_sound_in, are_fields_sound, are_strides_wide, is_apart_under, sound_by, are_own_harmless, are_sound, is_sound}
 use Rattle.sound_laws.specs.Laws.{KeptSuffices, KeptIsCautious}

@@ -10,4 +10,5 @@ pub mod Fitting
 pub mod Unjudged
 pub mod Maps
 pub mod Kept
+pub mod Exact
 pub mod Searching

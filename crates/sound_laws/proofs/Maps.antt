@@ -41,7 +41,7 @@ harmless d a c m none holds sound = no_harm d none (own d none) a c m holds soun
 pub faultless : SoundHasNoFault
 faultless d a c m o none holds sound here come = below d none (own d none) a c m o holds sound here come
 
-addrmap_no_register : (k : Kind) → k ≡ Addrmap → k ≡ Reg → ⊥
+pub addrmap_no_register : (k : Kind) → k ≡ Addrmap → k ≡ Reg → ⊥
 addrmap_no_register k e f = let same : ◌≡◌ {A = Kind} Addrmap Reg = sym e ∙ f in cc
 
 pub map_faultless : SoundMapHasNoFault

@@ -1,13 +1,17 @@
 -- The first fault is found where sound components are passed over.
 use Rattle.std.proofs.Common.{◌≡◌, ℕ, List, [], ◌∷◌, ◌++◌, Bool, true, false, Some, None, Option, refl, ap, sym, subst, ◌∙◌, ◌+◌, ◌^◌, ◌≤◌, ◌⊎◌, inl, inr, map, arith}
-use Rattle.std.specs.Prelude.{if◌then◌else◌}
+use Rattle.std.specs.Prelude.{if◌then◌else◌, nat_lt, option_and_then}
 use Rattle.std.specs.Option.{option_or}
+use Rattle.std.proofs.lemmas.Bool.{ltb-false}
+use Rattle.rdl_tree.specs.declared.fault.Fault.{Fault}
+use Rattle.rdl_tree.specs.declared.fault.FaultKind.TheVariants.{TooManyLevels, TooManyRows, EmptyComponent, MapTooLarge}
+use Rattle.rdl_elab.specs.declared.layout.Mode.TheVariants.{Regalign}
 use Rattle.rdl_tree.specs.Items.{Items}
 use Rattle.rdl_tree.specs.declared.shell.Kind.{Kind}
 use Rattle.rdl_tree.specs.declared.shell.Kind.TheVariants.{Addrmap, Regfile, Reg, Field}
 use Rattle.rdl_tree.specs.declared.value.Value.{Value}
 use Rattle.rdl_scope.specs.Target.{body_of}
-use Rattle.rdl_scope.specs.ItemFaults.{fault_of}
+use Rattle.rdl_scope.specs.ItemFaults.{first_of, fault_at, fault_of}
 use Rattle.rdl_scope.specs.Closed.{Head, Parts, no_parts, part, Made, component}
 use Rattle.rdl_elab.specs.declared.layout.Mode.{Mode}
 use Rattle.rdl_elab.specs.declared.layout.Span.{Span}
@@ -17,20 +21,20 @@ use Rattle.rdl_elab.specs.Size.{bytes_of}
 use Rattle.rdl_elab.proofs.Fitting.{BytesFit, OneFits, Fit, fits-inside}
 use Rattle.rdl_elab.proofs.FieldsInside.{registers-hold-fields}
 use Rattle.rdl_elab.proofs.SameLevels.{bits-small}
-use Rattle.rdl_elab.specs.Rows.{Around, Judged, judged_row, inside, rows_in}
-use Rattle.rdl_elab.specs.Faults.{row_fault, first_row_fault}
+use Rattle.rdl_elab.specs.Rows.{Around, Judged, judged_row, inside, rows_in, rows_below, around_top, top_layout}
+use Rattle.rdl_elab.specs.Faults.{levels, count, first_empty, row_fault, first_row_fault}
 use Rattle.rdl_elab.specs.Reaches.{Reach, behind, along}
 use Rattle.rdl_elab.proofs.PartsFound.{parts-found}
 use Rattle.rdl_elab.proofs.RowsAlong.{along-inside}
 use Rattle.sound_laws.specs.Harmless.{are_harmless}
 use Rattle.sound_laws.specs.Sound.{is_sound}
 use Rattle.sound_laws.specs.Targets.{own_assignments}
-use Rattle.sound_laws.specs.Search.{IsKeptWhole, IsCautious, rows_asked}
-use Rattle.sound_laws.specs.Laws.{SearchFindsFirst}
+use Rattle.sound_laws.specs.Search.{IsKeptWhole, IsCautious, rows_asked, rows_asked_below}
+use Rattle.sound_laws.specs.Laws.{SearchFindsFirst, SearchFindsMapFault}
 use Rattle.sound_laws.proofs.Lists.{both}
 use Rattle.sound_laws.proofs.Kept.{kept_whole}
 use Rattle.sound_laws.proofs.Named.{own_found}
-use Rattle.sound_laws.proofs.Maps.{faultless}
+use Rattle.sound_laws.proofs.Maps.{faultless, addrmap_no_register}
 
 or_assoc : {X : Type 0} (a b c : Option X) → option_or (option_or a b) c ≡ option_or a (option_or b c)
 or_assoc None b c = refl
@@ -123,3 +127,24 @@ search d over a c m o cautious none holds here small =
     same d over cautious none c.parts a (parts-found d a c holds) o (along d [] o.path ++ own_assignments c.head c.parts)
     (λ at e. along-inside d o.path at a c e holds ∙ ap (λ rs. behind at (along d [] o.path ++ rs)) (sym (own_found d none a c holds))) []
     (layout_of m c.head c.parts).spans (subst (λ z. Fit z 0 (layout_of m c.head c.parts).spans c.parts) (sym here.mode) fits)
+
+-- ---- A map.
+
+-- behind a fault of its size nothing is asked
+behind_size : (a : List ℕ) (n : ℕ) (x y : Option Fault) → (n ≤ 2 ^ 40 → x ≡ y)
+    → option_or (fault_at a (first_of ((nat_lt (2 ^ 40) n, MapTooLarge) ∷ []))) x ≡ option_or (fault_at a (first_of ((nat_lt (2 ^ 40) n, MapTooLarge) ∷ []))) y
+behind_size a n x y e = by (nat_lt (2 ^ 40) n) refl
+  where
+    by : (t : Bool) → nat_lt (2 ^ 40) n ≡ t → option_or (fault_at a (first_of ((t, MapTooLarge) ∷ []))) x ≡ option_or (fault_at a (first_of ((t, MapTooLarge) ∷ []))) y
+    by true g = refl
+    by false g = e (ltb-false (2 ^ 40) n g)
+
+pub search_map : SearchFindsMapFault
+search_map d over a name c cautious none holds kind =
+    let o = around_top name c in
+    let same : (top_layout c).size ≤ 2 ^ 40 → first_row_fault d (rows_asked_below over d name c) ≡ first_row_fault d (rows_below d name c) =
+    λ small. search d over a c Regalign o cautious none holds (record { mode = refl; bits = λ e. absurd (addrmap_no_register c.head.kind kind e) })
+    (subst (λ k. IsKeptWhole k (top_layout c).size) (sym kind) small) in
+    λ i. option_or (fault_at a (first_of ((nat_lt 16 (levels c.parts + 1), TooManyLevels) ∷ (nat_lt 65536 (count c.parts + 1), TooManyRows) ∷ [])))
+    (option_or (option_and_then (λ b. fault_at b (Some EmptyComponent)) (first_empty c.parts))
+    (behind_size a (top_layout c).size (first_row_fault d (rows_asked_below over d name c)) (first_row_fault d (rows_below d name c)) same i))

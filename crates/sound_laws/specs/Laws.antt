@@ -9,7 +9,6 @@ use Rattle.rdl_scope.specs.Closed.{Head, Parts, Made, component}
 use Rattle.rdl_scope.specs.ItemFaults.{fault_of}
 use Rattle.rdl_elab.specs.declared.layout.Mode.{Mode}
 use Rattle.rdl_elab.specs.declared.layout.Mode.TheVariants.{Regalign}
-use Rattle.rdl_elab.specs.declared.layout.Span.{Span}
 use Rattle.rdl_elab.specs.Layouts.{values_of, mode_inside, layout_of}
 use Rattle.rdl_elab.specs.Reaches.{Reach, reaches, along}
 use Rattle.rdl_elab.specs.Rows.{Around, rows_in, rows_of, top_layout}
@@ -17,7 +16,7 @@ use Rattle.rdl_elab.specs.Faults.{levels, count, first_empty, first_row_fault, t
 use Rattle.sound_laws.specs.Harmless.{Laying, kept_layout, are_harmless, is_unjudged}
 use Rattle.sound_laws.specs.Sound.{is_sound}
 use Rattle.sound_laws.specs.Targets.{target_in, own_assignments}
-use Rattle.sound_laws.specs.Search.{may_be_passed_over, IsKeptWhole, IsCautious, rows_asked}
+use Rattle.sound_laws.specs.Search.{may_be_passed_over, IsKeptWhole, IsCautious, rows_asked, fault_asked}
 
 -- what stands around the instances of this component is what it is where the component stands under this mode
 pub record IsInside (m : Mode) (c : Made) (o : Around) : Type 0 where
@@ -91,6 +90,12 @@ SearchFindsFirst =
     → fault_of d ≡ None → component d a ≡ Some c → IsInside m c o → IsKeptWhole c.head.kind (layout_of m c.head c.parts).size
     → first_row_fault d (rows_asked over d o (along d [] o.path ++ own_assignments c.head c.parts) [] (layout_of m c.head c.parts).spans c.parts)
     ≡ first_row_fault d (rows_in d o [] (layout_of m c.head c.parts).spans c.parts)
+
+-- so the fault of a map is found
+abbrev pub SearchFindsMapFault : Type 0
+SearchFindsMapFault =
+    (d : Items) (over : Mode → Head → Parts → List Reach → Bool) (a name : List ℕ) (c : Made) → IsCautious d over
+    → fault_of d ≡ None → component d a ≡ Some c → c.head.kind ≡ Addrmap → fault_asked over d a name c ≡ fault_of_top d a name c
 
 -- so it is where what is kept of layouts tells what may be passed over
 abbrev pub KeptIsCautious : Type 0

@@ -4,3 +4,4 @@ pub mod Sound
 pub mod Verdicts
 pub mod Search
 pub mod Laws
+pub mod Exact

@@ -1,16 +1,21 @@
 -- The rows among which the first fault of a map is looked for, where what can have none is passed over.
 -- own: SystemRDL 2.0 says nothing of how a map is judged. What its rows are `rows_in` of `rdl_elab` says.
-use Rattle.std.specs.Prelude.{◌≡◌, ℕ, ◌^◌, ◌≤◌, true, ◌&&◌, Bool, Some, List, [], ◌∷◌, ◌++◌, Option, if◌then◌else◌}
+use Rattle.std.specs.Prelude.{◌≡◌, ℕ, ◌+◌, ◌^◌, ◌≤◌, nat_lt, option_and_then, true, ◌&&◌, Bool, Some, List, [], ◌∷◌, ◌++◌, Option, if◌then◌else◌}
+use Rattle.std.specs.Option.{option_or}
 use Rattle.rdl_tree.specs.Items.{Items}
+use Rattle.rdl_tree.specs.declared.fault.Fault.{Fault}
+use Rattle.rdl_tree.specs.declared.fault.FaultKind.TheVariants.{TooManyLevels, TooManyRows, EmptyComponent, MapTooLarge}
 use Rattle.rdl_tree.specs.declared.value.Value.{Value}
 use Rattle.rdl_tree.specs.declared.shell.Kind.{Kind}
 use Rattle.rdl_tree.specs.declared.shell.Kind.TheVariants.{Addrmap, Regfile}
 use Rattle.rdl_scope.specs.Closed.{Head, Parts, no_parts, part, Made, component}
+use Rattle.rdl_scope.specs.ItemFaults.{first_of, fault_at}
 use Rattle.rdl_elab.specs.declared.layout.Mode.{Mode}
 use Rattle.rdl_elab.specs.declared.layout.Span.{Span}
+use Rattle.rdl_elab.specs.Faults.{levels, count, first_empty, first_row_fault}
 use Rattle.rdl_elab.specs.Layouts.{layout_of}
 use Rattle.rdl_elab.specs.Reaches.{Reach, behind}
-use Rattle.rdl_elab.specs.Rows.{Around, Judged, judged_row, inside}
+use Rattle.rdl_elab.specs.Rows.{Around, Judged, judged_row, inside, around_top, top_layout}
 use Rattle.sound_laws.specs.Harmless.{Laying, are_harmless}
 use Rattle.sound_laws.specs.Sound.{is_sound}
 use Rattle.sound_laws.specs.Targets.{own_assignments}
@@ -42,3 +47,15 @@ rows_asked over d o going before (span ∷ spans) (part at s h within rest) =
     r
     ∷ ((if over o.mode h within coming then [] else rows_asked over d (inside r) (coming ++ own_assignments h within) [] l.spans within)
     ++ rows_asked over d o going (before ++ (span, r.access) ∷ []) spans rest)
+
+-- those of a map with this top, below it
+abbrev pub rows_asked_below : (Mode → Head → Parts → List Reach → Bool) → Items → List ℕ → Made → List Judged
+rows_asked_below over d name c = rows_asked over d (around_top name c) (own_assignments c.head c.parts) [] (top_layout c).spans c.parts
+
+-- what is wrong with a map whose items have no fault, as `fault_of_top` says it, if the first fault of its rows is looked for so
+abbrev pub fault_asked : (Mode → Head → Parts → List Reach → Bool) → Items → List ℕ → List ℕ → Made → Option Fault
+fault_asked over d at name c =
+    option_or (fault_at at (first_of ((nat_lt 16 (levels c.parts + 1), TooManyLevels) ∷ (nat_lt 65536 (count c.parts + 1), TooManyRows) ∷ [])))
+    (option_or (option_and_then (λ a. fault_at a (Some EmptyComponent)) (first_empty c.parts))
+    (option_or (fault_at at (first_of ((nat_lt (2 ^ 40) (top_layout c).size, MapTooLarge) ∷ [])))
+    (first_row_fault d (rows_asked_below over d name c))))

@@ -1,5 +1,6 @@
 //! What holds of sound components. Nothing here does anything when it runs.
-ghost use Rattle.sound_laws.specs.Laws.{TargetsAreNamed, SoundAssignsNoHarm, SoundHasNoFault, UnjudgedAreHarmless, SoundMapHasNoFault, SoundMapIsItsRows, ModesMatterToRegisterFiles, KeptSuffices, SearchFindsFirst, KeptIsCautious};
+ghost use Rattle.sound_laws.specs.Laws.{TargetsAreNamed, SoundAssignsNoHarm, SoundHasNoFault, UnjudgedAreHarmless, SoundMapHasNoFault, SoundMapIsItsRows, ModesMatterToRegisterFiles, KeptSuffices, SearchFindsFirst, SearchFindsMapFault, KeptIsCautious};
+ghost use Rattle.sound_laws.specs.Exact.{SoundIsExact};
 ghost use Rattle.sound_laws.specs.Verdicts.{FittingIsHarmless};
 
 /// In a description without a fault among its items, no row below a sound component has a fault, if what is assigned from
@@ -20,6 +21,12 @@ pub fn sound_components_do_no_harm()
     ensures told { FittingIsHarmless }
 {}
 
+/// Where no dynamic assignment of `sw` or `reset` stands inside a component or comes to it, it is sound if no row below it has a
+/// fault, in a description without a fault among its items.
+pub fn soundness_is_exact()
+    ensures { SoundIsExact }
+{}
+
 /// Whether a component is sound depends on the mode under which it stands for a register file alone.
 pub fn modes_matter_to_register_files()
     ensures { ModesMatterToRegisterFiles }
@@ -32,8 +39,10 @@ pub fn kept_layouts_tell()
 {}
 
 /// In a description without a fault among its items, the first fault below a component is found where components are passed
-/// over, if each of those is sound and nothing harmful comes to it. What is kept of layouts tells which may be.
+/// over, if each of those is sound and nothing harmful comes to it; so is the fault of a map. What is kept of layouts tells which
+/// may be.
 pub fn search_finds_first_fault()
     ensures first { SearchFindsFirst }
+    ensures map { SearchFindsMapFault }
     ensures kept { KeptIsCautious }
 {}
