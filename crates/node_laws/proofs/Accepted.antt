@@ -77,7 +77,7 @@ fields-hold-none Field = refl
 pub not-in-field : (around : Option Kind) (k : Kind) → may_instantiate around k ≡ true → around ≡ Some Field → ⊥
 not-in-field around k may is = false≢true (sym (fields-hold-none k) ∙ ap (λ o. may_instantiate o k) (sym is) ∙ may)
 
-stand-in-field : (h : Holder) → MayStand (Some Field) h → ⊥
+pub stand-in-field : (h : Holder) → MayStand (Some Field) h → ⊥
 stand-in-field (define n k) may = false≢true (sym (fields-define-none k) ∙ may)
 stand-in-field (anonymous s k) may = false≢true (sym (fields-hold-none k) ∙ may)
 
@@ -105,19 +105,19 @@ field-in-register (Some Field) may = absurd cc
 
 -- ---- What the items of a body say of the description.
 
-abbrev standing_from : Standing → List ℕ → ℕ → ℕ → List ℕ → Items → Option Standing
+abbrev pub standing_from : Standing → List ℕ → ℕ → ℕ → List ℕ → Items → Option Standing
 standing_from e b n i [] t = Some (before i e b n t)
 standing_from e b n i (j ∷ c) t = option_and_then (standing_at (before i e b n t) (b ++ (n + i) ∷ []) (j ∷ c)) (inner i t)
 
-abbrev closed_from : Standing → List ℕ → ℕ → ℕ → List ℕ → Items → Option Made
+abbrev pub closed_from : Standing → List ℕ → ℕ → ℕ → List ℕ → Items → Option Made
 closed_from e b n i [] t = component_in i e b n t
 closed_from e b n i (j ∷ c) t = option_and_then (closed (before i e b n t) (b ++ (n + i) ∷ []) (j ∷ c)) (inner i t)
 
 -- the items of the body at b from number n on are t, and e stands before them
-record Lies (d : Items) (b : List ℕ) (n : ℕ) (t : Items) (e : Standing) : Type 0 where
-  standing : (i : ℕ) (c : List ℕ) → standing_at nothing [] (b ++ (n + i) ∷ c) d ≡ standing_from e b n i c t
-  holds : (i : ℕ) (c : List ℕ) → component d (b ++ (n + i) ∷ c) ≡ closed_from e b n i c t
-  items : (i : ℕ) (c : List ℕ) → item_at (b ++ (n + i) ∷ c) d ≡ item_at (i ∷ c) t
+pub record Lies (d : Items) (b : List ℕ) (n : ℕ) (t : Items) (e : Standing) : Type 0 where
+  pub standing : (i : ℕ) (c : List ℕ) → standing_at nothing [] (b ++ (n + i) ∷ c) d ≡ standing_from e b n i c t
+  pub holds : (i : ℕ) (c : List ℕ) → component d (b ++ (n + i) ∷ c) ≡ closed_from e b n i c t
+  pub items : (i : ℕ) (c : List ℕ) → item_at (b ++ (n + i) ∷ c) d ≡ item_at (i ∷ c) t
 
 next-number : (n i : ℕ) → suc n + i ≡ n + suc i
 next-number n i = omega arith
@@ -138,7 +138,7 @@ items-plain : (i : ℕ) (c : List ℕ) (p : Plain) (rest : Items) → item_at (s
 items-plain i [] p rest = refl
 items-plain i (j ∷ c) p rest = refl
 
-lies-plain : (d : Items) (b : List ℕ) (n : ℕ) (p : Plain) (rest : Items) (e : Standing) → Lies d b n (plain p rest) e → Lies d b (suc n) rest (after_plain p e)
+pub lies-plain : (d : Items) (b : List ℕ) (n : ℕ) (p : Plain) (rest : Items) (e : Standing) → Lies d b n (plain p rest) e → Lies d b (suc n) rest (after_plain p e)
 lies-plain d b n p rest e l = record {
   standing = λ i c. ap (λ k. standing_at nothing [] (b ++ k ∷ c) d) (next-number n i) ∙ l.standing (suc i) c ∙ standing-plain e b n i c p rest;
   holds = λ i c. ap (λ k. component d (b ++ k ∷ c)) (next-number n i) ∙ l.holds (suc i) c ∙ closed-plain e b n i c p rest;
@@ -146,7 +146,7 @@ lies-plain d b n p rest e l = record {
 }
 
 -- what stands behind an item with a component
-abbrev standing_behind : Standing → List ℕ → ℕ → Holder → Items → Standing
+abbrev pub standing_behind : Standing → List ℕ → ℕ → Holder → Items → Standing
 standing_behind e b n h body = after_holder h (b ++ n ∷ []) body (parts e (b ++ n ∷ []) 0 body) e
 
 standing-holder : (e : Standing) (b : List ℕ) (n i : ℕ) (c : List ℕ) (h : Holder) (body rest : Items)
@@ -165,7 +165,7 @@ items-holder : (i : ℕ) (c : List ℕ) (h : Holder) (body rest : Items) → ite
 items-holder i [] h body rest = refl
 items-holder i (j ∷ c) h body rest = refl
 
-lies-holder : (d : Items) (b : List ℕ) (n : ℕ) (h : Holder) (body rest : Items) (e : Standing) → Lies d b n (holder h body rest) e
+pub lies-holder : (d : Items) (b : List ℕ) (n : ℕ) (h : Holder) (body rest : Items) (e : Standing) → Lies d b n (holder h body rest) e
     → Lies d b (suc n) rest (standing_behind e b n h body)
 lies-holder d b n h body rest e l = record {
   standing = λ i c. ap (λ k. standing_at nothing [] (b ++ k ∷ c) d) (next-number n i) ∙ l.standing (suc i) c ∙ standing-holder e b n i c h body rest;
@@ -191,7 +191,7 @@ closed-zero e b i (j ∷ c) t = ap (λ k. option_and_then (closed (before i e b 
 inside-address : (b : List ℕ) (n i : ℕ) (c : List ℕ) → (b ++ n ∷ []) ++ (0 + i) ∷ c ≡ b ++ (n + 0) ∷ i ∷ c
 inside-address b n i c = append_assoc b (n ∷ []) ((0 + i) ∷ c) ∙ (λ k. b ++ no-more n k ∷ sym (from-zero i) k ∷ c)
 
-lies-inside : (d : Items) (b : List ℕ) (n : ℕ) (h : Holder) (body rest : Items) (e : Standing) → Lies d b n (holder h body rest) e → Lies d (b ++ n ∷ []) 0 body e
+pub lies-inside : (d : Items) (b : List ℕ) (n : ℕ) (h : Holder) (body rest : Items) (e : Standing) → Lies d b n (holder h body rest) e → Lies d (b ++ n ∷ []) 0 body e
 lies-inside d b n h body rest e l = record {
   standing = λ i c.
       ap (λ a. standing_at nothing [] a d) (inside-address b n i c) ∙ l.standing 0 (i ∷ c)
@@ -202,7 +202,7 @@ lies-inside d b n h body rest e l = record {
   items = λ i c. ap (λ a. item_at a d) (inside-address b n i c) ∙ l.items 0 (i ∷ c);
 }
 
-root-lies : (d : Items) → Lies d [] 0 d nothing
+pub root-lies : (d : Items) → Lies d [] 0 d nothing
 root-lies d = record {
   standing = λ i c. ap (λ k. standing_at nothing [] (k ∷ c) d) (sym (from-zero i)) ∙ standing-zero nothing [] i c d;
   holds = λ i c. ap (λ k. component d (k ∷ c)) (sym (from-zero i)) ∙ closed-zero nothing [] i c d;
@@ -211,7 +211,7 @@ root-lies d = record {
 
 -- ---- Items without a fault.
 
-define-allowed : (around : Option Kind) (twice : Bool) (k : Kind) → define_fault around twice k ≡ None → may_define around k ≡ true
+pub define-allowed : (around : Option Kind) (twice : Bool) (k : Kind) → define_fault around twice k ≡ None → may_define around k ≡ true
 unfolding define_fault
 define-allowed around twice k e =
     let rest = first_none twice NameTwice ((not (may_define around k), KindNotAllowed) ∷ []) e in
@@ -228,12 +228,12 @@ instance-clear : (d : Items) (around : Option Kind) (b : List ℕ) (body : Items
 unfolding item_fault
 instance-clear d around b body n s o e = e
 
-record IsAllowed (around : Option Kind) (o : Option Kind) : Type 0 where
-  kind : Kind
-  is : o ≡ Some kind
-  may : may_instantiate around kind ≡ true
+pub record IsAllowed (around : Option Kind) (o : Option Kind) : Type 0 where
+  pub kind : Kind
+  pub is : o ≡ Some kind
+  pub may : may_instantiate around kind ≡ true
 
-instance-allowed : (around : Option Kind) (twice : Bool) (s : Shell) (o : Option Kind) → instance_fault around twice s o ≡ None → IsAllowed around o
+pub instance-allowed : (around : Option Kind) (twice : Bool) (s : Shell) (o : Option Kind) → instance_fault around twice s o ≡ None → IsAllowed around o
 unfolding instance_fault
 instance-allowed around true s None e = absurd cc
 instance-allowed around false s None e = absurd cc

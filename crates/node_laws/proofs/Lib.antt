@@ -1,6 +1,8 @@
 pub mod Accepted
 pub mod Along
+pub mod Few
 pub mod Inner
 pub mod Laying
 pub mod Nodes
+pub mod Sizes
 pub mod Walks
