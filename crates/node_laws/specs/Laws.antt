@@ -1,19 +1,18 @@
 -- What the nodes of a description without a fault mean.
 -- own: SystemRDL 2.0 has no edits.
-use Rattle.std.specs.Prelude.{◌≡◌, ℕ, true, false, List, [], Some, None}
+use Rattle.std.specs.Prelude.{◌≡◌, ℕ, false, List, [], Some, None}
 use Rattle.rdl_tree.specs.Component.{holder_kind}
 use Rattle.rdl_tree.specs.ItemAt.{item_at}
 use Rattle.rdl_tree.specs.Items.{Items, Plain, Holder}
 use Rattle.rdl_scope.specs.Closed as scope
 use Rattle.rdl_scope.specs.Closed.{Parts, Made, Standing, head_at, nothing, standing_at, component}
-use Rattle.rdl_scope.specs.ItemFaults.{first_fault, fault_of}
+use Rattle.rdl_scope.specs.ItemFaults.{fault_of}
 use Rattle.rdl_seen.specs.Layouts.{Laying}
 use Rattle.rdl_seen.specs.Meaning.{nothing_around, around_at, node_at}
 use Rattle.rdl_seen.specs.Node.{Known, Around, after_plain, after_holder, body_of, node, known}
 use Rattle.rdl_seen.specs.Slots.{Node}
 use Rattle.node_laws.specs.Kept.{is_field_there, IsKept}
 use Rattle.node_laws.specs.Laid.{laying}
-use Rattle.node_laws.specs.Limits.{AreTargetsShort, is_within_limits}
 use Rattle.node_laws.specs.Meant.{IsCore, IsKnown, MeansAll}
 
 -- what is seen behind an item is what stands there
@@ -55,9 +54,3 @@ abbrev pub NodesAreKept : Type 0
 NodesAreKept =
     (lay : Laying) (d : Items) (c : List ℕ) (m : Made) → fault_of d ≡ None → component d c ≡ Some m → is_field_there (item_at c d) ≡ false
     → IsKept lay d c m
-
--- a description whose items have no fault is within its limits, and so has no fault, if it is by what is kept of its items
-abbrev pub LimitsAreKept : Type 0
-LimitsAreKept =
-    (lay : Laying) (d : Items) → first_fault d None [] d 0 d ≡ None → AreTargetsShort d → is_within_limits (body_of lay nothing_around d).slots d ≡ true
-    → fault_of d ≡ None

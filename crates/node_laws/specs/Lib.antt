@@ -1,7 +1,6 @@
 pub mod Kept
 pub mod Laid
 pub mod Laws
-pub mod Limits
 pub mod Meant
 pub mod Seen
 pub mod Sound

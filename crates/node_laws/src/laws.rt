@@ -1,5 +1,5 @@
 //! What holds of the nodes of all descriptions. Nothing here does anything when it runs.
-ghost use Rattle.node_laws.specs.Laws.{MeansAllBehind, MeansAllBehindComponent, MeansAllAt, NodesAreSeen, NodesAreKnown, KeptAreSeen, NodesAreKept, LimitsAreKept};
+ghost use Rattle.node_laws.specs.Laws.{MeansAllBehind, MeansAllBehindComponent, MeansAllAt, NodesAreSeen, NodesAreKnown, KeptAreSeen, NodesAreKept};
 
 /// Where a body sees the types and the defaults that stand before an item, it does so behind that item. So each item of a description
 /// without a fault sees those that stand before it.
@@ -22,10 +22,4 @@ pub fn nodes_are_seen()
 /// instantiated. So it is however components are laid out.
 pub fn nodes_are_kept()
     ensures { NodesAreKept }
-{}
-
-/// A description whose items have no fault is within its limits, and so has no fault, if it is by what is kept of its items: how deep
-/// they nest, how many they are, and what they weigh at most.
-pub fn limits_are_kept()
-    ensures { LimitsAreKept }
 {}
