@@ -24,7 +24,7 @@ holder_behind : (lay : Laying) (a : Around) (h : Holder) (body : Items) → afte
 holder_behind lay a (define n k) body = refl
 holder_behind lay a (anonymous s k) body = refl
 
-some_same : (x y : Item) → ◌≡◌ {A = Option Item} (Some x) (Some y) → x ≡ y
+pub some_same : (x y : Item) → ◌≡◌ {A = Option Item} (Some x) (Some y) → x ≡ y
 some_same x y e = cc
 
 before_none : (lay : Laying) (a : Around) (t : Items) → around_before lay 0 a t ≡ a
