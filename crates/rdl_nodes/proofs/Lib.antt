@@ -6,3 +6,4 @@ pub mod Kept
 pub mod Paths
 pub mod Targets
 pub mod Walks
+pub mod SideBySide

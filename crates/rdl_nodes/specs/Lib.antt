@@ -16,3 +16,4 @@ pub mod Part
 pub mod Parts
 pub mod Targets
 pub mod View
+pub mod SideBySide

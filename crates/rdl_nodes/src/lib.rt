@@ -8,6 +8,7 @@ pub mod core_of;
 pub mod field;
 pub mod fields;
 pub mod inside;
+pub mod laws;
 pub mod layouts;
 pub mod lays;
 pub mod node;
