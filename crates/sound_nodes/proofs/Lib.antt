@@ -1,5 +1,6 @@
 pub mod Assigned
 pub mod Ends
+pub mod Examples
 pub mod Fields
 pub mod Nodes
 pub mod Shortness
