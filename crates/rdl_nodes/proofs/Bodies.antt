@@ -32,7 +32,7 @@ items_past xs i h = ap items_of (drop_past xs i h)
 pub items_all : (xs : List Item) (t : Items) → xs ≡ list_of t → items_of (drop 0 xs) ≡ t
 items_all xs t e = ap items_of e ∙ items_of-list_of t
 
--- ---- What they state and weigh.
+-- ---- How many they are.
 
 pub item_count_is : (t : Items) → item_count t ≡ length (list_of t)
 item_count_is no_items = refl
