@@ -4,6 +4,7 @@ pub mod FromBehind
 pub mod Instances
 pub mod Kept
 pub mod Paths
+pub mod SideBySide
+pub mod TakenOver
 pub mod Targets
 pub mod Walks
-pub mod SideBySide

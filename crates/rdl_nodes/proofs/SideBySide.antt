@@ -52,7 +52,7 @@ nothing_left : {X : Type 0} (xs : List X) → drop (length xs) xs ≡ []
 nothing_left [] = refl
 nothing_left (y ∷ ys) = nothing_left ys
 
-get_drop : {X : Type 0} (xs : List X) (k n : ℕ) → slice_get (drop k xs) n ≡ slice_get xs (k + n)
+pub get_drop : {X : Type 0} (xs : List X) (k n : ℕ) → slice_get (drop k xs) n ≡ slice_get xs (k + n)
 get_drop [] zero n = refl
 get_drop [] (suc k) n = refl
 get_drop (y ∷ ys) zero n = ap (slice_get (y ∷ ys)) (let e : n ≡ 0 + n = omega arith in e)
@@ -80,7 +80,7 @@ place_append place (old_item number firsts inside ∷ es) e = place_append (if f
 
 -- ---- The old item of an item that stayed.
 
-rest_items : (old : Items) (es : List Trace) (rest : List Item) (xs : List Item) (k : ℕ) → AreSo old es rest xs → slice_get xs (length es + k) ≡ slice_get rest k
+pub rest_items : (old : Items) (es : List Trace) (rest : List Item) (xs : List Item) (k : ℕ) → AreSo old es rest xs → slice_get xs (length es + k) ≡ slice_get rest k
 rest_items old [] rest xs k h =
     ap (λ (ys : List Item). slice_get ys (0 + k)) (sym (tree_rounds.list_of-items_of xs) ∙ h) ∙ ap (slice_get rest) (let e : 0 + k ≡ k = omega arith in e)
 rest_items old (e ∷ es) rest [] k h = absurd (none_more old e (traces_of es) rest h)
@@ -102,10 +102,10 @@ had_one old n firsts inside (Default p v) h = record { item = _; is = h.0 }
 had_one old n firsts inside (Dynamic t p v) h = record { item = _; is = h.0 }
 
 -- what is told of an item one by one, or behind those
-record IsTold (m : Marks) (i : ℕ) (e : Trace) : Type 0 where
-  is : (slice_get (list_of m.traces) i ≡ Some e) ⊎ ((length (list_of m.traces) ≤ i) × (same_item (m.behind + (i - length (list_of m.traces))) ≡ e))
+pub record IsTold (m : Marks) (i : ℕ) (e : Trace) : Type 0 where
+  pub is : (slice_get (list_of m.traces) i ≡ Some e) ⊎ ((length (list_of m.traces) ≤ i) × (same_item (m.behind + (i - length (list_of m.traces))) ≡ e))
 
-is_told : (m : Marks) (i : ℕ) (e : Trace) → trace_of m i ≡ Some e → IsTold m i e
+pub is_told : (m : Marks) (i : ℕ) (e : Trace) → trace_of m i ≡ Some e → IsTold m i e
 is_told m i e h = by (cases_lt i (length (list_of m.traces)))
   where
     some : (d : Trace) → ◌≡◌ {A = Option Trace} (Some d) (Some e) → d ≡ e
@@ -120,7 +120,7 @@ is_told m i e h = by (cases_lt i (length (list_of m.traces)))
       is = inr (l, some (same_item (m.behind + (i - length (list_of m.traces)))) (ap pick (sym (le-ltb i (length (list_of m.traces)) l)) ∙ h));
     }
 
-listed : (m : Marks) (old now : Items) → Describes m old now → AreSo old (list_of m.traces) (drop m.behind (tree.list_of old)) (tree.list_of now)
+pub listed : (m : Marks) (old now : Items) → Describes m old now → AreSo old (list_of m.traces) (drop m.behind (tree.list_of old)) (tree.list_of now)
 listed m old now d =
     subst (λ t. AreFrom old t (drop m.behind (tree.list_of old)) (tree.items_of (tree.list_of now))) (sym (traces_of-list_of m.traces))
     (subst (AreFrom old m.traces (drop m.behind (tree.list_of old))) (sym (tree_rounds.items_of-list_of now)) d.items)

@@ -14,6 +14,7 @@ pub mod InsideFalls
 pub mod KeptNode
 pub mod Part
 pub mod Parts
+pub mod SideBySide
+pub mod TakenOver
 pub mod Targets
 pub mod View
-pub mod SideBySide
