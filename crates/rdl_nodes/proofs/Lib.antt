@@ -1,3 +1,4 @@
+pub mod Alone
 pub mod Bodies
 pub mod Defined
 pub mod FromBehind

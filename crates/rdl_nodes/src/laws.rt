@@ -1,4 +1,5 @@
 //! What holds of a body and of what it was. Nothing here does anything when it runs.
+ghost use Rattle.rdl_nodes.specs.Alone.{CleanStandAlone, ClashesAreTurned, StandsAloneByItems, NoneClash, StandsAloneStill};
 ghost use Rattle.rdl_nodes.specs.SideBySide.{NoMoreDiffersAlong, NoMoreDiffersBefore};
 ghost use Rattle.rdl_nodes.specs.TakenOver.{SameItemsStay, SlotsAreTakenOver};
 
@@ -15,4 +16,16 @@ pub fn no_more_differs()
 pub fn slots_are_taken_over()
     ensures items { SameItemsStay }
     ensures slots { SlotsAreTakenOver }
+{}
+
+/// Two items of a body clash where they define the same name, or assign the same, or exclude one another; which of them comes first
+/// makes no odds. An item stands alone, so that none before it makes a fault of it, exactly where it clashes with none of those. In a
+/// body without a fault all do. One that is as it was still does where it clashes with none that came or was changed: whoever judges
+/// those needn't look at it.
+pub fn items_stand_alone()
+    ensures clean { CleanStandAlone }
+    ensures turned { ClashesAreTurned }
+    ensures items { StandsAloneByItems }
+    ensures none { NoneClash }
+    ensures still { StandsAloneStill }
 {}
