@@ -11,6 +11,7 @@ pub mod HeldAround
 pub mod HeldInside
 pub mod HeldVerdict
 pub mod HeldWalked
+pub mod HoldsNodes
 pub mod InsideFalls
 pub mod KeptNode
 pub mod Part

@@ -58,17 +58,19 @@ fn node_at<'t>(slots: &'t [Slot], path: &[usize]) -> Option<Kept<'t>>
 
 impl Tree {
     ghost use Rattle.std.specs.Prelude.{◌≡◌, IfOk, option_map};
+    ghost use Rattle.rdl_nodes.specs.HoldsNodes.{HoldsNodes};
     ghost use Rattle.rdl_nodes.specs.KeptNode.{kept_of};
     ghost use Rattle.rdl_seen.specs.Meaning.{nothing_around, node_at};
     ghost use Rattle.rdl_seen.specs.Node.{body_of};
 
-    /// That of a description, whose instances are laid out so.
+    /// That of a description, whose instances are laid out so. What it has at the address of a component is that component's node.
     pub fn of<L: Lays>(
         alloc: Global,
         lay: &L,
         description: &Description,
     ) -> Result<Tree, AllocError>
-        ensures { IfOk result (λ tree. tree ≡ (body_of L.laying nothing_around description.now.items).slots) }
+        ensures slots { IfOk result (λ tree. tree ≡ (body_of L.laying nothing_around description.now.items).slots) }
+        ensures nodes { IfOk result (λ tree. HoldsNodes L.laying description.now.items tree) }
     {
         let mut around = Around::nothing(alloc);
         let walked = walk(alloc, lay, &mut around, &description.items)?;
