@@ -54,11 +54,11 @@ neither : (a b : Bool) → a ≡ false → b ≡ false → (a || b) ≡ false
 neither true b e g = absurd cc
 neither false b e g = g
 
-two_true : (a b : Bool) → (a && b) ≡ true → (a ≡ true) × (b ≡ true)
+pub two_true : (a b : Bool) → (a && b) ≡ true → (a ≡ true) × (b ≡ true)
 two_true true b e = (refl, e)
 two_true false b e = absurd cc
 
-and_true : (a b : Bool) → a ≡ true → b ≡ true → (a && b) ≡ true
+pub and_true : (a b : Bool) → a ≡ true → b ≡ true → (a && b) ≡ true
 and_true true b e g = g
 and_true false b e g = absurd cc
 
@@ -66,7 +66,7 @@ not_false : (a : Bool) → a ≡ false → not a ≡ true
 not_false true e = absurd cc
 not_false false e = refl
 
-was_false : (a : Bool) → not a ≡ true → a ≡ false
+pub was_false : (a : Bool) → not a ≡ true → a ≡ false
 was_false true e = absurd cc
 was_false false e = refl
 

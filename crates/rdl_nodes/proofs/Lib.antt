@@ -6,6 +6,7 @@ pub mod Instances
 pub mod Kept
 pub mod Paths
 pub mod SideBySide
+pub mod StayClean
 pub mod TakenOver
 pub mod Targets
 pub mod Walks

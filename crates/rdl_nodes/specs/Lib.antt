@@ -17,6 +17,7 @@ pub mod KeptNode
 pub mod Part
 pub mod Parts
 pub mod SideBySide
+pub mod StayClean
 pub mod TakenOver
 pub mod Targets
 pub mod View

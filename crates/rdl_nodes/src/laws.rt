@@ -1,6 +1,7 @@
 //! What holds of a body and of what it was. Nothing here does anything when it runs.
 ghost use Rattle.rdl_nodes.specs.Alone.{CleanStandAlone, ClashesAreTurned, StandsAloneByItems, NoneClash, StandsAloneStill};
 ghost use Rattle.rdl_nodes.specs.SideBySide.{NoMoreDiffersAlong, NoMoreDiffersBefore};
+ghost use Rattle.rdl_nodes.specs.StayClean.{CleanOneByOne, EachIsClean, CleanItemsStayClean};
 ghost use Rattle.rdl_nodes.specs.TakenOver.{SameItemsStay, SlotsAreTakenOver};
 
 /// Where marks describe what became of a body, and an alert tells of each item that came, went or was moved, and of what differs behind
@@ -28,4 +29,13 @@ pub fn items_stand_alone()
     ensures items { StandsAloneByItems }
     ensures none { NoneClash }
     ensures still { StandsAloneStill }
+{}
+
+/// The items of a body have no fault, nor any inside them, exactly where each has none by what stands before it. One that is as it was
+/// still has none if it had none, listens to nothing of what differs before it, and clashes with none that came or was changed; a dynamic
+/// assignment, if its target leads to a component of the same kind.
+pub fn clean_items_stay_clean()
+    ensures items { CleanOneByOne }
+    ensures each { EachIsClean }
+    ensures stay { CleanItemsStayClean }
 {}
