@@ -4,6 +4,7 @@ pub mod Defined
 pub mod FromBehind
 pub mod Instances
 pub mod Kept
+pub mod Onward
 pub mod Paths
 pub mod SideBySide
 pub mod StayClean

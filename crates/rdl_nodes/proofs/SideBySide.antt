@@ -155,7 +155,7 @@ one_of zero b e = inr (omega (arith, e))
 one_of (suc zero) b e = inl refl
 one_of (suc (suc a)) b e = absurd (omega (arith, e))
 
-module _ (lay : Laying) (x : Alert) (m : Marks) (old now : Items) (a b : Around) (described : Describes m old now) (ordered : AreInOrder m) (tells : TellsOfAll lay x m old now a b) where
+module _ (lay : Laying) (x : Alert) (m : Marks) (old now : Items) (a b : Around) (to : ℕ) (described : Describes m old now) (ordered : AreInOrder m) (tells : TellsOfAll lay x m old now a b to) where
   abbrev es : List Trace
   es = list_of m.traces
 
@@ -222,14 +222,14 @@ module _ (lay : Laying) (x : Alert) (m : Marks) (old now : Items) (a b : Around)
       (items_come_and_go lay x (around_before lay (place_beside m i) a old) (around_before lay i b now) y tell but).0)
 
   -- behind one that stayed in order
-  stays : (i n : ℕ) (firsts : Firsts) (inside : Marks) (y : Item) → IsItem i now y → trace_of m i ≡ Some (old_item n firsts inside) → firsts.is_moved ≡ false
+  stays : (i n : ℕ) (firsts : Firsts) (inside : Marks) (y : Item) → i < to → IsItem i now y → trace_of m i ≡ Some (old_item n firsts inside) → firsts.is_moved ≡ false
       → AgreeBut x (around_before lay (place_beside m i) a old) (around_before lay i b now) → AgreeBut x (around_before lay (suc n) a old) (around_before lay (suc i) b now)
-  stays i n firsts inside y got h stayed but =
+  stays i n firsts inside y l got h stayed but =
       let z = had m old now i n firsts inside y described got h in
       let here = before i n firsts inside h stayed but in
       subst (λ c. AgreeBut x c (around_before lay (suc i) b now)) (sym (stands_behind_item lay a old n z.item z.is))
       (subst (AgreeBut x (behind_item lay (around_before lay n a old) z.item)) (sym (stands_behind_item lay b now i y got))
-      (tells.stayed i n firsts inside z.item y h stayed z.is got here))
+      (tells.stayed i n firsts inside z.item y l h stayed z.is got here))
 
   place_stayed : (i n : ℕ) (firsts : Firsts) (inside : Marks) → trace_of m i ≡ Some (old_item n firsts inside) → firsts.is_moved ≡ false → place_beside m (suc i) ≡ suc n
   place_stayed i n firsts inside h stayed = by (is_told m i (old_item n firsts inside) h).is
@@ -248,9 +248,9 @@ module _ (lay : Laying) (x : Alert) (m : Marks) (old now : Items) (a b : Around)
           let one : m.behind + (suc i - length es) ≡ suc n = omega (arith, l, k) in
           place_behind_all (suc i) (omega (arith, l)) ∙ one
 
-  behind_one : (i : ℕ) (e : Trace) (y : Item) → IsItem i now y → trace_of m i ≡ Some e → AgreeBut x (around_before lay (place_beside m i) a old) (around_before lay i b now)
+  behind_one : (i : ℕ) (e : Trace) (y : Item) → i < to → IsItem i now y → trace_of m i ≡ Some e → AgreeBut x (around_before lay (place_beside m i) a old) (around_before lay i b now)
       → AgreeBut x (around_before lay (place_beside m (suc i)) a old) (around_before lay (suc i) b now)
-  behind_one i new_item y got h but = by (is_told m i new_item h).is
+  behind_one i new_item y l got h but = by (is_told m i new_item h).is
     where
       no_new : (k : ℕ) → same_item k ≡ new_item → ⊥
       no_new k e = cc
@@ -258,7 +258,7 @@ module _ (lay : Laying) (x : Alert) (m : Marks) (old now : Items) (a b : Around)
       by : (slice_get es i ≡ Some new_item) ⊎ ((length es ≤ i) × (same_item (m.behind + (i - length es)) ≡ new_item)) → AgreeBut x (around_before lay (place_beside m (suc i)) a old) (around_before lay (suc i) b now)
       by (inl e) = came i new_item y got e refl (tells.new i y got h) but
       by (inr e) = absurd (no_new (m.behind + (i - length es)) e.1)
-  behind_one i (old_item n firsts inside) y got h but = by firsts.is_moved refl
+  behind_one i (old_item n firsts inside) y l got h but = by firsts.is_moved refl
     where
       unmoved : (k : ℕ) → same_item k ≡ old_item n firsts inside → firsts.is_moved ≡ true → ⊥
       unmoved k e f = let is : firsts.is_moved ≡ false = cc in cc
@@ -272,7 +272,7 @@ module _ (lay : Laying) (x : Alert) (m : Marks) (old now : Items) (a b : Around)
       by : (z : Bool) → firsts.is_moved ≡ z → AgreeBut x (around_before lay (place_beside m (suc i)) a old) (around_before lay (suc i) b now)
       by true f = here f (is_told m i (old_item n firsts inside) h).is
       by false f =
-          subst (λ k. AgreeBut x (around_before lay k a old) (around_before lay (suc i) b now)) (sym (place_stayed i n firsts inside h f)) (stays i n firsts inside y got h f but)
+          subst (λ k. AgreeBut x (around_before lay k a old) (around_before lay (suc i) b now)) (sym (place_stayed i n firsts inside h f)) (stays i n firsts inside y l got h f but)
 
   trace_there : (i : ℕ) → (e : Trace) × (trace_of m i ≡ Some e)
   trace_there i = by (cases_lt i (length es))
@@ -284,20 +284,20 @@ module _ (lay : Laying) (x : Alert) (m : Marks) (old now : Items) (a b : Around)
       by (inl l) = let e = get-some es i l in (e.0, ap pick (lt-ltb i (length es) l) ∙ e.1)
       by (inr l) = (same_item (m.behind + (i - length es)), ap pick (le-ltb i (length es) l))
 
-  along : AgreeBut x a b → (i : ℕ) → i ≤ length (tree.list_of now) → AgreeBut x (around_before lay (place_beside m i) a old) (around_before lay i b now)
-  along but zero l =
+  along : AgreeBut x a b → (i : ℕ) → i ≤ to → i ≤ length (tree.list_of now) → AgreeBut x (around_before lay (place_beside m i) a old) (around_before lay i b now)
+  along but zero up l =
       let first : place_beside m 0 ≡ 0 = place_within 0 (omega arith) in
       subst (λ k. AgreeBut x (around_before lay k a old) (around_before lay 0 b now)) (sym first)
       (subst (λ c. AgreeBut x c (around_before lay 0 b now)) (sym (before_none lay a old)) (subst (AgreeBut x a) (sym (before_none lay b now)) but))
-  along but (suc i) l =
+  along but (suc i) up l =
       let y = get-some (tree.list_of now) i (omega (arith, l)) in
       let e = trace_there i in
-      behind_one i e.0 y.0 y.1 e.1 (along but i (omega (arith, l)))
+      behind_one i e.0 y.0 (omega (arith, up)) y.1 e.1 (along but i (omega (arith, up)) (omega (arith, l)))
 
 pub no_more_differs_along : NoMoreDiffersAlong
-no_more_differs_along lay x m old now a b described ordered tells but i l = along lay x m old now a b described ordered tells but i l
+no_more_differs_along lay x m old now a b to described ordered tells but i up l = along lay x m old now a b to described ordered tells but i up l
 
 pub no_more_differs_before : NoMoreDiffersBefore
-no_more_differs_before lay x m old now a b described ordered tells but i n firsts inside y got h stayed =
-    before lay x m old now a b described ordered tells i n firsts inside h stayed
-    (along lay x m old now a b described ordered tells but i (let l = next_within (tree.list_of now) i y got in omega (arith, l)))
+no_more_differs_before lay x m old now a b to described ordered tells but i n firsts inside y up got h stayed =
+    before lay x m old now a b to described ordered tells i n firsts inside h stayed
+    (along lay x m old now a b to described ordered tells but i up (let l = next_within (tree.list_of now) i y got in omega (arith, l)))

@@ -249,9 +249,9 @@ module _ (lay : Laying) (x : Alert) (around : Option Kind) (old now : Items) (a 
       (λ j. is_none (dynamic_fault (alone j) (property_of p) v (sym leads j))) ∙ e
 
 pub clean_items_stay_clean : CleanItemsStayClean
-clean_items_stay_clean lay x m old now a b around described ordered tells but clean i n y got h deaf leads others =
+clean_items_stay_clean lay x m old now a b around to described ordered tells but clean i n y up got h deaf leads others =
     let was = same_items_stay m old now i n y described got h in
-    let before = no_more_differs_before lay x m old now a b described ordered tells but i n no_firsts no_marks y got h refl in
+    let before = no_more_differs_before lay x m old now a b to described ordered tells but i n no_firsts no_marks y up got h refl in
     item_stays lay x around old now (around_before lay n a old) (around_before lay i b now) (instances_before lay n a no_instances old) (instances_before lay i b no_instances now) before n i y
     (clean_stand_alone lay a around no_instances old clean n y was)
     (stands_alone_still m old now described (clean_stand_alone lay a around no_instances old clean) i n y got h others) deaf leads (each_is_clean lay a around old clean n y was)

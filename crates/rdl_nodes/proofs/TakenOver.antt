@@ -60,9 +60,9 @@ same_items_stay m old now i n y d got h = by (is_told m i (same_item n) h).is
         ∙ (sym (get_drop (tree.list_of old) m.behind (i - length es)) ∙ (sym here ∙ (ap (slice_get (tree.list_of now)) at ∙ got)))
 
 pub slots_are_taken_over : SlotsAreTakenOver
-slots_are_taken_over lay x m old now a b described ordered tells but i n y got h deaf =
+slots_are_taken_over lay x m old now a b to described ordered tells but i n y up got h deaf =
     let was = same_items_stay m old now i n y described got h in
-    let before = no_more_differs_before lay x m old now a b described ordered tells but i n no_firsts no_marks y got h refl in
+    let before = no_more_differs_before lay x m old now a b to described ordered tells but i n no_firsts no_marks y up got h refl in
     let stays =
     deaf_slots_stay lay x (around_before lay n a old) (around_before lay i b now) (instances_before lay n a no_instances old) (instances_before lay i b no_instances now) y before deaf in
     slots_are_of_items lay b no_instances now i y got ∙ (ap Some stays ∙ sym (slots_are_of_items lay a no_instances old n y was))

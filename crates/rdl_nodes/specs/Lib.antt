@@ -14,6 +14,7 @@ pub mod HeldWalked
 pub mod HoldsNodes
 pub mod InsideFalls
 pub mod KeptNode
+pub mod Onward
 pub mod Part
 pub mod Parts
 pub mod SideBySide

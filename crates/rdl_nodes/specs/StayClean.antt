@@ -1,6 +1,6 @@
 -- The items of a body have a fault one by one, and those that stayed still have none.
 -- own: SystemRDL 2.0 has no edits.
-use Rattle.std.specs.Prelude.{◌≡◌, ℕ, ◌<◌, ◌&&◌, Bool, true, false, List, Option, Some, ◌⊎◌}
+use Rattle.std.specs.Prelude.{◌≡◌, ℕ, ◌<◌, ◌≤◌, ◌&&◌, Bool, true, false, List, Option, Some, ◌⊎◌}
 use Rattle.std.specs.Option.{is_none}
 use Rattle.rdl_tree.specs.Items.{Items, named, own, default, dynamic, define, anonymous}
 use Rattle.rdl_tree.specs.declared.description.Item.{Item}
@@ -55,9 +55,9 @@ LeadsToSameKind m n (Dynamic t p v) = kind_in t m ≡ kind_in t n
 -- clashes with none before it but those that are as they were.
 abbrev pub CleanItemsStayClean : Type 0
 CleanItemsStayClean =
-    (lay : Laying) (x : Alert) (m : Marks) (old now : Items) (a b : Around) (around : Option Kind) → Describes m old now → AreInOrder m → TellsOfAll lay x m old now a b → AgreeBut x a b
+    (lay : Laying) (x : Alert) (m : Marks) (old now : Items) (a b : Around) (around : Option Kind) (to : ℕ) → Describes m old now → AreInOrder m → TellsOfAll lay x m old now a b to → AgreeBut x a b
     → are_clean lay a around old 0 no_instances old ≡ true
-    → (i n : ℕ) (y : Item) → IsItem i now y → IsAsItWas m i n
+    → (i n : ℕ) (y : Item) → i ≤ to → IsItem i now y → IsAsItWas m i n
     → IsDeaf lay x (around_before lay n a old) (instances_before lay n a no_instances old) (instances_before lay i b no_instances now) y
     → LeadsToSameKind (instances_before lay n a no_instances old) (instances_before lay i b no_instances now) y
     → ((j : ℕ) (z : Item) → j < i → IsItem j now z → ((k : ℕ) × IsAsItWas m j k) ⊎ (clashes y z ≡ false))

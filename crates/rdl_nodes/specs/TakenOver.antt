@@ -1,6 +1,6 @@
 -- What of a body's slots is taken over from what the body was.
 -- own: SystemRDL 2.0 has no edits.
-use Rattle.std.specs.Prelude.{◌≡◌, ℕ, Some}
+use Rattle.std.specs.Prelude.{◌≡◌, ℕ, ◌≤◌, Some}
 use Rattle.rdl_tree.specs.Items.{Items}
 use Rattle.rdl_tree.specs.declared.description.Item.{Item}
 use Rattle.rdl_marks.specs.Describes.{Describes, IsItem}
@@ -28,7 +28,7 @@ SameItemsStay = (m : Marks) (old now : Items) (i n : ℕ) (y : Item) → Describ
 -- its slot is the old one, if it listens to nothing that the alert tells of
 abbrev pub SlotsAreTakenOver : Type 0
 SlotsAreTakenOver =
-    (lay : Laying) (x : Alert) (m : Marks) (old now : Items) (a b : Around) → Describes m old now → AreInOrder m → TellsOfAll lay x m old now a b → AgreeBut x a b
-    → (i n : ℕ) (y : Item) → IsItem i now y → IsAsItWas m i n
+    (lay : Laying) (x : Alert) (m : Marks) (old now : Items) (a b : Around) (to : ℕ) → Describes m old now → AreInOrder m → TellsOfAll lay x m old now a b to → AgreeBut x a b
+    → (i n : ℕ) (y : Item) → i ≤ to → IsItem i now y → IsAsItWas m i n
     → IsDeaf lay x (around_before lay n a old) (instances_before lay n a no_instances old) (instances_before lay i b no_instances now) y
     → slot_at i (body_of lay b now).slots ≡ slot_at n (body_of lay a old).slots

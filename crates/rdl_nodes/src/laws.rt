@@ -1,15 +1,19 @@
 //! What holds of a body and of what it was. Nothing here does anything when it runs.
 ghost use Rattle.rdl_nodes.specs.Alone.{CleanStandAlone, ClashesAreTurned, StandsAloneByItems, NoneClash, StandsAloneStill};
+ghost use Rattle.rdl_nodes.specs.Onward.{TellsOfOneMore, AlertsGrow};
 ghost use Rattle.rdl_nodes.specs.SideBySide.{NoMoreDiffersAlong, NoMoreDiffersBefore};
 ghost use Rattle.rdl_nodes.specs.StayClean.{CleanOneByOne, EachIsClean, CleanItemsStayClean};
 ghost use Rattle.rdl_nodes.specs.TakenOver.{SameItemsStay, SlotsAreTakenOver};
 
 /// Where marks describe what became of a body, and an alert tells of each item that came, went or was moved, and of what differs behind
 /// those that stayed, no more differs than it tells of between what stands before an item and what stood beside it before: all along
-/// the body, and right before each item that stayed in order.
+/// the body, and right before each item that stayed in order. So it is up to each item by what the alert tells of the items before it;
+/// an alert that tells of more still does.
 pub fn no_more_differs()
     ensures along { NoMoreDiffersAlong }
     ensures before { NoMoreDiffersBefore }
+    ensures one_more { TellsOfOneMore }
+    ensures grow { AlertsGrow }
 {}
 
 /// An item that is as it was, and stands in order, is the old item of its number. Its slot is the old one, if it listens to nothing of
