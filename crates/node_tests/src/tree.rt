@@ -1,0 +1,82 @@
+//! What is kept of maps.
+ghost use Rattle.node_tests.specs.Nowhere.{nowhere};
+
+use crate::assert_holds;
+use rdl_nodes::layouts::{Layout, Layouts};
+use rdl_nodes::lays::Lays;
+use rdl_nodes::parts::Part;
+use rdl_nodes::tree::Tree;
+use rdl_parse::parse::parse;
+use rdl_seen::seen::Seen;
+use rdl_seen::values::Values;
+use rdl_tree::address::Address;
+use rdl_tree::description::Description;
+use rdl_tree::shell::Kind;
+use std::alloc::{AllocError, Global};
+use std::test::Fail;
+
+/// Gives each component no bytes and no spans.
+struct Nowhere;
+
+impl Lays for Nowhere {
+    ghost laying = { nowhere };
+
+    fn lay(
+        &self,
+        alloc: Global,
+        kind: Kind,
+        values: &Values,
+        parts: &[Part],
+    ) -> Result<Layouts, AllocError> {
+        Ok(Layouts::same(Layout::new(0, 0, Vec::new(alloc))))
+    }
+}
+
+fn description(alloc: Global, text: &str) -> Result<Description, &'static str> {
+    match parse(alloc, text) {
+        Ok((description, _)) => Ok(description),
+        Err(_) => Err("spells nothing"),
+    }
+}
+
+fn address(numbers: &[usize]) -> Address {
+    let mut address = Address::new();
+    for number in numbers {
+        if address.len() < Address::MAX_LEN {
+            address.push(*number);
+        }
+    }
+    address
+}
+
+/// What is kept of a component is these: its kind, how many names its longest path has, and whether a body without instances is in it.
+fn is_seen(tree: &Tree, numbers: &[usize], kind: Kind, levels: u8, has_empty: bool) -> bool {
+    match tree.node(&address(numbers)) {
+        Some(kept) => {
+            kept.seen.kind == kind && kept.seen.levels == levels && kept.seen.has_empty == has_empty
+        }
+        None => false,
+    }
+}
+
+fn is_none(tree: &Tree, numbers: &[usize]) -> bool {
+    tree.node(&address(numbers)).is_none()
+}
+
+const MAP: &str =
+    "reg T { field {} f; }; addrmap top { T a; regfile { T b[4]; } r; regfile {} e; };";
+
+#[test]
+fn a_node_is_kept_of_each_component_but_fields_at_their_instance(
+    rt: HostRuntime,
+) -> Result<(), Fail> {
+    let alloc = rt.alloc();
+    let map = description(alloc, MAP)?;
+    let tree = Tree::of(alloc, &Nowhere, &map)?;
+    let are_seen = is_seen(&tree, &[0], Kind::Reg, 1, false)
+        && is_seen(&tree, &[1], Kind::Addrmap, 3, true)
+        && is_seen(&tree, &[1, 1], Kind::Regfile, 2, false);
+    let are_none = is_none(&tree, &[0, 0]) && is_none(&tree, &[1, 0]) && is_none(&tree, &[2]);
+    assert_holds(&rt, are_seen && are_none, "the nodes");
+    Ok(())
+}
