@@ -8,11 +8,13 @@ pub mod Folded
 pub mod Found
 pub mod HeldAround
 pub mod HeldInside
+pub mod HeldScope
 pub mod HeldVerdict
 pub mod HeldWalked
 pub mod InsideFalls
 pub mod KeptNode
 pub mod Part
 pub mod Parts
+pub mod Scopes
 pub mod Targets
 pub mod View

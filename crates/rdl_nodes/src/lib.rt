@@ -12,6 +12,7 @@ pub mod layouts;
 pub mod lays;
 pub mod node;
 pub mod parts;
+pub mod scope;
 pub mod target;
 pub mod tree;
 pub mod verdict;
