@@ -4,5 +4,6 @@ pub mod FromBehind
 pub mod Instances
 pub mod Kept
 pub mod Paths
+pub mod Scopes
 pub mod Targets
 pub mod Walks

@@ -44,6 +44,11 @@ pub record IsHolding (lay : Laying) (h : Holding) : Type 0 where
   pub kept : h.node ≡ node lay (around_places lay h.places) h.kind h.body
   pub places : IsScope lay h.places
 
+-- there is none, or it is one
+abbrev pub AreHeld : Laying → Option Holding → Type 0
+AreHeld lay None = Unit {0}
+AreHeld lay (Some h) = IsHolding lay h
+
 -- what is known of it where it stands
 abbrev pub known_at : Laying → Holding → Known
 known_at lay h = known lay (around_places lay h.places) h.kind h.body

@@ -3,7 +3,9 @@ ghost use Rattle.std.specs.Prelude.{◌≡◌, ◌∷◌, [], option_map, option
 ghost use Rattle.rdl_seen.specs.Meaning.{kept_at};
 ghost use Rattle.rdl_nodes.specs.HeldScope.{place_of, outer_places, places_of, holding_of};
 ghost use Rattle.rdl_nodes.specs.KeptNode.{kept_of};
-ghost use Rattle.rdl_nodes.specs.Scopes.{definition, last_type, find_type};
+ghost use Rattle.rdl_nodes.specs.Scopes.{around_places, IsScope, AreHeld, known_at, definition, last_type, find_type};
+ghost use Rattle.rdl_scope.specs.Closed.{lookup};
+ghost use Rattle.rdl_seen.specs.Layouts.{Laying};
 ghost use Rattle.rdl_nodes.specs.View.{slots_of};
 ghost use Rattle.std.specs.Borrow.{Bor};
 ghost use Rattle.rdl_tree.specs.declared.description.Component.{Component};
@@ -121,15 +123,24 @@ impl<'s> Scope<'s> {
     }
 
     /// The nearest definition of this name: the last one before it in its body, or else in those around it.
-    pub fn find_type(&self, name: &Name) -> Option<Holder<'s>>
-        ensures found { option_map holding_of result ≡ find_type name.now (places_of self.now) }
+    fn nearest_type(&self, name: &Name) -> Option<Holder<'s>>
+        ensures { option_map holding_of result ≡ find_type name.now (places_of self.now) }
     {
         match self.last_type(name) {
             Some(found) => Some(found),
             None => match self.outer {
                 Outer::Nowhere => None,
-                Outer::In(outer) => outer.find_type(name),
+                Outer::In(outer) => outer.nearest_type(name),
             },
         }
+    }
+
+    /// The type of this name that the item at this place sees.
+    pub fn find_type(&self, name: &Name) -> Option<Holder<'s>>
+        ensures found { option_map holding_of result ≡ find_type name.now (places_of self.now) }
+        ensures known { (lay : Laying) → IsScope lay (places_of self.now) → option_map (known_at lay) (option_map holding_of result) ≡ lookup name.now (around_places lay (places_of self.now)).types }
+        ensures held { (lay : Laying) → IsScope lay (places_of self.now) → AreHeld lay (option_map holding_of result) }
+    {
+        self.nearest_type(name)
     }
 }
