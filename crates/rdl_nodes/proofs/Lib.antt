@@ -4,6 +4,7 @@ pub mod FromBehind
 pub mod Instances
 pub mod Kept
 pub mod Paths
+pub mod Reached
 pub mod Scopes
 pub mod Targets
 pub mod Walks

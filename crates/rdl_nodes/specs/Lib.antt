@@ -15,6 +15,7 @@ pub mod InsideFalls
 pub mod KeptNode
 pub mod Part
 pub mod Parts
+pub mod Reached
 pub mod Scopes
 pub mod Targets
 pub mod View

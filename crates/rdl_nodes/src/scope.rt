@@ -1,7 +1,8 @@
 //! What a body sees around it, told by bodies and slots alone, and looked up when it is asked.
 ghost use Rattle.std.specs.Prelude.{◌≡◌, ◌∷◌, [], option_map, option_copied};
 ghost use Rattle.rdl_seen.specs.Meaning.{kept_at};
-ghost use Rattle.rdl_nodes.specs.HeldScope.{place_of, outer_places, places_of, holding_of};
+ghost use Rattle.rdl_nodes.specs.HeldScope.{place_of, outer_places, places_of, holding_of, found_of};
+ghost use Rattle.rdl_nodes.specs.Reached.{count_of, count_before, component_of, instance_named, find_before, found_at, IsFoundHeld};
 ghost use Rattle.rdl_nodes.specs.KeptNode.{kept_of};
 ghost use Rattle.rdl_nodes.specs.Scopes.{around_places, IsScope, AreHeld, known_at, definition, last_type, find_type};
 ghost use Rattle.rdl_scope.specs.Closed.{lookup};
@@ -13,7 +14,7 @@ ghost use Rattle.rdl_tree.specs.declared.description.Component.{Component};
 use crate::node::{Kept, Slot};
 use rdl_text::is_same;
 use rdl_text::name::Name;
-use rdl_tree::description::{Body, Component, Item};
+use rdl_tree::description::{Body, Component, Item, Of};
 
 /// The place of an item in a body. It has the body, the slots of the items before this one, and the place of the item that holds the body.
 #[cycle(scope)]
@@ -142,5 +143,88 @@ impl<'s> Scope<'s> {
         ensures held { (lay : Laying) → IsScope lay (places_of self.now) → AreHeld lay (option_map holding_of result) }
     {
         self.nearest_type(name)
+    }
+}
+
+/// An instance that is found: how many stand before it, and its component, if that is known and no field that is written there.
+#[derive(Clone, Copy)]
+pub struct FoundInstance<'s> {
+    pub number: usize,
+    pub holder: Option<Holder<'s>>,
+}
+
+/// What an item is an instance of, if it is one of this name.
+fn instance<'s>(item: Option<&'s Item>, name: &Name) -> Option<&'s Of>
+    ensures { option_copied result ≡ instance_named name.now (option_copied item.entry) }
+{
+    match item {
+        Some(Item::Instance(shell, of)) => {
+            if is_same(shell.name().as_str(), name.as_str()) {
+                Some(of)
+            } else {
+                None
+            }
+        }
+        _ => None,
+    }
+}
+
+/// How many instances the item is.
+fn count_of(item: Option<&Item>) -> usize
+    ensures { result ≡ count_of (option_copied item.entry) }
+{
+    match item {
+        Some(Item::Instance(_, _)) => 1,
+        _ => 0,
+    }
+}
+
+/// How many instances are among the first items of a body.
+fn count_before(body: &Body, number: usize) -> usize
+    ensures { result ≡ count_before number body.now }
+{
+    let mut count = 0;
+    for i in 0..number {
+        count += count_of(body.item(i));
+    }
+    count
+}
+
+impl<'s> Scope<'s> {
+    /// The place of the item of this number in the same body.
+    fn at(&self, number: usize) -> Scope<'s>
+        ensures { places_of result ≡ record (place_of self.now) { number = number } ∷ outer_places self.now.outer }
+    {
+        Scope {
+            body: self.body,
+            number,
+            slots: self.slots,
+            outer: self.outer,
+        }
+    }
+
+    /// What the instance at this place is an instance of.
+    fn component(&self, of: &'s Of) -> Option<Holder<'s>>
+        ensures { option_map holding_of result ≡ component_of self.now.number (place_of self.now) (outer_places self.now.outer) of.now }
+    {
+        match of {
+            Of::Named(name) => self.find_type(name),
+            Of::Anonymous(component) => match kept_slot(self.slots, self.number) {
+                Some(kept) => Some(Holder { component, kept, scope: self.at(self.number) }),
+                None => None,
+            },
+        }
+    }
+
+    /// The last instance of this name that stands before it in its body.
+    fn last_instance(&self, name: &Name) -> Option<FoundInstance<'s>>
+        ensures { option_map found_of result ≡ find_before name.now self.now.number (place_of self.now) (outer_places self.now.outer) }
+    {
+        for number in (0..self.number).rev() {
+            if let Some(of) = instance(self.body.item(number), name) {
+                return Some(FoundInstance { number: count_before(self.body, number), holder: self.at(number).component(of) });
+            }
+        }
+        None
     }
 }
