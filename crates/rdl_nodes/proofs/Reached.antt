@@ -9,6 +9,7 @@ use Rattle.rdl_tree.specs.declared.description.Item.{Item}
 use Rattle.rdl_tree.specs.declared.description.Item.TheVariants.{Define, Instance, Own, Default, Dynamic}
 use Rattle.rdl_tree.specs.declared.description.Of.{Of}
 use Rattle.rdl_tree.specs.declared.description.Of.TheVariants.{Named, Anonymous}
+use Rattle.rdl_tree.specs.declared.shell.Shell.{Shell}
 use Rattle.rdl_tree.specs.declared.shell.Kind.{Kind}
 use Rattle.rdl_tree.specs.declared.shell.Kind.TheVariants.{Addrmap, Regfile, Reg, Field}
 use Rattle.rdl_scope.specs.Closed.{lookup}
@@ -111,3 +112,154 @@ counted lay a t (suc i) = by (counted lay a t i) (slice_get (list_of t) i) refl
         let same = ap how_many (one_behind lay a no_instances t i x got) in
         let more = count_behind lay (around_before lay i a t) x (instances_before lay i a no_instances t) in
         same ∙ more ∙ ap (λ n. n + count_of (Some x)) before
+
+-- ---- What an instance is an instance of.
+
+within_of_known : (lay : Laying) (o : Option Holding) → within_at lay o ≡ within_type (option_map (known_at lay) o)
+within_of_known lay None = refl
+within_of_known lay (Some h) = refl
+
+-- a component that is written there, by what is kept of it
+part_found : (lay : Laying) (i : ℕ) (p : Place) (ps : List Place) (c : Component) (k : Kind) → c.kind ≡ k
+    → kept_at i p.slots ≡ part_node lay (around_before lay i (around_places lay ps) p.body) k c.body
+    → within_at lay (holding_at i p ps c) ≡ part_within lay (around_before lay i (around_places lay ps) p.body) k c.body
+part_found lay i p ps c Addrmap e kept = by (kept_at i p.slots) kept
+  where
+    by : (o : Option Node) → o ≡ Some (node lay (around_before lay i (around_places lay ps) p.body) Addrmap c.body)
+        → within_at lay (option_map (λ (n : Node). let z : Holding = record { kind = c.kind; body = c.body; node = n; places = record p { number = i } ∷ ps } in z) o)
+        ≡ (known lay (around_before lay i (around_places lay ps) p.body) Addrmap c.body).within
+    by None same = absurd cc
+    by (Some n) same = ap (λ k. (known lay (around_before lay i (around_places lay ps) p.body) k c.body).within) e
+part_found lay i p ps c Regfile e kept = by (kept_at i p.slots) kept
+  where
+    by : (o : Option Node) → o ≡ Some (node lay (around_before lay i (around_places lay ps) p.body) Regfile c.body)
+        → within_at lay (option_map (λ (n : Node). let z : Holding = record { kind = c.kind; body = c.body; node = n; places = record p { number = i } ∷ ps } in z) o)
+        ≡ (known lay (around_before lay i (around_places lay ps) p.body) Regfile c.body).within
+    by None same = absurd cc
+    by (Some n) same = ap (λ k. (known lay (around_before lay i (around_places lay ps) p.body) k c.body).within) e
+part_found lay i p ps c Reg e kept = by (kept_at i p.slots) kept
+  where
+    by : (o : Option Node) → o ≡ Some (node lay (around_before lay i (around_places lay ps) p.body) Reg c.body)
+        → within_at lay (option_map (λ (n : Node). let z : Holding = record { kind = c.kind; body = c.body; node = n; places = record p { number = i } ∷ ps } in z) o)
+        ≡ (known lay (around_before lay i (around_places lay ps) p.body) Reg c.body).within
+    by None same = absurd cc
+    by (Some n) same = ap (λ k. (known lay (around_before lay i (around_places lay ps) p.body) k c.body).within) e
+part_found lay i p ps c Field e kept =
+    ap (λ (o : Option Node). within_at lay (option_map (λ (n : Node). let z : Holding = record { kind = c.kind; body = c.body; node = n; places = record p { number = i } ∷ ps } in z) o)) kept
+
+-- the same place with fewer items before it
+fewer : (lay : Laying) (i : ℕ) (p : Place) (ps : List Place) → HasKept lay (around_places lay ps) p → IsScope lay ps → i < p.number → IsScope lay (record p { number = i } ∷ ps)
+fewer lay i p ps kept is h = (record { kept = λ j l. kept.kept j (omega (arith, l, h)) }, is)
+
+component_found : (lay : Laying) (i : ℕ) (p : Place) (ps : List Place) (s : Shell) (o : Of) → HasKept lay (around_places lay ps) p → IsScope lay ps → i < p.number
+    → slice_get (list_of p.body) i ≡ Some (Instance s o)
+    → within_at lay (component_of i p ps o) ≡ of_within lay (around_before lay i (around_places lay ps) p.body) o
+component_found lay i p ps s (Named t) kept is h got =
+    within_of_known lay (find_type t (record p { number = i } ∷ ps)) ∙ ap within_type (type_known lay t (record p { number = i } ∷ ps) (fewer lay i p ps kept is h))
+component_found lay i p ps s (Anonymous c) kept is h got =
+    part_found lay i p ps c c.kind refl (kept.kept i h ∙ kept_here lay i (around_places lay ps) no_instances p.body (Instance s (Anonymous c)) got)
+
+-- ---- And it is held.
+
+part_held : (lay : Laying) (i : ℕ) (p : Place) (ps : List Place) (x : Item) (c : Component) (k : Kind) → c.kind ≡ k
+    → HasKept lay (around_places lay ps) p → IsScope lay ps → i < p.number → slice_get (list_of p.body) i ≡ Some x
+    → own_node lay (around_before lay i (around_places lay ps) p.body) x ≡ part_node lay (around_before lay i (around_places lay ps) p.body) k c.body
+    → AreHeld lay (holding_at i p ps c)
+part_held lay i p ps x c Addrmap e kept is h got one =
+    held_at lay i p ps x c kept is h got (one ∙ ap (λ (k : Kind). Some (node lay (around_before lay i (around_places lay ps) p.body) k c.body)) (sym e))
+part_held lay i p ps x c Regfile e kept is h got one =
+    held_at lay i p ps x c kept is h got (one ∙ ap (λ (k : Kind). Some (node lay (around_before lay i (around_places lay ps) p.body) k c.body)) (sym e))
+part_held lay i p ps x c Reg e kept is h got one =
+    held_at lay i p ps x c kept is h got (one ∙ ap (λ (k : Kind). Some (node lay (around_before lay i (around_places lay ps) p.body) k c.body)) (sym e))
+part_held lay i p ps x c Field e kept is h got one =
+    let none : kept_at i p.slots ≡ None = kept.kept i h ∙ kept_here lay i (around_places lay ps) no_instances p.body x got ∙ one in
+    subst (λ (o : Option Node). AreHeld lay (option_map (λ (n : Node). let z : Holding = record { kind = c.kind; body = c.body; node = n; places = record p { number = i } ∷ ps } in z) o)) (sym none) tt
+
+component_held : (lay : Laying) (i : ℕ) (p : Place) (ps : List Place) (s : Shell) (o : Of) → HasKept lay (around_places lay ps) p → IsScope lay ps → i < p.number
+    → slice_get (list_of p.body) i ≡ Some (Instance s o) → AreHeld lay (component_of i p ps o)
+component_held lay i p ps s (Named t) kept is h got = type_held lay t (record p { number = i } ∷ ps) (fewer lay i p ps kept is h)
+component_held lay i p ps s (Anonymous c) kept is h got = part_held lay i p ps (Instance s (Anonymous c)) c c.kind refl kept is h got refl
+
+-- ---- What a name finds.
+
+-- what is found at an item, if it is an instance of the name, or else before it
+abbrev step : List ℕ → ℕ → Place → List Place → Option Of → Option FoundAt
+step name i p ps d =
+    elim d [ None ↦ find_before name i p ps | Some of ↦ Some (record { number = count_before i p.body; holding = component_of i p ps of }) ]
+
+-- what the name finds with this item behind these instances
+found_behind : (lay : Laying) (b : Around) (name : List ℕ) (m : Inside) (s : Shell) (o : Of) (v : Bool) → bytes_eq s.name name ≡ v
+    → find name (instances_behind lay b (Instance s o) m)
+    ≡ elim v [ true ↦ Some (record { number = how_many m; within = of_within lay b o }) | false ↦ find name m ]
+found_behind lay b name m s o true e =
+    ap (λ (v : Bool). if v then Some (let f : Found = record { number = how_many m; within = of_within lay b o } in f) else find name m) e
+found_behind lay b name m s o false e =
+    ap (λ (v : Bool). if v then Some (let f : Found = record { number = how_many m; within = of_within lay b o } in f) else find name m) e
+
+at_item : (lay : Laying) (name : List ℕ) (i : ℕ) (p : Place) (ps : List Place) (x : Item) → HasKept lay (around_places lay ps) p → IsScope lay ps → i < p.number
+    → slice_get (list_of p.body) i ≡ Some x
+    → find name (instances_before lay i (around_places lay ps) no_instances p.body) ≡ option_map (found_at lay) (find_before name i p ps)
+    → find name (instances_behind lay (around_before lay i (around_places lay ps) p.body) x (instances_before lay i (around_places lay ps) no_instances p.body))
+    ≡ option_map (found_at lay) (step name i p ps (instance_of name x))
+at_item lay name i p ps (Define n c) kept is h got before = before
+at_item lay name i p ps (Own q v) kept is h got before = before
+at_item lay name i p ps (Default q v) kept is h got before = before
+at_item lay name i p ps (Dynamic t q v) kept is h got before = before
+at_item lay name i p ps (Instance s o) kept is h got before = by (bytes_eq s.name name) refl
+  where
+    by : (v : Bool) → bytes_eq s.name name ≡ v
+        → find name (instances_behind lay (around_before lay i (around_places lay ps) p.body) (Instance s o) (instances_before lay i (around_places lay ps) no_instances p.body))
+        ≡ option_map (found_at lay) (step name i p ps (if v then Some o else None))
+    by true e =
+        found_behind lay (around_before lay i (around_places lay ps) p.body) name (instances_before lay i (around_places lay ps) no_instances p.body) s o true e
+        ∙ (λ j. Some (record { number = counted lay (around_places lay ps) p.body i j; within = sym (component_found lay i p ps s o kept is h got) j }))
+    by false e =
+        found_behind lay (around_before lay i (around_places lay ps) p.body) name (instances_before lay i (around_places lay ps) no_instances p.body) s o false e ∙ before
+
+pub instance_found : (lay : Laying) (name : List ℕ) (i : ℕ) (p : Place) (ps : List Place) → HasKept lay (around_places lay ps) p → IsScope lay ps → i ≤ p.number
+    → find name (instances_before lay i (around_places lay ps) no_instances p.body) ≡ option_map (found_at lay) (find_before name i p ps)
+instance_found lay name zero p ps kept is h = ap (find name) (none_before lay (around_places lay ps) no_instances p.body)
+instance_found lay name (suc i) p ps kept is h = by (instance_found lay name i p ps kept is (omega (arith, h))) (slice_get (list_of p.body) i) refl
+  where
+    by : find name (instances_before lay i (around_places lay ps) no_instances p.body) ≡ option_map (found_at lay) (find_before name i p ps)
+        → (o : Option Item) → slice_get (list_of p.body) i ≡ o
+        → find name (instances_before lay (suc i) (around_places lay ps) no_instances p.body) ≡ option_map (found_at lay) (step name i p ps (instance_named name o))
+    by before None got = ap (find name) (past_all lay (around_places lay ps) no_instances p.body i got) ∙ before
+    by before (Some x) got =
+        ap (find name) (one_behind lay (around_places lay ps) no_instances p.body i x got) ∙ at_item lay name i p ps x kept is (omega (arith, h)) got before
+
+-- ---- And what is found is held.
+
+item_held : (lay : Laying) (name : List ℕ) (i : ℕ) (p : Place) (ps : List Place) (x : Item) → HasKept lay (around_places lay ps) p → IsScope lay ps → i < p.number
+    → slice_get (list_of p.body) i ≡ Some x → IsFoundHeld lay (find_before name i p ps) → IsFoundHeld lay (step name i p ps (instance_of name x))
+item_held lay name i p ps (Define n c) kept is h got before = before
+item_held lay name i p ps (Own q v) kept is h got before = before
+item_held lay name i p ps (Default q v) kept is h got before = before
+item_held lay name i p ps (Dynamic t q v) kept is h got before = before
+item_held lay name i p ps (Instance s o) kept is h got before =
+    elim (bytes_eq s.name name) as (λ (v : Bool). IsFoundHeld lay (step name i p ps (if v then Some o else None))) [
+    | true ↦ component_held lay i p ps s o kept is h got
+    | false ↦ before
+    ]
+
+pub instance_held : (lay : Laying) (name : List ℕ) (i : ℕ) (p : Place) (ps : List Place) → HasKept lay (around_places lay ps) p → IsScope lay ps → i ≤ p.number
+    → IsFoundHeld lay (find_before name i p ps)
+instance_held lay name zero p ps kept is h = tt
+instance_held lay name (suc i) p ps kept is h = by (instance_held lay name i p ps kept is (omega (arith, h))) (slice_get (list_of p.body) i) refl
+  where
+    by : IsFoundHeld lay (find_before name i p ps) → (o : Option Item) → slice_get (list_of p.body) i ≡ o → IsFoundHeld lay (step name i p ps (instance_named name o))
+    by before None got = before
+    by before (Some x) got = item_held lay name i p ps x kept is (omega (arith, h)) got before
+
+-- ---- Inside a component.
+
+pub place_inside_kept : (lay : Laying) (h : Holding) → IsHolding lay h → HasKept lay (around_places lay h.places) (place_inside h)
+place_inside_kept lay h is = record { kept = λ i l. ap (λ (n : Node). kept_at i n.slots) is.kept }
+
+pub inside_found : (lay : Laying) (name : List ℕ) (h : Holding) → IsHolding lay h → find name (known_at lay h).within.inside ≡ option_map (found_at lay) (find_inside name h)
+inside_found lay name h is =
+    ap (find name) (all_before lay (around_places lay h.places) no_instances h.body)
+    ∙ instance_found lay name (length (list_of h.body)) (place_inside h) h.places (place_inside_kept lay h is) is.places (omega arith)
+
+pub inside_held : (lay : Laying) (name : List ℕ) (h : Holding) → IsHolding lay h → IsFoundHeld lay (find_inside name h)
+inside_held lay name h is = instance_held lay name (length (list_of h.body)) (place_inside h) h.places (place_inside_kept lay h is) is.places (omega arith)

@@ -8,10 +8,10 @@ use Rattle.rdl_tree.specs.declared.description.Item.{Item}
 use Rattle.rdl_tree.specs.declared.description.Item.TheVariants.{Define, Instance, Own, Default, Dynamic}
 use Rattle.rdl_tree.specs.declared.description.Of.{Of}
 use Rattle.rdl_tree.specs.declared.description.Of.TheVariants.{Named, Anonymous}
-use Rattle.rdl_seen.specs.Inside.{Inside, Within, nothing_within, Found}
+use Rattle.rdl_seen.specs.Inside.{Inside, no_instances, Within, nothing_within, Found}
 use Rattle.rdl_seen.specs.Layouts.{Laying}
 use Rattle.rdl_seen.specs.Node.{Around, known, after_plain, after_holder, plain_instances, holder_instances}
-use Rattle.rdl_nodes.specs.Scopes.{Place, Holding, AreHeld, known_at, holding_at, find_type}
+use Rattle.rdl_nodes.specs.Scopes.{Place, around_places, Holding, AreHeld, known_at, holding_at, find_type}
 
 -- ---- As all of it is seen.
 
@@ -22,6 +22,11 @@ instances_before lay (suc i) a m no_items = m
 instances_before lay (suc i) a m (plain p rest) = instances_before lay i (after_plain p a) (plain_instances a p m) rest
 instances_before lay (suc i) a m (holder h body rest) =
     let k = known lay a (holder_kind h) body in instances_before lay i (after_holder h k a) (holder_instances h k m) rest
+
+-- the instances that stand before a place in its body
+abbrev pub instances_at : Laying → List Place → Inside
+instances_at lay [] = no_instances
+instances_at lay (p ∷ ps) = instances_before lay p.number (around_places lay ps) no_instances p.body
 
 -- ---- As it is looked up.
 

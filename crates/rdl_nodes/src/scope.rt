@@ -2,9 +2,10 @@
 ghost use Rattle.std.specs.Prelude.{◌≡◌, ◌∷◌, [], option_map, option_copied};
 ghost use Rattle.rdl_seen.specs.Meaning.{kept_at};
 ghost use Rattle.rdl_nodes.specs.HeldScope.{place_of, outer_places, places_of, holding_of, found_of};
-ghost use Rattle.rdl_nodes.specs.Reached.{count_of, count_before, component_of, instance_named, find_before, found_at, IsFoundHeld};
+ghost use Rattle.rdl_nodes.specs.Reached.{count_of, count_before, component_of, instance_named, find_before, instances_at, place_inside, find_inside, found_at, IsFoundHeld};
+ghost use Rattle.rdl_seen.specs.Inside.{find};
 ghost use Rattle.rdl_nodes.specs.KeptNode.{kept_of};
-ghost use Rattle.rdl_nodes.specs.Scopes.{around_places, IsScope, AreHeld, known_at, definition, last_type, find_type};
+ghost use Rattle.rdl_nodes.specs.Scopes.{around_places, IsScope, IsHolding, AreHeld, known_at, definition, last_type, find_type};
 ghost use Rattle.rdl_scope.specs.Closed.{lookup};
 ghost use Rattle.rdl_seen.specs.Layouts.{Laying};
 ghost use Rattle.rdl_nodes.specs.View.{slots_of};
@@ -226,5 +227,36 @@ impl<'s> Scope<'s> {
             }
         }
         None
+    }
+}
+
+impl<'s> Scope<'s> {
+    /// The last instance of this name that stands before it in its body.
+    pub fn find_instance(&self, name: &Name) -> Option<FoundInstance<'s>>
+        ensures found { option_map found_of result ≡ find_before name.now self.now.number (place_of self.now) (outer_places self.now.outer) }
+        ensures seen { (lay : Laying) → IsScope lay (places_of self.now) → find name.now (instances_at lay (places_of self.now)) ≡ option_map (found_at lay) (option_map found_of result) }
+        ensures held { (lay : Laying) → IsScope lay (places_of self.now) → IsFoundHeld lay (option_map found_of result) }
+    {
+        self.last_instance(name)
+    }
+}
+
+impl<'s> Holder<'s> {
+    /// Behind its items.
+    fn inside(&'s self) -> Scope<'s>
+        ensures { places_of result ≡ place_inside (holding_of self.now) ∷ (holding_of self.now).places }
+    {
+        let body = &self.component.body;
+        Scope::within(&self.scope, body, body.len(), self.kept.node.slots())
+    }
+
+    /// The last instance of this name among its items.
+    pub fn find_instance(&'s self, name: &Name) -> Option<FoundInstance<'s>>
+        ensures found { option_map found_of result ≡ find_inside name.now (holding_of self.now) }
+        ensures seen { (lay : Laying) → IsHolding lay (holding_of self.now) → find name.now (known_at lay (holding_of self.now)).within.inside ≡ option_map (found_at lay) (option_map found_of result) }
+        ensures held { (lay : Laying) → IsHolding lay (holding_of self.now) → IsFoundHeld lay (option_map found_of result) }
+    {
+        let scope = self.inside();
+        scope.last_instance(name)
     }
 }
