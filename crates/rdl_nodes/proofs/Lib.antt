@@ -1,5 +1,6 @@
 pub mod Bodies
 pub mod Defined
+pub mod Ends
 pub mod FromBehind
 pub mod Instances
 pub mod Kept

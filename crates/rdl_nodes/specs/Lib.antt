@@ -3,6 +3,7 @@ pub mod Bodies
 pub mod Codes
 pub mod CoreWith
 pub mod EachMode
+pub mod Ends
 pub mod Falls
 pub mod Folded
 pub mod Found

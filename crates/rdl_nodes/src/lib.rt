@@ -10,6 +10,7 @@ pub mod fields;
 pub mod inside;
 pub mod layouts;
 pub mod lays;
+pub mod leads;
 pub mod node;
 pub mod parts;
 pub mod scope;
