@@ -3,6 +3,7 @@ pub mod Defined
 pub mod Ends
 pub mod FromBehind
 pub mod Instances
+pub mod Judged
 pub mod Kept
 pub mod Paths
 pub mod Reached

@@ -13,6 +13,7 @@ pub mod HeldScope
 pub mod HeldVerdict
 pub mod HeldWalked
 pub mod InsideFalls
+pub mod Judged
 pub mod KeptNode
 pub mod Part
 pub mod Parts

@@ -130,7 +130,7 @@ fn kind_from(names: &[Name], found: &FoundInstance) -> Option<Kind>
 }
 
 /// The same from a place.
-fn kind_at(scope: &Scope, target: &[Name]) -> Option<Kind>
+pub(crate) fn kind_at(scope: &Scope, target: &[Name]) -> Option<Kind>
     ensures { result ≡ kind_at target.now (places_of scope.now) }
 {
     match target {

@@ -5,6 +5,7 @@ pub mod apart;
 pub mod around;
 pub mod contents;
 pub mod core_of;
+pub mod faults;
 pub mod field;
 pub mod fields;
 pub mod inside;

@@ -21,8 +21,8 @@ use rdl_tree::description::{Body, Component, Item, Of};
 #[cycle(scope)]
 #[derive(Clone, Copy)]
 pub struct Scope<'s> {
-    body: &'s Body,
-    number: usize,
+    pub(crate) body: &'s Body,
+    pub(crate) number: usize,
     slots: &'s [Slot],
     outer: Outer<'s>,
 }
