@@ -238,8 +238,8 @@ item_held lay name i p ps (Default q v) kept is h got before = before
 item_held lay name i p ps (Dynamic t q v) kept is h got before = before
 item_held lay name i p ps (Instance s o) kept is h got before =
     elim (bytes_eq s.name name) as (λ (v : Bool). IsFoundHeld lay (step name i p ps (if v then Some o else None))) [
-    | true ↦ component_held lay i p ps s o kept is h got
-    | false ↦ before
+      | true ↦ component_held lay i p ps s o kept is h got
+      | false ↦ before
     ]
 
 pub instance_held : (lay : Laying) (name : List ℕ) (i : ℕ) (p : Place) (ps : List Place) → HasKept lay (around_places lay ps) p → IsScope lay ps → i ≤ p.number

@@ -100,8 +100,8 @@ or_known lay b (Some c) o = Some (known lay b c.kind c.body)
 type_behind : (lay : Laying) (b : Around) (name : List ℕ) (x : Item) → lookup name (behind_item lay b x).types ≡ or_known lay b (defined name x) (lookup name b.types)
 type_behind lay b name (Define n c) =
     elim (bytes_eq n name) as (λ (v : Bool). (if v then Some (known lay b c.kind c.body) else lookup name b.types) ≡ or_known lay b (if v then Some c else None) (lookup name b.types)) [
-    | true ↦ refl
-    | false ↦ refl
+      | true ↦ refl
+      | false ↦ refl
     ]
 type_behind lay b name (Instance s of) = refl
 type_behind lay b name (Own p v) = refl

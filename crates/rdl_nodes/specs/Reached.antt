@@ -71,8 +71,8 @@ abbrev pub find_before : List ℕ → ℕ → Place → List Place → Option Fo
 find_before name zero p ps = None
 find_before name (suc i) p ps =
     elim (instance_named name (slice_get (list_of p.body) i)) [
-    | None ↦ find_before name i p ps
-    | Some of ↦ Some (record { number = count_before i p.body; holding = component_of i p ps of })
+      | None ↦ find_before name i p ps
+      | Some of ↦ Some (record { number = count_before i p.body; holding = component_of i p ps of })
     ]
 
 -- behind the items of a component

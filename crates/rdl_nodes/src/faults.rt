@@ -13,7 +13,9 @@ ghost use Rattle.rdl_tree.specs.Properties.{property_of};
 use crate::leads::kind_at;
 use crate::rules::{default_fault, define_fault, dynamic_fault, instance_fault, own_fault};
 use crate::scope::Scope;
-use crate::used::{excluded_by, instance_before, last_default, last_definition, own_before, reached_before};
+use crate::used::{
+    excluded_by, instance_before, last_default, last_definition, own_before, reached_before,
+};
 use rdl_text::name::Name;
 use rdl_tree::description::{Body, Item, Of};
 use rdl_tree::fault::FaultKind;
@@ -42,7 +44,13 @@ fn kind_of_instance(scope: &Scope, of: &Of) -> Option<Kind>
 }
 
 /// The fault of an own assignment that is item `n` of a body of this kind.
-fn own_item_fault(around: Option<Kind>, body: &Body, n: usize, name: &Name, value: &Value) -> Option<FaultKind>
+fn own_item_fault(
+    around: Option<Kind>,
+    body: &Body,
+    n: usize,
+    name: &Name,
+    value: &Value,
+) -> Option<FaultKind>
     ensures { result ≡ own_fault around (is_some (own_before name.now n body.now)) (excluded_by n body.now (property_of name.now)) (property_of name.now) value.now }
 {
     let property = property(name.as_str());

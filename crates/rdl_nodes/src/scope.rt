@@ -211,7 +211,11 @@ impl<'s> Scope<'s> {
         match of {
             Of::Named(name) => self.find_type(name),
             Of::Anonymous(component) => match kept_slot(self.slots, self.number) {
-                Some(kept) => Some(Holder { component, kept, scope: self.at(self.number) }),
+                Some(kept) => Some(Holder {
+                    component,
+                    kept,
+                    scope: self.at(self.number),
+                }),
                 None => None,
             },
         }
@@ -223,7 +227,10 @@ impl<'s> Scope<'s> {
     {
         for number in (0..self.number).rev() {
             if let Some(of) = instance(self.body.item(number), name) {
-                return Some(FoundInstance { number: count_before(self.body, number), holder: self.at(number).component(of) });
+                return Some(FoundInstance {
+                    number: count_before(self.body, number),
+                    holder: self.at(number).component(of),
+                });
             }
         }
         None

@@ -179,4 +179,3 @@ pub(crate) fn excluded_by(n: usize, body: &Body, property: Option<Property>) -> 
         None => false,
     }
 }
-
