@@ -6,3 +6,4 @@ pub mod InOrder
 pub mod Marks
 pub mod Noted
 pub mod View
+pub mod Was

@@ -1,7 +1,6 @@
 -- Types one by one, and what a name finds among them.
-use Rattle.std.proofs.Common.{◌≡◌, ℕ, zero, suc, ◌+◌, ◌<◌, ◌≤◌, List, [], ◌∷◌, ◌++◌, length, take, get_or, true, false, Bool, refl, ap, sym, ◌∙◌, arith}
-use Rattle.std.specs.Prelude.{Option, Some, None, bytes_eq, if◌then◌else◌}
-use Rattle.std.proofs.lemmas.List.{take_all}
+use Rattle.std.proofs.Common.{◌≡◌, ℕ, suc, ◌<◌, List, [], ◌∷◌, ◌++◌, length, take, get_or, true, false, Bool, refl, ap, ◌∙◌}
+use Rattle.std.specs.Prelude.{Some, bytes_eq, if◌then◌else◌}
 use Rattle.rdl_scope.specs.Closed.{lookup}
 use Rattle.rdl_seen.specs.Node as seen
 use Rattle.rdl_nodes.specs.declared.around.Defined.{Defined}
@@ -32,9 +31,6 @@ pub type_not_here : (q : List ℕ) (xs : List Defined) (k n : ℕ) (x : Defined)
     → lookup q (types_of (take n xs)) ≡ lookup q (types_of (take k xs))
 type_not_here q xs k n x next h e other =
     lookup_next q xs k n x next h e ∙ ap (λ (b : Bool). if b then Some (known_of x.known) else lookup q (types_of (take k xs))) other
-
-pub types_all : (q : List ℕ) (xs : List Defined) → lookup q (types_of xs) ≡ lookup q (types_of (take (length xs) xs))
-types_all q xs = ap (λ ys. lookup q (types_of ys)) (sym (take_all (length xs) xs (omega arith)))
 
 pub taken_before : {X : Type 0} (xs ys : List X) → take (length xs) (xs ++ ys) ≡ xs
 taken_before [] ys = refl

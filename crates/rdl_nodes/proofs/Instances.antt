@@ -1,7 +1,6 @@
 -- Instances one by one, and what a name finds among them.
-use Rattle.std.proofs.Common.{◌≡◌, ℕ, zero, suc, ◌+◌, ◌<◌, ◌≤◌, List, [], ◌∷◌, ◌++◌, length, take, drop, get_or, length-take, true, false, Bool, refl, ap, sym, ◌∙◌, arith}
-use Rattle.std.specs.Prelude.{Option, Some, None, bytes_eq, if◌then◌else◌}
-use Rattle.std.proofs.lemmas.List.{take_all}
+use Rattle.std.proofs.Common.{◌≡◌, ℕ, zero, suc, ◌+◌, ◌<◌, List, [], ◌∷◌, ◌++◌, length, take, get_or, length-take, true, false, Bool, refl, ap, sym, ◌∙◌, arith}
+use Rattle.std.specs.Prelude.{Some, bytes_eq, if◌then◌else◌}
 use Rattle.rdl_seen.specs.Inside as seen
 use Rattle.rdl_seen.specs.Inside.{how_many, find, no_instances}
 use Rattle.rdl_nodes.specs.declared.inside.Instance.{Instance}
@@ -44,6 +43,3 @@ pub not_here : (q : List ℕ) (xs : List Instance) (k n : ℕ) (x : Instance) �
     → find q (inside_of (take n xs)) ≡ find q (inside_of (take k xs))
 not_here q xs k n x next h e other =
     found_next q xs k n x next h e ∙ ap (λ (b : Bool). if b then Some (record { number = k; within = within_of x.within }) else find q (inside_of (take k xs))) other
-
-pub all_taken : (q : List ℕ) (xs : List Instance) → find q (inside_of xs) ≡ find q (inside_of (take (length xs) xs))
-all_taken q xs = ap (λ ys. find q (inside_of ys)) (sym (take_all (length xs) xs (omega arith)))

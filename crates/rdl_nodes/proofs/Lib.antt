@@ -8,5 +8,7 @@ pub mod Kept
 pub mod Paths
 pub mod Reached
 pub mod Scopes
+pub mod SideBySide
+pub mod TakenOver
 pub mod Targets
 pub mod Walks

@@ -1,12 +1,12 @@
 -- What is kept at an address.
 use Rattle.std.proofs.Common.{◌≡◌, ℕ, zero, suc, ◌-◌, ◌≤◌, List, [], ◌∷◌, length, take, drop, get_or, refl, ap, sym, ◌∙◌, arith}
-use Rattle.std.specs.Prelude.{slice_get, option_and_then, Option, Some, None}
+use Rattle.std.specs.Prelude.{slice_get, option_and_then, Some}
 use Rattle.rdl_seen.specs.Meaning.{kept_at, node_at}
 use Rattle.rdl_seen.specs.Slots.{Slots, Node}
 use Rattle.rdl_nodes.specs.declared.node.Slot.{Slot}
 use Rattle.rdl_nodes.specs.declared.node.Slot.TheVariants.{Own, Default, Dynamic, Field, Named, Define, Part}
 use Rattle.rdl_nodes.specs.KeptNode.{slot_node}
-use Rattle.rdl_nodes.specs.View.{add, slots_of}
+use Rattle.rdl_nodes.specs.View.{slots_of}
 use Rattle.rdl_nodes.proofs.FromBehind.{rest_slice}
 
 pub kept_at_is : (xs : List Slot) (i : ℕ) → kept_at i (slots_of xs) ≡ option_and_then slot_node (slice_get xs i)

@@ -1,6 +1,6 @@
 -- What single items of a body add to what the body states and weighs.
 -- SystemRDL 2.0, clause 5, property assignment; own: weights.
-use Rattle.std.specs.Prelude.{ℕ, List}
+use Rattle.std.specs.Prelude.{ℕ}
 use Rattle.rdl_tree.specs.Items.{no_items}
 use Rattle.rdl_tree.specs.View.{add}
 use Rattle.rdl_tree.specs.declared.description.Item.{Item}

@@ -1,6 +1,5 @@
 -- The verdict of a dynamic assignment, as it is kept.
 -- own: how the code holds verdicts.
-use Rattle.std.specs.Prelude.{◌≡◌, refl}
 use Rattle.rdl_nodes.specs.declared.verdict.Asked.{Asked}
 use Rattle.rdl_nodes.specs.declared.verdict.Asked.TheVariants.{Order, Room}
 use Rattle.rdl_nodes.specs.declared.verdict.HeldVerdict.{HeldVerdict}

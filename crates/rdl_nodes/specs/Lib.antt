@@ -19,5 +19,7 @@ pub mod Part
 pub mod Parts
 pub mod Reached
 pub mod Scopes
+pub mod SideBySide
+pub mod TakenOver
 pub mod Targets
 pub mod View

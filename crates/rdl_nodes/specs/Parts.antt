@@ -1,6 +1,6 @@
 -- The instances of a body, item by item.
 -- own: how the code goes along a body and its slots.
-use Rattle.std.specs.Prelude.{List, [], ◌∷◌, Option, Some, None, option_copied}
+use Rattle.std.specs.Prelude.{List, [], ◌∷◌, Option, Some, None}
 use Rattle.rdl_tree.specs.Items.{Items}
 use Rattle.rdl_tree.specs.declared.description.Item.{Item}
 use Rattle.rdl_tree.specs.declared.description.Item.TheVariants.{Define, Instance, Own, Default, Dynamic}

@@ -1,6 +1,6 @@
 -- One level of what is kept of a component as a list, in which what is kept of each component inside is already seen.
 -- own: how the code holds nodes.
-use Rattle.std.specs.Prelude.{ℕ, ◌+◌, List, [], ◌∷◌, Option, Some, None, option_map}
+use Rattle.std.specs.Prelude.{ℕ, ◌+◌, List, [], ◌∷◌, option_map}
 use Rattle.rdl_nodes.specs.declared.node.Slot.{Slot}
 use Rattle.rdl_nodes.specs.declared.node.Slot.TheVariants.{Own, Default, Dynamic, Field, Named, Define, Part}
 use Rattle.rdl_seen.specs.Slots as seen

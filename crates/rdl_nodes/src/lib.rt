@@ -9,6 +9,7 @@ pub mod faults;
 pub mod field;
 pub mod fields;
 pub mod inside;
+pub mod laws;
 pub mod layouts;
 pub mod lays;
 pub mod leads;

@@ -60,7 +60,7 @@ and_false : (x y z : Bool) → (x && y) ≡ false → (y ≡ false → z ≡ fal
 and_false true y z h f = f h
 and_false false y z h f = refl
 
-both_lack : (x y : Bool) → x ≡ false → y ≡ false → (x || y) ≡ false
+pub both_lack : (x y : Bool) → x ≡ false → y ≡ false → (x || y) ≡ false
 both_lack x y e f = ap (λ (z : Bool). z || y) e ∙ f
 
 -- who isn't reached agrees as far as it listens

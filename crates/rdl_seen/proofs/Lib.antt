@@ -7,6 +7,7 @@ pub mod Each
 pub mod Examples
 pub mod Judged
 pub mod KeptAt
+pub mod OneByOne
 pub mod Own
 pub mod Owned
 pub mod Passing

@@ -24,10 +24,10 @@ holder_behind : (lay : Laying) (a : Around) (h : Holder) (body : Items) → afte
 holder_behind lay a (define n k) body = refl
 holder_behind lay a (anonymous s k) body = refl
 
-some_same : (x y : Item) → ◌≡◌ {A = Option Item} (Some x) (Some y) → x ≡ y
+pub some_same : (x y : Item) → ◌≡◌ {A = Option Item} (Some x) (Some y) → x ≡ y
 some_same x y e = cc
 
-before_none : (lay : Laying) (a : Around) (t : Items) → around_before lay 0 a t ≡ a
+pub before_none : (lay : Laying) (a : Around) (t : Items) → around_before lay 0 a t ≡ a
 before_none lay a no_items = refl
 before_none lay a (plain p rest) = refl
 before_none lay a (holder h body rest) = refl

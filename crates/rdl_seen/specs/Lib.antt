@@ -12,6 +12,7 @@ pub mod MeaningLaws
 pub mod Modes
 pub mod Names
 pub mod Node
+pub mod OneByOne
 pub mod Passing
 pub mod PropertySet
 pub mod Slots

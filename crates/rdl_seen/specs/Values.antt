@@ -1,7 +1,7 @@
 -- What assignments state of the seven properties on which layouts and the faults of rows depend.
 -- SystemRDL 2.0: fields (clause 9), registers (10), register files (12), address maps (13).
 -- own: a value that the property doesn't take states nothing here; it is refused elsewhere.
-use Rattle.std.specs.Prelude.{ℕ, ◌-◌, ◌^◌, nat_le, List, Option, Some, None, unwrap_or, if◌then◌else◌}
+use Rattle.std.specs.Prelude.{ℕ, ◌-◌, ◌^◌, nat_le, nat_lt, List, Option, Some, None, unwrap_or, if◌then◌else◌}
 use Rattle.std.specs.Option.{option_or, is_some}
 use Rattle.std.specs.Int.{leading_zeros, w128}
 use Rattle.rdl_tree.specs.Items.{Items, no_items, plain, holder, Plain, named, own, default, dynamic}
@@ -45,9 +45,9 @@ access_of (Worded word.W) = OnlyWrites
 access_of (Worded word.W1) = OnlyWrites
 access_of v = Other
 
--- how many bits a number needs
+-- how many bits a number needs; of one that no code can hold, no fewer
 abbrev pub bit_count : ℕ → ℕ
-bit_count n = 128 - leading_zeros w128 n
+bit_count n = if nat_lt n (2 ^ 128) then 128 - leading_zeros w128 n else n
 
 -- how many bits a value of `reset` needs
 abbrev pub reset_bits : Value → Option ℕ

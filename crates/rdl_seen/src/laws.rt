@@ -1,6 +1,7 @@
 //! What holds of all components. Nothing here does anything when it runs.
 ghost use Rattle.rdl_seen.specs.Laws.{Coincides, CoincidesWithin, FaultsCoincide, CutsOff, IgnoresOtherTypes, IgnoresOtherDefaults};
 ghost use Rattle.rdl_seen.specs.AlertLaws.{UnreachedAreKept, UnreachedAreKnown, NothingDiffers, MoreMayDiffer, StaysBehind, StaysBehindType, TypesComeAndGo, DefaultsComeAndGo};
+ghost use Rattle.rdl_seen.specs.OneByOne.{AreWalkedInTurn, SlotsAreOfItems, DeafSlotsStay};
 ghost use Rattle.rdl_seen.specs.Passing.{StandsBehindItem, ItemsComeAndGo, ItemsStay, ItemsArePassedOver};
 ghost use Rattle.rdl_seen.specs.MeaningLaws.{StatedAreTaken, ValuesAreStated, ValuesAreWhole, MeansBehind, MeansBehindComponent, MeansAt, NodesHaveValues, KeptAreNodes, FieldsAreLikeNodes, FaultsAreFound, SmallMapsFit};
 
@@ -49,6 +50,14 @@ pub fn items_are_told_of()
     ensures come_and_go { ItemsComeAndGo }
     ensures stay { ItemsStay }
     ensures passed { ItemsArePassedOver }
+{}
+
+/// The items of a body have their slots one after another, each by what stands before it. The slot of an item stays where no more differs
+/// than an alert tells of and the item listens to nothing of that.
+pub fn slots_are_of_items()
+    ensures turn { AreWalkedInTurn }
+    ensures items { SlotsAreOfItems }
+    ensures stay { DeafSlotsStay }
 {}
 
 /// Of a description without a fault, each value that is stated of a component, by its own assignments or by a default, is one that

@@ -21,7 +21,6 @@ use Rattle.sound_laws.specs.Harmless.{kept_layout, Spot, spots_in}
 use Rattle.sound_laws.specs.Targets.{Instance, named, is_before, first_named}
 use Rattle.sound_laws.specs.Verdicts.{Stand, stand_named, end_in, is_end_fitting, is_item_fitting, are_items_fitting}
 use Rattle.sound_laws.proofs.Lists.{both, and_both}
-use Rattle.sound_nodes.specs.Short.{IsShortValue, AreShort}
 use Rattle.sound_nodes.proofs.Ends.{IsMet, met, unasked-end, end-fits, stand-one}
 use Rattle.sound_nodes.proofs.Unique.{with_part, AreFresh, AreFrom, parts-from, all-fresh}
 
@@ -82,7 +81,7 @@ not-before n name (part at s h inside rest) from = by (bytes_eq s.name name) (no
 no-base : (k : ℕ) → 0 + k ≡ k
 no-base k = omega arith
 
-module _ (d : Items) (accepted : fault_of d ≡ None) (p : List ℕ) (v : Value) (short : IsShortValue v) where
+module _ (d : Items) (accepted : fault_of d ≡ None) (p : List ℕ) (v : Value) where
   -- ---- At the end of a target.
 
   module _ (a : Asked) (asks : asked p v ≡ Some a) where
@@ -94,7 +93,7 @@ module _ (d : Items) (accepted : fault_of d ≡ None) (p : List ℕ) (v : Value)
     at-end h full o e m fit =
         let spots = spots_seen (record { head = h; parts = full }) in
         let there : seen.is_fitting a (record { spots = spots; number = 0 + m.number }) ≡ true = ap (λ z. is_fitting_end a (end_of spots z)) (sym m.found) ∙ fit in
-        end-fits p v a h full m.number e.spot short asks (subst (λ k. seen.is_fitting a (record { spots = spots; number = k }) ≡ true) (no-base m.number) there) m.spot
+        end-fits p v a h full m.number e.spot asks (subst (λ k. seen.is_fitting a (record { spots = spots; number = k }) ≡ true) (no-base m.number) there) m.spot
 
     last-fits : (name : List ℕ) (c : Made) (o : Option Stand) → AreFresh c.parts no_instances → stand_named name (spots_in kept_layout c.head c.parts) c.parts ≡ o
         → is_fitting_end a (end_of (spots_seen c) (find name (behind c.parts no_instances))) ≡ true → is_end_fitting p v o ≡ true
@@ -203,7 +202,7 @@ module _ (d : Items) (none : fault_of d ≡ None) (b : List ℕ) (h : Head) (ful
 
   Fits : ℕ → Items → Type 0
   Fits n t =
-      (e : Standing) (done : Parts) → AreAccepted around e place n t → AreShort t → full ≡ joined done (parts e place n t)
+      (e : Standing) (done : Parts) → AreAccepted around e place n t → full ≡ joined done (parts e place n t)
       → harmless spots_here t (parts e place n t) (behind done no_instances) ≡ true → are_items_fitting kept_layout h full n t ≡ true
 
   -- behind an instance
@@ -218,33 +217,33 @@ module _ (d : Items) (none : fault_of d ≡ None) (b : List ℕ) (h : Head) (ful
 
   items-fit : (n : ℕ) (t : Items) → Fits n t
   unfolding Fits
-  items-fit n no_items e done h_is short split fit = refl
-  items-fit n (plain (named_item s u) rest) e done h_is short split fit =
+  items-fit n no_items e done h_is split fit = refl
+  items-fit n (plain (named_item s u) rest) e done h_is split fit =
       let first : IsNamed around e u = h_is.0 in
       let m = first.made in
       let same : parts e place n (plain (named_item s u) rest) ≡ part (place ++ n ∷ []) s m.head m.parts (parts e place (suc n) rest) =
       ap (λ o. with_made (place ++ n ∷ []) s o (parts e place (suc n) rest)) first.there in
       next-fits n rest done (place ++ n ∷ []) s m.head m.parts e (split ∙ ap (joined done) same)
       (subst (λ ps. harmless spots_here (plain (named_item s u) rest) ps (behind done no_instances) ≡ true) same fit)
-      (λ more split_more fit_more. items-fit (suc n) rest e more h_is.1 short.1 split_more fit_more)
-  items-fit n (plain (own p x) rest) e done h_is short split fit = items-fit (suc n) rest e done h_is.1 short.1 split fit
-  items-fit n (plain (default p x) rest) e done h_is short split fit = items-fit (suc n) rest (scope.after_plain (default p x) e) done h_is.1 short.1 split fit
-  items-fit n (plain (dynamic t p x) rest) e done h_is short split fit =
+      (λ more split_more fit_more. items-fit (suc n) rest e more h_is.1 split_more fit_more)
+  items-fit n (plain (own p x) rest) e done h_is split fit = items-fit (suc n) rest e done h_is.1 split fit
+  items-fit n (plain (default p x) rest) e done h_is split fit = items-fit (suc n) rest (scope.after_plain (default p x) e) done h_is.1 split fit
+  items-fit n (plain (dynamic t p x) rest) e done h_is split fit =
       let two = both (plain_harmless spots_here (dynamic t p x) (behind done no_instances)) (harmless spots_here rest (parts e place (suc n) rest) (behind done no_instances)) fit in
       and_both (is_item_fitting kept_layout h full n (dynamic t p x)) (are_items_fitting kept_layout h full (suc n) rest)
-      (dynamic-fits d none p x short.0 b h full is fresh n done (parts e place (suc n) rest) split (parts-from e place n (plain (dynamic t p x) rest)) t two.0)
-      (items-fit (suc n) rest e done h_is.1 short.1 split two.1)
-  items-fit n (holder (define m k) body rest) e done h_is short split fit =
-      items-fit (suc n) rest (scope.after_holder (define m k) (place ++ n ∷ []) body (parts e (place ++ n ∷ []) 0 body) e) done h_is.2 short.2 split fit
-  items-fit n (holder (anonymous s k) body rest) e done h_is short split fit =
+      (dynamic-fits d none p x b h full is fresh n done (parts e place (suc n) rest) split (parts-from e place n (plain (dynamic t p x) rest)) t two.0)
+      (items-fit (suc n) rest e done h_is.1 split two.1)
+  items-fit n (holder (define m k) body rest) e done h_is split fit =
+      items-fit (suc n) rest (scope.after_holder (define m k) (place ++ n ∷ []) body (parts e (place ++ n ∷ []) 0 body) e) done h_is.2 split fit
+  items-fit n (holder (anonymous s k) body rest) e done h_is split fit =
       next-fits n rest done (place ++ n ∷ []) s (head_at (place ++ n ∷ []) k body e) (parts e (place ++ n ∷ []) 0 body) e split fit
-      (λ more split_more fit_more. items-fit (suc n) rest e more h_is.2 short.2 split_more fit_more)
+      (λ more split_more fit_more. items-fit (suc n) rest e more h_is.2 split_more fit_more)
 
 -- the dynamic assignments of a component
-pub all-fit : (d : Items) (a : List ℕ) (c : Made) → fault_of d ≡ None → component d a ≡ Some c → AreShort c.head.body
+pub all-fit : (d : Items) (a : List ℕ) (c : Made) → fault_of d ≡ None → component d a ≡ Some c
     → harmless (spots_seen c) c.head.body c.parts no_instances ≡ true → are_items_fitting kept_layout c.head c.parts 0 c.head.body ≡ true
 unfolding Fits
-all-fit d a c none is short fit =
+all-fit d a c none is fit =
     let made = made-accepted d a c none is in
-    items-fit d none a c.head c.parts is (all-fresh d a c none is) (Some c.head.kind) made.place 0 c.head.body made.standing no_parts made.accepted short made.parts
+    items-fit d none a c.head c.parts is (all-fresh d a c none is) (Some c.head.kind) made.place 0 c.head.body made.standing no_parts made.accepted made.parts
     (subst (λ ps. harmless (spots_seen c) c.head.body ps no_instances ≡ true) made.parts fit)

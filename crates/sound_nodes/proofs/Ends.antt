@@ -21,7 +21,6 @@ use Rattle.node_laws.specs.Laid.{seen_span}
 use Rattle.node_laws.specs.Seen.{layouts_seen, spots_seen, behind, within_seen}
 use Rattle.sound_laws.specs.Harmless.{kept_layout, are_apart, Spot, elsewhere, in_register, is_fitting, field_spans, all_elsewhere, spots_by, spots_in}
 use Rattle.sound_laws.specs.Verdicts.{Stand, stand_named, is_end_fitting}
-use Rattle.sound_nodes.specs.Short.{IsShortValue}
 use Rattle.sound_nodes.proofs.Fields.{same-apart, fits}
 use Rattle.sound_nodes.proofs.Unique.{with_part, AreFresh}
 
@@ -97,19 +96,19 @@ unasked-end p v None e = refl
 unasked-end p v (Some e) is = unasked p v e.spot is
 
 -- a value that the bits hold
-holds : (v : Value) (span : Span) → IsShortValue v → seen.has_room (reset_bits v) (seen_span span) ≡ true → not (is_reset_too_wide (number_in (Some v)) span) ≡ true
-holds (value.Number n) span short h = fits n (span.end - span.start) short h
-holds (value.Text t) span short h = refl
-holds (value.Bool b) span short h = refl
-holds (value.Word w) span short h = refl
+holds : (v : Value) (span : Span) → seen.has_room (reset_bits v) (seen_span span) ≡ true → not (is_reset_too_wide (number_in (Some v)) span) ≡ true
+holds (value.Number n) span h = fits n (span.end - span.start) h
+holds (value.Text t) span h = refl
+holds (value.Bool b) span h = refl
+holds (value.Word w) span h = refl
 
 not-both : (p : List ℕ) → bytes_eq p (codes "sw") ≡ true → bytes_eq p (codes "reset") ≡ false
 not-both p e = ap (λ q. bytes_eq q (codes "reset")) ((bytes_eq-Decides p (codes "sw")).0 e)
 
-field-fits : (p : List ℕ) (v : Value) (a : Asked) (spans : List Span) (k : ℕ) (span : Span) → IsShortValue v → asked p v ≡ Some a → slice_get spans k ≡ Some span
+field-fits : (p : List ℕ) (v : Value) (a : Asked) (spans : List Span) (k : ℕ) (span : Span) → asked p v ≡ Some a → slice_get spans k ≡ Some span
     → seen.is_fitting a (record { spots = record { spans = map seen_span spans; is_ordered = lay.are_apart (map seen_span spans) }; number = k }) ≡ true
     → is_fitting (in_register (are_apart spans) span) p v ≡ true
-field-fits p v a spans k span short asks there fit = by (bytes_eq p (codes "sw")) (bytes_eq p (codes "reset")) (not-both p) asks
+field-fits p v a spans k span asks there fit = by (bytes_eq p (codes "sw")) (bytes_eq p (codes "reset")) (not-both p) asks
   where
     at : slice_get (map seen_span spans) k ≡ Some (seen_span span)
     at = got spans k span there
@@ -129,7 +128,7 @@ field-fits p v a spans k span short asks there fit = by (bytes_eq p (codes "sw")
         let is : room (reset_bits v) ≡ a = cc in
         let fit_is : has_room_at (reset_bits v) (slice_get (map seen_span spans) k) ≡ true =
         subst (λ z. seen.is_fitting z (record { spots = record { spans = map seen_span spans; is_ordered = lay.are_apart (map seen_span spans) }; number = k }) ≡ true) (sym is) fit in
-        holds v span short (ap (has_room_at (reset_bits v)) (sym at) ∙ fit_is)
+        holds v span (ap (has_room_at (reset_bits v)) (sym at) ∙ fit_is)
     by false false apart e = absurd cc
 
 -- at an instance of a component
@@ -148,11 +147,11 @@ elsewhere-there no_parts k spot e = absurd cc
 elsewhere-there (part at s h inside rest) zero spot e = cc
 elsewhere-there (part at s h inside rest) (suc k) spot e = elsewhere-there rest k spot e
 
-pub end-fits : (p : List ℕ) (v : Value) (a : Asked) (h : Head) (inside : Parts) (k : ℕ) (spot : Spot) → IsShortValue v → asked p v ≡ Some a
+pub end-fits : (p : List ℕ) (v : Value) (a : Asked) (h : Head) (inside : Parts) (k : ℕ) (spot : Spot) → asked p v ≡ Some a
     → seen.is_fitting a (record { spots = spots_seen (record { head = h; parts = inside }); number = k }) ≡ true
     → slice_get (spots_in kept_layout h inside) k ≡ Some spot → is_fitting spot p v ≡ true
 unfolding layouts_seen
-end-fits p v a h inside k spot short asks fit there = by h.kind refl
+end-fits p v a h inside k spot asks fit there = by h.kind refl
   where
     other : slice_get (all_elsewhere inside) k ≡ Some spot → is_fitting spot p v ≡ true
     other e = ap (λ z. is_fitting z p v) (sym (elsewhere-there inside k spot e))
@@ -165,7 +164,7 @@ end-fits p v a h inside k spot short asks fit there = by h.kind refl
         subst
         (λ z. seen.is_fitting a (record { spots = record { spans = map seen_span spans; is_ordered = is_ordered z (layouts_seen (record { head = h; parts = inside })) }; number = k }) ≡ true)
         is fit in
-        ap (λ z. is_fitting z p v) (sym found.is) ∙ field-fits p v a spans k found.span short asks found.there fit_is
+        ap (λ z. is_fitting z p v) (sym found.is) ∙ field-fits p v a spans k found.span asks found.there fit_is
     by Addrmap is = other (ap (λ z. slice_get (spots_by z (field_spans kept_layout h inside) inside) k) (sym is) ∙ there)
     by Regfile is = other (ap (λ z. slice_get (spots_by z (field_spans kept_layout h inside) inside) k) (sym is) ∙ there)
     by Field is = other (ap (λ z. slice_get (spots_by z (field_spans kept_layout h inside) inside) k) (sym is) ∙ there)

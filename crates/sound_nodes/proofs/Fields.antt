@@ -1,10 +1,12 @@
 -- A register whose fields are sound by what is kept of them is sound.
-use Rattle.std.proofs.Common.{◌≡◌, ℕ, ◌-◌, ◌^◌, ◌<◌, ◌≤◌, Bool, true, false, List, [], ◌∷◌, map, Option, Some, None, option_map, refl, sym, ap, subst, ◌∙◌, arith}
+use Rattle.std.proofs.Common.{◌≡◌, ℕ, zero, suc, ◌-◌, ◌*◌, ◌^◌, ◌<◌, ◌≤◌, Bool, true, false, List, [], ◌∷◌, map, Option, Some, None, option_map, refl, sym, ap, subst, ◌∙◌, arith}
 use Rattle.std.specs.Prelude.{◌&&◌, ◌||◌, not, nat_le, nat_lt, option_and_then, if◌then◌else◌}
 use Rattle.std.specs.List.{list_all}
+use Rattle.std.specs.Int.{leading_zeros, w128}
 use Rattle.std.specs.Option.{option_or}
 use Rattle.std.proofs.Math.Pow.{pow_mono}
-use Rattle.std.proofs.lemmas.Bool.{leb-true, lt-leb}
+use Rattle.std.proofs.Math.Nat.{pow-suc}
+use Rattle.std.proofs.lemmas.Bool.{ltb-true, leb-true, lt-leb}
 use Rattle.std.proofs.lemmas.Nat.{leading_length}
 use Rattle.rdl_tree.specs.Properties.{row, on, has_form, takes}
 use Rattle.rdl_tree.specs.declared.shell.Kind.{Kind}
@@ -41,13 +43,10 @@ use Rattle.node_laws.specs.Sound.{resets_seen, accesses_seen, fields_sound}
 use Rattle.sound_laws.specs.Harmless.{kept_layout, are_apart}
 use Rattle.sound_laws.specs.Sound.{value_with, fields_of, clash_none, resets_fit, are_fields_sound}
 use Rattle.sound_laws.proofs.Lists.{both, and_both}
-use Rattle.sound_nodes.specs.Short.{IsShort, IsShortReset, IsShortValue}
 
 -- what is known of an instance and its component
 pub record IsGood (s : Shell) (h : Head) : Type 0 where
   pub values : HasValues h (stated_of h)
-  pub shell : IsShortReset s.reset
-  pub short : (x : Value) → head_value h Reset ≡ Some x → IsShortValue x
 
 abbrev pub AreGood : Parts → Type 0
 AreGood no_parts = Unit {0}
@@ -82,22 +81,36 @@ same-ends n (s ∷ ss) = ap (λ b. nat_le s.end n && b) (same-ends n ss)
 -- ---- Resets.
 
 -- a number of so many bits is below two to their number
-pub fits : (n k : ℕ) → IsShort n → nat_le (bit_count n) k ≡ true → not (nat_le (2 ^ k) n) ≡ true
-fits n k short room =
-    let length = leading_length 128 n short in
-    let bits : length.0 ≤ k = omega (arith, length.1, leb-true (bit_count n) k room) in
-    let below : 2 ^ length.0 ≤ 2 ^ k = pow_mono bits in
-    let small : n < 2 ^ k = omega (arith, length.2, below) in
-    ap not (lt-leb (2 ^ k) n small)
+below-power : (n : ℕ) → n < 2 ^ n
+below-power zero = omega arith
+below-power (suc n) =
+    let below : n < 2 ^ n = below-power n in
+    let doubled : 2 ^ suc n ≡ 2 ^ n * 2 = pow-suc 2 n in
+    omega arith
 
-field-reset : (r : Option ℕ) (o : Option Value) (kept : Option ℕ) (span : Span) → option_and_then reset_bits o ≡ kept → IsShortReset r
-    → ((x : Value) → o ≡ Some x → IsShortValue x) → has_room (option_or (option_map bit_count r) kept) (seen_span span) ≡ true
+pub fits : (n k : ℕ) → nat_le (bit_count n) k ≡ true → not (nat_le (2 ^ k) n) ≡ true
+fits n k room = ap not (lt-leb (2 ^ k) n (by (nat_lt n (2 ^ 128)) refl room))
+  where
+    by : (code : Bool) → nat_lt n (2 ^ 128) ≡ code → nat_le (if code then 128 - leading_zeros w128 n else n) k ≡ true → n < 2 ^ k
+    by true is g =
+        let length = leading_length 128 n (ltb-true n (2 ^ 128) is) in
+        let bits : length.0 ≤ k = omega (arith, length.1, leb-true (128 - leading_zeros w128 n) k g) in
+        let below : 2 ^ length.0 ≤ 2 ^ k = pow_mono bits in
+        omega (arith, length.2, below)
+    by false is g =
+        let long : n ≤ k = leb-true n k g in
+        let below : 2 ^ n ≤ 2 ^ k = pow_mono long in
+        let small : n < 2 ^ n = below-power n in
+        omega arith
+
+field-reset : (r : Option ℕ) (o : Option Value) (kept : Option ℕ) (span : Span) → option_and_then reset_bits o ≡ kept
+    → has_room (option_or (option_map bit_count r) kept) (seen_span span) ≡ true
     → not (is_reset_too_wide (number_in (option_map (shown (row Reset).form) (option_or None (option_or (option_map value.Number r) o)))) span) ≡ true
-field-reset (Some n) o kept span e short values room = fits n (span.end - span.start) short room
-field-reset None None kept span e short values room = refl
-field-reset None (Some (value.Number n)) kept span e short values room =
-    fits n (span.end - span.start) (values (value.Number n) refl) (subst (λ k. has_room k (seen_span span) ≡ true) (sym e) room)
-field-reset None (Some x) kept span e short values room = refl
+field-reset (Some n) o kept span e room = fits n (span.end - span.start) room
+field-reset None None kept span e room = refl
+field-reset None (Some (value.Number n)) kept span e room =
+    fits n (span.end - span.start) (subst (λ k. has_room k (seen_span span) ≡ true) (sym e) room)
+field-reset None (Some x) kept span e room = refl
 
 part-reset : (s : Shell) (h : Head) (span : Span) → IsGood s h → has_room (option_or (option_map bit_count s.reset) (stated_of h).reset) (seen_span span) ≡ true
     → not (is_reset_too_wide (number_in (value_with None s h Reset)) span) ≡ true
@@ -105,7 +118,7 @@ part-reset s h span good room = by (on Reset h.kind) refl
   where
     by : (test : Bool) → on Reset h.kind ≡ test
         → not (is_reset_too_wide (number_in (if test then option_map (shown (row Reset).form) (option_or None (option_or (reset_value Reset s.reset) (head_value h Reset))) else None)) span) ≡ true
-    by true is = field-reset s.reset (head_value h Reset) (stated_of h).reset span (good.values.reset is) good.shell good.short room
+    by true is = field-reset s.reset (head_value h Reset) (stated_of h).reset span (good.values.reset is) room
     by false is = refl
 
 resets-fit : (spans : List Span) (ps : Parts) → AreGood ps → have_room (map seen_span spans) (resets_seen ps) ≡ true → resets_fit spans ps ≡ true

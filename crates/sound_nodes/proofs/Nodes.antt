@@ -30,27 +30,27 @@ use Rattle.sound_nodes.specs.Says.{is_within}
 use Rattle.sound_nodes.proofs.Soundness.{size-under, seen-sound}
 
 pub seen_are_sound : SeenAreSound
-seen_are_sound d a c m none short is e = seen-sound d none short a c m is e
+seen_are_sound d a c m none is e = seen-sound d none a c m is e
 
 -- how large a component is, as it is seen
 seen-size : (c : Made) (s : Seen) (m : Mode) → IsSeen c s → number_under s.size (seen_mode m) ≡ (kept_layout m c.head c.parts).size
 seen-size c s m is = ap (λ (z : ByMode). number_under z (seen_mode m)) is.size ∙ size-under m c.head c.parts
 
 pub nodes_tell : NodesTell
-nodes_tell d a c m n none short says =
+nodes_tell d a c m n none says =
     let core = kept_are_seen d a c none says.made n says.kept in
     kept_suffices d a c m none says.made (subst (IsKeptWhole c.head.kind) (seen-size c n.core.seen m core.seen) says.whole)
-    (seen_are_sound d a c m none short says.made (ap (λ z. has_mode z (seen_mode m)) (sym core.seen.sound) ∙ says.sound))
+    (seen_are_sound d a c m none says.made (ap (λ z. has_mode z (seen_mode m)) (sym core.seen.sound) ∙ says.sound))
 
 pub sound_nodes_have_no_fault : SoundNodesHaveNoFault
-sound_nodes_have_no_fault d a c m n o none short says inside harmless =
-    let told = nodes_tell d a c m n none short says in faultless d a c m o none says.made told.sound inside (sym (told.harmless (along d [] o.path)) ∙ harmless)
+sound_nodes_have_no_fault d a c m n o none says inside harmless =
+    let told = nodes_tell d a c m n none says in faultless d a c m o none says.made told.sound inside (sym (told.harmless (along d [] o.path)) ∙ harmless)
 
 pub seen_is_cautious : SeenIsCautious
-seen_is_cautious d none short m c coming is whole over =
+seen_is_cautious d none m c coming is whole over =
     let two = both (has_mode (sound_seen c) (seen_mode m)) (are_harmless kept_layout c.head c.parts coming) over in
     kept_is_cautious d none m c coming is whole
-    (and_both (is_sound kept_layout m c.head c.parts) (are_harmless kept_layout c.head c.parts coming) (seen_are_sound d c.head.at c m none short is two.0) two.1)
+    (and_both (is_sound kept_layout m c.head c.parts) (are_harmless kept_layout c.head c.parts coming) (seen_are_sound d c.head.at c m none is two.0) two.1)
 
 -- ---- The limits.
 
@@ -97,11 +97,11 @@ pub limits_are_seen : LimitsAreSeen
 limits_are_seen c s is = (within c s is, only-within c s is)
 
 pub sound_top_is_its_rows : SoundTopIsItsRows
-sound_top_is_its_rows d wanted top c n none short there made kept sound limits =
+sound_top_is_its_rows d wanted top c n none there made kept sound limits =
     let core = kept_are_seen d (top.0 ∷ []) c none made n kept in
     let all = both (nat_lt n.core.seen.levels 16 && nat_lt n.core.seen.rows 65536 && not n.core.seen.has_empty) (nat_le n.core.seen.size.regalign (2 ^ 40)) limits in
     let small_is : number_under n.core.seen.size (seen_mode Regalign) ≤ 2 ^ 40 = leb-true n.core.seen.size.regalign (2 ^ 40) all.1 in
     let told =
-    nodes_tell d (top.0 ∷ []) c Regalign n none short
+    nodes_tell d (top.0 ∷ []) c Regalign n none
     (record { made = made; kept = kept; sound = sound; whole = kept_whole c.head.kind (number_under n.core.seen.size (seen_mode Regalign)) small_is }) in
     map_rows d wanted top c none there made told.sound (within c n.core.seen core.seen limits)

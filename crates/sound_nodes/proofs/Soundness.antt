@@ -31,10 +31,9 @@ use Rattle.sound_laws.specs.Sound.{are_fields_sound, are_strides_wide, is_apart_
 use Rattle.sound_laws.proofs.Fitting.{fitting_harmless}
 use Rattle.sound_laws.proofs.Lists.{both, and_both}
 use Rattle.sound_nodes.specs.Modes.{seen_mode}
-use Rattle.sound_nodes.specs.Short.{AreShort}
 use Rattle.sound_nodes.proofs.Assigned.{all-fit}
 use Rattle.sound_nodes.proofs.Fields.{AreGood, Taken, same-apart, register-sound}
-use Rattle.sound_nodes.proofs.Shortness.{made-short, made-values, all-good}
+use Rattle.sound_nodes.proofs.Good.{made-values, all-good}
 
 -- ---- Sets of modes.
 
@@ -156,12 +155,12 @@ by-kind Addrmap h inside m values taken good own deeper e =
 
 -- ---- A component, and its instances.
 
-module _ (d : Items) (none : fault_of d ≡ None) (short : AreShort d) where
+module _ (d : Items) (none : fault_of d ≡ None) where
   one-sound : (a : List ℕ) (c : Made) → component d a ≡ Some c → ((n : Mode) → has_mode (all_sound c.parts) (seen_mode n) ≡ true → are_sound kept_layout n c.parts ≡ true)
       → (m : Mode) → has_mode (sound_seen c) (seen_mode m) ≡ true → is_sound kept_layout m c.head c.parts ≡ true
   one-sound a c is deeper m e =
-      by-kind c.head.kind c.head c.parts m (made-values d a c none is) (stated_are_taken d a c none is) (all-good d a c.parts none short (parts-found d a c is))
-      (λ harmless_is. fitting_harmless kept_layout d a c is ∙ all-fit d a c none is (made-short d short a c is) harmless_is) deeper e
+      by-kind c.head.kind c.head c.parts m (made-values d a c none is) (stated_are_taken d a c none is) (all-good d a c.parts none (parts-found d a c is))
+      (λ harmless_is. fitting_harmless kept_layout d a c is ∙ all-fit d a c none is harmless_is) deeper e
 
   parts-sound : (b : List ℕ) (ps : Parts) → ArePartsFound d b ps → (m : Mode) → has_mode (all_sound ps) (seen_mode m) ≡ true → are_sound kept_layout m ps ≡ true
   parts-sound b no_parts found m e = refl

@@ -1,4 +1,3 @@
 pub mod Laws
 pub mod Modes
 pub mod Says
-pub mod Short

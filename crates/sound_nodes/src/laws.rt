@@ -1,9 +1,8 @@
 //! What holds where a node says that its component is sound. Nothing here does anything when it runs.
 ghost use Rattle.sound_nodes.specs.Laws.{SeenAreSound, NodesTell, SoundNodesHaveNoFault, SeenIsCautious, LimitsAreSeen, SoundTopIsItsRows};
 
-/// In a description without a fault among its items, of which no number has more than 128 bits, a component whose node says that it is
-/// sound under a mode is sound there. So no row below it has a fault, if what is assigned from around it is harmless; and a search for
-/// the first fault may pass over it.
+/// In a description without a fault among its items, a component whose node says that it is sound under a mode is sound there. So no
+/// row below it has a fault, if what is assigned from around it is harmless; and a search for the first fault may pass over it.
 pub fn sound_nodes_have_no_fault()
     ensures seen { SeenAreSound }
     ensures told { NodesTell }

@@ -1,3 +1,4 @@
+use Rattle.rdl_marks.proofs.Apart.{had_other_numbers}
 use Rattle.rdl_marks.proofs.Orders.{first_in_order, stays_in_order, stay_in_order, passes_over, goes_on}
 use Rattle.rdl_marks.proofs.laws.marks_are_in_order.Goals as goal
 
@@ -15,3 +16,6 @@ returns-clause-passed c = passes_over
 
 pub returns-clause-on : goal.returns-clause-on
 returns-clause-on c = goes_on
+
+pub returns-clause-apart : goal.returns-clause-apart
+returns-clause-apart c = had_other_numbers

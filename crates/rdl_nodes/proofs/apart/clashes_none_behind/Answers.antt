@@ -1,9 +1,8 @@
-use Rattle.std.proofs.Common.{◌≡◌, ◌≤◌, ◌+◌, length, drop, true, ap, sym, ◌∙◌, arith}
+use Rattle.std.proofs.Common.{◌≡◌, ◌≤◌, ◌+◌, drop, true, sym, ◌∙◌, arith}
 use Rattle.std.specs.Prelude.{map, nat_le}
 use Rattle.std.proofs.lemmas.Bool.Decides.{nat_tests}
 use Rattle.rdl_nodes.specs.Apart.{first_clashes_none}
 use Rattle.rdl_nodes.specs.Part.{access_of}
-use Rattle.rdl_nodes.specs.declared.parts.Part.{Part}
 use Rattle.rdl_nodes.proofs.Bodies.{drop_at}
 use Rattle.rdl_nodes.proofs.FromBehind.{clashes_with_none}
 use Rattle.rdl_nodes.proofs.apart.clashes_none_behind.Goals as goal

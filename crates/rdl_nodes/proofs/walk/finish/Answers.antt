@@ -1,11 +1,9 @@
 use Rattle.std.proofs.Common.{◌≡◌, List, ap, sym, ◌∙◌}
 use Rattle.std.specs.Prelude.{map}
-use Rattle.rdl_seen.specs.Layouts.{Layouts}
 use Rattle.rdl_seen.specs.Node.{values_of, layouts_of, core_of}
 use Rattle.rdl_seen.specs.Slots.{Core}
 use Rattle.rdl_seen.specs.Values.{of_kind, over}
 use Rattle.rdl_nodes.specs.declared.node.Slot.{Slot}
-use Rattle.rdl_nodes.specs.declared.parts.Part.{Part}
 use Rattle.rdl_nodes.specs.Part.{member_of}
 use Rattle.rdl_nodes.specs.Parts.{parts_of}
 use Rattle.rdl_nodes.specs.View.{slots_of}

@@ -1,16 +1,12 @@
 use Rattle.std.proofs.Common.{◌≡◌, ◌||◌, ◌∙◌, ap, sym}
-use Rattle.std.specs.Prelude.{map}
 use Rattle.rdl_seen.specs.declared.mode.Mode.TheVariants.{Compact}
-use Rattle.rdl_seen.specs.Contents.{contents, takes, are_harmless, own_weight, item_count}
-use Rattle.rdl_seen.specs.Fields.{are_fields_sound, clash_none, members, resets, accesses, field_takes}
-use Rattle.rdl_seen.specs.Inside.{Spots}
-use Rattle.rdl_seen.specs.Layouts.{Layout, Layouts, Laying, layout_under}
-use Rattle.rdl_seen.specs.Node.{is_ordered, sound_inside, sound_of, without_access, takes_of, apart_of, values_of, layouts_of, core_of, spots_of}
+use Rattle.rdl_seen.specs.Contents.{contents, are_harmless, item_count}
+use Rattle.rdl_seen.specs.Fields.{are_fields_sound, clash_none, members, resets, field_takes}
+use Rattle.rdl_seen.specs.Layouts.{Layout, Layouts, layout_under}
+use Rattle.rdl_seen.specs.Node.{is_ordered, sound_inside, sound_of, without_access, takes_of, apart_of, values_of, spots_of}
 use Rattle.rdl_seen.specs.PropertySet.{kind_set, with_properties, without_properties}
-use Rattle.rdl_seen.specs.Slots.{Core}
-use Rattle.rdl_seen.specs.Values.{of_kind, over, own_values, stated}
+use Rattle.rdl_seen.specs.Values.{of_kind, over, stated}
 use Rattle.rdl_nodes.specs.CoreWith.{core_with, may_share, seen_with}
-use Rattle.rdl_nodes.specs.Part.{reset_of, access_of}
 use Rattle.rdl_nodes.specs.View.{slots_of}
 use Rattle.rdl_nodes.proofs.Bodies.{item_count_is}
 use Rattle.rdl_nodes.proofs.Kept.{members_are, resets_are, accesses_are}
