@@ -1,6 +1,6 @@
 -- What a target finds from a place is what it finds among all instances there.
 use Rattle.std.proofs.Common.{◌≡◌, ℕ, zero, suc, ◌+◌, ◌<◌, ◌≤◌, List, [], ◌∷◌, length, Bool, true, false, Option, Some, None, option_map, refl, sym, ap, subst, ◌∙◌, arith}
-use Rattle.std.specs.Prelude.{bytes_eq, slice_get, if◌then◌else◌}
+use Rattle.std.specs.Prelude.{bytes_eq, slice_get, option_and_then, if◌then◌else◌}
 use Rattle.rdl_tree.specs.Component.{holder_kind}
 use Rattle.rdl_tree.specs.Items.{Items, no_items, plain, holder, Plain, named, own, default, dynamic, Holder, define, anonymous}
 use Rattle.rdl_tree.specs.View.{list_of, plain_item, holder_item}
@@ -17,15 +17,15 @@ use Rattle.rdl_seen.specs.Inside.{Inside, no_instances, Within, nothing_within, 
 use Rattle.rdl_seen.specs.Layouts.{Laying}
 use Rattle.rdl_seen.specs.Meaning.{around_before, kept_at}
 use Rattle.rdl_seen.specs.Node.{Around, Known, after_plain, after_holder, plain_instances, holder_instances, within_type, walked, body_of, node, known}
-use Rattle.rdl_seen.specs.Slots.{Node}
+use Rattle.rdl_seen.specs.OneByOne.{slot_at, instances_before}
+use Rattle.rdl_seen.specs.Slots.{Slots, no_slots, slot, written, Node}
+use Rattle.rdl_seen.proofs.Passing.{some_same}
 use Rattle.rdl_nodes.specs.Scopes.{Place, around_places, HasKept, IsScope, Holding, IsHolding, AreHeld, known_at, holding_at, find_type}
-use Rattle.rdl_nodes.specs.Reached.{instances_before, count_of, count_before, FoundAt, component_of, instance_of, instance_named, find_before, place_inside, find_inside, within_at, found_at, IsFoundHeld}
-use Rattle.rdl_nodes.proofs.Scopes.{before_none, own_node, part_node, kept_here, holding_there, held_at, type_known, type_held}
+use Rattle.rdl_nodes.specs.ScopeLaws.{SlotsAreKept, InsideIsScope, NodeHasSeen}
+use Rattle.rdl_nodes.specs.Reached.{count_of, count_before, FoundAt, component_of, instance_of, instance_named, find_before, place_inside, find_inside, within_at, found_at, IsFoundHeld}
+use Rattle.rdl_nodes.proofs.Scopes.{own_node, part_node, kept_here, holding_there, held_at, type_known, type_held}
 
 -- ---- Instances one by one.
-
-some_same : (x y : Item) → ◌≡◌ {A = Option Item} (Some x) (Some y) → x ≡ y
-some_same x y e = cc
 
 -- what targets find inside what is written there, and inside what an instance is an instance of
 abbrev part_within : Laying → Around → Kind → Items → Within
@@ -263,3 +263,23 @@ inside_found lay name h is =
 
 pub inside_held : (lay : Laying) (name : List ℕ) (h : Holding) → IsHolding lay h → IsFoundHeld lay (find_inside name h)
 inside_held lay name h is = instance_held lay name (length (list_of h.body)) (place_inside h) h.places (place_inside_kept lay h is) is.places (omega arith)
+
+-- ---- Places in order.
+
+kept_by_slot : (i : ℕ) (s : Slots) → kept_at i s ≡ option_and_then (kept_at 0) (slot_at i s)
+kept_by_slot i no_slots = refl
+kept_by_slot zero (slot s rest) = refl
+kept_by_slot zero (written w c inside rest) = refl
+kept_by_slot (suc i) (slot s rest) = kept_by_slot i rest
+kept_by_slot (suc i) (written w c inside rest) = kept_by_slot i rest
+
+pub slots_are_kept : SlotsAreKept
+slots_are_kept lay a p same = record {
+  kept = λ i h. kept_by_slot i p.slots ∙ ap (option_and_then (kept_at 0)) (same i h) ∙ sym (kept_by_slot i (body_of lay a p.body).slots);
+}
+
+pub inside_is_scope : InsideIsScope
+inside_is_scope lay h is = (place_inside_kept lay h is, is.places)
+
+pub node_has_seen : NodeHasSeen
+node_has_seen lay h is = ap (λ (n : Node). n.core.seen) is.kept

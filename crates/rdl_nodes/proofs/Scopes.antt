@@ -18,18 +18,10 @@ use Rattle.rdl_seen.specs.Meaning.{around_before, kept_at}
 use Rattle.rdl_seen.specs.Node.{Around, Known, after_plain, after_holder, plain_instances, holder_instances, holder_slots, walked, body_of, node, known}
 use Rattle.rdl_seen.specs.Passing.{behind_item}
 use Rattle.rdl_seen.specs.Slots.{Core, Slots, Node}
-use Rattle.rdl_seen.proofs.Passing.{stands_behind_item}
+use Rattle.rdl_seen.proofs.Passing.{some_same, before_none, stands_behind_item}
 use Rattle.rdl_nodes.specs.Scopes.{Place, around_places, HasKept, IsScope, Holding, IsHolding, AreHeld, known_at, defined, definition, holding_at, last_type, find_type}
 
 -- ---- Items one by one.
-
-some_same : (x y : Item) → ◌≡◌ {A = Option Item} (Some x) (Some y) → x ≡ y
-some_same x y e = cc
-
-pub before_none : (lay : Laying) (a : Around) (t : Items) → around_before lay 0 a t ≡ a
-before_none lay a no_items = refl
-before_none lay a (plain p rest) = refl
-before_none lay a (holder h body rest) = refl
 
 pub before_past : (lay : Laying) (a : Around) (t : Items) (i : ℕ) → slice_get (list_of t) i ≡ None → around_before lay (suc i) a t ≡ around_before lay i a t
 before_past lay a no_items zero none = refl

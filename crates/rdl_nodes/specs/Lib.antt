@@ -18,6 +18,7 @@ pub mod KeptNode
 pub mod Part
 pub mod Parts
 pub mod Reached
+pub mod ScopeLaws
 pub mod Scopes
 pub mod SideBySide
 pub mod TakenOver

@@ -1,8 +1,7 @@
 -- What the targets of dynamic assignments find, told by bodies and slots alone.
 -- SystemRDL 2.0, clause 5, dynamic assignment: the target names instances, one inside the other.
 use Rattle.std.specs.Prelude.{◌≡◌, ℕ, zero, suc, ◌+◌, List, [], ◌∷◌, length, Option, Some, None, option_map, bytes_eq, slice_get, if◌then◌else◌}
-use Rattle.rdl_tree.specs.Component.{holder_kind}
-use Rattle.rdl_tree.specs.Items.{Items, no_items, plain, holder}
+use Rattle.rdl_tree.specs.Items.{Items}
 use Rattle.rdl_tree.specs.View.{list_of}
 use Rattle.rdl_tree.specs.declared.description.Item.{Item}
 use Rattle.rdl_tree.specs.declared.description.Item.TheVariants.{Define, Instance, Own, Default, Dynamic}
@@ -10,18 +9,10 @@ use Rattle.rdl_tree.specs.declared.description.Of.{Of}
 use Rattle.rdl_tree.specs.declared.description.Of.TheVariants.{Named, Anonymous}
 use Rattle.rdl_seen.specs.Inside.{Inside, no_instances, Within, nothing_within, Found}
 use Rattle.rdl_seen.specs.Layouts.{Laying}
-use Rattle.rdl_seen.specs.Node.{Around, known, after_plain, after_holder, plain_instances, holder_instances}
+use Rattle.rdl_seen.specs.OneByOne.{instances_before}
 use Rattle.rdl_nodes.specs.Scopes.{Place, around_places, Holding, AreHeld, known_at, holding_at, find_type}
 
 -- ---- As all of it is seen.
-
--- the instances among the first items of a body, behind these
-abbrev pub instances_before : Laying → ℕ → Around → Inside → Items → Inside
-instances_before lay zero a m t = m
-instances_before lay (suc i) a m no_items = m
-instances_before lay (suc i) a m (plain p rest) = instances_before lay i (after_plain p a) (plain_instances a p m) rest
-instances_before lay (suc i) a m (holder h body rest) =
-    let k = known lay a (holder_kind h) body in instances_before lay i (after_holder h k a) (holder_instances h k m) rest
 
 -- the instances that stand before a place in its body
 abbrev pub instances_at : Laying → List Place → Inside

@@ -1,4 +1,5 @@
 //! What holds of a body and of what it was. Nothing here does anything when it runs.
+ghost use Rattle.rdl_nodes.specs.ScopeLaws.{SlotsAreKept, InsideIsScope, NodeHasSeen};
 ghost use Rattle.rdl_nodes.specs.SideBySide.{NoMoreDiffersAlong, NoMoreDiffersBefore};
 ghost use Rattle.rdl_nodes.specs.TakenOver.{SameItemsStay, SlotsAreTakenOver};
 
@@ -15,4 +16,12 @@ pub fn no_more_differs()
 pub fn slots_are_taken_over()
     ensures items { SameItemsStay }
     ensures slots { SlotsAreTakenOver }
+{}
+
+/// Where a place is in order, so that what is looked up from it is what is seen there: where it has the slots of the items before it,
+/// and behind the items of a component that was found. The node of such a component has what is seen of it.
+pub fn places_are_in_order()
+    ensures slots { SlotsAreKept }
+    ensures inside { InsideIsScope }
+    ensures seen { NodeHasSeen }
 {}
