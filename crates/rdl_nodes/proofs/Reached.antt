@@ -119,33 +119,28 @@ within_of_known : (lay : Laying) (o : Option Holding) → within_at lay o ≡ wi
 within_of_known lay None = refl
 within_of_known lay (Some h) = refl
 
--- a component that is written there, by what is kept of it
+-- a component that is written there, by its node
+there : (i : ℕ) (p : Place) (ps : List Place) (c : Component) → Node → Holding
+there i p ps c n = record { kind = c.kind; body = c.body; node = n; places = record p { number = i } ∷ ps }
+
+-- if it is kept by itself
+kept_part : (lay : Laying) (i : ℕ) (p : Place) (ps : List Place) (c : Component) (k : Kind) (n : Node) → c.kind ≡ k → (o : Option Node) → o ≡ Some n
+    → within_at lay (option_map (there i p ps c) o) ≡ (known lay (around_before lay i (around_places lay ps) p.body) k c.body).within
+unfolding there
+kept_part lay i p ps c k n e None same = absurd cc
+kept_part lay i p ps c k n e (Some x) same = ap (λ z. (known lay (around_before lay i (around_places lay ps) p.body) z c.body).within) e
+
 part_found : (lay : Laying) (i : ℕ) (p : Place) (ps : List Place) (c : Component) (k : Kind) → c.kind ≡ k
     → kept_at i p.slots ≡ part_node lay (around_before lay i (around_places lay ps) p.body) k c.body
     → within_at lay (holding_at i p ps c) ≡ part_within lay (around_before lay i (around_places lay ps) p.body) k c.body
-part_found lay i p ps c Addrmap e kept = by (kept_at i p.slots) kept
-  where
-    by : (o : Option Node) → o ≡ Some (node lay (around_before lay i (around_places lay ps) p.body) Addrmap c.body)
-        → within_at lay (option_map (λ (n : Node). let z : Holding = record { kind = c.kind; body = c.body; node = n; places = record p { number = i } ∷ ps } in z) o)
-        ≡ (known lay (around_before lay i (around_places lay ps) p.body) Addrmap c.body).within
-    by None same = absurd cc
-    by (Some n) same = ap (λ k. (known lay (around_before lay i (around_places lay ps) p.body) k c.body).within) e
-part_found lay i p ps c Regfile e kept = by (kept_at i p.slots) kept
-  where
-    by : (o : Option Node) → o ≡ Some (node lay (around_before lay i (around_places lay ps) p.body) Regfile c.body)
-        → within_at lay (option_map (λ (n : Node). let z : Holding = record { kind = c.kind; body = c.body; node = n; places = record p { number = i } ∷ ps } in z) o)
-        ≡ (known lay (around_before lay i (around_places lay ps) p.body) Regfile c.body).within
-    by None same = absurd cc
-    by (Some n) same = ap (λ k. (known lay (around_before lay i (around_places lay ps) p.body) k c.body).within) e
-part_found lay i p ps c Reg e kept = by (kept_at i p.slots) kept
-  where
-    by : (o : Option Node) → o ≡ Some (node lay (around_before lay i (around_places lay ps) p.body) Reg c.body)
-        → within_at lay (option_map (λ (n : Node). let z : Holding = record { kind = c.kind; body = c.body; node = n; places = record p { number = i } ∷ ps } in z) o)
-        ≡ (known lay (around_before lay i (around_places lay ps) p.body) Reg c.body).within
-    by None same = absurd cc
-    by (Some n) same = ap (λ k. (known lay (around_before lay i (around_places lay ps) p.body) k c.body).within) e
-part_found lay i p ps c Field e kept =
-    ap (λ (o : Option Node). within_at lay (option_map (λ (n : Node). let z : Holding = record { kind = c.kind; body = c.body; node = n; places = record p { number = i } ∷ ps } in z) o)) kept
+unfolding there
+part_found lay i p ps c Addrmap e kept =
+    kept_part lay i p ps c Addrmap (node lay (around_before lay i (around_places lay ps) p.body) Addrmap c.body) e (kept_at i p.slots) kept
+part_found lay i p ps c Regfile e kept =
+    kept_part lay i p ps c Regfile (node lay (around_before lay i (around_places lay ps) p.body) Regfile c.body) e (kept_at i p.slots) kept
+part_found lay i p ps c Reg e kept =
+    kept_part lay i p ps c Reg (node lay (around_before lay i (around_places lay ps) p.body) Reg c.body) e (kept_at i p.slots) kept
+part_found lay i p ps c Field e kept = ap (λ (o : Option Node). within_at lay (option_map (there i p ps c) o)) kept
 
 -- the same place with fewer items before it
 fewer : (lay : Laying) (i : ℕ) (p : Place) (ps : List Place) → HasKept lay (around_places lay ps) p → IsScope lay ps → i < p.number → IsScope lay (record p { number = i } ∷ ps)
@@ -161,19 +156,25 @@ component_found lay i p ps s (Anonymous c) kept is h got =
 
 -- ---- And it is held.
 
+-- one that is kept by itself
+kept_part_held : (lay : Laying) (i : ℕ) (p : Place) (ps : List Place) (x : Item) (c : Component) (k : Kind) → c.kind ≡ k
+    → HasKept lay (around_places lay ps) p → IsScope lay ps → i < p.number → slice_get (list_of p.body) i ≡ Some x
+    → own_node lay (around_before lay i (around_places lay ps) p.body) x ≡ Some (node lay (around_before lay i (around_places lay ps) p.body) k c.body)
+    → AreHeld lay (holding_at i p ps c)
+kept_part_held lay i p ps x c k e kept is h got one =
+    held_at lay i p ps x c kept is h got (one ∙ ap (λ (z : Kind). Some (node lay (around_before lay i (around_places lay ps) p.body) z c.body)) (sym e))
+
 part_held : (lay : Laying) (i : ℕ) (p : Place) (ps : List Place) (x : Item) (c : Component) (k : Kind) → c.kind ≡ k
     → HasKept lay (around_places lay ps) p → IsScope lay ps → i < p.number → slice_get (list_of p.body) i ≡ Some x
     → own_node lay (around_before lay i (around_places lay ps) p.body) x ≡ part_node lay (around_before lay i (around_places lay ps) p.body) k c.body
     → AreHeld lay (holding_at i p ps c)
-part_held lay i p ps x c Addrmap e kept is h got one =
-    held_at lay i p ps x c kept is h got (one ∙ ap (λ (k : Kind). Some (node lay (around_before lay i (around_places lay ps) p.body) k c.body)) (sym e))
-part_held lay i p ps x c Regfile e kept is h got one =
-    held_at lay i p ps x c kept is h got (one ∙ ap (λ (k : Kind). Some (node lay (around_before lay i (around_places lay ps) p.body) k c.body)) (sym e))
-part_held lay i p ps x c Reg e kept is h got one =
-    held_at lay i p ps x c kept is h got (one ∙ ap (λ (k : Kind). Some (node lay (around_before lay i (around_places lay ps) p.body) k c.body)) (sym e))
+unfolding there
+part_held lay i p ps x c Addrmap e kept is h got one = kept_part_held lay i p ps x c Addrmap e kept is h got one
+part_held lay i p ps x c Regfile e kept is h got one = kept_part_held lay i p ps x c Regfile e kept is h got one
+part_held lay i p ps x c Reg e kept is h got one = kept_part_held lay i p ps x c Reg e kept is h got one
 part_held lay i p ps x c Field e kept is h got one =
     let none : kept_at i p.slots ≡ None = kept.kept i h ∙ kept_here lay i (around_places lay ps) no_instances p.body x got ∙ one in
-    subst (λ (o : Option Node). AreHeld lay (option_map (λ (n : Node). let z : Holding = record { kind = c.kind; body = c.body; node = n; places = record p { number = i } ∷ ps } in z) o)) (sym none) tt
+    subst (λ (o : Option Node). AreHeld lay (option_map (there i p ps c) o)) (sym none) tt
 
 component_held : (lay : Laying) (i : ℕ) (p : Place) (ps : List Place) (s : Shell) (o : Of) → HasKept lay (around_places lay ps) p → IsScope lay ps → i < p.number
     → slice_get (list_of p.body) i ≡ Some (Instance s o) → AreHeld lay (component_of i p ps o)

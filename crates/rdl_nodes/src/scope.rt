@@ -1,23 +1,22 @@
 //! What a body sees around it, told by bodies and slots alone, and looked up when it is asked.
 ghost use Rattle.std.specs.Prelude.{◌≡◌, ◌∷◌, [], option_map, option_copied};
-ghost use Rattle.rdl_seen.specs.Meaning.{kept_at};
 ghost use Rattle.rdl_nodes.specs.HeldScope.{place_of, outer_places, places_of, holding_of, found_of};
-ghost use Rattle.rdl_nodes.specs.Reached.{count_of, count_before, component_of, instance_named, find_before, instances_at, place_inside, find_inside, found_at, IsFoundHeld};
-ghost use Rattle.rdl_seen.specs.Inside.{find};
 ghost use Rattle.rdl_nodes.specs.KeptNode.{kept_of};
-ghost use Rattle.rdl_nodes.specs.Scopes.{around_places, IsScope, IsHolding, AreHeld, known_at, definition, last_type, find_type};
-ghost use Rattle.rdl_scope.specs.Closed.{lookup};
-ghost use Rattle.rdl_seen.specs.Layouts.{Laying};
+ghost use Rattle.rdl_nodes.specs.Reached.{instances_at, count_of, count_before, component_of, instance_named, find_before, place_inside, find_inside, found_at, IsFoundHeld};
+ghost use Rattle.rdl_nodes.specs.Scopes.{around_places, IsScope, IsHolding, AreHeld, known_at, definition, holding_at, last_type, find_type};
 ghost use Rattle.rdl_nodes.specs.View.{slots_of};
-ghost use Rattle.std.specs.Borrow.{Bor};
-ghost use Rattle.rdl_tree.specs.declared.description.Component.{Component};
+ghost use Rattle.rdl_scope.specs.Closed.{lookup};
+ghost use Rattle.rdl_seen.specs.Inside.{find};
+ghost use Rattle.rdl_seen.specs.Layouts.{Laying};
+ghost use Rattle.rdl_seen.specs.Meaning.{kept_at};
 
 use crate::node::{Kept, Slot};
 use rdl_text::is_same;
 use rdl_text::name::Name;
 use rdl_tree::description::{Body, Component, Item, Of};
 
-/// The place of an item in a body. It has the body, the slots of the items before this one, and the place of the item that holds the body.
+/// The place of an item in a body: how many items stand before it, their slots, and the place of the item that holds the body. So it
+/// tells what the item sees, and nothing is put by for that.
 #[cycle(scope)]
 #[derive(Clone, Copy)]
 pub struct Scope<'s> {
@@ -31,8 +30,9 @@ pub struct Scope<'s> {
 #[cycle(scope)]
 #[derive(Clone, Copy)]
 enum Outer<'s> {
-    /// It is that of the root.
+    /// It is the root's.
     Nowhere,
+    /// In the item at this place.
     In(&'s Scope<'s>),
 }
 
@@ -42,6 +42,13 @@ pub struct Holder<'s> {
     pub component: &'s Component,
     pub kept: Kept<'s>,
     pub scope: Scope<'s>,
+}
+
+/// An instance that is found: how many stand before it, and its component, if that is known and no field that is written there.
+#[derive(Clone, Copy)]
+pub struct FoundInstance<'s> {
+    pub number: usize,
+    pub holder: Option<Holder<'s>>,
 }
 
 /// The component of an item that is a definition of this name.
@@ -68,90 +75,6 @@ fn kept_slot<'s>(slots: &'s [Slot], number: usize) -> Option<Kept<'s>>
         Some(slot) => slot.kept(),
         None => None,
     }
-}
-
-impl<'s> Scope<'s> {
-    /// In the root's body.
-    pub fn root(body: &'s Body, number: usize, slots: &'s [Slot]) -> Scope<'s>
-        ensures { places_of result ≡ record { body = body.now; number = number; slots = slots_of slots.now } ∷ [] }
-    {
-        Scope {
-            body,
-            number,
-            slots,
-            outer: Outer::Nowhere,
-        }
-    }
-
-    /// In the body that the item at this place holds.
-    pub fn within(
-        outer: &'s Scope<'s>,
-        body: &'s Body,
-        number: usize,
-        slots: &'s [Slot],
-    ) -> Scope<'s>
-        ensures { places_of result ≡ record { body = body.now; number = number; slots = slots_of slots.now } ∷ places_of outer.now }
-    {
-        Scope {
-            body,
-            number,
-            slots,
-            outer: Outer::In(outer),
-        }
-    }
-
-    /// The last definition of this name that stands before it in its body.
-    fn last_type(&self, name: &Name) -> Option<Holder<'s>>
-        ensures { option_map holding_of result ≡ last_type name.now self.now.number (place_of self.now) (outer_places self.now.outer) }
-    {
-        for number in (0..self.number).rev() {
-            if let Some(component) = definition(self.body.item(number), name) {
-                return match kept_slot(self.slots, number) {
-                    Some(kept) => Some(Holder {
-                        component,
-                        kept,
-                        scope: Scope {
-                            body: self.body,
-                            number,
-                            slots: self.slots,
-                            outer: self.outer,
-                        },
-                    }),
-                    None => None,
-                };
-            }
-        }
-        None
-    }
-
-    /// The nearest definition of this name: the last one before it in its body, or else in those around it.
-    fn nearest_type(&self, name: &Name) -> Option<Holder<'s>>
-        ensures { option_map holding_of result ≡ find_type name.now (places_of self.now) }
-    {
-        match self.last_type(name) {
-            Some(found) => Some(found),
-            None => match self.outer {
-                Outer::Nowhere => None,
-                Outer::In(outer) => outer.nearest_type(name),
-            },
-        }
-    }
-
-    /// The type of this name that the item at this place sees.
-    pub fn find_type(&self, name: &Name) -> Option<Holder<'s>>
-        ensures found { option_map holding_of result ≡ find_type name.now (places_of self.now) }
-        ensures known { (lay : Laying) → IsScope lay (places_of self.now) → option_map (known_at lay) (option_map holding_of result) ≡ lookup name.now (around_places lay (places_of self.now)).types }
-        ensures held { (lay : Laying) → IsScope lay (places_of self.now) → AreHeld lay (option_map holding_of result) }
-    {
-        self.nearest_type(name)
-    }
-}
-
-/// An instance that is found: how many stand before it, and its component, if that is known and no field that is written there.
-#[derive(Clone, Copy)]
-pub struct FoundInstance<'s> {
-    pub number: usize,
-    pub holder: Option<Holder<'s>>,
 }
 
 /// What an item is an instance of, if it is one of this name.
@@ -192,6 +115,35 @@ fn count_before(body: &Body, number: usize) -> usize
 }
 
 impl<'s> Scope<'s> {
+    /// A place in the root's body: before the item of this number, where these are the slots of the items before it.
+    pub fn root(body: &'s Body, number: usize, slots: &'s [Slot]) -> Scope<'s>
+        ensures { places_of result ≡ record { body = body.now; number = number; slots = slots_of slots.now } ∷ [] }
+    {
+        Scope {
+            body,
+            number,
+            slots,
+            outer: Outer::Nowhere,
+        }
+    }
+
+    /// A place in the body that the item at the outer place holds.
+    pub fn within(
+        outer: &'s Scope<'s>,
+        body: &'s Body,
+        number: usize,
+        slots: &'s [Slot],
+    ) -> Scope<'s>
+        ensures { places_of result ≡ record { body = body.now; number = number; slots = slots_of slots.now } ∷ places_of outer.now }
+    {
+        Scope {
+            body,
+            number,
+            slots,
+            outer: Outer::In(outer),
+        }
+    }
+
     /// The place of the item of this number in the same body.
     fn at(&self, number: usize) -> Scope<'s>
         ensures { places_of result ≡ record (place_of self.now) { number = number } ∷ outer_places self.now.outer }
@@ -204,24 +156,65 @@ impl<'s> Scope<'s> {
         }
     }
 
+    /// The component that the item at this place holds, if that is kept by itself.
+    fn holder(&self, component: &'s Component) -> Option<Holder<'s>>
+        ensures { option_map holding_of result ≡ holding_at self.now.number (place_of self.now) (outer_places self.now.outer) component.now }
+    {
+        match kept_slot(self.slots, self.number) {
+            Some(kept) => Some(Holder {
+                component,
+                kept,
+                scope: self.at(self.number),
+            }),
+            None => None,
+        }
+    }
+
+    /// The last definition of this name that stands before it in its body.
+    fn last_type(&self, name: &Name) -> Option<Holder<'s>>
+        ensures { option_map holding_of result ≡ last_type name.now self.now.number (place_of self.now) (outer_places self.now.outer) }
+    {
+        for number in (0..self.number).rev() {
+            if let Some(component) = definition(self.body.item(number), name) {
+                return self.at(number).holder(component);
+            }
+        }
+        None
+    }
+
+    /// The nearest definition of this name: the last one before it in its body, or else in those around it.
+    fn nearest_type(&self, name: &Name) -> Option<Holder<'s>>
+        ensures { option_map holding_of result ≡ find_type name.now (places_of self.now) }
+    {
+        match self.last_type(name) {
+            Some(found) => Some(found),
+            None => match self.outer {
+                Outer::Nowhere => None,
+                Outer::In(outer) => outer.nearest_type(name),
+            },
+        }
+    }
+
+    /// The type of this name that the item at this place sees.
+    pub fn find_type(&self, name: &Name) -> Option<Holder<'s>>
+        ensures found { option_map holding_of result ≡ find_type name.now (places_of self.now) }
+        ensures known { (lay : Laying) → IsScope lay (places_of self.now) → option_map (known_at lay) (option_map holding_of result) ≡ lookup name.now (around_places lay (places_of self.now)).types }
+        ensures held { (lay : Laying) → IsScope lay (places_of self.now) → AreHeld lay (option_map holding_of result) }
+    {
+        self.nearest_type(name)
+    }
+
     /// What the instance at this place is an instance of.
     fn component(&self, of: &'s Of) -> Option<Holder<'s>>
         ensures { option_map holding_of result ≡ component_of self.now.number (place_of self.now) (outer_places self.now.outer) of.now }
     {
         match of {
             Of::Named(name) => self.find_type(name),
-            Of::Anonymous(component) => match kept_slot(self.slots, self.number) {
-                Some(kept) => Some(Holder {
-                    component,
-                    kept,
-                    scope: self.at(self.number),
-                }),
-                None => None,
-            },
+            Of::Anonymous(component) => self.holder(component),
         }
     }
 
-    /// The last instance of this name that stands before it in its body.
+    /// The last instance of this name that stands before it, with what it is an instance of.
     fn last_instance(&self, name: &Name) -> Option<FoundInstance<'s>>
         ensures { option_map found_of result ≡ find_before name.now self.now.number (place_of self.now) (outer_places self.now.outer) }
     {
@@ -235,9 +228,7 @@ impl<'s> Scope<'s> {
         }
         None
     }
-}
 
-impl<'s> Scope<'s> {
     /// The last instance of this name that stands before it in its body.
     pub fn find_instance(&self, name: &Name) -> Option<FoundInstance<'s>>
         ensures found { option_map found_of result ≡ find_before name.now self.now.number (place_of self.now) (outer_places self.now.outer) }
@@ -249,7 +240,7 @@ impl<'s> Scope<'s> {
 }
 
 impl<'s> Holder<'s> {
-    /// Behind its items.
+    /// The place behind its items.
     fn inside(&'s self) -> Scope<'s>
         ensures { places_of result ≡ place_inside (holding_of self.now) ∷ (holding_of self.now).places }
     {
