@@ -1,13 +1,13 @@
 -- Where a target ends from a place is where it ends among all instances there.
-use Rattle.std.proofs.Common.{◌≡◌, ℕ, List, [], ◌∷◌, Option, Some, None, option_map, refl, sym, ap, ◌∙◌, ◌≤◌, arith}
+use Rattle.std.proofs.Common.{◌≡◌, ℕ, List, [], ◌∷◌, Option, Some, None, option_map, refl, sym, ap, ◌∙◌, arith}
 use Rattle.std.specs.Prelude.{option_and_then}
 use Rattle.rdl_tree.specs.declared.shell.Kind.{Kind}
 use Rattle.rdl_seen.specs.Clean.{kind_in}
-use Rattle.rdl_seen.specs.Inside.{Inside, Within, nothing_within, Spots, Found, find, End, end_in, Asked, is_fitting_end, Verdict, known, own_verdict, inner_verdict, target_verdict, verdict_of}
+use Rattle.rdl_seen.specs.Inside.{Inside, nothing_within, Spots, Found, find, End, end_in, Asked, is_fitting_end, known, own_verdict, inner_verdict, target_verdict, verdict_of}
 use Rattle.rdl_seen.specs.Layouts.{Laying}
 use Rattle.rdl_seen.specs.Slots.{Node}
 use Rattle.rdl_nodes.specs.Scopes.{Place, IsScope, Holding, IsHolding, AreHeld, known_at}
-use Rattle.rdl_nodes.specs.Reached.{instances_at, FoundAt, find_before, find_inside, within_at, found_at, IsFoundHeld}
+use Rattle.rdl_nodes.specs.Reached.{instances_at, FoundAt, find_inside, within_at, found_at, IsFoundHeld}
 use Rattle.rdl_nodes.specs.Ends.{find_at, spots_at, end_at, own_verdict_at, inner_verdict_at, target_verdict_at, verdict_at, kind_of_holding, kind_from, kind_at}
 use Rattle.rdl_nodes.proofs.Reached.{instance_found, instance_held, inside_found, inside_held}
 

@@ -1,5 +1,5 @@
 -- What a target finds from a place is what it finds among all instances there.
-use Rattle.std.proofs.Common.{◌≡◌, ℕ, zero, suc, ◌+◌, ◌<◌, ◌≤◌, List, [], ◌∷◌, length, Bool, true, false, Option, Some, None, option_map, refl, sym, ap, subst, ◌∙◌, arith}
+use Rattle.std.proofs.Common.{◌≡◌, ℕ, zero, suc, ◌+◌, ◌<◌, ◌≤◌, List, ◌∷◌, length, Bool, true, false, Option, Some, None, option_map, refl, sym, ap, subst, ◌∙◌, arith}
 use Rattle.std.specs.Prelude.{bytes_eq, slice_get, option_and_then, if◌then◌else◌}
 use Rattle.rdl_tree.specs.Component.{holder_kind}
 use Rattle.rdl_tree.specs.Items.{Items, no_items, plain, holder, Plain, named, own, default, dynamic, Holder, define, anonymous}
@@ -16,14 +16,14 @@ use Rattle.rdl_scope.specs.Closed.{lookup}
 use Rattle.rdl_seen.specs.Inside.{Inside, no_instances, Within, nothing_within, with_instance, how_many, Found, find}
 use Rattle.rdl_seen.specs.Layouts.{Laying}
 use Rattle.rdl_seen.specs.Meaning.{around_before, kept_at}
-use Rattle.rdl_seen.specs.Node.{Around, Known, after_plain, after_holder, plain_instances, holder_instances, within_type, walked, body_of, node, known}
+use Rattle.rdl_seen.specs.Node.{Around, after_plain, after_holder, plain_instances, holder_instances, within_type, walked, body_of, node, known}
 use Rattle.rdl_seen.specs.OneByOne.{slot_at, instances_before}
 use Rattle.rdl_seen.specs.Slots.{Slots, no_slots, slot, written, Node}
 use Rattle.rdl_seen.proofs.Passing.{some_same}
 use Rattle.rdl_nodes.specs.Scopes.{Place, around_places, HasKept, IsScope, Holding, IsHolding, AreHeld, known_at, holding_at, find_type}
 use Rattle.rdl_nodes.specs.ScopeLaws.{SlotsAreKept, InsideIsScope, NodeHasSeen}
 use Rattle.rdl_nodes.specs.Reached.{count_of, count_before, FoundAt, component_of, instance_of, instance_named, find_before, place_inside, find_inside, within_at, found_at, IsFoundHeld}
-use Rattle.rdl_nodes.proofs.Scopes.{own_node, part_node, kept_here, holding_there, held_at, type_known, type_held}
+use Rattle.rdl_nodes.proofs.Scopes.{own_node, part_node, kept_here, held_at, type_known, type_held}
 
 -- ---- Instances one by one.
 

@@ -1,6 +1,6 @@
 -- What a name finds from a place is what it finds in all that is seen there.
 use Rattle.std.proofs.Common.{◌≡◌, ℕ, zero, suc, ◌<◌, ◌≤◌, List, [], ◌∷◌, Bool, true, false, Option, Some, None, option_map, refl, sym, ap, subst, ◌∙◌, arith}
-use Rattle.std.specs.Prelude.{bytes_eq, slice_get, if◌then◌else◌, IfSome}
+use Rattle.std.specs.Prelude.{bytes_eq, slice_get, if◌then◌else◌}
 use Rattle.std.specs.Option.{option_or}
 use Rattle.rdl_tree.specs.Component.{holder_kind}
 use Rattle.rdl_tree.specs.Items.{Items, no_items, plain, holder, Plain, named, own, default, dynamic, Holder, define, anonymous}
@@ -15,11 +15,11 @@ use Rattle.rdl_scope.specs.Closed.{lookup}
 use Rattle.rdl_seen.specs.Inside.{Inside, no_instances}
 use Rattle.rdl_seen.specs.Layouts.{Laying}
 use Rattle.rdl_seen.specs.Meaning.{around_before, kept_at}
-use Rattle.rdl_seen.specs.Node.{Around, Known, after_plain, after_holder, plain_instances, holder_instances, holder_slots, walked, body_of, node, known}
+use Rattle.rdl_seen.specs.Node.{Around, Known, after_plain, after_holder, plain_instances, holder_instances, holder_slots, walked, node, known}
 use Rattle.rdl_seen.specs.Passing.{behind_item}
 use Rattle.rdl_seen.specs.Slots.{Core, Slots, Node}
 use Rattle.rdl_seen.proofs.Passing.{some_same, before_none, stands_behind_item}
-use Rattle.rdl_nodes.specs.Scopes.{Place, around_places, HasKept, IsScope, Holding, IsHolding, AreHeld, known_at, defined, definition, holding_at, last_type, find_type}
+use Rattle.rdl_nodes.specs.Scopes.{Place, around_places, HasKept, IsScope, Holding, AreHeld, known_at, defined, definition, holding_at, last_type, find_type}
 
 -- ---- Items one by one.
 

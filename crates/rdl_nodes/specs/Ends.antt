@@ -1,6 +1,6 @@
 -- Where targets end, told by bodies and slots alone.
 -- SystemRDL 2.0, clause 5, dynamic assignment: the target names instances, one inside the other.
-use Rattle.std.specs.Prelude.{◌≡◌, ℕ, true, List, [], ◌∷◌, Option, Some, None, option_map, option_and_then}
+use Rattle.std.specs.Prelude.{ℕ, true, List, [], ◌∷◌, Option, Some, None, option_map, option_and_then}
 use Rattle.rdl_tree.specs.declared.shell.Kind.{Kind}
 use Rattle.rdl_tree.specs.declared.shell.Kind.TheVariants.{Field}
 use Rattle.rdl_seen.specs.Inside.{Spots, End, Asked, is_fitting_end, Verdict, known, asks_own}

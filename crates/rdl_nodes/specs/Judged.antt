@@ -1,6 +1,6 @@
 -- The fault of an item, by all that its body sees, and looked up from its place.
 -- SystemRDL 2.0, clause 5: names, scopes, definitions, instances, property assignments and defaults.
-use Rattle.std.specs.Prelude.{ℕ, List, ◌∷◌, Option, Some, None, option_map}
+use Rattle.std.specs.Prelude.{ℕ, List, ◌∷◌, Option, Some, option_map}
 use Rattle.std.specs.Option.{is_some}
 use Rattle.rdl_tree.specs.Items.{Items, named, own, default, dynamic, define, anonymous}
 use Rattle.rdl_tree.specs.Properties.{property_of}

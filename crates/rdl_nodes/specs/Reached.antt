@@ -1,6 +1,6 @@
 -- What the targets of dynamic assignments find, told by bodies and slots alone.
 -- SystemRDL 2.0, clause 5, dynamic assignment: the target names instances, one inside the other.
-use Rattle.std.specs.Prelude.{◌≡◌, ℕ, zero, suc, ◌+◌, List, [], ◌∷◌, length, Option, Some, None, option_map, bytes_eq, slice_get, if◌then◌else◌}
+use Rattle.std.specs.Prelude.{ℕ, zero, suc, ◌+◌, List, [], ◌∷◌, length, Option, Some, None, bytes_eq, slice_get, if◌then◌else◌}
 use Rattle.rdl_tree.specs.Items.{Items}
 use Rattle.rdl_tree.specs.View.{list_of}
 use Rattle.rdl_tree.specs.declared.description.Item.{Item}

@@ -1,4 +1,4 @@
-use Rattle.std.proofs.Common.{◌≤◌, ap, subst, sym, ◌∙◌, option_map, arith}
+use Rattle.std.proofs.Common.{ap, subst, sym, ◌∙◌, option_map, arith}
 use Rattle.rdl_nodes.specs.HeldScope.{place_of, outer_places}
 use Rattle.rdl_nodes.specs.Reached.{found_at, IsFoundHeld}
 use Rattle.rdl_nodes.proofs.Reached.{instance_found, instance_held}
