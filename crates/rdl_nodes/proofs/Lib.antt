@@ -1,4 +1,5 @@
 pub mod Bodies
+pub mod CleanItems
 pub mod Defined
 pub mod Ends
 pub mod FromBehind

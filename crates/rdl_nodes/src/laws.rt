@@ -1,5 +1,5 @@
 //! What holds of a body and of what it was. Nothing here does anything when it runs.
-ghost use Rattle.rdl_nodes.specs.ScopeLaws.{SlotsAreKept, InsideIsScope, NodeHasSeen};
+ghost use Rattle.rdl_nodes.specs.ScopeLaws.{SlotsAreKept, InsideIsScope, NodeHasSeen, BodiesAreCleanByItems, ItemsAreCleanInBodies};
 ghost use Rattle.rdl_nodes.specs.SideBySide.{NoMoreDiffersAlong, NoMoreDiffersBefore};
 ghost use Rattle.rdl_nodes.specs.TakenOver.{SameItemsStay, SlotsAreTakenOver};
 
@@ -24,4 +24,10 @@ pub fn places_are_in_order()
     ensures slots { SlotsAreKept }
     ensures inside { InsideIsScope }
     ensures seen { NodeHasSeen }
+{}
+
+/// A body has no fault exactly where each of its items has none by what is seen before it, and none inside it has one.
+pub fn bodies_are_judged_by_items()
+    ensures bodies { BodiesAreCleanByItems }
+    ensures items { ItemsAreCleanInBodies }
 {}
