@@ -1,11 +1,16 @@
 pub mod Alone
 pub mod Bodies
+pub mod CleanItems
 pub mod Defined
+pub mod Ends
 pub mod FromBehind
 pub mod Instances
+pub mod Judged
 pub mod Kept
 pub mod Onward
 pub mod Paths
+pub mod Reached
+pub mod Scopes
 pub mod SideBySide
 pub mod StayClean
 pub mod TakenOver

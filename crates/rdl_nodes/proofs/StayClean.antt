@@ -1,4 +1,4 @@
--- The items of a body have a fault one by one, and those that stayed still have none.
+-- The items of a body that stayed as they were, and had no fault, still have none.
 use Rattle.std.proofs.Common.{◌≡◌, ℕ, zero, suc, ◌+◌, Bool, true, false, List, [], ◌∷◌, Option, Some, None, option_map, refl, sym, ap, subst, ◌∙◌, arith}
 use Rattle.std.specs.Prelude.{◌&&◌, ◌||◌, not, slice_get}
 use Rattle.std.specs.Option.{is_some, is_none}
@@ -38,96 +38,14 @@ use Rattle.rdl_seen.proofs.Around.{same_seen}
 use Rattle.rdl_marks.specs.Describes.{Describes, IsItem}
 use Rattle.rdl_marks.specs.Marks.{Marks, no_firsts, no_marks}
 use Rattle.rdl_nodes.specs.Alone.{stands_alone}
-use Rattle.rdl_nodes.specs.StayClean.{is_clean_item, CleanOneByOne, EachIsClean, LeadsToSameKind, CleanItemsStayClean}
+use Rattle.rdl_nodes.specs.Judged.{item_fault}
+use Rattle.rdl_nodes.specs.ScopeLaws.{IsCleanInside}
+use Rattle.rdl_nodes.specs.StayClean.{LeadsToSameKind, CleanItemsStayClean}
 use Rattle.rdl_nodes.specs.TakenOver.{IsAsItWas}
 use Rattle.rdl_nodes.proofs.Alone.{two_true, and_true, was_false, clean_stand_alone, stands_alone_still}
+use Rattle.rdl_nodes.proofs.CleanItems.{items_are_clean_in_bodies}
 use Rattle.rdl_nodes.proofs.SideBySide.{no_more_differs_before}
 use Rattle.rdl_nodes.proofs.TakenOver.{same_items_stay}
-
--- ---- One by one.
-
-holder_clean : (lay : Laying) (a : Around) (around : Option Kind) (body : Items) (n : ℕ) (before : Inside) (h : Holder) (inner : Items) → is_none (holder_fault around body n h) ≡ true → is_clean lay a (holder_kind h) inner ≡ true
-    → is_clean_item lay a around body n before (holder_item h inner) ≡ true
-holder_clean lay a around body n before (define m k) inner e g = and_true (is_none (holder_fault around body n (define m k))) (is_clean lay a k inner) e g
-holder_clean lay a around body n before (anonymous s k) inner e g = and_true (is_none (holder_fault around body n (anonymous s k))) (is_clean lay a k inner) e g
-
-plain_clean : (lay : Laying) (a : Around) (around : Option Kind) (body : Items) (n : ℕ) (before : Inside) (p : Plain) → is_none (plain_fault a around body n before p) ≡ is_clean_item lay a around body n before (plain_item p)
-plain_clean lay a around body n before (named s t) = refl
-plain_clean lay a around body n before (own p v) = refl
-plain_clean lay a around body n before (default p v) = refl
-plain_clean lay a around body n before (dynamic t p v) = refl
-
-holder_parts : (lay : Laying) (a : Around) (around : Option Kind) (body : Items) (n : ℕ) (before : Inside) (h : Holder) (inner : Items)
-    → (is_none (holder_fault around body n h) && is_clean lay a (holder_kind h) inner) ≡ is_clean_item lay a around body n before (holder_item h inner)
-holder_parts lay a around body n before (define m k) inner = refl
-holder_parts lay a around body n before (anonymous s k) inner = refl
-
--- the items of a body from number n on, which stand behind these
-abbrev AllClean : Laying → Around → Option Kind → (body : Items) → ℕ → Inside → Items → Type 0
-AllClean lay a around body n before t =
-    (k j : ℕ) (y : Item) → n + k ≡ j → slice_get (list_of t) k ≡ Some y → is_clean_item lay (around_before lay k a t) around body j (instances_before lay k a before t) y ≡ true
-
-first_number : (n : ℕ) → n + 0 ≡ n
-first_number n = omega arith
-
-later_number : (n k j : ℕ) → suc n + k ≡ j → n + suc k ≡ j
-later_number n k j e = omega (arith, e)
-
-all_clean : (lay : Laying) (a : Around) (around : Option Kind) (body : Items) (n : ℕ) (before : Inside) (t : Items) → AllClean lay a around body n before t → are_clean lay a around body n before t ≡ true
-all_clean lay a around body n before no_items h = refl
-all_clean lay a around body n before (plain p rest) h =
-    and_true (is_none (plain_fault a around body n before p)) (are_clean lay (after_plain p a) around body (suc n) (plain_instances a p before) rest)
-    (plain_clean lay a around body n before p ∙ h 0 n (plain_item p) (first_number n) refl)
-    (all_clean lay (after_plain p a) around body (suc n) (plain_instances a p before) rest (λ k j y e got. h (suc k) j y (later_number n k j e) got))
-all_clean lay a around body n before (holder w inner rest) h =
-    let c = known lay a (holder_kind w) inner in
-    let here =
-    two_true (is_none (holder_fault around body n w)) (is_clean lay a (holder_kind w) inner) (holder_parts lay a around body n before w inner ∙ h 0 n (holder_item w inner) (first_number n) refl) in
-    and_true (is_none (holder_fault around body n w))
-    (are_clean lay a (Some (holder_kind w)) inner 0 no_instances inner && are_clean lay (after_holder w c a) around body (suc n) (holder_instances w c before) rest) here.0
-    (and_true (are_clean lay a (Some (holder_kind w)) inner 0 no_instances inner) (are_clean lay (after_holder w c a) around body (suc n) (holder_instances w c before) rest) here.1
-    (all_clean lay (after_holder w c a) around body (suc n) (holder_instances w c before) rest (λ k j y e got. h (suc k) j y (later_number n k j e) got)))
-
-pub clean_one_by_one : CleanOneByOne
-clean_one_by_one lay a around body h =
-    all_clean lay a around body 0 no_instances body
-    (λ k j y e got.
-    let same : k ≡ j = omega (arith, e) in
-    subst (λ z. is_clean_item lay (around_before lay k a body) around body z (instances_before lay k a no_instances body) y ≡ true) same (h k y got))
-
-each_from : (lay : Laying) (a : Around) (around : Option Kind) (body : Items) (n : ℕ) (before : Inside) (t : Items) → are_clean lay a around body n before t ≡ true → AllClean lay a around body n before t
-each_from lay a around body n before no_items e k j y at got = absurd cc
-each_from lay a around body n before (plain p rest) e zero j y at got =
-    let two = two_true (is_none (plain_fault a around body n before p)) (are_clean lay (after_plain p a) around body (suc n) (plain_instances a p before) rest) e in
-    let same : plain_item p ≡ y = cc in
-    let here : n ≡ j = omega (arith, at) in
-    subst (λ z. is_clean_item lay a around body z before y ≡ true) here
-    (subst (λ z. is_clean_item lay a around body n before z ≡ true) same (sym (plain_clean lay a around body n before p) ∙ two.0))
-each_from lay a around body n before (plain p rest) e (suc k) j y at got =
-    let two = two_true (is_none (plain_fault a around body n before p)) (are_clean lay (after_plain p a) around body (suc n) (plain_instances a p before) rest) e in
-    each_from lay (after_plain p a) around body (suc n) (plain_instances a p before) rest two.1 k j y (omega (arith, at)) got
-each_from lay a around body n before (holder w inner rest) e zero j y at got =
-    let c = known lay a (holder_kind w) inner in
-    let two =
-    two_true (is_none (holder_fault around body n w))
-    (are_clean lay a (Some (holder_kind w)) inner 0 no_instances inner && are_clean lay (after_holder w c a) around body (suc n) (holder_instances w c before) rest) e in
-    let more =
-    two_true (are_clean lay a (Some (holder_kind w)) inner 0 no_instances inner) (are_clean lay (after_holder w c a) around body (suc n) (holder_instances w c before) rest) two.1 in
-    let same : holder_item w inner ≡ y = cc in
-    let here : n ≡ j = omega (arith, at) in
-    subst (λ z. is_clean_item lay a around body z before y ≡ true) here
-    (subst (λ z. is_clean_item lay a around body n before z ≡ true) same (holder_clean lay a around body n before w inner two.0 more.0))
-each_from lay a around body n before (holder w inner rest) e (suc k) j y at got =
-    let c = known lay a (holder_kind w) inner in
-    let two =
-    two_true (is_none (holder_fault around body n w))
-    (are_clean lay a (Some (holder_kind w)) inner 0 no_instances inner && are_clean lay (after_holder w c a) around body (suc n) (holder_instances w c before) rest) e in
-    let more =
-    two_true (are_clean lay a (Some (holder_kind w)) inner 0 no_instances inner) (are_clean lay (after_holder w c a) around body (suc n) (holder_instances w c before) rest) two.1 in
-    each_from lay (after_holder w c a) around body (suc n) (holder_instances w c before) rest more.1 k j y (omega (arith, at)) got
-
-pub each_is_clean : EachIsClean
-each_is_clean lay a around body e n y got = each_from lay a around body 0 no_instances body e n n y (let same : 0 + n ≡ n = omega arith in same) got
 
 -- ---- Faults of one item, which stands alone in both bodies.
 
@@ -200,6 +118,10 @@ same_kind (Some k) (Some l) e = let same : k.seen ≡ l.seen = cc in ap (λ (s :
 no_inside : (z : Bool) → (false && z) ≡ false
 no_inside z = refl
 
+-- it has no fault, nor has any inside it
+abbrev IsCleanItem : Laying → Around → Option Kind → (body : Items) → ℕ → Inside → Item → Type 0
+IsCleanItem lay a around body n before y = (is_none (item_fault a around body n before y) ≡ true) × IsCleanInside lay a y
+
 -- of one item, in the two bodies
 module _ (lay : Laying) (x : Alert) (around : Option Kind) (old now : Items) (a b : Around) (m w : Inside) (but : AgreeBut x a b) where
   kinds_stay : (t : List ℕ) → has_class x.types (class_of t) ≡ false → kind_of t b ≡ kind_of t a
@@ -214,22 +136,18 @@ module _ (lay : Laying) (x : Alert) (around : Option Kind) (old now : Items) (a 
   inside_stays Field body deaf e = field_stays lay a b body 0 body e
 
   -- it stands alone in both
-  item_stays : (n i : ℕ) (y : Item) → stands_alone old n y ≡ true → stands_alone now i y ≡ true → IsDeaf lay x a m w y → LeadsToSameKind m w y → is_clean_item lay a around old n m y ≡ true
-      → is_clean_item lay b around now i w y ≡ true
+  item_stays : (n i : ℕ) (y : Item) → stands_alone old n y ≡ true → stands_alone now i y ≡ true → IsDeaf lay x a m w y → LeadsToSameKind m w y → IsCleanItem lay a around old n m y
+      → IsCleanItem lay b around now i w y
   item_stays n i (Define name c) was is deaf leads e =
-      let two = two_true (is_none (holder_fault around old n (define name c.kind))) (is_clean lay a c.kind c.body) e in
       let alone = both_false (is_some (last_definition name i now)) (is_some (last_definition name n old)) (was_false (is_some (last_definition name i now)) is) (was_false (is_some (last_definition name n old)) was) in
-      and_true (is_none (holder_fault around now i (define name c.kind))) (is_clean lay b c.kind c.body)
-      (ap (λ (z : Bool). is_none (define_fault around z c.kind)) alone ∙ two.0) ((unreached_are_kept lay x a b c.kind c.body but deaf).1 ∙ two.1)
+      (ap (λ (z : Bool). is_none (define_fault around z c.kind)) alone ∙ e.0, (unreached_are_kept lay x a b c.kind c.body but deaf).1 ∙ e.1)
   item_stays n i (Instance s (Named t)) was is deaf leads e =
       let alone = both_false (is_some (instance_before s.name i now)) (is_some (instance_before s.name n old)) (was_false (is_some (instance_before s.name i now)) is) (was_false (is_some (instance_before s.name n old)) was) in
       let kinds = kinds_stay t deaf in
-      (λ j. is_none (instance_fault around (alone j) s (kinds j))) ∙ e
+      ((λ j. is_none (instance_fault around (alone j) s (kinds j))) ∙ e.0, tt)
   item_stays n i (Instance s (Anonymous c)) was is deaf leads e =
-      let two = two_true (is_none (holder_fault around old n (anonymous s c.kind))) (is_clean lay a c.kind c.body) e in
       let alone = both_false (is_some (instance_before s.name i now)) (is_some (instance_before s.name n old)) (was_false (is_some (instance_before s.name i now)) is) (was_false (is_some (instance_before s.name n old)) was) in
-      and_true (is_none (holder_fault around now i (anonymous s c.kind))) (is_clean lay b c.kind c.body)
-      (ap (λ (z : Bool). is_none (instance_fault around z s (Some c.kind))) alone ∙ two.0) (inside_stays c.kind c.body deaf two.1)
+      (ap (λ (z : Bool). is_none (instance_fault around z s (Some c.kind))) alone ∙ e.0, inside_stays c.kind c.body deaf e.1)
   item_stays n i (Own p v) was is deaf leads e =
       let first = two_true (not (is_some (own_before p n old))) (not (not (is_false v) && excluded_by n old (property_of p))) was in
       let second = two_true (not (is_some (own_before p i now))) (not (not (is_false v) && excluded_by i now (property_of p))) is in
@@ -237,16 +155,18 @@ module _ (lay : Laying) (x : Alert) (around : Option Kind) (old now : Items) (a 
       let none_old = was_false (is_some (own_before p n old)) first.0 in
       let same =
       both_false (not (is_false v) && excluded_by i now (property_of p)) (not (is_false v) && excluded_by n old (property_of p))
-      (was_false (not (is_false v) && excluded_by i now (property_of p)) second.1) (was_false (not (is_false v) && excluded_by n old (property_of p)) first.1) in
-      ap (λ (z : Bool). is_none (own_fault around z (excluded_by i now (property_of p)) (property_of p) v)) none_now
-      ∙ (ap (λ o. is_none o) (own_same around (excluded_by i now (property_of p)) (excluded_by n old (property_of p)) (property_of p) v same)
-      ∙ (ap (λ (z : Bool). is_none (own_fault around z (excluded_by n old (property_of p)) (property_of p) v)) (sym none_old) ∙ e))
+      (was_false (not (is_false v) && excluded_by i now (property_of p)) second.1) (was_false (not (is_false v) && excluded_by n old (property_of p)) first.1) in (
+        ap (λ (z : Bool). is_none (own_fault around z (excluded_by i now (property_of p)) (property_of p) v)) none_now
+            ∙ (ap (λ o. is_none o) (own_same around (excluded_by i now (property_of p)) (excluded_by n old (property_of p)) (property_of p) v same)
+            ∙ (ap (λ (z : Bool). is_none (own_fault around z (excluded_by n old (property_of p)) (property_of p) v)) (sym none_old) ∙ e.0)),
+        tt,
+      )
   item_stays n i (Default p v) was is deaf leads e =
       let alone = both_false (is_some (last_default p i now)) (is_some (last_default p n old)) (was_false (is_some (last_default p i now)) is) (was_false (is_some (last_default p n old)) was) in
-      ap (λ (z : Bool). is_none (default_fault z (property_of p) v)) alone ∙ e
+      (ap (λ (z : Bool). is_none (default_fault z (property_of p) v)) alone ∙ e.0, tt)
   item_stays n i (Dynamic t p v) was is deaf leads e =
       let alone = both_false (reached_before t p i now) (reached_before t p n old) (was_false (reached_before t p i now) is) (was_false (reached_before t p n old) was) in
-      (λ j. is_none (dynamic_fault (alone j) (property_of p) v (sym leads j))) ∙ e
+      ((λ j. is_none (dynamic_fault (alone j) (property_of p) v (sym leads j))) ∙ e.0, tt)
 
 pub clean_items_stay_clean : CleanItemsStayClean
 clean_items_stay_clean lay x m old now a b around to described ordered tells but clean i n y up got h deaf leads others =
@@ -254,4 +174,4 @@ clean_items_stay_clean lay x m old now a b around to described ordered tells but
     let before = no_more_differs_before lay x m old now a b to described ordered tells but i n no_firsts no_marks y up got h refl in
     item_stays lay x around old now (around_before lay n a old) (around_before lay i b now) (instances_before lay n a no_instances old) (instances_before lay i b no_instances now) before n i y
     (clean_stand_alone lay a around no_instances old clean n y was)
-    (stands_alone_still m old now described (clean_stand_alone lay a around no_instances old clean) i n y got h others) deaf leads (each_is_clean lay a around old clean n y was)
+    (stands_alone_still m old now described (clean_stand_alone lay a around no_instances old clean) i n y got h others) deaf leads (items_are_clean_in_bodies lay a around old clean n y was)

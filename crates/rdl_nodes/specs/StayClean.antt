@@ -1,47 +1,26 @@
--- The items of a body have a fault one by one, and those that stayed still have none.
+-- The items of a body that stayed as they were, and had no fault, still have none.
 -- own: SystemRDL 2.0 has no edits.
-use Rattle.std.specs.Prelude.{◌≡◌, ℕ, ◌<◌, ◌≤◌, ◌&&◌, Bool, true, false, List, Option, Some, ◌⊎◌}
+use Rattle.std.specs.Prelude.{◌≡◌, ℕ, ◌<◌, ◌≤◌, true, false, Option, ◌⊎◌}
 use Rattle.std.specs.Option.{is_none}
-use Rattle.rdl_tree.specs.Items.{Items, named, own, default, dynamic, define, anonymous}
+use Rattle.rdl_tree.specs.Items.{Items}
 use Rattle.rdl_tree.specs.declared.description.Item.{Item}
 use Rattle.rdl_tree.specs.declared.description.Item.TheVariants.{Define, Instance, Own, Default, Dynamic}
-use Rattle.rdl_tree.specs.declared.description.Of.TheVariants.{Named, Anonymous}
 use Rattle.rdl_tree.specs.declared.shell.Kind.{Kind}
 use Rattle.rdl_marks.specs.Describes.{Describes, IsItem}
 use Rattle.rdl_marks.specs.InOrder.{AreInOrder}
 use Rattle.rdl_marks.specs.Marks.{Marks}
 use Rattle.rdl_seen.specs.declared.alert.Alert.{Alert}
 use Rattle.rdl_seen.specs.Alert.{AgreeBut}
-use Rattle.rdl_seen.specs.Clean.{are_clean, is_clean, kind_in, plain_fault, holder_fault}
+use Rattle.rdl_seen.specs.Clean.{are_clean, kind_in}
 use Rattle.rdl_seen.specs.Inside.{Inside, no_instances}
 use Rattle.rdl_seen.specs.Layouts.{Laying}
 use Rattle.rdl_seen.specs.Meaning.{around_before}
 use Rattle.rdl_seen.specs.Node.{Around}
 use Rattle.rdl_seen.specs.OneByOne.{instances_before, IsDeaf}
 use Rattle.rdl_nodes.specs.Alone.{clashes}
+use Rattle.rdl_nodes.specs.ScopeLaws.{fault_of_item, IsCleanInside}
 use Rattle.rdl_nodes.specs.SideBySide.{TellsOfAll}
 use Rattle.rdl_nodes.specs.TakenOver.{IsAsItWas}
-
--- item n of the body has no fault, by what stands before it, nor has any item inside it
-abbrev pub is_clean_item : Laying → Around → Option Kind → (body : Items) → ℕ → Inside → Item → Bool
-is_clean_item lay a around body n before (Define name c) = is_none (holder_fault around body n (define name c.kind)) && is_clean lay a c.kind c.body
-is_clean_item lay a around body n before (Instance s (Named t)) = is_none (plain_fault a around body n before (named s t))
-is_clean_item lay a around body n before (Instance s (Anonymous c)) = is_none (holder_fault around body n (anonymous s c.kind)) && is_clean lay a c.kind c.body
-is_clean_item lay a around body n before (Own p v) = is_none (plain_fault a around body n before (own p v))
-is_clean_item lay a around body n before (Default p v) = is_none (plain_fault a around body n before (default p v))
-is_clean_item lay a around body n before (Dynamic t p v) = is_none (plain_fault a around body n before (dynamic t p v))
-
--- a body's items are clean where each is
-abbrev pub CleanOneByOne : Type 0
-CleanOneByOne =
-    (lay : Laying) (a : Around) (around : Option Kind) (body : Items)
-    → ((n : ℕ) (y : Item) → IsItem n body y → is_clean_item lay (around_before lay n a body) around body n (instances_before lay n a no_instances body) y ≡ true)
-    → are_clean lay a around body 0 no_instances body ≡ true
-
-abbrev pub EachIsClean : Type 0
-EachIsClean =
-    (lay : Laying) (a : Around) (around : Option Kind) (body : Items) → are_clean lay a around body 0 no_instances body ≡ true
-    → (n : ℕ) (y : Item) → IsItem n body y → is_clean_item lay (around_before lay n a body) around body n (instances_before lay n a no_instances body) y ≡ true
 
 -- a target of the item leads to a component of the same kind as before
 abbrev pub LeadsToSameKind : Inside → Inside → Item → Type 0
@@ -61,4 +40,4 @@ CleanItemsStayClean =
     → IsDeaf lay x (around_before lay n a old) (instances_before lay n a no_instances old) (instances_before lay i b no_instances now) y
     → LeadsToSameKind (instances_before lay n a no_instances old) (instances_before lay i b no_instances now) y
     → ((j : ℕ) (z : Item) → j < i → IsItem j now z → ((k : ℕ) × IsAsItWas m j k) ⊎ (clashes y z ≡ false))
-    → is_clean_item lay (around_before lay i b now) around now i (instances_before lay i b no_instances now) y ≡ true
+    → (is_none (fault_of_item lay b around now i y) ≡ true) × IsCleanInside lay (around_before lay i b now) y

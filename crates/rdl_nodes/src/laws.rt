@@ -1,9 +1,24 @@
-//! What holds of a body and of what it was. Nothing here does anything when it runs.
+//! What holds of bodies, of places in them, and of a body and what it was. Nothing here does anything when it runs.
 ghost use Rattle.rdl_nodes.specs.Alone.{CleanStandAlone, ClashesAreTurned, StandsAloneByItems, NoneClash, StandsAloneStill};
 ghost use Rattle.rdl_nodes.specs.Onward.{TellsOfOneMore, AlertsGrow};
+ghost use Rattle.rdl_nodes.specs.ScopeLaws.{SlotsAreKept, InsideIsScope, NodeHasSeen, BodiesAreCleanByItems, ItemsAreCleanInBodies};
 ghost use Rattle.rdl_nodes.specs.SideBySide.{NoMoreDiffersAlong, NoMoreDiffersBefore};
-ghost use Rattle.rdl_nodes.specs.StayClean.{CleanOneByOne, EachIsClean, CleanItemsStayClean};
+ghost use Rattle.rdl_nodes.specs.StayClean.{CleanItemsStayClean};
 ghost use Rattle.rdl_nodes.specs.TakenOver.{SameItemsStay, SlotsAreTakenOver};
+
+/// Where a place is in order, so that what is looked up from it is what is seen there: where it has the slots of the items before it,
+/// and behind the items of a component that was found. The node of such a component has what is seen of it.
+pub fn places_are_in_order()
+    ensures slots { SlotsAreKept }
+    ensures inside { InsideIsScope }
+    ensures seen { NodeHasSeen }
+{}
+
+/// A body has no fault exactly where each of its items has none by what is seen before it, and none inside it has one.
+pub fn bodies_are_judged_by_items()
+    ensures bodies { BodiesAreCleanByItems }
+    ensures items { ItemsAreCleanInBodies }
+{}
 
 /// Where marks describe what became of a body, and an alert tells of each item that came, went or was moved, and of what differs behind
 /// those that stayed, no more differs than it tells of between what stands before an item and what stood beside it before: all along
@@ -35,11 +50,8 @@ pub fn items_stand_alone()
     ensures still { StandsAloneStill }
 {}
 
-/// The items of a body have no fault, nor any inside them, exactly where each has none by what stands before it. One that is as it was
-/// still has none if it had none, listens to nothing of what differs before it, and clashes with none that came or was changed; a dynamic
-/// assignment, if its target leads to a component of the same kind.
+/// An item that is as it was still has no fault, nor any inside it, if it had none, listens to nothing of what differs before it, and
+/// clashes with none that came or was changed; a dynamic assignment, if its target leads to a component of the same kind.
 pub fn clean_items_stay_clean()
-    ensures items { CleanOneByOne }
-    ensures each { EachIsClean }
-    ensures stay { CleanItemsStayClean }
+    ensures { CleanItemsStayClean }
 {}
