@@ -1,8 +1,0 @@
-use Rattle.rdl_nodes.proofs.TakenOver.{same_items_stay, slots_are_taken_over}
-use Rattle.rdl_nodes.proofs.laws.slots_are_taken_over.Goals as goal
-
-pub returns-clause-items : goal.returns-clause-items
-returns-clause-items c = same_items_stay
-
-pub returns-clause-slots : goal.returns-clause-slots
-returns-clause-slots c = slots_are_taken_over

@@ -1,5 +1,0 @@
-use Rattle.std.proofs.Common.{length}
-use Rattle.rdl_nodes.proofs.leads.+is_fitting_end.Given as goal
-
-abbrev pub decreases-is_fitting_end : goal.decreases-is_fitting_end
-decreases-is_fitting_end l = length l.names.now

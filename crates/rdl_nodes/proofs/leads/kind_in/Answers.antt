@@ -1,7 +1,0 @@
-use Rattle.std.proofs.Common.{◌∙◌}
-use Rattle.rdl_nodes.specs.HeldScope.{places_of}
-use Rattle.rdl_nodes.proofs.Ends.{kind_is}
-use Rattle.rdl_nodes.proofs.leads.kind_in.Goals as goal
-
-pub returns : goal.returns
-returns c lay is = c.kind_at.ensures ∙ kind_is lay c.args.target.now (places_of c.args.scope.now) is

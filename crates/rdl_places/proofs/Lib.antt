@@ -1,0 +1,5 @@
+pub mod CleanItems
+pub mod Ends
+pub mod Judged
+pub mod Reached
+pub mod Scopes

@@ -1,0 +1,9 @@
+//! What the item at a place of a body sees, looked up when it is asked for, and what fault the item has by that.
+#![tactic(auto)]
+
+pub mod faults;
+pub mod laws;
+pub mod leads;
+mod rules;
+pub mod scope;
+mod used;

@@ -1,0 +1,260 @@
+//! What a body sees around it, told by bodies and slots alone, and looked up when it is asked.
+ghost use Rattle.std.specs.Prelude.{◌≡◌, ◌∷◌, [], option_map, option_copied};
+ghost use Rattle.rdl_places.specs.HeldScope.{place_of, outer_places, places_of, holding_of, found_of};
+ghost use Rattle.rdl_nodes.specs.KeptNode.{kept_of};
+ghost use Rattle.rdl_places.specs.Reached.{instances_at, count_of, count_before, component_of, instance_named, find_before, place_inside, find_inside, found_at, IsFoundHeld};
+ghost use Rattle.rdl_places.specs.Scopes.{around_places, IsScope, IsHolding, AreHeld, known_at, definition, holding_at, last_type, find_type};
+ghost use Rattle.rdl_nodes.specs.View.{slots_of};
+ghost use Rattle.rdl_scope.specs.Closed.{lookup};
+ghost use Rattle.rdl_seen.specs.Inside.{find};
+ghost use Rattle.rdl_seen.specs.Layouts.{Laying};
+ghost use Rattle.rdl_seen.specs.Meaning.{kept_at};
+
+use rdl_nodes::node::{Kept, Slot};
+use rdl_text::is_same;
+use rdl_text::name::Name;
+use rdl_tree::description::{Body, Component, Item, Of};
+
+/// The place of an item in a body: how many items stand before it, their slots, and the place of the item that holds the body. So it
+/// tells what the item sees, and nothing is put by for that.
+#[cycle(scope)]
+#[derive(Clone, Copy)]
+pub struct Scope<'s> {
+    pub(crate) body: &'s Body,
+    pub(crate) number: usize,
+    slots: &'s [Slot],
+    outer: Outer<'s>,
+}
+
+/// Where a body stands.
+#[cycle(scope)]
+#[derive(Clone, Copy)]
+enum Outer<'s> {
+    /// It is the root's.
+    Nowhere,
+    /// In the item at this place.
+    In(&'s Scope<'s>),
+}
+
+/// A component that is written in a body: what is kept of it, and where it stands.
+#[derive(Clone, Copy)]
+pub struct Holder<'s> {
+    pub component: &'s Component,
+    pub kept: Kept<'s>,
+    pub scope: Scope<'s>,
+}
+
+/// An instance that is found: how many stand before it, and its component, if that is known and no field that is written there.
+#[derive(Clone, Copy)]
+pub struct FoundInstance<'s> {
+    pub number: usize,
+    pub holder: Option<Holder<'s>>,
+}
+
+/// The component of an item that is a definition of this name.
+fn definition<'s>(item: Option<&'s Item>, name: &Name) -> Option<&'s Component>
+    ensures { option_copied result ≡ definition name.now (option_copied item.entry) }
+{
+    match item {
+        Some(Item::Define(defined, component)) => {
+            if is_same(defined.as_str(), name.as_str()) {
+                Some(component)
+            } else {
+                None
+            }
+        }
+        _ => None,
+    }
+}
+
+/// What is kept of the item of this number.
+fn kept_slot<'s>(slots: &'s [Slot], number: usize) -> Option<Kept<'s>>
+    ensures { option_map kept_of result ≡ kept_at number (slots_of slots.now) }
+{
+    match slots.get(number) {
+        Some(slot) => slot.kept(),
+        None => None,
+    }
+}
+
+/// What an item is an instance of, if it is one of this name.
+fn instance<'s>(item: Option<&'s Item>, name: &Name) -> Option<&'s Of>
+    ensures { option_copied result ≡ instance_named name.now (option_copied item.entry) }
+{
+    match item {
+        Some(Item::Instance(shell, of)) => {
+            if is_same(shell.name().as_str(), name.as_str()) {
+                Some(of)
+            } else {
+                None
+            }
+        }
+        _ => None,
+    }
+}
+
+/// How many instances the item is.
+fn count_of(item: Option<&Item>) -> usize
+    ensures { result ≡ count_of (option_copied item.entry) }
+{
+    match item {
+        Some(Item::Instance(_, _)) => 1,
+        _ => 0,
+    }
+}
+
+/// How many instances are among the first items of a body.
+fn count_before(body: &Body, number: usize) -> usize
+    ensures { result ≡ count_before number body.now }
+{
+    let mut count = 0;
+    for i in 0..number {
+        count += count_of(body.item(i));
+    }
+    count
+}
+
+impl<'s> Scope<'s> {
+    /// A place in the root's body: before the item of this number, where these are the slots of the items before it.
+    pub fn root(body: &'s Body, number: usize, slots: &'s [Slot]) -> Scope<'s>
+        ensures { places_of result ≡ record { body = body.now; number = number; slots = slots_of slots.now } ∷ [] }
+    {
+        Scope {
+            body,
+            number,
+            slots,
+            outer: Outer::Nowhere,
+        }
+    }
+
+    /// A place in the body that the item at the outer place holds.
+    pub fn within(
+        outer: &'s Scope<'s>,
+        body: &'s Body,
+        number: usize,
+        slots: &'s [Slot],
+    ) -> Scope<'s>
+        ensures { places_of result ≡ record { body = body.now; number = number; slots = slots_of slots.now } ∷ places_of outer.now }
+    {
+        Scope {
+            body,
+            number,
+            slots,
+            outer: Outer::In(outer),
+        }
+    }
+
+    /// The place of the item of this number in the same body.
+    fn at(&self, number: usize) -> Scope<'s>
+        ensures { places_of result ≡ record (place_of self.now) { number = number } ∷ outer_places self.now.outer }
+    {
+        Scope {
+            body: self.body,
+            number,
+            slots: self.slots,
+            outer: self.outer,
+        }
+    }
+
+    /// The component that the item at this place holds, if that is kept by itself.
+    fn holder(&self, component: &'s Component) -> Option<Holder<'s>>
+        ensures { option_map holding_of result ≡ holding_at self.now.number (place_of self.now) (outer_places self.now.outer) component.now }
+    {
+        match kept_slot(self.slots, self.number) {
+            Some(kept) => Some(Holder {
+                component,
+                kept,
+                scope: self.at(self.number),
+            }),
+            None => None,
+        }
+    }
+
+    /// The last definition of this name that stands before it in its body.
+    fn last_type(&self, name: &Name) -> Option<Holder<'s>>
+        ensures { option_map holding_of result ≡ last_type name.now self.now.number (place_of self.now) (outer_places self.now.outer) }
+    {
+        for number in (0..self.number).rev() {
+            if let Some(component) = definition(self.body.item(number), name) {
+                return self.at(number).holder(component);
+            }
+        }
+        None
+    }
+
+    /// The nearest definition of this name: the last one before it in its body, or else in those around it.
+    fn nearest_type(&self, name: &Name) -> Option<Holder<'s>>
+        ensures { option_map holding_of result ≡ find_type name.now (places_of self.now) }
+    {
+        match self.last_type(name) {
+            Some(found) => Some(found),
+            None => match self.outer {
+                Outer::Nowhere => None,
+                Outer::In(outer) => outer.nearest_type(name),
+            },
+        }
+    }
+
+    /// The type of this name that the item at this place sees.
+    pub fn find_type(&self, name: &Name) -> Option<Holder<'s>>
+        ensures found { option_map holding_of result ≡ find_type name.now (places_of self.now) }
+        ensures known { (lay : Laying) → IsScope lay (places_of self.now) → option_map (known_at lay) (option_map holding_of result) ≡ lookup name.now (around_places lay (places_of self.now)).types }
+        ensures held { (lay : Laying) → IsScope lay (places_of self.now) → AreHeld lay (option_map holding_of result) }
+    {
+        self.nearest_type(name)
+    }
+
+    /// What the instance at this place is an instance of.
+    fn component(&self, of: &'s Of) -> Option<Holder<'s>>
+        ensures { option_map holding_of result ≡ component_of self.now.number (place_of self.now) (outer_places self.now.outer) of.now }
+    {
+        match of {
+            Of::Named(name) => self.find_type(name),
+            Of::Anonymous(component) => self.holder(component),
+        }
+    }
+
+    /// The last instance of this name that stands before it, with what it is an instance of.
+    fn last_instance(&self, name: &Name) -> Option<FoundInstance<'s>>
+        ensures { option_map found_of result ≡ find_before name.now self.now.number (place_of self.now) (outer_places self.now.outer) }
+    {
+        for number in (0..self.number).rev() {
+            if let Some(of) = instance(self.body.item(number), name) {
+                return Some(FoundInstance {
+                    number: count_before(self.body, number),
+                    holder: self.at(number).component(of),
+                });
+            }
+        }
+        None
+    }
+
+    /// The last instance of this name that stands before it in its body.
+    pub fn find_instance(&self, name: &Name) -> Option<FoundInstance<'s>>
+        ensures found { option_map found_of result ≡ find_before name.now self.now.number (place_of self.now) (outer_places self.now.outer) }
+        ensures seen { (lay : Laying) → IsScope lay (places_of self.now) → find name.now (instances_at lay (places_of self.now)) ≡ option_map (found_at lay) (option_map found_of result) }
+        ensures held { (lay : Laying) → IsScope lay (places_of self.now) → IsFoundHeld lay (option_map found_of result) }
+    {
+        self.last_instance(name)
+    }
+}
+
+impl<'s> Holder<'s> {
+    /// The place behind its items.
+    fn inside(&'s self) -> Scope<'s>
+        ensures { places_of result ≡ place_inside (holding_of self.now) ∷ (holding_of self.now).places }
+    {
+        let body = &self.component.body;
+        Scope::within(&self.scope, body, body.len(), self.kept.node.slots())
+    }
+
+    /// The last instance of this name among its items.
+    pub fn find_instance(&'s self, name: &Name) -> Option<FoundInstance<'s>>
+        ensures found { option_map found_of result ≡ find_inside name.now (holding_of self.now) }
+        ensures seen { (lay : Laying) → IsHolding lay (holding_of self.now) → find name.now (known_at lay (holding_of self.now)).within.inside ≡ option_map (found_at lay) (option_map found_of result) }
+        ensures held { (lay : Laying) → IsHolding lay (holding_of self.now) → IsFoundHeld lay (option_map found_of result) }
+    {
+        let scope = self.inside();
+        scope.last_instance(name)
+    }
+}

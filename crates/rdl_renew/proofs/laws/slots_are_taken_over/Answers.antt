@@ -1,0 +1,8 @@
+use Rattle.rdl_renew.proofs.TakenOver.{same_items_stay, slots_are_taken_over}
+use Rattle.rdl_renew.proofs.laws.slots_are_taken_over.Goals as goal
+
+pub returns-clause-items : goal.returns-clause-items
+returns-clause-items c = same_items_stay
+
+pub returns-clause-slots : goal.returns-clause-slots
+returns-clause-slots c = slots_are_taken_over

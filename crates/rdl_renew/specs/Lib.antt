@@ -1,0 +1,5 @@
+pub mod Alone
+pub mod Onward
+pub mod SideBySide
+pub mod StayClean
+pub mod TakenOver

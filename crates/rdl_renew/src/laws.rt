@@ -1,0 +1,42 @@
+//! What holds of a body and of what it was. Nothing here does anything when it runs.
+ghost use Rattle.rdl_renew.specs.Alone.{CleanStandAlone, ClashesAreTurned, StandsAloneByItems, NoneClash, StandsAloneStill};
+ghost use Rattle.rdl_renew.specs.Onward.{TellsOfOneMore, AlertsGrow};
+ghost use Rattle.rdl_renew.specs.SideBySide.{NoMoreDiffersAlong, NoMoreDiffersBefore};
+ghost use Rattle.rdl_renew.specs.StayClean.{CleanItemsStayClean};
+ghost use Rattle.rdl_renew.specs.TakenOver.{SameItemsStay, SlotsAreTakenOver};
+
+/// Where marks describe what became of a body, and an alert tells of each item that came, went or was moved, and of what differs behind
+/// those that stayed, no more differs than it tells of between what stands before an item and what stood beside it before: all along
+/// the body, and right before each item that stayed in order. So it is up to each item by what the alert tells of the items before it;
+/// an alert that tells of more still does.
+pub fn no_more_differs()
+    ensures along { NoMoreDiffersAlong }
+    ensures before { NoMoreDiffersBefore }
+    ensures one_more { TellsOfOneMore }
+    ensures grow { AlertsGrow }
+{}
+
+/// An item that is as it was, and stands in order, is the old item of its number. Its slot is the old one, if it listens to nothing of
+/// what differs before it: so whoever renews the slots of a body takes it over without a look inside.
+pub fn slots_are_taken_over()
+    ensures items { SameItemsStay }
+    ensures slots { SlotsAreTakenOver }
+{}
+
+/// Two items of a body clash where they define the same name, or assign the same, or exclude one another; which of them comes first
+/// makes no odds. An item stands alone, so that none before it makes a fault of it, exactly where it clashes with none of those. In a
+/// body without a fault all do. One that is as it was still does where it clashes with none that came or was changed: whoever judges
+/// those needn't look at it.
+pub fn items_stand_alone()
+    ensures clean { CleanStandAlone }
+    ensures turned { ClashesAreTurned }
+    ensures items { StandsAloneByItems }
+    ensures none { NoneClash }
+    ensures still { StandsAloneStill }
+{}
+
+/// An item that is as it was still has no fault, nor any inside it, if it had none, listens to nothing of what differs before it, and
+/// clashes with none that came or was changed; a dynamic assignment, if its target leads to a component of the same kind.
+pub fn clean_items_stay_clean()
+    ensures { CleanItemsStayClean }
+{}

@@ -1,0 +1,4 @@
+//! What of a body's nodes stays when the body is changed.
+#![tactic(auto)]
+
+pub mod laws;
