@@ -9,6 +9,7 @@ pub mod Folded
 pub mod Found
 pub mod HeldAround
 pub mod HeldInside
+pub mod HeldTypes
 pub mod HeldVerdict
 pub mod HeldWalked
 pub mod HoldsNodes
@@ -19,4 +20,5 @@ pub mod Parts
 pub mod SideBySide
 pub mod TakenOver
 pub mod Targets
+pub mod TypeStack
 pub mod View
