@@ -18,7 +18,7 @@ pub struct Known<'a> {
 
 /// A type, its name, and the place of the type that it hides.
 #[derive(Drop)]
-pub struct Defined<'a> {
+struct Defined<'a> {
     name: &'a Name,
     known: Known<'a>,
     hides: Option<usize>,
@@ -26,13 +26,13 @@ pub struct Defined<'a> {
 
 /// The place of the nearest type of each name.
 #[derive(Drop)]
-pub struct Places<'a> {
+struct Places<'a> {
     by_name: ByName<'a, usize>,
 }
 
 /// The types that are defined so far, the last one nearest, and where the nearest of each name is.
 #[derive(Drop)]
-pub struct Types<'a> {
+pub(crate) struct Types<'a> {
     list: Vec<Defined<'a>>,
     places: Places<'a>,
     ghost stack: { Hides (reverse list.items) × IsIndex places (placed (reverse list.items)) },
