@@ -8,6 +8,7 @@ pub mod Folded
 pub mod Found
 pub mod HeldAround
 pub mod HeldInside
+pub mod HeldTypes
 pub mod HeldVerdict
 pub mod HeldWalked
 pub mod HoldsNodes
@@ -16,4 +17,5 @@ pub mod KeptNode
 pub mod Part
 pub mod Parts
 pub mod Targets
+pub mod TypeStack
 pub mod View

@@ -14,5 +14,6 @@ pub mod node;
 pub mod parts;
 pub mod target;
 pub mod tree;
+pub mod types;
 pub mod verdict;
 mod walk;

@@ -13,13 +13,14 @@ ghost use Rattle.rdl_seen.specs.PropertySet.{set_named};
 ghost use Rattle.rdl_seen.specs.Node.{with_type, with_default, walked, body_of, node, known, known_of, core_of, plain_slot, plain_instances};
 ghost use Rattle.rdl_seen.specs.Slots.{Slots, slot, default_slot, field_slot, written, type_slot, part_slot};
 
-use crate::around::{Around, Known};
+use crate::around::Around;
 use crate::field::{FieldBody, own_values};
 use crate::inside::{Inside, Within};
 use crate::lays::Lays;
 use crate::node::{Core, Node, Slot};
 use crate::parts::parts;
 use crate::target::verdict_of;
+use crate::types::Known;
 use rdl_seen::names::class_of;
 use rdl_seen::property_set::PropertySet;
 use rdl_seen::values::Values;
@@ -49,7 +50,7 @@ fn named<'a>(
     around: &Around<'a>,
     before: &mut Inside<'a>,
     shell: &'a Shell,
-    name: &Name,
+    name: &'a Name,
 ) -> Result<Slot, AllocError>
     ensures slot { IfOk result (λ x. (rest : Slots) → add x rest ≡ slot (plain_slot (around_of around.now) before.old (named shell.now name.now)) rest) }
     ensures instances { OnOk result (before.new ≡ plain_instances (around_of around.now) (named shell.now name.now) before.old) }
@@ -102,7 +103,7 @@ fn define<'a>(
 ) -> Result<Slot, AllocError>
     ensures slot { IfOk result (λ x. (rest : Slots) → add x rest ≡ written (type_slot (class_of name.now)) made.entry.node.core made.entry.node.slots rest) }
     ensures around { OnOk result (around_of around.new ≡ with_type name.now (record { seen = made.entry.node.core.seen; within = within_of made.entry.within }) (around_of around.old)) }
-    ensures types { OnOk result (take (length around.old.types.items) around.new.types.items ≡ around.old.types.items) }
+    ensures types { OnOk result (take (length around.old.types.list.items) around.new.types.list.items ≡ around.old.types.list.items) }
 {
     let Made { node, within } = made;
     let seen = Rc::new(alloc, node.core().seen)?;
@@ -153,7 +154,7 @@ fn finish<'a, L: Lays>(
 fn default<'a>(around: &mut Around<'a>, name: &Name, value: &Value) -> Slot
     ensures slot { (rest : Slots) → add result rest ≡ slot (default_slot (set_named name.now)) rest }
     ensures around { around_of around.new ≡ with_default name.now value.now (around_of around.old) }
-    ensures types { around.new.types.items ≡ around.old.types.items }
+    ensures types { around.new.types.list.items ≡ around.old.types.list.items }
 {
     around.defaults.put_named(name, value);
     Slot::Default(PropertySet::of_name(name))
@@ -169,7 +170,7 @@ fn walk_component<'a, L: Lays>(
 ) -> Result<Made<'a>, AllocError>
     ensures node { IfOk result (λ m. m.node ≡ node L.laying (around_of around.old) component.now.kind component.now.body) }
     ensures within { IfOk result (λ m. within_of m.within ≡ (known L.laying (around_of around.old) component.now.kind component.now.body).within) }
-    ensures types { OnOk result (around.new.types.items ≡ around.old.types.items) }
+    ensures types { OnOk result (around.new.types.list.items ≡ around.old.types.list.items) }
     ensures defaults { OnOk result (around.new.defaults ≡ around.old.defaults) }
 {
     let items = walk(alloc, lay, around, &component.body)?;
@@ -187,7 +188,7 @@ fn anonymous<'a, L: Lays>(
     component: &'a Component,
 ) -> Result<Slot, AllocError>
     ensures walked { IfOk result (λ x. (rest : Items) → walked L.laying (around_of around.old) before.old (holder (anonymous shell.now component.now.kind) component.now.body rest) ≡ with_slot x (walked L.laying (around_of around.new) before.new rest)) }
-    ensures types { OnOk result (around.new.types.items ≡ around.old.types.items) }
+    ensures types { OnOk result (around.new.types.list.items ≡ around.old.types.list.items) }
 {
     match component.kind {
         Kind::Field => field(before, shell, &component.body),
@@ -208,7 +209,7 @@ fn walk_item<'a, L: Lays>(
     item: &'a Item,
 ) -> Result<Slot, AllocError>
     ensures walked { IfOk result (λ x. (rest : Items) → walked L.laying (around_of around.old) before.old (add_item item.now rest) ≡ with_slot x (walked L.laying (around_of around.new) before.new rest)) }
-    ensures types { OnOk result (take (length around.old.types.items) around.new.types.items ≡ around.old.types.items) }
+    ensures types { OnOk result (take (length around.old.types.list.items) around.new.types.list.items ≡ around.old.types.list.items) }
 {
     match item {
         Item::Own(_, _) => Ok(Slot::Own),
@@ -237,7 +238,7 @@ pub(crate) fn walk<'a, L: Lays>(
     body: &'a Body,
 ) -> Result<Walked<'a>, AllocError>
     ensures walked { IfOk result (λ w. walked_of w ≡ body_of L.laying (around_of around.old) body.now) }
-    ensures types { OnOk result (around.new.types.items ≡ around.old.types.items) }
+    ensures types { OnOk result (around.new.types.list.items ≡ around.old.types.list.items) }
     ensures defaults { OnOk result (around.new.defaults ≡ around.old.defaults) }
 {
     let len = around.len();

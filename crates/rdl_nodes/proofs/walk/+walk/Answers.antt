@@ -14,7 +14,7 @@ pub walk-loop-item-init : goal.walk-loop-item-init
 walk-loop-item-init g t c =
     let lay = g.L.Lays.laying in
     let a = around_of c.args.around.now in
-    let types = c.args.around.now.types.items in
+    let types = c.args.around.now.types.list.items in
     let all = items_all c.as_slice-item-items.result.now c.args.body.now c.as_slice-item-items.ensures in
     record {
       walked = λ i. behind (sym c.in_ok-slots.ensures.items i) (walked lay a (sym c.new-instances.ensures i) (sym all i));
@@ -35,7 +35,7 @@ walk-loop-item-preserved g t c =
       walked = c.loop-item.invariant.walked
           ∙ ap (λ w. behind before w) (ap (walked lay a c.loop-item.instances) here ∙ c.in_ok-slot.ensures.walked rest)
           ∙ behind_more before c.push.new.self.items c.in_ok-slot.slot (walked lay b c.walk_item.new.before rest) c.in_ok-push.ensures.items;
-      types = front_stays c.args.around.now.types.items c.loop-item.around.types.items c.walk_item.new.around.types.items c.loop-item.invariant.types c.in_ok-slot.ensures.types;
+      types = front_stays c.args.around.now.types.list.items c.loop-item.around.types.list.items c.walk_item.new.around.types.list.items c.loop-item.invariant.types c.in_ok-slot.ensures.types;
     }
 
 pub walk-returns-clause-walked : goal.walk-returns-clause-walked

@@ -22,5 +22,5 @@ decreases-walk_item g l = 4 * item_count l.item.now
 abbrev pub invariant-walk-loop-item : goal.invariant-walk-loop-item
 invariant-walk-loop-item g l = record {
   walked : body_of g.L.Lays.laying (around_of l.fn.around) l.body ≡ behind l.slots.items (walked g.L.Lays.laying (around_of l.around) l.instances (items_of (drop l.item-index l.item-items)));
-  types : take (length l.fn.around.types.items) l.around.types.items ≡ l.fn.around.types.items;
+  types : take (length l.fn.around.types.list.items) l.around.types.list.items ≡ l.fn.around.types.list.items;
 }
