@@ -1,5 +1,5 @@
 -- A body has no fault exactly where each of its items has none.
-use Rattle.std.proofs.Common.{◌≡◌, ℕ, zero, suc, ◌+◌, List, Bool, true, false, Option, Some, None, refl, sym, ap, subst, ◌∙◌, arith}
+use Rattle.std.proofs.Common.{◌≡◌, ℕ, zero, suc, ◌+◌, Bool, true, Option, Some, refl, sym, ap, subst, ◌∙◌, arith}
 use Rattle.std.specs.Prelude.{◌&&◌, slice_get}
 use Rattle.std.specs.Option.{is_none}
 use Rattle.std.proofs.lemmas.Bool.{and_from, and_parts}
@@ -16,7 +16,7 @@ use Rattle.rdl_seen.specs.Node.{Around, after_plain, after_holder, plain_instanc
 use Rattle.rdl_seen.specs.OneByOne.{instances_before}
 use Rattle.rdl_seen.proofs.Passing.{some_same}
 use Rattle.rdl_places.specs.Judged.{item_fault}
-use Rattle.rdl_places.specs.ScopeLaws.{IsCleanInside, IsEachClean, BodiesAreCleanByItems, ItemsAreCleanInBodies}
+use Rattle.rdl_places.specs.ScopeLaws.{IsCleanInside, BodiesAreCleanByItems, ItemsAreCleanInBodies}
 
 first : (x y : Bool) → (x && y) ≡ true → x ≡ true
 first x y h = (and_parts x y h).0

@@ -10,10 +10,8 @@ use Rattle.rdl_tree.specs.Component.{holder_kind}
 use Rattle.rdl_tree.specs.Items.{Items, no_items, plain, holder, Plain, named, own, default, dynamic, Holder, define, anonymous}
 use Rattle.rdl_tree.specs.Properties.{row, property_of, takes}
 use Rattle.rdl_tree.specs.View.{list_of, plain_item, holder_item}
-use Rattle.rdl_tree.specs.declared.description.Component.{Component}
 use Rattle.rdl_tree.specs.declared.description.Item.{Item}
 use Rattle.rdl_tree.specs.declared.description.Item.TheVariants.{Define, Instance, Own, Default, Dynamic}
-use Rattle.rdl_tree.specs.declared.description.Of.{Of}
 use Rattle.rdl_tree.specs.declared.fault.FaultKind.{FaultKind}
 use Rattle.rdl_tree.specs.declared.fault.FaultKind.TheVariants.{AssignedTwice, Exclusive, NoSuchTarget, NotDynamic, NotOfKind, WrongValue}
 use Rattle.rdl_tree.specs.declared.property.Property.{Property}
@@ -31,8 +29,7 @@ use Rattle.rdl_scope.proofs.Instances.{instance-suc}
 use Rattle.rdl_scope.proofs.Repeats.{dynamic-key, key-suc}
 use Rattle.rdl_scope.proofs.Searches.{last-suc}
 use Rattle.rdl_scope.proofs.ValueSearches.{own-suc, default-suc}
-use Rattle.rdl_marks.specs.Describes.{Describes, IsItem}
-use Rattle.rdl_marks.specs.Marks.{Marks}
+use Rattle.rdl_marks.specs.Describes.{IsItem}
 use Rattle.rdl_marks.specs.Was.{number_of, was}
 use Rattle.rdl_marks.proofs.Apart.{had_other_numbers}
 use Rattle.rdl_seen.specs.Clean.{are_clean, plain_fault, holder_fault, kind_of, kind_in}

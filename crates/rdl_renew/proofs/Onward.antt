@@ -1,25 +1,20 @@
 -- How an alert grows while a body is gone along.
 use Rattle.std.proofs.Common.{◌≡◌, ℕ, suc, ◌<◌, ◌≤◌, false, Some, ◌⊎◌, inl, inr, subst, arith}
 use Rattle.std.proofs.lemmas.Bool.{cases_lt}
-use Rattle.rdl_tree.specs.Items.{Items}
 use Rattle.rdl_tree.specs.declared.description.Item.{Item}
 use Rattle.rdl_tree.specs.declared.description.Item.TheVariants.{Define, Instance, Own, Default, Dynamic}
-use Rattle.rdl_marks.specs.Describes.{Describes, IsItem}
-use Rattle.rdl_marks.specs.InOrder.{AreInOrder}
+use Rattle.rdl_marks.specs.Describes.{IsItem}
 use Rattle.rdl_marks.specs.Marks.{Firsts, Marks}
 use Rattle.rdl_marks.specs.View.{old_item}
 use Rattle.rdl_marks.specs.Was.{trace_of}
 use Rattle.rdl_seen.specs.declared.alert.Alert.{Alert}
 use Rattle.rdl_seen.specs.Alert.{with_alert, AgreeBut}
-use Rattle.rdl_seen.specs.Layouts.{Laying}
 use Rattle.rdl_seen.specs.Meaning.{around_before}
-use Rattle.rdl_seen.specs.Node.{Around}
 use Rattle.rdl_seen.specs.Passing.{behind_item, Tells}
 use Rattle.rdl_seen.specs.Names.{class_of}
 use Rattle.rdl_seen.proofs.Alerts.{more_may_differ}
 use Rattle.rdl_seen.proofs.Bits.{has_first}
 use Rattle.rdl_renew.specs.Onward.{DiffersNoMoreBehind, TellsOfOneMore, AlertsGrow}
-use Rattle.rdl_renew.specs.SideBySide.{TellsOfAll}
 use Rattle.rdl_renew.proofs.SideBySide.{no_more_differs_before}
 
 pub tells_of_one_more : TellsOfOneMore

@@ -1,12 +1,10 @@
 -- The items of a body that stayed as they were, and had no fault, still have none.
-use Rattle.std.proofs.Common.{◌≡◌, ℕ, zero, suc, ◌+◌, Bool, true, false, List, [], ◌∷◌, Option, Some, None, option_map, refl, sym, ap, subst, ◌∙◌, arith}
-use Rattle.std.specs.Prelude.{◌&&◌, ◌||◌, not, slice_get}
+use Rattle.std.proofs.Common.{◌≡◌, ℕ, suc, Bool, true, false, List, [], ◌∷◌, Option, Some, None, option_map, refl, sym, ap, ◌∙◌}
+use Rattle.std.specs.Prelude.{◌&&◌, not}
 use Rattle.std.specs.Option.{is_some, is_none}
 use Rattle.rdl_tree.specs.Component.{holder_kind}
-use Rattle.rdl_tree.specs.Items.{Items, no_items, plain, holder, Plain, named, own, default, dynamic, Holder, define, anonymous}
-use Rattle.rdl_tree.specs.Properties.{property_of, takes, row}
-use Rattle.rdl_tree.specs.View.{list_of, plain_item, holder_item}
-use Rattle.rdl_tree.specs.declared.description.Component.{Component}
+use Rattle.rdl_tree.specs.Items.{Items, no_items, plain, holder, named, own, default, dynamic, Holder, define, anonymous}
+use Rattle.rdl_tree.specs.Properties.{property_of, takes}
 use Rattle.rdl_tree.specs.declared.description.Item.{Item}
 use Rattle.rdl_tree.specs.declared.description.Item.TheVariants.{Define, Instance, Own, Default, Dynamic}
 use Rattle.rdl_tree.specs.declared.description.Of.TheVariants.{Named, Anonymous}
@@ -24,24 +22,21 @@ use Rattle.rdl_scope.specs.Types.{last_definition}
 use Rattle.rdl_scope.specs.Value.{is_false, last_default, own_before}
 use Rattle.rdl_seen.specs.declared.alert.Alert.{Alert}
 use Rattle.rdl_seen.specs.declared.seen.Seen.{Seen}
-use Rattle.rdl_seen.specs.Agree.{shown}
-use Rattle.rdl_seen.specs.Alert.{reaches, is_told, AgreeBut}
-use Rattle.rdl_seen.specs.Clean.{are_clean, is_clean, kind_in, kind_of, plain_fault, holder_fault}
+use Rattle.rdl_seen.specs.Alert.{AgreeBut}
+use Rattle.rdl_seen.specs.Clean.{are_clean, is_clean, kind_of, plain_fault, holder_fault}
 use Rattle.rdl_seen.specs.Inside.{Inside, no_instances}
 use Rattle.rdl_seen.specs.Layouts.{Laying}
 use Rattle.rdl_seen.specs.Meaning.{around_before}
 use Rattle.rdl_seen.specs.Names.{class_of, has_class}
-use Rattle.rdl_seen.specs.Node.{Known, Around, after_plain, after_holder, plain_instances, holder_instances, known, node}
+use Rattle.rdl_seen.specs.Node.{Known, Around, after_plain, after_holder, plain_instances, holder_instances, known}
 use Rattle.rdl_seen.specs.OneByOne.{instances_before, IsDeaf, IsDeafPart}
 use Rattle.rdl_seen.proofs.Alerts.{unreached_are_kept, both_lack}
 use Rattle.rdl_seen.proofs.Around.{same_seen}
-use Rattle.rdl_marks.specs.Describes.{Describes, IsItem}
-use Rattle.rdl_marks.specs.Marks.{Marks, no_firsts, no_marks}
+use Rattle.rdl_marks.specs.Marks.{no_firsts, no_marks}
 use Rattle.rdl_renew.specs.Alone.{stands_alone}
 use Rattle.rdl_places.specs.Judged.{item_fault}
 use Rattle.rdl_places.specs.ScopeLaws.{IsCleanInside}
 use Rattle.rdl_renew.specs.StayClean.{LeadsToSameKind, CleanItemsStayClean}
-use Rattle.rdl_renew.specs.TakenOver.{IsAsItWas}
 use Rattle.rdl_renew.proofs.Alone.{two_true, and_true, was_false, clean_stand_alone, stands_alone_still}
 use Rattle.rdl_places.proofs.CleanItems.{items_are_clean_in_bodies}
 use Rattle.rdl_renew.proofs.SideBySide.{no_more_differs_before}

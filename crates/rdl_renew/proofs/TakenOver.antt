@@ -3,27 +3,19 @@ use Rattle.std.proofs.Common.{◌≡◌, ℕ, ◌+◌, ◌-◌, ◌≤◌, List,
 use Rattle.std.specs.Prelude.{slice_get, drop}
 use Rattle.rdl_tree.specs.Items.{Items}
 use Rattle.rdl_tree.specs.View as tree
-use Rattle.rdl_tree.specs.declared.description.Component.{Component}
 use Rattle.rdl_tree.specs.declared.description.Item.{Item}
 use Rattle.rdl_tree.specs.declared.description.Item.TheVariants.{Define, Instance, Own, Default, Dynamic}
 use Rattle.rdl_tree.specs.declared.description.Of.TheVariants.{Named, Anonymous}
-use Rattle.rdl_tree.specs.declared.shell.Kind.{Kind}
 use Rattle.rdl_tree.proofs.Rounds as tree_rounds
-use Rattle.rdl_marks.specs.Describes.{Describes, IsItem}
-use Rattle.rdl_marks.specs.InOrder.{AreInOrder}
-use Rattle.rdl_marks.specs.Marks.{Marks, no_firsts, no_marks}
+use Rattle.rdl_marks.specs.Describes.{IsItem}
+use Rattle.rdl_marks.specs.Marks.{no_firsts, no_marks}
 use Rattle.rdl_marks.specs.View.{Trace, same_item, list_of}
-use Rattle.rdl_marks.proofs.From.{IsFrom, AreSo, get_from}
-use Rattle.rdl_seen.specs.declared.alert.Alert.{Alert}
-use Rattle.rdl_seen.specs.Alert.{AgreeBut}
+use Rattle.rdl_marks.proofs.From.{IsFrom, get_from}
 use Rattle.rdl_seen.specs.Inside.{no_instances}
-use Rattle.rdl_seen.specs.Layouts.{Laying}
 use Rattle.rdl_seen.specs.Meaning.{around_before}
-use Rattle.rdl_seen.specs.Node.{Around, body_of}
-use Rattle.rdl_seen.specs.OneByOne.{slot_at, instances_before, slot_of_item, IsDeaf}
+use Rattle.rdl_seen.specs.OneByOne.{instances_before}
 use Rattle.rdl_seen.proofs.OneByOne.{slots_are_of_items, deaf_slots_stay}
-use Rattle.rdl_renew.specs.SideBySide.{TellsOfAll}
-use Rattle.rdl_renew.specs.TakenOver.{IsAsItWas, SameItemsStay, SlotsAreTakenOver}
+use Rattle.rdl_renew.specs.TakenOver.{SameItemsStay, SlotsAreTakenOver}
 use Rattle.rdl_renew.proofs.SideBySide.{is_told, listed, rest_items, get_drop, no_more_differs_before}
 
 -- bodies with the same items are one

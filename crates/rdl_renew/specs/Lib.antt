@@ -1,5 +1,7 @@
 pub mod Alone
+pub mod Deaf
 pub mod Onward
+pub mod Raised
 pub mod SideBySide
 pub mod StayClean
 pub mod TakenOver

@@ -1,6 +1,8 @@
 //! What holds of a body and of what it was. Nothing here does anything when it runs.
 ghost use Rattle.rdl_renew.specs.Alone.{CleanStandAlone, ClashesAreTurned, StandsAloneByItems, NoneClash, StandsAloneStill};
+ghost use Rattle.rdl_renew.specs.Deaf.{SlotsTellDeafness, DeafSlotsAreTakenOver};
 ghost use Rattle.rdl_renew.specs.Onward.{TellsOfOneMore, AlertsGrow};
+ghost use Rattle.rdl_renew.specs.Raised.{AlertsAddUp, HasAllOfIt, RaisedTells, RaisedTellsBehind, RaisedTellsOfAll};
 ghost use Rattle.rdl_renew.specs.SideBySide.{NoMoreDiffersAlong, NoMoreDiffersBefore};
 ghost use Rattle.rdl_renew.specs.StayClean.{CleanItemsStayClean};
 ghost use Rattle.rdl_renew.specs.TakenOver.{SameItemsStay, SlotsAreTakenOver};
@@ -17,10 +19,12 @@ pub fn no_more_differs()
 {}
 
 /// An item that is as it was, and stands in order, is the old item of its number. Its slot is the old one, if it listens to nothing of
-/// what differs before it: so whoever renews the slots of a body takes it over without a look inside.
+/// what differs before it. That is told by the slot alone: so whoever renews the slots of a body takes it over without a look inside.
 pub fn slots_are_taken_over()
     ensures items { SameItemsStay }
     ensures slots { SlotsAreTakenOver }
+    ensures deaf { SlotsTellDeafness }
+    ensures over { DeafSlotsAreTakenOver }
 {}
 
 /// Two items of a body clash where they define the same name, or assign the same, or exclude one another; which of them comes first
@@ -39,4 +43,16 @@ pub fn items_stand_alone()
 /// clashes with none that came or was changed; a dynamic assignment, if its target leads to a component of the same kind.
 pub fn clean_items_stay_clean()
     ensures { CleanItemsStayClean }
+{}
+
+/// Where marks describe what became of a body, who has all that its changes raise tells of each item that came, went or was moved,
+/// and of each that stayed and brings another definition or default than it did. Behind an item that stayed in order no more differs than
+/// such an alert tells of, if it tells of what is seen otherwise of the item's definition, where it kept its name. So up to an item it
+/// tells of all that matters to who goes along both bodies, as `no_more_differs` asks, if it does so of the definitions before it.
+pub fn raised_tells()
+    ensures parts { AlertsAddUp }
+    ensures through { HasAllOfIt }
+    ensures changes { RaisedTells }
+    ensures behind { RaisedTellsBehind }
+    ensures all { RaisedTellsOfAll }
 {}

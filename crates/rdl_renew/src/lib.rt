@@ -1,4 +1,6 @@
 //! What of a body's nodes stays when the body is changed.
 #![tactic(auto)]
 
+pub mod deaf;
 pub mod laws;
+pub mod raise;

@@ -1,3 +1,4 @@
+use Rattle.rdl_renew.proofs.DeafSlots.{slots_tell_deafness, deaf_slots_are_taken_over}
 use Rattle.rdl_renew.proofs.TakenOver.{same_items_stay, slots_are_taken_over}
 use Rattle.rdl_renew.proofs.laws.slots_are_taken_over.Goals as goal
 
@@ -6,3 +7,9 @@ returns-clause-items c = same_items_stay
 
 pub returns-clause-slots : goal.returns-clause-slots
 returns-clause-slots c = slots_are_taken_over
+
+pub returns-clause-deaf : goal.returns-clause-deaf
+returns-clause-deaf c = slots_tell_deafness
+
+pub returns-clause-over : goal.returns-clause-over
+returns-clause-over c = deaf_slots_are_taken_over

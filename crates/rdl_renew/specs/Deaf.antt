@@ -1,0 +1,43 @@
+-- Whether what is kept of an item stays, told by that alone.
+-- own: SystemRDL 2.0 has no edits.
+use Rattle.std.specs.Prelude.{◌≡◌, ℕ, ◌≤◌, not, Bool, true, false, Some}
+use Rattle.rdl_tree.specs.Items.{Items}
+use Rattle.rdl_tree.specs.declared.description.Item.{Item}
+use Rattle.rdl_marks.specs.Describes.{Describes, IsItem}
+use Rattle.rdl_marks.specs.InOrder.{AreInOrder}
+use Rattle.rdl_marks.specs.Marks.{Marks}
+use Rattle.rdl_seen.specs.declared.alert.Alert.{Alert}
+use Rattle.rdl_seen.specs.Alert.{reaches, AgreeBut}
+use Rattle.rdl_seen.specs.Inside.{Inside}
+use Rattle.rdl_seen.specs.Layouts.{Laying}
+use Rattle.rdl_seen.specs.Names.{has_class}
+use Rattle.rdl_seen.specs.Node.{Around, body_of}
+use Rattle.rdl_seen.specs.OneByOne.{slot_at, slot_of_item, IsDeaf}
+use Rattle.rdl_seen.specs.Slots.{Slot, own_slot, default_slot, dynamic_slot, field_slot, named_slot, Slots, no_slots, slot, written}
+use Rattle.rdl_renew.specs.SideBySide.{TellsOfAll}
+use Rattle.rdl_renew.specs.TakenOver.{IsAsItWas}
+
+-- an item of which no component is kept listens to nothing of the alert. A dynamic assignment may always: its slot doesn't say to what
+abbrev pub is_deaf_slot : Alert → Slot → Bool
+is_deaf_slot x own_slot = true
+is_deaf_slot x (default_slot p) = true
+is_deaf_slot x (dynamic_slot v) = false
+is_deaf_slot x (field_slot f) = true
+is_deaf_slot x (named_slot class s) = not (has_class x.types class)
+
+-- the first of these items listens to nothing of the alert
+abbrev pub is_first_deaf : Alert → Slots → Bool
+is_first_deaf x no_slots = false
+is_first_deaf x (slot s rest) = is_deaf_slot x s
+is_first_deaf x (written w core inside rest) = not (reaches x core.seen)
+
+-- whose slot says so is deaf
+abbrev pub SlotsTellDeafness : Type 0
+SlotsTellDeafness = (lay : Laying) (x : Alert) (a : Around) (m n : Inside) (y : Item) → is_first_deaf x (slot_of_item lay a m y) ≡ true → IsDeaf lay x a m n y
+
+-- so the slot of an item that is as it was is taken over, if it says so
+abbrev pub DeafSlotsAreTakenOver : Type 0
+DeafSlotsAreTakenOver =
+    (lay : Laying) (x : Alert) (m : Marks) (old now : Items) (a b : Around) (to : ℕ) → Describes m old now → AreInOrder m → TellsOfAll lay x m old now a b to → AgreeBut x a b
+    → (i n : ℕ) (y : Item) (s : Slots) → i ≤ to → IsItem i now y → IsAsItWas m i n → slot_at n (body_of lay a old).slots ≡ Some s → is_first_deaf x s ≡ true
+    → slot_at i (body_of lay b now).slots ≡ Some s
