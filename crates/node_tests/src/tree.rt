@@ -7,8 +7,12 @@ use rdl_nodes::lays::Lays;
 use rdl_nodes::parts::Part;
 use rdl_nodes::tree::Tree;
 use rdl_parse::parse::parse;
+use rdl_renew::taken::take_over;
+use rdl_seen::alert::Alert;
+use rdl_seen::names::{NameSet, class_of};
 use rdl_seen::seen::Seen;
 use rdl_seen::values::Values;
+use rdl_text::name::Name;
 use rdl_tree::address::Address;
 use rdl_tree::description::Description;
 use rdl_tree::shell::Kind;
@@ -78,5 +82,31 @@ fn a_node_is_kept_of_each_component_but_fields_at_their_instance(
         && is_seen(&tree, &[1, 1], Kind::Regfile, 2, false);
     let are_none = is_none(&tree, &[0, 0]) && is_none(&tree, &[1, 0]) && is_none(&tree, &[2]);
     assert_holds(&rt, are_seen && are_none, "the nodes");
+    Ok(())
+}
+
+/// How many of the three items of the map's top are taken over, where the alert tells of this.
+fn taken_of(alloc: Global, tree: &Tree, alert: &Alert) -> Result<Option<usize>, AllocError> {
+    let Some(top) = tree.node(&address(&[1])) else {
+        return Ok(None);
+    };
+    let mut taken = Vec::new(alloc);
+    let end = take_over(top.node.slots(), 0, 3, alert, &mut taken)?;
+    Ok(if taken.len() == end { Some(end) } else { None })
+}
+
+#[test]
+fn who_listens_to_nothing_is_taken_over(rt: HostRuntime) -> Result<(), Fail> {
+    let alloc = rt.alloc();
+    let map = description(alloc, MAP)?;
+    let tree = Tree::of(alloc, &Nowhere, &map)?;
+    let classes = NameSet::of(class_of(&Name::new(alloc, "T")?));
+    let all = taken_of(alloc, &tree, &Alert::none())?;
+    let none = taken_of(alloc, &tree, &Alert::none().with_types(classes))?;
+    assert_holds(
+        &rt,
+        all == Some(3) && none == Some(0),
+        "the items of the top",
+    );
     Ok(())
 }

@@ -1,5 +1,6 @@
 pub mod Alone
 pub mod DeafSlots
+pub mod FrontSlots
 pub mod Onward
 pub mod Raised
 pub mod Raises

@@ -1,5 +1,6 @@
 pub mod Alone
 pub mod Deaf
+pub mod Fronts
 pub mod Onward
 pub mod Raised
 pub mod SideBySide

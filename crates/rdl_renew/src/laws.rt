@@ -1,6 +1,7 @@
 //! What holds of a body and of what it was. Nothing here does anything when it runs.
 ghost use Rattle.rdl_renew.specs.Alone.{CleanStandAlone, ClashesAreTurned, StandsAloneByItems, NoneClash, StandsAloneStill};
 ghost use Rattle.rdl_renew.specs.Deaf.{SlotsTellDeafness, DeafSlotsAreTakenOver};
+ghost use Rattle.rdl_renew.specs.Fronts.{FrontsAreSlots};
 ghost use Rattle.rdl_renew.specs.Onward.{TellsOfOneMore, AlertsGrow};
 ghost use Rattle.rdl_renew.specs.Raised.{AlertsAddUp, HasAllOfIt, RaisedTells, RaisedTellsBehind, RaisedTellsOfAll};
 ghost use Rattle.rdl_renew.specs.SideBySide.{NoMoreDiffersAlong, NoMoreDiffersBefore};
@@ -19,12 +20,14 @@ pub fn no_more_differs()
 {}
 
 /// An item that is as it was, and stands in order, is the old item of its number. Its slot is the old one, if it listens to nothing of
-/// what differs before it. That is told by the slot alone: so whoever renews the slots of a body takes it over without a look inside.
+/// what differs before it. That is told by the slot alone: so whoever renews the slots of a body takes it over without a look inside. The
+/// slot of a number is that of the list that the code holds.
 pub fn slots_are_taken_over()
     ensures items { SameItemsStay }
     ensures slots { SlotsAreTakenOver }
     ensures deaf { SlotsTellDeafness }
     ensures over { DeafSlotsAreTakenOver }
+    ensures fronts { FrontsAreSlots }
 {}
 
 /// Two items of a body clash where they define the same name, or assign the same, or exclude one another; which of them comes first

@@ -4,3 +4,4 @@
 pub mod deaf;
 pub mod laws;
 pub mod raise;
+pub mod taken;

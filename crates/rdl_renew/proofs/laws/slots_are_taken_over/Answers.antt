@@ -1,4 +1,5 @@
 use Rattle.rdl_renew.proofs.DeafSlots.{slots_tell_deafness, deaf_slots_are_taken_over}
+use Rattle.rdl_renew.proofs.FrontSlots.{fronts_are_slots}
 use Rattle.rdl_renew.proofs.TakenOver.{same_items_stay, slots_are_taken_over}
 use Rattle.rdl_renew.proofs.laws.slots_are_taken_over.Goals as goal
 
@@ -13,3 +14,6 @@ returns-clause-deaf c = slots_tell_deafness
 
 pub returns-clause-over : goal.returns-clause-over
 returns-clause-over c = deaf_slots_are_taken_over
+
+pub returns-clause-fronts : goal.returns-clause-fronts
+returns-clause-fronts c = fronts_are_slots
