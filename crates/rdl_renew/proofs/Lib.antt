@@ -6,4 +6,5 @@ pub mod Raised
 pub mod Raises
 pub mod SideBySide
 pub mod StayClean
+pub mod StayedTypes
 pub mod TakenOver

@@ -5,4 +5,5 @@ pub mod Onward
 pub mod Raised
 pub mod SideBySide
 pub mod StayClean
+pub mod Stayed
 pub mod TakenOver

@@ -6,6 +6,7 @@ ghost use Rattle.rdl_renew.specs.Onward.{TellsOfOneMore, AlertsGrow};
 ghost use Rattle.rdl_renew.specs.Raised.{AlertsAddUp, HasAllOfIt, RaisedTells, RaisedTellsBehind, RaisedTellsOfAll};
 ghost use Rattle.rdl_renew.specs.SideBySide.{NoMoreDiffersAlong, NoMoreDiffersBefore};
 ghost use Rattle.rdl_renew.specs.StayClean.{CleanItemsStayClean};
+ghost use Rattle.rdl_renew.specs.Stayed.{StayedDefinitionsRaise};
 ghost use Rattle.rdl_renew.specs.TakenOver.{SameItemsStay, SlotsAreTakenOver};
 
 /// Where marks describe what became of a body, and an alert tells of each item that came, went or was moved, and of what differs behind
@@ -58,4 +59,10 @@ pub fn raised_tells()
     ensures changes { RaisedTells }
     ensures behind { RaisedTellsBehind }
     ensures all { RaisedTellsOfAll }
+{}
+
+/// Who has all that a definition raises which stayed in order under its name tells of what is seen of it otherwise than before, and of what
+/// targets find otherwise inside it.
+pub fn stayed_definitions_raise()
+    ensures { StayedDefinitionsRaise }
 {}

@@ -4,4 +4,5 @@
 pub mod deaf;
 pub mod laws;
 pub mod raise;
+pub mod stayed;
 pub mod taken;
