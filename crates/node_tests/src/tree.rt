@@ -1,5 +1,6 @@
 //! What is kept of maps.
-ghost use Rattle.node_tests.specs.Nowhere.{nowhere};
+ghost use Rattle.std.specs.Prelude.{◌≡◌};
+ghost use Rattle.node_tests.specs.Nowhere.{no_layout, nowhere};
 
 use crate::assert_holds;
 use rdl_nodes::layouts::{Layout, Layouts};
@@ -19,6 +20,12 @@ use rdl_tree::shell::Kind;
 use std::alloc::{AllocError, Global};
 use std::test::Fail;
 
+fn no_layout(alloc: Global) -> Layout
+    ensures { result ≡ no_layout }
+{
+    Layout::new(0, 0, Vec::new(alloc))
+}
+
 /// Gives each component no bytes and no spans.
 struct Nowhere;
 
@@ -32,7 +39,10 @@ impl Lays for Nowhere {
         values: &Values,
         parts: &[Part],
     ) -> Result<Layouts, AllocError> {
-        Ok(Layouts::same(Layout::new(0, 0, Vec::new(alloc))))
+        match kind {
+            Kind::Reg => Layouts::of(alloc, no_layout(alloc), no_layout(alloc), no_layout(alloc)),
+            _ => Ok(Layouts::same(no_layout(alloc))),
+        }
     }
 }
 
