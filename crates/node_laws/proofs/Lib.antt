@@ -1,5 +1,6 @@
 pub mod Accepted
 pub mod Along
+pub mod AsLaid
 pub mod Inner
 pub mod Laying
 pub mod Nodes

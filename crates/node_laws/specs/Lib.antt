@@ -1,6 +1,9 @@
+pub mod BySaid
 pub mod Kept
 pub mod Laid
 pub mod Laws
+pub mod Laying
 pub mod Meant
+pub mod Modes
 pub mod Seen
 pub mod Sound

@@ -2,7 +2,10 @@
 #![tactic(auto)]
 
 #[cfg(test)]
+mod held;
+#[cfg(test)]
 mod marks;
+pub mod nowhere;
 #[cfg(test)]
 mod tree;
 

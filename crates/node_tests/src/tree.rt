@@ -1,50 +1,23 @@
 //! What is kept of maps.
-ghost use Rattle.std.specs.Prelude.{◌≡◌};
-ghost use Rattle.node_tests.specs.Nowhere.{no_layout, nowhere};
-
 use crate::assert_holds;
-use rdl_nodes::layouts::{Layout, Layouts};
+use crate::nowhere::{NoMemory, Nowhere};
+use rdl_marks::marks::BodyMarks;
 use rdl_nodes::lays::Lays;
-use rdl_nodes::parts::Part;
 use rdl_nodes::tree::Tree;
 use rdl_parse::parse::parse;
+use rdl_renew::renew::{RenewedMap, renewed};
 use rdl_renew::taken::take_over;
 use rdl_seen::alert::Alert;
 use rdl_seen::names::{NameSet, class_of};
 use rdl_seen::seen::Seen;
-use rdl_seen::values::Values;
 use rdl_text::name::Name;
 use rdl_tree::address::Address;
 use rdl_tree::description::Description;
+use rdl_tree::patch::Patch;
+use rdl_tree::patch_address::PatchAddress;
 use rdl_tree::shell::Kind;
 use std::alloc::{AllocError, Global};
 use std::test::Fail;
-
-fn no_layout(alloc: Global) -> Layout
-    ensures { result ≡ no_layout }
-{
-    Layout::new(0, 0, Vec::new(alloc))
-}
-
-/// Gives each component no bytes and no spans.
-struct Nowhere;
-
-impl Lays for Nowhere {
-    ghost laying = { nowhere };
-
-    fn lay(
-        &self,
-        alloc: Global,
-        kind: Kind,
-        values: &Values,
-        parts: &[Part],
-    ) -> Result<Layouts, AllocError> {
-        match kind {
-            Kind::Reg => Layouts::of(alloc, no_layout(alloc), no_layout(alloc), no_layout(alloc)),
-            _ => Ok(Layouts::same(no_layout(alloc))),
-        }
-    }
-}
 
 fn description(alloc: Global, text: &str) -> Result<Description, &'static str> {
     match parse(alloc, text) {
@@ -118,5 +91,117 @@ fn who_listens_to_nothing_is_taken_over(rt: HostRuntime) -> Result<(), Fail> {
         all == Some(3) && none == Some(0),
         "the items of the top",
     );
+    Ok(())
+}
+
+/// A map that has one item more than it had, at this address, with what is kept of it over what was kept of it before. What is laid out
+/// anew is laid out so.
+fn renewed_with_one_more<L: Lays>(
+    alloc: Global,
+    lay: &L,
+    before: &str,
+    now: &str,
+    numbers: &[usize],
+) -> Result<RenewedMap, Fail> {
+    let before = description(alloc, before)?;
+    let now = description(alloc, now)?;
+    let tree = Tree::of(alloc, &Nowhere, &before)?;
+    let back = Patch::Delete(PatchAddress::new(alloc, &address(numbers))?);
+    let mut marks = BodyMarks::new(alloc);
+    marks.note(alloc, &back)?;
+    let map = renewed(alloc, lay, &tree, &marks, &now)?;
+    Ok(map)
+}
+
+const FILLED: &str =
+    "reg T { field {} f; }; addrmap top { T a; regfile { T b[4]; } r; regfile { T c; } e; };";
+
+#[test]
+fn what_holds_a_new_item_is_renewed(rt: HostRuntime) -> Result<(), Fail> {
+    let alloc = rt.alloc();
+    let RenewedMap { tree, is_clean } = renewed_with_one_more(
+        alloc,
+        &Nowhere,
+        MAP,
+        FILLED,
+        &[1, 2, 0],
+    )?;
+    let are_seen = is_seen(&tree, &[0], Kind::Reg, 1, false)
+        && is_seen(&tree, &[1], Kind::Addrmap, 3, false)
+        && is_seen(&tree, &[1, 1], Kind::Regfile, 2, false)
+        && is_seen(&tree, &[1, 2], Kind::Regfile, 2, false);
+    assert_holds(&rt, are_seen && is_none(&tree, &[1, 2, 0]), "the nodes");
+    assert_holds(&rt, is_clean, "that no item has a fault");
+    Ok(())
+}
+
+const NAMED: &str =
+    "reg T { field {} f; name = \"x\"; }; addrmap top { T a; regfile { T b[4]; } r; regfile {} e; };";
+
+#[test]
+fn where_no_layout_depends_on_a_new_item_none_is_made(rt: HostRuntime) -> Result<(), Fail> {
+    let alloc = rt.alloc();
+    let map = renewed_with_one_more(alloc, &NoMemory, MAP, NAMED, &[0, 1])?;
+    let are_seen = is_seen(&map.tree, &[0], Kind::Reg, 1, false)
+        && is_seen(&map.tree, &[1], Kind::Addrmap, 3, true);
+    assert_holds(&rt, are_seen, "the nodes");
+    Ok(())
+}
+
+const TYPES: &str =
+    "regfile T { reg { field {} f; } g; }; regfile U { T a; }; addrmap top { U b; };";
+
+const DEEPER: &str =
+    "regfile T { reg { field {} f; } g; regfile {} h; }; regfile U { T a; }; addrmap top { U b; };";
+
+#[test]
+fn who_refers_to_a_type_with_a_new_item_is_renewed(rt: HostRuntime) -> Result<(), Fail> {
+    let alloc = rt.alloc();
+    let RenewedMap { tree, is_clean } = renewed_with_one_more(
+        alloc,
+        &Nowhere,
+        TYPES,
+        DEEPER,
+        &[0, 1],
+    )?;
+    let are_seen = is_seen(&tree, &[0], Kind::Regfile, 2, true)
+        && is_seen(&tree, &[0, 0], Kind::Reg, 1, false)
+        && is_seen(&tree, &[0, 1], Kind::Regfile, 0, false)
+        && is_seen(&tree, &[1], Kind::Regfile, 3, true)
+        && is_seen(&tree, &[2], Kind::Addrmap, 4, true);
+    assert_holds(&rt, are_seen, "the nodes");
+    assert_holds(&rt, is_clean, "that no item has a fault");
+    Ok(())
+}
+
+/// What is kept of a map of which this item was moved to the front, over what was kept of it before.
+fn renewed_with_one_moved(
+    alloc: Global,
+    before: &str,
+    now: &str,
+    from: usize,
+) -> Result<Tree, Fail> {
+    let before = description(alloc, before)?;
+    let now = description(alloc, now)?;
+    let tree = Tree::of(alloc, &Nowhere, &before)?;
+    let back = Patch::Shift(PatchAddress::new(alloc, &address(&[0]))?, from);
+    let mut marks = BodyMarks::new(alloc);
+    marks.note(alloc, &back)?;
+    let map = renewed(alloc, &Nowhere, &tree, &marks, &now)?;
+    Ok(map.tree)
+}
+
+const LATE: &str = "addrmap top { T a; }; regfile T { reg { field {} f; } g; };";
+
+const EARLY: &str = "regfile T { reg { field {} f; } g; }; addrmap top { T a; };";
+
+#[test]
+fn a_type_that_was_moved_is_seen_behind_its_place(rt: HostRuntime) -> Result<(), Fail> {
+    let alloc = rt.alloc();
+    let tree = renewed_with_one_moved(alloc, LATE, EARLY, 1)?;
+    let are_seen = is_seen(&tree, &[0], Kind::Regfile, 2, false)
+        && is_seen(&tree, &[0, 0], Kind::Reg, 1, false)
+        && is_seen(&tree, &[1], Kind::Addrmap, 3, false);
+    assert_holds(&rt, are_seen, "the nodes");
     Ok(())
 }

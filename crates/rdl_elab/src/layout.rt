@@ -1,7 +1,7 @@
 //! Layouts of components.
 
 pub(crate) mod bits;
-pub(crate) mod component;
+pub mod component;
 pub(crate) mod place;
 pub(crate) mod placing;
 pub(crate) mod round;

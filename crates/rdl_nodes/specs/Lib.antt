@@ -1,4 +1,5 @@
 pub mod Apart
+pub mod Bare
 pub mod Bodies
 pub mod Codes
 pub mod CoreWith
@@ -16,6 +17,7 @@ pub mod InsideFalls
 pub mod KeptNode
 pub mod Part
 pub mod Parts
+pub mod SameValues
 pub mod Targets
 pub mod TypeStack
 pub mod View

@@ -1,5 +1,6 @@
 //! How instances are laid out.
 ghost use Rattle.std.specs.Prelude.{◌≡◌, IfOk, map};
+ghost use Rattle.rdl_nodes.specs.Bare.{GoesBySaid};
 ghost use Rattle.rdl_nodes.specs.Part.{member_of};
 ghost use Rattle.rdl_seen.specs.Layouts.{Laying};
 
@@ -9,7 +10,8 @@ use rdl_seen::values::Values;
 use rdl_tree::shell::Kind;
 use std::alloc::{AllocError, Global};
 
-/// Code that lays out instances, by one function of the kind of their component, its values and its instances.
+/// Code that lays out instances, by one function of the kind of their component, its values and its instances. Of an instance that takes
+/// neither its name nor its reset nor whether it is external.
 pub trait Lays {
     ghost laying: { Laying };
 
@@ -22,4 +24,6 @@ pub trait Lays {
         parts: &[Part],
     ) -> Result<Layouts, AllocError>
         ensures { IfOk result (λ layouts. layouts ≡ laying kind values.now (map member_of parts.now)) };
+
+    ghost by_said: { GoesBySaid laying };
 }

@@ -7,6 +7,7 @@ pub mod contents;
 pub mod core_of;
 pub mod field;
 pub mod fields;
+pub mod finished;
 pub mod inside;
 pub mod layouts;
 pub mod lays;

@@ -35,7 +35,7 @@ impl<'a> Model for Part<'a> {
 }
 
 /// Whether the instance says how many bits its field has, or which.
-pub(crate) fn says_bits(shell: &Shell) -> bool
+pub fn says_bits(shell: &Shell) -> bool
     ensures { result ≡ says_bits shell.now }
 {
     shell.range().is_some() || !shell.dims().is_empty()
@@ -195,7 +195,7 @@ pub fn parts<'a>(
 ) -> Result<Vec<Part<'a>>, AllocError>
     ensures { IfOk result (λ parts. parts.items ≡ parts_of defaults.now body.now (slots_of slots.now)) }
 {
-    let mut parts = Vec::new(alloc);
+    let mut parts = Vec::with_capacity(alloc, slots.len())?;
     let mut defaults = *defaults;
     for (i, item) in body.as_slice().iter().enumerate() {
         put_part(&mut parts, &defaults, item, slots.get(i))?;

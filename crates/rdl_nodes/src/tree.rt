@@ -60,6 +60,7 @@ impl Tree {
     ghost use Rattle.std.specs.Prelude.{◌≡◌, IfOk, option_map};
     ghost use Rattle.rdl_nodes.specs.HoldsNodes.{HoldsNodes};
     ghost use Rattle.rdl_nodes.specs.KeptNode.{kept_of};
+    ghost use Rattle.rdl_nodes.specs.View.{slots_of};
     ghost use Rattle.rdl_seen.specs.Meaning.{nothing_around, node_at};
     ghost use Rattle.rdl_seen.specs.Node.{body_of};
 
@@ -77,6 +78,20 @@ impl Tree {
         Ok(Tree {
             slots: walked.slots,
         })
+    }
+
+    /// That of a description whose items have these slots.
+    pub fn of_slots(slots: Vec<Slot>) -> Tree
+        ensures { result ≡ slots_of slots.items }
+    {
+        Tree { slots }
+    }
+
+    /// What is kept of the root's items.
+    pub fn slots(&self) -> &[Slot]
+        ensures { slots_of result.now ≡ self.now }
+    {
+        self.slots.as_slice()
     }
 
     /// What is kept of the component that the item at this address holds, if that is kept by itself.

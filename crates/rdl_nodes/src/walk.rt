@@ -14,11 +14,11 @@ ghost use Rattle.rdl_seen.specs.Node.{with_type, with_default, walked, body_of, 
 ghost use Rattle.rdl_seen.specs.Slots.{Slots, slot, default_slot, field_slot, written, type_slot, part_slot};
 
 use crate::around::Around;
-use crate::field::{FieldBody, own_values};
+use crate::field::FieldBody;
+use crate::finished::finished;
 use crate::inside::{Inside, Within};
 use crate::lays::Lays;
-use crate::node::{Core, Node, Slot};
-use crate::parts::parts;
+use crate::node::{Node, Slot};
 use crate::target::verdict_of;
 use crate::types::Known;
 use rdl_seen::names::class_of;
@@ -128,25 +128,13 @@ fn finish<'a, L: Lays>(
     ensures within { IfOk result (λ m. within_of m.within ≡ (known_of (core_of L.laying component.now.kind defaults.now component.now.body (walked_of items.entry).slots) (walked_of items.entry).instances).within) }
 {
     let Walked { slots, instances } = items;
-    let body = &component.body;
-    let parts = parts(alloc, defaults, body, slots.as_slice())?;
-    let values = own_values(body).over(defaults).of_kind(component.kind);
-    let layouts = lay.lay(alloc, component.kind, &values, parts.as_slice())?;
-    let layouts = Rc::new(alloc, layouts)?;
-    let kept = layouts.clone()?;
-    let core = Core::of(
-        component.kind,
-        defaults,
-        body,
-        slots.as_slice(),
-        parts.as_slice(),
-        layouts,
-    );
-    let is_ordered = core.seen.is_ordered;
+    let node = finished(alloc, lay, defaults, component, slots)?;
+    let layouts = node.core().layouts.clone()?;
+    let is_ordered = node.core().seen.is_ordered;
     let instances = Rc::new(alloc, instances)?;
     Ok(Made {
-        node: Node::new(core, slots),
-        within: Within::Of(component.kind, kept, is_ordered, instances),
+        node,
+        within: Within::Of(component.kind, layouts, is_ordered, instances),
     })
 }
 

@@ -62,6 +62,31 @@ fn stop_fault(text: &str, words: &Tokens<'_>, stop: Stop) -> ParseFault
     ParseFault { kind, offset }
 }
 
+/// Does the same as `parse`, and gives the words of the text with it.
+pub fn parse_worded<'a>(
+    alloc: Global,
+    text: &'a str,
+) -> Result<(Description, Places<'a>, Tokens<'a>), ParseFault>
+    ensures words { IfOk result (λ x. HasWords text.now x.2) }
+    ensures found { IfOk result (λ x. SpellsText text.now x.0.items x.1 × IsWithinLimits x.0.items) }
+    ensures only { (d : Items) (p : Located) → SpellsText text.now d p → IsWithinLimits d → MatchResult result (λ x. (x.0.items ≡ d) × (x.1 ≡ p)) (λ f. f ≡ out_of_memory) }
+    ensures refused { IfErr result (λ f. (f ≡ out_of_memory) ⊎ Refuses text.now f) }
+    ensures long { max_text < length text.now → result ≡ Err too_long }
+    ensures exact { Reads (λ x. (x.0.items, x.1)) result (parse_reading text.now) }
+{
+    let words = match words_of(alloc, text) {
+        Ok(words) => words,
+        Err(fault) => return Err(fault),
+    };
+    match text::text(alloc, words.as_words()) {
+        Ok((description, spots)) => match Places::new(alloc, text, &words, spots.as_slice()) {
+            Ok(places) => Ok((description, places, words)),
+            Err(_) => Err(ParseFault::MEMORY),
+        },
+        Err(stop) => Err(stop_fault(text, &words, stop)),
+    }
+}
+
 /// The description that the text spells, and the places of its items.
 ///
 /// A fault is the first one: that the text is too long, then the first of its words', then the first at which reading
@@ -78,16 +103,9 @@ pub fn parse<'a>(alloc: Global, text: &'a str) -> Result<(Description, Places<'a
     // Which fault it is.
     ensures exact { Reads (λ x. (x.0.items, x.1)) result (parse_reading text.now) }
 {
-    let words = match words_of(alloc, text) {
-        Ok(words) => words,
-        Err(fault) => return Err(fault),
-    };
-    match text::text(alloc, words.as_words()) {
-        Ok((description, spots)) => match Places::new(alloc, text, &words, spots.as_slice()) {
-            Ok(places) => Ok((description, places)),
-            Err(_) => Err(ParseFault::MEMORY),
-        },
-        Err(stop) => Err(stop_fault(text, &words, stop)),
+    match parse_worded(alloc, text) {
+        Ok((description, places, _words)) => Ok((description, places)),
+        Err(fault) => Err(fault),
     }
 }
 

@@ -1,5 +1,5 @@
 -- The fault of an item that is looked up from its place is the one that it has by all that its body sees.
-use Rattle.std.proofs.Common.{◌≡◌, ℕ, List, ◌∷◌, Option, Some, None, option_map, refl, ap, ◌∙◌}
+use Rattle.std.proofs.Common.{◌≡◌, ℕ, false, List, ◌∷◌, Option, Some, None, option_map, refl, ap, ◌∙◌}
 use Rattle.std.specs.Option.{is_some}
 use Rattle.rdl_tree.specs.Properties.{property_of}
 use Rattle.rdl_tree.specs.declared.shell.Kind.{Kind}
@@ -13,7 +13,7 @@ use Rattle.rdl_seen.specs.Layouts.{Laying}
 use Rattle.rdl_seen.specs.Node.{Known}
 use Rattle.rdl_places.specs.Scopes.{Place, around_places, IsScope, Holding, known_at, find_type}
 use Rattle.rdl_places.specs.Reached.{instances_at}
-use Rattle.rdl_places.specs.Judged.{item_fault, kind_of_type, fault_at}
+use Rattle.rdl_places.specs.Judged.{item_fault, kind_of_type, fault_at, lone_fault, lone_fault_at}
 use Rattle.rdl_places.proofs.Scopes.{type_known}
 use Rattle.rdl_places.proofs.Ends.{kind_is}
 
@@ -33,3 +33,12 @@ fault_is lay around p ps (Instance s (Anonymous c)) is = refl
 fault_is lay around p ps (Own q v) is = refl
 fault_is lay around p ps (Default q v) is = refl
 fault_is lay around p ps (Dynamic t q v) is = ap (dynamic_fault (reached_before t q p.number p.body) (property_of q) v) (kind_is lay t (p ∷ ps) is)
+
+pub lone_fault_is : (lay : Laying) (around : Option Kind) (ps : List Place) (x : Item) → IsScope lay ps
+    → lone_fault_at around ps x ≡ lone_fault (around_places lay ps) around (instances_at lay ps) x
+lone_fault_is lay around ps (Define name c) is = refl
+lone_fault_is lay around ps (Instance s (Named t)) is = ap (instance_fault around false s) (type_kind lay t ps is)
+lone_fault_is lay around ps (Instance s (Anonymous c)) is = refl
+lone_fault_is lay around ps (Own q v) is = refl
+lone_fault_is lay around ps (Default q v) is = refl
+lone_fault_is lay around ps (Dynamic t q v) is = ap (dynamic_fault false (property_of q) v) (kind_is lay t ps is)

@@ -1,3 +1,4 @@
+pub mod AtPlaces
 pub mod CleanItems
 pub mod Ends
 pub mod Judged

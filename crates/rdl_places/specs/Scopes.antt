@@ -49,6 +49,14 @@ abbrev pub AreHeld : Laying → Option Holding → Type 0
 AreHeld lay None = Unit {0}
 AreHeld lay (Some h) = IsHolding lay h
 
+-- its node is what is kept of the item at the first of its places
+abbrev pub IsKeptAt : List Place → Node → Type 0
+IsKeptAt [] n = ⊥
+IsKeptAt (p ∷ ps) n = kept_at p.number p.slots ≡ Some n
+
+abbrev pub IsAtPlace : Holding → Type 0
+IsAtPlace h = IsKeptAt h.places h.node
+
 -- what is known of it where it stands
 abbrev pub known_at : Laying → Holding → Known
 known_at lay h = known lay (around_places lay h.places) h.kind h.body

@@ -2,7 +2,7 @@
 ghost use Rattle.std.specs.Prelude.{◌≡◌, Option, option_map};
 ghost use Rattle.std.specs.Option.{is_some};
 ghost use Rattle.rdl_places.specs.HeldScope.{place_of, outer_places, places_of};
-ghost use Rattle.rdl_places.specs.Judged.{item_fault, kind_of_type, kind_of_instance, fault_at};
+ghost use Rattle.rdl_places.specs.Judged.{item_fault, kind_of_type, kind_of_instance, fault_at, lone_fault, lone_fault_at};
 ghost use Rattle.rdl_places.specs.Reached.{instances_at};
 ghost use Rattle.rdl_places.specs.Scopes.{around_places, IsScope};
 ghost use Rattle.rdl_scope.specs.ItemFaults.{own_fault, excluded_by};
@@ -11,11 +11,14 @@ ghost use Rattle.rdl_seen.specs.Layouts.{Laying};
 ghost use Rattle.rdl_tree.specs.Properties.{property_of};
 
 use crate::leads::kind_at;
-use crate::rules::{default_fault, define_fault, dynamic_fault, instance_fault, own_fault};
 use crate::scope::Scope;
-use crate::used::{
-    excluded_by, instance_before, last_default, last_definition, own_before, reached_before,
-};
+use rdl_scope::assignments::{default_fault, dynamic_fault, own_fault};
+use rdl_scope::before::{excluded_by, reached_before};
+use rdl_scope::kinds::define_fault;
+use rdl_scope::shells::instance_fault;
+use rdl_scope::targets::instance_before;
+use rdl_scope::types::last_definition;
+use rdl_scope::values::{last_default, own_before};
 use rdl_text::name::Name;
 use rdl_tree::description::{Body, Item, Of};
 use rdl_tree::fault::FaultKind;
@@ -84,6 +87,30 @@ fn fault_at(scope: &Scope, around: Option<Kind>, item: &Item) -> Option<FaultKin
             dynamic_fault(twice, property(name.as_str()), value, kind)
         }
     }
+}
+
+fn lone_fault_at(scope: &Scope, around: Option<Kind>, item: &Item) -> Option<FaultKind>
+    ensures { result ≡ lone_fault_at around (places_of scope.now) item.now }
+{
+    match item {
+        Item::Define(_, component) => define_fault(around, false, component.kind),
+        Item::Instance(shell, of) => {
+            instance_fault(around, false, shell, kind_of_instance(scope, of))
+        }
+        Item::Own(name, value) => own_fault(around, false, false, property(name.as_str()), value),
+        Item::Default(name, value) => default_fault(false, property(name.as_str()), value),
+        Item::Dynamic(target, name, value) => {
+            let kind = kind_at(scope, target.names());
+            dynamic_fault(false, property(name.as_str()), value, kind)
+        }
+    }
+}
+
+/// The fault of the item at this place, where nothing before it in its body makes one of it.
+pub fn lone_fault(scope: &Scope, around: Option<Kind>, item: &Item) -> Option<FaultKind>
+    ensures { (lay : Laying) → IsScope lay (places_of scope.now) → result ≡ lone_fault (around_places lay (places_of scope.now)) around (instances_at lay (places_of scope.now)) item.now }
+{
+    lone_fault_at(scope, around, item)
 }
 
 /// The fault of the item at this place, if it has one, in the body of a component of this kind, or of the root.

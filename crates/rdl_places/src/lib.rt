@@ -4,6 +4,4 @@
 pub mod faults;
 pub mod laws;
 pub mod leads;
-mod rules;
 pub mod scope;
-mod used;

@@ -1,19 +1,23 @@
 //! What a body sees around it, told by bodies and slots alone, and looked up when it is asked.
-ghost use Rattle.std.specs.Prelude.{◌≡◌, ◌∷◌, [], option_map, option_copied};
+ghost use Rattle.std.specs.Prelude.{◌≡◌, ◌∷◌, [], IfOk, option_map, option_copied};
 ghost use Rattle.rdl_places.specs.HeldScope.{place_of, outer_places, places_of, holding_of, found_of};
 ghost use Rattle.rdl_nodes.specs.KeptNode.{kept_of};
 ghost use Rattle.rdl_places.specs.Reached.{instances_at, count_of, count_before, component_of, instance_named, find_before, place_inside, find_inside, found_at, IsFoundHeld};
-ghost use Rattle.rdl_places.specs.Scopes.{around_places, IsScope, IsHolding, AreHeld, known_at, definition, holding_at, last_type, find_type};
+ghost use Rattle.rdl_places.specs.Scopes.{around_places, IsScope, IsHolding, AreHeld, known_at, definition, holding_at, last_type, find_type, IsAtPlace};
 ghost use Rattle.rdl_nodes.specs.View.{slots_of};
 ghost use Rattle.rdl_scope.specs.Closed.{lookup};
 ghost use Rattle.rdl_seen.specs.Inside.{find};
 ghost use Rattle.rdl_seen.specs.Layouts.{Laying};
 ghost use Rattle.rdl_seen.specs.Meaning.{kept_at};
+ghost use Rattle.rdl_seen.specs.Node.{Known};
 
 use rdl_nodes::node::{Kept, Slot};
+use rdl_seen::seen::Seen;
 use rdl_text::is_same;
 use rdl_text::name::Name;
 use rdl_tree::description::{Body, Component, Item, Of};
+use std::alloc::{AllocError, Global};
+use std::rc::Rc;
 
 /// The place of an item in a body: how many items stand before it, their slots, and the place of the item that holds the body. So it
 /// tells what the item sees, and nothing is put by for that.
@@ -29,7 +33,7 @@ pub struct Scope<'s> {
 /// Where a body stands.
 #[cycle(scope)]
 #[derive(Clone, Copy)]
-enum Outer<'s> {
+pub enum Outer<'s> {
     /// It is the root's.
     Nowhere,
     /// In the item at this place.
@@ -115,32 +119,15 @@ fn count_before(body: &Body, number: usize) -> usize
 }
 
 impl<'s> Scope<'s> {
-    /// A place in the root's body: before the item of this number, where these are the slots of the items before it.
-    pub fn root(body: &'s Body, number: usize, slots: &'s [Slot]) -> Scope<'s>
-        ensures { places_of result ≡ record { body = body.now; number = number; slots = slots_of slots.now } ∷ [] }
+    /// The place before the item of this number in a body that stands there, where these are the slots of the items before it.
+    pub fn new(outer: Outer<'s>, body: &'s Body, number: usize, slots: &'s [Slot]) -> Scope<'s>
+        ensures { places_of result ≡ record { body = body.now; number = number; slots = slots_of slots.now } ∷ outer_places outer.entry }
     {
         Scope {
             body,
             number,
             slots,
-            outer: Outer::Nowhere,
-        }
-    }
-
-    /// A place in the body that the item at the outer place holds.
-    pub fn within(
-        outer: &'s Scope<'s>,
-        body: &'s Body,
-        number: usize,
-        slots: &'s [Slot],
-    ) -> Scope<'s>
-        ensures { places_of result ≡ record { body = body.now; number = number; slots = slots_of slots.now } ∷ places_of outer.now }
-    {
-        Scope {
-            body,
-            number,
-            slots,
-            outer: Outer::In(outer),
+            outer,
         }
     }
 
@@ -204,6 +191,19 @@ impl<'s> Scope<'s> {
         self.nearest_type(name)
     }
 
+    /// What is seen of the type of this name that the item at this place sees, shared with the definition.
+    pub fn find_seen(&self, alloc: Global, name: &Name) -> Result<Option<Rc<Seen>>, AllocError>
+        ensures { (lay : Laying) → IsScope lay (places_of self.now) → IfOk result (λ seen. option_map (λ s. s.value) seen ≡ option_map (λ (k : Known). k.seen) (lookup name.now (around_places lay (places_of self.now)).types)) }
+    {
+        match self.find_type(name) {
+            Some(holder) => {
+                let seen = holder.shared_seen(alloc)?;
+                Ok(Some(seen))
+            }
+            None => Ok(None),
+        }
+    }
+
     /// What the instance at this place is an instance of.
     fn component(&self, of: &'s Of) -> Option<Holder<'s>>
         ensures { option_map holding_of result ≡ component_of self.now.number (place_of self.now) (outer_places self.now.outer) of.now }
@@ -240,12 +240,27 @@ impl<'s> Scope<'s> {
 }
 
 impl<'s> Holder<'s> {
+    /// What is seen of it, shared with the item that holds it, if that is a definition.
+    fn shared_seen(&self, alloc: Global) -> Result<Rc<Seen>, AllocError>
+        requires { IsAtPlace (holding_of self.now) }
+        ensures { IfOk result (λ seen. seen.value ≡ (holding_of self.now).node.core.seen) }
+    {
+        match self.scope.slots.get(self.scope.number) {
+            Some(Slot::Define(_, seen, _)) => {
+                let shared = seen.clone()?;
+                Ok(shared)
+            }
+            _ => Ok(Rc::new(alloc, *self.kept.seen)?),
+        }
+    }
+
     /// The place behind its items.
     fn inside(&'s self) -> Scope<'s>
         ensures { places_of result ≡ place_inside (holding_of self.now) ∷ (holding_of self.now).places }
     {
         let body = &self.component.body;
-        Scope::within(&self.scope, body, body.len(), self.kept.node.slots())
+        let slots = self.kept.node.slots();
+        Scope::new(Outer::In(&self.scope), body, body.len(), slots)
     }
 
     /// The last instance of this name among its items.

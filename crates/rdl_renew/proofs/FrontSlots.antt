@@ -8,11 +8,11 @@ use Rattle.rdl_nodes.specs.View.{add, slots_of}
 use Rattle.rdl_seen.specs.declared.alert.Alert.{Alert}
 use Rattle.rdl_seen.specs.OneByOne.{slot_at}
 use Rattle.rdl_seen.specs.Slots.{Slots}
-use Rattle.rdl_renew.specs.Deaf.{is_first_deaf}
+use Rattle.rdl_renew.specs.Deaf.{is_first_settled}
 use Rattle.rdl_renew.specs.Fronts.{front_of, fronts, run_of, FrontsAreSlots}
 use Rattle.rdl_renew.proofs.Alone.{two_true, and_true}
 
-first_slot : (s : Slot) (rest : Slots) → slot_at 0 (add s rest) ≡ Some (front_of s)
+pub first_slot : (s : Slot) (rest : Slots) → slot_at 0 (add s rest) ≡ Some (front_of s)
 first_slot Own rest = refl
 first_slot (Default p) rest = refl
 first_slot (Dynamic v) rest = refl
@@ -21,7 +21,7 @@ first_slot (Named class s) rest = refl
 first_slot (Define class s n) rest = refl
 first_slot (Part n) rest = refl
 
-later_slot : (s : Slot) (rest : Slots) (i : ℕ) → slot_at (suc i) (add s rest) ≡ slot_at i rest
+pub later_slot : (s : Slot) (rest : Slots) (i : ℕ) → slot_at (suc i) (add s rest) ≡ slot_at i rest
 later_slot Own rest i = refl
 later_slot (Default p) rest i = refl
 later_slot (Dynamic v) rest i = refl
@@ -36,7 +36,7 @@ fronts_are_slots [] (suc i) = refl
 fronts_are_slots (x ∷ xs) zero = first_slot x (slots_of xs)
 fronts_are_slots (x ∷ xs) (suc i) = later_slot x (slots_of xs) i ∙ fronts_are_slots xs i
 
-got_front : (xs : List Slot) (i : ℕ) (x : Slot) → slice_get xs i ≡ Some x → slice_get (fronts xs) i ≡ Some (front_of x)
+pub got_front : (xs : List Slot) (i : ℕ) (x : Slot) → slice_get xs i ≡ Some x → slice_get (fronts xs) i ≡ Some (front_of x)
 got_front [] i x e = absurd cc
 got_front (y ∷ ys) zero x e = let same : y ≡ x = cc in ap (λ z. Some (front_of z)) same
 got_front (y ∷ ys) (suc i) x e = got_front ys i x e
@@ -68,10 +68,10 @@ no_run xs from =
 
 -- ---- A run that is taken over.
 
--- behind the old slots stand those of the run, all of which are deaf
+-- behind the old slots stand those of the run, all of which are settled
 pub record IsTaken (slots old new : List Slot) (x : Alert) (from end : ℕ) : Type 0 where
   pub taken : fronts new ≡ fronts old ++ run_of from end slots
-  pub deaf : list_all (λ s. is_first_deaf x s) (run_of from end slots) ≡ true
+  pub settled : list_all (λ s. is_first_settled x s) (run_of from end slots) ≡ true
   pub within : from ≤ end
 
 none_more : (xs : List Slots) → xs ≡ xs ++ []
@@ -82,7 +82,7 @@ pub nothing_taken : (slots old : List Slot) (x : Alert) (from : ℕ) → IsTaken
 nothing_taken slots old x from =
     record {
       taken = none_more (fronts old) ∙ ap (λ ys. fronts old ++ ys) (sym (no_run slots from));
-      deaf = ap (λ ys. list_all (λ s. is_first_deaf x s) ys) (no_run slots from);
+      settled = ap (λ ys. list_all (λ s. is_first_settled x s) ys) (no_run slots from);
       within = omega arith;
     }
 
@@ -98,15 +98,15 @@ all_more : (p : Slots → Bool) (xs : List Slots) (y : Slots) → list_all p xs 
 all_more p [] y e g = λ i. g i && true
 all_more p (x ∷ xs) y e g = let two = two_true (p x) (list_all p xs) e in and_true (p x) (list_all p (xs ++ y ∷ [])) two.0 (all_more p xs y two.1 g)
 
-pub one_more : (slots old new : List Slot) (x : Alert) (from end : ℕ) (s t : Slot) → IsTaken slots old new x from end → slice_get slots end ≡ Some s → is_first_deaf x (front_of s) ≡ true
+pub one_more : (slots old new : List Slot) (x : Alert) (from end : ℕ) (s t : Slot) → IsTaken slots old new x from end → slice_get slots end ≡ Some s → is_first_settled x (front_of s) ≡ true
     → front_of t ≡ front_of s → IsTaken slots old (new ++ t ∷ []) x from (end + 1)
-one_more slots old new x from end s t is there deaf copy =
+one_more slots old new x from end s t is there settled copy =
     let run = run_more slots from end s is.within there in
     record {
       taken =
           fronts_more new t
           ∙ ((λ i. is.taken i ++ copy i ∷ []) ∙ (together (fronts old) (run_of from end slots) (front_of s ∷ []) ∙ ap (λ ys. fronts old ++ ys) (sym run)));
-      deaf = ap (λ ys. list_all (λ z. is_first_deaf x z) ys) run ∙ all_more (λ z. is_first_deaf x z) (run_of from end slots) (front_of s) is.deaf deaf;
+      settled = ap (λ ys. list_all (λ z. is_first_settled x z) ys) run ∙ all_more (λ z. is_first_settled x z) (run_of from end slots) (front_of s) is.settled settled;
       within = let l = is.within in omega (arith, l);
     }
 
@@ -116,8 +116,8 @@ no_front [] i e = refl
 no_front (y ∷ ys) zero e = absurd cc
 no_front (y ∷ ys) (suc i) e = no_front ys i e
 
-pub ends_there : (xs : List Slot) (i : ℕ) (x : Alert) (s : Slot) → slice_get xs i ≡ Some s → is_first_deaf x (front_of s) ≡ false → IfSome (slice_get (fronts xs) i) (λ z. is_first_deaf x z ≡ false)
-ends_there xs i x s there deaf = subst (λ o. IfSome o (λ z. is_first_deaf x z ≡ false)) (sym (got_front xs i s there)) deaf
+pub ends_there : (xs : List Slot) (i : ℕ) (x : Alert) (s : Slot) → slice_get xs i ≡ Some s → is_first_settled x (front_of s) ≡ false → IfSome (slice_get (fronts xs) i) (λ z. is_first_settled x z ≡ false)
+ends_there xs i x s there settled = subst (λ o. IfSome o (λ z. is_first_settled x z ≡ false)) (sym (got_front xs i s there)) settled
 
-pub ends_nowhere : (xs : List Slot) (i : ℕ) (x : Alert) → slice_get xs i ≡ None → IfSome (slice_get (fronts xs) i) (λ z. is_first_deaf x z ≡ false)
-ends_nowhere xs i x e = subst (λ o. IfSome o (λ z. is_first_deaf x z ≡ false)) (sym (no_front xs i e)) tt
+pub ends_nowhere : (xs : List Slot) (i : ℕ) (x : Alert) → slice_get xs i ≡ None → IfSome (slice_get (fronts xs) i) (λ z. is_first_settled x z ≡ false)
+ends_nowhere xs i x e = subst (λ o. IfSome o (λ z. is_first_settled x z ≡ false)) (sym (no_front xs i e)) tt

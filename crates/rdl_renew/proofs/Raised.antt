@@ -149,7 +149,7 @@ tells_moved old x n z (old_item k f m ∷ es) rest (y ∷ ys) so h l is =
 -- ---- Items that are there.
 
 -- each item that was there became of its old one
-from_there : (m : Marks) (old now : Items) (i : ℕ) (e : Trace) (y : Item) → Describes m old now → IsItem i now y → trace_of m i ≡ Some e → IsFrom old e y
+pub from_there : (m : Marks) (old now : Items) (i : ℕ) (e : Trace) (y : Item) → Describes m old now → IsItem i now y → trace_of m i ≡ Some e → IsFrom old e y
 from_there m old now i e y d got h = by (is_told m i e h).is
   where
     es : List Trace

@@ -71,12 +71,12 @@ pub marked_one : (xs : List Item) (n : ℕ) (m : Mark) (y : Item) (a : Alert) �
 marked_one [] n m y a some e is = absurd cc
 marked_one (x ∷ xs) n m y a some e is = is ∙ (ap (item_raises (marked n m)) e ∙ sym (with_none (item_raises (marked n m) x)))
 
-drop_here : {X : Type 0} (xs : List X) (i : ℕ) (x : X) → i < length xs → x ≡ get_or xs i x → drop i xs ≡ x ∷ drop (suc i) xs
+pub drop_here : {X : Type 0} (xs : List X) (i : ℕ) (x : X) → i < length xs → x ≡ get_or xs i x → drop i xs ≡ x ∷ drop (suc i) xs
 drop_here [] i x l e = absurd (omega arith)
 drop_here (y ∷ ys) zero x l e = ap (λ z. z ∷ ys) (sym e)
 drop_here (y ∷ ys) (suc i) x l e = drop_here ys i x (omega arith) e
 
-past_all : {X : Type 0} (xs : List X) (i : ℕ) → length xs ≤ i → drop i xs ≡ []
+pub past_all : {X : Type 0} (xs : List X) (i : ℕ) → length xs ≤ i → drop i xs ≡ []
 past_all [] zero l = refl
 past_all [] (suc i) l = refl
 past_all (y ∷ ys) zero l = absurd (omega arith)

@@ -28,27 +28,27 @@ use Rattle.rdl_renew.specs.SideBySide.{place_beside, TellsOfAll, NoMoreDiffersAl
 
 -- ---- Lists.
 
-take_next : {X : Type 0} (xs : List X) (i : ℕ) (x : X) → slice_get xs i ≡ Some x → take (suc i) xs ≡ take i xs ++ x ∷ []
+pub take_next : {X : Type 0} (xs : List X) (i : ℕ) (x : X) → slice_get xs i ≡ Some x → take (suc i) xs ≡ take i xs ++ x ∷ []
 take_next [] i x e = absurd cc
 take_next (y ∷ ys) zero x e = let same : y ≡ x = cc in ap (λ z. z ∷ []) same
 take_next (y ∷ ys) (suc i) x e = ap (λ zs. y ∷ zs) (take_next ys i x e)
 
-drop_next : {X : Type 0} (xs : List X) (i : ℕ) (x : X) → slice_get xs i ≡ Some x → drop i xs ≡ x ∷ drop (suc i) xs
+pub drop_next : {X : Type 0} (xs : List X) (i : ℕ) (x : X) → slice_get xs i ≡ Some x → drop i xs ≡ x ∷ drop (suc i) xs
 drop_next [] i x e = absurd cc
 drop_next (y ∷ ys) zero x e = let same : y ≡ x = cc in ap (λ z. z ∷ ys) same
 drop_next (y ∷ ys) (suc i) x e = drop_next ys i x e
 
-split : {X : Type 0} (xs : List X) (i : ℕ) → xs ≡ take i xs ++ drop i xs
+pub split : {X : Type 0} (xs : List X) (i : ℕ) → xs ≡ take i xs ++ drop i xs
 split [] zero = refl
 split [] (suc i) = refl
 split (y ∷ ys) zero = refl
 split (y ∷ ys) (suc i) = ap (λ zs. y ∷ zs) (split ys i)
 
-all_taken : {X : Type 0} (xs : List X) → take (length xs) xs ≡ xs
+pub all_taken : {X : Type 0} (xs : List X) → take (length xs) xs ≡ xs
 all_taken [] = refl
 all_taken (y ∷ ys) = ap (λ zs. y ∷ zs) (all_taken ys)
 
-nothing_left : {X : Type 0} (xs : List X) → drop (length xs) xs ≡ []
+pub nothing_left : {X : Type 0} (xs : List X) → drop (length xs) xs ≡ []
 nothing_left [] = refl
 nothing_left (y ∷ ys) = nothing_left ys
 
@@ -58,12 +58,12 @@ get_drop [] (suc k) n = refl
 get_drop (y ∷ ys) zero n = ap (slice_get (y ∷ ys)) (let e : n ≡ 0 + n = omega arith in e)
 get_drop (y ∷ ys) (suc k) n = get_drop ys k n ∙ ap (slice_get (y ∷ ys)) (let e : suc (k + n) ≡ suc k + n = omega arith in e)
 
-within : {X : Type 0} (xs : List X) (i : ℕ) (x : X) → slice_get xs i ≡ Some x → i ≤ length xs
+pub within : {X : Type 0} (xs : List X) (i : ℕ) (x : X) → slice_get xs i ≡ Some x → i ≤ length xs
 within [] i x e = absurd cc
 within (y ∷ ys) zero x e = omega arith
 within (y ∷ ys) (suc i) x e = let l = within ys i x e in omega (arith, l)
 
-next_within : {X : Type 0} (xs : List X) (i : ℕ) (x : X) → slice_get xs i ≡ Some x → suc i ≤ length xs
+pub next_within : {X : Type 0} (xs : List X) (i : ℕ) (x : X) → slice_get xs i ≡ Some x → suc i ≤ length xs
 next_within [] i x e = absurd cc
 next_within (y ∷ ys) zero x e = omega arith
 next_within (y ∷ ys) (suc i) x e = let l = next_within ys i x e in omega (arith, l)
@@ -73,7 +73,7 @@ next_within (y ∷ ys) (suc i) x e = let l = next_within ys i x e in omega (arit
 next_of : ℕ → Trace → ℕ
 next_of place e = place_behind place (e ∷ [])
 
-place_append : (place : ℕ) (es : List Trace) (e : Trace) → place_behind place (es ++ e ∷ []) ≡ place_behind (place_behind place es) (e ∷ [])
+pub place_append : (place : ℕ) (es : List Trace) (e : Trace) → place_behind place (es ++ e ∷ []) ≡ place_behind (place_behind place es) (e ∷ [])
 place_append place [] e = refl
 place_append place (new_item ∷ es) e = place_append place es e
 place_append place (old_item number firsts inside ∷ es) e = place_append (if firsts.is_moved then place else number + 1) es e
@@ -89,9 +89,9 @@ rest_items old (e ∷ es) rest (x ∷ xs) k h =
     ∙ rest_items old es rest xs k (first_from old e (traces_of es) rest x (tree.items_of xs) h).1
 
 -- an item that was there had an old item
-record Had (old : Items) (n : ℕ) : Type 0 where
-  item : Item
-  is : IsItem n old item
+pub record Had (old : Items) (n : ℕ) : Type 0 where
+  pub item : Item
+  pub is : IsItem n old item
 
 had_one : (old : Items) (n : ℕ) (firsts : Firsts) (inside : Marks) (y : Item) → IsFrom old (old_item n firsts inside) y → Had old n
 had_one old n firsts inside (Define m c) h = record { item = _; is = h.0.1 }
@@ -125,7 +125,7 @@ listed m old now d =
     subst (λ t. AreFrom old t (drop m.behind (tree.list_of old)) (tree.items_of (tree.list_of now))) (sym (traces_of-list_of m.traces))
     (subst (AreFrom old m.traces (drop m.behind (tree.list_of old))) (sym (tree_rounds.items_of-list_of now)) d.items)
 
-had : (m : Marks) (old now : Items) (i n : ℕ) (firsts : Firsts) (inside : Marks) (y : Item) → Describes m old now → IsItem i now y → trace_of m i ≡ Some (old_item n firsts inside) → Had old n
+pub had : (m : Marks) (old now : Items) (i n : ℕ) (firsts : Firsts) (inside : Marks) (y : Item) → Describes m old now → IsItem i now y → trace_of m i ≡ Some (old_item n firsts inside) → Had old n
 had m old now i n firsts inside y d got h = by (is_told m i (old_item n firsts inside) h).is
   where
     es : List Trace

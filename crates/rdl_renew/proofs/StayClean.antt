@@ -91,7 +91,7 @@ field_stays lay a b body n (holder h inner rest) e =
     (are_clean lay a (Some (holder_kind h)) inner 0 no_instances inner && are_clean lay (after_holder h c a) (Some Field) body (suc n) (holder_instances h c no_instances) rest) e).0)
 
 -- the fault of an item asks of the items before it no more than whether it stands alone
-own_same : (around : Option Kind) (excluded other : Bool) (o : Option Property) (v : Value) → (not (is_false v) && excluded) ≡ (not (is_false v) && other) → own_fault around false excluded o v ≡ own_fault around false other o v
+pub own_same : (around : Option Kind) (excluded other : Bool) (o : Option Property) (v : Value) → (not (is_false v) && excluded) ≡ (not (is_false v) && other) → own_fault around false excluded o v ≡ own_fault around false other o v
 unfolding own_fault
 own_same around excluded other None v e = refl
 own_same around excluded other (Some p) v e = λ i. own_by (is_of around p) (takes p v) (e i)

@@ -1,22 +1,33 @@
-//! Whether what is kept of an item stays, told by that alone.
-ghost use Rattle.std.specs.Prelude.{◌≡◌};
+//! Whether an item may be passed over that is as it was, told by what is kept of it alone.
+ghost use Rattle.std.specs.Prelude.{◌≡◌, true};
 ghost use Rattle.rdl_nodes.specs.View.{add};
-ghost use Rattle.rdl_renew.specs.Deaf.{is_first_deaf};
+ghost use Rattle.rdl_renew.specs.Deaf.{is_first_settled};
+ghost use Rattle.rdl_seen.specs.Alert.{reaches_as};
 ghost use Rattle.rdl_seen.specs.Slots.{Slots};
 
 use rdl_nodes::node::Slot;
 use rdl_seen::alert::Alert;
+use rdl_seen::seen::Seen;
 
-/// Whether an item of which this is kept listens to nothing that the alert tells of. A dynamic assignment may always listen: what is kept of
-/// it doesn't say to what.
-pub fn is_deaf(slot: &Slot, alert: &Alert) -> bool
-    ensures { (rest : Slots) → result ≡ is_first_deaf alert.now (add slot.now rest) }
+/// Whether a component of which this is seen listens to some of it, where what is inside the types that it asks for matters to it.
+fn reaches_inside(alert: &Alert, seen: &Seen) -> bool
+    ensures { result ≡ reaches_as true alert.now seen.now }
+{
+    seen.takes.meets(alert.properties)
+        || seen.asks.meets(alert.types)
+        || seen.asks.meets(alert.inside)
+}
+
+/// Whether an item of which this is kept listens to nothing that the alert tells of, and brings nothing that differs behind it. A dynamic
+/// assignment may always listen: what is kept of it doesn't say to what. A default changes what stands behind it.
+pub fn is_settled(slot: &Slot, alert: &Alert) -> bool
+    ensures { (rest : Slots) → result ≡ is_first_settled alert.now (add slot.now rest) }
 {
     match slot {
-        Slot::Own | Slot::Default(_) | Slot::Field(_) => true,
-        Slot::Dynamic(_) => false,
+        Slot::Own | Slot::Field(_) => true,
+        Slot::Default(_) | Slot::Dynamic(_) => false,
         Slot::Named(class, _) => !alert.types.has(*class),
-        Slot::Define(_, seen, _) => !alert.reaches(seen.as_ref()),
+        Slot::Define(_, seen, _) => !reaches_inside(alert, seen.as_ref()),
         Slot::Part(node) => !alert.reaches(&node.as_ref().core().seen),
     }
 }

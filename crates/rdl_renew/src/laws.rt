@@ -1,7 +1,8 @@
 //! What holds of a body and of what it was. Nothing here does anything when it runs.
 ghost use Rattle.rdl_renew.specs.Alone.{CleanStandAlone, ClashesAreTurned, StandsAloneByItems, NoneClash, StandsAloneStill};
-ghost use Rattle.rdl_renew.specs.Deaf.{SlotsTellDeafness, DeafSlotsAreTakenOver};
+ghost use Rattle.rdl_renew.specs.Deaf.{SlotsTellDeafness, DeafSlotsAreTakenOver, SettledSlotsAreDeaf, SettledItemsStay};
 ghost use Rattle.rdl_renew.specs.Fronts.{FrontsAreSlots};
+ghost use Rattle.rdl_renew.specs.Judged.{LoneFaultsAreTheirs, LoneItemsAreClean, LoneBodiesAreClean, SettledItemsStayClean};
 ghost use Rattle.rdl_renew.specs.Onward.{TellsOfOneMore, AlertsGrow};
 ghost use Rattle.rdl_renew.specs.Raised.{AlertsAddUp, HasAllOfIt, RaisedTells, RaisedTellsBehind, RaisedTellsOfAll};
 ghost use Rattle.rdl_renew.specs.SideBySide.{NoMoreDiffersAlong, NoMoreDiffersBefore};
@@ -21,13 +22,16 @@ pub fn no_more_differs()
 {}
 
 /// An item that is as it was, and stands in order, is the old item of its number. Its slot is the old one, if it listens to nothing of
-/// what differs before it. That is told by the slot alone: so whoever renews the slots of a body takes it over without a look inside. The
-/// slot of a number is that of the list that the code holds.
+/// what differs before it. That is told by the slot alone: so whoever renews the slots of a body takes it over without a look inside. If
+/// the slot tells that it brings nothing either, no more differs behind it, and the defaults stay: so a run of such items is taken over
+/// without a look at them. The slot of a number is that of the list that the code holds.
 pub fn slots_are_taken_over()
     ensures items { SameItemsStay }
     ensures slots { SlotsAreTakenOver }
     ensures deaf { SlotsTellDeafness }
     ensures over { DeafSlotsAreTakenOver }
+    ensures settled { SettledSlotsAreDeaf }
+    ensures stay { SettledItemsStay }
     ensures fronts { FrontsAreSlots }
 {}
 
@@ -65,4 +69,13 @@ pub fn raised_tells()
 /// targets find otherwise inside it.
 pub fn stayed_definitions_raise()
     ensures { StayedDefinitionsRaise }
+{}
+
+/// An item that nothing before it makes a fault of has the fault that it has by itself. So a body has none whose items stand alone, if each
+/// has none by itself. An item that is as it was, and settled, still has none in such a body, if none had in what the body was.
+pub fn bodies_are_judged_item_by_item()
+    ensures theirs { LoneFaultsAreTheirs }
+    ensures items { LoneItemsAreClean }
+    ensures bodies { LoneBodiesAreClean }
+    ensures settled { SettledItemsStayClean }
 {}

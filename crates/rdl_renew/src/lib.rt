@@ -1,8 +1,16 @@
 //! What of a body's nodes stays when the body is changed.
 #![tactic(auto)]
 
+mod alike;
+mod along;
+mod anew;
+mod apart;
 pub mod deaf;
+mod done;
+mod judge;
 pub mod laws;
 pub mod raise;
+pub mod renew;
+mod same;
 pub mod stayed;
 pub mod taken;

@@ -108,7 +108,7 @@ fn behind(items: &[Item], count: usize) -> &[Item]
 }
 
 /// How many items a piece has.
-fn len(piece: &Piece) -> usize
+pub(crate) fn len(piece: &Piece) -> usize
     ensures { result ≡ length (piece_traces piece.now) }
 {
     match piece {

@@ -41,7 +41,7 @@ pub(crate) fn rivals(property: Property) -> &'static [Property]
 /// The fault of an own assignment. `twice`: one of the property stands before it; `excluded`: one of a rival that is
 /// set.
 #[tactic(auto, unfolding(crate::specs::ItemFaults::own_fault))]
-pub(crate) fn own_fault(
+pub fn own_fault(
     around: Option<Kind>,
     twice: bool,
     excluded: bool,
@@ -68,11 +68,7 @@ pub(crate) fn own_fault(
 
 /// The fault of a default. `twice`: one of the property stands before it.
 #[tactic(auto, unfolding(crate::specs::ItemFaults::default_fault))]
-pub(crate) fn default_fault(
-    twice: bool,
-    property: Option<Property>,
-    value: &Value,
-) -> Option<FaultKind>
+pub fn default_fault(twice: bool, property: Option<Property>, value: &Value) -> Option<FaultKind>
     ensures { result ≡ default_fault twice property value.now }
 {
     let Some(property) = property else {
@@ -90,7 +86,7 @@ pub(crate) fn default_fault(
 /// The fault of a dynamic assignment to a component of this kind, if there is one. `twice`: one of the same target and
 /// property stands before it.
 #[tactic(auto, unfolding(crate::specs::ItemFaults::dynamic_fault))]
-pub(crate) fn dynamic_fault(
+pub fn dynamic_fault(
     twice: bool,
     property: Option<Property>,
     value: &Value,

@@ -37,7 +37,7 @@ pub(crate) fn may_instantiate(around: Option<Kind>, kind: Kind) -> bool
 
 /// The fault of a definition. `twice`: one of its name stands before it.
 #[tactic(auto, unfolding(crate::specs::ItemFaults::define_fault))]
-pub(crate) fn define_fault(around: Option<Kind>, twice: bool, kind: Kind) -> Option<FaultKind>
+pub fn define_fault(around: Option<Kind>, twice: bool, kind: Kind) -> Option<FaultKind>
     ensures { result ≡ define_fault around twice kind }
 {
     if twice {

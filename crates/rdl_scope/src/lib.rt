@@ -4,14 +4,15 @@
 
 pub mod apart;
 pub mod assigned;
-mod assignments;
+pub mod assignments;
+pub mod before;
 pub mod by_name;
 mod entry;
 pub mod faults;
 mod front;
 mod key_spot;
 mod keys;
-mod kinds;
+pub mod kinds;
 pub mod laws;
 mod levels;
 mod names;

@@ -1,21 +1,17 @@
 //! The fault of one item, where no other item can have one.
-ghost use Rattle.std.specs.Prelude.{◌≡◌, ◌∷◌, ℕ, true, false, ◌≤◌, ◌<◌, length, Option, Some, None, IfOk, IfErr, IfSome, OnOk, ◌⊎◌, bytes_eq};
+ghost use Rattle.std.specs.Prelude.{◌≡◌, true, false, ◌≤◌, ◌<◌, length, Some, None, IfOk, IfErr, IfSome, OnOk, ◌⊎◌};
 ghost use Rattle.std.specs.Option.{is_some};
-ghost use Rattle.std.specs.Cmp.Lexicographic.{pointwise};
 ghost use Rattle.rdl_tree.specs.Depth.{depth};
 ghost use Rattle.rdl_tree.specs.Properties.{property_of};
-ghost use Rattle.rdl_scope.specs.Types.{last_definition};
-ghost use Rattle.rdl_scope.specs.Target.{instance_before};
-ghost use Rattle.rdl_scope.specs.Value.{own_before, last_default};
-ghost use Rattle.rdl_scope.specs.Keys.{has_key, key_before};
-ghost use Rattle.rdl_scope.specs.ItemFaults.{reached_before, is_excluded, excluded_by, own_fault, item_fault, fault_of, out_of_memory, is_too_large};
+ghost use Rattle.rdl_scope.specs.Value.{own_before};
+ghost use Rattle.rdl_scope.specs.ItemFaults.{reached_before, excluded_by, own_fault, item_fault, fault_of, out_of_memory, is_too_large};
 ghost use Rattle.rdl_scope.specs.Noted.{IsNewItem, IsNewAt};
 ghost use Rattle.rdl_scope.specs.OneItem.{fault_of_item, NoOtherFault};
 ghost use Rattle.rdl_scope.specs.Roots.{IsSizeOf};
 
-use crate::apart::begin_apart;
-use crate::assignments::{default_fault, dynamic_fault, own_fault, rivals};
-use crate::faults::{check, instance_kind, is_over, is_set, kind_at, names_kind};
+use crate::assignments::{default_fault, dynamic_fault, own_fault};
+use crate::before::{excluded_by, reached_before};
+use crate::faults::{check, instance_kind, is_over, kind_at, names_kind};
 use crate::kinds::define_fault;
 use crate::shells::instance_fault;
 use crate::size::{Size, size_of};
@@ -32,59 +28,6 @@ use rdl_tree::property::Property;
 use rdl_tree::shell::Kind;
 use rdl_tree::value::Value;
 use std::alloc::{AllocError, Global};
-
-/// Whether the names are the same, in the same order.
-fn are_same(names: &[Name], others: &[Name]) -> bool
-    ensures { result ≡ pointwise bytes_eq names.now others.now }
-{
-    names == others
-}
-
-/// Whether the item is a dynamic assignment of this property to this target.
-fn repeats(item: &Item, target: &[Name], name: &Name) -> bool
-    ensures { result ≡ has_key (name.now ∷ target.now) item.now }
-{
-    match item {
-        Item::Dynamic(names, property, _) => {
-            !begin_apart(names.names(), target)
-                && property == name
-                && are_same(names.names(), target)
-        }
-        _ => false,
-    }
-}
-
-fn is_repeated(items: &[Item], n: usize, target: &[Name], name: &Name) -> bool
-    ensures { result ≡ key_before (name.now ∷ target.now) n items.now }
-{
-    items.iter().take(n).any(|item| repeats(item, target, name))
-}
-
-/// Whether a dynamic assignment of this property to this target stands among the first `n` items.
-#[tactic(auto, using(crate::proofs::Repeats::dynamic_keys))]
-fn reached_before(body: &Body, n: usize, target: &[Name], name: &Name) -> bool
-    ensures { result ≡ reached_before target.now name.now n body.now }
-{
-    is_repeated(body.as_slice(), n, target, name)
-}
-
-/// Whether a rival of the property is set among the first `n` items.
-fn is_excluded(n: usize, body: &Body, property: Property) -> bool
-    ensures { result ≡ is_excluded n body.now property }
-{
-    rivals(property)
-        .iter()
-        .any(|rival| is_set(own_before(body, n, rival.name())))
-}
-
-fn excluded_by(n: usize, body: &Body, property: Option<Property>) -> bool
-    ensures { result ≡ excluded_by n body.now property }
-{
-    match property {
-        Some(property) => is_excluded(n, body, property),
-        None => false,
-    }
-}
 
 /// The fault of an own assignment that is item `n` of a body of this kind.
 fn own_item_fault(

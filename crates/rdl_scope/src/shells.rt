@@ -152,7 +152,7 @@ fn wrong_number(kind: Kind, shell: &Shell) -> bool
 /// The fault of an instance, whose component is of this kind, if its type is known. `twice`: one of its name stands
 /// before it.
 #[tactic(auto, unfolding(crate::specs::ItemFaults::instance_fault))]
-pub(crate) fn instance_fault(
+pub fn instance_fault(
     around: Option<Kind>,
     twice: bool,
     shell: &Shell,

@@ -23,7 +23,7 @@ pub fn is_instance(item: Option<&Item>, name: &Name) -> bool
 
 /// The number of the instance of the name among the first `n` items.
 #[tactic(auto, using(crate::proofs::Instances::steps))]
-pub(crate) fn instance_before(body: &Body, n: usize, name: &Name) -> Option<usize>
+pub fn instance_before(body: &Body, n: usize, name: &Name) -> Option<usize>
     ensures { result ≡ instance_before name.now n body.now }
 {
     for i in 0..n {

@@ -25,7 +25,7 @@ pub fn defines(item: Option<&Item>, name: &Name) -> bool
 
 #[tactic(auto, using(crate::proofs::Searches::steps))]
 /// The number of the last definition of the name among the first `n` items.
-pub(crate) fn last_definition(body: &Body, n: usize, name: &Name) -> Option<usize>
+pub fn last_definition(body: &Body, n: usize, name: &Name) -> Option<usize>
     ensures same { result ≡ last_definition name.now n body.now }
     ensures before { IfSome result (λ k. k < n) }
 {

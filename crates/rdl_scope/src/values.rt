@@ -51,7 +51,7 @@ fn either<'a>(first: Option<&'a Value>, second: Option<&'a Value>) -> Option<&'a
 
 /// The own assignment of the property among the first `n` items.
 #[tactic(auto, using(crate::proofs::ValueSearches::steps))]
-pub(crate) fn own_before<'a>(body: &'a Body, n: usize, name: &str) -> Option<&'a Value>
+pub fn own_before<'a>(body: &'a Body, n: usize, name: &str) -> Option<&'a Value>
     ensures { option_copied result ≡ own_before name.now n body.now }
 {
     let mut first = None;
@@ -71,7 +71,7 @@ pub fn own_value<'a>(body: &'a Body, name: &str) -> Option<&'a Value>
 
 /// The last default of the property among the first `n` items.
 #[tactic(auto, using(crate::proofs::ValueSearches::steps))]
-pub(crate) fn last_default<'a>(body: &'a Body, n: usize, name: &str) -> Option<&'a Value>
+pub fn last_default<'a>(body: &'a Body, n: usize, name: &str) -> Option<&'a Value>
     ensures { option_copied result ≡ last_default name.now n body.now }
 {
     let mut last = None;

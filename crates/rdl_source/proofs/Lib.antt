@@ -19,3 +19,4 @@ pub mod Spelled
 pub mod Standing
 pub mod Gaps
 pub mod Every
+pub mod Slashes

@@ -4,6 +4,8 @@ ghost use Rattle.rdl_text.specs.Words as words;
 ghost use Rattle.rdl_source.specs.Gap as spec;
 ghost use Rattle.rdl_source.specs.Gap.{begun, line_ended, comment_ended, trail_end, float_end, parts_of, gap_parts};
 
+use memchr::memchr;
+
 /// What a gap stands behind.
 #[derive(Clone, Copy, Debug, PartialEq, Eq)]
 pub enum Left {
@@ -66,12 +68,10 @@ fn line_len(bytes: &[u8]) -> usize
     ensures len { result ≡ spec.line_len bytes.now }
     ensures within { result ≤ length bytes.now }
 {
-    'scan: for (index, byte) in bytes.iter().enumerate() {
-        if *byte == b'\n' {
-            return index;
-        }
+    match memchr(b'\n', bytes) {
+        Some(len) => len,
+        None => bytes.len(),
     }
-    bytes.len()
 }
 
 /// How many bytes stand before the next `*/`.
@@ -79,10 +79,16 @@ fn comment_end(bytes: &[u8]) -> Option<usize>
     ensures place { result ≡ words.comment_end bytes.now }
     ensures within { IfSome result (λ n. n + 2 ≤ length bytes.now) }
 {
-    'scan: for (index, byte) in bytes.iter().enumerate() {
-        if *byte == b'*' && byte_at(bytes, index + 1) == b'/' {
-            return Some(index);
+    let mut at = 0;
+    'slashes: while at < bytes.len() {
+        let Some(len) = memchr(b'/', &bytes[at..]) else {
+            return None;
+        };
+        let slash = at + len;
+        if len > 0 && bytes[slash - 1] == b'*' {
+            return Some(slash - 1);
         }
+        at = slash + 1;
     }
     None
 }

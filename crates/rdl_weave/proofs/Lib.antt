@@ -13,6 +13,7 @@ pub mod Same
 pub mod Sized
 pub mod Sounding
 pub mod Spoken
+pub mod Thinned
 pub mod Turning
 pub mod Visited
 pub mod Walking

@@ -7,3 +7,4 @@ pub mod Weaving
 pub mod Coarse
 pub mod Sound
 pub mod Laws
+pub mod Thin

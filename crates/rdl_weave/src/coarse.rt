@@ -139,7 +139,7 @@ fn part(source: &[u8], span: Span) -> &[u8]
 }
 
 /// Whether a text is empty or its last byte is a line feed.
-fn ends_line(bytes: &[u8]) -> bool
+pub(crate) fn ends_line(bytes: &[u8]) -> bool
     ensures { result ≡ beside.ends_line bytes.now }
 {
     bytes.is_empty() || bytes[bytes.len() - 1] == b'\n'

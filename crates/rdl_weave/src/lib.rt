@@ -18,6 +18,7 @@ mod spell;
 mod spelled;
 mod standing;
 mod stands;
+mod thin;
 mod turn;
 mod unit;
 mod untouched;

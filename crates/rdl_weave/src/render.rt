@@ -198,7 +198,8 @@ impl<'a> Page<'a> {
             }
         }
         self.is_open = false;
-        self.text.push(lead)
+        self.text.push(lead)?;
+        self.text.note_gap(lead.len())
     }
 
     fn put_trail(&mut self, statement: &Statement) -> Result<(), AllocError> {
@@ -392,6 +393,7 @@ impl<'a> Page<'a> {
         if comments.is_empty() {
             return Ok(());
         }
+        self.text.note_gap(comments.len())?;
         self.text.keep(to, comments.len())
     }
 

@@ -1,29 +1,37 @@
 //! Whether a text spells a map with a certain canonical text.
 ghost use Rattle.std.specs.Prelude.{◌≡◌, ◌↔◌, IsTrue, IfOk, MatchOption, bytes_eq};
+ghost use Rattle.rdl_parse.specs.Parsing.{HasWords};
 ghost use Rattle.rdl_weave.specs.Spelled.{IsRead, SpellsAs, SpellsNone};
 
 use rdl_parse::fault::{ParseFault, ParseFaultKind};
-use rdl_parse::parse::parse;
+use rdl_parse::parse::parse_worded;
 use rdl_parse::places::Places;
 use rdl_text::fault::WordFault;
+use rdl_text::list::Tokens;
 use rdl_tree::description::Description;
 use rdl_write::rdl;
 use std::alloc::{AllocError, Global};
 
-/// A text that spells a map, with this and the places of its items.
+/// A text that spells a map, with its words, the map and the places of its items.
 #[derive(Drop)]
 pub(crate) struct Read<'a> {
     pub(crate) text: &'a str,
+    pub(crate) words: Tokens<'a>,
     pub(crate) map: Description,
     pub(crate) places: Places<'a>,
 }
 
 /// The map that the text spells, if it spells one.
 pub(crate) fn read_map<'a>(alloc: Global, text: &'a str) -> Result<Option<Read<'a>>, AllocError>
-    ensures { IfOk result (λ found. MatchOption found (SpellsNone text.now) (λ read. (read.text.now ≡ text.now) × IsRead text.now read.map.items read.places)) }
+    ensures { IfOk result (λ found. MatchOption found (SpellsNone text.now) (λ read. (read.text.now ≡ text.now) × HasWords text.now read.words × IsRead text.now read.map.items read.places)) }
 {
-    match parse(alloc, text) {
-        Ok((map, places)) => Ok(Some(Read { text, map, places })),
+    match parse_worded(alloc, text) {
+        Ok((map, places, words)) => Ok(Some(Read {
+            text,
+            words,
+            map,
+            places,
+        })),
         Err(fault) => match fault.kind {
             ParseFaultKind::Words(WordFault::Memory) => Err(AllocError),
             _ => Ok(None),

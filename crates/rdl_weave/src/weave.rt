@@ -3,6 +3,7 @@ ghost use Rattle.std.specs.Prelude.{◌≡◌, ◌≤◌, ◌<◌, ◌+◌, ◌�
 ghost use Rattle.rdl_source.specs.Laid as lying;
 ghost use Rattle.rdl_tree.specs.Limits.{IsWithinLimits};
 ghost use Rattle.rdl_parse.specs.Faults.{max_text};
+ghost use Rattle.rdl_parse.specs.Parsing.{HasWords};
 ghost use Rattle.rdl_origin.specs.View.{list_of};
 ghost use Rattle.rdl_weave.specs.InTurn.{KeepsOrder};
 ghost use Rattle.rdl_weave.specs.Keeping.{Keeps};
@@ -18,19 +19,18 @@ use crate::honest::{Check, keeps};
 use crate::member::Past;
 use crate::plan::{LEVELS, Loom, weave_body};
 use crate::render::Room;
-use crate::spelled::{Read, is_canonical, read_map, spells_as};
+use crate::spelled::{Read, is_canonical, read_map};
+use crate::thin::{is_spelled, long_gaps};
 use crate::turn::keeps_order;
 use crate::unit::style_of;
 use crate::untouched::push_sizes;
 use crate::woven::Woven;
 use rdl_origin::origin::Origins;
 use rdl_parse::parse::MAX_LEN;
+use rdl_source::span::Span;
 use rdl_source::statement::Statements;
-use rdl_text::fault::WordFault;
-use rdl_text::tokens;
 use rdl_tree::description::Description;
 use std::alloc::{AllocError, Global};
-use std::str;
 
 /// The statements of a text with its map.
 #[derive(Drop)]
@@ -42,20 +42,19 @@ struct Laid {
 /// The statements of a text that was read.
 #[tactic(auto, using(crate::proofs::Sounding::lie_so))]
 fn read_source(alloc: Global, read: Read<'_>) -> Result<Option<Laid>, AllocError>
-    requires { IsRead read.text.now read.map.items read.places }
+    requires words { HasWords read.text.now read.words }
+    requires read { IsRead read.text.now read.map.items read.places }
     ensures found { IfOk result (λ found. IfSome found (λ laid. AreStatements read.entry.text.now laid.statements)) }
     // They are the only ones.
     ensures only { (laid : lying.Laid) (s : AreStatements read.entry.text.now laid) → IsWithinLimits s.map → lying.depth laid ≤ 16
         → IfOk result (λ found. MatchOption found ⊥ (λ x. x.statements ≡ laid)) }
 {
-    let Read { text, map, places } = read;
-    let words = match tokens(alloc, text) {
-        Ok(words) => words,
-        Err(fault) => match fault.kind {
-            WordFault::Memory => return Err(AllocError),
-            _ => return Ok(None),
-        },
-    };
+    let Read {
+        text,
+        words,
+        map,
+        places,
+    } = read;
     match Statements::of(alloc, text, &words, places.as_slice())? {
         Some(statements) => Ok(Some(Laid { map, statements })),
         None => Ok(None),
@@ -86,7 +85,8 @@ fn text_of(
     weave_body(alloc, loom, Room::root(bytes), past, &last.items, 0, LEVELS)
 }
 
-/// Whether the text spells the map with the canonical text, and keeps what no edit touched of the source, and its order.
+/// Whether the text spells the map with the canonical text, and keeps what no edit touched of the source, and its order. It is read
+/// without these gaps.
 fn holds(
     alloc: Global,
     canonical: &str,
@@ -94,6 +94,7 @@ fn holds(
     origins: &Origins,
     check: Check<'_>,
     text: &str,
+    gaps: &[Span],
 ) -> Result<bool, AllocError>
     requires { check.text.now ≡ text.now }
     ensures { IfOk result (λ answer. IsTrue answer → SpellsAs canonical.now text.now
@@ -104,7 +105,7 @@ fn holds(
     if !keeps(check, statements, origins) || !keeps_order(check, statements, origins) {
         return Ok(false);
     }
-    spells_as(alloc, canonical, text)
+    is_spelled(alloc, canonical, text, gaps)
 }
 
 /// What is answered of a text that is too long: none, if the source and the canonical text are short, so that another may be found.
@@ -139,7 +140,8 @@ fn woven(
 {
     let mut woven = text_of(alloc, source, laid, origins, last, sizes, is_coarse)?;
     woven.sort();
-    let Ok(text) = str::from_utf8(woven.as_slice()) else {
+    let Woven { text, kept, gaps } = woven;
+    let Ok(text) = String::from_utf8(text) else {
         return Ok(None);
     };
     if text.len() > MAX_LEN {
@@ -149,12 +151,22 @@ fn woven(
         source: source.as_bytes(),
         sizes,
         text: text.as_bytes(),
-        kept: woven.kept(),
+        kept: kept.as_slice(),
     };
-    if !holds(alloc, canonical, &laid.statements, origins, check, text)? {
+    let gaps = long_gaps(alloc, check.text, gaps.as_slice())?;
+    let statements = &laid.statements;
+    if !holds(
+        alloc,
+        canonical,
+        statements,
+        origins,
+        check,
+        text.as_str(),
+        gaps.as_slice(),
+    )? {
         return Ok(None);
     }
-    Ok(Some(String::from_str(alloc, text)?))
+    Ok(Some(text))
 }
 
 /// The source text of a map with only the edits woven in that made of it the last map, whose canonical text is this.

@@ -1,5 +1,6 @@
 //! A text as it is woven, with the places of what was kept of the source.
 
+use rdl_source::span::Span;
 use std::alloc::{AllocError, Global};
 
 /// A byte of the source that stands in a text, with those behind it up to the end of its statement or float: its place there and
@@ -13,15 +14,21 @@ pub(crate) struct Kept {
 /// A text, and what stands in it as it stood in the source.
 #[derive(Drop)]
 pub(crate) struct Woven {
-    text: Vec<u8>,
-    kept: Vec<Kept>,
+    pub(crate) text: Vec<u8>,
+    pub(crate) kept: Vec<Kept>,
+    /// Blanks and comments, where they are long: their places here, in order.
+    pub(crate) gaps: Vec<Span>,
 }
+
+/// How many bytes a long gap has at least.
+const LONG: usize = 1024;
 
 impl Woven {
     pub(crate) fn new(alloc: Global) -> Woven {
         Woven {
             text: Vec::new(alloc),
             kept: Vec::new(alloc),
+            gaps: Vec::new(alloc),
         }
     }
 
@@ -49,7 +56,17 @@ impl Woven {
         Ok(())
     }
 
-    /// What was noted, in the order of the source, and of one byte in that of the text.
+    /// Notes that the last bytes, so many, are blanks and comments, if they are long.
+    pub(crate) fn note_gap(&mut self, count: usize) -> Result<(), AllocError> {
+        if count >= LONG {
+            let to = self.text.len();
+            let from = to.saturating_sub(count);
+            self.gaps.push(Span { from, to })?;
+        }
+        Ok(())
+    }
+
+    /// Puts what was noted in the order of the source, and of one byte in that of the text.
     pub(crate) fn sort(&mut self) {
         self.kept
             .as_mut_slice()
@@ -65,6 +82,12 @@ impl Woven {
                 at: begin.saturating_add(kept.at),
             })?;
         }
+        'gaps: for gap in &other.gaps {
+            self.gaps.push(Span {
+                from: begin.saturating_add(gap.from),
+                to: begin.saturating_add(gap.to),
+            })?;
+        }
         self.push(other.as_slice())
     }
 
@@ -72,6 +95,9 @@ impl Woven {
     pub(crate) fn cut(&mut self, count: usize) {
         let left = self.text.len().saturating_sub(count);
         self.text.truncate(left);
+        if let Some(gap) = self.gaps.as_mut_slice().last_mut() {
+            gap.to = gap.to.min(left);
+        }
     }
 
     /// Whether it is the same as another.

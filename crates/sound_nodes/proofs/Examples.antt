@@ -16,7 +16,7 @@ use Rattle.rdl_seen.specs.Modes.{has_mode}
 use Rattle.rdl_seen.specs.Node.{body_of}
 use Rattle.rdl_seen.specs.Slots.{Node}
 use Rattle.node_laws.specs.Laid.{laying}
-use Rattle.sound_nodes.specs.Modes.{seen_mode}
+use Rattle.node_laws.specs.Modes.{seen_mode}
 use Rattle.sound_nodes.specs.Says.{is_within}
 
 abbrev top : Items → Items

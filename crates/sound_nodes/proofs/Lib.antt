@@ -5,4 +5,5 @@ pub mod Fields
 pub mod Good
 pub mod Nodes
 pub mod Soundness
+pub mod TopsFound
 pub mod Unique

@@ -25,7 +25,7 @@ use Rattle.sound_laws.proofs.Kept.{kept_whole, kept_suffices, kept_is_cautious}
 use Rattle.sound_laws.proofs.Lists.{both, and_both, not_false}
 use Rattle.sound_laws.proofs.Maps.{faultless, map_rows}
 use Rattle.sound_nodes.specs.Laws.{SeenAreSound, NodesTell, SoundNodesHaveNoFault, SeenIsCautious, LimitsAreSeen, SoundTopIsItsRows}
-use Rattle.sound_nodes.specs.Modes.{seen_mode}
+use Rattle.node_laws.specs.Modes.{seen_mode}
 use Rattle.sound_nodes.specs.Says.{is_within}
 use Rattle.sound_nodes.proofs.Soundness.{size-under, seen-sound}
 

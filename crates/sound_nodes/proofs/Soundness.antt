@@ -30,7 +30,7 @@ use Rattle.sound_laws.specs.Sound as sound
 use Rattle.sound_laws.specs.Sound.{are_fields_sound, are_strides_wide, is_apart_under, are_own_harmless, are_sound, is_sound}
 use Rattle.sound_laws.proofs.Fitting.{fitting_harmless}
 use Rattle.sound_laws.proofs.Lists.{both, and_both}
-use Rattle.sound_nodes.specs.Modes.{seen_mode}
+use Rattle.node_laws.specs.Modes.{seen_mode}
 use Rattle.sound_nodes.proofs.Assigned.{all-fit}
 use Rattle.sound_nodes.proofs.Fields.{AreGood, Taken, same-apart, register-sound}
 use Rattle.sound_nodes.proofs.Good.{made-values, all-good}

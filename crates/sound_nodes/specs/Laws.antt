@@ -21,7 +21,7 @@ use Rattle.sound_laws.specs.Harmless.{kept_layout, are_harmless}
 use Rattle.sound_laws.specs.Laws.{IsInside, IsFaultlessBelow, IsWithinLimits, IsTold}
 use Rattle.sound_laws.specs.Search.{IsCautious}
 use Rattle.sound_laws.specs.Sound.{is_sound}
-use Rattle.sound_nodes.specs.Modes.{seen_mode}
+use Rattle.node_laws.specs.Modes.{seen_mode}
 use Rattle.sound_nodes.specs.Says.{SaysSound, is_within, passes_over}
 
 -- a component that is sound as it is seen is sound by what is kept of layouts

@@ -14,7 +14,7 @@ use Rattle.node_laws.specs.Laid.{laying}
 use Rattle.node_laws.specs.Sound.{sound_by, all_sound}
 use Rattle.sound_laws.specs.Harmless.{kept_layout, are_harmless}
 use Rattle.sound_laws.specs.Search.{IsKeptWhole}
-use Rattle.sound_nodes.specs.Modes.{seen_mode}
+use Rattle.node_laws.specs.Modes.{seen_mode}
 
 -- a node that is kept at the address of a component says that the component is sound under a mode, and not larger than a map may be
 pub record SaysSound (d : Items) (a : List ℕ) (c : Made) (m : Mode) (n : Node) : Type 0 where

@@ -2,3 +2,5 @@
 #![tactic(auto)]
 
 pub mod laws;
+pub mod tops;
+pub mod within;

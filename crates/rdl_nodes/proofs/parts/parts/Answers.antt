@@ -7,4 +7,4 @@ use Rattle.rdl_nodes.proofs.parts.parts.Goals as goal
 pub loop-i-init : goal.loop-i-init
 loop-i-init c =
     let all = items_all c.as_slice-item-items.result.now c.args.body.now c.as_slice-item-items.ensures in
-    λ i. (sym c.new-parts.ensures.items i) ++ parts_of c.args.defaults.now (sym all i) (slots_of c.args.slots.now)
+    λ i. (sym c.in_ok-parts.ensures.items i) ++ parts_of c.args.defaults.now (sym all i) (slots_of c.args.slots.now)

@@ -1,4 +1,4 @@
-use Rattle.rdl_renew.proofs.DeafSlots.{slots_tell_deafness, deaf_slots_are_taken_over}
+use Rattle.rdl_renew.proofs.DeafSlots.{slots_tell_deafness, deaf_slots_are_taken_over, settled_slots_are_deaf, settled_items_stay}
 use Rattle.rdl_renew.proofs.FrontSlots.{fronts_are_slots}
 use Rattle.rdl_renew.proofs.TakenOver.{same_items_stay, slots_are_taken_over}
 use Rattle.rdl_renew.proofs.laws.slots_are_taken_over.Goals as goal
@@ -14,6 +14,12 @@ returns-clause-deaf c = slots_tell_deafness
 
 pub returns-clause-over : goal.returns-clause-over
 returns-clause-over c = deaf_slots_are_taken_over
+
+pub returns-clause-settled : goal.returns-clause-settled
+returns-clause-settled c = settled_slots_are_deaf
+
+pub returns-clause-stay : goal.returns-clause-stay
+returns-clause-stay c = settled_items_stay
 
 pub returns-clause-fronts : goal.returns-clause-fronts
 returns-clause-fronts c = fronts_are_slots

@@ -1,0 +1,3 @@
+pub mod CleanMaps
+pub mod HeldLayouts
+pub mod Sums

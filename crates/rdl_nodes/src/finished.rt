@@ -1,0 +1,138 @@
+//! What is kept of a component whose items are done.
+ghost use Rattle.std.specs.Prelude.{◌≡◌, IfOk, map, true};
+ghost use Rattle.rdl_nodes.specs.Bare.{AreStillLayouts, StaysLaidOut};
+ghost use Rattle.rdl_nodes.specs.Part.{member_of};
+ghost use Rattle.rdl_nodes.specs.SameValues.{HaveSameWords, HaveSameWidths, HaveSameNumbers};
+ghost use Rattle.rdl_nodes.specs.View.{slots_of};
+ghost use Rattle.rdl_seen.specs.Node.{core_of};
+
+use crate::field::own_values;
+use crate::layouts::Layouts;
+use crate::lays::Lays;
+use crate::node::{Core, Node, Slot};
+use crate::parts::{Part, parts};
+use rdl_seen::values::Values;
+use rdl_tree::description::Component;
+use rdl_tree::shell::Kind;
+use std::alloc::{AllocError, Global};
+use std::rc::Rc;
+
+/// What is kept of a component whose items have these slots, under the defaults that reach it.
+pub fn finished<L: Lays>(
+    alloc: Global,
+    lay: &L,
+    defaults: &Values,
+    component: &Component,
+    slots: Vec<Slot>,
+) -> Result<Node, AllocError>
+    ensures { IfOk result (λ node. node ≡ record { core = core_of L.laying component.now.kind defaults.now component.now.body (slots_of slots.items); slots = slots_of slots.items }) }
+{
+    let body = &component.body;
+    let parts = parts(alloc, defaults, body, slots.as_slice())?;
+    let values = own_values(body).over(defaults).of_kind(component.kind);
+    let layouts = lay.lay(alloc, component.kind, &values, parts.as_slice())?;
+    let layouts = Rc::new(alloc, layouts)?;
+    let core = Core::of(
+        component.kind,
+        defaults,
+        body,
+        slots.as_slice(),
+        parts.as_slice(),
+        layouts,
+    );
+    Ok(Node::new(core, slots))
+}
+
+fn have_same_words(values: &Values, others: &Values) -> bool
+    ensures { result ≡ true → HaveSameWords values.now others.now }
+{
+    values.addressing == others.addressing && values.sw == others.sw
+}
+
+fn have_same_widths(values: &Values, others: &Values) -> bool
+    ensures { result ≡ true → HaveSameWidths values.now others.now }
+{
+    values.regwidth == others.regwidth
+        && values.accesswidth == others.accesswidth
+        && values.fieldwidth == others.fieldwidth
+}
+
+fn have_same_numbers(values: &Values, others: &Values) -> bool
+    ensures { result ≡ true → HaveSameNumbers values.now others.now }
+{
+    values.alignment == others.alignment && values.reset == others.reset
+}
+
+/// Whether these are the same.
+fn are_same(values: &Values, others: &Values) -> bool
+    ensures { result ≡ true → values.now ≡ others.now }
+{
+    have_same_words(values, others)
+        && have_same_widths(values, others)
+        && have_same_numbers(values, others)
+}
+
+/// What is kept of how a component is laid out, for one more.
+fn kept_layouts(core: &Core) -> Result<Rc<Layouts>, AllocError>
+    ensures { IfOk result (λ layouts. layouts.value ≡ core.now.layouts) }
+{
+    core.layouts.clone()
+}
+
+/// The layouts of a component of this kind with these values and these instances, of which this was kept before. If its instances are
+/// alike and its values the same, so are its layouts.
+fn layouts_over<L: Lays>(
+    alloc: Global,
+    lay: &L,
+    kind: Kind,
+    values: &Values,
+    parts: &[Part],
+    before: &Core,
+    are_alike: bool,
+) -> Result<Rc<Layouts>, AllocError>
+    ensures { AreStillLayouts L.laying are_alike before.now kind values.now (map member_of parts.now) → IfOk result (λ layouts. layouts.value ≡ L.laying kind values.now (map member_of parts.now)) }
+{
+    if are_alike && are_same(values, &before.values) {
+        let layouts = kept_layouts(before)?;
+        return Ok(layouts);
+    }
+    let layouts = lay.lay(alloc, kind, values, parts)?;
+    let layouts = Rc::new(alloc, layouts)?;
+    Ok(layouts)
+}
+
+/// The same as `finished`, where this was kept of the component before. If its instances are alike and its values the same, it isn't laid
+/// out, but has the layouts that it had.
+pub fn finished_over<L: Lays>(
+    alloc: Global,
+    lay: &L,
+    defaults: &Values,
+    component: &Component,
+    slots: Vec<Slot>,
+    before: &Core,
+    are_alike: bool,
+) -> Result<Node, AllocError>
+    ensures { StaysLaidOut L.laying are_alike before.now component.now.kind defaults.now component.now.body (slots_of slots.items) → IfOk result (λ node. node ≡ record { core = core_of L.laying component.now.kind defaults.now component.now.body (slots_of slots.items); slots = slots_of slots.items }) }
+{
+    let body = &component.body;
+    let parts = parts(alloc, defaults, body, slots.as_slice())?;
+    let values = own_values(body).over(defaults).of_kind(component.kind);
+    let layouts = layouts_over(
+        alloc,
+        lay,
+        component.kind,
+        &values,
+        parts.as_slice(),
+        before,
+        are_alike,
+    )?;
+    let core = Core::of(
+        component.kind,
+        defaults,
+        body,
+        slots.as_slice(),
+        parts.as_slice(),
+        layouts,
+    );
+    Ok(Node::new(core, slots))
+}

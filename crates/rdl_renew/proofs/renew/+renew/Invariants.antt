@@ -1,0 +1,36 @@
+-- The measure of a body that is renewed, and what holds of its items that are done.
+use Rattle.std.proofs.Common.{◌+◌, ◌*◌}
+use Rattle.rdl_tree.proofs.Sizes.{item_count}
+use Rattle.rdl_tree.specs.Items.{Items, count}
+use Rattle.rdl_nodes.specs.View.{slots_of}
+use Rattle.rdl_places.specs.HeldScope.{outer_places}
+use Rattle.rdl_seen.specs.Node.{Around}
+use Rattle.rdl_renew.specs.Along.{HasPassed}
+use Rattle.rdl_renew.specs.HeldRenewal.{renewing}
+use Rattle.rdl_renew.specs.Renewing.{Became, IsReached, AreDone}
+use Rattle.rdl_renew.proofs.CleanSteps.{AreCleanStill}
+use Rattle.rdl_renew.proofs.renew.+renew.Given as goal
+
+abbrev pub decreases-renew_body : goal.decreases-renew_body
+decreases-renew_body g l = 8 * count l.renewal.now.body.now + 4
+
+abbrev pub decreases-renewed_component : goal.decreases-renewed_component
+decreases-renewed_component g l = 8 * count l.component.now.body + 5
+
+abbrev pub decreases-renewed_slot : goal.decreases-renewed_slot
+decreases-renewed_slot g l = 8 * item_count l.item.now + 1
+
+abbrev pub decreases-renew_stayed : goal.decreases-renew_stayed
+decreases-renew_stayed g l = 8 * item_count l.item.now + 2
+
+abbrev pub decreases-renew_item : goal.decreases-renew_item
+decreases-renew_item g l = 8 * item_count l.item.now + 3
+
+abbrev pub invariant-renew_body-loop-item : goal.invariant-renew_body-loop-item
+invariant-renew_body-loop-item g l = record {
+  passed : HasPassed l.marks-inside.pieces.items l.along l.item-index;
+  done : (old : Items) (saw : Around) → Became g.L.Lays.laying saw (slots_of l.renewal.slots.now) l.marks old l.renewal.body.now → IsReached g.L.Lays.laying (outer_places l.renewal.outer) saw l.fn.reach
+      → AreDone g.L.Lays.laying (renewing l.renewal l.marks old saw) l.item-index l.done;
+  clean : (old : Items) (saw : Around) → Became g.L.Lays.laying saw (slots_of l.renewal.slots.now) l.marks old l.renewal.body.now → IsReached g.L.Lays.laying (outer_places l.renewal.outer) saw l.fn.reach
+      → AreCleanStill g.L.Lays.laying (renewing l.renewal l.marks old saw) l.item-index l.fn.judge.is_clean l.judge.is_clean;
+}

@@ -1,0 +1,25 @@
+use Rattle.rdl_places.specs.HeldScope.{places_of}
+use Rattle.rdl_renew.specs.Fronts.{front_of}
+use Rattle.rdl_renew.specs.HeldRenewal.{renewing}
+use Rattle.rdl_renew.proofs.CleanSteps.{on_any, new_clean}
+use Rattle.rdl_renew.proofs.ItemSteps.{on_all, new_done}
+use Rattle.rdl_renew.proofs.OneDone.{place_made}
+use Rattle.rdl_renew.proofs.renew.renew_new.Goals as goal
+
+pub returns-clause-done : goal.returns-clause-done
+returns-clause-done g c = λ m old saw n e next anew.
+    let r = renewing c.args.renewal.now m old saw in
+    let d = c.args.done.now in
+    let there = place_made r d (places_of c.new-scope.result) c.len-number.result c.as_slice.result.now c.new-scope.ensures c.len-number.ensures c.as_slice.ensures.value in
+    on_all c.put.result c.put.ensures.slots c.put.ensures.defaults c.put.ensures.alert
+    (new_done g.L.Lays.laying r n d c.put.new.self c.args.item.now e (front_of c.in_ok-slot.slot) c.none.result (places_of c.new-scope.result) there next anew c.in_ok-slot.ensures.slot)
+
+pub returns-clause-clean : goal.returns-clause-clean
+returns-clause-clean g c = λ m old saw n e next.
+    let lay = g.L.Lays.laying in
+    let r = renewing c.args.renewal.now m old saw in
+    let d = c.args.done.now in
+    let ps = places_of c.new-scope.result in
+    let there = place_made r d (places_of c.new-scope.result) c.len-number.result c.as_slice.result.now c.new-scope.ensures c.len-number.ensures c.as_slice.ensures.value in
+    on_any c.put.result
+    (new_clean lay r n d c.args.item.now e ps c.args.judge.now.is_clean c.look_at.new.self.is_clean c.item_anew.new.judge.is_clean there next (c.look_at.ensures lay) c.in_ok-slot.ensures.clean)

@@ -1,0 +1,25 @@
+-- What became of the items of a body, told of one after another.
+-- own: how the code goes along marks.
+use Rattle.std.specs.Prelude.{◌≡◌, ℕ, ◌+◌, ◌^◌, ◌<◌, ◌≤◌, List, length, take, Some, slice_get}
+use Rattle.rdl_marks.specs.Marks.{Marks}
+use Rattle.rdl_marks.specs.View.{Trace, new_item, same_item, marked, piece_traces, pieces_traces}
+use Rattle.rdl_marks.specs.Was.{trace_of}
+use Rattle.rdl_marks.specs.declared.marks.Piece.{Piece}
+use Rattle.rdl_renew.specs.declared.along.Along.{Along}
+use Rattle.rdl_renew.specs.declared.along.Next.{Next}
+use Rattle.rdl_renew.specs.declared.along.Next.TheVariants.{New, Same, Marked}
+
+-- what is told of an item
+abbrev pub next_of : Next → Trace
+next_of New = new_item
+next_of (Same number) = same_item number
+next_of (Marked number mark) = marked number mark.now
+
+-- so many items of these pieces, and of those that stand behind them, are passed
+pub record HasPassed (ps : List Piece) (a : Along) (i : ℕ) : Type 0 where
+  pub count : length (pieces_traces (take a.pieces ps)) + a.items ≡ i
+  pub within : (p : Piece) → slice_get ps a.pieces ≡ Some p → a.items ≤ length (piece_traces p)
+
+-- the number that item i had, if it is as it was, is one of the code's
+abbrev pub HasNumber : Marks → ℕ → Type 0
+HasNumber m i = (n : ℕ) → trace_of m i ≡ Some (same_item n) → n < 2 ^ 64

@@ -1,0 +1,86 @@
+//! What became of the items of a body, told of one after another.
+ghost use Rattle.std.specs.Prelude.{◌≡◌, ℕ, ◌+◌, ◌<◌, ◌^◌, List, option_map, slice_get};
+ghost use Rattle.rdl_marks.specs.View.{piece_traces, told, marks_of};
+ghost use Rattle.rdl_marks.specs.Was.{trace_of};
+ghost use Rattle.rdl_marks.specs.declared.marks.Gone.{Gone};
+ghost use Rattle.rdl_marks.specs.declared.marks.Piece.{Piece};
+ghost use Rattle.rdl_renew.specs.Along.{next_of, HasPassed, HasNumber};
+
+use rdl_marks::marks::{Mark, Piece};
+
+/// What became of an item.
+#[derive(Clone, Copy)]
+pub(crate) enum Next<'m, 'a> {
+    /// It wasn't there before.
+    New,
+    /// It is as it was, and had this number.
+    Same(usize),
+    /// It had this number, and this became of it.
+    Marked(usize, &'m Mark<'a>),
+}
+
+/// How far somebody has come along the items of pieces: so many pieces are behind, and so many items of the next one.
+#[derive(Clone, Copy)]
+pub(crate) struct Along {
+    pieces: usize,
+    items: usize,
+}
+
+/// What became of the item of a piece that has this number there.
+fn item_of<'m, 'a>(piece: &'m Piece<'a>, number: usize) -> Option<Next<'m, 'a>>
+    ensures { option_map next_of result ≡ slice_get (piece_traces piece.now) number }
+{
+    match piece {
+        Piece::New(count) => {
+            if number < *count {
+                Some(Next::New)
+            } else {
+                None
+            }
+        }
+        Piece::Kept(from, to) => {
+            if number < to.saturating_sub(*from) {
+                Some(Next::Same(*from + number))
+            } else {
+                None
+            }
+        }
+        Piece::Marked(before, mark) => {
+            if number == 0 {
+                Some(Next::Marked(*before, mark))
+            } else {
+                None
+            }
+        }
+    }
+}
+
+impl Along {
+    /// Before the first item.
+    pub(crate) fn new() -> Along
+        ensures { (ps : List Piece) → HasPassed ps result 0 }
+    {
+        Along {
+            pieces: 0,
+            items: 0,
+        }
+    }
+
+    /// What became of the next item. Behind the pieces all items are as they were, from the number `behind` on.
+    pub(crate) fn next<'m, 'a>(&mut self, pieces: &'m [Piece<'a>], behind: usize) -> Next<'m, 'a>
+        ensures passed { (i : ℕ) → i + 1 < 2 ^ 64 → HasPassed pieces.now self.old i → HasPassed pieces.now self.new (i + 1) }
+        ensures next { (gone : List Gone) (i : ℕ) → HasPassed pieces.now self.old i → HasNumber (marks_of (told pieces.now behind gone)) i → trace_of (marks_of (told pieces.now behind gone)) i ≡ Some (next_of result) }
+    {
+        while let Some(piece) = pieces.get(self.pieces) {
+            if let Some(next) = item_of(piece, self.items) {
+                self.items = self.items.saturating_add(1);
+                return next;
+            }
+            self.pieces += 1;
+            self.items = 0;
+        }
+        let number = behind.saturating_add(self.items);
+        self.items = self.items.saturating_add(1);
+        Next::Same(number)
+    }
+}

@@ -1,0 +1,336 @@
+//! What is kept of a body that was changed, over what was kept of it before.
+ghost use Rattle.std.specs.Prelude.{◌≡◌, ℕ, suc, Bool, true, false, Some, IfOk, IfSome, OnOk, option_map, option_copied};
+ghost use Rattle.rdl_marks.specs.Describes.{Describes};
+ghost use Rattle.rdl_marks.specs.InOrder.{AreInOrder};
+ghost use Rattle.rdl_marks.specs.Marks.{Firsts, Marks};
+ghost use Rattle.rdl_marks.specs.View.{Trace, old_item};
+ghost use Rattle.rdl_nodes.specs.HoldsNodes.{HoldsNodes};
+ghost use Rattle.rdl_nodes.specs.KeptNode.{kept_of};
+ghost use Rattle.rdl_nodes.specs.View.{slots_of};
+ghost use Rattle.rdl_places.specs.HeldScope.{places_of, outer_places};
+ghost use Rattle.rdl_places.specs.Scopes.{around_places};
+ghost use Rattle.rdl_renew.specs.Along.{next_of};
+ghost use Rattle.rdl_renew.specs.Anew.{slot_there, slots_there};
+ghost use Rattle.rdl_renew.specs.Fronts.{front_of};
+ghost use Rattle.rdl_renew.specs.Judged.{IfStillClean, HasNoneInside};
+ghost use Rattle.rdl_renew.specs.Renewing.{part_of, kept_component, written_of, Became, WasLaidOut, BecameComponent, DiffersNoMoreBefore, IsReached, AreDone, IsNext, IsMadeAnew, IsSettledAt};
+ghost use Rattle.rdl_renew.specs.HeldRenewal.{renewing};
+ghost use Rattle.rdl_renew.specs.StillClean.{StaysClean, BecameClean, IsCleanStill};
+ghost use Rattle.rdl_seen.specs.Meaning.{nothing_around, kept_at};
+ghost use Rattle.rdl_seen.specs.MeaningLaws.{is_clean_map};
+ghost use Rattle.rdl_seen.specs.Node.{Around, body_of, node};
+ghost use Rattle.rdl_seen.specs.Slots.{no_slots, written};
+ghost use Rattle.rdl_tree.specs.Items.{Items};
+
+use crate::alike::{are_alike, is_width_same};
+use crate::along::{Along, Next};
+use crate::anew::{define, item_anew, part};
+use crate::deaf::is_settled;
+use crate::done::{Done, Reach, raises_behind};
+use crate::judge::Judge;
+use crate::raise::raised;
+use rdl_marks::marks::BodyMarks;
+use rdl_nodes::finished::finished_over;
+use rdl_nodes::lays::Lays;
+use rdl_nodes::node::{Kept, Node, Slot};
+use rdl_nodes::tree::Tree;
+use rdl_places::scope::{Outer, Scope};
+use rdl_seen::alert::Alert;
+use rdl_seen::values::Values;
+use rdl_tree::description::{Body, Component, Description, Item, Of};
+use rdl_tree::shell::Kind;
+use std::alloc::{AllocError, Global};
+
+/// A body that is renewed: where it stands, and what was kept of it before. It is that of a component of this kind, or the root's.
+#[derive(Clone, Copy)]
+pub(crate) struct Renewal<'o, 'b, 's> {
+    pub outer: Outer<'o>,
+    pub body: &'b Body,
+    pub slots: &'s [Slot],
+    pub around: Option<Kind>,
+}
+
+/// The component of an item, if it is kept by itself.
+fn kept_component(item: &Item) -> Option<&Component>
+    ensures { option_copied result ≡ kept_component item.now }
+{
+    match item {
+        Item::Define(_, component) => Some(component),
+        Item::Instance(_, of) => part_of(of),
+        _ => None,
+    }
+}
+
+/// What an instance is an instance of, if it is written there and no field.
+fn part_of(of: &Of) -> Option<&Component>
+    ensures { option_copied result ≡ part_of of.now }
+{
+    match of {
+        Of::Anonymous(component) => match component.kind {
+            Kind::Field => None,
+            _ => Some(component),
+        },
+        Of::Named(_) => None,
+    }
+}
+
+/// The slot of an item whose component is kept as this node.
+fn slot_with(alloc: Global, item: &Item, node: Node) -> Result<Slot, AllocError>
+    ensures { IfOk result (λ x. front_of x ≡ written (written_of item.now) node.core node.slots no_slots) }
+{
+    match item {
+        Item::Define(name, _) => define(alloc, name, node),
+        _ => part(alloc, node),
+    }
+}
+
+/// What was kept of the item of this number.
+fn kept_slot<'s>(slots: &'s [Slot], number: usize) -> Option<Kept<'s>>
+    ensures { option_map kept_of result ≡ kept_at number (slots_of slots.now) }
+{
+    match slots.get(number) {
+        Some(slot) => slot.kept(),
+        None => None,
+    }
+}
+
+/// The slot of this number, if its item may be passed over.
+fn settled_slot<'s>(slots: &'s [Slot], number: usize, alert: &Alert) -> Option<&'s Slot>
+    ensures { IfSome result (λ s. IsSettledAt alert.now slots.now number s.now) }
+{
+    match slots.get(number) {
+        Some(slot) => {
+            if is_settled(slot, alert) {
+                Some(slot)
+            } else {
+                None
+            }
+        }
+        None => None,
+    }
+}
+
+/// An item more that wasn't there before, or was moved.
+fn renew_new<L: Lays>(
+    alloc: Global,
+    lay: &L,
+    renewal: &Renewal,
+    done: &mut Done,
+    item: &Item,
+    judge: &mut Judge,
+) -> Result<(), AllocError>
+    ensures done { (m : Marks) (old : Items) (saw : Around) (n : ℕ) (e : Trace) → IsNext L.laying (renewing renewal.now m old saw) n done.old item.now e → IsMadeAnew e → OnOk result (AreDone L.laying (renewing renewal.now m old saw) (suc n) done.new) }
+    ensures clean { (m : Marks) (old : Items) (saw : Around) (n : ℕ) (e : Trace) → IsNext L.laying (renewing renewal.now m old saw) n done.old item.now e → OnOk result (IfStillClean judge.old.is_clean judge.new.is_clean (IsCleanStill L.laying (renewing renewal.now m old saw) n item.now)) }
+{
+    let slot = {
+        let number = done.slots.len();
+        let scope = Scope::new(renewal.outer, renewal.body, number, done.slots.as_slice());
+        judge.look_at(&scope, renewal.around, item);
+        item_anew(alloc, lay, &scope, &done.reach.defaults, item, judge)?
+    };
+    done.put(item, slot, Alert::none())
+}
+
+/// What is kept of a component whose items are done, under the defaults that reach it. This was kept of it before, and its body became what
+/// it is as marks tell. It is laid out anew only if layouts may take something else of it.
+fn finished_again<L: Lays>(
+    alloc: Global,
+    lay: &L,
+    defaults: &Values,
+    component: &Component,
+    done: Done,
+    before: &Node,
+    inside: &BodyMarks,
+) -> Result<Node, AllocError>
+    ensures { (old : Items) (saw sees : Around) → Became L.laying saw before.now.slots inside.now old component.now.body → WasLaidOut L.laying saw component.now.kind old before.now.core → DiffersNoMoreBefore L.laying done.reach.alert inside.now old component.now.body saw sees → defaults.now ≡ sees.defaults → slots_of done.slots.items ≡ (body_of L.laying sees component.now.body).slots → IfOk result (λ n. n ≡ node L.laying sees component.now.kind component.now.body) }
+{
+    let Done { slots, reach } = done;
+    let alike = are_alike(
+        inside,
+        &component.body,
+        before.slots(),
+        slots.as_slice(),
+        is_width_same(reach.alert),
+    );
+    finished_over(alloc, lay, defaults, component, slots, before.core(), alike)
+}
+
+/// A component that the item at this place holds. This was kept of it before, and its body became what it is as marks tell.
+#[cycle(renew)]
+fn renewed_component<L: Lays>(
+    alloc: Global,
+    lay: &L,
+    scope: &Scope,
+    reach: &Reach,
+    before: &Node,
+    inside: &BodyMarks,
+    component: &Component,
+    judge: &mut Judge,
+) -> Result<Node, AllocError>
+    ensures node { (old : Items) (saw : Around) → Became L.laying saw before.now.slots inside.now old component.now.body → WasLaidOut L.laying saw component.now.kind old before.now.core → IsReached L.laying (places_of scope.now) saw reach.now → IfOk result (λ n. n ≡ node L.laying (around_places L.laying (places_of scope.now)) component.now.kind component.now.body) }
+    ensures clean { (old : Items) (saw : Around) → Became L.laying saw before.now.slots inside.now old component.now.body → IsReached L.laying (places_of scope.now) saw reach.now → OnOk result (IfStillClean judge.old.is_clean judge.new.is_clean (StaysClean L.laying (places_of scope.now) (Some component.now.kind) saw old component.now.body)) }
+{
+    let renewal = Renewal {
+        outer: Outer::In(&*scope),
+        body: &component.body,
+        slots: before.slots(),
+        around: Some(component.kind),
+    };
+    let done = renew_body(alloc, lay, &renewal, inside, reach, judge)?;
+    finished_again(alloc, lay, &reach.defaults, component, done, before, inside)
+}
+
+/// The slot of the item at this place, of which this was kept, and inside which this was changed.
+#[cycle(renew)]
+fn renewed_slot<L: Lays>(
+    alloc: Global,
+    lay: &L,
+    scope: &Scope,
+    reach: &Reach,
+    kept: Option<Kept>,
+    inside: &BodyMarks,
+    item: &Item,
+    judge: &mut Judge,
+) -> Result<Slot, AllocError>
+    ensures slot { (saw : Around) → BecameComponent L.laying saw (option_map kept_of kept.entry) inside.now item.now → IsReached L.laying (places_of scope.now) saw reach.now → IfOk result (λ x. front_of x ≡ slot_there L.laying (places_of scope.now) item.now) }
+    ensures clean { (saw : Around) (was_clean : Bool) → BecameClean L.laying saw (option_map kept_of kept.entry) inside.now was_clean item.now → IsReached L.laying (places_of scope.now) saw reach.now → OnOk result (IfStillClean judge.old.is_clean judge.new.is_clean (was_clean ≡ true → HasNoneInside L.laying (places_of scope.now) item.now)) }
+{
+    match kept {
+        Some(kept) => match kept_component(item) {
+            Some(component) => {
+                let node = renewed_component(
+                    alloc, lay, scope, reach, kept.node, inside, component, judge,
+                )?;
+                slot_with(alloc, item, node)
+            }
+            None => item_anew(alloc, lay, scope, &reach.defaults, item, judge),
+        },
+        None => item_anew(alloc, lay, scope, &reach.defaults, item, judge),
+    }
+}
+
+/// An item more that stayed in order: it had this number, and inside it this was changed.
+#[cycle(renew)]
+fn renew_stayed<L: Lays>(
+    alloc: Global,
+    lay: &L,
+    renewal: &Renewal,
+    done: &mut Done,
+    number: usize,
+    inside: &BodyMarks,
+    item: &Item,
+    judge: &mut Judge,
+) -> Result<(), AllocError>
+    ensures done { (m : Marks) (old : Items) (saw : Around) (n : ℕ) (firsts : Firsts) → IsNext L.laying (renewing renewal.now m old saw) n done.old item.now (old_item number firsts inside.now) → firsts.is_moved ≡ false → OnOk result (AreDone L.laying (renewing renewal.now m old saw) (suc n) done.new) }
+    ensures clean { (m : Marks) (old : Items) (saw : Around) (n : ℕ) (firsts : Firsts) → IsNext L.laying (renewing renewal.now m old saw) n done.old item.now (old_item number firsts inside.now) → firsts.is_moved ≡ false → OnOk result (IfStillClean judge.old.is_clean judge.new.is_clean (IsCleanStill L.laying (renewing renewal.now m old saw) n item.now)) }
+{
+    let kept = kept_slot(renewal.slots, number);
+    let slot = {
+        let count = done.slots.len();
+        let scope = Scope::new(renewal.outer, renewal.body, count, done.slots.as_slice());
+        judge.look_at(&scope, renewal.around, item);
+        renewed_slot(alloc, lay, &scope, &done.reach, kept, inside, item, judge)?
+    };
+    let raises = raises_behind(item, kept, &slot);
+    done.put(item, slot, raises)
+}
+
+/// An item more, which became what it is so.
+#[cycle(renew)]
+fn renew_item<L: Lays>(
+    alloc: Global,
+    lay: &L,
+    renewal: &Renewal,
+    done: &mut Done,
+    next: Next,
+    item: &Item,
+    judge: &mut Judge,
+) -> Result<(), AllocError>
+    ensures done { (m : Marks) (old : Items) (saw : Around) (n : ℕ) → IsNext L.laying (renewing renewal.now m old saw) n done.old item.now (next_of next.entry) → OnOk result (AreDone L.laying (renewing renewal.now m old saw) (suc n) done.new) }
+    ensures clean { (m : Marks) (old : Items) (saw : Around) (n : ℕ) → IsNext L.laying (renewing renewal.now m old saw) n done.old item.now (next_of next.entry) → OnOk result (IfStillClean judge.old.is_clean judge.new.is_clean (IsCleanStill L.laying (renewing renewal.now m old saw) n item.now)) }
+{
+    match next {
+        Next::New => renew_new(alloc, lay, renewal, done, item, judge),
+        Next::Same(number) => match settled_slot(renewal.slots, number, &done.reach.alert) {
+            Some(slot) => done.keep(slot),
+            None => {
+                let unchanged = BodyMarks::new(alloc);
+                renew_stayed(alloc, lay, renewal, done, number, &unchanged, item, judge)
+            }
+        },
+        Next::Marked(number, mark) => {
+            if mark.is_moved {
+                renew_new(alloc, lay, renewal, done, item, judge)
+            } else {
+                renew_stayed(alloc, lay, renewal, done, number, &mark.inside, item, judge)
+            }
+        }
+    }
+}
+
+/// The items of a body of which this became what it is, and which this reaches, when all are done.
+#[cycle(renew)]
+fn renew_body<L: Lays>(
+    alloc: Global,
+    lay: &L,
+    renewal: &Renewal,
+    marks: &BodyMarks,
+    reach: &Reach,
+    judge: &mut Judge,
+) -> Result<Done, AllocError>
+    ensures slots { (old : Items) (saw : Around) → Became L.laying saw (slots_of renewal.now.slots.now) marks.now old renewal.now.body.now → IsReached L.laying (outer_places renewal.now.outer) saw reach.now → IfOk result (λ done. slots_of done.slots.items ≡ slots_there L.laying (outer_places renewal.now.outer) renewal.now.body.now) }
+    ensures alert { (old : Items) (saw : Around) → Became L.laying saw (slots_of renewal.now.slots.now) marks.now old renewal.now.body.now → IsReached L.laying (outer_places renewal.now.outer) saw reach.now → IfOk result (λ done. DiffersNoMoreBefore L.laying done.reach.alert marks.now old renewal.now.body.now saw (around_places L.laying (outer_places renewal.now.outer))) }
+    ensures clean { (old : Items) (saw : Around) → Became L.laying saw (slots_of renewal.now.slots.now) marks.now old renewal.now.body.now → IsReached L.laying (outer_places renewal.now.outer) saw reach.now → OnOk result (IfStillClean judge.old.is_clean judge.new.is_clean (StaysClean L.laying (outer_places renewal.now.outer) renewal.now.around saw old renewal.now.body.now)) }
+{
+    judge.look_at_changed(marks, renewal.body);
+    let first = Reach {
+        defaults: reach.defaults,
+        alert: reach.alert.with(raised(marks, renewal.body)),
+    };
+    let mut done = Done::none(alloc, renewal.body.len(), first)?;
+    let mut along = Along::new();
+    for item in renewal.body.as_slice() {
+        let next = along.next(marks.pieces.as_slice(), marks.behind);
+        renew_item(alloc, lay, renewal, &mut done, next, item, judge)?;
+    }
+    Ok(done)
+}
+
+/// A map that was renewed: what is kept of it, and whether it is known that no item of it has a fault.
+#[derive(Drop)]
+pub struct RenewedMap {
+    pub tree: Tree,
+    pub is_clean: bool,
+}
+
+/// What is kept of a map over what was kept of it before, where marks tell what became of it. Only bodies in which something was changed,
+/// and those that see something of it, are gone into. If no item of the map had a fault, it is told whether it is seen that none has one now.
+pub fn renewed<L: Lays>(
+    alloc: Global,
+    lay: &L,
+    tree: &Tree,
+    marks: &BodyMarks,
+    description: &Description,
+) -> Result<RenewedMap, AllocError>
+    ensures slots { (old : Items) → Describes marks.now old description.now.items → AreInOrder marks.now → tree.now ≡ (body_of L.laying nothing_around old).slots → IfOk result (λ new. new.tree ≡ (body_of L.laying nothing_around description.now.items).slots) }
+    ensures nodes { (old : Items) → Describes marks.now old description.now.items → AreInOrder marks.now → tree.now ≡ (body_of L.laying nothing_around old).slots → IfOk result (λ new. HoldsNodes L.laying description.now.items new.tree) }
+    ensures clean { (old : Items) → Describes marks.now old description.now.items → AreInOrder marks.now → tree.now ≡ (body_of L.laying nothing_around old).slots → IfOk result (λ new. new.is_clean ≡ true → is_clean_map L.laying old ≡ true → is_clean_map L.laying description.now.items ≡ true) }
+{
+    let renewal = Renewal {
+        outer: Outer::Nowhere,
+        body: &description.items,
+        slots: tree.slots(),
+        around: None,
+    };
+    let reach = Reach {
+        defaults: Values::none(),
+        alert: Alert::none(),
+    };
+    let mut judge = Judge { is_clean: true };
+    let done = renew_body(alloc, lay, &renewal, marks, &reach, &mut judge)?;
+    let Done { slots, reach: _ } = done;
+    Ok(RenewedMap {
+        tree: Tree::of_slots(slots),
+        is_clean: judge.is_clean,
+    })
+}
