@@ -269,7 +269,7 @@ fn under_top(
 }
 
 /// The last definition of an address map among the items of the root, of this name if there is one.
-fn find_top<'a>(description: &'a Description, wanted: Option<&str>) -> Option<Top<'a>>
+pub fn find_top<'a>(description: &'a Description, wanted: Option<&str>) -> Option<Top<'a>>
     ensures { result ≡ top_from (option_copied wanted.entry) 0 description.now.items }
 {
     last_top(description.items.as_slice(), wanted)

@@ -1,3 +1,4 @@
 pub mod CleanMaps
 pub mod HeldLayouts
 pub mod Sums
+pub mod Turns

@@ -1,1 +1,2 @@
 pub mod HeldMap
+pub mod Turning

@@ -51,7 +51,7 @@ impl Model for Held {
     ghost view = { λ h. record { slots = h.tree; top = option_map string_bytes h.top } };
 }
 
-fn no_memory() -> Fault
+pub(crate) fn no_memory() -> Fault
     ensures { result ≡ out_of_memory }
 {
     Fault {

@@ -3,3 +3,4 @@
 
 pub mod held;
 mod large;
+pub mod turning;

@@ -1,6 +1,7 @@
 //! What patches have changed of each body, told by the patches that take them back.
 #![tactic(auto)]
 
+pub mod changes;
 pub mod laws;
 pub mod marks;
 mod note;

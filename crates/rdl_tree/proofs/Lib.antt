@@ -6,6 +6,7 @@ pub mod Exchanging
 pub mod Fills
 pub mod Gaps
 pub mod Held
+pub mod Lent
 pub mod Nesting
 pub mod PatchExamples
 pub mod PatchSizes

@@ -1,5 +1,5 @@
 //! A description that patches have changed, and that can be brought back.
-ghost use Rattle.std.specs.Prelude.{◌≡◌, [], IsTrue, IfOk, IfErr};
+ghost use Rattle.std.specs.Prelude.{◌≡◌, [], IsTrue, IfOk, IfErr, length, option_copied, slice_get};
 ghost use Rattle.std.specs.Borrow.{sem};
 ghost use Rattle.rdl_tree.specs.Patch.{image, inverses, AllFit};
 
@@ -61,6 +61,20 @@ impl Turned<'_, WayBack> {
         ensures { result.now.items ≡ turned_items self.now }
     {
         self.description
+    }
+
+    /// How many patches lead back.
+    pub fn back_len(&self) -> usize
+        ensures { result ≡ length (kept self.now) }
+    {
+        self.way.len()
+    }
+
+    /// Lends the patch of this number of those that lead back, the first one first.
+    pub fn back_patch(&self, number: usize) -> Option<&Patch>
+        ensures { option_copied result ≡ slice_get (kept self.now) number }
+    {
+        self.way.patch(number)
     }
 
     /// Leaves the description changed, and gives the patches that lead back. This takes no memory.

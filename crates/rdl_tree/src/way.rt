@@ -1,5 +1,5 @@
 //! The way back from where patches have led.
-ghost use Rattle.std.specs.Prelude.{◌≡◌, Bool, length};
+ghost use Rattle.std.specs.Prelude.{◌≡◌, Bool, length, option_copied, reverse, slice_get};
 ghost use Rattle.rdl_tree.specs.Items.{Items};
 
 use crate::description::Item;
@@ -38,6 +38,31 @@ pub struct StepsBack {
     pub(crate) room: Vec<Patch>,
 }
 
+impl StepsBack {
+    ghost use Rattle.rdl_tree.specs.Way.{step_patches};
+
+    /// The patch of this number of those that lead back, the first one first.
+    fn patch(&self, number: usize) -> Option<&Patch>
+        ensures { option_copied result ≡ slice_get (step_patches self.now) number }
+    {
+        match from_the_end(&self.steps, number) {
+            Some(step) => Some(&step.back),
+            None => None,
+        }
+    }
+}
+
+/// The item that stands before `number` others at the end.
+fn from_the_end<T>(items: &[T], number: usize) -> Option<&T>
+    ensures { option_copied result ≡ slice_get (reverse items.now) number }
+{
+    if number < items.len() {
+        Some(&items[items.len() - 1 - number])
+    } else {
+        None
+    }
+}
+
 /// The way back from where patches have led.
 #[derive(Drop)]
 pub enum WayBack {
@@ -61,6 +86,26 @@ impl WayBack {
             WayBack::Exchanges(patches) => *patches.allocator(),
         };
         WayBack::Exchanges(Vec::new(alloc))
+    }
+
+    /// How many patches lead back.
+    pub(crate) fn len(&self) -> usize
+        ensures { result ≡ length (patches_back self.now) }
+    {
+        match self {
+            WayBack::Steps(way) => way.steps.as_slice().len(),
+            WayBack::Exchanges(patches) => patches.len(),
+        }
+    }
+
+    /// The patch of this number of those that lead back, the first one first.
+    pub(crate) fn patch(&self, number: usize) -> Option<&Patch>
+        ensures { option_copied result ≡ slice_get (patches_back self.now) number }
+    {
+        match self {
+            WayBack::Steps(way) => way.patch(number),
+            WayBack::Exchanges(patches) => patches.get(number),
+        }
     }
 }
 
