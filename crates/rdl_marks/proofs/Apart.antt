@@ -1,12 +1,12 @@
 -- No two items of a body had the same number before.
-use Rattle.std.proofs.Common.{◌≡◌, ℕ, zero, suc, ◌+◌, ◌-◌, ◌<◌, ◌≤◌, ◌==◌, Bool, true, false, if◌then◌else◌, length, List, [], ◌∷◌, Option, Some, None, refl, sym, ap, subst, ◌∙◌, arith, eq-eqb, ◌⊎◌, inl, inr}
-use Rattle.std.specs.Prelude.{slice_get, nat_lt, option_and_then}
+use Rattle.std.proofs.Common.{◌≡◌, ℕ, zero, suc, ◌+◌, ◌-◌, ◌<◌, ◌≤◌, ◌==◌, Bool, if◌then◌else◌, length, List, [], ◌∷◌, Option, Some, refl, sym, ap, subst, ◌∙◌, arith, eq-eqb, ◌⊎◌, inl, inr}
+use Rattle.std.specs.Prelude.{slice_get, option_and_then}
 use Rattle.std.proofs.lemmas.Bool.{cases_lt, lt-ltb, le-ltb}
 use Rattle.rdl_tree.specs.Items.{Items}
 use Rattle.rdl_marks.specs.Describes.{times, Describes}
 use Rattle.rdl_marks.specs.Marks.{Marks}
-use Rattle.rdl_marks.specs.View.{Trace, new_item, old_item, same_item, traces_of, list_of}
-use Rattle.rdl_marks.specs.Was.{trace_of, number_of, was, HadOtherNumbers}
+use Rattle.rdl_marks.specs.View.{Trace, new_item, old_item, same_item, list_of}
+use Rattle.rdl_marks.specs.Was.{number_of, was, HadOtherNumbers}
 use Rattle.rdl_marks.proofs.Rounds.{traces_of-list_of}
 use Rattle.rdl_marks.proofs.Times.{times_of, times_in, times-add, below, if-below}
 

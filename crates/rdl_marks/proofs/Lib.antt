@@ -3,6 +3,7 @@ pub mod Boundaries
 pub mod Cuts
 pub mod Described
 pub mod From
+pub mod Lent
 pub mod Noting
 pub mod Orders
 pub mod Rounds

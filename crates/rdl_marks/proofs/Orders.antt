@@ -9,11 +9,11 @@ use Rattle.rdl_tree.specs.declared.part.Part.{Part}
 use Rattle.rdl_tree.specs.declared.part.Part.TheVariants.{OfShell, OfValue, OfTarget, OfType, OfDefine}
 use Rattle.rdl_tree.specs.declared.patch.Patch.{Patch}
 use Rattle.rdl_tree.specs.declared.patch.Patch.TheVariants.{Insert, Delete, Shift, Exchange}
-use Rattle.rdl_marks.specs.Describes.{times, Describes}
+use Rattle.rdl_marks.specs.Describes.{times}
 use Rattle.rdl_marks.specs.InOrder.{IfMoved, StandInOrder, AreInOrder, StaysInOrder, StayInOrder, moved_times, place_behind, next_place, PassesOverGoneOrMoved, GoesOn}
-use Rattle.rdl_marks.specs.Marks.{Traces, no_traces, new_trace, old_trace, Marks, no_firsts, no_marks}
-use Rattle.rdl_marks.specs.Noted.{exchanged, moved, changed_inside, reach, put_in, take_out, gone_as, told_at, taken_out_as, moved_to, at_item, noted_here, here, marks_at, noted, all_noted}
-use Rattle.rdl_marks.specs.View.{Trace, new_item, old_item, Told, traces_of, list_of, marks_of, told_of, run, same_item}
+use Rattle.rdl_marks.specs.Marks.{Traces, no_traces, new_trace, old_trace, Marks, no_marks}
+use Rattle.rdl_marks.specs.Noted.{exchanged, moved, changed_inside, reach, take_out, gone_as, told_at, taken_out_as, moved_to, at_item, noted_here, here, marks_at, all_noted}
+use Rattle.rdl_marks.specs.View.{Trace, new_item, old_item, Told, traces_of, list_of, told_of, run}
 use Rattle.rdl_marks.proofs.Rounds.{traces_of-list_of}
 
 abbrev InOrder : ℕ → List Trace → ℕ → Type 0

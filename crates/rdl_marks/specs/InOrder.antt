@@ -2,7 +2,6 @@
 -- own: SystemRDL 2.0 has no edits.
 use Rattle.std.specs.Prelude.{◌≡◌, ℕ, ◌+◌, ◌≤◌, ◌<◌, ◌==◌, ◌&&◌, if◌then◌else◌, Bool, true, false, List, [], ◌∷◌, ◌++◌}
 use Rattle.rdl_tree.specs.Items.{Items}
-use Rattle.rdl_tree.specs.Patch.{image, inverses, AllFit}
 use Rattle.rdl_tree.specs.declared.patch.Patch.{Patch}
 use Rattle.rdl_marks.specs.Describes.{Describes, times}
 use Rattle.rdl_marks.specs.Marks.{Traces, no_traces, new_trace, old_trace, Marks}

@@ -1,11 +1,9 @@
 -- Which number an item had before.
 -- own: SystemRDL 2.0 has no edits.
-use Rattle.std.specs.Prelude.{◌≡◌, ℕ, ◌+◌, ◌-◌, nat_lt, if◌then◌else◌, List, length, Option, Some, None, option_and_then, slice_get}
+use Rattle.std.specs.Prelude.{◌≡◌, ℕ, ◌+◌, ◌-◌, nat_lt, if◌then◌else◌, length, Option, Some, None, option_and_then, slice_get}
 use Rattle.rdl_tree.specs.Items.{Items}
-use Rattle.rdl_tree.specs.View as tree
-use Rattle.rdl_tree.specs.declared.description.Item.{Item}
 use Rattle.rdl_marks.specs.Describes.{Describes}
-use Rattle.rdl_marks.specs.Marks.{Firsts, no_firsts, no_marks, Marks}
+use Rattle.rdl_marks.specs.Marks.{Marks}
 use Rattle.rdl_marks.specs.View.{Trace, new_item, old_item, same_item, list_of}
 
 -- what is told of item i: behind all items that are told of one by one, it is as it was

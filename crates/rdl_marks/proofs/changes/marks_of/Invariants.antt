@@ -1,0 +1,14 @@
+use Rattle.std.proofs.Common.{◌≡◌, ◌≤◌, drop, length}
+use Rattle.rdl_tree.specs.Turned.{kept}
+use Rattle.rdl_marks.specs.Marks.{no_marks}
+use Rattle.rdl_marks.specs.Noted.{all_noted}
+use Rattle.rdl_marks.proofs.changes.marks_of.Given as goal
+
+abbrev pub invariant-patches : goal.invariant-patches
+invariant-patches l = record {
+  noted : l.marks ≡ all_noted (drop l.number (kept l.turned)) no_marks;
+  within : l.number ≤ length (kept l.turned);
+}
+
+abbrev pub decreases-patches : goal.decreases-patches
+decreases-patches l = l.number
