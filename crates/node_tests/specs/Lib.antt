@@ -1,1 +1,2 @@
 pub mod Nowhere
+pub mod Steps

@@ -1,16 +1,19 @@
 //! What is held of maps, from step to step.
+ghost use Rattle.std.specs.Prelude.{IfOk};
+ghost use Rattle.rdl_held.specs.HeldMap.{IsHeldOf};
+
 use crate::assert_holds;
+use crate::steps::turned;
 use rdl_held::held::Held;
-use rdl_marks::marks::BodyMarks;
 use rdl_nodes::layouts::Layout;
-use rdl_parse::parse::parse;
+use rdl_parse::parse::{parse, parse_item};
 use rdl_seen::mode::Mode;
 use rdl_tree::address::Address;
 use rdl_tree::description::Description;
-use rdl_tree::fault::FaultKind;
+use rdl_tree::fault::{Fault, FaultKind};
 use rdl_tree::patch::Patch;
 use rdl_tree::patch_address::PatchAddress;
-use std::alloc::{AllocError, Global};
+use std::alloc::Global;
 use std::test::Fail;
 
 fn description(alloc: Global, text: &str) -> Result<Description, &'static str> {
@@ -20,7 +23,9 @@ fn description(alloc: Global, text: &str) -> Result<Description, &'static str> {
     }
 }
 
-fn held(alloc: Global, map: &Description) -> Result<Held, &'static str> {
+fn held(alloc: Global, map: &Description) -> Result<Held, &'static str>
+    ensures { IfOk result (λ held. IsHeldOf map.now.items held) }
+{
     match Held::of(alloc, map, None) {
         Ok(held) => Ok(held),
         Err(_) => Err("has a fault"),
@@ -34,13 +39,22 @@ fn first() -> Address {
     address
 }
 
-/// The patch that takes back that item 2 came into item 0 of the root.
-fn third_came(alloc: Global) -> Result<Patch, AllocError> {
+/// The patch by which this item comes behind the two of item 0 of the root.
+fn third_comes(alloc: Global, text: &str) -> Result<Patch, &'static str> {
     let mut address = first();
     if address.len() < Address::MAX_LEN {
         address.push(2);
     }
-    Ok(Patch::Delete(PatchAddress::new(alloc, &address)?))
+    let Ok(address) = PatchAddress::new(alloc, &address) else {
+        return Err("has no room");
+    };
+    match parse_item(alloc, text) {
+        Ok(mut items) => match items.pop() {
+            Some(item) => Ok(Patch::Insert(address, item)),
+            None => Err("is no item"),
+        },
+        Err(_) => Err("spells no item"),
+    }
 }
 
 /// The layout has this size, and its spans go from these bytes up to those.
@@ -56,12 +70,6 @@ fn is_laid_out(layout: Option<&Layout>, size: u64, spans: &[(u64, u64)]) -> bool
 }
 
 const TWO: &str = "addrmap top { reg { field {} f; } a; reg { field {} f; } b @ 0x10; };";
-
-const THREE: &str =
-    "addrmap top { reg { field {} f; } a; reg { field {} f; } b @ 0x10; reg { field {} f; } c; };";
-
-const TWICE: &str =
-    "addrmap top { reg { field {} f; } a; reg { field {} f; } b @ 0x10; reg { field {} f; } a; };";
 
 #[test]
 fn a_map_is_held_with_its_layouts_and_rows(rt: HostRuntime) -> Result<(), Fail> {
@@ -80,53 +88,42 @@ fn a_map_is_held_with_its_layouts_and_rows(rt: HostRuntime) -> Result<(), Fail> 
 }
 
 #[test]
-fn a_step_leads_to_the_layouts_of_the_new_map(rt: HostRuntime) -> Result<(), Fail> {
+fn a_step_leads_on_and_back(rt: HostRuntime) -> Result<(), Fail> {
     let alloc = rt.alloc();
-    let before = description(alloc, TWO)?;
-    let now = description(alloc, THREE)?;
-    let back = third_came(alloc)?;
-    let mut marks = BodyMarks::new(alloc);
-    marks.note(alloc, &back)?;
-    let mut judged = held(alloc, &before)?;
-    assert_holds(&rt, judged.step(alloc, &now, &marks).is_ok(), "a step");
-    let layout = judged.layout(&now, &first(), Mode::Regalign);
-    assert_holds(
-        &rt,
-        is_laid_out(layout, 0x18, &[(0, 4), (0x10, 0x14), (0x14, 0x18)]),
-        "its layout",
-    );
-    let mut known = held(alloc, &before)?;
-    known.step_known(alloc, &now, &marks)?;
-    let layout = known.layout(&now, &first(), Mode::Regalign);
-    assert_holds(
-        &rt,
-        is_laid_out(layout, 0x18, &[(0, 4), (0x10, 0x14), (0x14, 0x18)]),
-        "that of a known one",
-    );
+    let mut map = description(alloc, TWO)?;
+    let mut held = held(alloc, &map)?;
+    let comes = third_comes(alloc, "reg { field {} f; } c;")?;
+    let Some(Ok(back)) = turned(alloc, &mut held, &mut map, comes) else {
+        return Err("isn't turned".into());
+    };
+    let layout = held.layout(&map, &first(), Mode::Regalign);
+    let is_on = is_laid_out(layout, 0x18, &[(0, 4), (0x10, 0x14), (0x14, 0x18)]);
+    let is_taken_back = held.turn_known(alloc, &mut map, back).is_ok();
+    let layout = held.layout(&map, &first(), Mode::Regalign);
+    let is_back = is_laid_out(layout, 0x14, &[(0, 4), (0x10, 0x14)]);
+    assert_holds(&rt, is_on && is_taken_back && is_back, "the layouts");
     Ok(())
+}
+
+/// The second item of a name is told, as item 2 of item 0 of the root.
+fn is_second_of_a_name(answer: Option<Result<Vec<Patch>, Fault>>) -> bool {
+    match answer {
+        Some(Err(fault)) => {
+            fault.kind == FaultKind::NameTwice && fault.address.as_slice() == [0, 2].as_slice()
+        }
+        _ => false,
+    }
 }
 
 #[test]
 fn a_step_to_a_fault_leaves_what_is_held(rt: HostRuntime) -> Result<(), Fail> {
     let alloc = rt.alloc();
-    let before = description(alloc, TWO)?;
-    let now = description(alloc, TWICE)?;
-    let back = third_came(alloc)?;
-    let mut marks = BodyMarks::new(alloc);
-    marks.note(alloc, &back)?;
-    let mut held = held(alloc, &before)?;
-    let is_refused = match held.step(alloc, &now, &marks) {
-        Ok(()) => false,
-        Err(fault) => {
-            fault.kind == FaultKind::NameTwice && fault.address.as_slice() == [0, 2].as_slice()
-        }
-    };
-    assert_holds(&rt, is_refused, "the second of a name");
-    let layout = held.layout(&before, &first(), Mode::Regalign);
-    assert_holds(
-        &rt,
-        is_laid_out(layout, 0x14, &[(0, 4), (0x10, 0x14)]),
-        "the layout before",
-    );
+    let mut map = description(alloc, TWO)?;
+    let mut held = held(alloc, &map)?;
+    let comes = third_comes(alloc, "reg { field {} f; } a;")?;
+    let is_refused = is_second_of_a_name(turned(alloc, &mut held, &mut map, comes));
+    let layout = held.layout(&map, &first(), Mode::Regalign);
+    let is_left = is_laid_out(layout, 0x14, &[(0, 4), (0x10, 0x14)]);
+    assert_holds(&rt, is_refused && is_left, "the fault and the layout");
     Ok(())
 }

@@ -6,6 +6,7 @@ mod held;
 #[cfg(test)]
 mod marks;
 pub mod nowhere;
+pub mod steps;
 #[cfg(test)]
 mod tree;
 

@@ -48,6 +48,7 @@ pub(crate) fn are_breaking(changes: &[Change<'_>]) -> bool
 }
 
 /// Adds what differs of this part.
+#[inline(always)]
 fn push_change<'a>(
     changes: &mut Vec<Change<'a>>,
     what: What,

@@ -30,6 +30,7 @@ pub(crate) enum Told<'a> {
 }
 
 /// What the row tells of this.
+#[inline(always)]
 pub(crate) fn told_by(row: &Row, what: What) -> Told<'_>
     ensures { seen result ≡ told what row.now }
 {
@@ -92,6 +93,7 @@ pub(crate) fn are_same_values(a: Option<&Value>, b: Option<&Value>) -> bool
 }
 
 /// Whether two parts are the same.
+#[inline(always)]
 pub(crate) fn is_same(a: &Told, b: &Told) -> bool
     ensures { result ≡ same (seen a.now) (seen b.now) }
 {

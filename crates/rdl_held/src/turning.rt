@@ -61,6 +61,8 @@ impl Held {
         requires held { IsHeldOf description.old.items self.old }
         ensures made { OnOk result (description.new.items ≡ image patches.items description.old.items) }
         ensures back { IfOk result (λ back. back.items ≡ inverses patches.items description.old.items) }
+        ensures fits { IfOk result (λ back. AllFit back.items description.new.items) }
+        ensures leads { IfOk result (λ back. image back.items description.new.items ≡ description.old.items) }
         ensures held { IsHeldOf description.new.items self.new }
         ensures top { self.new.top ≡ self.old.top }
         ensures refused { IfErr result (λ fault. (elaborated (image patches.items description.old.items) self.old.top ≡ Err fault) ⊎ (fault ≡ out_of_memory)) }
@@ -92,6 +94,8 @@ impl Held {
         requires rows { HasRows (image patches.items description.old.items) self.old.top }
         ensures made { OnOk result (description.new.items ≡ image patches.items description.old.items) }
         ensures back { IfOk result (λ back. back.items ≡ inverses patches.items description.old.items) }
+        ensures fits { IfOk result (λ back. AllFit back.items description.new.items) }
+        ensures leads { IfOk result (λ back. image back.items description.new.items ≡ description.old.items) }
         ensures held { IsHeldOf description.new.items self.new }
         ensures top { self.new.top ≡ self.old.top }
         ensures handed { IfErr result (λ same. same.items ≡ patches.items) }
