@@ -37,6 +37,10 @@ pub struct Wanted<'a> {
     pub saved: Option<Lines<'a>>,
     /// The whole edited text.
     pub edited: Option<&'a str>,
+    /// What is told of its refusals.
+    pub told: Option<Lines<'a>>,
+    /// The warnings of the map.
+    pub warned: Option<Lines<'a>>,
 }
 
 /// A case, as far as its headings are read.
@@ -118,6 +122,8 @@ impl<'a> Wanted<'a> {
             session: None,
             saved: None,
             edited: None,
+            told: None,
+            warned: None,
         }
     }
 
@@ -133,6 +139,11 @@ impl<'a> Wanted<'a> {
         is_first && self.status.is_some()
     }
 
+    /// Whether it is wanted of what is told, and not of what is printed and written.
+    pub fn is_of_told(&self) -> bool {
+        self.told.is_some() || self.warned.is_some()
+    }
+
     /// Reads a heading, and answers whether it is one of these, and the first of its name.
     fn read(&mut self, heading: &Heading<'a>) -> bool {
         match heading.name {
@@ -143,6 +154,8 @@ impl<'a> Wanted<'a> {
             "session" => say(&mut self.session, heading.lines),
             "saved" => say(&mut self.saved, heading.lines),
             "edited" => self.read_edited(heading.text()),
+            "told" => say(&mut self.told, heading.lines),
+            "warned" => say(&mut self.warned, heading.lines),
             _ => false,
         }
     }

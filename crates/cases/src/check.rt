@@ -5,6 +5,7 @@ ghost use Rattle.cases.specs.Met.{EndsWith, HasLines, IsMet, IsWanted, IsWantedW
 
 use crate::case::{Case, Lines, Wanted};
 use crate::found::{End, Found, find};
+use crate::told::{told_of, warned_of};
 use rdl_diff::status::Status as Comparison;
 use rdl_run::status::Status;
 use std::{io, str};
@@ -185,17 +186,51 @@ fn refuse(rt: &HostRuntime, case: &Case, why: &str, heading: &str) -> io::Result
     Ok(false)
 }
 
+/// Whether what is told is what is wanted. Where it isn't, it says so.
+fn is_told(
+    rt: &HostRuntime,
+    case: &Case,
+    name: &str,
+    told: Option<Vec<u8>>,
+    wanted: Option<Lines>,
+) -> io::Result<bool> {
+    let Some(told) = told else {
+        return refuse(rt, case, "nothing came for", name);
+    };
+    let is_met = is_wanted(&told, wanted);
+    if !is_met {
+        println!(rt; "failed: {}", case.words)?;
+        print_part(rt, name, &told, wanted)?;
+    }
+    Ok(is_met)
+}
+
+/// Whether of a run on a map is told what is wanted, and of the map warned.
+fn tells_as_wanted(rt: &HostRuntime, case: &Case, map: &str) -> io::Result<bool> {
+    let told = told_of(rt.alloc(), map, &case.given);
+    let is_told_so = is_told(rt, case, "told", told, case.wanted.told)?;
+    let warned = warned_of(rt.alloc(), map);
+    let is_warned_so = is_told(rt, case, "warned", warned, case.wanted.warned)?;
+    Ok(is_told_so && is_warned_so)
+}
+
+/// Whether a case with a map passes. Of one that doesn't it says why.
+fn passes_on(rt: &HostRuntime, case: &Case, map: &str) -> io::Result<bool> {
+    match (case.wanted.status, case.wanted.prints) {
+        (Some(status), Some(_)) => runs_as_wanted(rt, case, map, status),
+        (None, None) if case.wanted.is_of_told() => tells_as_wanted(rt, case, map),
+        (None, _) => refuse(rt, case, "lacks", "status"),
+        (_, None) => refuse(rt, case, "lacks", "prints"),
+    }
+}
+
 /// Whether a case passes. Of one that doesn't it says why.
 pub fn passes(rt: &HostRuntime, case: &Case) -> io::Result<bool> {
     if let Some(heading) = case.mistake {
         return refuse(rt, case, "no such heading, or not here:", heading);
     }
-    if case.wanted.prints.is_none() {
-        return refuse(rt, case, "lacks", "prints");
-    }
-    match (case.given.map, case.wanted.status) {
-        (Some(map), Some(status)) => runs_as_wanted(rt, case, map, status),
-        (None, _) => refuse(rt, case, "lacks", "map"),
-        (_, None) => refuse(rt, case, "lacks", "status"),
+    match case.given.map {
+        Some(map) => passes_on(rt, case, map),
+        None => refuse(rt, case, "lacks", "map"),
     }
 }

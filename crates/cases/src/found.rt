@@ -38,7 +38,8 @@ pub struct Found {
     pub goes_astray: bool,
 }
 
-fn top_of(alloc: Global, top: Option<&str>) -> Result<Option<Name>, NameFault> {
+/// The name of the top that is asked.
+pub fn top_of(alloc: Global, top: Option<&str>) -> Result<Option<Name>, NameFault> {
     match top {
         Some(text) => Ok(Some(Name::new(alloc, text)?)),
         None => Ok(None),

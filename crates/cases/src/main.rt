@@ -5,6 +5,7 @@ mod case;
 mod check;
 mod found;
 mod heading;
+mod told;
 
 use crate::case::Case;
 use crate::check::passes;
