@@ -7,10 +7,10 @@ use Rattle.rdl_tree.specs.declared.patch.Patch.{Patch}
 use Rattle.rdl_held.specs.HeldMap.{HeldMap, IsHeldOf}
 
 -- patches that fit have made this of a description of which that is held, and these take them back
-pub record IsTurned (h : HeldMap) (back : List Patch) (now : Items) : Type 0 where
+pub record IsTurned (h : HeldMap) (backs : List Patch) (now : Items) : Type 0 where
   pub old : Items
   pub patches : List Patch
   pub held : IsHeldOf old h
   pub fit : AllFit patches old
   pub made : now ≡ image patches old
-  pub back : back ≡ inverses patches old
+  pub back : backs ≡ inverses patches old
