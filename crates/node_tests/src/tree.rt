@@ -50,6 +50,12 @@ fn is_none(tree: &Tree, numbers: &[usize]) -> bool {
     tree.node(&address(numbers)).is_none()
 }
 
+fn tree_of(alloc: Global, text: &str) -> Result<Tree, Fail> {
+    let map = description(alloc, text)?;
+    let tree = Tree::of(alloc, &Nowhere, &map)?;
+    Ok(tree)
+}
+
 const MAP: &str =
     "reg T { field {} f; }; addrmap top { T a; regfile { T b[4]; } r; regfile {} e; };";
 
@@ -58,8 +64,7 @@ fn a_node_is_kept_of_each_component_but_fields_at_their_instance(
     rt: HostRuntime,
 ) -> Result<(), Fail> {
     let alloc = rt.alloc();
-    let map = description(alloc, MAP)?;
-    let tree = Tree::of(alloc, &Nowhere, &map)?;
+    let tree = tree_of(alloc, MAP)?;
     let are_seen = is_seen(&tree, &[0], Kind::Reg, 1, false)
         && is_seen(&tree, &[1], Kind::Addrmap, 3, true)
         && is_seen(&tree, &[1, 1], Kind::Regfile, 2, false);
@@ -81,8 +86,7 @@ fn taken_of(alloc: Global, tree: &Tree, alert: &Alert) -> Result<Option<usize>, 
 #[test]
 fn who_listens_to_nothing_is_taken_over(rt: HostRuntime) -> Result<(), Fail> {
     let alloc = rt.alloc();
-    let map = description(alloc, MAP)?;
-    let tree = Tree::of(alloc, &Nowhere, &map)?;
+    let tree = tree_of(alloc, MAP)?;
     let classes = NameSet::of(class_of(&Name::new(alloc, "T")?));
     let all = taken_of(alloc, &tree, &Alert::none())?;
     let none = taken_of(alloc, &tree, &Alert::none().with_types(classes))?;
@@ -94,8 +98,32 @@ fn who_listens_to_nothing_is_taken_over(rt: HostRuntime) -> Result<(), Fail> {
     Ok(())
 }
 
-/// A map that has one item more than it had, at this address, with what is kept of it over what was kept of it before. What is laid out
-/// anew is laid out so.
+/// What is kept of the map as it is now over what was kept of it before, where this patch leads back. What is laid out anew is laid out so.
+fn renewed_over<L: Lays>(
+    alloc: Global,
+    lay: &L,
+    before: &Tree,
+    back: &Patch,
+    now: &Description,
+) -> Result<RenewedMap, AllocError> {
+    let mut marks = BodyMarks::new(alloc);
+    marks.note(alloc, back)?;
+    renewed(alloc, lay, before, &marks, now)
+}
+
+fn renewed_by<L: Lays>(
+    alloc: Global,
+    lay: &L,
+    before: &Tree,
+    now: &str,
+    back: &Patch,
+) -> Result<RenewedMap, Fail> {
+    let now = description(alloc, now)?;
+    let map = renewed_over(alloc, lay, before, back, &now)?;
+    Ok(map)
+}
+
+/// A map that has one item more than it had, at this address, with what is kept of it over what was kept of it before.
 fn renewed_with_one_more<L: Lays>(
     alloc: Global,
     lay: &L,
@@ -103,14 +131,9 @@ fn renewed_with_one_more<L: Lays>(
     now: &str,
     numbers: &[usize],
 ) -> Result<RenewedMap, Fail> {
-    let before = description(alloc, before)?;
-    let now = description(alloc, now)?;
-    let tree = Tree::of(alloc, &Nowhere, &before)?;
     let back = Patch::Delete(PatchAddress::new(alloc, &address(numbers))?);
-    let mut marks = BodyMarks::new(alloc);
-    marks.note(alloc, &back)?;
-    let map = renewed(alloc, lay, &tree, &marks, &now)?;
-    Ok(map)
+    let before = tree_of(alloc, before)?;
+    renewed_by(alloc, lay, &before, now, &back)
 }
 
 const FILLED: &str =
@@ -180,15 +203,10 @@ fn renewed_with_one_moved(
     before: &str,
     now: &str,
     from: usize,
-) -> Result<Tree, Fail> {
-    let before = description(alloc, before)?;
-    let now = description(alloc, now)?;
-    let tree = Tree::of(alloc, &Nowhere, &before)?;
+) -> Result<RenewedMap, Fail> {
     let back = Patch::Shift(PatchAddress::new(alloc, &address(&[0]))?, from);
-    let mut marks = BodyMarks::new(alloc);
-    marks.note(alloc, &back)?;
-    let map = renewed(alloc, &Nowhere, &tree, &marks, &now)?;
-    Ok(map.tree)
+    let before = tree_of(alloc, before)?;
+    renewed_by(alloc, &Nowhere, &before, now, &back)
 }
 
 const LATE: &str = "addrmap top { T a; }; regfile T { reg { field {} f; } g; };";
@@ -198,10 +216,10 @@ const EARLY: &str = "regfile T { reg { field {} f; } g; }; addrmap top { T a; };
 #[test]
 fn a_type_that_was_moved_is_seen_behind_its_place(rt: HostRuntime) -> Result<(), Fail> {
     let alloc = rt.alloc();
-    let tree = renewed_with_one_moved(alloc, LATE, EARLY, 1)?;
-    let are_seen = is_seen(&tree, &[0], Kind::Regfile, 2, false)
-        && is_seen(&tree, &[0, 0], Kind::Reg, 1, false)
-        && is_seen(&tree, &[1], Kind::Addrmap, 3, false);
+    let map = renewed_with_one_moved(alloc, LATE, EARLY, 1)?;
+    let are_seen = is_seen(&map.tree, &[0], Kind::Regfile, 2, false)
+        && is_seen(&map.tree, &[0, 0], Kind::Reg, 1, false)
+        && is_seen(&map.tree, &[1], Kind::Addrmap, 3, false);
     assert_holds(&rt, are_seen, "the nodes");
     Ok(())
 }
