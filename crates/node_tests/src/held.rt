@@ -39,13 +39,18 @@ fn first() -> Address {
     address
 }
 
-/// The patch by which this item comes behind the two of item 0 of the root.
-fn third_comes(alloc: Global, text: &str) -> Result<Patch, &'static str> {
+/// The address of item 2 of item 0 of the root.
+fn third() -> Address {
     let mut address = first();
     if address.len() < Address::MAX_LEN {
         address.push(2);
     }
-    let Ok(address) = PatchAddress::new(alloc, &address) else {
+    address
+}
+
+/// The patch by which this item comes behind the two of item 0 of the root.
+fn third_comes(alloc: Global, text: &str) -> Result<Patch, &'static str> {
+    let Ok(address) = PatchAddress::new(alloc, &third()) else {
         return Err("has no room");
     };
     match parse_item(alloc, text) {
@@ -105,14 +110,9 @@ fn a_step_leads_on_and_back(rt: HostRuntime) -> Result<(), Fail> {
     Ok(())
 }
 
-/// The second item of a name is told, as item 2 of item 0 of the root.
-fn is_second_of_a_name(answer: Option<Result<Vec<Patch>, Fault>>) -> bool {
-    match answer {
-        Some(Err(fault)) => {
-            fault.kind == FaultKind::NameTwice && fault.address.as_slice() == [0, 2].as_slice()
-        }
-        _ => false,
-    }
+/// It is the second item of a name, item 2 of item 0 of the root.
+fn is_second_of_a_name(fault: &Fault) -> bool {
+    fault.kind == FaultKind::NameTwice && fault.address == third()
 }
 
 #[test]
@@ -121,9 +121,15 @@ fn a_step_to_a_fault_leaves_what_is_held(rt: HostRuntime) -> Result<(), Fail> {
     let mut map = description(alloc, TWO)?;
     let mut held = held(alloc, &map)?;
     let comes = third_comes(alloc, "reg { field {} f; } a;")?;
-    let is_refused = is_second_of_a_name(turned(alloc, &mut held, &mut map, comes));
+    let Some(Err(fault)) = turned(alloc, &mut held, &mut map, comes) else {
+        return Err("isn't refused".into());
+    };
     let layout = held.layout(&map, &first(), Mode::Regalign);
     let is_left = is_laid_out(layout, 0x14, &[(0, 4), (0x10, 0x14)]);
-    assert_holds(&rt, is_refused && is_left, "the fault and the layout");
+    assert_holds(
+        &rt,
+        is_second_of_a_name(&fault) && is_left,
+        "the fault and the layout",
+    );
     Ok(())
 }
