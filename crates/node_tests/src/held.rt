@@ -10,7 +10,7 @@ use rdl_parse::parse::{parse, parse_item};
 use rdl_seen::mode::Mode;
 use rdl_tree::address::Address;
 use rdl_tree::description::Description;
-use rdl_tree::fault::{Fault, FaultKind};
+use rdl_tree::fault::Fault;
 use rdl_tree::patch::Patch;
 use rdl_tree::patch_address::PatchAddress;
 use std::alloc::Global;
@@ -110,11 +110,16 @@ fn a_step_leads_on_and_back(rt: HostRuntime) -> Result<(), Fail> {
     Ok(())
 }
 
-/// What is refused is the second item of a name, item 2 of item 0 of the root.
-fn is_second_of_a_name(answer: Result<Vec<Patch>, Fault>) -> bool {
+/// It is E1 of item 2 of item 0 of the root.
+fn is_second_of_a_name(fault: &Fault) -> bool {
+    fault.kind.number() == 1 && fault.address == third()
+}
+
+/// It is refused with this fault.
+fn is_refused(answer: &Result<Vec<Patch>, Fault>) -> bool {
     match answer {
         Ok(_) => false,
-        Err(fault) => fault.kind == FaultKind::NameTwice && fault.address == third(),
+        Err(fault) => is_second_of_a_name(fault),
     }
 }
 
@@ -127,9 +132,12 @@ fn a_step_to_a_fault_leaves_what_is_held(rt: HostRuntime) -> Result<(), Fail> {
     let Some(answer) = turned(alloc, &mut held, &mut map, comes) else {
         return Err("isn't turned".into());
     };
-    let is_refused = is_second_of_a_name(answer);
     let layout = held.layout(&map, &first(), Mode::Regalign);
     let is_left = is_laid_out(layout, 0x14, &[(0, 4), (0x10, 0x14)]);
-    assert_holds(&rt, is_refused && is_left, "the fault and the layout");
+    assert_holds(
+        &rt,
+        is_refused(&answer) && is_left,
+        "the fault and the layout",
+    );
     Ok(())
 }
