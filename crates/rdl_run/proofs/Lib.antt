@@ -27,3 +27,4 @@ pub mod WrittenLines
 pub mod Compared
 pub mod Said
 pub mod Besides
+pub mod KnownSource

@@ -18,6 +18,7 @@ use journal_core::journal::Journal;
 use rdl_edit::map::Map;
 use rdl_elab::row::Rows;
 use rdl_header::{HeaderFault, header};
+use rdl_weave::source::Source;
 use rdl_write::rdl;
 use std::alloc::{AllocError, Global};
 
@@ -88,12 +89,13 @@ fn joined(mut text: String, more: &String) -> Result<String, AllocError>
 }
 
 impl Closing {
-    ghost use Rattle.std.specs.Prelude.{◌≡◌, ◌&&◌, [], string_bytes, IfOk, IsOkUnless};
+    ghost use Rattle.std.specs.Prelude.{◌≡◌, ◌&&◌, [], string_bytes, IfOk, IfSome, IsOkUnless};
     ghost use Rattle.rdl_run.specs.Closing.{Closes};
     ghost use Rattle.rdl_run.specs.Edited.{IsEdited};
     ghost use Rattle.rdl_run.specs.Missing.{has_session};
     ghost use Rattle.rdl_run.specs.Saved.{IsKept};
-    ghost use Rattle.rdl_run.specs.Sources.{kept_source, source_of};
+    ghost use Rattle.rdl_run.specs.Sources.{kept_source, source_of, without_source};
+    ghost use Rattle.rdl_weave.specs.Sources.{IsSource};
     ghost use Rattle.rdl_run.specs.declared.saved.Saved.{Saved};
     ghost use Rattle.rdl_run.specs.declared.edited.Edited.{Edited};
     ghost use Rattle.rdl_run.specs.OwnSteps.{AllOwn, IsOwnSession};
@@ -123,7 +125,8 @@ impl Closing {
     }
 
     /// Makes the texts of the map to which a script led, and of the history if the session is asked for, or the messages in
-    /// their places. The rows are those of the map, if they are there, and the bytes are those that were read.
+    /// their places. The rows are those of the map, if they are there. The bytes are those that were read, and the source is what was
+    /// read of their text, if it was.
     pub fn of<O: Observer>(
         alloc: Global,
         journal: &Journal<Map>,
@@ -131,9 +134,11 @@ impl Closing {
         is_refused: bool,
         options: &Options,
         bytes: &[u8],
+        source: Option<Source>,
         observer: &mut O,
     ) -> Result<Closing, RunFault>
-        requires { AreAt journal.now.history kept }
+        requires kept { AreAt journal.now.history kept }
+        requires source { IfSome source (IsSource (without_source bytes.now)) }
         ensures closes { IfOk result (λ c. Closes options.now.session journal.now.history is_refused (string_bytes c.message) (string_bytes c.rdl) (string_bytes c.header) (string_bytes c.session) c.status) }
         ensures edited { IfOk result (λ c. IsEdited options.now.edited journal.now.history (source_of bytes.now) (string_bytes c.rdl) c.edited) }
         ensures saved { IfOk result (λ c. IsKept (kept_source (options.now.session && has_session c.status) options.now.edited bytes.now) (string_bytes c.session) c.saved) }
@@ -143,7 +148,7 @@ impl Closing {
         let rdl = rdl(alloc, journal.map().description())?;
         let header = header_part(alloc, journal.map(), kept, source_of(bytes), observer)?;
         let session = session_part(alloc, journal, options.session)?;
-        let edited = edited_part(alloc, journal, bytes, rdl.as_str(), options.edited)?;
+        let edited = edited_part(alloc, journal, bytes, source, rdl.as_str(), options.edited)?;
         let status = status_of(is_refused, header.is_left_out, session.is_left_out);
         let is_saved = options.session && status.has_session();
         let saved = saved_part(

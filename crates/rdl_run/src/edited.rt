@@ -1,13 +1,14 @@
 //! The text of MAP with only the edits woven in.
-ghost use Rattle.std.specs.Prelude.{◌≡◌, IfOk, IsOkUnless, IsTrue, IsUtf8, map, string_bytes};
+ghost use Rattle.std.specs.Prelude.{◌≡◌, IfOk, IfSome, IsOkUnless, IsTrue, IsUtf8, map, string_bytes};
 ghost use Rattle.std.specs.Option.{option_copied};
 ghost use Rattle.rdl_origin.specs.Numbered.{origins_of};
 ghost use Rattle.rdl_run.specs.Edited.{IsEdited, IsMade, IsMissing, IsSame, IsTaken, all_led_back, are_all_placed};
-ghost use Rattle.rdl_run.specs.Sources.{source_of};
+ghost use Rattle.rdl_run.specs.Sources.{source_of, without_source};
+ghost use Rattle.rdl_weave.specs.Sources.{IsSource};
 ghost use Rattle.rdl_run.specs.declared.status.RunFault.{RunFault};
 
 use crate::saving::steps_back;
-use crate::sources::source_of;
+use crate::sources::{source_of, source_read};
 use crate::status::RunFault;
 use journal_core::journal::Journal;
 use rdl_edit::map::Map;
@@ -15,6 +16,7 @@ use rdl_origin::origin::Origins;
 use rdl_tree::description::Description;
 use rdl_tree::patch::Patch;
 use rdl_weave::fault::WeaveFault;
+use rdl_weave::source::Source;
 use rdl_weave::weave::weave;
 use std::alloc::{AllocError, Global};
 use std::str;
@@ -89,13 +91,16 @@ fn edited_of(
     }
 }
 
-/// The source with the edits of the journal woven in. The canonical text is that of the journal's map.
+/// The source with the edits of the journal woven in. The canonical text is that of the journal's map. What was read of the source
+/// isn't read again.
 fn woven(
     alloc: Global,
     journal: &Journal<Map>,
     source: &str,
+    read: Option<Source>,
     canonical: &str,
 ) -> Result<Edited, RunFault>
+    requires { IfSome read (IsSource source.now) }
     ensures made { IfOk result (IsMade journal.now.history source.now canonical.now) }
     ensures same { IfOk result (IsSame source.now canonical.now) }
     ensures fault { IsOkUnless result RunFault.Memory }
@@ -103,19 +108,22 @@ fn woven(
     let steps = steps_back(alloc, journal)?;
     let last = journal.map().description();
     let led = led_back(alloc, last, steps.as_slice())?;
-    let text = weave(alloc, source, &led.origins, last, canonical);
+    let text = weave(alloc, source, read, &led.origins, last, canonical);
     edited_of(text, source, led.is_whole)
 }
 
-/// The edited text of a journal that was opened of these bytes, if it is asked for. The canonical text is that of its map.
+/// The edited text of a journal that was opened of these bytes, of which this was read, if it is asked for. The canonical text is that of
+/// its map.
 #[tactic(auto, using(crate::proofs::Besides::no_text))]
 pub(crate) fn edited_part(
     alloc: Global,
     journal: &Journal<Map>,
     bytes: &[u8],
+    read: Option<Source>,
     canonical: &str,
     is_asked: bool,
 ) -> Result<Edited, RunFault>
+    requires { IfSome read (IsSource (without_source bytes.now)) }
     ensures edited { IfOk result (IsEdited is_asked journal.now.history (source_of bytes.now) canonical.now) }
     ensures fault { IsOkUnless result RunFault.Memory }
 {
@@ -125,8 +133,9 @@ pub(crate) fn edited_part(
     let Some(source) = source_of(bytes) else {
         return Ok(Edited::Missing(Unwoven::NoSource));
     };
+    let read = source_read(bytes, read);
     match str::from_utf8(source) {
-        Ok(text) => woven(alloc, journal, text, canonical),
+        Ok(text) => woven(alloc, journal, text, read, canonical),
         Err(_) => Ok(Edited::Missing(Unwoven::NotWoven)),
     }
 }

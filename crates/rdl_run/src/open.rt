@@ -1,5 +1,5 @@
 //! Opening a map or a session.
-ghost use Rattle.std.specs.Prelude.{◌≡◌, ◌≢◌, ◌⊎◌, true, Some, None, Err, map, string_bytes, IfOk, IfErr};
+ghost use Rattle.std.specs.Prelude.{◌≡◌, ◌≢◌, ◌⊎◌, true, Some, None, Err, map, string_bytes, IfOk, IfErr, IfSome};
 ghost use Rattle.rdl_edit.specs.Step.{HasRows};
 ghost use Rattle.rdl_elab.specs.Faults.{elaborated};
 ghost use Rattle.rdl_scope.specs.ItemFaults.{out_of_memory};
@@ -15,6 +15,7 @@ ghost use Rattle.rdl_run.specs.Resumed.{ResumesFrom};
 ghost use Rattle.rdl_run.specs.Sessions.{is_session, ReadsSession, IsNoSession, FaultySession, OpensSession, RefusedSession};
 ghost use Rattle.rdl_run.specs.OpeningFaults.{IfRefusedToOpen};
 ghost use Rattle.rdl_run.specs.Sources.{without_source};
+ghost use Rattle.rdl_weave.specs.Sources.{IsSource};
 
 use crate::reading::{ReadingFault, map_of};
 use crate::reply::{fault_text, map_line, parse_fault_text};
@@ -33,6 +34,7 @@ use rdl_text::byte_place;
 use rdl_text::name::Name;
 use rdl_tree::description::Description;
 use rdl_tree::fault::Fault;
+use rdl_weave::source::Source;
 use std::alloc::{AllocError, Global};
 use std::str;
 
@@ -109,15 +111,17 @@ fn map_shown(
     }
 }
 
-/// The description that the bytes spell, and the places of its items.
+/// The description that the bytes spell, and the places of its items; and what was read of the text, if edits are to be woven into it.
 pub(crate) fn read_map<'a>(
     alloc: Global,
     bytes: &'a [u8],
-) -> Result<(Description, Places<'a>), OpenFault>
+    is_edited: bool,
+) -> Result<(Description, Places<'a>, Option<Source>), OpenFault>
     ensures read { IfOk result (λ x. ReadsMap bytes.now x.0.items x.1) }
+    ensures source { IfOk result (λ x. IfSome x.2 (IsSource bytes.now)) }
     ensures refused { IfErr result (λ fault. IfRefusedToOpen fault (RefusedText bytes.now)) }
 {
-    match map_of(alloc, bytes) {
+    match map_of(alloc, bytes, is_edited) {
         Ok(read) => Ok(read),
         Err(ReadingFault::Refused(fault)) => {
             Err(OpenFault::Refused(text_line(alloc, bytes, fault)?))
@@ -126,24 +130,26 @@ pub(crate) fn read_map<'a>(
     }
 }
 
-/// The map that the bytes spell, if it has no fault.
+/// The map that the bytes spell, if it has no fault, with its rows and what was read of its text, where these are wanted.
 #[tactic(auto, using(crate::proofs::Opened::only_text))]
 fn open_map(
     alloc: Global,
     bytes: &[u8],
     name: Option<&Name>,
     is_listed: bool,
-) -> Result<(Map, Option<Rows>), OpenFault>
+    is_edited: bool,
+) -> Result<(Map, Option<Rows>, Option<Source>), OpenFault>
     ensures opens { IfOk result (λ shown. Opens (option_copied name.entry) bytes.now shown.0.state) }
     ensures rows { IfOk result (λ shown. AreOf shown.0.state shown.1) }
+    ensures source { IfOk result (λ shown. IfSome shown.2 (IsSource bytes.now)) }
     ensures refused { IfErr result (λ fault. IfRefusedToOpen fault (λ text. RefusedText bytes.now text ⊎ RefusedMap (option_copied name.entry) bytes.now text)) }
 {
-    let (description, places) = match read_map(alloc, bytes) {
+    let (description, places, source) = match read_map(alloc, bytes, is_edited) {
         Ok(read) => read,
         Err(fault) => return Err(fault),
     };
     match map_shown(alloc, description, copied(alloc, name)?, is_listed) {
-        Ok(shown) => Ok(shown),
+        Ok((map, rows)) => Ok((map, rows, source)),
         Err(fault) if is_memory(fault.kind) => Err(OpenFault::Memory),
         Err(fault) => Err(OpenFault::Refused(fault_line(alloc, &places, &fault)?)),
     }
@@ -242,35 +248,37 @@ pub fn open(
     ensures elaborates { IfOk result (λ journal. EachElaborates journal.history) }
     ensures refused { IfErr result (λ fault. IfRefusedToOpen fault (RefusesToOpen (option_copied name.entry) (without_source bytes.now))) }
 {
-    match open_shown(alloc, without_source(bytes), name, limit, false) {
-        Ok((journal, _rows)) => Ok(journal),
+    match open_shown(alloc, without_source(bytes), name, limit, false, false) {
+        Ok((journal, _rows, _source)) => Ok(journal),
         Err(fault) => Err(fault),
     }
 }
 
 /// Does the same as `open`, of a map or a session without a source text. Where the map is to be listed before it is edited, its rows
-/// are made with it.
+/// are made with it; and where edits are to be woven into its text, what was read of that is kept.
 pub(crate) fn open_shown(
     alloc: Global,
     bytes: &[u8],
     name: Option<&Name>,
     limit: u32,
     is_listed: bool,
-) -> Result<(Journal<Map>, Option<Rows>), OpenFault>
+    is_edited: bool,
+) -> Result<(Journal<Map>, Option<Rows>, Option<Source>), OpenFault>
     ensures opens { IfOk result (λ shown. OpensHistory (option_copied name.entry) limit bytes.now shown.0.history) }
     ensures kept { IfOk result (λ shown. OpensKept (option_copied name.entry) limit bytes.now shown.0) }
     ensures elaborates { IfOk result (λ shown. EachElaborates shown.0.history) }
     ensures rows { IfOk result (λ shown. AreAt shown.0.history shown.1) }
+    ensures source { IfOk result (λ shown. IfSome shown.2 (IsSource bytes.now)) }
     ensures refused { IfErr result (λ fault. IfRefusedToOpen fault (RefusesToOpen (option_copied name.entry) bytes.now)) }
 {
     if is_session(bytes) {
         return match open_session(alloc, bytes, name, limit) {
-            Ok(journal) => Ok((journal, None)),
+            Ok(journal) => Ok((journal, None, None)),
             Err(fault) => Err(fault),
         };
     }
-    match open_map(alloc, bytes, name, is_listed) {
-        Ok((map, rows)) => Ok((Journal::new(alloc, map, limit), rows)),
+    match open_map(alloc, bytes, name, is_listed, is_edited) {
+        Ok((map, rows, source)) => Ok((Journal::new(alloc, map, limit), rows, source)),
         Err(fault) => Err(fault),
     }
 }

@@ -31,7 +31,7 @@ fn map_rows(alloc: Global, bytes: &[u8], top: Option<&Name>) -> Result<Rows, Ope
     ensures rows { IfOk result (λ rows. OpensRows (option_copied top.entry) bytes.now rows) }
     ensures refused { IfErr result (λ fault. IfRefusedToOpen fault (λ text. RefusedText bytes.now text ⊎ RefusedMap (option_copied top.entry) bytes.now text)) }
 {
-    let (description, places) = match read_map(alloc, bytes) {
+    let (description, places, _source) = match read_map(alloc, bytes, false) {
         Ok(read) => read,
         Err(fault) => return Err(fault),
     };

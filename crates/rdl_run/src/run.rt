@@ -1,11 +1,12 @@
 //! A whole run, from two inputs to four outputs.
-ghost use Rattle.std.specs.Prelude.{◌≡◌, ◌≢◌, ◌⊎◌, ◌&&◌, ◌^◌, ◌<◌, ◌≤◌, [], true, length, string_bytes, Err, IfOk, IfErr, IsErrOf, IsOkUnless, OnErr, OnOk};
+ghost use Rattle.std.specs.Prelude.{◌≡◌, ◌≢◌, ◌⊎◌, ◌&&◌, ◌^◌, ◌<◌, ◌≤◌, [], true, length, string_bytes, Err, IfOk, IfErr, IfSome, IsErrOf, IsOkUnless, OnErr, OnOk};
 ghost use Rattle.rdl_run.specs.ClosedRuns.{ClosesRun, ClosesScript, StopsRun, StopsScript};
 ghost use Rattle.rdl_run.specs.Beside.{MakesBeside};
 ghost use Rattle.rdl_run.specs.Edited.{EditsScript};
 ghost use Rattle.rdl_run.specs.Missing.{has_session};
 ghost use Rattle.rdl_run.specs.Saved.{IsKept};
-ghost use Rattle.rdl_run.specs.Sources.{kept_source, source_of};
+ghost use Rattle.rdl_run.specs.Sources.{kept_source, source_of, without_source};
+ghost use Rattle.rdl_weave.specs.Sources.{IsSource};
 ghost use Rattle.rdl_run.specs.Opening.{EachElaborates};
 ghost use Rattle.rdl_run.specs.Faulted.{Faulted, Leaves};
 ghost use Rattle.rdl_run.specs.ClosingTexts.{texts_of};
@@ -34,6 +35,7 @@ use journal_core::journal::Journal;
 use rdl_edit::map::Map;
 use rdl_elab::row::Rows;
 use rdl_text::name::Name;
+use rdl_weave::source::Source;
 use std::alloc::Global;
 use std::io::{Read, Write};
 
@@ -89,8 +91,8 @@ fn write_closing<R: Write, H: Write, Z: Write, E: Write>(
     Ok(())
 }
 
-/// Runs a script from where a history stands, with the rows of its map if they are there, and makes what closes the run: the
-/// map that it leads to, that map's header, and the session if it is asked for. Where two of the header's macros have one name,
+/// Runs a script from where a history stands, with the rows of its map and what was read of its source text if they are there, and makes
+/// what closes the run: the map that it leads to, that map's header, and the session if it is asked for. Where two of the header's macros have one name,
 /// that is said, and there is no header; where the session is too long, that is said, and there is none.
 fn run_script<E: Write, O: Observer>(
     alloc: Global,
@@ -98,10 +100,12 @@ fn run_script<E: Write, O: Observer>(
     mut kept: Option<Rows>,
     options: &Options,
     bytes: &[u8],
+    source: Option<Source>,
     script: &[u8],
     messages: &mut CountedWriter<'_, E>,
     observer: &mut O,
 ) -> Result<Closing, RunFault>
+    requires source { IfSome source (IsSource (without_source bytes.now)) }
     requires length { length script.now < 2 ^ 32 }
     requires kept { AreAt journal.old.history kept }
     requires asked { IsOpen messages.old.counts }
@@ -131,7 +135,9 @@ fn run_script<E: Write, O: Observer>(
         observer,
     )?;
     observer.map_left(journal.map());
-    Closing::of(alloc, journal, kept, is_refused, options, bytes, observer)
+    Closing::of(
+        alloc, journal, kept, is_refused, options, bytes, source, observer,
+    )
 }
 
 /// Whether rows are shown of the map that is opened, as far as the front of a script tells.
@@ -177,16 +183,18 @@ fn run_lines<M: Read, S: Read, E: Write, O: Observer>(
         options.top.as_ref(),
         options.history,
         is_listed(script_bytes.as_slice()),
+        options.edited,
     );
     match opened {
         Ok(shown) => {
-            let (mut journal, kept) = shown;
+            let (mut journal, kept, source) = shown;
             run_script(
                 alloc,
                 &mut journal,
                 kept,
                 options,
                 map_bytes.as_slice(),
+                source,
                 script_bytes.as_slice(),
                 messages,
                 observer,

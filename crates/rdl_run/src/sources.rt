@@ -1,11 +1,13 @@
 //! The source text that a session may keep, and the map or session itself.
-ghost use Rattle.std.specs.Prelude.{◌≡◌, is_some};
+ghost use Rattle.std.specs.Prelude.{◌≡◌, ℕ, List, Some, IfSome, is_some};
 ghost use Rattle.std.specs.Option.{option_copied};
 ghost use Rattle.rdl_session.specs.Reading.{source_in};
 ghost use Rattle.rdl_run.specs.Sources.{kept_source, source_of, without_source};
+ghost use Rattle.rdl_weave.specs.Sources.{IsSource};
 
 use crate::open::is_session;
 use rdl_session::source::split_source;
+use rdl_weave::source::Source;
 
 /// The map or session, without the source text that it keeps.
 pub(crate) fn without_source(bytes: &[u8]) -> &[u8]
@@ -32,6 +34,15 @@ fn keeps_source(bytes: &[u8]) -> bool
     ensures { result ≡ is_some (source_in bytes.now) }
 {
     split_source(bytes).is_some()
+}
+
+/// What was read of the source text, if that is the map itself. What was read of a session is nothing of its source.
+#[tactic(auto, using(crate::proofs::KnownSource::known))]
+pub(crate) fn source_read(bytes: &[u8], read: Option<Source>) -> Option<Source>
+    requires { IfSome read (IsSource (without_source bytes.now)) }
+    ensures { (source : List ℕ) → source_of bytes.now ≡ Some source → IfSome result (IsSource source) }
+{
+    if keeps_source(bytes) { None } else { read }
 }
 
 /// The source text that the session of a run on these bytes is to keep, if it is saved.

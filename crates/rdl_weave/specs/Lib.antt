@@ -4,6 +4,7 @@ pub mod Untouched
 pub mod Keeping
 pub mod InTurn
 pub mod Weaving
+pub mod Sources
 pub mod Coarse
 pub mod Sound
 pub mod Laws

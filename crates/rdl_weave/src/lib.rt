@@ -14,6 +14,7 @@ mod made;
 mod member;
 mod plan;
 mod render;
+pub mod source;
 mod spell;
 mod spelled;
 mod standing;

@@ -1,6 +1,7 @@
 //! Whether a text spells a map with a certain canonical text.
-ghost use Rattle.std.specs.Prelude.{◌≡◌, ◌↔◌, IsTrue, IfOk, MatchOption, bytes_eq};
+ghost use Rattle.std.specs.Prelude.{◌≡◌, ◌↔◌, ℕ, List, IsTrue, IfOk, MatchOption, bytes_eq};
 ghost use Rattle.rdl_parse.specs.Parsing.{HasWords};
+ghost use Rattle.rdl_parse.specs.Places.{Located};
 ghost use Rattle.rdl_weave.specs.Spelled.{IsRead, SpellsAs, SpellsNone};
 
 use rdl_parse::fault::{ParseFault, ParseFaultKind};
@@ -12,10 +13,9 @@ use rdl_tree::description::Description;
 use rdl_write::rdl;
 use std::alloc::{AllocError, Global};
 
-/// A text that spells a map, with its words, the map and the places of its items.
+/// A text that spells a map: its words, the map and the places of its items.
 #[derive(Drop)]
 pub(crate) struct Read<'a> {
-    pub(crate) text: &'a str,
     pub(crate) words: Tokens<'a>,
     pub(crate) map: Description,
     pub(crate) places: Places<'a>,
@@ -23,15 +23,10 @@ pub(crate) struct Read<'a> {
 
 /// The map that the text spells, if it spells one.
 pub(crate) fn read_map<'a>(alloc: Global, text: &'a str) -> Result<Option<Read<'a>>, AllocError>
-    ensures { IfOk result (λ found. MatchOption found (SpellsNone text.now) (λ read. (read.text.now ≡ text.now) × HasWords text.now read.words × IsRead text.now read.map.items read.places)) }
+    ensures { IfOk result (λ found. MatchOption found (SpellsNone text.now) (λ read. HasWords text.now read.words × IsRead text.now read.map.items read.places)) }
 {
     match parse_worded(alloc, text) {
-        Ok((map, places, words)) => Ok(Some(Read {
-            text,
-            words,
-            map,
-            places,
-        })),
+        Ok((map, places, words)) => Ok(Some(Read { words, map, places })),
         Err(fault) => match fault.kind {
             ParseFaultKind::Words(WordFault::Memory) => Err(AllocError),
             _ => Ok(None),
@@ -45,16 +40,15 @@ fn has_bytes(bytes: &[u8], text: &str) -> bool
     bytes == text.as_bytes()
 }
 
-/// Whether this is the canonical text of the map that was read.
+/// Whether this is the canonical text of the map that was read of a text.
 pub(crate) fn is_canonical(
     alloc: Global,
     canonical: &str,
-    read: &Read<'_>,
+    map: &Description,
 ) -> Result<bool, AllocError>
-    requires { IsRead read.now.text.now read.now.map.items read.now.places }
-    ensures { IfOk result (λ answer. IsTrue answer ↔ SpellsAs canonical.now read.now.text.now) }
+    ensures { (text : List ℕ) (places : Located) → IsRead text map.now.items places → IfOk result (λ answer. IsTrue answer ↔ SpellsAs canonical.now text) }
 {
-    let text = rdl(alloc, &read.map)?;
+    let text = rdl(alloc, map)?;
     Ok(has_bytes(text.as_bytes(), canonical))
 }
 
@@ -63,7 +57,7 @@ pub(crate) fn spells_as(alloc: Global, canonical: &str, text: &str) -> Result<bo
     ensures { IfOk result (λ answer. IsTrue answer ↔ SpellsAs canonical.now text.now) }
 {
     match read_map(alloc, text)? {
-        Some(read) => is_canonical(alloc, canonical, &read),
+        Some(read) => is_canonical(alloc, canonical, &read.map),
         None => Ok(false),
     }
 }

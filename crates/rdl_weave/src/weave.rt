@@ -1,16 +1,14 @@
 //! The woven text.
-ghost use Rattle.std.specs.Prelude.{◌≡◌, ◌≤◌, ◌<◌, ◌+◌, ◌⊎◌, IsTrue, string_bytes, length, Err, IfOk, IfSome, None, MatchOption, MatchResult};
-ghost use Rattle.rdl_source.specs.Laid as lying;
-ghost use Rattle.rdl_tree.specs.Limits.{IsWithinLimits};
+ghost use Rattle.std.specs.Prelude.{◌≡◌, ◌<◌, ◌+◌, ◌⊎◌, IsTrue, string_bytes, length, Err, IfOk, IfSome, None, MatchResult};
 ghost use Rattle.rdl_parse.specs.Faults.{max_text};
-ghost use Rattle.rdl_parse.specs.Parsing.{HasWords};
 ghost use Rattle.rdl_origin.specs.View.{list_of};
 ghost use Rattle.rdl_weave.specs.InTurn.{KeepsOrder};
 ghost use Rattle.rdl_weave.specs.Keeping.{Keeps};
 ghost use Rattle.rdl_weave.specs.Sound.{IsSound};
-ghost use Rattle.rdl_weave.specs.Spelled.{IsRead, SpellsAs};
+ghost use Rattle.rdl_weave.specs.Sources.{IsSource};
+ghost use Rattle.rdl_weave.specs.Spelled.{SpellsAs};
 ghost use Rattle.rdl_weave.specs.Untouched.{sizes_of};
-ghost use Rattle.rdl_weave.specs.Weaving.{AreStatements, IsWoven, MayBeTooLong};
+ghost use Rattle.rdl_weave.specs.Weaving.{IsWoven, MayBeTooLong};
 ghost use Rattle.rdl_weave.specs.declared.fault.WeaveFault.TheVariants.{Memory, NotWoven, TooLong};
 
 use crate::coarse::{Ground, Was, coarse};
@@ -19,7 +17,8 @@ use crate::honest::{Check, keeps};
 use crate::member::Past;
 use crate::plan::{LEVELS, Loom, weave_body};
 use crate::render::Room;
-use crate::spelled::{Read, is_canonical, read_map};
+use crate::source::Source;
+use crate::spelled::is_canonical;
 use crate::thin::{is_spelled, long_gaps};
 use crate::turn::keeps_order;
 use crate::unit::style_of;
@@ -37,28 +36,6 @@ use std::alloc::{AllocError, Global};
 struct Laid {
     map: Description,
     statements: Statements,
-}
-
-/// The statements of a text that was read.
-#[tactic(auto, using(crate::proofs::Sounding::lie_so))]
-fn read_source(alloc: Global, read: Read<'_>) -> Result<Option<Laid>, AllocError>
-    requires words { HasWords read.text.now read.words }
-    requires read { IsRead read.text.now read.map.items read.places }
-    ensures found { IfOk result (λ found. IfSome found (λ laid. AreStatements read.entry.text.now laid.statements)) }
-    // They are the only ones.
-    ensures only { (laid : lying.Laid) (s : AreStatements read.entry.text.now laid) → IsWithinLimits s.map → lying.depth laid ≤ 16
-        → IfOk result (λ found. MatchOption found ⊥ (λ x. x.statements ≡ laid)) }
-{
-    let Read {
-        text,
-        words,
-        map,
-        places,
-    } = read;
-    match Statements::of(alloc, text, &words, places.as_slice())? {
-        Some(statements) => Ok(Some(Laid { map, statements })),
-        None => Ok(None),
-    }
 }
 
 fn text_of(
@@ -171,15 +148,17 @@ fn woven(
 
 /// The source text of a map with only the edits woven in that made of it the last map, whose canonical text is this.
 ///
-/// The origins say of each item of the source's map which item of the last map it is.
+/// The origins say of each item of the source's map which item of the last map it is. What was read of the source isn't read again.
 #[tactic(auto, using(crate::proofs::Sounding::laid_fits))]
 pub fn weave(
     alloc: Global,
     source: &str,
+    known: Option<Source>,
     origins: &Origins,
     last: &Description,
     canonical: &str,
 ) -> Result<String, WeaveFault>
+    requires known { IfSome known (IsSource source.now) }
     // What is answered spells a map with this canonical text.
     ensures reads { IfOk result (λ text. SpellsAs canonical.now (string_bytes text)) }
     // Where the source does so already, it is the answer, unless memory runs out.
@@ -193,15 +172,17 @@ pub fn weave(
     // floats holds no word, and the last map can be written, but for want of memory and a text that would be too long.
     ensures refused { result ≡ Err NotWoven → IsSound source.now origins.now last.now.items canonical.now → ⊥ }
 {
-    let Some(read) = read_map(alloc, source)? else {
+    let Some(read) = Source::known_or_read(alloc, source, known)? else {
         return Err(WeaveFault::NotWoven);
     };
-    if is_canonical(alloc, canonical, &read)? {
+    if is_canonical(alloc, canonical, &read.map)? {
         return Ok(String::from_str(alloc, source)?);
     }
-    let Some(laid) = read_source(alloc, read)? else {
+    let Source { map, statements } = read;
+    let Some(statements) = statements else {
         return Err(WeaveFault::NotWoven);
     };
+    let laid = Laid { map, statements };
     let mut sizes = Vec::new(alloc);
     push_sizes(&mut sizes, &last.items)?;
     let sizes = sizes.as_slice();
