@@ -1,6 +1,7 @@
 -- A source that was read has the statements of which the definition of sound speaks.
-use Rattle.std.proofs.Common.{◌≡◌, ◌≤◌, ◌<◌, ℕ, length, inr, List, Option, Some, None, Result, Ok, sym, ◌∙◌, subst}
-use Rattle.std.specs.Prelude.{MatchOption}
+use Rattle.std.proofs.Common.{◌≡◌, ◌≤◌, ◌<◌, ℕ, length, inr, Bool, true, false, IsTrue, List, Option, Some, None, Result, Ok, Err, IfOk, refl, sym, ◌∙◌, subst}
+use Rattle.std.proofs.lemmas.Bool.{false≢true}
+use Rattle.std.specs.Prelude.{◌↔◌, MatchOption}
 use Rattle.rdl_text.specs.Word.{Word}
 use Rattle.rdl_text.specs.Words.{words}
 use Rattle.rdl_text.specs.declared.fault.TextFault.{TextFault}
@@ -13,8 +14,11 @@ use Rattle.rdl_source.specs.Laid.{Laid, depth}
 use Rattle.rdl_source.specs.LaidOut.{IsLaidOut}
 use Rattle.rdl_weave.specs.Coarse.{text_of, coarse}
 use Rattle.rdl_weave.specs.Sound.{Fits, IsSound}
+use Rattle.rdl_weave.specs.Sources.{IsSource}
+use Rattle.rdl_weave.specs.Spelled.{SpellsAs}
 use Rattle.rdl_weave.specs.Untouched.{sizes_of}
 use Rattle.rdl_weave.specs.Weaving.{AreStatements, MayBeTooLong}
+use Rattle.rdl_weave.specs.declared.source.Source.{Source}
 
 pub laid_fits : (source canonical : List ℕ) (t : Traces) (d : Items) (l : Laid) → ((laid : Laid) (s : AreStatements source laid) → IsWithinLimits s.map → depth laid ≤ 16 → l ≡ laid)
     → IsSound source t d canonical → Fits source l t d canonical
@@ -45,3 +49,20 @@ pub coarse_long : (source canonical bytes sizes : List ℕ) (l : Laid) (t : Trac
     → MayBeTooLong source t d canonical
 coarse_long source canonical bytes sizes l t d s e z h =
     inr (record { laid = l; statements = s; long = subst (λ b. max_text < length (text_of b (coarse b (sizes_of d) l t d))) e (subst (λ n. max_text < length (text_of bytes (coarse bytes n l t d))) z h) })
+
+-- ---- What the canonical text of a map tells of the text that was read.
+
+pub spells_if : {E : Type 0} (canonical text found : List ℕ) (r : Result Bool E) (b : Bool) → r ≡ Ok b → b ≡ true → IfOk r (λ a. IsTrue a ↔ SpellsAs canonical text) → found ≡ text → SpellsAs canonical found
+spells_if canonical text found (Ok true) b e t h same = subst (SpellsAs canonical) (sym same) (h.0 refl)
+spells_if canonical text found (Ok false) b e t h same = cc
+spells_if canonical text found (Err f) b e t h same = cc
+
+pub spells_not : {E : Type 0} (canonical text : List ℕ) (r : Result Bool E) (b : Bool) → r ≡ Ok b → b ≡ false → IfOk r (λ a. IsTrue a ↔ SpellsAs canonical text) → SpellsAs canonical text → ⊥
+spells_not canonical text (Ok true) b e f h s = cc
+spells_not canonical text (Ok false) b e f h s = false≢true (h.1 s)
+spells_not canonical text (Err fault) b e f h s = cc
+
+-- ---- The statements of a source that was read.
+
+pub only_there : (text : List ℕ) (source : Source) (l : Laid) → source.statements ≡ Some l → IsSource text source → (laid : Laid) (q : AreStatements text laid) → IsWithinLimits q.map → depth laid ≤ 16 → l ≡ laid
+only_there text source l e is = λ laid q w d. subst (λ o. MatchOption o ⊥ (λ x. x ≡ laid)) e (is.only laid q w d)

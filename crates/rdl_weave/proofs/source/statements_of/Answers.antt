@@ -7,7 +7,7 @@ returns-in-Some-clause-only c = λ laid s w d.
     some_same c.in-Some.statements laid
     (sym c.in-Some.is ∙ c.in_ok-statements.ensures.only laid (lie_so c.args.text.now _ _ laid s c.requires.words.cut (c.as_slice.ensures ∙ ap (λ q. q.places) (c.requires.read.only s.map s.places s.spelled w).1)) d)
 
-pub returns-clause-only : goal.returns-clause-only
-returns-clause-only c = λ laid s w d.
+pub returns-in-None-clause-only : goal.returns-in-None-clause-only
+returns-in-None-clause-only c = λ laid s w d.
     none_some laid
     (sym c.in-None.is ∙ c.in_ok-statements.ensures.only laid (lie_so c.args.text.now _ _ laid s c.requires.words.cut (c.as_slice.ensures ∙ ap (λ q. q.places) (c.requires.read.only s.map s.places s.spelled w).1)) d)
