@@ -46,28 +46,28 @@ past-size n = by (nat_lt (2 ^ 40) n) refl
     by true e = let more : 2 ^ 40 < n = ltb-true (2 ^ 40) n e in lt-ltb (2 ^ 40) (capped n) (omega (arith, more))
     by false e = let most : n ≤ 2 ^ 40 = ltb-false (2 ^ 40) n e in le-ltb (2 ^ 40) (capped n) (omega (arith, most))
 
-module _ (d : Items) (none : fault_of d ≡ None) (a name : List ℕ) (c : Made) (holds : component d a ≡ Some c) (addrmap : c.head.kind ≡ Addrmap) (s : Seen) (is : IsSeen c s) where
+module _ (d : Items) (none : fault_of d ≡ None) (a name : List ℕ) (c : Made) (holds : component d a ≡ Some c) (addrmap : c.head.kind ≡ Addrmap) (s : Seen) (is : IsSeen c s) (levels : ℕ) where
   abbrev size : ℕ
   size = (top_layout c).size
 
   counts : count_fault s ≡ first_of ((nat_lt 16 (fault.levels c.parts + 1), TooManyLevels) ∷ (nat_lt 65536 (count c.parts + 1), TooManyRows) ∷ [])
   counts =
-      let levels = ap (nat_le 16) is.levels ∙ past-limit (fault.levels c.parts) 16 in
+      let deep = ap (nat_le 16) is.levels ∙ past-limit (fault.levels c.parts) 16 in
       let rows = ap (nat_le 65536) is.rows ∙ past-limit (count c.parts) 65536 in
-      λ i. first_of ((levels i, TooManyLevels) ∷ (rows i, TooManyRows) ∷ [])
+      λ i. first_of ((deep i, TooManyLevels) ∷ (rows i, TooManyRows) ∷ [])
 
   sizes : nat_lt (2 ^ 40) s.size.regalign ≡ nat_lt (2 ^ 40) size
   sizes = ap (nat_lt (2 ^ 40)) (seen-size c s Regalign is) ∙ past-size size
 
-  rows-tell : size ≤ 2 ^ 40 → Tells (searched 16 d (body_of laying nothing_around d).slots false (seen_mode Regalign) a) (first_row_fault d (rows_below d name c))
+  rows-tell : size ≤ 2 ^ 40 → Tells (searched levels d (body_of laying nothing_around d).slots false (seen_mode Regalign) a) (first_row_fault d (rows_below d name c))
   rows-tell small =
-      search-tells d none 16 false a c Regalign (around_top name c) holds (record { mode = refl; bits = λ k. absurd (addrmap_no_register c.head.kind addrmap k) })
+      search-tells d none levels false a c Regalign (around_top name c) holds (record { mode = refl; bits = λ k. absurd (addrmap_no_register c.head.kind addrmap k) })
       (kept_whole c.head.kind size small) refl (λ g. refl)
 
-  size-tells : Tells (faulty_or a (size_fault s) (searched 16 d (body_of laying nothing_around d).slots false (seen_mode Regalign) a))
+  size-tells : Tells (faulty_or a (size_fault s) (searched levels d (body_of laying nothing_around d).slots false (seen_mode Regalign) a))
       (option_or (fault_at a (first_of ((nat_lt (2 ^ 40) size, MapTooLarge) ∷ []))) (first_row_fault d (rows_below d name c)))
   size-tells =
-      let found = searched 16 d (body_of laying nothing_around d).slots false (seen_mode Regalign) a in
+      let found = searched levels d (body_of laying nothing_around d).slots false (seen_mode Regalign) a in
       tells-same (faulty_or a (size_fault s) found) (option_or (fault_at a (size_fault s)) (first_row_fault d (rows_below d name c)))
       (option_or (fault_at a (first_of ((nat_lt (2 ^ 40) size, MapTooLarge) ∷ []))) (first_row_fault d (rows_below d name c)))
       (ap (λ b. option_or (fault_at a (first_of ((b, MapTooLarge) ∷ []))) (first_row_fault d (rows_below d name c))) sizes)
@@ -77,25 +77,25 @@ module _ (d : Items) (none : fault_of d ≡ None) (a name : List ℕ) (c : Made)
       few true e g = absurd cc
       few false e g = ltb-false (2 ^ 40) size (sym sizes ∙ e)
 
-  empty-tells : Tells (if s.has_empty then Untold else faulty_or a (size_fault s) (searched 16 d (body_of laying nothing_around d).slots false (seen_mode Regalign) a))
+  empty-tells : Tells (if s.has_empty then Untold else faulty_or a (size_fault s) (searched levels d (body_of laying nothing_around d).slots false (seen_mode Regalign) a))
       (option_or (option_and_then (λ b. fault_at b (Some EmptyComponent)) (first_empty c.parts))
       (option_or (fault_at a (first_of ((nat_lt (2 ^ 40) size, MapTooLarge) ∷ []))) (first_row_fault d (rows_below d name c))))
   empty-tells = by s.has_empty refl
     where
       by : (t : Bool) → s.has_empty ≡ t
-          → Tells (if t then Untold else faulty_or a (size_fault s) (searched 16 d (body_of laying nothing_around d).slots false (seen_mode Regalign) a))
+          → Tells (if t then Untold else faulty_or a (size_fault s) (searched levels d (body_of laying nothing_around d).slots false (seen_mode Regalign) a))
           (option_or (option_and_then (λ b. fault_at b (Some EmptyComponent)) (first_empty c.parts))
           (option_or (fault_at a (first_of ((nat_lt (2 ^ 40) size, MapTooLarge) ∷ []))) (first_row_fault d (rows_below d name c))))
       by true e = tt
       by false e =
           let filled = none-of (first_empty c.parts) (sym is.has_empty ∙ e) in
-          subst (λ o. Tells (faulty_or a (size_fault s) (searched 16 d (body_of laying nothing_around d).slots false (seen_mode Regalign) a))
+          subst (λ o. Tells (faulty_or a (size_fault s) (searched levels d (body_of laying nothing_around d).slots false (seen_mode Regalign) a))
           (option_or (option_and_then (λ b. fault_at b (Some EmptyComponent)) o) (option_or (fault_at a (first_of ((nat_lt (2 ^ 40) size, MapTooLarge) ∷ []))) (first_row_fault d (rows_below d name c)))))
           (sym filled) size-tells
 
-  pub map-tells : Tells (map_found a s (searched 16 d (body_of laying nothing_around d).slots false (seen_mode Regalign) a)) (fault_of_top d a name c)
+  pub map-tells : Tells (map_found a s (searched levels d (body_of laying nothing_around d).slots false (seen_mode Regalign) a)) (fault_of_top d a name c)
   map-tells =
-      let more = if s.has_empty then Untold else faulty_or a (size_fault s) (searched 16 d (body_of laying nothing_around d).slots false (seen_mode Regalign) a) in
+      let more = if s.has_empty then Untold else faulty_or a (size_fault s) (searched levels d (body_of laying nothing_around d).slots false (seen_mode Regalign) a) in
       let rest =
       option_or (option_and_then (λ b. fault_at b (Some EmptyComponent)) (first_empty c.parts))
       (option_or (fault_at a (first_of ((nat_lt (2 ^ 40) size, MapTooLarge) ∷ []))) (first_row_fault d (rows_below d name c))) in

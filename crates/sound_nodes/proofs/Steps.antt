@@ -172,3 +172,9 @@ defaults-step i v t = step i v t ∙ ap (λ k. defaults_before k v t) (next i)
     step (suc i) v (plain (default p x) rest) = step i _ rest
     step (suc i) v (plain (dynamic u p x) rest) = step i v rest
     step (suc i) v (holder h body rest) = step i v rest
+
+-- as many are taken as stand before one that is there
+pub take-length : {X : Type 0} (xs : List X) (i : ℕ) (x : X) → slice_get xs i ≡ Some x → i ≡ length (take i xs)
+take-length [] i x e = absurd cc
+take-length (y ∷ ys) zero x e = refl
+take-length (y ∷ ys) (suc i) x e = ap suc (take-length ys i x e)

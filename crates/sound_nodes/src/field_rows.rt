@@ -1,5 +1,5 @@
 //! The fields of a register, of which one has a fault.
-ghost use Rattle.std.specs.Prelude.{◌≡◌, ◌<◌, [], length, map, IfOk};
+ghost use Rattle.std.specs.Prelude.{◌≡◌, ◌<◌, [], length, map, option_copied, slice_get, IfOk};
 ghost use Rattle.rdl_nodes.specs.Part.{access_of};
 ghost use Rattle.rdl_nodes.specs.View.{slots_of};
 ghost use Rattle.rdl_nodes.specs.KeptNode.{kept_of};
@@ -8,7 +8,7 @@ ghost use Rattle.sound_nodes.specs.Rows.{field_fault, fields, fields_under, in_r
 ghost use Rattle.rdl_seen.specs.Values.{no_values};
 
 use crate::found::{Found, faulty};
-use crate::instances::{SeenInstance, instances};
+use crate::instances::{SeenInstance, instance_at, instances};
 use crate::reached::defaults_of;
 use rdl_nodes::layouts::Span;
 use rdl_nodes::node::Kept;
@@ -68,6 +68,12 @@ fn field_fault(
     }
 }
 
+fn part_at<'p, 'a>(parts: &'p [Part<'a>], number: usize) -> Option<&'p Part<'a>>
+    ensures { option_copied result ≡ slice_get parts.now number }
+{
+    parts.get(number)
+}
+
 /// The first fault of a field of the register at this address, of so many bits.
 fn fields(
     at: &Address,
@@ -80,10 +86,10 @@ fn fields(
     ensures { result ≡ fields at.now bits [] [] spans.now instances.now parts.now }
 {
     for (i, span) in spans.iter().enumerate() {
-        let Some(instance) = instances.get(i) else {
+        let Some(instance) = instance_at(instances, i) else {
             return Found::Clear;
         };
-        let Some(part) = parts.get(i) else {
+        let Some(part) = part_at(parts, i) else {
             return Found::Clear;
         };
         if let Some(kind) = field_fault(bits, &spans[..i], &parts[..i], *span, part) {

@@ -1,5 +1,5 @@
 //! The instances of a body, with what is seen of their components.
-ghost use Rattle.std.specs.Prelude.{◌≡◌, ◌++◌, IfOk, OnOk, option_copied};
+ghost use Rattle.std.specs.Prelude.{◌≡◌, ◌++◌, IfOk, OnOk, option_copied, slice_get};
 ghost use Rattle.rdl_nodes.specs.Parts.{of_item};
 ghost use Rattle.rdl_nodes.specs.View.{slots_of};
 ghost use Rattle.sound_nodes.specs.Instances.{seen_in, instances_from, item_instances};
@@ -71,6 +71,12 @@ fn seen_of<'t>(slot: Option<&'t Slot>) -> Option<&'t Seen>
     }
 }
 
+fn slot_at(slots: &[Slot], number: usize) -> Option<&Slot>
+    ensures { option_copied result ≡ slice_get slots.now number }
+{
+    slots.get(number)
+}
+
 /// Puts the item of this number behind the others, if it is an instance.
 fn put_instance<'t>(
     instances: &mut Vec<SeenInstance<'t>>,
@@ -104,7 +110,17 @@ pub(crate) fn instances<'t>(
 {
     let mut instances = Vec::with_capacity(alloc, slots.len())?;
     for (i, item) in body.as_slice().iter().enumerate() {
-        put_instance(&mut instances, i, item, slots.get(i))?;
+        put_instance(&mut instances, i, item, slot_at(slots, i))?;
     }
     Ok(instances)
+}
+
+/// The instance of this number.
+pub(crate) fn instance_at<'i, 't>(
+    instances: &'i [SeenInstance<'t>],
+    number: usize,
+) -> Option<&'i SeenInstance<'t>>
+    ensures { option_copied result ≡ slice_get instances.now number }
+{
+    instances.get(number)
 }

@@ -1,5 +1,5 @@
 //! The search for the first row that has a fault, below a component.
-ghost use Rattle.std.specs.Prelude.{◌≡◌, ◌<◌, ◌&&◌, [], length, option_copied, slice_get, IfOk};
+ghost use Rattle.std.specs.Prelude.{◌≡◌, ◌<◌, ◌&&◌, [], length, IfOk};
 ghost use Rattle.std.specs.List.{list_any};
 ghost use Rattle.rdl_nodes.specs.KeptNode.{kept_of};
 ghost use Rattle.rdl_nodes.specs.View.{add, slots_of};
@@ -10,7 +10,7 @@ ghost use Rattle.sound_nodes.specs.Rows.{is_access_wide, seen_fault, seen_row, r
 
 use crate::field_rows::in_register;
 use crate::found::{Found, faulty};
-use crate::instances::{SeenInstance, instances};
+use crate::instances::{SeenInstance, instance_at, instances};
 use crate::reached::{assigns, component_address};
 use rdl_nodes::apart::mode_inside;
 use rdl_nodes::layouts::Span;
@@ -183,16 +183,6 @@ fn seen_row(
             )
         }
     }
-}
-
-/// The instance of this number.
-fn instance_at<'i, 't>(
-    instances: &'i [SeenInstance<'t>],
-    number: usize,
-) -> Option<&'i SeenInstance<'t>>
-    ensures { option_copied result ≡ slice_get instances.now number }
-{
-    instances.get(number)
 }
 
 /// What is found first at the instances of the body at this address, which lie there, and below them.

@@ -1,5 +1,5 @@
 //! Whether a map has rows, by what is kept of it.
-ghost use Rattle.std.specs.Prelude.{◌≡◌, ◌⊎◌, [], true, false, Some, Err, IfOk, IfErr, OnOk, option_copied};
+ghost use Rattle.std.specs.Prelude.{◌≡◌, ◌+◌, ◌⊎◌, [], true, false, Some, Err, IfOk, IfErr, OnOk, option_copied};
 ghost use Rattle.node_laws.specs.Laid.{laying};
 ghost use Rattle.rdl_elab.specs.Faults.{elaborated};
 ghost use Rattle.rdl_elab.specs.Known.{HasRows};
@@ -99,7 +99,7 @@ fn found_below(
     at: &Address,
     seen: &Seen,
 ) -> Result<Found, AllocError>
-    ensures { IfOk result (λ found. found ≡ map_found at.now seen.now (searched 16 description.now.items tree.now false Mode.Regalign at.now)) }
+    ensures { IfOk result (λ found. found ≡ map_found at.now seen.now (searched (seen.now.levels + 1) description.now.items tree.now false Mode.Regalign at.now)) }
 {
     if let Some(kind) = count_fault(seen) {
         return Ok(fault_there(at, kind));
@@ -110,7 +110,8 @@ fn found_below(
     if let Some(kind) = size_fault(seen) {
         return Ok(fault_there(at, kind));
     }
-    search(alloc, description, tree, false, Mode::Regalign, at, 16)
+    let levels = usize::from(seen.levels) + 1;
+    search(alloc, description, tree, false, Mode::Regalign, at, levels)
 }
 
 /// What is found of the map, by what is kept of it: that it has rows, or the fault that it has, or neither, where that doesn't tell.

@@ -21,7 +21,7 @@ loop-i-preserved c =
     let old = c.loop-i.instances.items in
     let rest = items_of (drop (i + 1) items) in
     let within : i < length items = omega (arith, c.loop-i-test.true) in
-    let slot : option_copied c.get.result ≡ slice_get ss i = search rules in
+    let slot : option_copied c.slot_at.result ≡ slice_get ss i = c.slot_at.ensures in
     let put : c.put_instance.new.instances.items ≡ old ++ item_instances i x (of_item (slice_get ss i)) = c.in_ok-put_instance.ensures ∙ ap (λ o. old ++ item_instances i x (of_item o)) slot in
     c.loop-i.invariant
     ∙ ap (λ t. old ++ instances_from i t (slots_of (drop i ss))) (items_at items i x within c.item-item.is)
