@@ -83,7 +83,7 @@ use Rattle.sound_nodes.specs.declared.found.Found.{Found}
 use Rattle.sound_nodes.specs.declared.found.Found.TheVariants.{Clear, Faulty, Untold}
 use Rattle.sound_nodes.specs.Instances.{SeenInstance, instances_from}
 use Rattle.sound_nodes.specs.Rows as rows
-use Rattle.sound_nodes.specs.Rows.{assigns, defaults_before, defaults_at, component_address, fields, fields_under, fields_if, in_register, are_own_harmless, in_container, in_kind, in_component, in_body, below_instance, searched}
+use Rattle.sound_nodes.specs.Rows.{assigns, defaults_before, defaults_at, component_address, fields, fields_under, fields_if, in_register, are_own_harmless, is_costly, in_container, in_kind, in_component, in_body, below_instance, searched}
 use Rattle.sound_nodes.proofs.Assigned.{all-fit}
 use Rattle.sound_nodes.proofs.Coming.{enters, unjudged_behind, unjudged_own}
 use Rattle.sound_nodes.proofs.ContainerRows.{LieApart, TellsBelow, rows-tell}
@@ -370,12 +370,13 @@ module _ (d : Items) (none : fault_of d ≡ None) where
 
     container-tells : (k : Kind) → c.head.kind ≡ k → is_container k ≡ true
         → goal (in_container (below_instance f d more (rows.mode_in k n.core.values (seen_mode x)) a) a (seen_mode x) (rows.mode_in k n.core.values (seen_mode x)) body n)
-    container-tells k e is_one = by (are_own_harmless n) refl
+    container-tells k e is_one = by (are_own_harmless n && not (is_costly (has_mode n.core.apart (seen_mode x)) (layout_under n.core.layouts (seen_mode x)).spans)) refl
       where
-        by : (t : Bool) → are_own_harmless n ≡ t
+        by : (t : Bool) → (are_own_harmless n && not (is_costly (has_mode n.core.apart (seen_mode x)) (layout_under n.core.layouts (seen_mode x)).spans)) ≡ t
             → goal (if t then rows.rows (below_instance f d more (rows.mode_in k n.core.values (seen_mode x)) a) a (has_mode n.core.apart (seen_mode x)) (rows.mode_in k n.core.values (seen_mode x)) [] (layout_under n.core.layouts (seen_mode x)).spans (instances_from 0 body n.slots) else Untold)
         by false is_own = tt
-        by true is_own =
+        by true found =
+            let is_own = (both (are_own_harmless n) (not (is_costly (has_mode n.core.apart (seen_mode x)) (layout_under n.core.layouts (seen_mode x)).spans)) found).0 in
             let so = stands-so k e is_one in
             let m = rows.mode_in k n.core.values (seen_mode x) in
             let is_filled : is_container c.head.kind ≡ true = ap is_container e ∙ is_one in

@@ -147,9 +147,10 @@ named-seen s u rest more around e a b n z same h =
     let x = seen_instance n s (of_type (option_map (λ (k : Known). k.seen) (lookup u a.types))) in
     let seen_is : seen_in (of_type (option_map (λ (k : Known). k.seen) (lookup u a.types))) ≡ Some type.known.seen =
     ap (λ o. seen_in (of_type (option_map (λ (k : Known). k.seen) o))) type.there in
-    subst (λ o. AreSeenParts b (x ∷ xs) (with_made (b ++ n ∷ []) s o (parts e b (suc n) rest))) (sym first.there)
-    (seen-one b n s first.made (seen_in (of_type (option_map (λ (k : Known). k.seen) (lookup u a.types)))) type.known.seen seen_is type.is.seen,
-    more around e a b (suc n) within same h.1)
+    subst (λ o. AreSeenParts b (x ∷ xs) (with_made (b ++ n ∷ []) s o (parts e b (suc n) rest))) (sym first.there) (
+      seen-one b n s first.made (seen_in (of_type (option_map (λ (k : Known). k.seen) (lookup u a.types)))) type.known.seen seen_is type.is.seen,
+      more around e a b (suc n) within same h.1,
+    )
 
 part-seen : (s : Shell) (k : Kind) (body rest : Items) → AreSeen rest → AreSeen (holder (anonymous s k) body rest)
 unfolding AreSeen
@@ -157,19 +158,22 @@ part-seen s Field body rest more around e a b n z same h =
     (record { place = refl; shell = refl; seen = λ y e. absurd cc }, more around e a b (suc n) (with_instance s.name nothing_within z) same h.2)
 part-seen s Addrmap body rest more around e a b n z same h =
     let is = node-here (anonymous s Addrmap) body around e a (b ++ n ∷ []) same h.0 h.1 in
-    let known_is = known laying a Addrmap body in
-    (seen-one b n s (made_here e (b ++ n ∷ []) Addrmap body) (Some (core_here a Addrmap body).seen) (core_here a Addrmap body).seen refl is.core.seen,
-    more around e a b (suc n) (with_instance s.name known_is.within z) same h.2)
+    let known_is = known laying a Addrmap body in (
+      seen-one b n s (made_here e (b ++ n ∷ []) Addrmap body) (Some (core_here a Addrmap body).seen) (core_here a Addrmap body).seen refl is.core.seen,
+      more around e a b (suc n) (with_instance s.name known_is.within z) same h.2,
+    )
 part-seen s Regfile body rest more around e a b n z same h =
     let is = node-here (anonymous s Regfile) body around e a (b ++ n ∷ []) same h.0 h.1 in
-    let known_is = known laying a Regfile body in
-    (seen-one b n s (made_here e (b ++ n ∷ []) Regfile body) (Some (core_here a Regfile body).seen) (core_here a Regfile body).seen refl is.core.seen,
-    more around e a b (suc n) (with_instance s.name known_is.within z) same h.2)
+    let known_is = known laying a Regfile body in (
+      seen-one b n s (made_here e (b ++ n ∷ []) Regfile body) (Some (core_here a Regfile body).seen) (core_here a Regfile body).seen refl is.core.seen,
+      more around e a b (suc n) (with_instance s.name known_is.within z) same h.2,
+    )
 part-seen s Reg body rest more around e a b n z same h =
     let is = node-here (anonymous s Reg) body around e a (b ++ n ∷ []) same h.0 h.1 in
-    let known_is = known laying a Reg body in
-    (seen-one b n s (made_here e (b ++ n ∷ []) Reg body) (Some (core_here a Reg body).seen) (core_here a Reg body).seen refl is.core.seen,
-    more around e a b (suc n) (with_instance s.name known_is.within z) same h.2)
+    let known_is = known laying a Reg body in (
+      seen-one b n s (made_here e (b ++ n ∷ []) Reg body) (Some (core_here a Reg body).seen) (core_here a Reg body).seen refl is.core.seen,
+      more around e a b (suc n) (with_instance s.name known_is.within z) same h.2,
+    )
 
 -- what a walked body tells of its instances is what stands there
 all-seen : (t : Items) → AreSeen t

@@ -162,9 +162,13 @@ mode_in kind v m = m
 abbrev pub are_own_harmless : Node → Bool
 are_own_harmless n = are_harmless (record { spans = n.core.layouts.compact.spans; is_ordered = n.core.seen.is_ordered }) n.slots
 
+-- so many instances that aren't known to lie apart that it takes long to compare each with those before it
+abbrev pub is_costly : Bool → List Span → Bool
+is_costly apart spans = not apart && nat_lt 2048 (length spans)
+
 abbrev pub in_container : (SeenInstance → Seen → Found) → List ℕ → Mode → Mode → Items → Node → Found
 in_container below a m inside body n =
-    if are_own_harmless n
+    if are_own_harmless n && not (is_costly (has_mode n.core.apart m) (layout_under n.core.layouts m).spans)
     then rows below a (has_mode n.core.apart m) inside [] (layout_under n.core.layouts m).spans (instances_from 0 body n.slots)
     else Untold
 

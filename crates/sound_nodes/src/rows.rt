@@ -6,7 +6,7 @@ ghost use Rattle.rdl_nodes.specs.View.{add, slots_of};
 ghost use Rattle.rdl_seen.specs.Contents.{are_harmless};
 ghost use Rattle.rdl_seen.specs.Layouts.{overlaps, is_stride_wide};
 ghost use Rattle.rdl_seen.specs.Slots.{Slots};
-ghost use Rattle.sound_nodes.specs.Rows.{is_access_wide, seen_fault, seen_row, rows, mode_in, are_own_harmless, in_container, in_component, below_instance, searched};
+ghost use Rattle.sound_nodes.specs.Rows.{is_access_wide, seen_fault, seen_row, rows, mode_in, are_own_harmless, is_costly, in_container, in_component, below_instance, searched};
 
 use crate::field_rows::in_register;
 use crate::found::{Found, faulty};
@@ -120,6 +120,16 @@ fn are_own_harmless(kept: Kept) -> bool
     let node = kept.node;
     let spans = node.core().layouts.as_ref().under(Mode::Compact).spans();
     are_harmless(node.slots(), spans, kept.seen.is_ordered)
+}
+
+/// How many instances that aren't known to lie apart are compared, each with those before it.
+const MAX_COMPARED: usize = 2048;
+
+/// Whether it takes long to find the first of these spans that overlaps one before it.
+fn is_costly(apart: bool, spans: &[Span]) -> bool
+    ensures { result ≡ is_costly apart spans.now }
+{
+    !apart && spans.len() > MAX_COMPARED
 }
 
 /// What is found below the instance of the body at this address, unless it is passed over: the component is sound, and nothing harmful
@@ -242,11 +252,13 @@ fn in_container(
     requires { length at.now < 17 }
     ensures { IfOk result (λ found. found ≡ in_container (below_instance (searched levels description.now.items tree.now) description.now.items assigned (mode_in (kept_of kept.entry).core.seen.kind (kept_of kept.entry).core.values mode) at.now) at.now mode (mode_in (kept_of kept.entry).core.seen.kind (kept_of kept.entry).core.values mode) body.now (kept_of kept.entry)) }
 {
-    if !are_own_harmless(kept) {
-        return Ok(Found::Untold);
-    }
     let node = kept.node;
     let core = node.core();
+    let apart = core.apart.has(mode);
+    let spans = core.layouts.as_ref().under(mode).spans();
+    if !are_own_harmless(kept) || is_costly(apart, spans) {
+        return Ok(Found::Untold);
+    }
     let instances = instances(alloc, body, node.slots())?;
     rows(
         alloc,
@@ -255,8 +267,8 @@ fn in_container(
         assigned,
         mode_in(kept.seen.kind, &core.values, mode),
         at,
-        core.apart.has(mode),
-        core.layouts.as_ref().under(mode).spans(),
+        apart,
+        spans,
         instances.as_slice(),
         levels,
     )
