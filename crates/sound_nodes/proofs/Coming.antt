@@ -3,6 +3,7 @@ use Rattle.std.proofs.Common.{◌≡◌, ℕ, List, [], ◌∷◌, ◌++◌, Boo
 use Rattle.std.specs.Prelude.{suc, nat_eq, bytes_eq, ◌&&◌, ◌||◌, not, if◌then◌else◌}
 use Rattle.std.specs.List.{list_all, cons_option}
 use Rattle.std.specs.Cmp.Lexicographic.{pointwise}
+use Rattle.std.proofs.lemmas.Slice.Eq.{bytes_eq-Decides}
 use Rattle.rdl_tree.specs.Items.{Items, no_items, plain, holder, named, own, default, dynamic}
 use Rattle.rdl_tree.specs.Properties.{row}
 use Rattle.rdl_tree.specs.declared.property.Property.TheVariants.{Sw, Reset}
@@ -13,7 +14,7 @@ use Rattle.rdl_tree.specs.declared.value.Value.{Value}
 use Rattle.rdl_scope.specs.Closed.{Head, Parts, no_parts, part}
 use Rattle.rdl_elab.specs.declared.layout.Mode.TheVariants.{Compact}
 use Rattle.rdl_elab.specs.Reaches.{Reach, with_path, reaches_by, passed, behind, has_ended, reached}
-use Rattle.sound_laws.specs.Harmless.{Spot, elsewhere, kept_layout, all_elsewhere, spots_by, spots_in, each_at, is_harmless_along, is_harmless, are_harmless, is_unjudged}
+use Rattle.sound_laws.specs.Harmless.{Spot, elsewhere, is_fitting, kept_layout, all_elsewhere, spots_by, spots_in, each_at, is_harmless_along, is_harmless_at, is_harmless, are_harmless, is_unjudged}
 use Rattle.sound_laws.proofs.Containers.{is_container}
 use Rattle.sound_laws.proofs.Lists.{both, and_both, not_false, neither_of}
 use Rattle.sound_nodes.specs.Rows.{is_judged, plain_assigns, assigns}
@@ -71,6 +72,72 @@ module _ (at : List ℕ) (s : Shell) (h : Head) (inside rest : Parts) where
       let more = passes_on rs t.1 in
       let one = pass_one r r.path (behind at rs) t.0 more.0 in
       (one.0, and_both (goes_on r.property r.value r.path rest) (go_on rest rs) one.1 more.1)
+
+-- ---- From a register to its fields.
+
+abbrev pub field_goes : List ℕ → Value → List (List ℕ) → List Spot → Parts → Bool
+field_goes p v [] spots ps = true
+field_goes p v (a ∷ path) spots ps = each_at (is_harmless_along kept_layout p v path) a spots ps
+
+abbrev pub fields_go : List Spot → Parts → List Reach → Bool
+fields_go spots ps rs = list_all (λ (r : Reach). field_goes r.property r.value r.path spots ps) rs
+
+field-enters : (h : Head) (inside : Parts) (p : List ℕ) (v : Value) (path : List (List ℕ)) → is_harmless_along kept_layout p v path elsewhere h inside ≡ true
+    → field_goes p v path (spots_in kept_layout h inside) inside ≡ true
+field-enters h inside p v [] e = refl
+field-enters h inside p v (a ∷ path) e = e
+
+pub register-enters : (h : Head) (inside : Parts) (rs : List Reach) → are_harmless kept_layout h inside rs ≡ true → fields_go (spots_in kept_layout h inside) inside rs ≡ true
+register-enters h inside [] e = refl
+register-enters h inside (r ∷ rs) e =
+    let t = both (is_harmless kept_layout h inside r) (are_harmless kept_layout h inside rs) e in
+    and_both (field_goes r.property r.value r.path (spots_in kept_layout h inside) inside) (fields_go (spots_in kept_layout h inside) inside rs)
+    (field-enters h inside r.property r.value r.path t.0) (register-enters h inside rs t.1)
+
+module _ (at : List ℕ) (s : Shell) (h : Head) (inside rest : Parts) (spot : Spot) (spots : List Spot) where
+  field-pass : (r : Reach) (path : List (List ℕ)) (more : List Reach) → field_goes r.property r.value path (spot ∷ spots) (part at s h inside rest) ≡ true
+      → list_all (is_harmless_at kept_layout spot h inside) more ≡ true
+      → (list_all (is_harmless_at kept_layout spot h inside) (cons_option (passed at r path) more) ≡ true) × (field_goes r.property r.value path spots rest ≡ true)
+  field-pass r [] more e g = (g, refl)
+  field-pass r (a ∷ path) more e g =
+      let here = is_harmless_along kept_layout r.property r.value path spot h inside in
+      let t = both (if pointwise nat_eq a at then here else true) (each_at (is_harmless_along kept_layout r.property r.value path) a spots rest) e in
+      (by (pointwise nat_eq a at) t.0, t.1)
+    where
+      by : (b : Bool) → (if b then is_harmless_along kept_layout r.property r.value path spot h inside else true) ≡ true
+          → list_all (is_harmless_at kept_layout spot h inside) (cons_option (if b then Some (record r { path = path }) else None) more) ≡ true
+      by true f = and_both (is_harmless_along kept_layout r.property r.value path spot h inside) (list_all (is_harmless_at kept_layout spot h inside) more) f g
+      by false f = g
+
+  pub field-passes : (rs : List Reach) → fields_go (spot ∷ spots) (part at s h inside rest) rs ≡ true
+      → (list_all (is_harmless_at kept_layout spot h inside) (behind at rs) ≡ true) × (fields_go spots rest rs ≡ true)
+  field-passes [] e = (refl, refl)
+  field-passes (r ∷ rs) e =
+      let t = both (field_goes r.property r.value r.path (spot ∷ spots) (part at s h inside rest)) (fields_go (spot ∷ spots) (part at s h inside rest) rs) e in
+      let more = field-passes rs t.1 in
+      let one = field-pass r r.path (behind at rs) t.0 more.0 in
+      (one.0, and_both (field_goes r.property r.value r.path spots rest) (fields_go spots rest rs) one.1 more.1)
+
+-- what is assigned there fits
+module _ (p : List ℕ) (spot : Spot) (h : Head) (inside : Parts) (v : Value) where
+  by-name : (r : Reach) (o : Option Value) (b : Bool) → bytes_eq r.property p ≡ b → is_fitting spot r.property r.value ≡ true
+      → (if b then Some r.value else o) ≡ Some v → (o ≡ Some v → is_fitting spot p v ≡ true) → is_fitting spot p v ≡ true
+  by-name r o true n f e later =
+      let same : r.property ≡ p = (bytes_eq-Decides r.property p).0 n in
+      let value : r.value ≡ v = cc in
+      (λ i. is_fitting spot (sym same i) (sym value i)) ∙ f
+  by-name r o false n f e later = later e
+
+  by-path : (r : Reach) (o : Option Value) (path : List (List ℕ)) → is_harmless_along kept_layout r.property r.value path spot h inside ≡ true
+      → (if has_ended path && bytes_eq r.property p then Some r.value else o) ≡ Some v → (o ≡ Some v → is_fitting spot p v ≡ true) → is_fitting spot p v ≡ true
+  by-path r o [] f e later = by-name r o (bytes_eq r.property p) refl f e later
+  by-path r o (a ∷ path) f e later = later e
+
+  pub fitting-reached : (rs : List Reach) → list_all (is_harmless_at kept_layout spot h inside) rs ≡ true → reached p rs ≡ Some v → is_fitting spot p v ≡ true
+  fitting-reached [] a e = absurd cc
+  fitting-reached (r ∷ rs) a e =
+      let t = both (is_harmless_at kept_layout spot h inside r) (list_all (is_harmless_at kept_layout spot h inside) rs) a in
+      by-path r (reached p rs) r.path t.0 e (fitting-reached rs t.1)
 
 -- ---- What rows aren't judged by.
 

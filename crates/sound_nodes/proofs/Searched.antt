@@ -68,7 +68,7 @@ use Rattle.node_laws.specs.Seen.{layouts_seen, members_seen, spots_seen}
 use Rattle.node_laws.specs.Sound.{apart_seen, harmless, resets_seen, accesses_seen}
 use Rattle.node_laws.proofs.Nodes.{kept_are_seen}
 use Rattle.node_laws.proofs.Walks.{walks}
-use Rattle.sound_laws.specs.Harmless.{kept_layout, are_apart, is_harmless, are_harmless, is_unjudged}
+use Rattle.sound_laws.specs.Harmless.{in_register as in_spot, kept_layout, are_apart, spots_by, spots_in, is_harmless, are_harmless, is_unjudged}
 use Rattle.sound_laws.specs.Laws.{IsInside}
 use Rattle.sound_laws.specs.Search.{IsKeptWhole}
 use Rattle.sound_laws.specs.Sound.{are_strides_wide, are_own_harmless as own_harmless}
@@ -85,10 +85,10 @@ use Rattle.sound_nodes.specs.Instances.{SeenInstance, instances_from}
 use Rattle.sound_nodes.specs.Rows as rows
 use Rattle.sound_nodes.specs.Rows.{assigns, defaults_before, defaults_at, component_address, fields, fields_under, fields_if, in_register, are_own_harmless, is_costly, in_container, in_kind, in_component, in_body, below_instance, searched}
 use Rattle.sound_nodes.proofs.Assigned.{all-fit}
-use Rattle.sound_nodes.proofs.Coming.{enters, unjudged_behind, unjudged_own}
+use Rattle.sound_nodes.proofs.Coming.{enters, fields_go, register-enters, unjudged_behind, unjudged_own}
 use Rattle.sound_nodes.proofs.ContainerRows.{LieApart, TellsBelow, rows-tell}
 use Rattle.sound_nodes.proofs.Fields.{register-is}
-use Rattle.sound_nodes.proofs.RegisterRows.{AreFieldParts, field-parts, fields-tell}
+use Rattle.sound_nodes.proofs.RegisterRows.{AreFieldParts, field-parts, fields-tell, assigned-fields-tell}
 use Rattle.sound_nodes.proofs.Soundness.{has-all, same-mode, seen-sound, spans-under, under-mode, same-under}
 use Rattle.sound_nodes.proofs.Telling.{Tells, tells-same}
 use Rattle.sound_nodes.proofs.Walked.{StandsAt, stands-at, IsSeenPart, AreSeenParts, body-seen}
@@ -277,26 +277,6 @@ module _ (d : Items) (none : fault_of d ≡ None) where
         (resets_are v body n.slots (parts_of v body n.slots) refl ∙ ap (resets v body) there.slots ∙ walked.resets ∙ ap resets_seen (sym stands.parts))
         (accesses_are v body n.slots (parts_of v body n.slots) refl ∙ ap (accesses v body) there.slots ∙ walked.accesses ∙ ap accesses_seen (sym stands.parts))
 
-    register-tells : c.head.kind ≡ Reg → goal (in_register more a body n (defaults_at no_values a d))
-    register-tells k = by more refl
-      where
-        by : (z : Bool) → more ≡ z → goal (if z then Untold else fields_if a body n (defaults_at no_values a d))
-        by true e = tt
-        by false e =
-            let bits : o.bits ≡ register_bits n.core.values =
-            here.bits k ∙ register-is c.head k n.core.values there.core.whole (stated_are_taken d a c none holds) in
-            let small : o.bits ≤ 128 = subst (λ z. z ≤ 128) (sym (here.bits k)) (bits-small c.head) in
-            let spans : n.core.layouts.compact.spans ≡ map seen_span (map capped_span (layout_of x c.head c.parts).spans) =
-            ap (λ (l : Layouts). l.compact.spans) there.core.layouts ∙ spans-under Compact c.head c.parts ∙ ap (λ ss. map seen_span (map capped_span ss)) (register-spans k) in
-            let tells =
-            fields-tell d none a c holds k o small arrived come (all-unjudged e) c.parts (parts-found d a c holds) (instances_from 0 body n.slots) parts-seen
-            (parts_of there.around.defaults body n.slots) made-parts [] [] refl (layout_of x c.head c.parts).spans fit in
-            subst (λ z. goal (fields_if a body n z)) (sym (defaults-along a nothing_around d there.around there.sees))
-            (subst (λ ss. goal (fields a (register_bits n.core.values) [] [] ss (instances_from 0 body n.slots) (parts_of there.around.defaults body n.slots))) (sym spans)
-            (subst (λ b. goal (fields a b [] [] (map seen_span (map capped_span (layout_of x c.head c.parts).spans)) (instances_from 0 body n.slots) (parts_of there.around.defaults body n.slots))) bits tells))
-
-    -- ---- An address map or a register file.
-
     own-harmless : are_own_harmless n ≡ true → are_harmless kept_layout c.head c.parts (reaches d a 0 body) ≡ true
     own-harmless e =
         let walked = walks body (Some c.head.kind) stands.standing there.around stands.place 0 no_instances stands.same stands.accepted in
@@ -306,6 +286,42 @@ module _ (d : Items) (none : fault_of d ≡ None) where
         ap (λ ps. harmless (spots_seen c) body ps no_instances) stands.parts ∙ sym (walked.harmless (spots_seen c))
         ∙ sym (λ i. contents.are_harmless (spots i) (there.slots i)) ∙ e in
         ap (are_harmless kept_layout c.head c.parts) (sym (own_found d none a c holds)) ∙ fitting_harmless kept_layout d a c holds ∙ all-fit d a c none holds fits
+
+    register-fields : c.head.kind ≡ Reg → (t : Bool) → Tells (fields t a o.bits [] [] (map seen_span (map capped_span (layout_of x c.head c.parts).spans)) (instances_from 0 body n.slots) (parts_of there.around.defaults body n.slots)) (first_row_fault d (rows_in d o [] (layout_of x c.head c.parts).spans c.parts))
+        → goal (fields_if t a body n (defaults_at no_values a d))
+    register-fields k t tells =
+        let bits : o.bits ≡ register_bits n.core.values =
+        here.bits k ∙ register-is c.head k n.core.values there.core.whole (stated_are_taken d a c none holds) in
+        let spans : n.core.layouts.compact.spans ≡ map seen_span (map capped_span (layout_of x c.head c.parts).spans) =
+        ap (λ (l : Layouts). l.compact.spans) there.core.layouts ∙ spans-under Compact c.head c.parts ∙ ap (λ ss. map seen_span (map capped_span ss)) (register-spans k) in
+        subst (λ z. goal (fields_if t a body n z)) (sym (defaults-along a nothing_around d there.around there.sees))
+        (subst (λ ss. goal (fields t a (register_bits n.core.values) [] [] ss (instances_from 0 body n.slots) (parts_of there.around.defaults body n.slots))) (sym spans)
+        (subst (λ b. goal (fields t a b [] [] (map seen_span (map capped_span (layout_of x c.head c.parts).spans)) (instances_from 0 body n.slots) (parts_of there.around.defaults body n.slots))) bits tells))
+
+    few-bits : c.head.kind ≡ Reg → o.bits ≤ 128
+    few-bits k = subst (λ z. z ≤ 128) (sym (here.bits k)) (bits-small c.head)
+
+    register-tells : c.head.kind ≡ Reg → goal (in_register more (are_own_harmless n) a body n (defaults_at no_values a d))
+    register-tells k = by more refl (are_own_harmless n) refl
+      where
+        by : (t : Bool) → more ≡ t → (u : Bool) → are_own_harmless n ≡ u → goal (if t && not u then Untold else fields_if t a body n (defaults_at no_values a d))
+        by false e u g =
+            register-fields k false
+            (fields-tell d none a c holds k o (few-bits k) arrived come (all-unjudged e) c.parts (parts-found d a c holds) (instances_from 0 body n.slots) parts-seen
+            (parts_of there.around.defaults body n.slots) made-parts [] [] refl (layout_of x c.head c.parts).spans fit)
+        by true e false g = tt
+        by true e true g =
+            let ordered = are_apart (kept_layout Compact c.head c.parts).spans in
+            let same : (kept_layout Compact c.head c.parts).spans ≡ map capped_span (layout_of x c.head c.parts).spans = ap (map capped_span) (register-spans k) in
+            let all = all_append (is_harmless kept_layout c.head c.parts) (along d [] o.path) (reaches d a 0 body) comes (own-harmless g) in
+            let spots : spots_in kept_layout c.head c.parts ≡ map (in_spot ordered) (map capped_span (layout_of x c.head c.parts).spans) =
+            ap (λ j. spots_by j (kept_layout Compact c.head c.parts).spans c.parts) k ∙ ap (map (in_spot ordered)) same in
+            register-fields k true
+            (assigned-fields-tell d none a c holds k o (few-bits k) arrived come ordered c.parts (parts-found d a c holds) (instances_from 0 body n.slots) parts-seen
+            (parts_of there.around.defaults body n.slots) made-parts (layout_of x c.head c.parts).spans fit
+            (ap (λ ss. fields_go ss c.parts arrived) (sym spots) ∙ register-enters c.head c.parts arrived all) (λ h. ap are_apart (sym same) ∙ h))
+
+    -- ---- An address map or a register file.
 
     below-tells : (m : seen_modes.Mode) → m ≡ seen_mode o.mode → TellsBelow d a o (below_instance f d more m a)
     below-tells m same y z at s h within before span part_seen is found whole_one comes_one = by (has_mode z.sound m) refl

@@ -23,7 +23,7 @@ use Rattle.rdl_seen.specs.Slots.{Node, Slots}
 use Rattle.sound_nodes.specs.declared.found.Found.{Found}
 use Rattle.sound_nodes.specs.declared.found.Found.TheVariants.{Clear, Faulty, Untold}
 use Rattle.sound_nodes.specs.Instances.{SeenInstance, instances_from, item_instances}
-use Rattle.sound_nodes.specs.Rows.{is_clear, found_or, faulty_or, field_fault, fields, seen_row, rows, after_default_if, defaults_before, in_component, in_body, searched}
+use Rattle.sound_nodes.specs.Rows.{is_clear, found_or, faulty_or, field_fault, reset_or, fields, seen_row, rows, after_default_if, defaults_before, in_component, in_body, searched}
 
 next : (i : ℕ) → suc i ≡ i + 1
 next i = omega arith
@@ -82,24 +82,23 @@ module _ (below : SeenInstance → Seen → Found) (a : List ℕ) (apart : Bool)
 
 -- ---- Fields.
 
-module _ (a : List ℕ) (bits : ℕ) (spans : List Span) (xs : List SeenInstance) (ps : List parts.Part) (i : ℕ) where
+module _ (assigned : Bool) (a : List ℕ) (bits : ℕ) (spans : List Span) (xs : List SeenInstance) (ps : List parts.Part) (i : ℕ) where
   abbrev fields_from : ℕ → Found
-  fields_from k = fields a bits (take k spans) (take k ps) (drop k spans) (drop k xs) (drop k ps)
-
-  pub fields-end : drop i spans ≡ [] → fields_from i ≡ Clear
-  fields-end e = ap (λ ss. fields a bits (take i spans) (take i ps) ss (drop i xs) (drop i ps)) e
+  fields_from k = fields assigned a bits (take k spans) (take k ps) (drop k spans) (drop k xs) (drop k ps)
 
   pub fields-short : (span : Span) → slice_get spans i ≡ Some span → slice_get xs i ≡ None → fields_from i ≡ Clear
-  fields-short span e g = λ k. fields a bits (take i spans) (take i ps) (drop-some spans i span e k) (drop-none xs i g k) (drop i ps)
+  fields-short span e g = λ k. fields assigned a bits (take i spans) (take i ps) (drop-some spans i span e k) (drop-none xs i g k) (drop i ps)
 
   pub fields-no-part : (span : Span) (x : SeenInstance) → slice_get spans i ≡ Some span → slice_get xs i ≡ Some x → slice_get ps i ≡ None → fields_from i ≡ Clear
-  fields-no-part span x e g h = λ k. fields a bits (take i spans) (take i ps) (drop-some spans i span e k) (drop-some xs i x g k) (drop-none ps i h k)
+  fields-no-part span x e g h = λ k. fields assigned a bits (take i spans) (take i ps) (drop-some spans i span e k) (drop-some xs i x g k) (drop-none ps i h k)
 
   pub fields-step : (span : Span) (x : SeenInstance) (p : parts.Part) → slice_get spans i ≡ Some span → slice_get xs i ≡ Some x → slice_get ps i ≡ Some p
-      → fields_from i ≡ faulty_or (a ++ x.number ∷ []) (field_fault bits (take i spans) (take i ps) span p) (fields_from (i + 1))
+      → fields_from i
+      ≡ faulty_or (a ++ x.number ∷ []) (field_fault bits (take i spans) (take i ps) span p) (reset_or assigned (a ++ x.number ∷ []) span p (fields_from (i + 1)))
   fields-step span x p e g h =
-      (λ k. fields a bits (take i spans) (take i ps) (drop-some spans i span e k) (drop-some xs i x g k) (drop-some ps i p h k))
-      ∙ (λ k. faulty_or (a ++ x.number ∷ []) (field_fault bits (take i spans) (take i ps) span p) (fields a bits (take-some spans i span e k) (take-some ps i p h k) (drop (i + 1) spans) (drop (i + 1) xs) (drop (i + 1) ps)))
+      (λ k. fields assigned a bits (take i spans) (take i ps) (drop-some spans i span e k) (drop-some xs i x g k) (drop-some ps i p h k))
+      ∙ (λ k. faulty_or (a ++ x.number ∷ []) (field_fault bits (take i spans) (take i ps) span p) (reset_or assigned (a ++ x.number ∷ []) span p
+      (fields assigned a bits (take-some spans i span e k) (take-some ps i p h k) (drop (i + 1) spans) (drop (i + 1) xs) (drop (i + 1) ps))))
 
 -- ---- Instances.
 

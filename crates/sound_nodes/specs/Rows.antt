@@ -80,21 +80,29 @@ rows below a apart m before (span ∷ spans) (x ∷ xs) = found_or (seen_row bel
 
 -- ---- The rows of a register.
 
--- what is wrong with a field behind others, in a register of so many bits
+-- what is wrong with the bits of a field behind others, in a register of so many bits
 abbrev pub field_fault : ℕ → List Span → List Part → Span → Part → Option FaultKind
 field_fault bits before done span p =
     first_of
     ((nat_lt bits span.end, FieldPastRegister)
     ∷ (not (clashes_none span p.access before (map access_of done)), FieldOverlap)
-    ∷ (not (has_room p.reset span), ResetTooWide)
     ∷ [])
 
-abbrev pub fields : List ℕ → ℕ → List Span → List Part → List Span → List SeenInstance → List Part → Found
-fields a bits before done [] xs ps = Clear
-fields a bits before done (span ∷ spans) [] ps = Clear
-fields a bits before done (span ∷ spans) (x ∷ xs) [] = Clear
-fields a bits before done (span ∷ spans) (x ∷ xs) (p ∷ ps) =
-    faulty_or (a ++ x.number ∷ []) (field_fault bits before done span p) (fields a bits (before ++ span ∷ []) (done ++ p ∷ []) spans xs ps)
+-- a field at this address whose reset doesn't fit: it isn't told, if another may be assigned over it
+abbrev pub wide_reset : Bool → List ℕ → Found
+wide_reset assigned at = if assigned then Untold else Faulty (record { kind = ResetTooWide; address = at })
+
+abbrev pub reset_or : Bool → List ℕ → Span → Part → Found → Found
+reset_or assigned at span p more = if has_room p.reset span then more else wide_reset assigned at
+
+-- the fields of the register at this address, to which nothing comes by which rows are judged, or what is harmless
+abbrev pub fields : Bool → List ℕ → ℕ → List Span → List Part → List Span → List SeenInstance → List Part → Found
+fields assigned a bits before done [] xs ps = Clear
+fields assigned a bits before done (span ∷ spans) [] ps = Clear
+fields assigned a bits before done (span ∷ spans) (x ∷ xs) [] = Clear
+fields assigned a bits before done (span ∷ spans) (x ∷ xs) (p ∷ ps) =
+    faulty_or (a ++ x.number ∷ []) (field_fault bits before done span p)
+    (reset_or assigned (a ++ x.number ∷ []) span p (fields assigned a bits (before ++ span ∷ []) (done ++ p ∷ []) spans xs ps))
 
 -- the defaults behind the first i items, and those that reach the item at an address
 abbrev pub defaults_before : ℕ → Values → Items → Values
@@ -142,17 +150,17 @@ abbrev pub component_address : Items → List ℕ → List ℕ
 component_address d a = unwrap_or (type_of d a) a
 
 -- a register, which these defaults reach
-abbrev pub fields_under : List ℕ → Items → Node → Values → Found
-fields_under a body n defaults =
-    fields a (register_bits n.core.values) [] [] n.core.layouts.compact.spans (instances_from 0 body n.slots) (parts_of defaults body n.slots)
+abbrev pub fields_under : Bool → List ℕ → Items → Node → Values → Found
+fields_under assigned a body n defaults =
+    fields assigned a (register_bits n.core.values) [] [] n.core.layouts.compact.spans (instances_from 0 body n.slots) (parts_of defaults body n.slots)
 
-abbrev pub fields_if : List ℕ → Items → Node → Option Values → Found
-fields_if a body n None = Untold
-fields_if a body n (Some defaults) = fields_under a body n defaults
+abbrev pub fields_if : Bool → List ℕ → Items → Node → Option Values → Found
+fields_if assigned a body n None = Untold
+fields_if assigned a body n (Some defaults) = fields_under assigned a body n defaults
 
--- where a value may be assigned to its fields, or none
-abbrev pub in_register : Bool → List ℕ → Items → Node → Option Values → Found
-in_register assigned a body n defaults = if assigned then Untold else fields_if a body n defaults
+-- where a value may be assigned to its fields, which is harmless or may not be, or none
+abbrev pub in_register : (assigned harmless : Bool) → List ℕ → Items → Node → Option Values → Found
+in_register assigned harmless a body n defaults = if assigned && not harmless then Untold else fields_if assigned a body n defaults
 
 abbrev pub mode_in : Kind → Values → Mode → Mode
 mode_in Addrmap v m = node.mode_inside v
@@ -175,7 +183,7 @@ in_container below a m inside body n =
 -- a component of this kind, which stands under a mode, and its instances under another
 abbrev pub in_kind : (SeenInstance → Seen → Found) → Items → Bool → Mode → Mode → List ℕ → Items → Node → Kind → Found
 in_kind below d assigned m inside a body n Field = Clear
-in_kind below d assigned m inside a body n Reg = in_register assigned a body n (defaults_at no_values a d)
+in_kind below d assigned m inside a body n Reg = in_register assigned (are_own_harmless n) a body n (defaults_at no_values a d)
 in_kind below d assigned m inside a body n Addrmap = in_container below a m inside body n
 in_kind below d assigned m inside a body n Regfile = in_container below a m inside body n
 

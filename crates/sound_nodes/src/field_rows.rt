@@ -1,10 +1,10 @@
 //! The fields of a register, of which one has a fault.
-ghost use Rattle.std.specs.Prelude.{◌≡◌, ◌<◌, [], length, map, option_copied, slice_get, IfOk};
+ghost use Rattle.std.specs.Prelude.{◌≡◌, ◌<◌, ◌∷◌, ◌++◌, [], length, map, option_copied, slice_get, IfOk};
 ghost use Rattle.rdl_nodes.specs.Part.{access_of};
 ghost use Rattle.rdl_nodes.specs.View.{slots_of};
 ghost use Rattle.rdl_nodes.specs.KeptNode.{kept_of};
 ghost use Rattle.rdl_seen.specs.Fields.{may_share, clashes_none};
-ghost use Rattle.sound_nodes.specs.Rows.{field_fault, fields, fields_under, in_register, defaults_at};
+ghost use Rattle.sound_nodes.specs.Rows.{field_fault, wide_reset, fields, fields_under, in_register, defaults_at};
 ghost use Rattle.rdl_seen.specs.Values.{no_values};
 
 use crate::found::{Found, faulty};
@@ -18,7 +18,7 @@ use rdl_seen::mode::Mode;
 use rdl_seen::values::{Access, Values};
 use rdl_tree::address::Address;
 use rdl_tree::description::{Body, Description};
-use rdl_tree::fault::FaultKind;
+use rdl_tree::fault::{Fault, FaultKind};
 use std::alloc::{AllocError, Global};
 
 /// Whether fields that are accessed so may share bits: one is only read, and the other only written.
@@ -47,7 +47,7 @@ fn clashes_none(span: Span, access: Access, spans: &[Span], parts: &[Part]) -> b
     true
 }
 
-/// What is wrong with a field behind others, in a register of so many bits.
+/// What is wrong with the bits of a field behind others, in a register of so many bits.
 fn field_fault(
     bits: u64,
     before: &[Span],
@@ -61,11 +61,24 @@ fn field_fault(
         Some(FaultKind::FieldPastRegister)
     } else if !clashes_none(span, part.access(), before, done) {
         Some(FaultKind::FieldOverlap)
-    } else if !has_room(part.reset(), span) {
-        Some(FaultKind::ResetTooWide)
     } else {
         None
     }
+}
+
+/// What is found of the field of this number in the register at this address, whose reset doesn't fit: its fault, or nothing that is
+/// told, if another reset may be assigned over it.
+fn wide_reset(assigned: bool, at: &Address, number: usize) -> Found
+    requires { length at.now < 17 }
+    ensures { result ≡ wide_reset assigned (at.now ++ number ∷ []) }
+{
+    if assigned {
+        return Found::Untold;
+    }
+    Found::Faulty(Fault {
+        kind: FaultKind::ResetTooWide,
+        address: at.inside(number),
+    })
 }
 
 fn part_at<'p, 'a>(parts: &'p [Part<'a>], number: usize) -> Option<&'p Part<'a>>
@@ -74,8 +87,10 @@ fn part_at<'p, 'a>(parts: &'p [Part<'a>], number: usize) -> Option<&'p Part<'a>>
     parts.get(number)
 }
 
-/// The first fault of a field of the register at this address, of so many bits.
+/// The first fault of a field of the register at this address, of so many bits, to which what comes is harmless, if something may come by
+/// which rows are judged.
 fn fields(
+    assigned: bool,
     at: &Address,
     bits: u64,
     spans: &[Span],
@@ -83,7 +98,7 @@ fn fields(
     parts: &[Part],
 ) -> Found
     requires { length at.now < 17 }
-    ensures { result ≡ fields at.now bits [] [] spans.now instances.now parts.now }
+    ensures { result ≡ fields assigned at.now bits [] [] spans.now instances.now parts.now }
 {
     for (i, span) in spans.iter().enumerate() {
         let Some(instance) = instance_at(instances, i) else {
@@ -95,6 +110,9 @@ fn fields(
         if let Some(kind) = field_fault(bits, &spans[..i], &parts[..i], *span, part) {
             return faulty(at, instance.number(), kind);
         }
+        if !has_room(part.reset(), *span) {
+            return wide_reset(assigned, at, instance.number());
+        }
     }
     Found::Clear
 }
@@ -102,13 +120,14 @@ fn fields(
 /// The first fault of a field of the register at this address, which these defaults reach.
 fn fields_under(
     alloc: Global,
+    assigned: bool,
     at: &Address,
     body: &Body,
     kept: Kept,
     defaults: &Values,
 ) -> Result<Found, AllocError>
     requires { length at.now < 17 }
-    ensures { IfOk result (λ found. found ≡ fields_under at.now body.now (kept_of kept.entry) defaults.now) }
+    ensures { IfOk result (λ found. found ≡ fields_under assigned at.now body.now (kept_of kept.entry) defaults.now) }
 {
     let node = kept.node;
     let parts = parts(alloc, defaults, body, node.slots())?;
@@ -116,6 +135,7 @@ fn fields_under(
     let core = node.core();
     let spans = core.layouts.as_ref().under(Mode::Compact).spans();
     Ok(fields(
+        assigned,
         at,
         core.values.register_bits(),
         spans,
@@ -124,24 +144,25 @@ fn fields_under(
     ))
 }
 
-/// The first fault of a field of the register at this address, if it is known that nothing is assigned to a field by which its row is
-/// judged.
+/// The first fault of a field of the register at this address, if nothing may be assigned to a field by which its row is judged, or if
+/// what may be is harmless.
 pub(crate) fn in_register(
     alloc: Global,
     description: &Description,
     assigned: bool,
+    harmless: bool,
     at: &Address,
     body: &Body,
     kept: Kept,
 ) -> Result<Found, AllocError>
     requires { length at.now < 17 }
-    ensures { IfOk result (λ found. found ≡ in_register assigned at.now body.now (kept_of kept.entry) (defaults_at no_values at.now description.now.items)) }
+    ensures { IfOk result (λ found. found ≡ in_register assigned harmless at.now body.now (kept_of kept.entry) (defaults_at no_values at.now description.now.items)) }
 {
-    if assigned {
+    if assigned && !harmless {
         return Ok(Found::Untold);
     }
     match defaults_of(description, at) {
-        Some(defaults) => fields_under(alloc, at, body, kept, &defaults),
+        Some(defaults) => fields_under(alloc, assigned, at, body, kept, &defaults),
         None => Ok(Found::Untold),
     }
 }

@@ -293,7 +293,10 @@ fn in_component(
     let assigned = assigned || assigns(body);
     match kept.seen.kind {
         Kind::Field => Ok(Found::Clear),
-        Kind::Reg => in_register(alloc, description, assigned, at, body, kept),
+        Kind::Reg => {
+            let harmless = are_own_harmless(kept);
+            in_register(alloc, description, assigned, harmless, at, body, kept)
+        }
         Kind::Addrmap | Kind::Regfile => {
             in_container(
                 alloc,
