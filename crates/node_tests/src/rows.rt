@@ -42,6 +42,9 @@ const WIDE_RESETS: &str =
 
 const ASSIGNED: &str = "addrmap top { reg { field {} f[1:0]; } a; a.f -> reset = 4; };";
 
+const HARMLESS: &str =
+    "addrmap top { reg { field {} f[1:0]; field {} g[40:40]; } a; a.f -> reset = 1; };";
+
 const MENDED: &str = "addrmap top { reg { field {} f[1:0] = 4; } a; a.f -> reset = 1; };";
 
 #[test]
@@ -60,8 +63,14 @@ fn a_map_is_refused_with_the_fault_of_its_first_row(rt: HostRuntime) -> Result<(
 #[test]
 fn an_assignment_is_looked_at_where_it_counts(rt: HostRuntime) -> Result<(), Fail> {
     let alloc = rt.alloc();
-    let is_refused = is_refused(alloc, ASSIGNED, 23, &[0, 0, 0])?;
-    assert_holds(&rt, is_refused, "a reset that is assigned and too wide");
+    let is_wide = is_refused(alloc, ASSIGNED, 23, &[0, 0, 0])?;
+    assert_holds(&rt, is_wide, "a reset that is assigned and too wide");
+    let is_past = is_refused(alloc, HARMLESS, 21, &[0, 0, 1])?;
+    assert_holds(
+        &rt,
+        is_past,
+        "a field past a register in which a reset is assigned",
+    );
     let is_mended = fault_of(alloc, MENDED)?.is_none();
     assert_holds(&rt, is_mended, "a wide reset over which one is assigned");
     Ok(())
