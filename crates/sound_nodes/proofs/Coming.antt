@@ -1,6 +1,6 @@
 -- What is harmless by what is kept of layouts stays so behind an instance, and what rows aren't judged by isn't found in their values.
-use Rattle.std.proofs.Common.{◌≡◌, ℕ, List, [], ◌∷◌, ◌++◌, Bool, true, false, Some, None, Option, refl, ap, sym, subst, ◌∙◌}
-use Rattle.std.specs.Prelude.{suc, nat_eq, bytes_eq, ◌&&◌, ◌||◌, not, if◌then◌else◌}
+use Rattle.std.proofs.Common.{◌≡◌, ℕ, List, [], ◌∷◌, Bool, true, false, Some, None, Option, refl, ap, sym, ◌∙◌}
+use Rattle.std.specs.Prelude.{suc, nat_eq, bytes_eq, ◌&&◌, not, if◌then◌else◌}
 use Rattle.std.specs.List.{list_all, cons_option}
 use Rattle.std.specs.Cmp.Lexicographic.{pointwise}
 use Rattle.std.proofs.lemmas.Slice.Eq.{bytes_eq-Decides}
@@ -11,13 +11,13 @@ use Rattle.rdl_tree.specs.declared.shell.Kind.{Kind}
 use Rattle.rdl_tree.specs.declared.shell.Kind.TheVariants.{Addrmap, Regfile, Reg, Field}
 use Rattle.rdl_tree.specs.declared.shell.Shell.{Shell}
 use Rattle.rdl_tree.specs.declared.value.Value.{Value}
-use Rattle.rdl_scope.specs.Closed.{Head, Parts, no_parts, part}
+use Rattle.rdl_scope.specs.Closed.{Head, Parts, part}
 use Rattle.rdl_elab.specs.declared.layout.Mode.TheVariants.{Compact}
 use Rattle.rdl_elab.specs.Reaches.{Reach, with_path, reaches_by, passed, behind, has_ended, reached}
 use Rattle.sound_laws.specs.Harmless.{Spot, elsewhere, is_fitting, kept_layout, all_elsewhere, spots_by, spots_in, each_at, is_harmless_along, is_harmless_at, is_harmless, are_harmless, is_unjudged}
 use Rattle.sound_laws.proofs.Containers.{is_container}
 use Rattle.sound_laws.proofs.Lists.{both, and_both, not_false, neither_of}
-use Rattle.sound_nodes.specs.Rows.{is_judged, plain_assigns, assigns}
+use Rattle.sound_nodes.specs.Rows.{is_judged, assigns}
 
 -- ---- From an address map or a register file to its instances.
 

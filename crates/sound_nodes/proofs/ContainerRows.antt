@@ -1,5 +1,5 @@
 -- The rows of the instances of an address map or a register file, by what is seen of their components.
-use Rattle.std.proofs.Common.{◌≡◌, ℕ, ◌+◌, ◌*◌, ◌^◌, ◌≤◌, ◌<◌, ◌/◌, max, List, [], ◌∷◌, ◌++◌, map, Bool, true, false, Some, None, Option, ◌⊎◌, inl, inr, refl, ap, sym, subst, ◌∙◌, arith}
+use Rattle.std.proofs.Common.{◌≡◌, ℕ, ◌*◌, ◌^◌, ◌≤◌, ◌<◌, ◌/◌, List, [], ◌∷◌, ◌++◌, map, Bool, true, false, Some, None, Option, ◌⊎◌, inl, inr, refl, ap, sym, subst, ◌∙◌, arith}
 use Rattle.std.specs.Prelude.{◌&&◌, ◌||◌, ◌==◌, not, nat_lt, unwrap_or, if◌then◌else◌}
 use Rattle.std.specs.List.{list_all, list_any}
 use Rattle.std.specs.Option.{option_or}
@@ -14,26 +14,22 @@ use Rattle.rdl_tree.specs.declared.shell.Kind.TheVariants.{Addrmap, Regfile, Reg
 use Rattle.rdl_tree.specs.declared.shell.Shell.{Shell}
 use Rattle.rdl_tree.specs.declared.value.Value.{Value}
 use Rattle.rdl_tree.specs.declared.value.Value.TheVariants as value
-use Rattle.rdl_tree.specs.declared.fault.FaultKind.{FaultKind}
 use Rattle.rdl_tree.specs.declared.fault.FaultKind.TheVariants.{AccessTooWide, StrideTooSmall, AddressOverlap}
 use Rattle.rdl_scope.specs.Target.{body_of}
 use Rattle.rdl_scope.specs.ItemFaults.{first_of, fault_of}
 use Rattle.rdl_scope.specs.Closed.{Head, Parts, no_parts, part, Made, component, head_value}
 use Rattle.rdl_elab.specs.declared.layout.Mode.{Mode}
 use Rattle.rdl_elab.specs.declared.layout.Mode.TheVariants.{Compact, Regalign, Fullalign}
-use Rattle.rdl_elab.specs.declared.layout.Member.{Member}
 use Rattle.rdl_elab.specs.declared.layout.Span.{Span}
 use Rattle.rdl_elab.specs.Capped.{capped}
 use Rattle.rdl_elab.specs.Found.{IsPartFound, ArePartsFound}
 use Rattle.rdl_elab.specs.Layouts.{width_in, number_in, values_of, mode_inside, member, laid_out, layouts, layout_of}
-use Rattle.rdl_elab.specs.Size.{bytes_of}
 use Rattle.rdl_elab.specs.Rows.{Around, Judged, judged_row, inside, rows_in}
 use Rattle.rdl_elab.specs.Faults.{overlap, overlaps_one, kind_fault, row_fault, first_row_fault}
 use Rattle.rdl_elab.specs.Reaches.{Reach, behind, along}
 use Rattle.rdl_elab.proofs.FieldsInside.{kind-allowed}
 use Rattle.rdl_elab.proofs.Fitting.{BytesFit, OneFits, Fit}
 use Rattle.rdl_elab.proofs.SameLevels.{bits-small}
-use Rattle.rdl_seen.specs.declared.mode.Mode as seen_modes
 use Rattle.rdl_seen.specs.declared.seen.Seen.{Seen}
 use Rattle.rdl_seen.specs.declared.seen.ByMode.{ByMode}
 use Rattle.rdl_seen.specs.Layouts as lay
@@ -51,7 +47,7 @@ use Rattle.sound_laws.proofs.Kept.{kept_whole}
 use Rattle.sound_laws.proofs.Lists.{both, not_false, free, free_first, free_rest, free_more}
 use Rattle.sound_nodes.specs.declared.found.Found.{Found}
 use Rattle.sound_nodes.specs.Instances.{SeenInstance}
-use Rattle.sound_nodes.specs.Rows.{faulty_or, is_access_wide, seen_fault, seen_row, rows}
+use Rattle.sound_nodes.specs.Rows.{is_access_wide, seen_fault, seen_row, rows}
 use Rattle.sound_nodes.proofs.Coming.{go_on, passes_on}
 use Rattle.sound_nodes.proofs.Soundness.{size-under, one-stride}
 use Rattle.sound_nodes.proofs.Telling.{Tells, row-tells, here-tells, map-more}

@@ -1,11 +1,9 @@
 -- What is found of a map is what is wrong with it.
 use Rattle.std.proofs.Common.{◌≡◌, ℕ, ◌+◌, ◌^◌, ◌<◌, ◌≤◌, List, [], ◌∷◌, Bool, true, false, Some, None, Option, refl, ap, sym, subst, ◌∙◌, arith}
-use Rattle.std.specs.Prelude.{min, nat_lt, nat_le, option_and_then, Ok, Err, if◌then◌else◌}
-use Rattle.std.specs.Option.{option_or, is_some}
-use Rattle.std.proofs.lemmas.Bool.{ltb-true, ltb-false, lt-ltb, le-ltb, leb-true, le-leb, lt-leb}
+use Rattle.std.specs.Prelude.{min, nat_lt, nat_le, option_and_then, if◌then◌else◌}
+use Rattle.std.specs.Option.{option_or}
+use Rattle.std.proofs.lemmas.Bool.{ltb-true, ltb-false, lt-ltb, le-ltb, le-leb, lt-leb}
 use Rattle.rdl_tree.specs.Items.{Items}
-use Rattle.rdl_tree.specs.declared.fault.Fault.{Fault}
-use Rattle.rdl_tree.specs.declared.fault.FaultKind.{FaultKind}
 use Rattle.rdl_tree.specs.declared.fault.FaultKind.TheVariants.{NoTop, TooManyLevels, TooManyRows, EmptyComponent, MapTooLarge}
 use Rattle.rdl_tree.specs.declared.shell.Kind.TheVariants.{Addrmap}
 use Rattle.rdl_scope.specs.ItemFaults.{first_of, fault_at, fault_of}
@@ -14,7 +12,6 @@ use Rattle.rdl_elab.specs.declared.layout.Mode.TheVariants.{Regalign}
 use Rattle.rdl_elab.specs.Capped.{capped}
 use Rattle.rdl_elab.specs.Faults as fault
 use Rattle.rdl_elab.specs.Faults.{count, first_empty, first_row_fault, fault_of_top, top_from, rows_or, under_top, with_top, unless_fault, elaborated}
-use Rattle.rdl_elab.specs.Known.{HasRows}
 use Rattle.rdl_elab.specs.Rows.{around_top, rows_of, rows_below, top_layout}
 use Rattle.rdl_seen.specs.declared.seen.Seen.{Seen}
 use Rattle.rdl_seen.specs.Meaning.{nothing_around}

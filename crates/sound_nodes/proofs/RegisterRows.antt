@@ -6,11 +6,10 @@ use Rattle.std.specs.List.{list_all, list_any}
 use Rattle.std.specs.Option.{option_or}
 use Rattle.std.proofs.Math.Pow.{pow_mono}
 use Rattle.std.proofs.Math.Nat.{pow-suc}
-use Rattle.std.proofs.lemmas.Bool.{ltb-true, ltb-false, lt-ltb, le-ltb, leb-true, le-leb}
+use Rattle.std.proofs.lemmas.Bool.{ltb-true, ltb-false, lt-ltb, le-ltb, le-leb}
 use Rattle.std.proofs.lemmas.Nat.{leading_length}
 use Rattle.rdl_tree.specs.Items.{Items}
 use Rattle.rdl_tree.specs.Properties.{row, on}
-use Rattle.rdl_tree.specs.declared.shell.Kind.{Kind}
 use Rattle.rdl_tree.specs.declared.shell.Kind.TheVariants.{Reg, Field}
 use Rattle.rdl_tree.specs.declared.shell.Shell.{Shell}
 use Rattle.rdl_tree.specs.declared.value.Value.{Value}
@@ -53,7 +52,7 @@ use Rattle.sound_laws.proofs.Registers.{field_there, nothing_below}
 use Rattle.sound_laws.proofs.RowValues.{row_with}
 use Rattle.sound_nodes.specs.Instances.{SeenInstance}
 use Rattle.sound_nodes.specs.declared.found.Found.{Found}
-use Rattle.sound_nodes.specs.declared.found.Found.TheVariants.{Clear, Faulty, Untold}
+use Rattle.sound_nodes.specs.declared.found.Found.TheVariants.{Untold}
 use Rattle.sound_nodes.specs.Rows.{faulty_or, field_fault, wide_reset, reset_or, fields}
 use Rattle.sound_nodes.proofs.Coming.{fields_go, field-passes, fitting-reached, unjudged_behind, no_reset, no_sw}
 use Rattle.sound_nodes.proofs.Fields.{fits, acc, same-share, not-both, part-access}

@@ -5,7 +5,6 @@ use Rattle.std.specs.List.{list_all}
 use Rattle.rdl_tree.specs.Address.{inner, body_at}
 use Rattle.rdl_tree.specs.ItemAt.{item_at}
 use Rattle.rdl_tree.specs.Items.{Items, no_items, plain, holder, named, own, default, dynamic, define, anonymous}
-use Rattle.rdl_tree.specs.Component.{holder_kind}
 use Rattle.rdl_tree.specs.declared.description.Item.{Item}
 use Rattle.rdl_tree.specs.declared.description.Item.TheVariants.{Define, Instance, Own, Default, Dynamic}
 use Rattle.rdl_tree.specs.declared.description.Of.TheVariants.{Named, Anonymous}
@@ -13,23 +12,20 @@ use Rattle.rdl_tree.specs.Properties.{on}
 use Rattle.rdl_tree.specs.declared.property.Property.TheVariants.{Addressing}
 use Rattle.rdl_tree.specs.declared.shell.Kind.{Kind}
 use Rattle.rdl_tree.specs.declared.shell.Kind.TheVariants.{Addrmap, Regfile, Reg, Field}
-use Rattle.rdl_tree.specs.declared.shell.Shell.{Shell}
-use Rattle.rdl_tree.specs.declared.value.Value.{Value}
 use Rattle.rdl_scope.specs.Target.{body_of}
-use Rattle.rdl_scope.specs.Types.{held_by, type_from, type_of, component_of}
+use Rattle.rdl_scope.specs.Types.{held_by, type_from, component_of}
 use Rattle.rdl_scope.specs.ItemFaults.{fault_of}
-use Rattle.rdl_scope.specs.Closed.{Head, Parts, no_parts, part, Made, parts, component}
+use Rattle.rdl_scope.specs.Closed.{Head, Parts, Made, parts, component}
 use Rattle.rdl_scope.proofs.AsFound.{as_found}
 use Rattle.rdl_elab.specs.declared.layout.Mode.{Mode}
-use Rattle.rdl_elab.specs.declared.layout.Mode.TheVariants.{Compact, Regalign, Fullalign}
+use Rattle.rdl_elab.specs.declared.layout.Mode.TheVariants.{Compact}
 use Rattle.rdl_elab.specs.declared.layout.Layout.{Layout}
 use Rattle.rdl_elab.specs.declared.layout.Member.{Member}
 use Rattle.rdl_elab.specs.declared.layout.Placement.{Placement}
 use Rattle.rdl_elab.specs.declared.layout.Span.{Span}
 use Rattle.rdl_elab.specs.Bits.{bits_from}
 use Rattle.rdl_elab.specs.Capped.{capped, capped_span}
-use Rattle.rdl_elab.specs.Found.{IsPartFound, ArePartsFound}
-use Rattle.rdl_elab.specs.Layouts.{mode_of, mode_in as mode_by, values_of, mode_inside, member, container, laid_out, layouts, layout_of}
+use Rattle.rdl_elab.specs.Layouts.{mode_in as mode_by, values_of, mode_inside, member, container, laid_out, layouts, layout_of}
 use Rattle.rdl_elab.specs.Size.{end_of, greatest_end}
 use Rattle.rdl_elab.specs.Start.{start_of, spans_from}
 use Rattle.rdl_elab.specs.Rows.{Around as RowsAround, judged_row, inside, rows_in}
@@ -40,23 +36,21 @@ use Rattle.rdl_elab.proofs.Fitting.{Fit, fits-inside}
 use Rattle.rdl_elab.proofs.PartsFound.{parts-found}
 use Rattle.rdl_elab.proofs.RowsAlong.{along-inside}
 use Rattle.rdl_elab.proofs.SameLevels.{bits-small}
-use Rattle.rdl_nodes.specs.Part.{reset_of, access_of}
 use Rattle.rdl_nodes.specs.Parts.{parts_of}
 use Rattle.rdl_nodes.proofs.Kept.{resets_are, accesses_are}
 use Rattle.rdl_seen.specs.declared.mode.Mode as seen_modes
 use Rattle.rdl_seen.specs.declared.seen.Seen.{Seen}
 use Rattle.rdl_seen.specs.declared.seen.Modes.{Modes}
-use Rattle.rdl_seen.specs.declared.values.Values.{Values}
 use Rattle.rdl_seen.specs.Contents as contents
 use Rattle.rdl_seen.specs.Fields.{resets, accesses}
 use Rattle.rdl_seen.specs.Inside.{Spots, no_instances}
 use Rattle.rdl_seen.specs.Layouts as lay
 use Rattle.rdl_seen.specs.Layouts.{Layouts, layout_under}
-use Rattle.rdl_seen.specs.Meaning.{nothing_around, around_before, around_at, node_at, stated_of, HasValues}
+use Rattle.rdl_seen.specs.Meaning.{nothing_around, around_before, around_at, node_at, stated_of}
 use Rattle.rdl_seen.specs.Modes.{has_mode, all_modes}
 use Rattle.rdl_seen.specs.Node as node
 use Rattle.rdl_seen.specs.Node.{Around, body_of as walked_body, node as node_of, is_ordered, apart_of}
-use Rattle.rdl_seen.specs.Slots.{Core, Node, Slots}
+use Rattle.rdl_seen.specs.Slots.{Node, Slots}
 use Rattle.rdl_seen.specs.Values.{no_values, register_bits}
 use Rattle.rdl_seen.proofs.KeptAt.{kept_are_nodes}
 use Rattle.rdl_seen.proofs.Stands.{nodes_have_values}
@@ -65,13 +59,13 @@ use Rattle.node_laws.specs.Laid.{laying, seen_span}
 use Rattle.node_laws.specs.Meant.{IsCore, IsSeen}
 use Rattle.node_laws.specs.Modes.{seen_mode}
 use Rattle.node_laws.specs.Seen.{layouts_seen, members_seen, spots_seen}
-use Rattle.node_laws.specs.Sound.{apart_seen, harmless, resets_seen, accesses_seen}
+use Rattle.node_laws.specs.Sound.{harmless, resets_seen, accesses_seen}
 use Rattle.node_laws.proofs.Nodes.{kept_are_seen}
 use Rattle.node_laws.proofs.Walks.{walks}
 use Rattle.sound_laws.specs.Harmless.{in_register as in_spot, kept_layout, are_apart, spots_by, spots_in, is_harmless, are_harmless, is_unjudged}
 use Rattle.sound_laws.specs.Laws.{IsInside}
 use Rattle.sound_laws.specs.Search.{IsKeptWhole}
-use Rattle.sound_laws.specs.Sound.{are_strides_wide, are_own_harmless as own_harmless}
+use Rattle.sound_laws.specs.Sound.{are_strides_wide}
 use Rattle.sound_laws.proofs.Containers.{is_container}
 use Rattle.sound_laws.proofs.Fitting.{fitting_harmless}
 use Rattle.sound_laws.proofs.Kept.{kept_suffices}
@@ -80,18 +74,18 @@ use Rattle.sound_laws.proofs.Maps.{faultless}
 use Rattle.sound_laws.proofs.Named.{own_found}
 use Rattle.sound_laws.proofs.Registers.{nothing_below, same_layouts}
 use Rattle.sound_nodes.specs.declared.found.Found.{Found}
-use Rattle.sound_nodes.specs.declared.found.Found.TheVariants.{Clear, Faulty, Untold}
-use Rattle.sound_nodes.specs.Instances.{SeenInstance, instances_from}
+use Rattle.sound_nodes.specs.declared.found.Found.TheVariants.{Clear, Untold}
+use Rattle.sound_nodes.specs.Instances.{instances_from}
 use Rattle.sound_nodes.specs.Rows as rows
 use Rattle.sound_nodes.specs.Rows.{assigns, defaults_before, defaults_at, component_address, fields, fields_under, fields_if, in_register, are_own_harmless, is_costly, in_container, in_kind, in_component, in_body, below_instance, searched}
 use Rattle.sound_nodes.proofs.Assigned.{all-fit}
 use Rattle.sound_nodes.proofs.Coming.{enters, fields_go, register-enters, unjudged_behind, unjudged_own}
-use Rattle.sound_nodes.proofs.ContainerRows.{LieApart, TellsBelow, rows-tell}
+use Rattle.sound_nodes.proofs.ContainerRows.{TellsBelow, rows-tell}
 use Rattle.sound_nodes.proofs.Fields.{register-is}
 use Rattle.sound_nodes.proofs.RegisterRows.{AreFieldParts, field-parts, fields-tell, assigned-fields-tell}
 use Rattle.sound_nodes.proofs.Soundness.{has-all, same-mode, seen-sound, spans-under, under-mode, same-under}
-use Rattle.sound_nodes.proofs.Telling.{Tells, tells-same}
-use Rattle.sound_nodes.proofs.Walked.{StandsAt, stands-at, IsSeenPart, AreSeenParts, body-seen}
+use Rattle.sound_nodes.proofs.Telling.{Tells}
+use Rattle.sound_nodes.proofs.Walked.{StandsAt, stands-at, AreSeenParts, body-seen}
 
 -- ---- Defaults, and where components are written.
 

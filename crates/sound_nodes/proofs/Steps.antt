@@ -1,5 +1,5 @@
 -- One step of the loops of a search.
-use Rattle.std.proofs.Common.{◌≡◌, ℕ, zero, suc, ◌+◌, ◌≤◌, Bool, true, false, List, [], ◌∷◌, ◌++◌, take, drop, length, map, slice_get, nat_lt, if◌then◌else◌, Some, None, Option, refl, sym, ap, ◌∙◌, arith}
+use Rattle.std.proofs.Common.{◌≡◌, ℕ, zero, suc, ◌+◌, ◌≤◌, Bool, true, false, List, [], ◌∷◌, ◌++◌, take, drop, length, slice_get, nat_lt, if◌then◌else◌, Some, None, refl, sym, ap, ◌∙◌, arith}
 use Rattle.rdl_tree.specs.Items.{Items, no_items, plain, holder, named, own, default, dynamic, define, anonymous}
 use Rattle.rdl_tree.specs.Address.{body_at}
 use Rattle.rdl_tree.specs.View.{list_of, add}
@@ -7,7 +7,6 @@ use Rattle.rdl_tree.specs.declared.description.Item.{Item}
 use Rattle.rdl_tree.specs.declared.description.Item.TheVariants as item
 use Rattle.rdl_tree.specs.declared.description.Item.TheVariants.{Define as DefineItem, Instance}
 use Rattle.rdl_tree.specs.declared.description.Of.TheVariants as Of
-use Rattle.rdl_tree.specs.declared.fault.FaultKind.{FaultKind}
 use Rattle.rdl_seen.specs.declared.mode.Mode.{Mode}
 use Rattle.rdl_seen.specs.declared.seen.Seen.{Seen}
 use Rattle.rdl_seen.specs.declared.values.Values.{Values}

@@ -3,7 +3,7 @@ use Rattle.std.proofs.Common.{◌≡◌, ℕ, zero, suc, Bool, true, false, List
 use Rattle.std.specs.Prelude.{option_and_then}
 use Rattle.rdl_tree.specs.Address.{inner}
 use Rattle.rdl_tree.specs.Component.{holder_kind}
-use Rattle.rdl_tree.specs.Items.{Items, no_items, plain, holder, Plain, named, own, default, dynamic, Holder, define, anonymous}
+use Rattle.rdl_tree.specs.Items.{Items, no_items, plain, holder, named, own, default, dynamic, define, anonymous}
 use Rattle.rdl_tree.specs.declared.shell.Kind.{Kind}
 use Rattle.rdl_tree.specs.declared.shell.Kind.TheVariants.{Addrmap, Regfile, Reg, Field}
 use Rattle.rdl_tree.specs.declared.shell.Shell.{Shell}
@@ -14,10 +14,10 @@ use Rattle.rdl_seen.specs.declared.seen.Seen.{Seen}
 use Rattle.rdl_seen.specs.Fields.{of_type}
 use Rattle.rdl_seen.specs.Inside.{Inside, no_instances, with_instance, nothing_within}
 use Rattle.rdl_seen.specs.Meaning.{nothing_around, around_before, around_at}
-use Rattle.rdl_seen.specs.Node.{Known, Around, with_type, after_plain, after_holder, known_of, within_type, walked, known}
+use Rattle.rdl_seen.specs.Node.{Known, Around, with_type, after_plain, after_holder, within_type, walked, known}
 use Rattle.node_laws.specs.Laid.{laying}
 use Rattle.node_laws.specs.Meant.{AreKnown, MeansAll, IsSeen, IsKnown}
-use Rattle.node_laws.proofs.Accepted.{IsNamed, HolderAccepted, AreAccepted, all-accepted}
+use Rattle.node_laws.proofs.Accepted.{IsNamed, AreAccepted, all-accepted}
 use Rattle.node_laws.proofs.Along.{accepted-there}
 use Rattle.node_laws.proofs.Walks.{made_here, core_here, means_all_behind, means_all_behind_component, node-here}
 use Rattle.sound_nodes.specs.Instances.{SeenInstance, seen_in, seen_instance, instances_from}

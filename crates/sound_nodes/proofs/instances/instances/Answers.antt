@@ -1,4 +1,4 @@
-use Rattle.std.proofs.Common.{rules, ◌≡◌, ◌+◌, ◌++◌, ◌<◌, drop, length, sym, ap, ◌∙◌, append_assoc, arith, option_copied, slice_get}
+use Rattle.std.proofs.Common.{◌≡◌, ◌+◌, ◌++◌, ◌<◌, drop, length, sym, ap, ◌∙◌, append_assoc, arith, option_copied, slice_get}
 use Rattle.rdl_tree.specs.View.{items_of}
 use Rattle.rdl_nodes.specs.Parts.{of_item}
 use Rattle.rdl_nodes.specs.View.{slots_of}

@@ -1,6 +1,6 @@
 use Rattle.std.proofs.lemmas.Option.{slice_get_read}
 use Rattle.std.proofs.lemmas.Bool.{lt-ltb}
-use Rattle.std.proofs.Common.{rules, refl, ◌+◌, ◌-◌, ◌<◌, ◌++◌, ◌∷◌, [], true, false, ◌≡◌, take, drop, length, ap, sym, subst, ◌∙◌, arith, suc, Some, None, slice_get, nat_lt, option_map, IfOk}
+use Rattle.std.proofs.Common.{rules, refl, ◌+◌, ◌-◌, ◌<◌, ◌++◌, ◌∷◌, [], true, false, ◌≡◌, take, drop, length, ap, sym, subst, ◌∙◌, arith, suc, Some, None, slice_get, option_map, IfOk}
 use Rattle.rdl_tree.specs.Address.{body_at}
 use Rattle.rdl_nodes.specs.KeptNode.{kept_of}
 use Rattle.rdl_seen.specs.Meaning.{node_at}
