@@ -6,6 +6,8 @@ mod held;
 #[cfg(test)]
 mod marks;
 pub mod nowhere;
+#[cfg(test)]
+mod rows;
 pub mod steps;
 #[cfg(test)]
 mod tree;

@@ -132,7 +132,7 @@ resets-fit (span ∷ spans) (part at s h inside rest) good room =
 
 -- ---- Accesses.
 
-abbrev acc : Option Value → Access
+abbrev pub acc : Option Value → Access
 acc None = Other
 acc (Some x) = access_of x
 
@@ -169,10 +169,10 @@ share-by Other OnlyReads = refl
 share-by Other OnlyWrites = refl
 share-by Other Other = refl
 
-same-share : (x y : Option Value) → fault.may_share y x ≡ seen.may_share (acc x) (acc y)
+pub same-share : (x y : Option Value) → fault.may_share y x ≡ seen.may_share (acc x) (acc y)
 same-share x y = (λ i. reads-is y i && writes-is x i || writes-is y i && reads-is x i) ∙ share-by (acc x) (acc y)
 
-not-both : (p q : Bool) → (not p || q) ≡ not (p && not q)
+pub not-both : (p q : Bool) → (not p || q) ≡ not (p && not q)
 not-both true true = refl
 not-both true false = refl
 not-both false q = refl
@@ -187,7 +187,7 @@ field-access : (o : Option Value) (a : Access) → option_map access_of o ≡ So
 field-access None a e = absurd cc
 field-access (Some x) a e = let same : access_of x ≡ a = cc in sym same
 
-part-access : (s : Shell) (h : Head) → HasValues h (stated_of h) → access (stated_of h) ≡ acc (value_with None s h Sw)
+pub part-access : (s : Shell) (h : Head) → HasValues h (stated_of h) → access (stated_of h) ≡ acc (value_with None s h Sw)
 part-access s h values = by (on Sw h.kind) refl
   where
     by : (test : Bool) → on Sw h.kind ≡ test
@@ -237,7 +237,7 @@ kept-width n valid = ap (λ (b : Bool). if b then n else 0) valid
 
 -- of a register
 module _ (h : Head) (reg : h.kind ≡ Reg) (v : Values) (values : HasValues h v) (taken : Taken h) where
-  register-is : (values_of h).regwidth ≡ register_bits v
+  pub register-is : (values_of h).regwidth ≡ register_bits v
   register-is =
       let there = values.regwidth (ap (on Regwidth) reg) in
       ap (λ o. width_in (number_in o)) there ∙ kept-width (register_bits v) (width-valid (stated h (row Regwidth).name) (register_bits v) (taken Regwidth) there)

@@ -1,9 +1,17 @@
 pub mod Assigned
+pub mod Coming
+pub mod ContainerRows
 pub mod Ends
 pub mod Examples
 pub mod Fields
 pub mod Good
+pub mod MapsFound
 pub mod Nodes
+pub mod RegisterRows
+pub mod Searched
 pub mod Soundness
+pub mod Steps
+pub mod Telling
 pub mod TopsFound
 pub mod Unique
+pub mod Walked

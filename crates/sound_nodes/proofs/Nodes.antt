@@ -33,7 +33,7 @@ pub seen_are_sound : SeenAreSound
 seen_are_sound d a c m none is e = seen-sound d none a c m is e
 
 -- how large a component is, as it is seen
-seen-size : (c : Made) (s : Seen) (m : Mode) → IsSeen c s → number_under s.size (seen_mode m) ≡ (kept_layout m c.head c.parts).size
+pub seen-size : (c : Made) (s : Seen) (m : Mode) → IsSeen c s → number_under s.size (seen_mode m) ≡ (kept_layout m c.head c.parts).size
 seen-size c s m is = ap (λ (z : ByMode). number_under z (seen_mode m)) is.size ∙ size-under m c.head c.parts
 
 pub nodes_tell : NodesTell
@@ -54,7 +54,7 @@ seen_is_cautious d none m c coming is whole over =
 
 -- ---- The limits.
 
-none-of : {X : Type 0} (o : Option X) → is_some o ≡ false → o ≡ None
+pub none-of : {X : Type 0} (o : Option X) → is_some o ≡ false → o ≡ None
 none-of None e = refl
 none-of (Some x) e = absurd cc
 

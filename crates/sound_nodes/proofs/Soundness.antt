@@ -37,7 +37,7 @@ use Rattle.sound_nodes.proofs.Good.{made-values, all-good}
 
 -- ---- Sets of modes.
 
-has-all : (b : Bool) (m : seen_modes.Mode) → has_mode (all_modes b) m ≡ b
+pub has-all : (b : Bool) (m : seen_modes.Mode) → has_mode (all_modes b) m ≡ b
 has-all b mode.Compact = refl
 has-all b mode.Regalign = refl
 has-all b mode.Fullalign = refl
@@ -47,7 +47,7 @@ has-both s t mode.Compact = refl
 has-both s t mode.Regalign = refl
 has-both s t mode.Fullalign = refl
 
-same-mode : (m : seen_modes.Mode) → seen_mode (mode_of (word_of m)) ≡ m
+pub same-mode : (m : seen_modes.Mode) → seen_mode (mode_of (word_of m)) ≡ m
 same-mode mode.Compact = refl
 same-mode mode.Regalign = refl
 same-mode mode.Fullalign = refl
@@ -60,13 +60,13 @@ size-under Compact h inside = refl
 size-under Regalign h inside = refl
 size-under Fullalign h inside = refl
 
-spans-under : (m : Mode) (h : Head) (inside : Parts) → (layout_under (layouts_seen (record { head = h; parts = inside })) (seen_mode m)).spans ≡ map seen_span (kept_layout m h inside).spans
+pub spans-under : (m : Mode) (h : Head) (inside : Parts) → (layout_under (layouts_seen (record { head = h; parts = inside })) (seen_mode m)).spans ≡ map seen_span (kept_layout m h inside).spans
 unfolding layouts_seen
 spans-under Compact h inside = refl
 spans-under Regalign h inside = refl
 spans-under Fullalign h inside = refl
 
-one-stride : (size : ℕ) (stride : Option ℕ) → is_stride_wide size stride ≡ not (nat_lt (unwrap_or stride size) size)
+pub one-stride : (size : ℕ) (stride : Option ℕ) → is_stride_wide size stride ≡ not (nat_lt (unwrap_or stride size) size)
 one-stride size None = sym (ap not (le-ltb size size (omega arith)))
 one-stride size (Some n) = refl
 
@@ -74,12 +74,12 @@ same-strides : (m : Mode) (ps : Parts) → lay.are_strides_wide (seen_mode m) (m
 same-strides m no_parts = refl
 same-strides m (part at s h inside rest) = λ i. (ap (λ n. is_stride_wide n s.stride) (size-under m h inside) ∙ one-stride (kept_layout m h inside).size s.stride) i && same-strides m rest i
 
-same-under : (m : Mode) (h : Head) (inside : Parts)
+pub same-under : (m : Mode) (h : Head) (inside : Parts)
     → lay.is_apart_under (layouts_seen (record { head = h; parts = inside })) (members_seen inside) (seen_mode m)
     ≡ (are_strides_wide kept_layout m inside && are_apart (kept_layout m h inside).spans)
 same-under m h inside = λ i. same-strides m inside i && (ap lay.are_apart (spans-under m h inside) ∙ same-apart (kept_layout m h inside).spans) i
 
-under-mode : (l : lay.Layouts) (ms : List Member) (m : seen_modes.Mode) → has_mode (apart_modes l ms) m ≡ lay.is_apart_under l ms m
+pub under-mode : (l : lay.Layouts) (ms : List Member) (m : seen_modes.Mode) → has_mode (apart_modes l ms) m ≡ lay.is_apart_under l ms m
 under-mode l ms mode.Compact = refl
 under-mode l ms mode.Regalign = refl
 under-mode l ms mode.Fullalign = refl
