@@ -1,24 +1,33 @@
 -- The layouts that code makes of values and instances are those of the component.
-use Rattle.std.proofs.Common.{◌≡◌, ℕ, List, [], ◌∷◌, map, Option, refl, sym, ap, ◌∙◌}
-use Rattle.std.specs.Prelude.{Bool, true, false, ◌&&◌, ◌==◌, Result, Ok, Err, IfOk}
+use Rattle.std.proofs.Common.{◌≡◌, ℕ, ◌-◌, ◌^◌, List, [], ◌∷◌, map, Option, ◌⊎◌, inl, inr, refl, sym, ap, ◌∙◌}
+use Rattle.std.specs.Prelude.{Bool, true, false, ◌&&◌, ◌==◌, min, is_some, Result, Ok, Err, IfOk}
 use Rattle.std.specs.List.{list_all}
 use Rattle.std.proofs.lemmas.Map.Views.{exact_unsigned_eq}
+use Rattle.rdl_tree.specs.Shell.{bare_shell}
 use Rattle.rdl_tree.specs.declared.shell.Kind.{Kind}
 use Rattle.rdl_tree.specs.declared.shell.Kind.TheVariants.{Addrmap, Regfile, Reg, Field}
-use Rattle.rdl_elab.specs.EachMember.{member_under}
+use Rattle.rdl_tree.specs.declared.shell.Shell.{Shell}
+use Rattle.rdl_scope.specs.ItemFaults.{product}
 use Rattle.rdl_elab.specs.declared.layout.LayoutValues.{LayoutValues}
 use Rattle.rdl_nodes.specs.Part.{Part, member_of}
+use Rattle.rdl_elab.specs.declared.layout.FieldBits.{FieldBits}
+use Rattle.rdl_elab.specs.declared.layout.Layout as component
 use Rattle.rdl_elab.specs.declared.layout.Member as elab
 use Rattle.rdl_elab.specs.declared.layout.Mode.{Mode}
 use Rattle.rdl_elab.specs.declared.layout.Mode.TheVariants.{Compact, Regalign, Fullalign}
-use Rattle.rdl_elab.specs.Capped.{capped_layout, IsAlignment}
-use Rattle.rdl_elab.specs.Layouts.{layout_values, power_in, laid_out}
+use Rattle.rdl_elab.specs.declared.layout.Span.{Span}
+use Rattle.rdl_elab.specs.BarePlaces.{IsBareItem}
+use Rattle.rdl_elab.specs.Bits.{bits_from}
+use Rattle.rdl_elab.specs.Capped.{capped, capped_span, capped_layout, IsAlignment}
+use Rattle.rdl_elab.specs.EachMember.{first_of}
+use Rattle.rdl_elab.specs.Layouts.{layout_values, power_in, container, laid_out}
+use Rattle.rdl_elab.specs.Size.{bytes_of}
 use Rattle.rdl_elab.proofs.Powers.{power_in-power}
 use Rattle.rdl_seen.specs.declared.seen.ByMode.{ByMode}
 use Rattle.rdl_seen.specs.declared.values.Values.{Values}
 use Rattle.rdl_seen.specs.Layouts.{Member}
-use Rattle.node_laws.specs.Laid.{value_in, each_of, seen_layout, laying}
-use Rattle.node_laws.specs.Laying.{is_one_number, is_of_one_size, is_small, members_under, layout_by, one_by, each_by}
+use Rattle.node_laws.specs.Laid.{value_in, seen_layout, laying}
+use Rattle.node_laws.specs.Laying.{is_one_number, is_of_one_size, is_small, members_under, placement_under, bits_under, as_large, layout_by, one_by, each_by}
 
 pub power_alignment : (o : Option ℕ) → IsAlignment (power_in o)
 power_alignment o = power_in-power o
@@ -62,9 +71,13 @@ one_size mode (m ∷ ms) e =
     λ i. first (one_member mode m two.0 i) (one_size mode ms two.1 i)
 
 -- what is taken of each instance, one after another
-pub members_are : (mode : Mode) (ps : List Part) → map (λ p. member_under mode (each_of (member_of p))) ps ≡ members_under mode (map member_of ps)
-members_are mode [] = refl
-members_are mode (p ∷ ps) = λ i. member_under mode (each_of (member_of p)) ∷ members_are mode ps i
+pub placements_are : (mode : Mode) (ps : List Part) → map (λ p. placement_under mode (member_of p)) ps ≡ map (λ (i : elab.Member). i.placement) (members_under mode (map member_of ps))
+placements_are mode [] = refl
+placements_are mode (p ∷ ps) = ap (λ xs. placement_under mode (member_of p) ∷ xs) (placements_are mode ps)
+
+pub bits_are : (mode : Mode) (ps : List Part) → map (λ p. bits_under mode (member_of p)) ps ≡ map (λ (i : elab.Member). i.bits) (members_under mode (map member_of ps))
+bits_are mode [] = refl
+bits_are mode (p ∷ ps) = ap (λ xs. bits_under mode (member_of p) ∷ xs) (bits_are mode ps)
 
 pub sizes_are : (ps : List Part) → list_all (λ p. is_of_one_size (member_of p)) ps ≡ list_all is_of_one_size (map member_of ps)
 sizes_are [] = refl
@@ -73,6 +86,35 @@ sizes_are (p ∷ ps) = ap (λ b. is_of_one_size (member_of p) && b) (sizes_are p
 pub if_ok : {X E : Type 0} {P Q : X → Type 0} (r : Result X E) → ((x : X) → P x → Q x) → IfOk r P → IfOk r Q
 if_ok (Ok x) f p = f x p
 if_ok (Err e) f p = tt
+
+-- ---- A component under a mode.
+
+pub container_laid : (k : Kind) (v : LayoutValues) (mode : Mode) (ps : List Part) → (k ≡ Addrmap) ⊎ (k ≡ Regfile)
+    → capped_layout (container v.alignment mode (map (λ p. placement_under mode (member_of p)) ps)) ≡ capped_layout (laid_out k v mode (members_under mode (map member_of ps)))
+container_laid k v mode ps is = ap (λ xs. capped_layout (container v.alignment mode xs)) (placements_are mode ps) ∙ by is
+  where
+    by : (k ≡ Addrmap) ⊎ (k ≡ Regfile) → capped_layout (laid_out Addrmap v mode (members_under mode (map member_of ps))) ≡ capped_layout (laid_out k v mode (members_under mode (map member_of ps)))
+    by (inl e) = ap (λ kind. capped_layout (laid_out kind v mode (members_under mode (map member_of ps)))) (sym e)
+    by (inr e) = ap (λ kind. capped_layout (laid_out kind v mode (members_under mode (map member_of ps)))) (sym e)
+
+pub register_laid : (k : Kind) (v : LayoutValues) (mode : Mode) (ps : List Part) (fields : List FieldBits) (spans : List Span) → k ≡ Reg → fields ≡ map (λ p. bits_under mode (member_of p)) ps
+    → spans ≡ map capped_span (bits_from 0 fields)
+    → ◌≡◌ {A = component.Layout} (record { size = capped (bytes_of v.regwidth); access = bytes_of v.accesswidth; spans = spans }) (capped_layout (laid_out k v mode (members_under mode (map member_of ps))))
+register_laid k v mode ps fields spans is made bits =
+    let all = bits ∙ ap (λ fs. map capped_span (bits_from 0 fs)) (made ∙ bits_are mode ps) in
+    (λ i. record { size = capped (bytes_of v.regwidth); access = bytes_of v.accesswidth; spans = all i }) ∙ ap (λ kind. capped_layout (laid_out kind v mode (members_under mode (map member_of ps)))) (sym is)
+
+-- ---- An instance that says nothing but its name.
+
+pub bare_member : (mode : Mode) (m : Member) → m.shell ≡ bare_shell m.shell.name → IsBareItem (as_large mode m) (placement_under mode m)
+bare_member mode m bare = record {
+  size = refl;
+  access = refl;
+  elements = ap (λ (s : Shell). min (product s.dims) (2 ^ 128 - 1)) bare;
+  single = ap (λ (s : Shell). is_some (first_of s.dims)) bare;
+  address = ap (λ (s : Shell). s.address) bare;
+  align = ap (λ (s : Shell). s.align) bare;
+}
 
 -- ---- The layouts of a kind.
 

@@ -4,4 +4,5 @@ pub mod AsLaid
 pub mod Inner
 pub mod Laying
 pub mod Nodes
+pub mod Placed
 pub mod Walks

@@ -1,18 +1,21 @@
 //! How `rdl_elab` lays components out, for nodes.
-ghost use Rattle.std.specs.Prelude.{◌≡◌, IfOk, map, true, Some};
+ghost use Rattle.std.specs.Prelude.{◌≡◌, ◌∷◌, IfOk, OnOk, List, map, true, Some};
 ghost use Rattle.std.specs.List.{list_all};
-ghost use Rattle.node_laws.specs.Laid.{value_in, each_of, seen_span, seen_layout};
-ghost use Rattle.node_laws.specs.Laying.{is_one_number, is_of_one_size, is_small, layout_by, one_by, each_by};
+ghost use Rattle.node_laws.specs.Laid.{value_in, seen_span, seen_layout};
+ghost use Rattle.node_laws.specs.Laying.{is_one_number, is_of_one_size, is_small, members_under, placement_under, bits_under, as_large, layout_by, one_by, each_by};
 ghost use Rattle.node_laws.specs.Modes.{layout_mode, seen_mode};
-ghost use Rattle.rdl_elab.specs.Capped.{IsAlignment};
-ghost use Rattle.rdl_elab.specs.EachMember.{member_under};
-ghost use Rattle.rdl_elab.specs.Layouts.{layout_values, power_in, width_in};
+ghost use Rattle.rdl_elab.specs.Capped.{IsAlignment, capped_layout};
+ghost use Rattle.rdl_elab.specs.Layouts.{layout_values, power_in, width_in, container, laid_out};
+ghost use Rattle.rdl_elab.specs.Placing.{with_behind};
+ghost use Rattle.rdl_elab.specs.declared.layout.Placement.{Placement};
 ghost use Rattle.rdl_nodes.specs.Part.{member_of};
 ghost use Rattle.rdl_seen.specs.Modes.{number_under};
 
 use rdl_elab::layout;
-use rdl_elab::layout::component::lay_out;
-use rdl_elab::layout::{FieldBits, LayoutValues, Member, Placement};
+use rdl_elab::layout::bits::bits;
+use rdl_elab::layout::component::{field, register};
+use rdl_elab::layout::placing::Placing;
+use rdl_elab::layout::{FieldBits, LayoutValues, Placement, Spans};
 use rdl_nodes::layouts::{Layout, Layouts, Span};
 use rdl_nodes::lays::Lays;
 use rdl_nodes::parts::Part;
@@ -93,31 +96,36 @@ fn under(numbers: ByMode, mode: layout::Mode) -> u64
     }
 }
 
-/// What the layout of a component under a mode takes of an instance.
-fn member(part: &Part, mode: layout::Mode) -> Member
-    ensures { result ≡ member_under mode (each_of (member_of part.now)) }
+/// What the layout of an address map or a register file under a mode takes of an instance.
+#[inline]
+fn placement(part: &Part, mode: layout::Mode) -> Placement
+    ensures { result ≡ placement_under mode (member_of part.now) }
 {
     let shell = part.shell();
     let dims = shell.dims();
-    let size = under(part.size(), mode);
-    let width = match dims {
-        [] => Number::from(size),
+    Placement {
+        size: under(part.size(), mode),
+        access: under(part.widest(), mode),
+        elements: product(dims),
+        is_array: !dims.is_empty(),
+        address: shell.address(),
+        stride: shell.stride(),
+        align: shell.align(),
+    }
+}
+
+/// What the layout of a register takes of the instance of a field.
+fn field_bits(part: &Part, mode: layout::Mode) -> FieldBits
+    ensures { result ≡ bits_under mode (member_of part.now) }
+{
+    let shell = part.shell();
+    let width = match shell.dims() {
+        [] => Number::from(under(part.size(), mode)),
         [width, ..] => *width,
     };
-    Member {
-        placement: Placement {
-            size,
-            access: under(part.widest(), mode),
-            elements: product(dims),
-            is_array: !dims.is_empty(),
-            address: shell.address(),
-            stride: shell.stride(),
-            align: shell.align(),
-        },
-        bits: FieldBits {
-            width,
-            range: shell.range(),
-        },
+    FieldBits {
+        width,
+        range: shell.range(),
     }
 }
 
@@ -155,15 +163,87 @@ fn seen_layout(alloc: Global, layout: &layout::Layout) -> Result<Layout, AllocEr
     Ok(Layout::new(layout.size, layout.access, spans))
 }
 
-/// What the layout of a component under a mode takes of its instances.
-fn members(alloc: Global, parts: &[Part], mode: layout::Mode) -> Result<Vec<Member>, AllocError>
-    ensures { IfOk result (λ members. members.items ≡ map (λ p. member_under mode (each_of (member_of p))) parts.now) }
+/// A component with nothing in it that is as large as that of an instance under a mode.
+#[inline]
+fn as_large(alloc: Global, part: &Part, mode: layout::Mode) -> layout::Layout
+    ensures { result ≡ as_large mode (member_of part.now) }
 {
-    let mut members = Vec::with_capacity(alloc, parts.len())?;
-    for part in parts {
-        members.push(member(part, mode))?;
+    layout::Layout {
+        size: under(part.size(), mode),
+        access: under(part.widest(), mode),
+        spans: Spans::from_vec(Vec::new(alloc)),
     }
-    Ok(members)
+}
+
+/// Places one more instance. If it says nothing but its name, no numbers are taken of it.
+#[inline]
+fn put_next(
+    alloc: Global,
+    placing: &mut Placing,
+    part: &Part,
+    mode: layout::Mode,
+) -> Result<(), AllocError>
+    requires alignment { IsAlignment placing.old.alignment }
+    requires mode { placing.old.mode ≡ mode }
+    ensures alignment { placing.new.alignment ≡ placing.old.alignment }
+    ensures mode { placing.new.mode ≡ placing.old.mode }
+    ensures one { OnOk result ((behind : List Placement) → with_behind placing.old (placement_under mode (member_of part.now) ∷ behind) ≡ with_behind placing.new behind) }
+{
+    if part.shell().is_bare() {
+        let place = placing.bare_place(&as_large(alloc, part, mode));
+        placing.put_bare(place)
+    } else {
+        placing.put(placement(part, mode))
+    }
+}
+
+/// An address map or a register file whose instances stand under this mode, one after the other.
+fn container(
+    alloc: Global,
+    alignment: Option<Number>,
+    mode: layout::Mode,
+    parts: &[Part],
+) -> Result<layout::Layout, AllocError>
+    requires { IsAlignment alignment }
+    ensures { IfOk result (λ layout. layout ≡ capped_layout (container alignment mode (map (λ p. placement_under mode (member_of p)) parts.now))) }
+{
+    let mut placing = Placing::with_room(alloc, alignment, mode, parts.len())?;
+    for part in parts {
+        put_next(alloc, &mut placing, part, mode)?;
+    }
+    Ok(placing.layout())
+}
+
+/// What the layout of a register takes of the instances of its fields.
+fn all_bits(alloc: Global, mode: layout::Mode, parts: &[Part]) -> Result<Vec<FieldBits>, AllocError>
+    ensures { IfOk result (λ fields. fields.items ≡ map (λ p. bits_under mode (member_of p)) parts.now) }
+{
+    let mut fields = Vec::with_capacity(alloc, parts.len())?;
+    for part in parts {
+        fields.push(field_bits(part, mode))?;
+    }
+    Ok(fields)
+}
+
+/// A component whose instances stand under this mode.
+fn laid_out(
+    alloc: Global,
+    kind: Kind,
+    values: LayoutValues,
+    mode: layout::Mode,
+    parts: &[Part],
+) -> Result<layout::Layout, AllocError>
+    requires { IsAlignment values.alignment }
+    ensures { IfOk result (λ layout. layout ≡ capped_layout (laid_out kind values mode (members_under mode (map member_of parts.now)))) }
+{
+    match kind {
+        Kind::Addrmap | Kind::Regfile => container(alloc, values.alignment, mode, parts),
+        Kind::Reg => {
+            let fields = all_bits(alloc, mode, parts)?;
+            Ok(register(values, bits(alloc, fields.as_slice())?))
+        }
+        Kind::Field => Ok(field(alloc, values)),
+    }
 }
 
 /// The layout of a component whose instances stand under this mode.
@@ -177,8 +257,7 @@ fn layout_under(
     requires { IsAlignment values.alignment }
     ensures { IfOk result (λ layout. layout ≡ layout_by kind values mode (map member_of parts.now)) }
 {
-    let members = members(alloc, parts, mode)?;
-    let layout = lay_out(alloc, kind, values, mode, members.as_slice())?;
+    let layout = laid_out(alloc, kind, values, mode, parts)?;
     seen_layout(alloc, &layout)
 }
 

@@ -1,9 +1,9 @@
 //! Layouts of components.
 
-pub(crate) mod bits;
+pub mod bits;
 pub mod component;
 pub(crate) mod place;
-pub(crate) mod placing;
+pub mod placing;
 pub(crate) mod round;
 
 use rdl_text::token::Number;
@@ -42,7 +42,8 @@ impl Model for Spans {
 impl Spans {
     ghost use Rattle.std.specs.Prelude.{◌≡◌};
 
-    pub(crate) fn from_vec(items: Vec<Span>) -> Spans
+    /// These, in order.
+    pub fn from_vec(items: Vec<Span>) -> Spans
         ensures { result ≡ items.items }
     {
         Spans { items }

@@ -25,7 +25,7 @@ fn field_bits(alloc: Global, members: &[Member]) -> Result<Vec<FieldBits>, Alloc
 }
 
 /// A register with these values, whose fields have these bits.
-pub(crate) fn register(values: LayoutValues, spans: Spans) -> Layout
+pub fn register(values: LayoutValues, spans: Spans) -> Layout
     ensures { result ≡ record { size = capped (bytes_of values.regwidth); access = bytes_of values.accesswidth; spans = spans } }
 {
     Layout {
@@ -36,7 +36,7 @@ pub(crate) fn register(values: LayoutValues, spans: Spans) -> Layout
 }
 
 /// A field with these values.
-pub(crate) fn field(alloc: Global, values: LayoutValues) -> Layout
+pub fn field(alloc: Global, values: LayoutValues) -> Layout
     ensures { result ≡ record { size = capped values.fieldwidth; access = 0; spans = [] } }
 {
     Layout {

@@ -9,7 +9,7 @@ use std::alloc::{AllocError, Global};
 
 /// How instances that say nothing but their names are placed, where their components have one layout.
 #[derive(Clone, Copy)]
-pub(crate) struct BarePlace {
+pub struct BarePlace {
     size: u64,
     access: u64,
     /// Each begins at the next multiple of this.
@@ -18,11 +18,13 @@ pub(crate) struct BarePlace {
     ghost near: { step ≤ 2 ^ 40 + 1 },
 }
 
-/// The instances that are placed so far. Numbers over 2^40 are kept as 2^40 + 1.
+/// The instances of an address map or a register file that are placed so far. Numbers over 2^40 are kept as 2^40 + 1.
 #[derive(Drop)]
-pub(crate) struct Placing {
-    alignment: Option<Number>,
-    mode: Mode,
+pub struct Placing {
+    /// That of the component.
+    pub alignment: Option<Number>,
+    /// Under which they stand.
+    pub mode: Mode,
     spans: Vec<Span>,
     /// Where the last of them ends.
     end: u64,
@@ -42,7 +44,7 @@ impl Placing {
     ghost use Rattle.rdl_elab.specs.declared.layout.Placement.{Placement};
 
     /// None yet, in a component with this `alignment`, with room for so many.
-    pub(crate) fn with_room(
+    pub fn with_room(
         alloc: Global,
         alignment: Option<Number>,
         mode: Mode,
@@ -64,7 +66,7 @@ impl Placing {
 
     /// Places one more.
     #[inline(always)]
-    pub(crate) fn put(&mut self, item: Placement) -> Result<(), AllocError>
+    pub fn put(&mut self, item: Placement) -> Result<(), AllocError>
         requires { IsAlignment self.old.alignment }
         ensures alignment { self.new.alignment ≡ self.old.alignment }
         ensures mode { self.new.mode ≡ self.old.mode }
@@ -80,7 +82,7 @@ impl Placing {
     }
 
     /// How the next instances that say nothing but their names are placed, where their components have this layout.
-    pub(crate) fn bare_place(&self, layout: &Layout) -> BarePlace
+    pub fn bare_place(&self, layout: &Layout) -> BarePlace
         requires { IsAlignment self.now.alignment }
         ensures { IsBarePlace self.now.alignment self.now.mode layout.now result }
     {
@@ -93,7 +95,7 @@ impl Placing {
 
     /// Places one more that says nothing but its name.
     #[inline(always)]
-    pub(crate) fn put_bare(&mut self, place: BarePlace) -> Result<(), AllocError>
+    pub fn put_bare(&mut self, place: BarePlace) -> Result<(), AllocError>
         ensures alignment { self.new.alignment ≡ self.old.alignment }
         ensures mode { self.new.mode ≡ self.old.mode }
         ensures one { OnOk result ((item : Placement) (behind : List Placement) → IsPlacedSo self.old.alignment self.old.mode item place → with_behind self.old (item ∷ behind) ≡ with_behind self.new behind) }
@@ -108,7 +110,7 @@ impl Placing {
     }
 
     /// The component with these instances in it.
-    pub(crate) fn layout(self) -> Layout
+    pub fn layout(self) -> Layout
         ensures { result ≡ with_behind self [] }
     {
         Layout {
