@@ -16,14 +16,14 @@ use rdl_tree::patch_address::PatchAddress;
 use std::alloc::Global;
 use std::test::Fail;
 
-fn description(alloc: Global, text: &str) -> Result<Description, &'static str> {
+pub(crate) fn description(alloc: Global, text: &str) -> Result<Description, &'static str> {
     match parse(alloc, text) {
         Ok((description, _)) => Ok(description),
         Err(_) => Err("spells nothing"),
     }
 }
 
-fn held(alloc: Global, map: &Description) -> Result<Held, &'static str>
+pub(crate) fn held(alloc: Global, map: &Description) -> Result<Held, &'static str>
     ensures { IfOk result (λ held. IsHeldOf map.now.items held) }
 {
     match Held::of(alloc, map, None) {

@@ -7,6 +7,8 @@ mod held;
 mod marks;
 pub mod nowhere;
 #[cfg(test)]
+mod placed;
+#[cfg(test)]
 mod rows;
 pub mod steps;
 #[cfg(test)]

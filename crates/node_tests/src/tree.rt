@@ -142,13 +142,11 @@ const FILLED: &str =
 #[test]
 fn what_holds_a_new_item_is_renewed(rt: HostRuntime) -> Result<(), Fail> {
     let alloc = rt.alloc();
-    let RenewedMap { tree, is_clean } = renewed_with_one_more(
-        alloc,
-        &Nowhere,
-        MAP,
-        FILLED,
-        &[1, 2, 0],
-    )?;
+    let RenewedMap {
+        tree,
+        is_clean,
+        placed: _,
+    } = renewed_with_one_more(alloc, &Nowhere, MAP, FILLED, &[1, 2, 0])?;
     let are_seen = is_seen(&tree, &[0], Kind::Reg, 1, false)
         && is_seen(&tree, &[1], Kind::Addrmap, 3, false)
         && is_seen(&tree, &[1, 1], Kind::Regfile, 2, false)
@@ -180,13 +178,11 @@ const DEEPER: &str =
 #[test]
 fn who_refers_to_a_type_with_a_new_item_is_renewed(rt: HostRuntime) -> Result<(), Fail> {
     let alloc = rt.alloc();
-    let RenewedMap { tree, is_clean } = renewed_with_one_more(
-        alloc,
-        &Nowhere,
-        TYPES,
-        DEEPER,
-        &[0, 1],
-    )?;
+    let RenewedMap {
+        tree,
+        is_clean,
+        placed: _,
+    } = renewed_with_one_more(alloc, &Nowhere, TYPES, DEEPER, &[0, 1])?;
     let are_seen = is_seen(&tree, &[0], Kind::Regfile, 2, true)
         && is_seen(&tree, &[0, 0], Kind::Reg, 1, false)
         && is_seen(&tree, &[0, 1], Kind::Regfile, 0, false)

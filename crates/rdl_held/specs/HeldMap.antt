@@ -3,6 +3,7 @@
 use Rattle.std.specs.Prelude.{◌≡◌, ℕ, Bool, true, false, List, Option, Some, None, option_and_then, refl}
 use Rattle.std.specs.Coded.{Coded, code_by, coded×, coded_ℕ, coded_list, coded_option}
 use Rattle.rdl_tree.specs.Items.{Items}
+use Rattle.rdl_tree.specs.Weight.{capped}
 use Rattle.rdl_tree.specs.declared.shell.Kind.{Kind}
 use Rattle.rdl_tree.specs.declared.shell.Kind.TheVariants.{Addrmap, Regfile, Reg, Field}
 use Rattle.rdl_tree.specs.declared.description.Component.{Component}
@@ -12,6 +13,8 @@ use Rattle.rdl_marks.specs.Describes.{Describes}
 use Rattle.rdl_marks.specs.InOrder.{AreInOrder}
 use Rattle.rdl_marks.specs.Marks.{Marks}
 use Rattle.rdl_nodes.specs.Codes.{coded_slots}
+use Rattle.rdl_nodes.specs.Placed.{all_placed}
+use Rattle.rdl_renew.specs.Placed.{placed_of}
 use Rattle.rdl_seen.specs.declared.mode.Mode.{Mode}
 use Rattle.rdl_seen.specs.Layouts.{Layout, layout_under}
 use Rattle.rdl_seen.specs.Meaning.{nothing_around}
@@ -20,13 +23,17 @@ use Rattle.rdl_seen.specs.Slots.{Slots}
 use Rattle.node_laws.specs.Laid.{laying}
 use Rattle.node_laws.specs.Seen.{layouts_seen}
 
--- the slots of the root's items, and the name that was asked of the top
+-- the slots of the root's items, the name that was asked of the top, and how many instances the last step placed, once for each mode
 pub record HeldMap : Type 0 where
   pub slots : Slots
   pub top : Option (List ℕ)
+  pub placed : ℕ
 
 abbrev pub coded_held : Coded HeldMap
-coded_held = code_by (Slots × Option (List ℕ)) (coded× coded_slots (coded_option (coded_list coded_ℕ))) (λ h. (h.slots, h.top)) (λ p. record { slots = p.0; top = p.1 }) (λ _. refl)
+coded_held = code_by (Slots × (Option (List ℕ) × ℕ)) (coded× coded_slots (coded× (coded_option (coded_list coded_ℕ)) coded_ℕ))
+    (λ h. (h.slots, (h.top, h.placed)))
+    (λ p. record { slots = p.0; top = p.1.0; placed = p.1.1 })
+    (λ _. refl)
 
 -- they are those of this description, which has rows with this top
 pub record IsHeldOf (d : Items) (h : HeldMap) : Type 0 where
@@ -39,6 +46,14 @@ pub record IsStep (h : HeldMap) (marks : Marks) (now : Items) : Type 0 where
   pub held : IsHeldOf old h
   pub describes : Describes marks old now
   pub in_order : AreInOrder marks
+
+-- all instances of what is held were placed, once for each mode
+abbrev pub HasPlacedAll : HeldMap → Type 0
+HasPlacedAll h = h.placed ≡ capped (all_placed h.slots)
+
+-- a step, of which marks tell, led from the first one to the second one, which is that of this description; so many instances were placed
+abbrev pub HasPlaced : Marks → (old : HeldMap) → (now : Items) → (new : HeldMap) → Type 0
+HasPlaced m old now new = new.placed ≡ capped (placed_of m old.slots now new.slots)
 
 -- a component has a layout if it is no field
 abbrev pub has_layout_by : Kind → Bool

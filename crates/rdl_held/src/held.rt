@@ -31,12 +31,13 @@ use std::alloc::{AllocError, Global};
 use std::marker::Model;
 use std::string::String;
 
-/// What is held of a map that has rows: a tree with a node for each of its components, used or not, and the name that was asked of its top.
-/// A contract sees the slots of the root's items, and the name.
+/// What is held of a map that has rows: a tree with a node for each of its components, used or not, the name that was asked of its top, and
+/// how many instances the last step placed. A contract sees the slots of the root's items, the name and the number.
 #[derive(Debug, Drop)]
 pub struct Held {
     tree: Tree,
     top: Option<String>,
+    placed: u64,
 }
 
 impl Model for Held {
@@ -48,7 +49,7 @@ impl Model for Held {
 
     ghost coded = { coded_held };
 
-    ghost view = { λ h. record { slots = h.tree; top = option_map string_bytes h.top } };
+    ghost view = { λ h. record { slots = h.tree; top = option_map string_bytes h.top; placed = h.placed } };
 }
 
 pub(crate) fn no_memory() -> Fault
@@ -120,13 +121,14 @@ impl Held {
     ghost use Rattle.std.specs.Prelude.{◌≡◌, ◌⊎◌, Ok, Err, IfOk, IfErr, OnOk, OnErr, option_copied};
     ghost use Rattle.rdl_elab.specs.Faults.{elaborated};
     ghost use Rattle.rdl_elab.specs.Known.{HasRows};
-    ghost use Rattle.rdl_held.specs.HeldMap.{IsHeldOf, IsStep, layout_at};
+    ghost use Rattle.rdl_held.specs.HeldMap.{IsHeldOf, IsStep, HasPlacedAll, HasPlaced, layout_at};
     ghost use Rattle.rdl_scope.specs.ItemFaults.{out_of_memory};
 
     /// What is held of a description that has rows. Otherwise its first fault.
     pub fn of(alloc: Global, description: &Description, top: Option<&str>) -> Result<Held, Fault>
         ensures held { IfOk result (λ held. IsHeldOf description.now.items held) }
         ensures top { IfOk result (λ held. held.top ≡ option_copied top.entry) }
+        ensures placed { IfOk result (λ held. HasPlacedAll held) }
         ensures refused { IfErr result (λ fault. (elaborated description.now.items (option_copied top.entry) ≡ Err fault) ⊎ (fault ≡ out_of_memory)) }
     {
         check(alloc, description)?;
@@ -134,10 +136,21 @@ impl Held {
             return Err(no_memory());
         };
         judge(alloc, description, top, &tree)?;
+        let placed = tree.placed();
         match copy_of_top(alloc, top) {
-            Ok(top) => Ok(Held { tree, top }),
+            Ok(top) => Ok(Held { tree, top, placed }),
             Err(_) => Err(no_memory()),
         }
+    }
+
+    /// The same, for one more. What is held of each component is shared.
+    pub fn try_copy(&self, alloc: Global) -> Result<Held, AllocError>
+        ensures { IfOk result (λ held. held ≡ self.now) }
+    {
+        let tree = self.tree.try_copy(alloc)?;
+        let top = copy_of_top(alloc, self.top())?;
+        let placed = self.placed;
+        Ok(Held { tree, top, placed })
     }
 
     /// Goes on to the description that a step made of the one of which this is held. Marks tell what became of that. Only bodies are laid
@@ -152,6 +165,7 @@ impl Held {
         requires { IsStep self.old marks.now description.now.items }
         ensures held { OnOk result (IsHeldOf description.now.items self.new) }
         ensures top { OnOk result (self.new.top ≡ self.old.top) }
+        ensures placed { OnOk result (HasPlaced marks.now self.old description.now.items self.new) }
         ensures refused { IfErr result (λ fault. (elaborated description.now.items self.old.top ≡ Err fault) ⊎ (fault ≡ out_of_memory)) }
         ensures err { OnErr result (self.new ≡ self.old) }
     {
@@ -161,6 +175,7 @@ impl Held {
         };
         judge_renewed(alloc, description, self.top(), &renewed)?;
         self.tree = renewed.tree;
+        self.placed = renewed.placed;
         Ok(())
     }
 
@@ -175,10 +190,12 @@ impl Held {
         requires rows { HasRows description.now.items self.old.top }
         ensures held { OnOk result (IsHeldOf description.now.items self.new) }
         ensures top { OnOk result (self.new.top ≡ self.old.top) }
+        ensures placed { OnOk result (HasPlaced marks.now self.old description.now.items self.new) }
         ensures err { OnErr result (self.new ≡ self.old) }
     {
         let renewed = renewed(alloc, &Elaborated, &self.tree, marks, description)?;
         self.tree = renewed.tree;
+        self.placed = renewed.placed;
         Ok(())
     }
 
@@ -187,6 +204,14 @@ impl Held {
         ensures { option_copied result ≡ self.now.top }
     {
         self.top.as_ref().map(|top| top.as_str())
+    }
+
+    /// How many instances were placed when this was made, or on the last step that it took, once for each mode: those of each component that
+    /// was laid out. The count stops at the greatest `u64`.
+    pub fn placed(&self) -> u64
+        ensures { result ≡ self.now.placed }
+    {
+        self.placed
     }
 
     /// The rows of the description of which this is held.

@@ -2,8 +2,10 @@
 ghost use Rattle.std.specs.Prelude.{◌≡◌, ◌⊎◌, Err, IfOk, IfErr, OnOk, OnErr};
 ghost use Rattle.rdl_elab.specs.Faults.{elaborated};
 ghost use Rattle.rdl_elab.specs.Known.{HasRows};
-ghost use Rattle.rdl_held.specs.HeldMap.{IsHeldOf};
-ghost use Rattle.rdl_held.specs.Turning.{IsTurned};
+ghost use Rattle.rdl_held.specs.HeldMap.{IsHeldOf, HasPlaced};
+ghost use Rattle.rdl_held.specs.Turning.{IsTurned, HasTurned};
+ghost use Rattle.rdl_marks.specs.Marks.{no_marks};
+ghost use Rattle.rdl_marks.specs.Noted.{all_noted};
 ghost use Rattle.rdl_scope.specs.ItemFaults.{out_of_memory};
 ghost use Rattle.rdl_tree.specs.Patch.{AllFit, image, inverses};
 ghost use Rattle.rdl_tree.specs.Turned.{kept, turned_items};
@@ -24,6 +26,7 @@ impl Held {
         requires { IsTurned self.old (kept turned.now) (turned_items turned.now) }
         ensures held { OnOk result (IsHeldOf (turned_items turned.now) self.new) }
         ensures top { OnOk result (self.new.top ≡ self.old.top) }
+        ensures placed { OnOk result (HasPlaced (all_noted (kept turned.now) no_marks) self.old (turned_items turned.now) self.new) }
         ensures refused { IfErr result (λ fault. (elaborated (turned_items turned.now) self.old.top ≡ Err fault) ⊎ (fault ≡ out_of_memory)) }
         ensures err { OnErr result (self.new ≡ self.old) }
     {
@@ -43,6 +46,7 @@ impl Held {
         requires rows { HasRows (turned_items turned.now) self.old.top }
         ensures held { OnOk result (IsHeldOf (turned_items turned.now) self.new) }
         ensures top { OnOk result (self.new.top ≡ self.old.top) }
+        ensures placed { OnOk result (HasPlaced (all_noted (kept turned.now) no_marks) self.old (turned_items turned.now) self.new) }
         ensures err { OnErr result (self.new ≡ self.old) }
     {
         let marks = marks_of(alloc, turned)?;
@@ -65,6 +69,7 @@ impl Held {
         ensures leads { IfOk result (λ back. image back.items description.new.items ≡ description.old.items) }
         ensures held { IsHeldOf description.new.items self.new }
         ensures top { self.new.top ≡ self.old.top }
+        ensures placed { OnOk result (HasTurned patches.items description.old.items self.old description.new.items self.new) }
         ensures refused { IfErr result (λ fault. (elaborated (image patches.items description.old.items) self.old.top ≡ Err fault) ⊎ (fault ≡ out_of_memory)) }
         ensures unmoved { OnErr result (description.new.items ≡ description.old.items) }
         ensures err { OnErr result (self.new ≡ self.old) }
@@ -98,6 +103,7 @@ impl Held {
         ensures leads { IfOk result (λ back. image back.items description.new.items ≡ description.old.items) }
         ensures held { IsHeldOf description.new.items self.new }
         ensures top { self.new.top ≡ self.old.top }
+        ensures placed { OnOk result (HasTurned patches.items description.old.items self.old description.new.items self.new) }
         ensures handed { IfErr result (λ same. same.items ≡ patches.items) }
         ensures unmoved { OnErr result (description.new.items ≡ description.old.items) }
         ensures err { OnErr result (self.new ≡ self.old) }

@@ -5,6 +5,7 @@ ghost use Rattle.rdl_marks.specs.Marks.{no_marks};
 ghost use Rattle.rdl_marks.specs.Noted.{all_noted};
 
 use crate::marks::BodyMarks;
+use rdl_tree::patch::Patch;
 use rdl_tree::turned::Turned;
 use rdl_tree::way::WayBack;
 use std::alloc::{AllocError, Global};
@@ -23,6 +24,19 @@ pub fn marks_of<'a>(
         if let Some(back) = turned.back_patch(number) {
             marks.note(alloc, back)?;
         }
+    }
+    Ok(marks)
+}
+
+/// The marks of patches that these take back, of which the last one takes back the first patch. They borrow what these hold.
+pub fn marks_along<'a>(alloc: Global, backs: &'a [Patch]) -> Result<BodyMarks<'a>, AllocError>
+    ensures { IfOk result (λ marks. marks ≡ all_noted backs.now no_marks) }
+{
+    let mut marks = BodyMarks::new(alloc);
+    let mut number = backs.len();
+    'patches: while number > 0 {
+        number -= 1;
+        marks.note(alloc, &backs[number])?;
     }
     Ok(marks)
 }

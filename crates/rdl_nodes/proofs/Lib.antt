@@ -1,8 +1,11 @@
 pub mod Bodies
+pub mod Counts
 pub mod Defined
 pub mod FromBehind
 pub mod Instances
 pub mod Kept
 pub mod Paths
+pub mod PlacedSlots
+pub mod SameSlots
 pub mod Targets
 pub mod Walks

@@ -17,7 +17,7 @@ pub mod InsideFalls
 pub mod KeptNode
 pub mod Part
 pub mod Parts
-pub mod SameValues
+pub mod Placed
 pub mod Targets
 pub mod TypeStack
 pub mod View

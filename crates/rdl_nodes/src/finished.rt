@@ -1,8 +1,8 @@
 //! What is kept of a component whose items are done.
-ghost use Rattle.std.specs.Prelude.{◌≡◌, IfOk, map, true};
+ghost use Rattle.std.specs.Prelude.{◌≡◌, IfOk, map};
 ghost use Rattle.rdl_nodes.specs.Bare.{AreStillLayouts, StaysLaidOut};
 ghost use Rattle.rdl_nodes.specs.Part.{member_of};
-ghost use Rattle.rdl_nodes.specs.SameValues.{HaveSameWords, HaveSameWidths, HaveSameNumbers};
+ghost use Rattle.rdl_nodes.specs.Placed.{same_words, same_widths, same_numbers, same_values, placed_by, placed_over, CountsOn};
 ghost use Rattle.rdl_nodes.specs.View.{slots_of};
 ghost use Rattle.rdl_seen.specs.Node.{core_of};
 
@@ -11,6 +11,7 @@ use crate::layouts::Layouts;
 use crate::lays::Lays;
 use crate::node::{Core, Node, Slot};
 use crate::parts::{Part, parts};
+use crate::placed::placed_once;
 use rdl_seen::values::Values;
 use rdl_tree::description::Component;
 use rdl_tree::shell::Kind;
@@ -44,13 +45,13 @@ pub fn finished<L: Lays>(
 }
 
 fn have_same_words(values: &Values, others: &Values) -> bool
-    ensures { result ≡ true → HaveSameWords values.now others.now }
+    ensures { result ≡ same_words values.now others.now }
 {
     values.addressing == others.addressing && values.sw == others.sw
 }
 
 fn have_same_widths(values: &Values, others: &Values) -> bool
-    ensures { result ≡ true → HaveSameWidths values.now others.now }
+    ensures { result ≡ same_widths values.now others.now }
 {
     values.regwidth == others.regwidth
         && values.accesswidth == others.accesswidth
@@ -58,14 +59,14 @@ fn have_same_widths(values: &Values, others: &Values) -> bool
 }
 
 fn have_same_numbers(values: &Values, others: &Values) -> bool
-    ensures { result ≡ true → HaveSameNumbers values.now others.now }
+    ensures { result ≡ same_numbers values.now others.now }
 {
     values.alignment == others.alignment && values.reset == others.reset
 }
 
 /// Whether these are the same.
 fn are_same(values: &Values, others: &Values) -> bool
-    ensures { result ≡ true → values.now ≡ others.now }
+    ensures { result ≡ same_values values.now others.now }
 {
     have_same_words(values, others)
         && have_same_widths(values, others)
@@ -80,7 +81,7 @@ fn kept_layouts(core: &Core) -> Result<Rc<Layouts>, AllocError>
 }
 
 /// The layouts of a component of this kind with these values and these instances, of which this was kept before. If its instances are
-/// alike and its values the same, so are its layouts.
+/// alike and its values the same, so are its layouts; otherwise it is laid out, and its instances are counted, once for each mode.
 fn layouts_over<L: Lays>(
     alloc: Global,
     lay: &L,
@@ -89,20 +90,23 @@ fn layouts_over<L: Lays>(
     parts: &[Part],
     before: &Core,
     are_alike: bool,
+    placed: &mut u64,
 ) -> Result<Rc<Layouts>, AllocError>
-    ensures { AreStillLayouts L.laying are_alike before.now kind values.now (map member_of parts.now) → IfOk result (λ layouts. layouts.value ≡ L.laying kind values.now (map member_of parts.now)) }
+    ensures layouts { AreStillLayouts L.laying are_alike before.now kind values.now (map member_of parts.now) → IfOk result (λ layouts. layouts.value ≡ L.laying kind values.now (map member_of parts.now)) }
+    ensures placed { IfOk result (λ layouts. CountsOn placed.old placed.new (placed_by are_alike before.now.values values.now layouts.value)) }
 {
-    if are_alike && are_same(values, &before.values) {
+    if are_alike && are_same(&before.values, values) {
         let layouts = kept_layouts(before)?;
         return Ok(layouts);
     }
     let layouts = lay.lay(alloc, kind, values, parts)?;
+    *placed = placed.saturating_add(placed_once(&layouts));
     let layouts = Rc::new(alloc, layouts)?;
     Ok(layouts)
 }
 
 /// The same as `finished`, where this was kept of the component before. If its instances are alike and its values the same, it isn't laid
-/// out, but has the layouts that it had.
+/// out, but has the layouts that it had; otherwise its instances are counted, once for each mode. The count stops at the greatest `u64`.
 pub fn finished_over<L: Lays>(
     alloc: Global,
     lay: &L,
@@ -111,8 +115,11 @@ pub fn finished_over<L: Lays>(
     slots: Vec<Slot>,
     before: &Core,
     are_alike: bool,
+    placed: &mut u64,
 ) -> Result<Node, AllocError>
-    ensures { StaysLaidOut L.laying are_alike before.now component.now.kind defaults.now component.now.body (slots_of slots.items) → IfOk result (λ node. node ≡ record { core = core_of L.laying component.now.kind defaults.now component.now.body (slots_of slots.items); slots = slots_of slots.items }) }
+    ensures node { StaysLaidOut L.laying are_alike before.now component.now.kind defaults.now component.now.body (slots_of slots.items) → IfOk result (λ node. node ≡ record { core = core_of L.laying component.now.kind defaults.now component.now.body (slots_of slots.items); slots = slots_of slots.items }) }
+    ensures slots { IfOk result (λ node. node.slots ≡ slots_of slots.items) }
+    ensures placed { IfOk result (λ node. CountsOn placed.old placed.new (placed_over are_alike before.now node.core)) }
 {
     let body = &component.body;
     let parts = parts(alloc, defaults, body, slots.as_slice())?;
@@ -125,6 +132,7 @@ pub fn finished_over<L: Lays>(
         parts.as_slice(),
         before,
         are_alike,
+        placed,
     )?;
     let core = Core::of(
         component.kind,

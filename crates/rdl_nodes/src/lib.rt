@@ -13,6 +13,7 @@ pub mod layouts;
 pub mod lays;
 pub mod node;
 pub mod parts;
+pub mod placed;
 pub mod target;
 pub mod tree;
 pub mod types;

@@ -1,5 +1,5 @@
 //! What is kept of a map.
-ghost use Rattle.std.specs.Prelude.{◌≡◌, option_map};
+ghost use Rattle.std.specs.Prelude.{◌≡◌, IfOk, option_map};
 ghost use Rattle.rdl_nodes.specs.KeptNode.{kept_of};
 ghost use Rattle.rdl_nodes.specs.View.{slots_of};
 ghost use Rattle.rdl_seen.specs.Meaning.{kept_at, node_at};
@@ -7,6 +7,7 @@ ghost use Rattle.rdl_seen.specs.Meaning.{kept_at, node_at};
 use crate::around::Around;
 use crate::lays::Lays;
 use crate::node::{Kept, Slot};
+use crate::placed::all_placed;
 use crate::walk::walk;
 use rdl_tree::address::Address;
 use rdl_tree::description::Description;
@@ -30,6 +31,17 @@ impl Model for Tree {
     ghost use Rattle.rdl_nodes.specs.View.{slots_of};
 
     ghost view = { λ t. slots_of t.slots.items };
+}
+
+/// The same slots. What is kept of each component is shared.
+fn copied(alloc: Global, kept: &[Slot]) -> Result<Vec<Slot>, AllocError>
+    ensures { IfOk result (λ slots. slots_of slots.items ≡ slots_of kept.now) }
+{
+    let mut slots = Vec::with_capacity(alloc, kept.len())?;
+    for slot in kept {
+        slots.push(slot.try_copy()?)?;
+    }
+    Ok(slots)
 }
 
 /// What is kept of the item of this number.
@@ -60,9 +72,11 @@ impl Tree {
     ghost use Rattle.std.specs.Prelude.{◌≡◌, IfOk, option_map};
     ghost use Rattle.rdl_nodes.specs.HoldsNodes.{HoldsNodes};
     ghost use Rattle.rdl_nodes.specs.KeptNode.{kept_of};
+    ghost use Rattle.rdl_nodes.specs.Placed.{all_placed};
     ghost use Rattle.rdl_nodes.specs.View.{slots_of};
     ghost use Rattle.rdl_seen.specs.Meaning.{nothing_around, node_at};
     ghost use Rattle.rdl_seen.specs.Node.{body_of};
+    ghost use Rattle.rdl_tree.specs.Weight.{capped};
 
     /// That of a description, whose instances are laid out so. What it has at the address of a component is that component's node.
     pub fn of<L: Lays>(
@@ -87,11 +101,26 @@ impl Tree {
         Tree { slots }
     }
 
+    /// The same, for one more. What is kept of each component is shared.
+    pub fn try_copy(&self, alloc: Global) -> Result<Tree, AllocError>
+        ensures { IfOk result (λ tree. tree ≡ self.now) }
+    {
+        let slots = copied(alloc, self.slots.as_slice())?;
+        Ok(Tree { slots })
+    }
+
     /// What is kept of the root's items.
     pub fn slots(&self) -> &[Slot]
         ensures { slots_of result.now ≡ self.now }
     {
         self.slots.as_slice()
+    }
+
+    /// How many instances are placed where all components are laid out, once for each mode. The count stops at the greatest `u64`.
+    pub fn placed(&self) -> u64
+        ensures { result ≡ capped (all_placed self.now) }
+    {
+        all_placed(self.slots.as_slice())
     }
 
     /// What is kept of the component that the item at this address holds, if that is kept by itself.

@@ -30,7 +30,8 @@ use Rattle.rdl_seen.specs.Meaning.{around_before}
 use Rattle.rdl_seen.specs.Node.{Around, after_plain, after_holder, known}
 use Rattle.rdl_seen.specs.Slots.{Slots}
 use Rattle.rdl_seen.proofs.Passing.{some_same}
-use Rattle.rdl_renew.specs.Alike.{is_instance, has_instance, taken_of, taken_first, AllAlike, IsWidthSame, AreAlike}
+use Rattle.rdl_renew.specs.Alike.{taken_of, taken_first, AllAlike, IsWidthSame, AreAlike}
+use Rattle.rdl_renew.specs.AlikeSlots.{of_at, is_instance, has_instance}
 use Rattle.rdl_renew.specs.Renewing.{Became}
 use Rattle.rdl_renew.proofs.Beside.{StaysSo, told_there, holds_of_all}
 use Rattle.rdl_renew.proofs.Raised.{from_there}
@@ -44,10 +45,6 @@ front lay (suc k) a no_items s = []
 front lay (suc k) a (plain p rest) s = taken_of a.defaults (plain_item p) (first_of s) ++ front lay k (after_plain p a) rest (rest_of s)
 front lay (suc k) a (holder h body rest) s =
     taken_of a.defaults (holder_item h body) (first_of s) ++ front lay k (after_holder h (known lay a (holder_kind h) body) a) rest (rest_of s)
-
-abbrev of_at : ℕ → Slots → Of
-of_at zero s = first_of s
-of_at (suc k) s = of_at k (rest_of s)
 
 first_is : (x : Slot) (rest : Slots) → first_of (add x rest) ≡ of_item (Some x)
 first_is slots.Own rest = refl
@@ -68,7 +65,7 @@ rest_is (slots.Define class s n) rest = refl
 rest_is (slots.Part n) rest = refl
 
 -- the component of an item, by its slot
-at_slot : (k : ℕ) (xs : List Slot) → of_at k (slots_of xs) ≡ of_item (slice_get xs k)
+pub at_slot : (k : ℕ) (xs : List Slot) → of_at k (slots_of xs) ≡ of_item (slice_get xs k)
 at_slot zero [] = refl
 at_slot (suc k) [] = at_slot k []
 at_slot zero (x ∷ xs) = first_is x (slots_of xs)

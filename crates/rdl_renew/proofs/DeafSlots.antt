@@ -1,5 +1,6 @@
 -- Whether what is kept of an item stays, told by that alone.
 use Rattle.std.proofs.Common.{◌≡◌, ℕ, ◌&&◌, ◌||◌, not, Bool, true, false, Option, Some, refl, sym, ap, subst, ◌∙◌}
+use Rattle.std.proofs.lemmas.Bool.{and_parts}
 use Rattle.rdl_tree.specs.Items.{Items}
 use Rattle.rdl_tree.specs.declared.description.Item.{Item}
 use Rattle.rdl_tree.specs.declared.description.Item.TheVariants.{Define, Instance, Own, Default, Dynamic}
@@ -26,7 +27,8 @@ use Rattle.rdl_seen.specs.Slots.{Slot, own_slot, default_slot, dynamic_slot, fie
 use Rattle.rdl_seen.proofs.Alerts.{unreached_are_known}
 use Rattle.rdl_seen.proofs.OneByOne.{slots_are_of_items}
 use Rattle.rdl_seen.proofs.Passing.{items_stay, some_same, stands_behind_item}
-use Rattle.rdl_renew.specs.Deaf.{is_deaf_slot, is_first_deaf, SlotsTellDeafness, DeafSlotsAreTakenOver, is_settled_slot, is_settled_component, is_first_settled, SettledSlotsAreDeaf, SettledItemsStay}
+use Rattle.rdl_renew.specs.AlikeSlots.{tells_of_width}
+use Rattle.rdl_renew.specs.Deaf.{is_deaf_slot, is_first_deaf, SlotsTellDeafness, DeafSlotsAreTakenOver, is_settled_slot, listens_to_nothing, is_settled_component, is_first_settled, SettledSlotsAreDeaf, SettledItemsStay}
 use Rattle.rdl_renew.proofs.Alone.{was_false}
 use Rattle.rdl_renew.proofs.TakenOver.{same_items_stay, slots_are_taken_over}
 
@@ -72,10 +74,13 @@ less_deep true p q e = e
 less_deep false true q e = e
 less_deep false false q e = refl
 
-component_settled : (x : Alert) (w : Written) (c : Core) → is_settled_component w x c ≡ true → not (reaches x c.seen) ≡ true
-component_settled x (type_slot class) c e =
+component_deaf : (x : Alert) (w : Written) (c : Core) → listens_to_nothing w x c ≡ true → not (reaches x c.seen) ≡ true
+component_deaf x (type_slot class) c e =
     less_deep c.seen.is_assigned (do_properties_meet c.seen.takes x.properties || do_names_meet c.seen.asks x.types) (do_names_meet c.seen.asks x.inside) e
-component_settled x part_slot c e = e
+component_deaf x part_slot c e = e
+
+component_settled : (x : Alert) (w : Written) (c : Core) → is_settled_component w x c ≡ true → not (reaches x c.seen) ≡ true
+component_settled x w c e = component_deaf x w c (and_parts (not (tells_of_width x)) (listens_to_nothing w x c) e).1
 
 pub settled_slots_are_deaf : SettledSlotsAreDeaf
 settled_slots_are_deaf x no_slots e = absurd cc
@@ -86,7 +91,8 @@ settled_slots_are_deaf x (written w core inside rest) e = component_settled x w 
 differs_no_more : (lay : Laying) (x : Alert) (a b : Around) (m : Inside) (y : Item) → is_first_settled x (slot_of_item lay a m y) ≡ true → AgreeBut x a b
     → AgreeBut x (behind_item lay a y) (behind_item lay b y)
 differs_no_more lay x a b m (Define name c) e but =
-    let same = unreached_are_known lay x a b c.kind c.body but (was_false (reaches_as true x (node lay a c.kind c.body).core.seen) e) in
+    let deaf = (and_parts (not (tells_of_width x)) (not (reaches_as true x (node lay a c.kind c.body).core.seen)) e).1 in
+    let same = unreached_are_known lay x a b c.kind c.body but (was_false (reaches_as true x (node lay a c.kind c.body).core.seen) deaf) in
     items_stay (Define name c) c lay x a b (λ deep told. ap (shown deep) (sym same)) but
 differs_no_more lay x a b m (Instance s of) e but = items_stay (Instance s of) lay x a b but
 differs_no_more lay x a b m (Own p v) e but = items_stay (Own p v) lay x a b but

@@ -221,7 +221,7 @@ component_became lay saw old n inside y slots kept was ordered of there k c e f 
       record { values = ap (λ (z : Node). z.core.values) same; layouts = ap (λ (z : Node). z.core.layouts) same },
     )
 
-became_component : (lay : Laying) (saw : Around) (old : Items) (n : ℕ) (inside : Marks) (y : Item) (slots : Slots) (kept : Option Node) → WasThere old n inside y → AreInOrder inside → slots ≡ (body_of lay saw old).slots
+pub became_component : (lay : Laying) (saw : Around) (old : Items) (n : ℕ) (inside : Marks) (y : Item) (slots : Slots) (kept : Option Node) → WasThere old n inside y → AreInOrder inside → slots ≡ (body_of lay saw old).slots
     → kept ≡ kept_at n slots → BecameComponent lay (around_before lay n saw old) kept inside y
 became_component lay saw old n inside y slots kept was ordered of there = λ k c e f.
     let z = component_became lay saw old n inside y slots kept was ordered of there k c e f in

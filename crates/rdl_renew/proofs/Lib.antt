@@ -6,6 +6,7 @@ pub mod Beside
 pub mod BodySteps
 pub mod CleanBelow
 pub mod CleanSteps
+pub mod CountSteps
 pub mod DeafSlots
 pub mod FrontSlots
 pub mod ItemSteps
@@ -15,6 +16,7 @@ pub mod NewItems
 pub mod OneDone
 pub mod Onward
 pub mod Passed
+pub mod PlacedItems
 pub mod Raised
 pub mod Raises
 pub mod SideBySide

@@ -36,7 +36,7 @@ use Rattle.rdl_renew.proofs.Raised.{alerts_add_up, has_all_of_it, raised_tells_o
 
 -- ---- Lists.
 
-get_last : {X : Type 0} (xs : List X) (x : X) → slice_get (xs ++ x ∷ []) (length xs) ≡ Some x
+pub get_last : {X : Type 0} (xs : List X) (x : X) → slice_get (xs ++ x ∷ []) (length xs) ≡ Some x
 get_last [] x = refl
 get_last (y ∷ xs) x = get_last xs x
 
@@ -122,7 +122,7 @@ all_done lay r n d done all = same_slots (slots_of d.slots.items) (body_of lay (
 
 -- ---- The place of the next one.
 
-kept_of_slot : (s : Slots) (j : ℕ) → kept_at j s ≡ option_and_then (kept_at 0) (slot_at j s)
+pub kept_of_slot : (s : Slots) (j : ℕ) → kept_at j s ≡ option_and_then (kept_at 0) (slot_at j s)
 kept_of_slot no_slots j = none j
   where
     none : (j : ℕ) → kept_at j no_slots ≡ option_and_then (kept_at 0) (slot_at j no_slots)

@@ -1,6 +1,6 @@
 -- When the instances of a body take the same of layouts as those of what it was.
 -- own: SystemRDL 2.0 has no edits.
-use Rattle.std.specs.Prelude.{◌≡◌, ℕ, ◌||◌, Bool, true, false, List, [], ◌∷◌, Some, map, slice_get, unwrap_or}
+use Rattle.std.specs.Prelude.{◌≡◌, ℕ, Bool, true, false, List, [], ◌∷◌, Some, map, slice_get, unwrap_or}
 use Rattle.rdl_tree.specs.Items.{Items}
 use Rattle.rdl_tree.specs.declared.description.Item.{Item}
 use Rattle.rdl_tree.specs.declared.description.Item.TheVariants.{Define, Instance, Own, Default, Dynamic}
@@ -14,12 +14,12 @@ use Rattle.rdl_nodes.specs.Bare.{bare}
 use Rattle.rdl_nodes.specs.Parts.{of_item}
 use Rattle.rdl_nodes.specs.View.{slots_of}
 use Rattle.rdl_nodes.specs.declared.node.Slot.{Slot}
-use Rattle.rdl_seen.specs.declared.seen.Seen.{Seen}
 use Rattle.rdl_seen.specs.declared.values.Values.{Values}
 use Rattle.rdl_seen.specs.Fields.{Of, of_field, of_seen, of_none, member_of, members}
 use Rattle.rdl_seen.specs.Layouts.{Laying, Member}
 use Rattle.rdl_seen.specs.Meaning.{around_before}
 use Rattle.rdl_seen.specs.Node.{Around}
+use Rattle.rdl_renew.specs.AlikeSlots.{is_instance}
 use Rattle.rdl_renew.specs.Renewing.{Became}
 use Rattle.rdl_renew.specs.declared.alike.Inside.{Inside}
 use Rattle.rdl_renew.specs.declared.alike.Inside.TheVariants.{Field, Component, Nothing}
@@ -32,28 +32,12 @@ of_inside (Field f) = of_field f
 of_inside (Component s) = of_seen s.now
 of_inside Nothing = of_none
 
--- two components are as large, under each mode
-pub record AreAsLarge (a b : Seen) : Type 0 where
-  pub size : a.size ≡ b.size
-  pub widest : a.widest ≡ b.widest
-
 -- layouts take the same of an instance of the second component as of the first one, where the same width of fields is a default, if that
 -- is said
 abbrev pub TakesTheSame : (is_width_same : Bool) → Shell → Of → Of → Type 0
 TakesTheSame is_width_same s o p = (v w : Values) → (is_width_same ≡ true → v.fieldwidth ≡ w.fieldwidth) → bare (member_of v s o) ≡ bare (member_of w s p)
 
 -- ---- An item.
-
-abbrev pub is_instance : Item → Bool
-is_instance (Define n c) = false
-is_instance (Instance s of) = true
-is_instance (Own p v) = false
-is_instance (Default p v) = false
-is_instance (Dynamic t p v) = false
-
-abbrev pub has_instance : List Item → Bool
-has_instance [] = false
-has_instance (x ∷ xs) = is_instance x || has_instance xs
 
 -- what layouts take of an item with this component, if it is an instance; and what they took, if this stood first in the place of its parts
 abbrev pub taken_of : Values → Item → Of → List Member

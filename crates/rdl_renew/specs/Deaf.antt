@@ -1,6 +1,6 @@
 -- Whether what is kept of an item stays, told by that alone.
 -- own: SystemRDL 2.0 has no edits.
-use Rattle.std.specs.Prelude.{◌≡◌, ℕ, suc, ◌≤◌, not, Bool, true, false, Some}
+use Rattle.std.specs.Prelude.{◌≡◌, ℕ, suc, ◌≤◌, ◌&&◌, not, Bool, true, false, Some}
 use Rattle.rdl_tree.specs.Items.{Items}
 use Rattle.rdl_tree.specs.declared.description.Item.{Item}
 use Rattle.rdl_marks.specs.Describes.{Describes, IsItem}
@@ -15,6 +15,7 @@ use Rattle.rdl_seen.specs.Names.{has_class}
 use Rattle.rdl_seen.specs.Node.{Around, body_of}
 use Rattle.rdl_seen.specs.OneByOne.{slot_at, slot_of_item, IsDeaf}
 use Rattle.rdl_seen.specs.Slots.{Slot, own_slot, default_slot, dynamic_slot, field_slot, named_slot, Written, type_slot, part_slot, Core, Slots, no_slots, slot, written}
+use Rattle.rdl_renew.specs.AlikeSlots.{tells_of_width}
 use Rattle.rdl_renew.specs.Onward.{DiffersNoMoreBehind}
 use Rattle.rdl_renew.specs.SideBySide.{TellsOfAll}
 use Rattle.rdl_renew.specs.TakenOver.{IsAsItWas}
@@ -54,9 +55,13 @@ is_settled_slot x (field_slot f) = true
 is_settled_slot x (named_slot class s) = not (has_class x.types class)
 
 -- a component that listens to nothing of it; if it is a definition, not even by what targets find inside it
+abbrev pub listens_to_nothing : Written → Alert → Core → Bool
+listens_to_nothing (type_slot class) x core = not (reaches_as true x core.seen)
+listens_to_nothing part_slot x core = not (reaches x core.seen)
+
+-- where it tells of the default width of fields, a component is gone into, whoever takes that
 abbrev pub is_settled_component : Written → Alert → Core → Bool
-is_settled_component (type_slot class) x core = not (reaches_as true x core.seen)
-is_settled_component part_slot x core = not (reaches x core.seen)
+is_settled_component w x core = not (tells_of_width x) && listens_to_nothing w x core
 
 -- the first of these items listens to nothing of the alert, and brings no more of what differs
 abbrev pub is_first_settled : Alert → Slots → Bool

@@ -1,13 +1,16 @@
 pub mod Alike
+pub mod AlikeSlots
 pub mod Alone
 pub mod Along
 pub mod Anew
 pub mod Apart
+pub mod Counting
 pub mod Deaf
 pub mod Fronts
 pub mod HeldRenewal
 pub mod Judged
 pub mod Onward
+pub mod Placed
 pub mod Raised
 pub mod Renewing
 pub mod Same

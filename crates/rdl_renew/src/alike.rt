@@ -1,20 +1,18 @@
 //! Whether the instances of a body take the same of layouts as those of what it was.
-ghost use Rattle.std.specs.Prelude.{◌≡◌, true, false, map, option_copied, slice_get, unwrap_or};
+ghost use Rattle.std.specs.Prelude.{◌≡◌, not, map, bytes_eq, option_copied, slice_get, unwrap_or};
 ghost use Rattle.rdl_marks.specs.View.{gone_item};
-ghost use Rattle.rdl_nodes.specs.Bare.{said};
 ghost use Rattle.rdl_nodes.specs.Parts.{of_item};
 ghost use Rattle.rdl_nodes.specs.View.{slots_of};
-ghost use Rattle.rdl_renew.specs.Alike.{of_inside, AreAsLarge, TakesTheSame, is_instance, has_instance, IsAlike, AllAlike, AreAlike};
+ghost use Rattle.rdl_renew.specs.Alike.{of_inside};
+ghost use Rattle.rdl_renew.specs.AlikeSlots.{tells_of_width, is_large_as, is_wide_as, takes_same, same_range, says_same, is_instance, has_instance, is_alike, all_alike, are_alike};
 ghost use Rattle.rdl_renew.specs.Along.{next_of};
 ghost use Rattle.rdl_renew.specs.Renewing.{Became};
-ghost use Rattle.rdl_seen.specs.Fields.{of_field, of_seen};
 ghost use Rattle.rdl_seen.specs.Layouts.{Laying};
 ghost use Rattle.rdl_seen.specs.Node.{Around};
-ghost use Rattle.rdl_seen.specs.PropertySet.{has_property};
 ghost use Rattle.rdl_tree.specs.Items.{Items};
+ghost use Rattle.rdl_tree.specs.View.{list_of};
 ghost use Rattle.rdl_tree.specs.declared.description.Item.TheVariants.{Instance};
 ghost use Rattle.rdl_tree.specs.declared.description.Of.{Of};
-ghost use Rattle.rdl_tree.specs.declared.property.Property.TheVariants.{Fieldwidth};
 
 use crate::along::{Along, Next};
 use crate::same::are_same_by_mode;
@@ -61,14 +59,14 @@ fn inside_at<'s>(slots: &'s [Slot], number: usize) -> Inside<'s>
 }
 
 fn are_as_large(before: &Seen, now: &Seen) -> bool
-    ensures { result ≡ true → AreAsLarge before.now now.now }
+    ensures { result ≡ is_large_as before.now now.now }
 {
     are_same_by_mode(before.size, now.size) && are_same_by_mode(before.widest, now.widest)
 }
 
 /// Whether a field is as wide: if its instance doesn't say it, and its body neither, the default has to be the same.
 fn is_as_wide(before: FieldBody, now: FieldBody, shell: &Shell, is_width_same: bool) -> bool
-    ensures { result ≡ true → TakesTheSame is_width_same shell.now (of_field before) (of_field now) }
+    ensures { result ≡ is_wide_as is_width_same shell.now before now }
 {
     if says_bits(shell) {
         return true;
@@ -77,7 +75,7 @@ fn is_as_wide(before: FieldBody, now: FieldBody, shell: &Shell, is_width_same: b
 }
 
 fn takes_the_same(before: Inside, now: Inside, shell: &Shell, is_width_same: bool) -> bool
-    ensures { result ≡ true → TakesTheSame is_width_same shell.now (of_inside before.entry) (of_inside now.entry) }
+    ensures { result ≡ takes_same is_width_same shell.now (of_inside before.entry) (of_inside now.entry) }
 {
     match before {
         Inside::Field(before) => match now {
@@ -99,20 +97,20 @@ fn takes_the_same(before: Inside, now: Inside, shell: &Shell, is_width_same: boo
 }
 
 fn are_same_sizes(before: &[Number], now: &[Number]) -> bool
-    ensures { result ≡ true → before.now ≡ now.now }
+    ensures { result ≡ bytes_eq before.now now.now }
 {
     before == now
 }
 
 fn is_same_range(before: Option<(Number, Number)>, now: Option<(Number, Number)>) -> bool
-    ensures { result ≡ true → before ≡ now }
+    ensures { result ≡ same_range before now }
 {
     before == now
 }
 
 /// Whether an instance says the same of its place.
 fn says_the_same(before: &Shell, now: &Shell) -> bool
-    ensures { result ≡ true → said before.now ≡ said now.now }
+    ensures { result ≡ says_same before.now now.now }
 {
     are_same_sizes(before.dims(), now.dims())
         && is_same_range(before.range(), now.range())
@@ -123,7 +121,7 @@ fn says_the_same(before: &Shell, now: &Shell) -> bool
 
 /// Whether it says the same as what stood first in its place.
 fn still_says_the_same(mark: &Mark, shell: &Shell) -> bool
-    ensures { result ≡ true → said (unwrap_or (option_copied mark.now.shell) shell.now) ≡ said shell.now }
+    ensures { result ≡ says_same (unwrap_or (option_copied mark.now.shell) shell.now) shell.now }
 {
     match mark.shell {
         Some(first) => says_the_same(first, shell),
@@ -140,7 +138,7 @@ fn is_alike_instance(
     number: usize,
     is_width_same: bool,
 ) -> bool
-    ensures { result ≡ true → (of : Of) → IsAlike is_width_same before.now (of_item (slice_get now.now number)) (Instance shell.now of) (next_of next.entry) }
+    ensures { (of : Of) → result ≡ is_alike is_width_same (slots_of before.now) (of_item (slice_get now.now number)) (next_of next.entry) (Instance shell.now of) }
 {
     match next {
         Next::New => false,
@@ -167,7 +165,7 @@ fn is_alike(
     number: usize,
     is_width_same: bool,
 ) -> bool
-    ensures { result ≡ true → IsAlike is_width_same before.now (of_item (slice_get now.now number)) item.now (next_of next.entry) }
+    ensures { result ≡ is_alike is_width_same (slots_of before.now) (of_item (slice_get now.now number)) (next_of next.entry) item.now }
 {
     if let Item::Instance(shell, _) = item {
         return is_alike_instance(next, shell, before, now, number, is_width_same);
@@ -183,7 +181,7 @@ fn all_alike(
     now: &[Slot],
     is_width_same: bool,
 ) -> bool
-    ensures { result ≡ true → (lay : Laying) (saw : Around) (old : Items) → Became lay saw (slots_of before.now) marks.now old body.now → AllAlike is_width_same marks.now before.now now.now body.now }
+    ensures { (lay : Laying) (saw : Around) (old : Items) → Became lay saw (slots_of before.now) marks.now old body.now → result ≡ all_alike is_width_same marks.now (slots_of before.now) (slots_of now.now) 0 (list_of body.now) }
 {
     let items = body.as_slice();
     let mut along = Along::new();
@@ -216,7 +214,7 @@ fn has_instance(gone: &[Gone]) -> bool
     false
 }
 
-/// Whether it is seen that the instances of a body take the same of layouts as those of what it was, of which these slots were kept, where
+/// Whether the instances of a body take the same of layouts as those of what it was, of which these slots were kept, where
 /// those are kept of it now: none came, went or was moved. Where fields say no width, the default one has to be the same.
 pub(crate) fn are_alike(
     marks: &BodyMarks,
@@ -225,14 +223,14 @@ pub(crate) fn are_alike(
     now: &[Slot],
     is_width_same: bool,
 ) -> bool
-    ensures { result ≡ true → AreAlike is_width_same marks.now before.now now.now body.now }
+    ensures { (lay : Laying) (saw : Around) (old : Items) → Became lay saw (slots_of before.now) marks.now old body.now → result ≡ are_alike is_width_same marks.now (slots_of before.now) (slots_of now.now) body.now }
 {
     !has_instance(marks.gone.as_slice()) && all_alike(marks, body, before, now, is_width_same)
 }
 
 /// Whether the default width of fields is the same, where no more differs than this alert tells of.
 pub(crate) fn is_width_same(alert: Alert) -> bool
-    ensures { result ≡ true → has_property alert.properties Fieldwidth ≡ false }
+    ensures { result ≡ not (tells_of_width alert) }
 {
     !alert
         .properties

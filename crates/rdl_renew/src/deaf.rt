@@ -5,6 +5,7 @@ ghost use Rattle.rdl_renew.specs.Deaf.{is_first_settled};
 ghost use Rattle.rdl_seen.specs.Alert.{reaches_as};
 ghost use Rattle.rdl_seen.specs.Slots.{Slots};
 
+use crate::alike::is_width_same;
 use rdl_nodes::node::Slot;
 use rdl_seen::alert::Alert;
 use rdl_seen::seen::Seen;
@@ -19,7 +20,8 @@ fn reaches_inside(alert: &Alert, seen: &Seen) -> bool
 }
 
 /// Whether an item of which this is kept listens to nothing that the alert tells of, and brings nothing that differs behind it. A dynamic
-/// assignment may always listen: what is kept of it doesn't say to what. A default changes what stands behind it.
+/// assignment may always listen: what is kept of it doesn't say to what. A default changes what stands behind it. A component is gone into
+/// where the alert tells of the default width of fields, whoever takes that.
 pub fn is_settled(slot: &Slot, alert: &Alert) -> bool
     ensures { (rest : Slots) → result ≡ is_first_settled alert.now (add slot.now rest) }
 {
@@ -27,7 +29,9 @@ pub fn is_settled(slot: &Slot, alert: &Alert) -> bool
         Slot::Own | Slot::Field(_) => true,
         Slot::Default(_) | Slot::Dynamic(_) => false,
         Slot::Named(class, _) => !alert.types.has(*class),
-        Slot::Define(_, seen, _) => !reaches_inside(alert, seen.as_ref()),
-        Slot::Part(node) => !alert.reaches(&node.as_ref().core().seen),
+        Slot::Define(_, seen, _) => {
+            is_width_same(*alert) && !reaches_inside(alert, seen.as_ref())
+        }
+        Slot::Part(node) => is_width_same(*alert) && !alert.reaches(&node.as_ref().core().seen),
     }
 }

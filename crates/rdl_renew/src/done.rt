@@ -5,6 +5,7 @@ ghost use Rattle.rdl_nodes.specs.KeptNode.{kept_of, slot_node};
 ghost use Rattle.rdl_renew.specs.Fronts.{front_of, fronts};
 ghost use Rattle.rdl_renew.specs.Renewing.{SeesSame, RaisesBehind};
 ghost use Rattle.rdl_seen.specs.Alert.{with_alert};
+ghost use Rattle.rdl_seen.specs.PropertySet.{no_properties};
 
 use crate::anew::put_default;
 use crate::same::is_same;
@@ -80,7 +81,8 @@ fn sees_same(before: Option<Kept>, now: Option<Kept>) -> bool
 
 /// What an item raises behind it that stayed in order: nothing, if it is no definition. This was kept of it before, and this is its slot.
 pub(crate) fn raises_behind(item: &Item, before: Option<Kept>, slot: &Slot) -> Alert
-    ensures { RaisesBehind result item.now (option_map kept_of before.entry) (slot_node slot.now) }
+    ensures raises { RaisesBehind result item.now (option_map kept_of before.entry) (slot_node slot.now) }
+    ensures properties { result.properties ≡ no_properties }
 {
     match item {
         Item::Define(name, _) => {

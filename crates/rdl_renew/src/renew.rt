@@ -1,18 +1,22 @@
 //! What is kept of a body that was changed, over what was kept of it before.
-ghost use Rattle.std.specs.Prelude.{◌≡◌, ℕ, suc, Bool, true, false, Some, IfOk, IfSome, OnOk, option_map, option_copied};
+ghost use Rattle.std.specs.Prelude.{◌≡◌, ◌||◌, ℕ, suc, not, Bool, true, false, Some, IfOk, IfSome, OnOk, option_map, option_copied};
 ghost use Rattle.rdl_marks.specs.Describes.{Describes};
 ghost use Rattle.rdl_marks.specs.InOrder.{AreInOrder};
 ghost use Rattle.rdl_marks.specs.Marks.{Firsts, Marks};
 ghost use Rattle.rdl_marks.specs.View.{Trace, old_item};
 ghost use Rattle.rdl_nodes.specs.HoldsNodes.{HoldsNodes};
 ghost use Rattle.rdl_nodes.specs.KeptNode.{kept_of};
+ghost use Rattle.rdl_nodes.specs.Placed.{all_placed, placed_over, CountsOn};
 ghost use Rattle.rdl_nodes.specs.View.{slots_of};
 ghost use Rattle.rdl_places.specs.HeldScope.{places_of, outer_places};
-ghost use Rattle.rdl_places.specs.Scopes.{around_places};
+ghost use Rattle.rdl_places.specs.Scopes.{around_places, IsScope};
+ghost use Rattle.rdl_renew.specs.AlikeSlots.{tells_of_width, are_alike};
 ghost use Rattle.rdl_renew.specs.Along.{next_of};
 ghost use Rattle.rdl_renew.specs.Anew.{slot_there, slots_there};
+ghost use Rattle.rdl_renew.specs.Counting.{stayed_placed, CountsItem};
 ghost use Rattle.rdl_renew.specs.Fronts.{front_of};
 ghost use Rattle.rdl_renew.specs.Judged.{IfStillClean, HasNoneInside};
+ghost use Rattle.rdl_renew.specs.Placed.{in_body, placed_in, placed_stayed, placed_of, sets_width};
 ghost use Rattle.rdl_renew.specs.Renewing.{part_of, kept_component, written_of, Became, WasLaidOut, BecameComponent, DiffersNoMoreBefore, IsReached, AreDone, IsNext, IsMadeAnew, IsSettledAt};
 ghost use Rattle.rdl_renew.specs.HeldRenewal.{renewing};
 ghost use Rattle.rdl_renew.specs.StillClean.{StaysClean, BecameClean, IsCleanStill};
@@ -21,6 +25,7 @@ ghost use Rattle.rdl_seen.specs.MeaningLaws.{is_clean_map};
 ghost use Rattle.rdl_seen.specs.Node.{Around, body_of, node};
 ghost use Rattle.rdl_seen.specs.Slots.{no_slots, written};
 ghost use Rattle.rdl_tree.specs.Items.{Items};
+ghost use Rattle.rdl_tree.specs.Weight.{capped};
 
 use crate::alike::{are_alike, is_width_same};
 use crate::along::{Along, Next};
@@ -33,6 +38,7 @@ use rdl_marks::marks::BodyMarks;
 use rdl_nodes::finished::finished_over;
 use rdl_nodes::lays::Lays;
 use rdl_nodes::node::{Kept, Node, Slot};
+use rdl_nodes::placed::slot_placed;
 use rdl_nodes::tree::Tree;
 use rdl_places::scope::{Outer, Scope};
 use rdl_seen::alert::Alert;
@@ -48,6 +54,14 @@ pub(crate) struct Renewal<'o, 'b, 's> {
     pub body: &'b Body,
     pub slots: &'s [Slot],
     pub around: Option<Kind>,
+}
+
+/// What is told of a renewal: whether it is known that no item has a fault, as far as items were looked at, and how many instances were
+/// placed, once for each mode. That count stops at the greatest `u64`.
+#[derive(Clone, Copy)]
+pub(crate) struct Account {
+    pub judge: Judge,
+    pub placed: u64,
 }
 
 /// The component of an item, if it is kept by itself.
@@ -110,6 +124,24 @@ fn settled_slot<'s>(slots: &'s [Slot], number: usize, alert: &Alert) -> Option<&
     }
 }
 
+/// An item at this place, under the defaults that reach it. It is made anew, and all that is inside it is placed.
+fn slot_anew<L: Lays>(
+    alloc: Global,
+    lay: &L,
+    scope: &Scope,
+    defaults: &Values,
+    item: &Item,
+    account: &mut Account,
+) -> Result<Slot, AllocError>
+    ensures slot { IsScope L.laying (places_of scope.now) → defaults.now ≡ (around_places L.laying (places_of scope.now)).defaults → IfOk result (λ x. front_of x ≡ slot_there L.laying (places_of scope.now) item.now) }
+    ensures clean { IsScope L.laying (places_of scope.now) → defaults.now ≡ (around_places L.laying (places_of scope.now)).defaults → OnOk result (IfStillClean account.old.judge.is_clean account.new.judge.is_clean (HasNoneInside L.laying (places_of scope.now) item.now)) }
+    ensures placed { IfOk result (λ x. CountsOn account.old.placed account.new.placed (all_placed (front_of x))) }
+{
+    let slot = item_anew(alloc, lay, scope, defaults, item, &mut account.judge)?;
+    account.placed = account.placed.saturating_add(slot_placed(&slot));
+    Ok(slot)
+}
+
 /// An item more that wasn't there before, or was moved.
 fn renew_new<L: Lays>(
     alloc: Global,
@@ -117,22 +149,24 @@ fn renew_new<L: Lays>(
     renewal: &Renewal,
     done: &mut Done,
     item: &Item,
-    judge: &mut Judge,
+    account: &mut Account,
 ) -> Result<(), AllocError>
     ensures done { (m : Marks) (old : Items) (saw : Around) (n : ℕ) (e : Trace) → IsNext L.laying (renewing renewal.now m old saw) n done.old item.now e → IsMadeAnew e → OnOk result (AreDone L.laying (renewing renewal.now m old saw) (suc n) done.new) }
-    ensures clean { (m : Marks) (old : Items) (saw : Around) (n : ℕ) (e : Trace) → IsNext L.laying (renewing renewal.now m old saw) n done.old item.now e → OnOk result (IfStillClean judge.old.is_clean judge.new.is_clean (IsCleanStill L.laying (renewing renewal.now m old saw) n item.now)) }
+    ensures clean { (m : Marks) (old : Items) (saw : Around) (n : ℕ) (e : Trace) → IsNext L.laying (renewing renewal.now m old saw) n done.old item.now e → OnOk result (IfStillClean account.old.judge.is_clean account.new.judge.is_clean (IsCleanStill L.laying (renewing renewal.now m old saw) n item.now)) }
+    ensures placed { (m : Marks) (old : Items) (saw : Around) (n : ℕ) (e : Trace) → IsNext L.laying (renewing renewal.now m old saw) n done.old item.now e → IsMadeAnew e → OnOk result (CountsItem L.laying (renewing renewal.now m old saw) (tells_of_width done.old.reach.alert) n e item.now account.old.placed account.new.placed) }
+    ensures properties { OnOk result (done.new.reach.alert.properties ≡ done.old.reach.alert.properties) }
 {
     let slot = {
         let number = done.slots.len();
         let scope = Scope::new(renewal.outer, renewal.body, number, done.slots.as_slice());
-        judge.look_at(&scope, renewal.around, item);
-        item_anew(alloc, lay, &scope, &done.reach.defaults, item, judge)?
+        account.judge.look_at(&scope, renewal.around, item);
+        slot_anew(alloc, lay, &scope, &done.reach.defaults, item, account)?
     };
     done.put(item, slot, Alert::none())
 }
 
 /// What is kept of a component whose items are done, under the defaults that reach it. This was kept of it before, and its body became what
-/// it is as marks tell. It is laid out anew only if layouts may take something else of it.
+/// it is as marks tell. It is laid out anew only if layouts may take something else of it; then its instances are counted.
 fn finished_again<L: Lays>(
     alloc: Global,
     lay: &L,
@@ -141,8 +175,11 @@ fn finished_again<L: Lays>(
     done: Done,
     before: &Node,
     inside: &BodyMarks,
+    placed: &mut u64,
 ) -> Result<Node, AllocError>
-    ensures { (old : Items) (saw sees : Around) → Became L.laying saw before.now.slots inside.now old component.now.body → WasLaidOut L.laying saw component.now.kind old before.now.core → DiffersNoMoreBefore L.laying done.reach.alert inside.now old component.now.body saw sees → defaults.now ≡ sees.defaults → slots_of done.slots.items ≡ (body_of L.laying sees component.now.body).slots → IfOk result (λ n. n ≡ node L.laying sees component.now.kind component.now.body) }
+    ensures node { (old : Items) (saw sees : Around) → Became L.laying saw before.now.slots inside.now old component.now.body → WasLaidOut L.laying saw component.now.kind old before.now.core → DiffersNoMoreBefore L.laying done.reach.alert inside.now old component.now.body saw sees → defaults.now ≡ sees.defaults → slots_of done.slots.items ≡ (body_of L.laying sees component.now.body).slots → IfOk result (λ n. n ≡ node L.laying sees component.now.kind component.now.body) }
+    ensures slots { IfOk result (λ n. n.slots ≡ slots_of done.slots.items) }
+    ensures placed { (old : Items) (saw : Around) → Became L.laying saw before.now.slots inside.now old component.now.body → IfOk result (λ n. CountsOn placed.old placed.new (placed_over (are_alike (not (tells_of_width done.reach.alert)) inside.now before.now.slots (slots_of done.slots.items) component.now.body) before.now.core n.core)) }
 {
     let Done { slots, reach } = done;
     let alike = are_alike(
@@ -152,7 +189,10 @@ fn finished_again<L: Lays>(
         slots.as_slice(),
         is_width_same(reach.alert),
     );
-    finished_over(alloc, lay, defaults, component, slots, before.core(), alike)
+    let before = before.core();
+    finished_over(
+        alloc, lay, defaults, component, slots, before, alike, placed,
+    )
 }
 
 /// A component that the item at this place holds. This was kept of it before, and its body became what it is as marks tell.
@@ -165,10 +205,11 @@ fn renewed_component<L: Lays>(
     before: &Node,
     inside: &BodyMarks,
     component: &Component,
-    judge: &mut Judge,
+    account: &mut Account,
 ) -> Result<Node, AllocError>
     ensures node { (old : Items) (saw : Around) → Became L.laying saw before.now.slots inside.now old component.now.body → WasLaidOut L.laying saw component.now.kind old before.now.core → IsReached L.laying (places_of scope.now) saw reach.now → IfOk result (λ n. n ≡ node L.laying (around_places L.laying (places_of scope.now)) component.now.kind component.now.body) }
-    ensures clean { (old : Items) (saw : Around) → Became L.laying saw before.now.slots inside.now old component.now.body → IsReached L.laying (places_of scope.now) saw reach.now → OnOk result (IfStillClean judge.old.is_clean judge.new.is_clean (StaysClean L.laying (places_of scope.now) (Some component.now.kind) saw old component.now.body)) }
+    ensures clean { (old : Items) (saw : Around) → Became L.laying saw before.now.slots inside.now old component.now.body → IsReached L.laying (places_of scope.now) saw reach.now → OnOk result (IfStillClean account.old.judge.is_clean account.new.judge.is_clean (StaysClean L.laying (places_of scope.now) (Some component.now.kind) saw old component.now.body)) }
+    ensures placed { (old : Items) (saw : Around) → Became L.laying saw before.now.slots inside.now old component.now.body → IsReached L.laying (places_of scope.now) saw reach.now → IfOk result (λ n. CountsOn account.old.placed account.new.placed (placed_stayed (in_body component.now.body) (tells_of_width reach.now.alert) inside.now (Some before.now) component.now.body (Some n))) }
 {
     let renewal = Renewal {
         outer: Outer::In(&*scope),
@@ -176,8 +217,12 @@ fn renewed_component<L: Lays>(
         slots: before.slots(),
         around: Some(component.kind),
     };
-    let done = renew_body(alloc, lay, &renewal, inside, reach, judge)?;
-    finished_again(alloc, lay, &reach.defaults, component, done, before, inside)
+    let done = renew_body(alloc, lay, &renewal, inside, reach, account)?;
+    let defaults = &reach.defaults;
+    let placed = &mut account.placed;
+    finished_again(
+        alloc, lay, defaults, component, done, before, inside, placed,
+    )
 }
 
 /// The slot of the item at this place, of which this was kept, and inside which this was changed.
@@ -190,22 +235,23 @@ fn renewed_slot<L: Lays>(
     kept: Option<Kept>,
     inside: &BodyMarks,
     item: &Item,
-    judge: &mut Judge,
+    account: &mut Account,
 ) -> Result<Slot, AllocError>
     ensures slot { (saw : Around) → BecameComponent L.laying saw (option_map kept_of kept.entry) inside.now item.now → IsReached L.laying (places_of scope.now) saw reach.now → IfOk result (λ x. front_of x ≡ slot_there L.laying (places_of scope.now) item.now) }
-    ensures clean { (saw : Around) (was_clean : Bool) → BecameClean L.laying saw (option_map kept_of kept.entry) inside.now was_clean item.now → IsReached L.laying (places_of scope.now) saw reach.now → OnOk result (IfStillClean judge.old.is_clean judge.new.is_clean (was_clean ≡ true → HasNoneInside L.laying (places_of scope.now) item.now)) }
+    ensures clean { (saw : Around) (was_clean : Bool) → BecameClean L.laying saw (option_map kept_of kept.entry) inside.now was_clean item.now → IsReached L.laying (places_of scope.now) saw reach.now → OnOk result (IfStillClean account.old.judge.is_clean account.new.judge.is_clean (was_clean ≡ true → HasNoneInside L.laying (places_of scope.now) item.now)) }
+    ensures placed { (saw : Around) → BecameComponent L.laying saw (option_map kept_of kept.entry) inside.now item.now → IsReached L.laying (places_of scope.now) saw reach.now → IfOk result (λ x. CountsOn account.old.placed account.new.placed (stayed_placed (tells_of_width reach.now.alert) inside.now (option_map kept_of kept.entry) (kept_at 0 (front_of x)) item.now)) }
 {
     match kept {
         Some(kept) => match kept_component(item) {
             Some(component) => {
                 let node = renewed_component(
-                    alloc, lay, scope, reach, kept.node, inside, component, judge,
+                    alloc, lay, scope, reach, kept.node, inside, component, account,
                 )?;
                 slot_with(alloc, item, node)
             }
-            None => item_anew(alloc, lay, scope, &reach.defaults, item, judge),
+            None => slot_anew(alloc, lay, scope, &reach.defaults, item, account),
         },
-        None => item_anew(alloc, lay, scope, &reach.defaults, item, judge),
+        None => slot_anew(alloc, lay, scope, &reach.defaults, item, account),
     }
 }
 
@@ -219,17 +265,19 @@ fn renew_stayed<L: Lays>(
     number: usize,
     inside: &BodyMarks,
     item: &Item,
-    judge: &mut Judge,
+    account: &mut Account,
 ) -> Result<(), AllocError>
     ensures done { (m : Marks) (old : Items) (saw : Around) (n : ℕ) (firsts : Firsts) → IsNext L.laying (renewing renewal.now m old saw) n done.old item.now (old_item number firsts inside.now) → firsts.is_moved ≡ false → OnOk result (AreDone L.laying (renewing renewal.now m old saw) (suc n) done.new) }
-    ensures clean { (m : Marks) (old : Items) (saw : Around) (n : ℕ) (firsts : Firsts) → IsNext L.laying (renewing renewal.now m old saw) n done.old item.now (old_item number firsts inside.now) → firsts.is_moved ≡ false → OnOk result (IfStillClean judge.old.is_clean judge.new.is_clean (IsCleanStill L.laying (renewing renewal.now m old saw) n item.now)) }
+    ensures clean { (m : Marks) (old : Items) (saw : Around) (n : ℕ) (firsts : Firsts) → IsNext L.laying (renewing renewal.now m old saw) n done.old item.now (old_item number firsts inside.now) → firsts.is_moved ≡ false → OnOk result (IfStillClean account.old.judge.is_clean account.new.judge.is_clean (IsCleanStill L.laying (renewing renewal.now m old saw) n item.now)) }
+    ensures placed { (m : Marks) (old : Items) (saw : Around) (n : ℕ) (firsts : Firsts) → IsNext L.laying (renewing renewal.now m old saw) n done.old item.now (old_item number firsts inside.now) → firsts.is_moved ≡ false → OnOk result (CountsItem L.laying (renewing renewal.now m old saw) (tells_of_width done.old.reach.alert) n (old_item number firsts inside.now) item.now account.old.placed account.new.placed) }
+    ensures properties { OnOk result (done.new.reach.alert.properties ≡ done.old.reach.alert.properties) }
 {
     let kept = kept_slot(renewal.slots, number);
     let slot = {
         let count = done.slots.len();
         let scope = Scope::new(renewal.outer, renewal.body, count, done.slots.as_slice());
-        judge.look_at(&scope, renewal.around, item);
-        renewed_slot(alloc, lay, &scope, &done.reach, kept, inside, item, judge)?
+        account.judge.look_at(&scope, renewal.around, item);
+        renewed_slot(alloc, lay, &scope, &done.reach, kept, inside, item, account)?
     };
     let raises = raises_behind(item, kept, &slot);
     done.put(item, slot, raises)
@@ -244,25 +292,28 @@ fn renew_item<L: Lays>(
     done: &mut Done,
     next: Next,
     item: &Item,
-    judge: &mut Judge,
+    account: &mut Account,
 ) -> Result<(), AllocError>
     ensures done { (m : Marks) (old : Items) (saw : Around) (n : ℕ) → IsNext L.laying (renewing renewal.now m old saw) n done.old item.now (next_of next.entry) → OnOk result (AreDone L.laying (renewing renewal.now m old saw) (suc n) done.new) }
-    ensures clean { (m : Marks) (old : Items) (saw : Around) (n : ℕ) → IsNext L.laying (renewing renewal.now m old saw) n done.old item.now (next_of next.entry) → OnOk result (IfStillClean judge.old.is_clean judge.new.is_clean (IsCleanStill L.laying (renewing renewal.now m old saw) n item.now)) }
+    ensures clean { (m : Marks) (old : Items) (saw : Around) (n : ℕ) → IsNext L.laying (renewing renewal.now m old saw) n done.old item.now (next_of next.entry) → OnOk result (IfStillClean account.old.judge.is_clean account.new.judge.is_clean (IsCleanStill L.laying (renewing renewal.now m old saw) n item.now)) }
+    ensures placed { (m : Marks) (old : Items) (saw : Around) (n : ℕ) → IsNext L.laying (renewing renewal.now m old saw) n done.old item.now (next_of next.entry) → OnOk result (CountsItem L.laying (renewing renewal.now m old saw) (tells_of_width done.old.reach.alert) n (next_of next.entry) item.now account.old.placed account.new.placed) }
+    ensures properties { OnOk result (done.new.reach.alert.properties ≡ done.old.reach.alert.properties) }
 {
     match next {
-        Next::New => renew_new(alloc, lay, renewal, done, item, judge),
+        Next::New => renew_new(alloc, lay, renewal, done, item, account),
         Next::Same(number) => match settled_slot(renewal.slots, number, &done.reach.alert) {
             Some(slot) => done.keep(slot),
             None => {
                 let unchanged = BodyMarks::new(alloc);
-                renew_stayed(alloc, lay, renewal, done, number, &unchanged, item, judge)
+                renew_stayed(alloc, lay, renewal, done, number, &unchanged, item, account)
             }
         },
         Next::Marked(number, mark) => {
             if mark.is_moved {
-                renew_new(alloc, lay, renewal, done, item, judge)
+                renew_new(alloc, lay, renewal, done, item, account)
             } else {
-                renew_stayed(alloc, lay, renewal, done, number, &mark.inside, item, judge)
+                let inside = &mark.inside;
+                renew_stayed(alloc, lay, renewal, done, number, inside, item, account)
             }
         }
     }
@@ -276,13 +327,15 @@ fn renew_body<L: Lays>(
     renewal: &Renewal,
     marks: &BodyMarks,
     reach: &Reach,
-    judge: &mut Judge,
+    account: &mut Account,
 ) -> Result<Done, AllocError>
     ensures slots { (old : Items) (saw : Around) → Became L.laying saw (slots_of renewal.now.slots.now) marks.now old renewal.now.body.now → IsReached L.laying (outer_places renewal.now.outer) saw reach.now → IfOk result (λ done. slots_of done.slots.items ≡ slots_there L.laying (outer_places renewal.now.outer) renewal.now.body.now) }
     ensures alert { (old : Items) (saw : Around) → Became L.laying saw (slots_of renewal.now.slots.now) marks.now old renewal.now.body.now → IsReached L.laying (outer_places renewal.now.outer) saw reach.now → IfOk result (λ done. DiffersNoMoreBefore L.laying done.reach.alert marks.now old renewal.now.body.now saw (around_places L.laying (outer_places renewal.now.outer))) }
-    ensures clean { (old : Items) (saw : Around) → Became L.laying saw (slots_of renewal.now.slots.now) marks.now old renewal.now.body.now → IsReached L.laying (outer_places renewal.now.outer) saw reach.now → OnOk result (IfStillClean judge.old.is_clean judge.new.is_clean (StaysClean L.laying (outer_places renewal.now.outer) renewal.now.around saw old renewal.now.body.now)) }
+    ensures clean { (old : Items) (saw : Around) → Became L.laying saw (slots_of renewal.now.slots.now) marks.now old renewal.now.body.now → IsReached L.laying (outer_places renewal.now.outer) saw reach.now → OnOk result (IfStillClean account.old.judge.is_clean account.new.judge.is_clean (StaysClean L.laying (outer_places renewal.now.outer) renewal.now.around saw old renewal.now.body.now)) }
+    ensures placed { (old : Items) (saw : Around) → Became L.laying saw (slots_of renewal.now.slots.now) marks.now old renewal.now.body.now → IsReached L.laying (outer_places renewal.now.outer) saw reach.now → IfOk result (λ done. CountsOn account.old.placed account.new.placed (placed_in (tells_of_width reach.now.alert || sets_width marks.now renewal.now.body.now) marks.now (slots_of renewal.now.slots.now) (slots_of done.slots.items) 0 renewal.now.body.now)) }
+    ensures width { IfOk result (λ done. tells_of_width done.reach.alert ≡ (tells_of_width reach.now.alert || sets_width marks.now renewal.now.body.now)) }
 {
-    judge.look_at_changed(marks, renewal.body);
+    account.judge.look_at_changed(marks, renewal.body);
     let first = Reach {
         defaults: reach.defaults,
         alert: reach.alert.with(raised(marks, renewal.body)),
@@ -291,20 +344,23 @@ fn renew_body<L: Lays>(
     let mut along = Along::new();
     for item in renewal.body.as_slice() {
         let next = along.next(marks.pieces.as_slice(), marks.behind);
-        renew_item(alloc, lay, renewal, &mut done, next, item, judge)?;
+        renew_item(alloc, lay, renewal, &mut done, next, item, account)?;
     }
     Ok(done)
 }
 
-/// A map that was renewed: what is kept of it, and whether it is known that no item of it has a fault.
+/// A map that was renewed: what is kept of it, whether it is known that no item of it has a fault, and how many instances were placed, once
+/// for each mode. That count stops at the greatest `u64`.
 #[derive(Drop)]
 pub struct RenewedMap {
     pub tree: Tree,
     pub is_clean: bool,
+    pub placed: u64,
 }
 
 /// What is kept of a map over what was kept of it before, where marks tell what became of it. Only bodies in which something was changed,
 /// and those that see something of it, are gone into. If no item of the map had a fault, it is told whether it is seen that none has one now.
+/// The instances that are laid out anew are counted.
 pub fn renewed<L: Lays>(
     alloc: Global,
     lay: &L,
@@ -315,6 +371,7 @@ pub fn renewed<L: Lays>(
     ensures slots { (old : Items) → Describes marks.now old description.now.items → AreInOrder marks.now → tree.now ≡ (body_of L.laying nothing_around old).slots → IfOk result (λ new. new.tree ≡ (body_of L.laying nothing_around description.now.items).slots) }
     ensures nodes { (old : Items) → Describes marks.now old description.now.items → AreInOrder marks.now → tree.now ≡ (body_of L.laying nothing_around old).slots → IfOk result (λ new. HoldsNodes L.laying description.now.items new.tree) }
     ensures clean { (old : Items) → Describes marks.now old description.now.items → AreInOrder marks.now → tree.now ≡ (body_of L.laying nothing_around old).slots → IfOk result (λ new. new.is_clean ≡ true → is_clean_map L.laying old ≡ true → is_clean_map L.laying description.now.items ≡ true) }
+    ensures placed { (old : Items) → Describes marks.now old description.now.items → AreInOrder marks.now → tree.now ≡ (body_of L.laying nothing_around old).slots → IfOk result (λ new. new.placed ≡ capped (placed_of marks.now tree.now description.now.items new.tree)) }
 {
     let renewal = Renewal {
         outer: Outer::Nowhere,
@@ -326,11 +383,15 @@ pub fn renewed<L: Lays>(
         defaults: Values::none(),
         alert: Alert::none(),
     };
-    let mut judge = Judge { is_clean: true };
-    let done = renew_body(alloc, lay, &renewal, marks, &reach, &mut judge)?;
+    let mut account = Account {
+        judge: Judge { is_clean: true },
+        placed: 0,
+    };
+    let done = renew_body(alloc, lay, &renewal, marks, &reach, &mut account)?;
     let Done { slots, reach: _ } = done;
     Ok(RenewedMap {
         tree: Tree::of_slots(slots),
-        is_clean: judge.is_clean,
+        is_clean: account.judge.is_clean,
+        placed: account.placed,
     })
 }

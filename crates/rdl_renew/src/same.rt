@@ -1,5 +1,6 @@
 //! Whether the same is seen of two components.
 ghost use Rattle.std.specs.Prelude.{◌≡◌, true};
+ghost use Rattle.rdl_renew.specs.AlikeSlots.{same_by_mode};
 ghost use Rattle.rdl_renew.specs.Same.{HaveSameKind, HaveSameFlags, HaveSameCounts, HaveSameSizes, HearTheSame};
 
 use rdl_seen::names::NameSet;
@@ -25,7 +26,8 @@ fn are_same_modes(before: Modes, now: Modes) -> bool
 }
 
 pub(crate) fn are_same_by_mode(before: ByMode, now: ByMode) -> bool
-    ensures { result ≡ true → before ≡ now }
+    ensures exact { result ≡ same_by_mode before now }
+    ensures same { result ≡ true → before ≡ now }
 {
     before == now
 }

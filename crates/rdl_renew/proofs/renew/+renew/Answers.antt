@@ -1,5 +1,5 @@
 -- The items of a body that are renewed, one by one.
-use Rattle.std.proofs.Common.{◌≡◌, ◌+◌, ◌*◌, ◌<◌, ◌^◌, List, length, Some, refl, ap, subst, sym, ◌∙◌, arith, rules}
+use Rattle.std.proofs.Common.{◌≡◌, ◌+◌, ◌*◌, ◌<◌, ◌^◌, ◌||◌, List, length, Some, None, refl, ap, subst, sym, ◌∙◌, arith, rules}
 use Rattle.std.specs.Prelude.{option_map}
 use Rattle.std.specs.Option.{option_copied}
 use Rattle.rdl_tree.specs.Items.{Items}
@@ -11,19 +11,29 @@ use Rattle.rdl_marks.specs.Was.{trace_of}
 use Rattle.rdl_marks.specs.declared.marks.Piece.{Piece}
 use Rattle.rdl_nodes.specs.KeptNode.{kept_of}
 use Rattle.rdl_nodes.specs.View.{slots_of}
+use Rattle.rdl_nodes.proofs.Counts.{counts_so}
 use Rattle.rdl_places.specs.HeldScope.{places_of, outer_places}
 use Rattle.rdl_places.specs.Scopes.{around_places}
+use Rattle.rdl_seen.specs.declared.alert.Alert.{Alert}
 use Rattle.rdl_seen.specs.Meaning.{around_before}
 use Rattle.rdl_seen.specs.Node.{Around}
+use Rattle.rdl_seen.specs.PropertySet.{with_properties}
 use Rattle.rdl_renew.specs.declared.done.Reach.{Reach}
+use Rattle.rdl_renew.specs.AlikeSlots.{tells_of_width}
 use Rattle.rdl_renew.specs.Along.{next_of, HasPassed, HasNumber}
+use Rattle.rdl_renew.specs.Anew.{slots_there}
+use Rattle.rdl_renew.specs.Fronts.{front_of}
 use Rattle.rdl_renew.specs.HeldRenewal.{renewing}
 use Rattle.rdl_renew.specs.Judged.{IsCleanBody}
+use Rattle.rdl_renew.specs.Placed.{in_body, placed_stayed, sets_width}
+use Rattle.rdl_renew.specs.Raised.{raised}
 use Rattle.rdl_renew.specs.Renewing.{kept_component, Became, IsReached, IsNext}
 use Rattle.rdl_renew.proofs.BodySteps.{first_done, next_is, one_renewed, body_done, differs_no_more}
 use Rattle.rdl_renew.proofs.CleanSteps.{on_any, was_clean, stayed_clean, settled_clean, same_judge, component_still, first_clean, next_clean, body_clean}
-use Rattle.rdl_renew.proofs.ItemSteps.{on_all, on_both, kept_done, stayed_done, slot_made, with_next}
+use Rattle.rdl_renew.proofs.CountSteps.{if_both, on_two, width_either, on_told, stayed_became, stayed_counted, settled_counted, component_counted, bare_counted, unkept_counted, finished_counted, none_counted, one_counted, all_counted}
+use Rattle.rdl_renew.proofs.ItemSteps.{on_all, on_both, kept_done, stayed_done, slot_made, with_next, reached_stayed}
 use Rattle.rdl_renew.proofs.OneDone.{place_made}
+use Rattle.rdl_renew.proofs.Raises.{with_none}
 use Rattle.rdl_renew.proofs.renew.+renew.Goals as goal
 
 pub renew_item-returns-in-New-clause-done : goal.renew_item-returns-in-New-clause-done
@@ -66,7 +76,7 @@ renew_stayed-returns-clause-done g t c = λ m old saw n firsts next unmoved.
     let there = place_made r d (places_of c.new-scope.result) c.len-count.result c.as_slice.result.now c.new-scope.ensures c.len-count.ensures c.as_slice.ensures.value in
     on_all c.put.result c.put.ensures.slots c.put.ensures.defaults c.put.ensures.alert
     (stayed_done g.L.Lays.laying r n d c.put.new.self c.args.item.now c.args.number firsts c.args.inside.now c.in_ok-slot.slot c.raises_behind-raises.result (option_map kept_of c.kept_slot-kept.result) (places_of c.new-scope.result)
-    there next unmoved c.kept_slot-kept.ensures (c.in_ok-slot.ensures.slot (around_before g.L.Lays.laying c.args.number saw old)) c.raises_behind-raises.ensures)
+    there next unmoved c.kept_slot-kept.ensures (c.in_ok-slot.ensures.slot (around_before g.L.Lays.laying c.args.number saw old)) c.raises_behind-raises.ensures.raises)
 
 pub renewed_slot-returns-in_ok-node-in-Some-kept_component-clause-slot : goal.renewed_slot-returns-in_ok-node-in-Some-kept_component-clause-slot
 renewed_slot-returns-in_ok-node-in-Some-kept_component-clause-slot g t c = λ saw became reached.
@@ -83,7 +93,7 @@ pub renewed_component-returns-clause-node : goal.renewed_component-returns-claus
 renewed_component-returns-clause-node g t c = λ old saw became laid reached.
     let lay = g.L.Lays.laying in
     let same = subst (λ s. Became lay saw s c.args.inside.now old c.args.component.now.body) (sym c.slots.ensures) became in
-    c.finished_again.ensures old saw (around_places lay (places_of c.args.scope.now)) became laid (c.in_ok-done.ensures.alert old saw same reached) reached.defaults (c.in_ok-done.ensures.slots old saw same reached)
+    c.finished_again.ensures.node old saw (around_places lay (places_of c.args.scope.now)) became laid (c.in_ok-done.ensures.alert old saw same reached) reached.defaults (c.in_ok-done.ensures.slots old saw same reached)
 
 pub renew_body-loop-item-init : goal.renew_body-loop-item-init
 renew_body-loop-item-init g t c = record {
@@ -92,7 +102,13 @@ renew_body-loop-item-init g t c = record {
       first_done g.L.Lays.laying (renewing c.args.renewal.now c.args.marks.now old saw) c.in_ok-done.done c.args.reach.now c.raised.result became reached c.in_ok-done.ensures.slots (ap (λ (x : Reach). x.defaults) c.in_ok-done.ensures.reach)
       (ap (λ (x : Reach). x.alert) c.in_ok-done.ensures.reach ∙ c.with.ensures) c.raised.ensures;
   clean = λ old saw became reached.
-      first_clean g.L.Lays.laying (renewing c.args.renewal.now c.args.marks.now old saw) c.args.judge.now.is_clean c.look_at_changed.new.self.is_clean became c.look_at_changed.ensures;
+      first_clean g.L.Lays.laying (renewing c.args.renewal.now c.args.marks.now old saw) c.args.account.now.judge.is_clean c.look_at_changed.new.self.is_clean became c.look_at_changed.ensures;
+  placed = λ old saw became reached.
+      let r = renewing c.args.renewal.now c.args.marks.now old saw in
+      none_counted (tells_of_width c.args.reach.now.alert || sets_width r.marks r.now) r.marks r.slots (slots_there g.L.Lays.laying r.places r.now) r.now c.as_slice-item-items.result.now c.args.account.now.placed
+      c.as_slice-item-items.ensures;
+  width = ap (λ (x : Reach). x.alert.properties) c.in_ok-done.ensures.reach
+      ∙ (ap (λ (x : Alert). x.properties) c.with.ensures ∙ ap (λ (x : Alert). with_properties c.args.reach.now.alert.properties x.properties) c.raised.ensures);
 }
 
 pub renew_body-renew_item-requires : goal.renew_body-renew_item-requires
@@ -124,8 +140,15 @@ renew_body-loop-item-preserved g t c =
           one_renewed lay (renewing c.args.renewal.now c.args.marks.now old saw) i c.renew_item.new.done (c.in_ok-renew_item.ensures.done c.args.marks.now old saw i (next old saw became reached));
       clean = λ old saw became reached.
           let here = next old saw became reached in
-          next_clean lay (renewing c.args.renewal.now c.args.marks.now old saw) i c.item-item.result c.args.judge.now.is_clean c.loop-item.judge.is_clean c.renew_item.new.judge.is_clean here.there
+          next_clean lay (renewing c.args.renewal.now c.args.marks.now old saw) i c.item-item.result c.args.account.now.judge.is_clean c.loop-item.account.judge.is_clean c.renew_item.new.account.judge.is_clean here.there
           (c.loop-item.invariant.clean old saw became reached) (c.in_ok-renew_item.ensures.clean c.args.marks.now old saw i here);
+      placed = λ old saw became reached.
+          let r = renewing c.args.renewal.now c.args.marks.now old saw in
+          let here = next old saw became reached in
+          one_counted (tells_of_width c.args.reach.now.alert || sets_width r.marks r.now) (tells_of_width c.loop-item.done.reach.alert) r.marks r.slots (slots_there lay r.places r.now) r.now c.as_slice-item-items.result.now i
+          c.args.account.now.placed c.loop-item.account.placed c.renew_item.new.account.placed (next_of c.next-next.result) c.item-item.result (c.loop-item.invariant.placed old saw became reached) c.loop-item-test.true c.item-item.is
+          here.told (width_either c.args.reach.now.alert.properties (raised r.marks r.now).properties c.loop-item.done.reach.alert c.loop-item.invariant.width) (c.in_ok-renew_item.ensures.placed c.args.marks.now old saw i here);
+      width = c.in_ok-renew_item.ensures.properties ∙ c.loop-item.invariant.width;
     }
 
 pub renew_body-returns-clause-slots : goal.renew_body-returns-clause-slots
@@ -147,7 +170,7 @@ renew_item-returns-in-Some-clause-clean g t c = λ m old saw n next.
     let d = c.args.done.now in
     let here = with_next g.L.Lays.laying r n d c.args.item.now (next_of c.args.next) (same_item c.in-Same.number) (ap next_of c.in-Same.is) next in
     on_any c.keep.result
-    (same_judge c.args.judge.now.is_clean (settled_clean g.L.Lays.laying r n d c.args.item.now c.in-Same.number c.in-Some.slot.now c.args.renewal.now.slots.now here refl c.in-Some.ensures))
+    (same_judge c.args.account.now.judge.is_clean (settled_clean g.L.Lays.laying r n d c.args.item.now c.in-Same.number c.in-Some.slot.now c.args.renewal.now.slots.now here refl c.in-Some.ensures))
 
 pub renew_stayed-returns-clause-clean : goal.renew_stayed-returns-clause-clean
 renew_stayed-returns-clause-clean g t c = λ m old saw n firsts next unmoved.
@@ -157,7 +180,7 @@ renew_stayed-returns-clause-clean g t c = λ m old saw n firsts next unmoved.
     let ps = places_of c.new-scope.result in
     let there = place_made r d (places_of c.new-scope.result) c.len-count.result c.as_slice.result.now c.new-scope.ensures c.len-count.ensures c.as_slice.ensures.value in
     on_any c.put.result
-    (stayed_clean lay r n d c.args.item.now c.args.number firsts c.args.inside.now (option_map kept_of c.kept_slot-kept.result) ps c.args.judge.now.is_clean c.look_at.new.self.is_clean c.renewed_slot.new.judge.is_clean
+    (stayed_clean lay r n d c.args.item.now c.args.number firsts c.args.inside.now (option_map kept_of c.kept_slot-kept.result) ps c.args.account.now.judge.is_clean c.look_at.new.self.is_clean c.renewed_slot.new.account.judge.is_clean
     there next unmoved c.kept_slot-kept.ensures (c.look_at.ensures lay) (c.in_ok-slot.ensures.clean (around_before lay c.args.number saw old) (was_clean lay r)))
 
 pub renewed_slot-returns-in_ok-node-in-Some-kept_component-clause-clean : goal.renewed_slot-returns-in_ok-node-in-Some-kept_component-clause-clean
@@ -174,5 +197,140 @@ renewed_slot-returns-in_ok-node-in-Some-kept_component-clause-clean g t c = λ s
 pub renew_body-returns-clause-clean : goal.renew_body-returns-clause-clean
 renew_body-returns-clause-clean g t c = λ old saw became reached.
     let r = renewing c.args.renewal.now c.args.marks.now old saw in
-    body_clean g.L.Lays.laying r c.loop-item.item-index c.args.judge.now.is_clean c.loop-item.judge.is_clean c.as_slice-item-items.result.now (c.loop-item.invariant.clean old saw became reached) c.as_slice-item-items.ensures
+    body_clean g.L.Lays.laying r c.loop-item.item-index c.args.account.now.judge.is_clean c.loop-item.account.judge.is_clean c.as_slice-item-items.result.now (c.loop-item.invariant.clean old saw became reached) c.as_slice-item-items.ensures
     c.loop-item-test.false
+
+-- ---- How many instances are placed.
+
+pub renew_item-returns-in-New-clause-placed : goal.renew_item-returns-in-New-clause-placed
+renew_item-returns-in-New-clause-placed g t c = λ m old saw n next.
+    let lay = g.L.Lays.laying in
+    let r = renewing c.args.renewal.now m old saw in
+    let d = c.args.done.now in
+    let y = c.args.item.now in
+    let told : next_of c.args.next ≡ new_item = ap next_of c.in-New.is in
+    on_told lay r n y new_item (next_of c.args.next) (tells_of_width d.reach.alert) c.args.account.now.placed c.renew_new.new.account.placed c.renew_new.result told
+    (c.renew_new.ensures.placed m old saw n new_item (with_next lay r n d y (next_of c.args.next) new_item told next) tt)
+
+pub renew_item-returns-in-Some-clause-placed : goal.renew_item-returns-in-Some-clause-placed
+renew_item-returns-in-Some-clause-placed g t c = λ m old saw n next.
+    let lay = g.L.Lays.laying in
+    let r = renewing c.args.renewal.now m old saw in
+    let d = c.args.done.now in
+    let y = c.args.item.now in
+    let a = c.args.account.now.placed in
+    let told : next_of c.args.next ≡ same_item c.in-Same.number = ap next_of c.in-Same.is in
+    let here = with_next lay r n d y (next_of c.args.next) (same_item c.in-Same.number) told next in
+    on_told lay r n y (same_item c.in-Same.number) (next_of c.args.next) (tells_of_width d.reach.alert) a a c.keep.result told
+    (on_two c.keep.result (renew_item-returns-in-Some-clause-done g t c m old saw n next) c.keep.ensures.slots
+    (settled_counted lay r n d c.keep.new.self y c.in-Same.number c.in-Some.slot.now c.args.renewal.now.slots.now a here refl c.in-Some.ensures))
+
+pub renew_item-returns-in-None-clause-placed : goal.renew_item-returns-in-None-clause-placed
+renew_item-returns-in-None-clause-placed g t c = λ m old saw n next.
+    let lay = g.L.Lays.laying in
+    let r = renewing c.args.renewal.now m old saw in
+    let d = c.args.done.now in
+    let y = c.args.item.now in
+    let e = old_item c.in-Same.number no_firsts c.new-unchanged.result in
+    let told : next_of c.args.next ≡ e = ap next_of c.in-Same.is ∙ ap (old_item c.in-Same.number no_firsts) (sym c.new-unchanged.ensures) in
+    on_told lay r n y e (next_of c.args.next) (tells_of_width d.reach.alert) c.args.account.now.placed c.renew_stayed.new.account.placed c.renew_stayed.result told
+    (c.renew_stayed.ensures.placed m old saw n no_firsts (with_next lay r n d y (next_of c.args.next) e told next) refl)
+
+pub renew_item-returns-then-mark-clause-placed : goal.renew_item-returns-then-mark-clause-placed
+renew_item-returns-then-mark-clause-placed g t c = λ m old saw n next.
+    let lay = g.L.Lays.laying in
+    let r = renewing c.args.renewal.now m old saw in
+    let d = c.args.done.now in
+    let y = c.args.item.now in
+    let mark = c.in-Marked.mark.now in
+    let e = old_item c.in-Marked.number (firsts_of mark) mark.inside in
+    let told : next_of c.args.next ≡ e = ap next_of c.in-Marked.is in
+    on_told lay r n y e (next_of c.args.next) (tells_of_width d.reach.alert) c.args.account.now.placed c.renew_new-then-mark.new.account.placed c.renew_new-then-mark.result told
+    (c.renew_new-then-mark.ensures.placed m old saw n e (with_next lay r n d y (next_of c.args.next) e told next) c.if-mark.true)
+
+pub renew_item-returns-else-mark-clause-placed : goal.renew_item-returns-else-mark-clause-placed
+renew_item-returns-else-mark-clause-placed g t c = λ m old saw n next.
+    let lay = g.L.Lays.laying in
+    let r = renewing c.args.renewal.now m old saw in
+    let d = c.args.done.now in
+    let y = c.args.item.now in
+    let mark = c.in-Marked.mark.now in
+    let e = old_item c.in-Marked.number (firsts_of mark) mark.inside in
+    let told : next_of c.args.next ≡ e = ap next_of c.in-Marked.is in
+    on_told lay r n y e (next_of c.args.next) (tells_of_width d.reach.alert) c.args.account.now.placed c.renew_stayed-else-mark.new.account.placed c.renew_stayed-else-mark.result told
+    (c.renew_stayed-else-mark.ensures.placed m old saw n (firsts_of mark) (with_next lay r n d y (next_of c.args.next) e told next) c.if-mark.false)
+
+pub renew_stayed-returns-clause-placed : goal.renew_stayed-returns-clause-placed
+renew_stayed-returns-clause-placed g t c = λ m old saw n firsts next unmoved.
+    let lay = g.L.Lays.laying in
+    let r = renewing c.args.renewal.now m old saw in
+    let d = c.args.done.now in
+    let ps = places_of c.new-scope.result in
+    let there = place_made r d ps c.len-count.result c.as_slice.result.now c.new-scope.ensures c.len-count.ensures c.as_slice.ensures.value in
+    let kept = option_map kept_of c.kept_slot-kept.result in
+    let became = stayed_became lay r n d c.args.item.now c.args.number firsts c.args.inside.now kept next c.kept_slot-kept.ensures in
+    let reached = reached_stayed lay r n d c.args.item.now c.args.number firsts c.args.inside.now ps there next unmoved in
+    on_two c.put.result (renew_stayed-returns-clause-done g t c m old saw n firsts next unmoved) c.put.ensures.slots
+    (stayed_counted lay r n d c.put.new.self c.args.item.now c.args.number firsts c.args.inside.now kept c.in_ok-slot.slot c.args.account.now.placed c.renewed_slot.new.account.placed next unmoved c.kept_slot-kept.ensures
+    (c.in_ok-slot.ensures.placed (around_before lay c.args.number saw old) became reached))
+
+pub renew_stayed-returns-clause-properties : goal.renew_stayed-returns-clause-properties
+renew_stayed-returns-clause-properties g t c = on_both c.put.result c.put.ensures.alert
+    (λ alert.
+    ap (λ (x : Alert). x.properties) alert
+    ∙ (ap (with_properties c.args.done.now.reach.alert.properties) c.raises_behind-raises.ensures.properties ∙ ap (λ (x : Alert). x.properties) (with_none c.args.done.now.reach.alert)))
+
+pub renewed_slot-returns-in_ok-node-in-Some-kept_component-clause-placed : goal.renewed_slot-returns-in_ok-node-in-Some-kept_component-clause-placed
+renewed_slot-returns-in_ok-node-in-Some-kept_component-clause-placed g t c = λ saw became reached.
+    let kept = c.in-Some.kept in
+    let component = c.in-Some-kept_component.component.now in
+    let w = tells_of_width c.args.reach.now.alert in
+    let inside = c.args.inside.now in
+    let is : kept_component c.args.item.now ≡ Some component = sym c.kept_component.ensures ∙ ap option_copied c.in-Some-kept_component.is in
+    let there : option_map kept_of c.args.kept ≡ Some (kept_of kept) = ap (option_map kept_of) c.in-Some.is in
+    let was = became (kept_of kept) component there is in
+    let node = c.in_ok-node-in-Some-kept_component.node in
+    let counted = c.in_ok-node-in-Some-kept_component.ensures.placed was.0 saw was.1 reached in
+    component_counted c.args.item.now component node w inside (option_map kept_of c.args.kept) c.args.account.now.placed c.renewed_component.new.account.placed c.slot_with.result is
+    (counts_so c.args.account.now.placed c.renewed_component.new.account.placed (ap (λ k. placed_stayed (in_body component.body) w inside k component.body (Some node)) (sym there)) counted) c.slot_with.ensures
+
+pub renewed_slot-returns-in-None-kept_component-clause-placed : goal.renewed_slot-returns-in-None-kept_component-clause-placed
+renewed_slot-returns-in-None-kept_component-clause-placed g t c = λ saw became reached.
+    let lay = g.L.Lays.laying in
+    let ps = places_of c.args.scope.now in
+    let none : kept_component c.args.item.now ≡ None = sym c.kept_component.ensures ∙ ap option_copied c.in-None-kept_component.is in
+    if_both c.slot_anew.result (c.slot_anew.ensures.slot reached.scope reached.defaults) c.slot_anew.ensures.placed
+    (λ x front counted.
+    bare_counted lay ps (tells_of_width c.args.reach.now.alert) c.args.inside.now (option_map kept_of c.args.kept) c.args.item.now (front_of x) _ _ none front counted)
+
+pub renewed_slot-returns-in-None-clause-placed : goal.renewed_slot-returns-in-None-clause-placed
+renewed_slot-returns-in-None-clause-placed g t c = λ saw became reached.
+    let lay = g.L.Lays.laying in
+    let ps = places_of c.args.scope.now in
+    let none : option_map kept_of c.args.kept ≡ None = ap (option_map kept_of) c.in-None.is in
+    if_both c.slot_anew-in-None.result (c.slot_anew-in-None.ensures.slot reached.scope reached.defaults) c.slot_anew-in-None.ensures.placed
+    (λ x front counted.
+    unkept_counted lay ps (tells_of_width c.args.reach.now.alert) c.args.inside.now (option_map kept_of c.args.kept) c.args.item.now (front_of x) _ _ none front counted)
+
+pub renewed_component-returns-clause-placed : goal.renewed_component-returns-clause-placed
+renewed_component-returns-clause-placed g t c = λ old saw became reached.
+    let lay = g.L.Lays.laying in
+    let body = c.args.component.now.body in
+    let inside = c.args.inside.now in
+    let before = c.args.before.now in
+    let same = subst (λ s. Became lay saw s inside old body) (sym c.slots.ensures) became in
+    let first = c.in_ok-done.ensures.placed old saw same reached in
+    if_both c.finished_again.result c.finished_again.ensures.slots (c.finished_again.ensures.placed old saw became)
+    (λ n slots counted.
+    finished_counted body inside before n (slots_of c.slots.result.now) (slots_of c.in_ok-done.done.slots.items) (tells_of_width c.in_ok-done.done.reach.alert)
+    (tells_of_width c.args.reach.now.alert || sets_width inside body) c.args.account.now.placed c.renew_body.new.account.placed c.finished_again.new.placed c.in_ok-done.ensures.width c.slots.ensures slots first counted)
+
+pub renew_body-returns-clause-placed : goal.renew_body-returns-clause-placed
+renew_body-returns-clause-placed g t c = λ old saw became reached.
+    let r = renewing c.args.renewal.now c.args.marks.now old saw in
+    all_counted (tells_of_width c.args.reach.now.alert || sets_width r.marks r.now) r.marks r.slots (slots_there g.L.Lays.laying r.places r.now) (slots_of c.loop-item.done.slots.items) r.now c.as_slice-item-items.result.now
+    c.loop-item.item-index c.args.account.now.placed c.loop-item.account.placed (c.loop-item.invariant.placed old saw became reached) c.loop-item-test.false (renew_body-returns-clause-slots g t c old saw became reached)
+
+pub renew_body-returns-clause-width : goal.renew_body-returns-clause-width
+renew_body-returns-clause-width g t c =
+    width_either c.args.reach.now.alert.properties (raised c.args.marks.now c.args.renewal.now.body.now).properties c.loop-item.done.reach.alert c.loop-item.invariant.width

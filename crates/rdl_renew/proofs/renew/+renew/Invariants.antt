@@ -1,14 +1,20 @@
 -- The measure of a body that is renewed, and what holds of its items that are done.
-use Rattle.std.proofs.Common.{◌+◌, ◌*◌}
+use Rattle.std.proofs.Common.{◌≡◌, ◌+◌, ◌*◌, ◌||◌}
 use Rattle.rdl_tree.proofs.Sizes.{item_count}
 use Rattle.rdl_tree.specs.Items.{Items, count}
 use Rattle.rdl_nodes.specs.View.{slots_of}
 use Rattle.rdl_places.specs.HeldScope.{outer_places}
 use Rattle.rdl_seen.specs.Node.{Around}
+use Rattle.rdl_seen.specs.PropertySet.{with_properties}
+use Rattle.rdl_renew.specs.AlikeSlots.{tells_of_width}
 use Rattle.rdl_renew.specs.Along.{HasPassed}
+use Rattle.rdl_renew.specs.Anew.{slots_there}
 use Rattle.rdl_renew.specs.HeldRenewal.{renewing}
+use Rattle.rdl_renew.specs.Placed.{sets_width}
+use Rattle.rdl_renew.specs.Raised.{raised}
 use Rattle.rdl_renew.specs.Renewing.{Became, IsReached, AreDone}
 use Rattle.rdl_renew.proofs.CleanSteps.{AreCleanStill}
+use Rattle.rdl_renew.proofs.CountSteps.{AreCounted}
 use Rattle.rdl_renew.proofs.renew.+renew.Given as goal
 
 abbrev pub decreases-renew_body : goal.decreases-renew_body
@@ -32,5 +38,9 @@ invariant-renew_body-loop-item g l = record {
   done : (old : Items) (saw : Around) → Became g.L.Lays.laying saw (slots_of l.renewal.slots.now) l.marks old l.renewal.body.now → IsReached g.L.Lays.laying (outer_places l.renewal.outer) saw l.fn.reach
       → AreDone g.L.Lays.laying (renewing l.renewal l.marks old saw) l.item-index l.done;
   clean : (old : Items) (saw : Around) → Became g.L.Lays.laying saw (slots_of l.renewal.slots.now) l.marks old l.renewal.body.now → IsReached g.L.Lays.laying (outer_places l.renewal.outer) saw l.fn.reach
-      → AreCleanStill g.L.Lays.laying (renewing l.renewal l.marks old saw) l.item-index l.fn.judge.is_clean l.judge.is_clean;
+      → AreCleanStill g.L.Lays.laying (renewing l.renewal l.marks old saw) l.item-index l.fn.account.judge.is_clean l.account.judge.is_clean;
+  placed : (old : Items) (saw : Around) → Became g.L.Lays.laying saw (slots_of l.renewal.slots.now) l.marks old l.renewal.body.now → IsReached g.L.Lays.laying (outer_places l.renewal.outer) saw l.fn.reach
+      → AreCounted (tells_of_width l.fn.reach.alert || sets_width l.marks l.renewal.body.now) l.marks (slots_of l.renewal.slots.now) (slots_there g.L.Lays.laying (outer_places l.renewal.outer) l.renewal.body.now)
+      l.renewal.body.now l.item-items l.item-index l.fn.account.placed l.account.placed;
+  width : l.done.reach.alert.properties ≡ with_properties l.fn.reach.alert.properties (raised l.marks l.renewal.body.now).properties;
 }
