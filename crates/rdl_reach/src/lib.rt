@@ -1,0 +1,4 @@
+//! What a step leaves out of reach is laid out as before.
+#![tactic(auto)]
+
+pub mod laws;
