@@ -10,7 +10,7 @@ use Rattle.rdl_tree.proofs.Nesting.{AllFit-inverses, image-depth}
 use Rattle.rdl_edit.specs.Backs.{Reversal, read_back, prior, Fits}
 use Rattle.rdl_edit.specs.Keeping.{IsLaidOut}
 use Rattle.rdl_edit.specs.Ways.{place_of, way_back, ways_along, AllLead, is_empty}
-use Rattle.rdl_edit.specs.declared.resuming.Direction.TheVariants as way
+use Rattle.rdl_edit.specs.declared.ways.Direction.TheVariants as way
 use Rattle.std.proofs.lemmas.Bool.Decides.{Decides-eqb}
 use Rattle.std.specs.List.{list_all}
 use Rattle.std.specs.Prelude.{◌&&◌, if◌then◌else◌}

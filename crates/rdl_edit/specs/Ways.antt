@@ -5,14 +5,14 @@ use Rattle.rdl_tree.specs.Items.{Items}
 use Rattle.rdl_tree.specs.Patch.{AllFit, image, inverses}
 use Rattle.rdl_edit.specs.declared.resume_fault.Where.TheVariants as where_
 use Rattle.rdl_edit.specs.Backs.{Reversal}
-use Rattle.rdl_edit.specs.declared.resuming.Direction.{Direction}
-use Rattle.rdl_edit.specs.declared.resuming.Direction.TheVariants as way
+use Rattle.rdl_edit.specs.declared.ways.Direction.{Direction}
+use Rattle.rdl_edit.specs.declared.ways.Direction.TheVariants as way
 use Rattle.rdl_tree.specs.declared.fault.Fault.{Fault}
 use Rattle.rdl_edit.specs.declared.resume_fault.ResumeFault.{ResumeFault}
 use Rattle.rdl_edit.specs.declared.resume_fault.ResumeFault.TheVariants.{PatchMisfits, MapFaulty, Memory}
 use Rattle.rdl_edit.specs.declared.resume_fault.Where.{Where}
-use Rattle.rdl_edit.specs.declared.resuming.Stop.{Stop}
-use Rattle.rdl_edit.specs.declared.resuming.Stop.TheVariants as stop
+use Rattle.rdl_edit.specs.declared.ways.Stop.{Stop}
+use Rattle.rdl_edit.specs.declared.ways.Stop.TheVariants as stop
 use Rattle.rdl_edit.specs.Faults.{is_memory}
 
 -- patches stop where one doesn't fit, or for want of memory

@@ -26,13 +26,15 @@ impl Model for Back {
 }
 
 impl Back {
-    pub(crate) fn new(patches: Vec<Patch>, read: bool) -> Back
+    /// These patches, with the mark whether they were read from a session.
+    pub fn new(patches: Vec<Patch>, read: bool) -> Back
         ensures { result ≡ record { patches = patches.items; read = read } }
     {
         Back { patches, read }
     }
 
-    pub(crate) fn into_vec(self) -> Vec<Patch>
+    /// The patches, without the mark.
+    pub fn into_vec(self) -> Vec<Patch>
         ensures { result.items ≡ self.patches }
     {
         let Back { patches, .. } = self;

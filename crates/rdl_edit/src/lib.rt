@@ -12,5 +12,6 @@ mod roots;
 mod sizes;
 mod touched;
 mod turning;
+pub mod ways;
 
 pub use rdl_rewrite::{edit, place};

@@ -1,6 +1,6 @@
 //! Why an edit of the map is refused.
 ghost use Rattle.std.specs.Prelude.{◌≡◌};
-ghost use Rattle.rdl_edit.specs.Faults.{is_memory};
+ghost use Rattle.rdl_edit.specs.Faults.{is_memory, refused};
 ghost use Rattle.rdl_edit.specs.Step.{too_large};
 
 use rdl_rewrite::edit::PatchRefusal;
@@ -40,6 +40,17 @@ pub fn is_memory(kind: FaultKind) -> bool
     ensures { result ≡ is_memory kind }
 {
     matches!(kind, FaultKind::Memory)
+}
+
+/// An edit that makes a map with this fault is refused so: with X10 where memory was wanted.
+pub fn refused(fault: Fault) -> Refusal
+    ensures { result ≡ refused fault }
+{
+    if is_memory(fault.kind) {
+        Refusal::Memory
+    } else {
+        Refusal::Faulty(fault)
+    }
 }
 
 /// E25 of the whole.

@@ -15,7 +15,6 @@ ghost use Rattle.rdl_kept.specs.Skeleton.{skeleton};
 ghost use Rattle.rdl_tree.specs.Depth.{depth};
 ghost use Rattle.rdl_tree.specs.Patch.{AllFit, image, inverses};
 ghost use Rattle.rdl_edit.specs.Backs.{IsWayBack, IsCheap};
-ghost use Rattle.rdl_edit.specs.Faults.{refused};
 ghost use Rattle.rdl_edit.specs.Step.{HasRows, IsJudged};
 ghost use Rattle.rdl_edit.specs.Keeping.{Keeps};
 ghost use Rattle.rdl_edit.specs.Noting.{IsLight, IsNewWithin};
@@ -23,7 +22,7 @@ ghost use Rattle.rdl_edit.specs.Placing.{IsFew, KeepsLayouts};
 ghost use Rattle.rdl_edit.specs.Touching.{IsKnown, IfStill};
 
 use crate::notes::Outlook;
-use crate::refusal::{Refusal, is_memory};
+use crate::refusal::{Refusal, refused};
 use crate::roots::{Asked, Roots};
 use crate::touched::{Touched, keeps_skeleton, touched_with};
 use rdl_elab::kept_root::KeptRoot;
@@ -35,17 +34,6 @@ use rdl_tree::description::Description;
 use rdl_tree::fault::Fault;
 use rdl_tree::patch::Patch;
 use std::alloc::{AllocError, Global};
-
-/// A map that has this fault is refused, where memory wasn't wanted.
-fn refused(fault: Fault) -> Refusal
-    ensures { result ≡ refused fault }
-{
-    if is_memory(fault.kind) {
-        Refusal::Memory
-    } else {
-        Refusal::Faulty(fault)
-    }
-}
 
 /// Keeps the layouts as they are for this description, which has the same skeleton and is known to have rows if no item has a
 /// fault. No item but the one at this address may have one, and that is an assignment that repeats none. Nothing changes if it

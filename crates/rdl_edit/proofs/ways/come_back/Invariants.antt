@@ -1,7 +1,7 @@
 use Rattle.std.proofs.Common.{◌≡◌, ◌+◌, ◌++◌, length}
 use Rattle.rdl_edit.specs.Resuming.{place_after}
 use Rattle.rdl_edit.specs.Ways.{ways_along, AllLead}
-use Rattle.rdl_edit.proofs.resuming.come_back.Given as goal
+use Rattle.rdl_edit.proofs.ways.come_back.Given as goal
 
 abbrev pub invariant-loop-way : goal.invariant-loop-way
 invariant-loop-way l = record {

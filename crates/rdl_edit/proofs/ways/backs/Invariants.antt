@@ -1,6 +1,6 @@
 use Rattle.std.proofs.Common.{◌≡◌, ◌+◌, ◌++◌, map, length}
 use Rattle.rdl_edit.specs.Backs.{read_back}
-use Rattle.rdl_edit.proofs.resuming.backs.Given as goal
+use Rattle.rdl_edit.proofs.ways.backs.Given as goal
 
 abbrev pub invariant-loop-step : goal.invariant-loop-step
 invariant-loop-step l = record {

@@ -2,7 +2,7 @@ use Rattle.std.proofs.Common.{◌≡◌, ◌+◌, ◌++◌, length}
 use mathlib.Core.List.{reverse}
 use Rattle.rdl_tree.specs.Patch.{AllFit, image, inverses}
 use Rattle.rdl_edit.specs.Resuming.{all_fit}
-use Rattle.rdl_edit.proofs.resuming.turn_all.Given as goal
+use Rattle.rdl_edit.proofs.ways.turn_all.Given as goal
 
 abbrev pub invariant-loop-patch : goal.invariant-loop-patch
 invariant-loop-patch l = record {
