@@ -1,0 +1,4 @@
+pub mod Keeping
+pub mod Placing
+pub mod QuietEdits
+pub mod QuietSteps
