@@ -22,7 +22,7 @@ fn place(alloc: Global, number: usize, inner: Option<usize>) -> Result<PatchAddr
 
 fn push_mark(text: &mut String, number: usize, mark: &Mark) -> Result<(), AllocError> {
     let moved = if mark.is_moved { "!" } else { "" };
-    let inside = if mark.inside.pieces.is_empty() {
+    let inside = if mark.inside.pieces.get(0).is_none() {
         ""
     } else {
         "*"
@@ -49,8 +49,10 @@ fn push_gone(text: &mut String, gone: &[Gone]) -> Result<(), AllocError> {
 /// was changed inside it, and from which number on all follow.
 fn text_of(alloc: Global, marks: &BodyMarks) -> Result<String, AllocError> {
     let mut text = String::new(alloc);
-    for piece in &marks.pieces {
+    let mut place = 0usize;
+    while let Some(piece) = marks.pieces.get(place) {
         push_piece(&mut text, piece)?;
+        place += 1;
     }
     let behind = marks.behind;
     write!(text, "from {behind}")?;
@@ -77,6 +79,23 @@ fn an_item_that_came_is_new(rt: HostRuntime) -> Result<(), Fail> {
         found.as_str(),
         "0..1 new*1 from 1",
         "an insertion at 1",
+    );
+    Ok(())
+}
+
+#[test]
+fn items_that_came_side_by_side_are_one_piece(rt: HostRuntime) -> Result<(), Fail> {
+    let alloc = rt.alloc();
+    let backs = [
+        Patch::Delete(place(alloc, 1, None)?),
+        Patch::Delete(place(alloc, 2, None)?),
+    ];
+    let found = noted(alloc, &backs)?;
+    assert_same(
+        &rt,
+        found.as_str(),
+        "0..1 new*2 from 1",
+        "insertions at 1 and 2",
     );
     Ok(())
 }

@@ -1,11 +1,10 @@
 -- Pieces, and what is told of their items one by one.
-use Rattle.std.proofs.Common.{◌≡◌, ℕ, zero, suc, ◌+◌, ◌-◌, ◌<◌, ◌≤◌, length, List, [], ◌∷◌, ◌++◌, take, drop, get_or, Some, refl, ap, sym, ◌∙◌, arith, subst, append_assoc, length-append, add-one}
+use Rattle.std.proofs.Common.{◌≡◌, ℕ, zero, suc, ◌+◌, ◌-◌, ◌<◌, ◌≤◌, length, List, [], ◌∷◌, ◌++◌, take, drop, Bool, false, if◌then◌else◌, Option, Some, None, refl, ap, sym, ◌∙◌, arith, subst, append_assoc, length-append}
 use Rattle.std.specs.Prelude.{insert, remove, slice_get, slice_set, replicate, IfSome}
-use Rattle.std.proofs.lemmas.List.{append-nil, take-append-drop, take_more, take_all, length-replicate, replicate-append-replicate}
-use Rattle.std.proofs.lemmas.Option.{slice_get_read, slice_get_past}
+use Rattle.std.proofs.lemmas.List.{append-nil, reverse-append, length-replicate, replicate-append-replicate}
 use Rattle.rdl_marks.specs.Marks.{no_firsts, no_marks}
 use Rattle.rdl_marks.specs.View.{Trace, new_item, old_item, same_item, run, firsts_of, marked, piece_traces, pieces_traces}
-use Rattle.rdl_marks.specs.Cut.{IsSingle, the_trace, Reaches}
+use Rattle.rdl_marks.specs.Cut.{traces_behind, rest_traces, IsSingle, the_trace, Reaches}
 use Rattle.rdl_marks.specs.declared.marks.Mark.{Mark}
 use Rattle.rdl_marks.specs.declared.marks.Piece.{Piece}
 use Rattle.rdl_marks.specs.declared.marks.Piece.TheVariants.{New, Kept, Marked}
@@ -53,9 +52,38 @@ single_traces (New count) e = ap (λ n. replicate n new_item) e
 single_traces (Kept from to) e = absurd e
 single_traces (Marked number m) e = refl
 
--- those before a piece, and those from it on
-pub pieces_traces-split : (ps : List Piece) (k : ℕ) → pieces_traces ps ≡ pieces_traces (take k ps) ++ pieces_traces (drop k ps)
-pieces_traces-split ps k = ap pieces_traces (sym (take-append-drop k ps)) ∙ pieces_traces-append (take k ps) (drop k ps)
+-- one more behind the others
+pub traces_put : (ps new : List Piece) (p : Piece) → new ≡ ps ++ p ∷ [] → pieces_traces new ≡ pieces_traces ps ++ piece_traces p
+traces_put ps new p e =
+    ap pieces_traces e ∙ pieces_traces-append ps (p ∷ []) ∙ ap (λ l. pieces_traces ps ++ l) (append-nil (piece_traces p))
+
+pub put_counted : (ps new : List Piece) (p : Piece) (n m : ℕ) → n ≡ length (pieces_traces ps) → m ≡ n + length (piece_traces p) → new ≡ ps ++ p ∷ [] → m ≡ length (pieces_traces new)
+put_counted ps new p n m h k e = omega (arith, h, k, ap length (traces_put ps new p e), length-append (pieces_traces ps) (piece_traces p))
+
+-- behind a gap it is the first one
+pub behind_put : (ps new : List Piece) (p : Piece) → new ≡ ps ++ p ∷ [] → traces_behind new ≡ piece_traces p ++ traces_behind ps
+behind_put ps new p e = ap traces_behind e ∙ ap pieces_traces (reverse-append ps (p ∷ []))
+
+pub popped_count : (ps new : List Piece) (p : Piece) (n : ℕ) → n ≡ length (pieces_traces ps) → ps ≡ new ++ p ∷ [] → n ≡ length (pieces_traces new) + length (piece_traces p)
+popped_count ps new p n h e = omega (arith, h, ap length (traces_put new ps p e), length-append (pieces_traces new) (piece_traces p))
+
+-- a piece goes from before the gap to behind it
+pub moved_back : (ps new qs more : List Piece) (p : Piece) → ps ≡ new ++ p ∷ [] → more ≡ qs ++ p ∷ [] → pieces_traces new ++ traces_behind more ≡ pieces_traces ps ++ traces_behind qs
+moved_back ps new qs more p e f =
+    ap (λ l. pieces_traces new ++ l) (behind_put qs more p f)
+    ∙ sym (append_assoc (pieces_traces new) (piece_traces p) (traces_behind qs))
+    ∙ ap (λ l. l ++ traces_behind qs) (sym (traces_put new ps p e))
+
+-- the last one has more items
+pub traces_grown : (ps : List Piece) (k : ℕ) (p q : Piece) (es : List Trace) → slice_get ps k ≡ Some p → k + 1 ≡ length ps → piece_traces q ≡ piece_traces p ++ es
+    → pieces_traces (slice_set ps k q) ≡ pieces_traces ps ++ es
+traces_grown [] k p q es e h f = cc
+traces_grown (r ∷ []) zero p q es e h f =
+    let same : r ≡ p = cc in
+    append-nil (piece_traces q) ∙ f ∙ ap (λ (s : Piece). piece_traces s ++ es) (sym same) ∙ ap (λ l. l ++ es) (sym (append-nil (piece_traces r)))
+traces_grown (r ∷ s ∷ ps) zero p q es e h f = absurd (omega (arith, h))
+traces_grown (r ∷ ps) (suc k) p q es e h f =
+    ap (λ l. piece_traces r ++ l) (traces_grown ps k p q es e (omega (arith, h)) f) ∙ sym (append_assoc (piece_traces r) (pieces_traces ps) es)
 
 pub at_piece : (ps : List Piece) (k : ℕ) (p : Piece) → slice_get ps k ≡ Some p → pieces_traces ps ≡ pieces_traces (take k ps) ++ (piece_traces p ++ pieces_traces (drop (suc k) ps))
 at_piece [] k p e = cc
@@ -64,128 +92,11 @@ at_piece (q ∷ ps) (suc k) p e =
     ap (λ l. piece_traces q ++ l) (at_piece ps k p e)
     ∙ sym (append_assoc (piece_traces q) (pieces_traces (take k ps)) (piece_traces p ++ pieces_traces (drop (suc k) ps)))
 
-pub at_set : (ps : List Piece) (k : ℕ) (p q : Piece) → slice_get ps k ≡ Some p → pieces_traces (slice_set ps k q) ≡ pieces_traces (take k ps) ++ (piece_traces q ++ pieces_traces (drop (suc k) ps))
-at_set [] k p q e = cc
-at_set (r ∷ ps) zero p q e = refl
-at_set (r ∷ ps) (suc k) p q e =
-    ap (λ l. piece_traces r ++ l) (at_set ps k p q e)
-    ∙ sym (append_assoc (piece_traces r) (pieces_traces (take k ps)) (piece_traces q ++ pieces_traces (drop (suc k) ps)))
-
--- ---- A piece that is one item.
-
--- where the item of a number is a piece by itself
-single_here : (ps : List Piece) (k : ℕ) (p : Piece) → slice_get ps k ≡ Some p → IsSingle p → pieces_traces ps ≡ pieces_traces (take k ps) ++ the_trace p ∷ pieces_traces (drop (suc k) ps)
-single_here ps k p e s =
-    at_piece ps k p e ∙ ap (λ l. pieces_traces (take k ps) ++ (l ++ pieces_traces (drop (suc k) ps))) (single_traces p s)
-
-pub get_single : (ps : List Piece) (k n : ℕ) (p : Piece) → slice_get ps k ≡ Some p → IsSingle p → length (pieces_traces (take k ps)) ≡ n → slice_get (pieces_traces ps) n ≡ Some (the_trace p)
-get_single ps k n p e s b =
-    ap (λ l. slice_get l n) (single_here ps k p e s)
-    ∙ ap (λ m. slice_get (pieces_traces (take k ps) ++ the_trace p ∷ pieces_traces (drop (suc k) ps)) m) (sym b)
-    ∙ get_at (pieces_traces (take k ps)) (the_trace p) (pieces_traces (drop (suc k) ps))
-
-pub set_single : (ps : List Piece) (k n : ℕ) (p q : Piece) → slice_get ps k ≡ Some p → IsSingle p → IsSingle q → length (pieces_traces (take k ps)) ≡ n → pieces_traces (slice_set ps k q) ≡ slice_set (pieces_traces ps) n (the_trace q)
-set_single ps k n p q e s u b =
-    at_set ps k p q e ∙ ap (λ l. pieces_traces (take k ps) ++ (l ++ pieces_traces (drop (suc k) ps))) (single_traces q u)
-    ∙ sym (put_at_end (pieces_traces (take k ps)) (the_trace p) (the_trace q) (pieces_traces (drop (suc k) ps)))
-    ∙ ap (λ m. slice_set (pieces_traces (take k ps) ++ the_trace p ∷ pieces_traces (drop (suc k) ps)) m (the_trace q)) b
-    ∙ ap (λ l. slice_set l n (the_trace q)) (sym (single_here ps k p e s))
-
-pub remove_single : (ps : List Piece) (k n : ℕ) (p : Piece) → slice_get ps k ≡ Some p → IsSingle p → length (pieces_traces (take k ps)) ≡ n → pieces_traces (remove ps k) ≡ remove (pieces_traces ps) n
-remove_single ps k n p e s b =
-    pieces_traces-append (take k ps) (drop (suc k) ps)
-    ∙ sym (remove_at (pieces_traces (take k ps)) (the_trace p) (pieces_traces (drop (suc k) ps)))
-    ∙ ap (λ m. remove (pieces_traces (take k ps) ++ the_trace p ∷ pieces_traces (drop (suc k) ps)) m) b
-    ∙ ap (λ l. remove l n) (sym (single_here ps k p e s))
-
-pub insert_single : (ps : List Piece) (k n : ℕ) (q : Piece) → IsSingle q → length (pieces_traces (take k ps)) ≡ n → pieces_traces (insert ps k q) ≡ insert (pieces_traces ps) n (the_trace q)
-insert_single ps k n q u b =
-    pieces_traces-append (take k ps) (q ∷ drop k ps)
-    ∙ ap (λ l. pieces_traces (take k ps) ++ (l ++ pieces_traces (drop k ps))) (single_traces q u)
-    ∙ sym (insert_at (pieces_traces (take k ps)) (the_trace q) (pieces_traces (drop k ps)))
-    ∙ ap (λ m. insert (pieces_traces (take k ps) ++ pieces_traces (drop k ps)) m (the_trace q)) b
-    ∙ ap (λ l. insert l n (the_trace q)) (sym (pieces_traces-split ps k))
-
--- ---- Cuts.
-
-pub before_more : (ps : List Piece) (i : ℕ) (p : Piece) → i < length ps → p ≡ get_or ps i p → length (pieces_traces (take (i + 1) ps)) ≡ length (pieces_traces (take i ps)) + length (piece_traces p)
-before_more ps i p h e =
-    ap (λ l. length (pieces_traces l)) (take_more ps i p h)
-    ∙ ap length (pieces_traces-append (take i ps) (get_or ps i p ∷ []))
-    ∙ ap (λ (q : Piece). length (pieces_traces (take i ps) ++ (piece_traces q ++ []))) (sym e)
-    ∙ ap (λ l. length (pieces_traces (take i ps) ++ l)) (append-nil (piece_traces p))
-    ∙ length-append (pieces_traces (take i ps)) (piece_traces p)
-
-pub before_le : (ps : List Piece) (k : ℕ) → length (pieces_traces (take k ps)) ≤ length (pieces_traces ps)
-before_le ps k = omega (arith, ap length (pieces_traces-split ps k), length-append (pieces_traces (take k ps)) (pieces_traces (drop k ps)))
-
-pub before_piece : (ps : List Piece) (k : ℕ) (p : Piece) → slice_get ps k ≡ Some p → length (pieces_traces (take k ps)) + length (piece_traces p) ≤ length (pieces_traces ps)
-before_piece ps k p e =
-    omega (arith, ap length (at_piece ps k p e), length-append (pieces_traces (take k ps)) (piece_traces p ++ pieces_traces (drop (suc k) ps)), length-append (piece_traces p) (pieces_traces (drop (suc k) ps)))
-
-cut_traces : (ps : List Piece) (k : ℕ) (p q r : Piece) → slice_get ps k ≡ Some p → piece_traces p ≡ piece_traces q ++ piece_traces r → pieces_traces (insert (slice_set ps k q) (suc k) r) ≡ pieces_traces ps
-cut_traces [] k p q r e f = cc
-cut_traces (s ∷ ps) zero p q r e f =
-    let same : s ≡ p = cc in
-    sym (append_assoc (piece_traces q) (piece_traces r) (pieces_traces ps)) ∙ ap (λ l. l ++ pieces_traces ps) (sym f ∙ ap piece_traces (sym same))
-cut_traces (s ∷ ps) (suc k) p q r e f = ap (λ l. piece_traces s ++ l) (cut_traces ps k p q r e f)
-
-cut_before : (ps : List Piece) (k : ℕ) (p q r : Piece) → slice_get ps k ≡ Some p → length (pieces_traces (take (suc k) (insert (slice_set ps k q) (suc k) r))) ≡ length (pieces_traces (take k ps)) + length (piece_traces q)
-cut_before [] k p q r e = cc
-cut_before (s ∷ ps) zero p q r e = ap length (append-nil (piece_traces q)) ∙ (let z : length (piece_traces q) ≡ 0 + length (piece_traces q) = omega arith in z)
-cut_before (s ∷ ps) (suc k) p q r e =
-    omega (arith, cut_before ps k p q r e, length-append (piece_traces s) (pieces_traces (take (suc k) (insert (slice_set ps k q) (suc k) r))), length-append (piece_traces s) (pieces_traces (take k ps)))
-
-cut_holds : (ps : List Piece) (k : ℕ) (p q r : Piece) → slice_get ps k ≡ Some p → slice_get (insert (slice_set ps k q) (suc k) r) (suc k) ≡ Some r
-cut_holds [] k p q r e = cc
-cut_holds (s ∷ ps) zero p q r e = refl
-cut_holds (s ∷ ps) (suc k) p q r e = cut_holds ps k p q r e
-
--- a piece is cut in two
-pub record IsCut (old new : List Piece) (k : ℕ) (q r : Piece) : Type 0 where
-  pub traces : pieces_traces new ≡ pieces_traces old
-  pub before : length (pieces_traces (take (k + 1) new)) ≡ length (pieces_traces (take k old)) + length (piece_traces q)
-  pub holds : slice_get new (k + 1) ≡ Some r
-
-pub cut : (ps new : List Piece) (k : ℕ) (p q r : Piece) → slice_get ps k ≡ Some p → piece_traces p ≡ piece_traces q ++ piece_traces r → new ≡ insert (slice_set ps k q) (k + 1) r → IsCut ps new k q r
-cut ps new k p q r e f n =
-    let here : new ≡ insert (slice_set ps k q) (suc k) r = n ∙ ap (λ m. insert (slice_set ps k q) m r) (add-one k) in record {
-      traces = ap pieces_traces here ∙ cut_traces ps k p q r e f;
-      before = ap (λ m. length (pieces_traces (take m new))) (add-one k) ∙ ap (λ l. length (pieces_traces (take (suc k) l))) here ∙ cut_before ps k p q r e;
-      holds = ap (λ m. slice_get new m) (add-one k) ∙ ap (λ l. slice_get l (suc k)) here ∙ cut_holds ps k p q r e;
-    }
-
--- the rest of a piece behind what is left of it
-pub refit : (ps : List Piece) (k : ℕ) (p q : Piece) (rest : List Trace) → slice_get ps k ≡ Some p → piece_traces p ≡ piece_traces q ++ rest
-    → pieces_traces (take (suc k) (slice_set ps k q)) ++ (rest ++ pieces_traces (drop (suc k) (slice_set ps k q))) ≡ pieces_traces ps
-refit [] k p q rest e f = cc
-refit (s ∷ ps) zero p q rest e f =
-    let same : s ≡ p = cc in
-    ap (λ l. l ++ (rest ++ pieces_traces ps)) (append-nil (piece_traces q))
-    ∙ sym (append_assoc (piece_traces q) rest (pieces_traces ps)) ∙ ap (λ l. l ++ pieces_traces ps) (sym f ∙ ap piece_traces (sym same))
-refit (s ∷ ps) (suc k) p q rest e f =
-    append_assoc (piece_traces s) (pieces_traces (take (suc k) (slice_set ps k q))) (rest ++ pieces_traces (drop (suc k) (slice_set ps k q)))
-    ∙ ap (λ l. piece_traces s ++ l) (refit ps k p q rest e f)
-
-pub get_set : (ps : List Piece) (k : ℕ) (p q : Piece) → slice_get ps k ≡ Some p → slice_get (slice_set ps k q) k ≡ Some q
-get_set [] k p q e = cc
-get_set (s ∷ ps) zero p q e = refl
-get_set (s ∷ ps) (suc k) p q e = get_set ps k p q e
-
-pub take_set : (ps : List Piece) (k : ℕ) (q : Piece) → take k (slice_set ps k q) ≡ take k ps
-take_set [] k q = refl
-take_set (s ∷ ps) zero q = refl
-take_set (s ∷ ps) (suc k) q = ap (λ l. s ∷ l) (take_set ps k q)
-
-pub take_insert : (ps : List Piece) (k : ℕ) (r : Piece) → k < length ps → take k (insert ps (suc k) r) ≡ take k ps
-take_insert [] k r h = absurd (omega arith)
-take_insert (s ∷ ps) zero r h = refl
-take_insert (s ∷ ps) (suc k) r h = ap (λ l. s ∷ l) (take_insert ps k r (omega arith))
-
-pub get_insert : (ps : List Piece) (k : ℕ) (r : Piece) → k < length ps → slice_get (insert ps (suc k) r) k ≡ slice_get ps k
-get_insert [] k r h = absurd (omega arith)
-get_insert (s ∷ ps) zero r h = refl
-get_insert (s ∷ ps) (suc k) r h = get_insert ps k r (omega arith)
+-- a new item that didn't go to the last piece
+pub new_put : (ps mid new : List Piece) (b : Bool) → pieces_traces mid ≡ pieces_traces ps ++ (if b then new_item ∷ [] else []) → b ≡ false → new ≡ mid ++ New 1 ∷ [] → pieces_traces new ≡ pieces_traces ps ++ new_item ∷ []
+new_put ps mid new b h f e =
+    traces_put mid new (New 1) e
+    ∙ ap (λ l. l ++ new_item ∷ []) (h ∙ ap (λ (t : Bool). pieces_traces ps ++ (if t then new_item ∷ [] else [])) f ∙ append-nil (pieces_traces ps))
 
 -- ---- A piece of items as they were.
 
@@ -214,75 +125,50 @@ kept_first p from to m e h f g =
     let more : to - from ≡ suc (to - (from + 1)) = omega (arith, room) in
     ap piece_traces e ∙ ap (run from) more ∙ ap (λ o. old_item from o no_marks ∷ run (from + 1) (to - (from + 1))) (sym f) ∙ ap (λ o. old_item from (firsts_of m) o ∷ run (from + 1) (to - (from + 1))) (sym g)
 
--- ---- Where an item stands.
-
-pub inside_piece : (ps : List Piece) (k n : ℕ) (p : Piece) → k < length ps → p ≡ get_or ps k p → n < length (piece_traces p) → IfSome (slice_get ps k) (λ q. n < length (piece_traces q))
-inside_piece ps k n p h e l =
-    let found : Some p ≡ slice_get ps k = sym (slice_get_read ps (length ps) k p refl h e) in
-    subst (λ o. IfSome o (λ q. n < length (piece_traces q))) found l
-
-pub no_piece : (ps : List Piece) (k n : ℕ) → length ps ≤ k → IfSome (slice_get ps k) (λ q. n < length (piece_traces q))
-no_piece ps k n h = subst (λ o. IfSome o (λ q. n < length (piece_traces q))) (sym (slice_get_past ps k h)) tt
-
-pub in_piece : (ps : List Piece) (k n : ℕ) (p : Piece) → slice_get ps k ≡ Some p → IfSome (slice_get ps k) (λ q. n < length (piece_traces q)) → n < length (piece_traces p)
-in_piece ps k n p e h = let l = subst (λ o. IfSome o (λ q. n < length (piece_traces q))) e h in l
-
 -- ---- How far is told.
 
-no_more : (ps : List Piece) (b n : ℕ) → n ≤ length (pieces_traces ps) → pieces_traces ps ≡ pieces_traces ps ++ run b (n - length (pieces_traces ps))
-no_more ps b n h =
-    let z : n - length (pieces_traces ps) ≡ 0 = omega arith in
-    sym (append-nil (pieces_traces ps)) ∙ ap (λ m. pieces_traces ps ++ run b m) (sym z)
-
--- far enough before
-pub reaches_same : (ps new : List Piece) (b c n : ℕ) → pieces_traces new ≡ pieces_traces ps → c ≡ b → n ≤ length (pieces_traces ps) → Reaches ps b new c n
-reaches_same ps new b c n e f h = record { traces = e ∙ no_more ps b n h; behind_new = omega (arith, f, h) }
-
-all_before : (ps : List Piece) (k n offset : ℕ) → length ps ≤ k → length (pieces_traces (take k ps)) + offset ≡ n → length (pieces_traces ps) + offset ≡ n
-all_before ps k n offset h e = ap (λ l. length (pieces_traces l) + offset) (sym (take_all k ps h)) ∙ e
-
--- a piece behind the others
-pub reaches_behind : (ps new : List Piece) (b c k n offset end : ℕ) → length ps ≤ k → length (pieces_traces (take k ps)) + offset ≡ n → end ≡ b + offset → c ≡ end → new ≡ ps ++ Kept b end ∷ [] → Reaches ps b new c n
-reaches_behind ps new b c k n offset end h e f g i =
-    let all = all_before ps k n offset h e in
-    let more : end - b ≡ n - length (pieces_traces ps) = omega (arith, all, f) in record {
-      traces = ap pieces_traces i ∙ pieces_traces-append ps (Kept b end ∷ []) ∙ ap (λ l. pieces_traces ps ++ l) (append-nil (run b (end - b))) ∙ ap (λ m. pieces_traces ps ++ run b m) more;
-      behind_new = omega (arith, all, f, g);
-    }
-
-pub begins_behind : (ps new : List Piece) (b k n offset end : ℕ) → length ps ≤ k → k ≤ length ps → length (pieces_traces (take k ps)) + offset ≡ n → end ≡ b + offset → new ≡ ps ++ Kept b end ∷ [] → length (pieces_traces (take (k + 1) new)) ≡ n
-begins_behind ps new b k n offset end h j e f i =
-    let all = all_before ps k n offset h e in
-    let long : length new ≡ length ps + 1 = ap length i ∙ length-append ps (Kept b end ∷ []) in
-    let whole : take (k + 1) new ≡ new = take_all (k + 1) new (omega (arith, long, h)) in
-    let told : pieces_traces new ≡ pieces_traces ps ++ run b (end - b) = ap pieces_traces i ∙ pieces_traces-append ps (Kept b end ∷ []) ∙ ap (λ l. pieces_traces ps ++ l) (append-nil (run b (end - b))) in
-    ap (λ l. length (pieces_traces l)) whole ∙ ap length told ∙ length-append (pieces_traces ps) (run b (end - b))
-    ∙ (let sum : length (pieces_traces ps) + length (run b (end - b)) ≡ n = omega (arith, length-run b (end - b), all, f) in sum)
+-- as long as the number says, if it wasn't
+reached-length : (old new : List Trace) (b c n : ℕ) → Reaches old b new c n → length new ≡ length old + (n - length old)
+reached-length old new b c n r =
+    ap length r.traces ∙ length-append old (run b (n - length old)) ∙ ap (λ m. length old + m) (length-run b (n - length old))
 
 -- one item more, where it was told of already
-pub reaches_one : (ps mid new : List Piece) (b c k n : ℕ) (p : Piece) → Reaches ps b mid c n → slice_get mid k ≡ Some p → 0 < length (piece_traces p) → length (pieces_traces (take k mid)) ≡ n → pieces_traces new ≡ pieces_traces mid → Reaches ps b new c (n + 1)
-reaches_one ps mid new b c k n p r e h s t =
-    let long : n + 1 ≤ length (pieces_traces mid) = omega (arith, before_piece mid k p e, s, h) in
-    let told : length (pieces_traces mid) ≡ length (pieces_traces ps) + (n - length (pieces_traces ps)) =
-    ap length r.traces ∙ length-append (pieces_traces ps) (run b (n - length (pieces_traces ps))) ∙ ap (λ m. length (pieces_traces ps) + m) (length-run b (n - length (pieces_traces ps))) in
-    let far : n + 1 ≤ length (pieces_traces ps) = omega (arith, long, told) in
-    let none : n - length (pieces_traces ps) ≡ n + 1 - length (pieces_traces ps) = omega (arith, far) in record {
-      traces = t ∙ r.traces ∙ ap (λ m. pieces_traces ps ++ run b m) none;
+reaches_one : (old new : List Trace) (b c n : ℕ) → Reaches old b new c n → n < length new → Reaches old b new c (n + 1)
+reaches_one old new b c n r h =
+    let far : n + 1 ≤ length old = omega (arith, h, reached-length old new b c n r) in
+    let none : n - length old ≡ n + 1 - length old = omega (arith, far) in record {
+      traces = r.traces ∙ ap (λ m. old ++ run b m) none;
       behind_new = omega (arith, r.behind_new, none);
     }
 
 -- one item more, which stood behind
-pub reaches_next : (ps mid new : List Piece) (b c d k n : ℕ) (p : Piece) → Reaches ps b mid c n → length mid ≤ k → length (pieces_traces (take k mid)) ≡ n → piece_traces p ≡ same_item c ∷ [] → d ≡ c + 1 → new ≡ mid ++ p ∷ [] → Reaches ps b new d (n + 1)
-reaches_next ps mid new b c d k n p r h s t f i =
-    let all : length (pieces_traces mid) ≡ n = ap (λ l. length (pieces_traces l)) (sym (take_all k mid h)) ∙ s in
-    let long : length (pieces_traces mid) ≡ length (pieces_traces ps) + (n - length (pieces_traces ps)) =
-    ap length r.traces ∙ length-append (pieces_traces ps) (run b (n - length (pieces_traces ps))) ∙ ap (λ m. length (pieces_traces ps) + m) (length-run b (n - length (pieces_traces ps))) in
-    let more : n + 1 - length (pieces_traces ps) ≡ (n - length (pieces_traces ps)) + 1 = omega (arith, all, long) in record {
-      traces = ap pieces_traces i ∙ pieces_traces-append mid (p ∷ []) ∙ ap (λ l. pieces_traces mid ++ l) (append-nil (piece_traces p) ∙ t)
-          ∙ ap (λ l. l ++ same_item c ∷ []) r.traces
-          ∙ append_assoc (pieces_traces ps) (run b (n - length (pieces_traces ps))) (same_item c ∷ [])
-          ∙ ap (λ m. pieces_traces ps ++ (run b (n - length (pieces_traces ps)) ++ run m 1)) r.behind_new
-          ∙ ap (λ l. pieces_traces ps ++ l) (sym (run-append b (n - length (pieces_traces ps)) 1))
-          ∙ ap (λ m. pieces_traces ps ++ run b m) (sym more);
+reaches_next : (old mid new : List Trace) (b c d n : ℕ) → Reaches old b mid c n → length mid ≡ n → new ≡ mid ++ run c 1 → d ≡ c + 1 → Reaches old b new d (n + 1)
+reaches_next old mid new b c d n r s e f =
+    let more : n + 1 - length old ≡ (n - length old) + 1 = omega (arith, s, reached-length old mid b c n r) in record {
+      traces = e
+          ∙ ap (λ l. l ++ run c 1) r.traces
+          ∙ append_assoc old (run b (n - length old)) (run c 1)
+          ∙ ap (λ m. old ++ (run b (n - length old) ++ run m 1)) r.behind_new
+          ∙ ap (λ l. old ++ l) (sym (run-append b (n - length old) 1))
+          ∙ ap (λ m. old ++ run b m) (sym more);
       behind_new = omega (arith, r.behind_new, more, f);
     }
+
+-- ---- An item that is taken out.
+
+pub taken_here : (old before behind rest : List Trace) (b c n : ℕ) (o : Option Piece) (p : Piece) → Reaches old b (before ++ behind) c n → length before ≡ n → behind ≡ rest_traces o ++ rest → o ≡ Some p → IfSome o IsSingle
+    → Reaches old b (before ++ the_trace p ∷ rest) c (n + 1)
+taken_here old before behind rest b c n o p r s e i a =
+    let alone = subst (λ q. IfSome q IsSingle) i a in
+    let next : behind ≡ piece_traces p ++ rest = e ∙ ap (λ q. rest_traces q ++ rest) i in
+    let all : before ++ behind ≡ before ++ the_trace p ∷ rest = ap (λ l. before ++ l) (next ∙ ap (λ l. l ++ rest) (single_traces p alone)) in
+    let long : n < length (before ++ the_trace p ∷ rest) = omega (arith, length-append before (the_trace p ∷ rest), s) in
+    reaches_one old (before ++ the_trace p ∷ rest) b c n (subst (λ l. Reaches old b l c n) all r) long
+
+pub taken_behind : (old before behind : List Trace) (rest : List Piece) (b c d n : ℕ) (o : Option Piece) (p : Piece) → Reaches old b (before ++ behind) c n → length before ≡ n → behind ≡ rest_traces o ++ traces_behind rest → o ≡ None → (o ≡ None → rest ≡ [])
+    → IsSingle p → piece_traces p ≡ run c 1 → d ≡ c + 1 → Reaches old b (before ++ the_trace p ∷ traces_behind rest) d (n + 1)
+taken_behind old before behind rest b c d n o p r s e i f a t g =
+    let none : traces_behind rest ≡ [] = ap traces_behind (f i) in
+    let all : before ++ behind ≡ before = ap (λ l. before ++ l) (e ∙ ap (λ q. rest_traces q ++ traces_behind rest) i ∙ none) ∙ append-nil before in
+    reaches_next old before (before ++ the_trace p ∷ traces_behind rest) b c d n (subst (λ l. Reaches old b l c n) all r) s
+    (ap (λ l. before ++ the_trace p ∷ l) none ∙ ap (λ l. before ++ l) (sym (single_traces p a) ∙ t)) g

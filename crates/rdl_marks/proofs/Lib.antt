@@ -1,5 +1,4 @@
 pub mod Apart
-pub mod Boundaries
 pub mod Cuts
 pub mod Described
 pub mod From

@@ -1,73 +1,121 @@
 -- What the changes of pieces make of what is told.
-use Rattle.std.proofs.Common.{◌≡◌, ℕ, ◌+◌, ◌<◌, length, List, [], take, get_or, Option, Some, refl, ap, sym, ◌∙◌, subst}
-use Rattle.std.specs.Prelude.{insert, remove, slice_get, slice_set, IsSomeAnd}
-use Rattle.std.proofs.lemmas.Option.{slice_get_read}
+use Rattle.std.proofs.Common.{◌≡◌, ℕ, ◌+◌, length, List, [], ◌∷◌, ◌++◌, map, reverse, Some, ap, sym, ◌∙◌, append_assoc}
+use Rattle.std.specs.Prelude.{slice_get, slice_set, insert, remove}
 use Rattle.rdl_tree.specs.declared.description.Item.{Item}
 use Rattle.rdl_tree.specs.declared.patch.Patch.TheVariants.{Insert, Shift}
-use Rattle.rdl_marks.specs.View.{Trace, new_item, pieces_traces, told, Told}
-use Rattle.rdl_marks.specs.Cut.{IsSingle, the_trace, Reaches}
+use Rattle.rdl_marks.specs.View.{Trace, new_item, piece_traces, in_order, IsCounted, gone_trace, gone_item, told, Told}
+use Rattle.rdl_marks.specs.Cut.{traces_before, traces_behind, traces_in, IsSingle, the_trace, Reaches}
 use Rattle.rdl_marks.specs.Noted.{moved, reach, put_in, take_out, gone_as, told_at, taken_out_as, moved_to, at_item, noted_here}
 use Rattle.rdl_marks.specs.declared.marks.Piece.{Piece}
-use Rattle.rdl_marks.specs.declared.marks.Piece.TheVariants.{New}
+use Rattle.rdl_marks.specs.declared.marks.Pieces.{Pieces}
 use Rattle.rdl_marks.specs.declared.marks.Gone.{Gone}
-use Rattle.rdl_marks.proofs.Cuts.{get_single, set_single, remove_single, insert_single}
+use Rattle.rdl_marks.proofs.Cuts.{get_at, put_at_end, remove_at, insert_at, pieces_traces-append, single_traces}
 
--- ---- Pieces that tell as far as a number.
+-- ---- What is told by the items one by one.
 
-pub told_reached : (ps mid : List Piece) (b c n : ℕ) (gs : List Gone) → Reaches ps b mid c n → told mid c gs ≡ reach n (told ps b gs)
-told_reached ps mid b c n gs r = λ i. record (told mid c gs) { traces = r.traces i; behind = r.behind_new i }
+abbrev told_by : List Trace → ℕ → List Gone → Told
+told_by es b gs = record { traces = es; behind = b; gone = map gone_trace gs; items = map gone_item gs }
 
-told_put : (mid new : List Piece) (c k n : ℕ) (gs : List Gone) (p : Piece) (e : Trace) → length (pieces_traces (take k mid)) ≡ n → IsSingle p → the_trace p ≡ e → new ≡ insert mid k p → told new c gs ≡ put_in n e (told mid c gs)
-told_put mid new c k n gs p e b s f g =
-    let t : pieces_traces new ≡ insert (pieces_traces mid) n e = ap pieces_traces g ∙ insert_single mid k n p s b ∙ ap (insert (pieces_traces mid) n) f in
-    λ i. record (told mid c gs) { traces = t i }
+told_in : (ps : Pieces) (b : ℕ) (gs : List Gone) → told (in_order ps) b gs ≡ told_by (traces_in ps) b gs
+told_in ps b gs = ap (λ es. told_by es b gs) (pieces_traces-append ps.front.items (reverse ps.back.items))
 
-told_without : (mid new : List Piece) (c k n : ℕ) (gs : List Gone) (p : Piece) → length (pieces_traces (take k mid)) ≡ n → slice_get mid k ≡ Some p → IsSingle p → new ≡ remove mid k → told new c gs ≡ take_out n (told mid c gs)
-told_without mid new c k n gs p b e s g =
-    let t : pieces_traces new ≡ remove (pieces_traces mid) n = ap pieces_traces g ∙ remove_single mid k n p e s b in
-    λ i. record (told mid c gs) { traces = t i }
+-- so many items at least are
+reached : (old : Pieces) (new : List Trace) (b c n : ℕ) (gs : List Gone) → Reaches (traces_in old) b new c n → told_by new c gs ≡ reach n (told (in_order old) b gs)
+reached old new b c n gs r = (λ i. record (told_by new c gs) { traces = r.traces i; behind = r.behind_new i }) ∙ ap (reach n) (sym (told_in old b gs))
 
--- ---- The piece of an item.
+-- ---- Where the gap is.
 
-pub the_piece : (mid : List Piece) (k : ℕ) (p : Piece) → k < length mid → p ≡ get_or mid k p → slice_get mid k ≡ Some p
-the_piece mid k p h e = slice_get_read mid (length mid) k p refl h e
+-- it is before the item of a number
+pub record IsAt (old : Pieces) (b : ℕ) (mid : Pieces) (c n : ℕ) : Type 0 where
+  pub reaches : Reaches (traces_in old) b (traces_in mid) c n
+  pub begins : length (traces_before mid) ≡ n
 
-alone_in : (o : Option Piece) (p : Piece) → o ≡ Some p → IsSomeAnd o IsSingle → IsSingle p
-alone_in o p e h = let s = subst (λ q. IsSomeAnd q IsSingle) e h in s
+-- it is in the place of the item of a number, which was taken out
+pub record IsTaken (old : Pieces) (b : ℕ) (mid : Pieces) (c n : ℕ) (e : Trace) : Type 0 where
+  pub reaches : Reaches (traces_in old) b (traces_before mid ++ e ∷ traces_behind mid.back.items) c (n + 1)
+  pub begins : length (traces_before mid) ≡ n
 
-pub alone_is : (mid : List Piece) (k : ℕ) (p : Piece) → k < length mid → p ≡ get_or mid k p → IsSomeAnd (slice_get mid k) IsSingle → IsSingle p
-alone_is mid k p h e s = alone_in (slice_get mid k) p (the_piece mid k p h e) s
+pub is_taken : (old : Pieces) (b : ℕ) (mid : Pieces) (c n : ℕ) (e : Trace) → Reaches (traces_in old) b (traces_before mid ++ e ∷ traces_behind mid.back.items) c (n + 1) → IsCounted mid → mid.before ≡ n → IsTaken old b mid c n e
+is_taken old b mid c n e r k h = record { reaches = r; begins = sym k ∙ h }
+
+pub is_at : (old : Pieces) (b : ℕ) (mid : Pieces) (c n : ℕ) → Reaches (traces_in old) b (traces_in mid) c n → IsCounted mid → mid.before ≡ n → IsAt old b mid c n
+is_at old b mid c n r k h = record { reaches = r; begins = sym k ∙ h }
+
+-- this item was put before it
+pub record IsPut (mid new : Pieces) (e : Trace) : Type 0 where
+  pub before : traces_before new ≡ traces_before mid ++ e ∷ []
+  pub behind : new.back ≡ mid.back
+
+pub single_put : (mid new : Pieces) (p : Piece) → IsSingle p → traces_before new ≡ traces_before mid ++ piece_traces p → new.back ≡ mid.back → IsPut mid new (the_trace p)
+single_put mid new p s e h = record { before = e ∙ ap (λ l. traces_before mid ++ l) (single_traces p s); behind = h }
+
+put_between : (mid new : Pieces) (e : Trace) → IsPut mid new e → traces_in new ≡ traces_before mid ++ e ∷ traces_behind mid.back.items
+put_between mid new e p =
+    ap (λ l. l ++ traces_behind new.back.items) p.before ∙ append_assoc (traces_before mid) (e ∷ []) (traces_behind new.back.items)
+    ∙ ap (λ v. traces_before mid ++ e ∷ traces_behind v.items) p.behind
+
+-- ---- Lists, at the gap.
+
+get_there : (before behind : List Trace) (n : ℕ) (e : Trace) → length before ≡ n → slice_get (before ++ e ∷ behind) n ≡ Some e
+get_there before behind n e h = ap (slice_get (before ++ e ∷ behind)) (sym h) ∙ get_at before e behind
+
+insert_there : (before behind : List Trace) (n : ℕ) (e : Trace) → length before ≡ n → before ++ e ∷ behind ≡ insert (before ++ behind) n e
+insert_there before behind n e h = sym (insert_at before e behind) ∙ ap (λ m. insert (before ++ behind) m e) h
+
+remove_there : (before behind : List Trace) (n : ℕ) (e : Trace) → length before ≡ n → before ++ behind ≡ remove (before ++ e ∷ behind) n
+remove_there before behind n e h = sym (remove_at before e behind) ∙ ap (λ m. remove (before ++ e ∷ behind) m) h
+
+set_there : (before behind : List Trace) (n : ℕ) (d e : Trace) → length before ≡ n → before ++ e ∷ behind ≡ slice_set (before ++ d ∷ behind) n e
+set_there before behind n d e h = sym (put_at_end before d e behind) ∙ ap (λ m. slice_set (before ++ d ∷ behind) m e) h
 
 -- ---- Patches.
 
-pub inserted : (ps mid new : List Piece) (b c k n : ℕ) → Reaches ps b mid c n → length (pieces_traces (take k mid)) ≡ n → new ≡ insert mid k (New 1) → (gs : List Gone) → told new c gs ≡ put_in n new_item (reach n (told ps b gs))
-inserted ps mid new b c k n r s e gs =
-    told_put mid new c k n gs (New 1) new_item s refl refl e ∙ ap (put_in n new_item) (told_reached ps mid b c n gs r)
+-- an item was put in where the gap was
+put_told : (old mid new : Pieces) (b c n : ℕ) (e : Trace) → IsAt old b mid c n → IsPut mid new e → (gs : List Gone) → told (in_order new) c gs ≡ put_in n e (reach n (told (in_order old) b gs))
+put_told old mid new b c n e a p gs =
+    let before = traces_before mid in
+    let behind = traces_behind mid.back.items in
+    told_in new c gs
+    ∙ ap (λ l. told_by l c gs) (put_between mid new e p ∙ insert_there before behind n e a.begins)
+    ∙ ap (put_in n e) (reached old (traces_in mid) b c n gs a.reaches)
 
-pub deleted : (ps mid new : List Piece) (b c k n : ℕ) (gs hs : List Gone) (p : Piece) (x : Item) → Reaches ps b mid c (n + 1) → length (pieces_traces (take k mid)) ≡ n → k < length mid → p ≡ get_or mid k p → IsSingle p → new ≡ remove mid k
-    → ((qs : List Piece) (d : ℕ) → told qs d hs ≡ gone_as x (the_trace p) (told qs d gs)) → told new c hs ≡ noted_here (Insert [] x) n (told ps b gs)
-deleted ps mid new b c k n gs hs p x r s h e u f g =
-    let found = the_piece mid k p h e in
-    g new c
-    ∙ ap (gone_as x (the_trace p)) (told_without mid new c k n gs p s found u f)
-    ∙ ap (λ o. taken_out_as n x o (told mid c gs)) (sym (get_single mid k n p found u s))
-    ∙ ap (λ (t : Told). taken_out_as n x (slice_get t.traces n) t) (told_reached ps mid b c (n + 1) gs r)
+pub inserted : (old mid new : Pieces) (b c n : ℕ) → IsAt old b mid c n → IsPut mid new new_item → (gs : List Gone) → told (in_order new) c gs ≡ put_in n new_item (reach n (told (in_order old) b gs))
+inserted old mid new b c n a p gs = put_told old mid new b c n new_item a p gs
 
-pub shifted : (ps mid rest last new : List Piece) (b c d k j from to : ℕ) (p q : Piece) → Reaches ps b mid c (from + 1) → length (pieces_traces (take k mid)) ≡ from → k < length mid → p ≡ get_or mid k p → IsSingle p → rest ≡ remove mid k
-    → the_trace q ≡ moved (the_trace p) → IsSingle q → Reaches rest c last d to → length (pieces_traces (take j last)) ≡ to → new ≡ insert last j q → (gs : List Gone) → told new d gs ≡ noted_here (Shift [] from) to (told ps b gs)
-shifted ps mid rest last new b c d k j from to p q r s h e u f m v w t i gs =
-    let found = the_piece mid k p h e in
-    told_put last new d j to gs q (moved (the_trace p)) t v m i
-    ∙ ap (put_in to (moved (the_trace p))) (told_reached rest last c d to gs w)
-    ∙ ap (λ (l : Told). put_in to (moved (the_trace p)) (reach to l)) (told_without mid rest c k from gs p s found u f)
-    ∙ ap (λ o. moved_to from to o (told mid c gs)) (sym (get_single mid k from p found u s))
-    ∙ ap (λ (l : Told). moved_to from to (slice_get l.traces from) l) (told_reached ps mid b c (from + 1) gs r)
+-- an item was taken out
+without : (mid : Pieces) (c n : ℕ) (e : Trace) (gs : List Gone) → length (traces_before mid) ≡ n → told (in_order mid) c gs ≡ take_out n (told_by (traces_before mid ++ e ∷ traces_behind mid.back.items) c gs)
+without mid c n e gs h = told_in mid c gs ∙ ap (λ l. told_by l c gs) (remove_there (traces_before mid) (traces_behind mid.back.items) n e h)
 
-pub changed_at : (f : Trace → Trace) (ps mid new : List Piece) (b c k n : ℕ) (p q : Piece) → Reaches ps b mid c (n + 1) → length (pieces_traces (take k mid)) ≡ n → k < length mid → p ≡ get_or mid k p → IsSingle p → new ≡ slice_set mid k q
-    → the_trace q ≡ f (the_trace p) → IsSingle q → (gs : List Gone) → told new c gs ≡ at_item n f (told ps b gs)
-changed_at f ps mid new b c k n p q r s h e u i m v gs =
-    let found = the_piece mid k p h e in
-    let t : pieces_traces new ≡ slice_set (pieces_traces mid) n (f (the_trace p)) = ap pieces_traces i ∙ set_single mid k n p q found u v s ∙ ap (slice_set (pieces_traces mid) n) m in
-    (λ i. record (told mid c gs) { traces = t i })
-    ∙ ap (λ o. told_at n f o (told mid c gs)) (sym (get_single mid k n p found u s))
-    ∙ ap (λ (l : Told). told_at n f (slice_get l.traces n) l) (told_reached ps mid b c (n + 1) gs r)
+pub deleted : (old mid : Pieces) (b c n : ℕ) (gs hs : List Gone) (p : Piece) (x : Item) → IsTaken old b mid c n (the_trace p)
+    → ((qs : List Piece) (d : ℕ) → told qs d hs ≡ gone_as x (the_trace p) (told qs d gs)) → told (in_order mid) c hs ≡ noted_here (Insert [] x) n (told (in_order old) b gs)
+deleted old mid b c n gs hs p x t g =
+    let e = the_trace p in
+    let all = traces_before mid ++ e ∷ traces_behind mid.back.items in
+    g (in_order mid) c
+    ∙ ap (gone_as x e) (without mid c n e gs t.begins)
+    ∙ ap (λ o. taken_out_as n x o (told_by all c gs)) (sym (get_there (traces_before mid) (traces_behind mid.back.items) n e t.begins))
+    ∙ ap (λ (l : Told). taken_out_as n x (slice_get l.traces n) l) (reached old all b c (n + 1) gs t.reaches)
+
+pub shifted : (old mid last new : Pieces) (b c d from to : ℕ) (p q : Piece) → IsTaken old b mid c from (the_trace p) → the_trace q ≡ moved (the_trace p) → IsAt mid c last d to → IsPut last new (the_trace q)
+    → (gs : List Gone) → told (in_order new) d gs ≡ noted_here (Shift [] from) to (told (in_order old) b gs)
+shifted old mid last new b c d from to p q t m a u gs =
+    let e = the_trace p in
+    let all = traces_before mid ++ e ∷ traces_behind mid.back.items in
+    put_told mid last new c d to (the_trace q) a u gs
+    ∙ ap (λ f. put_in to f (reach to (told (in_order mid) c gs))) m
+    ∙ ap (λ (l : Told). put_in to (moved e) (reach to l)) (without mid c from e gs t.begins)
+    ∙ ap (λ o. moved_to from to o (told_by all c gs)) (sym (get_there (traces_before mid) (traces_behind mid.back.items) from e t.begins))
+    ∙ ap (λ (l : Told). moved_to from to (slice_get l.traces from) l) (reached old all b c (from + 1) gs t.reaches)
+
+pub changed_at : (f : Trace → Trace) (old mid new : Pieces) (b c n : ℕ) (p q : Piece) → IsTaken old b mid c n (the_trace p) → the_trace q ≡ f (the_trace p) → IsPut mid new (the_trace q)
+    → (gs : List Gone) → told (in_order new) c gs ≡ at_item n f (told (in_order old) b gs)
+changed_at f old mid new b c n p q t m u gs =
+    let e = the_trace p in
+    let before = traces_before mid in
+    let behind = traces_behind mid.back.items in
+    let all = before ++ e ∷ behind in
+    told_in new c gs
+    ∙ ap (λ l. told_by l c gs) (put_between mid new (the_trace q) u ∙ set_there before behind n e (the_trace q) t.begins)
+    ∙ ap (λ g. told_by (slice_set all n g) c gs) m
+    ∙ ap (λ o. told_at n f o (told_by all c gs)) (sym (get_there before behind n e t.begins))
+    ∙ ap (λ (l : Told). told_at n f (slice_get l.traces n) l) (reached old all b c (n + 1) gs t.reaches)

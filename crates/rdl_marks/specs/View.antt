@@ -1,6 +1,6 @@
 -- One level of marks as lists, in which what is inside an item is already seen as its marks.
 -- own: how the code holds marks.
-use Rattle.std.specs.Prelude.{ℕ, zero, suc, ◌+◌, ◌-◌, List, [], ◌∷◌, ◌++◌, map, replicate}
+use Rattle.std.specs.Prelude.{ℕ, zero, suc, ◌+◌, ◌-◌, List, [], ◌∷◌, ◌++◌, map, replicate, reverse, ◌≡◌, length}
 use Rattle.std.specs.Option.{option_copied}
 use Rattle.rdl_tree.specs.View as tree
 use Rattle.rdl_tree.specs.declared.description.Item.{Item}
@@ -8,6 +8,7 @@ use Rattle.rdl_marks.specs.Marks.{Firsts, no_firsts, Traces, no_traces, new_trac
 use Rattle.rdl_marks.specs.declared.marks.Mark.{Mark}
 use Rattle.rdl_marks.specs.declared.marks.Piece.{Piece}
 use Rattle.rdl_marks.specs.declared.marks.Piece.TheVariants.{New, Kept, Marked}
+use Rattle.rdl_marks.specs.declared.marks.Pieces.{Pieces}
 use Rattle.rdl_marks.specs.declared.marks.Gone.{Gone}
 
 -- what is told of one item
@@ -75,6 +76,14 @@ piece_traces (Marked number m) = marked number m ∷ []
 abbrev pub pieces_traces : List Piece → List Trace
 pieces_traces [] = []
 pieces_traces (p ∷ ps) = piece_traces p ++ pieces_traces ps
+
+-- the pieces, from the first one on
+abbrev pub in_order : Pieces → List Piece
+in_order p = p.front.items ++ reverse p.back.items
+
+-- it is known how many items stand before the gap
+abbrev pub IsCounted : Pieces → Type 0
+IsCounted p = p.before ≡ length (pieces_traces p.front.items)
 
 abbrev pub gone_trace : Gone → Trace
 gone_trace g = marked g.number g.mark

@@ -50,12 +50,25 @@ pub struct Gone<'a> {
     pub mark: Mark<'a>,
 }
 
+/// Pieces that stand one after another, with a gap among them, to which pieces are put and from which they are taken. It goes
+/// to an item in as many steps as there are pieces on the way.
+#[cycle(marks)]
+#[derive(Drop)]
+pub struct Pieces<'a> {
+    /// Those before the gap.
+    pub(crate) front: Vec<Piece<'a>>,
+    /// Those behind it, of which the last one is the next.
+    pub(crate) back: Vec<Piece<'a>>,
+    /// How many items those before it have.
+    pub(crate) before: usize,
+}
+
 /// What became of a body: its items are those of the pieces, and behind them all that stood in it from a number on. A
 /// contract sees `Marks`.
 #[cycle(marks)]
 #[derive(Drop)]
 pub struct BodyMarks<'a> {
-    pub pieces: Vec<Piece<'a>>,
+    pub pieces: Pieces<'a>,
     /// The number from which on all items follow behind the pieces.
     pub behind: usize,
     /// The items that are gone.
@@ -70,15 +83,17 @@ impl<'a> Model for BodyMarks<'a> {
 
     ghost coded = { coded_marks };
 
-    ghost use Rattle.rdl_marks.specs.View.{told, marks_of};
+    ghost use Rattle.rdl_marks.specs.View.{in_order, IsCounted, told, marks_of};
 
-    ghost view = { λ a. marks_of (told a.pieces.items a.behind a.gone.items) };
+    ghost view = { λ a. marks_of (told (in_order a.pieces) a.behind a.gone.items) };
+
+    ghost invariant = { λ a. IsCounted a.pieces };
 
     ghost size = { marks_count };
 
     ghost use Rattle.rdl_marks.specs.Falls.{deep_le-count};
 
-    ghost size_decreases = { λ a h. deep_le-count a.pieces.items a.behind a.gone.items };
+    ghost size_decreases = { λ a h. deep_le-count a.pieces a.behind a.gone.items };
 }
 
 impl<'a> Mark<'a> {
@@ -105,7 +120,7 @@ impl<'a> BodyMarks<'a> {
         ensures { result ≡ no_marks }
     {
         BodyMarks {
-            pieces: Vec::new(alloc),
+            pieces: Pieces::new(alloc),
             behind: 0,
             gone: Vec::new(alloc),
         }

@@ -2,14 +2,13 @@
 ghost use Rattle.std.specs.Prelude.{◌≡◌, ℕ, List, [], IfOk, Some, unwrap_or, option_copied};
 ghost use Rattle.rdl_marks.specs.declared.marks.Gone.{Gone};
 ghost use Rattle.rdl_marks.specs.declared.marks.Piece.{Piece};
-ghost use Rattle.rdl_marks.specs.View.{new_item, told, firsts_of};
+ghost use Rattle.rdl_marks.specs.View.{new_item, in_order, IsCounted, told, firsts_of};
 ghost use Rattle.rdl_marks.specs.Cut.{IsSingle, the_trace};
 ghost use Rattle.rdl_marks.specs.Noted.{with_first, exchanged, moved, changed_inside, gone_as, noted_here, put_in, reach, at_item, here, marks_at, noted};
 ghost use Rattle.rdl_marks.specs.Describes.{KeepsDescribing};
 ghost use Rattle.rdl_tree.specs.declared.patch.Patch.TheVariants.{Insert, Shift};
 
-use crate::marks::{BodyMarks, Gone, Mark, Piece};
-use crate::pieces::{boundary, single};
+use crate::marks::{BodyMarks, Gone, Mark, Piece, Pieces};
 use rdl_tree::description::Item;
 use rdl_tree::part::Part;
 use rdl_tree::patch::Patch;
@@ -61,15 +60,13 @@ fn note_moved(piece: &mut Piece)
     }
 }
 
-fn note_insert<'a>(
-    pieces: &mut Vec<Piece<'a>>,
-    behind: &mut usize,
-    number: usize,
-) -> Result<(), AllocError>
-    ensures { IfOk result (λ _. (gone : List Gone) → told pieces.new.items behind.new gone ≡ put_in number new_item (reach number (told pieces.old.items behind.old gone))) }
+fn note_insert(pieces: &mut Pieces, behind: &mut usize, number: usize) -> Result<(), AllocError>
+    requires { IsCounted pieces.old }
+    ensures counted { IsCounted pieces.new }
+    ensures told { IfOk result (λ _. (gone : List Gone) → told (in_order pieces.new) behind.new gone ≡ put_in number new_item (reach number (told (in_order pieces.old) behind.old gone))) }
 {
-    let place = boundary(pieces, behind, number)?;
-    pieces.insert(place, Piece::New(1))?;
+    pieces.go_to(behind, number)?;
+    pieces.put_new()?;
     Ok(())
 }
 
@@ -89,62 +86,69 @@ fn note_gone<'a>(
 }
 
 fn note_delete<'a>(
-    pieces: &mut Vec<Piece<'a>>,
+    pieces: &mut Pieces<'a>,
     behind: &mut usize,
     gone: &mut Vec<Gone<'a>>,
     alloc: Global,
     number: usize,
     item: &'a Item,
 ) -> Result<(), AllocError>
-    ensures { IfOk result (λ _. told pieces.new.items behind.new gone.new.items ≡ noted_here (Insert [] item.now) number (told pieces.old.items behind.old gone.old.items)) }
+    requires { IsCounted pieces.old }
+    ensures counted { IsCounted pieces.new }
+    ensures told { IfOk result (λ _. told (in_order pieces.new) behind.new gone.new.items ≡ noted_here (Insert [] item.now) number (told (in_order pieces.old) behind.old gone.old.items)) }
 {
-    let place = single(pieces, behind, alloc, number)?;
-    let piece = pieces.remove(place);
+    let piece = pieces.take(behind, alloc, number)?;
     note_gone(gone, piece, item)?;
     Ok(())
 }
 
 fn note_shift<'a>(
-    pieces: &mut Vec<Piece<'a>>,
+    pieces: &mut Pieces<'a>,
     behind: &mut usize,
     alloc: Global,
     from: usize,
     to: usize,
 ) -> Result<(), AllocError>
-    ensures { IfOk result (λ _. (gone : List Gone) → told pieces.new.items behind.new gone ≡ noted_here (Shift [] from) to (told pieces.old.items behind.old gone)) }
+    requires { IsCounted pieces.old }
+    ensures counted { IsCounted pieces.new }
+    ensures told { IfOk result (λ _. (gone : List Gone) → told (in_order pieces.new) behind.new gone ≡ noted_here (Shift [] from) to (told (in_order pieces.old) behind.old gone)) }
 {
-    let place = single(pieces, behind, alloc, from)?;
-    let mut piece = pieces.remove(place);
+    let mut piece = pieces.take(behind, alloc, from)?;
     note_moved(&mut piece);
-    let place = boundary(pieces, behind, to)?;
-    pieces.insert(place, piece)?;
+    pieces.go_to(behind, to)?;
+    pieces.put(piece)?;
     Ok(())
 }
 
 fn note_exchange<'a>(
-    pieces: &mut Vec<Piece<'a>>,
+    pieces: &mut Pieces<'a>,
     behind: &mut usize,
     alloc: Global,
     number: usize,
     old: &'a Part,
 ) -> Result<(), AllocError>
-    ensures { IfOk result (λ _. (gone : List Gone) → told pieces.new.items behind.new gone ≡ at_item number (exchanged old.now) (told pieces.old.items behind.old gone)) }
+    requires { IsCounted pieces.old }
+    ensures counted { IsCounted pieces.new }
+    ensures told { IfOk result (λ _. (gone : List Gone) → told (in_order pieces.new) behind.new gone ≡ at_item number (exchanged old.now) (told (in_order pieces.old) behind.old gone)) }
 {
-    let place = single(pieces, behind, alloc, number)?;
-    note_part(&mut pieces[place], old);
+    let mut piece = pieces.take(behind, alloc, number)?;
+    note_part(&mut piece, old);
+    pieces.put(piece)?;
     Ok(())
 }
 
 /// Notes it of the item of this number in this body.
 fn note_here<'a>(
-    pieces: &mut Vec<Piece<'a>>,
+    pieces: &mut Pieces<'a>,
     behind: &mut usize,
     gone: &mut Vec<Gone<'a>>,
     alloc: Global,
     number: usize,
     back: &'a Patch,
 ) -> Result<(), AllocError>
-    ensures { IfOk result (λ _. told pieces.new.items behind.new gone.new.items ≡ noted_here back.now number (told pieces.old.items behind.old gone.old.items)) }
+    requires { IsCounted pieces.old }
+    ensures counted { IsCounted pieces.new }
+    ensures told { IfOk result (λ _. told (in_order pieces.new) behind.new gone.new.items ≡ noted_here back.now number (told (in_order pieces.old) behind.old gone.old.items)) }
 {
     match back {
         Patch::Delete(_) => note_insert(pieces, behind, number),
@@ -194,8 +198,9 @@ impl<'a> BodyMarks<'a> {
                 Ok(())
             }
             [first, rest @ ..] => {
-                let place = single(&mut self.pieces, &mut self.behind, alloc, *first)?;
-                note_inside(&mut self.pieces[place], alloc, rest, number, back)?;
+                let mut piece = self.pieces.take(&mut self.behind, alloc, *first)?;
+                note_inside(&mut piece, alloc, rest, number, back)?;
+                self.pieces.put(piece)?;
                 Ok(())
             }
         }

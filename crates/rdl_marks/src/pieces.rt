@@ -1,19 +1,10 @@
 //! Pieces, cut where a patch changes something.
-ghost use Rattle.std.specs.Prelude.{◌≡◌, ◌+◌, ◌<◌, ◌≤◌, ◌++◌, length, take, drop, IfOk, IfSome, IsSomeAnd, slice_get};
-ghost use Rattle.rdl_marks.specs.View.{piece_traces, pieces_traces};
-ghost use Rattle.rdl_marks.specs.Cut.{rest_traces, IsSingle, Reaches};
+ghost use Rattle.std.specs.Prelude.{◌≡◌, ◌+◌, ◌^◌, ◌<◌, ◌≤◌, [], ◌∷◌, ◌++◌, length, IfOk, IfErr, IfSome, None, if◌then◌else◌, slice_get, option_copied};
+ghost use Rattle.rdl_marks.specs.View.{new_item, run, piece_traces, pieces_traces, in_order, IsCounted};
+ghost use Rattle.rdl_marks.specs.Cut.{traces_before, traces_behind, traces_in, rest_traces, IsSingle, the_trace, Reaches};
 
-use crate::marks::{Mark, Piece};
+use crate::marks::{Mark, Piece, Pieces};
 use std::alloc::{AllocError, Global};
-
-/// Where the item of a number stands.
-#[derive(Clone, Copy)]
-struct Place {
-    /// The number of its piece, or how many pieces there are, if it stands behind them.
-    piece: usize,
-    /// How many items of that piece are before it, or how many behind the pieces.
-    offset: usize,
-}
 
 fn len(piece: &Piece) -> usize
     ensures { result ≡ length (piece_traces piece.now) }
@@ -22,25 +13,6 @@ fn len(piece: &Piece) -> usize
         Piece::New(count) => *count,
         Piece::Kept(from, to) => to.saturating_sub(*from),
         Piece::Marked(..) => 1,
-    }
-}
-
-fn place_of(pieces: &[Piece], number: usize) -> Place
-    ensures sum { length (pieces_traces (take result.piece pieces.now)) + result.offset ≡ number }
-    ensures within { result.piece ≤ length pieces.now }
-    ensures inside { IfSome (slice_get pieces.now result.piece) (λ piece. result.offset < length (piece_traces piece)) }
-{
-    let mut offset = number;
-    'each: for (k, piece) in pieces.iter().enumerate() {
-        let count = len(piece);
-        if offset < count {
-            return Place { piece: k, offset };
-        }
-        offset -= count;
-    }
-    Place {
-        piece: pieces.len(),
-        offset,
     }
 }
 
@@ -89,17 +61,48 @@ fn cut_first<'a>(piece: &mut Piece<'a>, alloc: Global) -> Option<Piece<'a>>
     }
 }
 
-/// Puts the rest of a piece behind it, if it has items.
-fn put_behind<'a>(
-    pieces: &mut Vec<Piece<'a>>,
-    place: usize,
-    rest: Option<Piece<'a>>,
-) -> Result<(), AllocError>
-    requires { place < length pieces.old.items }
-    ensures traces { IfOk result (λ _. pieces_traces pieces.new.items ≡ pieces_traces (take (place + 1) pieces.old.items) ++ (rest_traces rest.entry ++ pieces_traces (drop (place + 1) pieces.old.items))) }
-    ensures before { IfOk result (λ _. take place pieces.new.items ≡ take place pieces.old.items) }
-    ensures holds { IfOk result (λ _. slice_get pieces.new.items place ≡ slice_get pieces.old.items place) }
-    ensures more { IfOk result (λ _. length pieces.old.items ≤ length pieces.new.items) }
+/// Adds one to new items, and says whether it did.
+fn grow(piece: &mut Piece) -> bool
+    ensures { piece_traces piece.new ≡ piece_traces piece.old ++ (if result then new_item ∷ [] else []) }
+{
+    match piece {
+        Piece::New(count) => {
+            let Some(more) = count.checked_add(1) else {
+                return false;
+            };
+            *count = more;
+            true
+        }
+        Piece::Kept(..) | Piece::Marked(..) => false,
+    }
+}
+
+/// Adds one to the last piece, if it is one of new items, and says whether it did.
+fn grow_last(front: &mut Vec<Piece>) -> bool
+    ensures { pieces_traces front.new.items ≡ pieces_traces front.old.items ++ (if result then new_item ∷ [] else []) }
+{
+    let count = front.len();
+    if count == 0 {
+        return false;
+    }
+    grow(&mut front[count - 1])
+}
+
+/// Puts a new item behind the last piece.
+fn push_new(front: &mut Vec<Piece>) -> Result<(), AllocError>
+    ensures put { IfOk result (λ _. pieces_traces front.new.items ≡ pieces_traces front.old.items ++ new_item ∷ []) }
+    ensures kept { IfErr result (λ _. pieces_traces front.new.items ≡ pieces_traces front.old.items) }
+{
+    if grow_last(front) {
+        return Ok(());
+    }
+    front.push(Piece::New(1))?;
+    Ok(())
+}
+
+/// Puts the rest of a piece before those that stand behind the gap, if it has items.
+fn push_rest<'a>(back: &mut Vec<Piece<'a>>, rest: Option<Piece<'a>>) -> Result<(), AllocError>
+    ensures { IfOk result (λ _. traces_behind back.new.items ≡ rest_traces rest.entry ++ traces_behind back.old.items) }
 {
     let Some(rest) = rest else {
         return Ok(());
@@ -107,61 +110,218 @@ fn put_behind<'a>(
     if len(&rest) == 0 {
         return Ok(());
     }
-    pieces.insert(place + 1, rest)?;
+    back.push(rest)?;
     Ok(())
 }
 
-/// Cuts the pieces so that one begins with the item of this number, or that they end before it, and gives the number of
-/// that piece.
-pub(crate) fn boundary<'a>(
-    pieces: &mut Vec<Piece<'a>>,
-    behind: &mut usize,
-    number: usize,
-) -> Result<usize, AllocError>
-    ensures reaches { IfOk result (λ _. Reaches pieces.old.items behind.old pieces.new.items behind.new number) }
-    ensures begins { IfOk result (λ place. length (pieces_traces (take place pieces.new.items)) ≡ number) }
-    ensures within { IfOk result (λ place. place ≤ length pieces.new.items) }
-    ensures holds { IfOk result (λ place. IfSome (slice_get pieces.new.items place) (λ p. 0 < length (piece_traces p))) }
+/// Takes the next piece from behind the gap. If it has more items than these, the others stay.
+fn pop_within<'a>(back: &mut Vec<Piece<'a>>, room: usize) -> Result<Option<Piece<'a>>, AllocError>
+    requires { 0 < room }
+    ensures same { IfOk result (λ piece. traces_behind back.old.items ≡ rest_traces piece ++ traces_behind back.new.items) }
+    ensures short { IfOk result (λ piece. length (rest_traces piece) ≤ room) }
+    ensures fewer { IfOk result (λ piece. IfSome piece (λ p. length back.new.items < length back.old.items + length (piece_traces p))) }
+    ensures none { IfOk result (λ piece. piece ≡ None → back.new.items ≡ []) }
 {
-    let found = place_of(pieces.as_slice(), number);
-    if found.offset == 0 {
-        return Ok(found.piece);
-    }
-    if found.piece < pieces.len() {
-        let rest = split(&mut pieces[found.piece], found.offset);
-        pieces.insert(found.piece + 1, rest)?;
-        return Ok(found.piece + 1);
-    }
-    let Some(end) = behind.checked_add(found.offset) else {
-        return Err(AllocError);
+    let Some(mut piece) = back.pop() else {
+        return Ok(None);
     };
-    pieces.push(Piece::Kept(*behind, end))?;
-    *behind = end;
-    Ok(found.piece + 1)
+    if room < len(&piece) {
+        let rest = split(&mut piece, room);
+        back.push(rest)?;
+    }
+    Ok(Some(piece))
 }
 
-/// Cuts the pieces so that the item of this number is one by itself, and gives the number of that piece.
-pub(crate) fn single<'a>(
-    pieces: &mut Vec<Piece<'a>>,
-    behind: &mut usize,
-    alloc: Global,
-    number: usize,
-) -> Result<usize, AllocError>
-    ensures reaches { IfOk result (λ _. Reaches pieces.old.items behind.old pieces.new.items behind.new (number + 1)) }
-    ensures begins { IfOk result (λ place. length (pieces_traces (take place pieces.new.items)) ≡ number) }
-    ensures within { IfOk result (λ place. place < length pieces.new.items) }
-    ensures alone { IfOk result (λ place. IsSomeAnd (slice_get pieces.new.items place) IsSingle) }
+/// Takes the next piece from behind the gap that has items.
+fn pop_some<'a>(back: &mut Vec<Piece<'a>>) -> Option<Piece<'a>>
+    ensures same { traces_behind back.old.items ≡ rest_traces result ++ traces_behind back.new.items }
+    ensures some { IfSome result (λ piece. 0 < length (piece_traces piece)) }
+    ensures none { result ≡ None → back.new.items ≡ [] }
 {
-    let place = boundary(pieces, behind, number)?;
-    if place < pieces.len() {
-        let rest = cut_first(&mut pieces[place], alloc);
-        put_behind(pieces, place, rest)?;
-        return Ok(place);
+    while let Some(piece) = back.pop() {
+        if len(&piece) > 0 {
+            return Some(piece);
+        }
     }
+    None
+}
+
+/// Takes the next item from behind the gap.
+fn pop_first<'a>(back: &mut Vec<Piece<'a>>, alloc: Global) -> Result<Option<Piece<'a>>, AllocError>
+    ensures same { IfOk result (λ piece. traces_behind back.old.items ≡ rest_traces piece ++ traces_behind back.new.items) }
+    ensures alone { IfOk result (λ piece. IfSome piece IsSingle) }
+    ensures none { IfOk result (λ piece. piece ≡ None → back.new.items ≡ []) }
+{
+    let Some(mut piece) = pop_some(back) else {
+        return Ok(None);
+    };
+    let rest = cut_first(&mut piece, alloc);
+    push_rest(back, rest)?;
+    Ok(Some(piece))
+}
+
+/// The first item of those that stood in the body from a number on.
+fn pop_behind<'a>(behind: &mut usize, alloc: Global) -> Result<Piece<'a>, AllocError>
+    ensures told { IfOk result (λ piece. piece_traces piece ≡ run behind.old 1) }
+    ensures alone { IfOk result (λ piece. IsSingle piece) }
+    ensures more { IfOk result (λ _. behind.new ≡ behind.old + 1) }
+{
     let Some(end) = behind.checked_add(1) else {
         return Err(AllocError);
     };
-    pieces.push(Piece::Marked(*behind, Mark::none(alloc)))?;
+    let piece = Piece::Marked(*behind, Mark::none(alloc));
     *behind = end;
-    Ok(place)
+    Ok(piece)
+}
+
+impl<'a> Pieces<'a> {
+    /// No pieces.
+    pub(crate) fn new(alloc: Global) -> Pieces<'a>
+        ensures none { in_order result ≡ [] }
+        ensures counted { IsCounted result }
+    {
+        Pieces {
+            front: Vec::new(alloc),
+            back: Vec::new(alloc),
+            before: 0,
+        }
+    }
+
+    /// The piece that stands behind so many others.
+    pub fn get(&self, place: usize) -> Option<&Piece<'a>>
+        ensures piece { option_copied result ≡ slice_get (in_order self.now) place }
+        ensures fits { IfSome result (λ _. place + 1 < 2 ^ 64) }
+    {
+        let count = self.front.len();
+        if place < count {
+            return Some(&self.front[place]);
+        }
+        let back = self.back.as_slice();
+        if place - count < back.len() {
+            Some(&back[back.len() - 1 - (place - count)])
+        } else {
+            None
+        }
+    }
+
+    /// Puts a piece before the gap.
+    pub(crate) fn put(&mut self, piece: Piece<'a>) -> Result<(), AllocError>
+        requires { IsCounted self.old }
+        ensures counted { IsCounted self.new }
+        ensures before { IfOk result (λ _. traces_before self.new ≡ traces_before self.old ++ piece_traces piece.entry) }
+        ensures count { IfOk result (λ _. self.new.before ≡ self.old.before + length (piece_traces piece.entry)) }
+        ensures behind { self.new.back ≡ self.old.back }
+    {
+        let Some(before) = self.before.checked_add(len(&piece)) else {
+            return Err(AllocError);
+        };
+        self.front.push(piece)?;
+        self.before = before;
+        Ok(())
+    }
+
+    /// Brings the gap back, until no more items than these stand before it.
+    fn go_back(&mut self, number: usize) -> Result<(), AllocError>
+        requires { IsCounted self.old }
+        ensures counted { IsCounted self.new }
+        ensures same { IfOk result (λ _. traces_in self.new ≡ traces_in self.old) }
+        ensures far { IfOk result (λ _. self.new.before ≤ number) }
+    {
+        while self.before > number {
+            let Some(piece) = self.front.pop() else {
+                return Ok(());
+            };
+            self.before -= len(&piece);
+            self.back.push(piece)?;
+        }
+        Ok(())
+    }
+
+    /// Brings the gap on, until so many items stand before it, or all pieces do.
+    fn go_on(&mut self, number: usize) -> Result<(), AllocError>
+        requires counted { IsCounted self.old }
+        requires far { self.old.before ≤ number }
+        ensures counted { IsCounted self.new }
+        ensures same { IfOk result (λ _. traces_in self.new ≡ traces_in self.old) }
+        ensures far { IfOk result (λ _. self.new.before ≤ number) }
+        ensures all { IfOk result (λ _. self.new.before < number → self.new.back.items ≡ []) }
+    {
+        while self.before < number {
+            let Some(piece) = pop_within(&mut self.back, number - self.before)? else {
+                return Ok(());
+            };
+            self.put(piece)?;
+        }
+        Ok(())
+    }
+
+    /// Puts as many of those that stood in the body from a number on before the gap as there are missing.
+    fn extend(&mut self, behind: &mut usize, number: usize) -> Result<(), AllocError>
+        requires counted { IsCounted self.old }
+        requires far { self.old.before ≤ number }
+        requires all { self.old.before < number → self.old.back.items ≡ [] }
+        ensures counted { IsCounted self.new }
+        ensures reaches { IfOk result (λ _. Reaches (traces_in self.old) behind.old (traces_in self.new) behind.new number) }
+        ensures begins { IfOk result (λ _. self.new.before ≡ number) }
+    {
+        if self.before == number {
+            return Ok(());
+        }
+        let Some(end) = behind.checked_add(number - self.before) else {
+            return Err(AllocError);
+        };
+        self.put(Piece::Kept(*behind, end))?;
+        *behind = end;
+        Ok(())
+    }
+
+    /// Brings the gap before the item of this number.
+    pub(crate) fn go_to(&mut self, behind: &mut usize, number: usize) -> Result<(), AllocError>
+        requires { IsCounted self.old }
+        ensures counted { IsCounted self.new }
+        ensures reaches { IfOk result (λ _. Reaches (traces_in self.old) behind.old (traces_in self.new) behind.new number) }
+        ensures begins { IfOk result (λ _. self.new.before ≡ number) }
+    {
+        self.go_back(number)?;
+        self.go_on(number)?;
+        self.extend(behind, number)
+    }
+
+    /// Takes the item of this number out, a piece by itself, which has a mark if it was there before. The gap is in its place.
+    pub(crate) fn take(
+        &mut self,
+        behind: &mut usize,
+        alloc: Global,
+        number: usize,
+    ) -> Result<Piece<'a>, AllocError>
+        requires { IsCounted self.old }
+        ensures counted { IsCounted self.new }
+        ensures reaches { IfOk result (λ piece. Reaches (traces_in self.old) behind.old (traces_before self.new ++ the_trace piece ∷ traces_behind self.new.back.items) behind.new (number + 1)) }
+        ensures begins { IfOk result (λ _. self.new.before ≡ number) }
+        ensures alone { IfOk result (λ piece. IsSingle piece) }
+    {
+        self.go_to(behind, number)?;
+        match pop_first(&mut self.back, alloc)? {
+            Some(piece) => Ok(piece),
+            None => {
+                let piece = pop_behind(behind, alloc)?;
+                Ok(piece)
+            }
+        }
+    }
+
+    /// Puts a new item before the gap.
+    pub(crate) fn put_new(&mut self) -> Result<(), AllocError>
+        requires { IsCounted self.old }
+        ensures counted { IsCounted self.new }
+        ensures before { IfOk result (λ _. traces_before self.new ≡ traces_before self.old ++ new_item ∷ []) }
+        ensures behind { self.new.back ≡ self.old.back }
+    {
+        let Some(before) = self.before.checked_add(1) else {
+            return Err(AllocError);
+        };
+        push_new(&mut self.front)?;
+        self.before = before;
+        Ok(())
+    }
 }

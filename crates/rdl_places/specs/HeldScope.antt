@@ -8,14 +8,15 @@ use Rattle.rdl_places.specs.declared.scope.FoundInstance.{FoundInstance}
 use Rattle.rdl_nodes.specs.KeptNode.{kept_of}
 use Rattle.rdl_places.specs.Reached.{FoundAt}
 use Rattle.rdl_places.specs.Scopes.{Place, Holding}
+use Rattle.rdl_places.specs.SearchedBodies.{searched_body}
 use Rattle.rdl_nodes.specs.View.{slots_of}
 
 abbrev pub outer_places : Outer → List Place
 outer_places Nowhere = []
-outer_places (In' p body number slots outer) = record { body = body.now; number = number; slots = slots_of slots.now } ∷ outer_places outer
+outer_places (In' p body number slots outer) = record { body = searched_body body; number = number; slots = slots_of slots.now } ∷ outer_places outer
 
 abbrev pub place_of : Scope → Place
-place_of s = record { body = s.body.now; number = s.number; slots = slots_of s.slots.now }
+place_of s = record { body = searched_body s.body; number = s.number; slots = slots_of s.slots.now }
 
 abbrev pub places_of : Scope → List Place
 places_of s = place_of s ∷ outer_places s.outer

@@ -1,6 +1,9 @@
 pub mod Ends
 pub mod HeldScope
 pub mod Judged
+pub mod Lasting
+pub mod LastNumbers
 pub mod Reached
 pub mod ScopeLaws
 pub mod Scopes
+pub mod SearchedBodies

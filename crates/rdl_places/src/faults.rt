@@ -65,7 +65,7 @@ fn own_item_fault(
 fn fault_at(scope: &Scope, around: Option<Kind>, item: &Item) -> Option<FaultKind>
     ensures { result ≡ fault_at around (place_of scope.now) (outer_places scope.now.outer) item.now }
 {
-    let body = scope.body;
+    let body = scope.body();
     let n = scope.number;
     match item {
         Item::Define(name, component) => {

@@ -2,6 +2,8 @@
 #![tactic(auto)]
 
 pub mod faults;
+pub mod lasts;
 pub mod laws;
 pub mod leads;
+mod numbers;
 pub mod scope;

@@ -1,9 +1,10 @@
 //! What a body sees around it, told by bodies and slots alone, and looked up when it is asked.
-ghost use Rattle.std.specs.Prelude.{◌≡◌, ◌∷◌, [], IfOk, option_map, option_copied};
+ghost use Rattle.std.specs.Prelude.{◌≡◌, ◌∷◌, [], IfOk, option_map};
 ghost use Rattle.rdl_places.specs.HeldScope.{place_of, outer_places, places_of, holding_of, found_of};
 ghost use Rattle.rdl_nodes.specs.KeptNode.{kept_of};
-ghost use Rattle.rdl_places.specs.Reached.{instances_at, count_of, count_before, component_of, instance_named, find_before, place_inside, find_inside, found_at, IsFoundHeld};
-ghost use Rattle.rdl_places.specs.Scopes.{around_places, IsScope, IsHolding, AreHeld, known_at, definition, holding_at, last_type, find_type, IsAtPlace};
+ghost use Rattle.rdl_places.specs.Reached.{instances_at, component_of, find_before, place_inside, find_inside, found_at, IsFoundHeld};
+ghost use Rattle.rdl_places.specs.Scopes.{around_places, IsScope, IsHolding, AreHeld, known_at, holding_at, last_type, find_type, IsAtPlace};
+ghost use Rattle.rdl_places.specs.Lasting.{AreLasts};
 ghost use Rattle.rdl_nodes.specs.View.{slots_of};
 ghost use Rattle.rdl_scope.specs.Closed.{lookup};
 ghost use Rattle.rdl_seen.specs.Inside.{find};
@@ -11,11 +12,12 @@ ghost use Rattle.rdl_seen.specs.Layouts.{Laying};
 ghost use Rattle.rdl_seen.specs.Meaning.{kept_at};
 ghost use Rattle.rdl_seen.specs.Node.{Known};
 
+use crate::lasts::{Lasts, Searched};
+use crate::numbers::{Sought, definition, instance};
 use rdl_nodes::node::{Kept, Slot};
 use rdl_seen::seen::Seen;
-use rdl_text::is_same;
 use rdl_text::name::Name;
-use rdl_tree::description::{Body, Component, Item, Of};
+use rdl_tree::description::{Body, Component, Of};
 use std::alloc::{AllocError, Global};
 use std::rc::Rc;
 
@@ -24,7 +26,7 @@ use std::rc::Rc;
 #[cycle(scope)]
 #[derive(Clone, Copy)]
 pub struct Scope<'s> {
-    pub(crate) body: &'s Body,
+    body: Searched<'s>,
     pub(crate) number: usize,
     slots: &'s [Slot],
     outer: Outer<'s>,
@@ -55,22 +57,6 @@ pub struct FoundInstance<'s> {
     pub holder: Option<Holder<'s>>,
 }
 
-/// The component of an item that is a definition of this name.
-fn definition<'s>(item: Option<&'s Item>, name: &Name) -> Option<&'s Component>
-    ensures { option_copied result ≡ definition name.now (option_copied item.entry) }
-{
-    match item {
-        Some(Item::Define(defined, component)) => {
-            if is_same(defined.as_str(), name.as_str()) {
-                Some(component)
-            } else {
-                None
-            }
-        }
-        _ => None,
-    }
-}
-
 /// What is kept of the item of this number.
 fn kept_slot<'s>(slots: &'s [Slot], number: usize) -> Option<Kept<'s>>
     ensures { option_map kept_of result ≡ kept_at number (slots_of slots.now) }
@@ -81,54 +67,43 @@ fn kept_slot<'s>(slots: &'s [Slot], number: usize) -> Option<Kept<'s>>
     }
 }
 
-/// What an item is an instance of, if it is one of this name.
-fn instance<'s>(item: Option<&'s Item>, name: &Name) -> Option<&'s Of>
-    ensures { option_copied result ≡ instance_named name.now (option_copied item.entry) }
-{
-    match item {
-        Some(Item::Instance(shell, of)) => {
-            if is_same(shell.name().as_str(), name.as_str()) {
-                Some(of)
-            } else {
-                None
-            }
-        }
-        _ => None,
-    }
-}
-
-/// How many instances the item is.
-fn count_of(item: Option<&Item>) -> usize
-    ensures { result ≡ count_of (option_copied item.entry) }
-{
-    match item {
-        Some(Item::Instance(_, _)) => 1,
-        _ => 0,
-    }
-}
-
-/// How many instances are among the first items of a body.
-fn count_before(body: &Body, number: usize) -> usize
-    ensures { result ≡ count_before number body.now }
-{
-    let mut count = 0;
-    for i in 0..number {
-        count += count_of(body.item(i));
-    }
-    count
-}
-
 impl<'s> Scope<'s> {
     /// The place before the item of this number in a body that stands there, where these are the slots of the items before it.
     pub fn new(outer: Outer<'s>, body: &'s Body, number: usize, slots: &'s [Slot]) -> Scope<'s>
         ensures { places_of result ≡ record { body = body.now; number = number; slots = slots_of slots.now } ∷ outer_places outer.entry }
     {
         Scope {
-            body,
+            body: Searched::Plain(body),
             number,
             slots,
             outer,
         }
+    }
+
+    /// The same where these are the last items of each name of the body.
+    pub fn among(
+        outer: Outer<'s>,
+        body: &'s Body,
+        lasts: &'s Lasts,
+        number: usize,
+        slots: &'s [Slot],
+    ) -> Scope<'s>
+        requires { AreLasts body.now lasts.now }
+        ensures { places_of result ≡ record { body = body.now; number = number; slots = slots_of slots.now } ∷ outer_places outer.entry }
+    {
+        Scope {
+            body: Searched::indexed(body, lasts),
+            number,
+            slots,
+            outer,
+        }
+    }
+
+    /// The body in which it is.
+    pub(crate) fn body(&self) -> &'s Body
+        ensures { result.now ≡ (place_of self.now).body }
+    {
+        self.body.body()
     }
 
     /// The place of the item of this number in the same body.
@@ -161,12 +136,11 @@ impl<'s> Scope<'s> {
     fn last_type(&self, name: &Name) -> Option<Holder<'s>>
         ensures { option_map holding_of result ≡ last_type name.now self.now.number (place_of self.now) (outer_places self.now.outer) }
     {
-        for number in (0..self.number).rev() {
-            if let Some(component) = definition(self.body.item(number), name) {
-                return self.at(number).holder(component);
-            }
-        }
-        None
+        let number = self
+            .body
+            .last_sought(self.number, Sought::Definition, name)?;
+        let component = definition(self.body().item(number), name)?;
+        self.at(number).holder(component)
     }
 
     /// The nearest definition of this name: the last one before it in its body, or else in those around it.
@@ -218,15 +192,12 @@ impl<'s> Scope<'s> {
     fn last_instance(&self, name: &Name) -> Option<FoundInstance<'s>>
         ensures { option_map found_of result ≡ find_before name.now self.now.number (place_of self.now) (outer_places self.now.outer) }
     {
-        for number in (0..self.number).rev() {
-            if let Some(of) = instance(self.body.item(number), name) {
-                return Some(FoundInstance {
-                    number: count_before(self.body, number),
-                    holder: self.at(number).component(of),
-                });
-            }
-        }
-        None
+        let number = self.body.last_sought(self.number, Sought::Instance, name)?;
+        let of = instance(self.body().item(number), name)?;
+        Some(FoundInstance {
+            number: self.body.count_before(number),
+            holder: self.at(number).component(of),
+        })
     }
 
     /// The last instance of this name that stands before it in its body.

@@ -1,5 +1,5 @@
 -- What holds of the items of a body up to a number, one item after another, and which of them stand alone by that.
-use Rattle.std.proofs.Common.{◌≡◌, ℕ, zero, suc, ◌+◌, ◌-◌, ◌<◌, ◌≤◌, List, [], ◌∷◌, ◌++◌, length, drop, get_or, Option, Some, None, ◌⊎◌, inl, inr, refl, sym, ap, subst, ◌∙◌, arith, add-one}
+use Rattle.std.proofs.Common.{◌≡◌, ℕ, zero, suc, ◌+◌, ◌-◌, ◌<◌, ◌≤◌, List, [], ◌∷◌, ◌++◌, length, drop, Option, Some, None, ◌⊎◌, inl, inr, refl, sym, ap, subst, ◌∙◌, arith, add-one}
 use Rattle.std.specs.Prelude.{Bool, true, false, nat_lt, slice_get, if◌then◌else◌}
 use Rattle.std.proofs.lemmas.Bool.{cases_lt, ltb-true}
 use Rattle.rdl_tree.specs.Items.{Items}
@@ -213,24 +213,24 @@ pub none_done : (all : List Trace) (body : Items) → AreDoneApart all all body 
 none_done all body = record { done = []; parts = refl; count = refl; each = none_from (IsSameOrApart all body false) body 0 }
 
 -- one more piece
-left : (ps : List Piece) (k : ℕ) (p : Piece) → k < length ps → p ≡ get_or ps k p → pieces_traces (drop k ps) ≡ piece_traces p ++ pieces_traces (drop (k + 1) ps)
-left ps k p l e = ap pieces_traces (drop_here ps k p l e ∙ ap (λ n. p ∷ drop n ps) (sym (add-one k)))
+left : (ps : List Piece) (k : ℕ) (p : Piece) → slice_get ps k ≡ Some p → pieces_traces (drop k ps) ≡ piece_traces p ++ pieces_traces (drop (k + 1) ps)
+left ps k p e = ap pieces_traces (drop_here ps k p e ∙ ap (λ n. p ∷ drop n ps) (sym (add-one k)))
 
-pub kept_piece : (ps : List Piece) (k : ℕ) (p : Piece) (body : Items) (owns now : Bool) (from to : ℕ) → k < length ps → p ≡ get_or ps k p
+pub kept_piece : (ps : List Piece) (k : ℕ) (p : Piece) (body : Items) (owns now : Bool) (from to : ℕ) → slice_get ps k ≡ Some p
     → AreDoneApart (pieces_traces ps) (pieces_traces (drop k ps)) body owns from → to ≡ from + length (piece_traces p) → AreSame (piece_traces p) → now ≡ owns
     → AreDoneApart (pieces_traces ps) (pieces_traces (drop (k + 1) ps)) body now to
-kept_piece ps k p body owns now from to l e is at same o =
+kept_piece ps k p body owns now from to e is at same o =
     subst (λ n. AreDoneApart (pieces_traces ps) (pieces_traces (drop (k + 1) ps)) body now n) (sym at)
     (subst (λ b. AreDoneApart (pieces_traces ps) (pieces_traces (drop (k + 1) ps)) body b (from + length (piece_traces p))) (sym o)
-    (kept_done (pieces_traces ps) (piece_traces p) (pieces_traces (drop (k + 1) ps)) body owns from (subst (λ zs. AreDoneApart (pieces_traces ps) zs body owns from) (left ps k p l e) is) same))
+    (kept_done (pieces_traces ps) (piece_traces p) (pieces_traces (drop (k + 1) ps)) body owns from (subst (λ zs. AreDoneApart (pieces_traces ps) zs body owns from) (left ps k p e) is) same))
 
-pub changed_piece : (ps : List Piece) (k : ℕ) (p : Piece) (body : Items) (owns now : Bool) (from to : ℕ) → k < length ps → p ≡ get_or ps k p
+pub changed_piece : (ps : List Piece) (k : ℕ) (p : Piece) (body : Items) (owns now : Bool) (from to : ℕ) → slice_get ps k ≡ Some p
     → AreDoneApart (pieces_traces ps) (pieces_traces (drop k ps)) body owns from → to ≡ from + length (piece_traces p)
     → AllFrom (IsApart body) body from to → (now ≡ false → (owns ≡ false) × AllFrom (λ i y. is_own y ≡ false) body from to)
     → AreDoneApart (pieces_traces ps) (pieces_traces (drop (k + 1) ps)) body now to
-changed_piece ps k p body owns now from to l e is at apart none =
+changed_piece ps k p body owns now from to e is at apart none =
     subst (λ n. AreDoneApart (pieces_traces ps) (pieces_traces (drop (k + 1) ps)) body now n) (sym at)
-    (changed_done (pieces_traces ps) (piece_traces p) (pieces_traces (drop (k + 1) ps)) body owns now from (subst (λ zs. AreDoneApart (pieces_traces ps) zs body owns from) (left ps k p l e) is)
+    (changed_done (pieces_traces ps) (piece_traces p) (pieces_traces (drop (k + 1) ps)) body owns now from (subst (λ zs. AreDoneApart (pieces_traces ps) zs body owns from) (left ps k p e) is)
     (subst (λ n. AllFrom (IsApart body) body from n) at apart) (λ q. ((none q).0, subst (λ n. AllFrom (λ i y. is_own y ≡ false) body from n) at (none q).1)))
 
 pub all_done : (all : List Trace) (body : Items) (owns : Bool) (from : ℕ) → AreDoneApart all [] body owns from → AreSameOrApart all body owns

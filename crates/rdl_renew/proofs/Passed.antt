@@ -42,6 +42,11 @@ pub kept_none : (p : Piece) (from to n count : ℕ) → p ≡ Kept from to → c
 kept_none p from to n count e f l =
     ap (λ (q : Piece). slice_get (piece_traces q) n) e ∙ slice_get_past (run from (to - from)) n (let k = length-run from (to - from) in omega (arith, l, f, k))
 
+pub none_past : (ps : List Piece) (k : ℕ) → slice_get ps k ≡ None → length ps ≤ k
+none_past [] k e = omega arith
+none_past (p ∷ ps) zero e = absurd cc
+none_past (p ∷ ps) (suc k) e = omega (arith, none_past ps k e)
+
 -- ---- What is told of an item by pieces.
 
 abbrev trace_in : ℕ → ℕ → List Trace → Option Trace

@@ -1,5 +1,6 @@
 -- How alerts that are raised one after another add up.
-use Rattle.std.proofs.Common.{◌≡◌, ℕ, zero, suc, ◌+◌, ◌==◌, ◌<◌, ◌≤◌, false, get_or, map, add-one, List, [], ◌∷◌, ◌++◌, length, take, drop, replicate, refl, sym, ap, ◌∙◌, arith, bit_or}
+use Rattle.std.proofs.Common.{◌≡◌, ℕ, zero, suc, ◌+◌, ◌==◌, false, get_or, map, add-one, List, [], ◌∷◌, ◌++◌, length, take, drop, replicate, Some, None, refl, sym, ap, ◌∙◌, arith, bit_or}
+use Rattle.std.specs.Prelude.{slice_get}
 use Rattle.std.proofs.lemmas.Nat.Bits.{bit_at-zero, bit_at_or, same_from_bits}
 use Rattle.rdl_tree.specs.declared.description.Item.{Item}
 use Rattle.rdl_marks.specs.View.{Trace, new_item, run, marked, piece_traces, pieces_traces, gone_trace, gone_item, told, marks_of}
@@ -71,29 +72,29 @@ pub marked_one : (xs : List Item) (n : ℕ) (m : Mark) (y : Item) (a : Alert) �
 marked_one [] n m y a some e is = absurd cc
 marked_one (x ∷ xs) n m y a some e is = is ∙ (ap (item_raises (marked n m)) e ∙ sym (with_none (item_raises (marked n m) x)))
 
-pub drop_here : {X : Type 0} (xs : List X) (i : ℕ) (x : X) → i < length xs → x ≡ get_or xs i x → drop i xs ≡ x ∷ drop (suc i) xs
-drop_here [] i x l e = absurd (omega arith)
-drop_here (y ∷ ys) zero x l e = ap (λ z. z ∷ ys) (sym e)
-drop_here (y ∷ ys) (suc i) x l e = drop_here ys i x (omega arith) e
+pub drop_here : {X : Type 0} (xs : List X) (i : ℕ) (x : X) → slice_get xs i ≡ Some x → drop i xs ≡ x ∷ drop (suc i) xs
+drop_here [] i x e = absurd cc
+drop_here (y ∷ ys) zero x e = cc
+drop_here (y ∷ ys) (suc i) x e = drop_here ys i x e
 
-pub past_all : {X : Type 0} (xs : List X) (i : ℕ) → length xs ≤ i → drop i xs ≡ []
-past_all [] zero l = refl
-past_all [] (suc i) l = refl
-past_all (y ∷ ys) zero l = absurd (omega arith)
-past_all (y ∷ ys) (suc i) l = past_all ys i (omega arith)
+pub past_all : {X : Type 0} (xs : List X) (i : ℕ) → slice_get xs i ≡ None → drop i xs ≡ []
+past_all [] zero e = refl
+past_all [] (suc i) e = refl
+past_all (y ∷ ys) zero e = absurd cc
+past_all (y ∷ ys) (suc i) e = past_all ys i e
 
 -- one more piece
-pub one_piece : (ps : List Piece) (i : ℕ) (p : Piece) (rest : List Item) (a all : Alert) → i < length ps → p ≡ get_or ps i p
+pub one_piece : (ps : List Piece) (i : ℕ) (p : Piece) (rest : List Item) (a all : Alert) → slice_get ps i ≡ Some p
     → with_alert a (all_raise item_raises (pieces_traces (drop i ps)) rest) ≡ all
     → with_alert (with_alert a (all_raise item_raises (piece_traces p) rest)) (all_raise item_raises (pieces_traces (drop (i + 1) ps)) (drop (length (piece_traces p)) rest)) ≡ all
-one_piece ps i p rest a all l e h =
-    let here : drop i ps ≡ p ∷ drop (i + 1) ps = drop_here ps i p l e ∙ ap (λ k. p ∷ drop k ps) (sym (add-one i)) in
+one_piece ps i p rest a all e h =
+    let here : drop i ps ≡ p ∷ drop (i + 1) ps = drop_here ps i p e ∙ ap (λ k. p ∷ drop k ps) (sym (add-one i)) in
     sym (with_both a (all_raise item_raises (piece_traces p) rest) (all_raise item_raises (pieces_traces (drop (i + 1) ps)) (drop (length (piece_traces p)) rest)))
     ∙ (ap (with_alert a) (sym (raise_more item_raises (piece_traces p) (pieces_traces (drop (i + 1) ps)) rest))
     ∙ (ap (λ (q : List Piece). with_alert a (all_raise item_raises (pieces_traces q) rest)) (sym here) ∙ h))
 
-pub pieces_done : (ps : List Piece) (i : ℕ) (rest : List Item) (a all : Alert) → length ps ≤ i → with_alert a (all_raise item_raises (pieces_traces (drop i ps)) rest) ≡ all → a ≡ all
-pieces_done ps i rest a all l h = sym (with_none a) ∙ (ap (λ (q : List Piece). with_alert a (all_raise item_raises (pieces_traces q) rest)) (sym (past_all ps i l)) ∙ h)
+pub pieces_done : (ps : List Piece) (i : ℕ) (rest : List Item) (a all : Alert) → slice_get ps i ≡ None → with_alert a (all_raise item_raises (pieces_traces (drop i ps)) rest) ≡ all → a ≡ all
+pieces_done ps i rest a all e h = sym (with_none a) ∙ (ap (λ (q : List Piece). with_alert a (all_raise item_raises (pieces_traces q) rest)) (sym (past_all ps i e)) ∙ h)
 
 pub raised_of : (ps : List Piece) (behind : ℕ) (gone : List Gone) (now : Items) →
     raised (marks_of (told ps behind gone)) now ≡ with_alert (all_raise item_raises (pieces_traces ps) (tree.list_of now)) (all_raise gone_raises (map gone_trace gone) (map gone_item gone))

@@ -186,7 +186,7 @@ fn all_alike(
     let items = body.as_slice();
     let mut along = Along::new();
     for i in 0..items.len() {
-        let next = along.next(marks.pieces.as_slice(), marks.behind);
+        let next = along.next(&marks.pieces, marks.behind);
         if !is_alike(next, &items[i], before, now, i, is_width_same) {
             return false;
         }

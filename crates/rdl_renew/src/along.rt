@@ -1,12 +1,12 @@
 //! What became of the items of a body, told of one after another.
 ghost use Rattle.std.specs.Prelude.{◌≡◌, ℕ, ◌+◌, ◌<◌, ◌^◌, List, option_map, slice_get};
-ghost use Rattle.rdl_marks.specs.View.{piece_traces, told, marks_of};
+ghost use Rattle.rdl_marks.specs.View.{piece_traces, in_order, told, marks_of};
 ghost use Rattle.rdl_marks.specs.Was.{trace_of};
 ghost use Rattle.rdl_marks.specs.declared.marks.Gone.{Gone};
 ghost use Rattle.rdl_marks.specs.declared.marks.Piece.{Piece};
 ghost use Rattle.rdl_renew.specs.Along.{next_of, HasPassed, HasNumber};
 
-use rdl_marks::marks::{Mark, Piece};
+use rdl_marks::marks::{Mark, Piece, Pieces};
 
 /// What became of an item.
 #[derive(Clone, Copy)]
@@ -67,9 +67,9 @@ impl Along {
     }
 
     /// What became of the next item. Behind the pieces all items are as they were, from the number `behind` on.
-    pub(crate) fn next<'m, 'a>(&mut self, pieces: &'m [Piece<'a>], behind: usize) -> Next<'m, 'a>
-        ensures passed { (i : ℕ) → i + 1 < 2 ^ 64 → HasPassed pieces.now self.old i → HasPassed pieces.now self.new (i + 1) }
-        ensures next { (gone : List Gone) (i : ℕ) → HasPassed pieces.now self.old i → HasNumber (marks_of (told pieces.now behind gone)) i → trace_of (marks_of (told pieces.now behind gone)) i ≡ Some (next_of result) }
+    pub(crate) fn next<'m, 'a>(&mut self, pieces: &'m Pieces<'a>, behind: usize) -> Next<'m, 'a>
+        ensures passed { (i : ℕ) → i + 1 < 2 ^ 64 → HasPassed (in_order pieces.now) self.old i → HasPassed (in_order pieces.now) self.new (i + 1) }
+        ensures next { (gone : List Gone) (i : ℕ) → HasPassed (in_order pieces.now) self.old i → HasNumber (marks_of (told (in_order pieces.now) behind gone)) i → trace_of (marks_of (told (in_order pieces.now) behind gone)) i ≡ Some (next_of result) }
     {
         while let Some(piece) = pieces.get(self.pieces) {
             if let Some(next) = item_of(piece, self.items) {

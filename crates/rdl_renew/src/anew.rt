@@ -14,10 +14,12 @@ ghost use Rattle.rdl_seen.specs.Slots.{no_slots, written, type_slot, part_slot};
 ghost use Rattle.rdl_tree.specs.declared.shell.Shell.{Shell};
 
 use crate::judge::Judge;
+use crate::look_ups::names_of;
 use rdl_nodes::field::FieldBody;
 use rdl_nodes::finished::finished;
 use rdl_nodes::lays::Lays;
 use rdl_nodes::node::{Node, Slot};
+use rdl_places::lasts::Lasts;
 use rdl_places::leads::verdict_of;
 use rdl_places::scope::{Outer, Scope};
 use rdl_seen::names::class_of;
@@ -155,9 +157,11 @@ pub(crate) fn body_anew<L: Lays>(
     judge.look_at_body(body);
     let mut slots = Vec::new(alloc);
     let mut defaults = *defaults;
+    let mut lasts = Lasts::none(alloc);
     for (i, item) in body.as_slice().iter().enumerate() {
         let slot = {
-            let scope = Scope::new(outer, body, i, slots.as_slice());
+            lasts.look(alloc, body, i, names_of(item))?;
+            let scope = Scope::among(outer, body, &lasts, i, slots.as_slice());
             judge.look_at(&scope, around, item);
             item_anew(alloc, lay, &scope, &defaults, item, judge)?
         };

@@ -3,7 +3,7 @@ ghost use Rattle.std.specs.Prelude.{◌≡◌, ◌<◌, ◌≤◌, ◌∷◌, �
 ghost use Rattle.std.specs.Cmp.Lexicographic.{pointwise};
 ghost use Rattle.std.specs.Option.{is_some, option_copied};
 ghost use Rattle.rdl_marks.specs.Describes.{Describes, IsItem};
-ghost use Rattle.rdl_marks.specs.View.{piece_traces, pieces_traces};
+ghost use Rattle.rdl_marks.specs.View.{piece_traces, pieces_traces, in_order};
 ghost use Rattle.rdl_renew.specs.Alone.{stands_alone, AllStandAlone};
 ghost use Rattle.rdl_renew.specs.Apart.{is_own, has_same_key, IsApart, DoOwnsStandAlone, AreSame, AreSameOrApart};
 ghost use Rattle.rdl_scope.specs.Keys.{has_key};
@@ -12,7 +12,7 @@ ghost use Rattle.rdl_tree.specs.Items.{Items};
 ghost use Rattle.rdl_tree.specs.declared.description.Item.{Item};
 
 use crate::raise::len;
-use rdl_marks::marks::{BodyMarks, Piece};
+use rdl_marks::marks::{BodyMarks, Piece, Pieces};
 use rdl_scope::before::excluded_by;
 use rdl_scope::targets::is_instance;
 use rdl_scope::types::defines;
@@ -165,13 +165,14 @@ fn is_kept(piece: &Piece) -> bool
 
 /// Whether own assignments are among the items of these pieces that came or were changed, if it is seen that no other item of the body
 /// does the same as one of those.
-fn changes_owns(pieces: &[Piece], body: &Body) -> Option<bool>
-    ensures { IfSome result (λ owns. AreSameOrApart (pieces_traces pieces.now) body.now owns) }
+fn changes_owns(pieces: &Pieces, body: &Body) -> Option<bool>
+    ensures { IfSome result (λ owns. AreSameOrApart (pieces_traces (in_order pieces.now)) body.now owns) }
 {
     let mut from = 0usize;
     let mut pairs = 0usize;
     let mut owns = false;
-    for piece in pieces {
+    let mut place = 0usize;
+    while let Some(piece) = pieces.get(place) {
         let to = from.checked_add(len(piece))?;
         if !is_kept(piece) {
             pairs = pairs.saturating_add((to - from).saturating_mul(body.len()));
@@ -181,6 +182,7 @@ fn changes_owns(pieces: &[Piece], body: &Body) -> Option<bool>
             owns = owns || has_own(body, from, to);
         }
         from = to;
+        place += 1;
     }
     Some(owns)
 }
@@ -189,7 +191,7 @@ fn changes_owns(pieces: &[Piece], body: &Body) -> Option<bool>
 pub(crate) fn stand_alone(marks: &BodyMarks, body: &Body) -> bool
     ensures { result ≡ true → (old : Items) → Describes marks.now old body.now → AllStandAlone old → AllStandAlone body.now }
 {
-    match changes_owns(marks.pieces.as_slice(), body) {
+    match changes_owns(&marks.pieces, body) {
         Some(owns) => !owns || do_owns_stand_alone(body),
         None => false,
     }

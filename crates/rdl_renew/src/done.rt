@@ -2,6 +2,8 @@
 ghost use Rattle.std.specs.Prelude.{◌≡◌, ◌∷◌, ◌++◌, [], true, IfOk, OnOk, option_map};
 ghost use Rattle.rdl_nodes.specs.Bodies.{after_default_item};
 ghost use Rattle.rdl_nodes.specs.KeptNode.{kept_of, slot_node};
+ghost use Rattle.rdl_places.specs.Lasting.{AreLasts};
+ghost use Rattle.rdl_tree.specs.Items.{Items};
 ghost use Rattle.rdl_renew.specs.Fronts.{front_of, fronts};
 ghost use Rattle.rdl_renew.specs.Renewing.{SeesSame, RaisesBehind};
 ghost use Rattle.rdl_seen.specs.Alert.{with_alert};
@@ -11,6 +13,7 @@ use crate::anew::put_default;
 use crate::same::is_same;
 use crate::stayed::definition_raises;
 use rdl_nodes::node::{Kept, Slot};
+use rdl_places::lasts::Lasts;
 use rdl_seen::alert::Alert;
 use rdl_seen::names::class_of;
 use rdl_seen::values::Values;
@@ -24,11 +27,13 @@ pub(crate) struct Reach {
     pub alert: Alert,
 }
 
-/// The items that are done, from the first one on: their slots, and what reaches the next one.
+/// The items of a body that are done, from the first one on: their slots, what reaches the next one, and where names are looked up that are
+/// defined among them.
 #[derive(Drop)]
 pub(crate) struct Done {
     pub slots: Vec<Slot>,
     pub reach: Reach,
+    pub lasts: Lasts,
 }
 
 impl Done {
@@ -36,10 +41,12 @@ impl Done {
     pub(crate) fn none(alloc: Global, items: usize, reach: Reach) -> Result<Done, AllocError>
         ensures slots { IfOk result (λ done. done.slots.items ≡ []) }
         ensures reach { IfOk result (λ done. done.reach ≡ reach) }
+        ensures lasts { IfOk result (λ done. (t : Items) → AreLasts t done.lasts) }
     {
         Ok(Done {
             slots: Vec::with_capacity(alloc, items)?,
             reach,
+            lasts: Lasts::none(alloc),
         })
     }
 
@@ -47,6 +54,7 @@ impl Done {
     pub(crate) fn keep(&mut self, slot: &Slot) -> Result<(), AllocError>
         ensures slots { OnOk result (fronts self.new.slots.items ≡ fronts self.old.slots.items ++ front_of slot.now ∷ []) }
         ensures reach { self.new.reach ≡ self.old.reach }
+        ensures lasts { self.new.lasts ≡ self.old.lasts }
     {
         let slot = slot.try_copy()?;
         self.slots.push(slot)?;
@@ -58,6 +66,7 @@ impl Done {
         ensures slots { OnOk result (fronts self.new.slots.items ≡ fronts self.old.slots.items ++ front_of slot ∷ []) }
         ensures defaults { OnOk result (self.new.reach.defaults ≡ after_default_item item.now self.old.reach.defaults) }
         ensures alert { OnOk result (self.new.reach.alert ≡ with_alert self.old.reach.alert raises) }
+        ensures lasts { self.new.lasts ≡ self.old.lasts }
     {
         self.slots.push(slot)?;
         put_default(&mut self.reach.defaults, item);

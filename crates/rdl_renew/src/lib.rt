@@ -9,6 +9,7 @@ pub mod deaf;
 mod done;
 mod judge;
 pub mod laws;
+mod look_ups;
 pub mod raise;
 pub mod renew;
 mod same;

@@ -1,11 +1,11 @@
 //! What the changes of a body mean for its items: the alert that they raise before its first item.
 ghost use Rattle.std.specs.Prelude.{◌≡◌, ℕ, length, take, drop, map, unwrap_or, option_copied};
 ghost use Rattle.rdl_marks.specs.Describes.{restored};
-ghost use Rattle.rdl_marks.specs.View.{firsts_of, marked, piece_traces, pieces_traces, gone_trace, gone_item};
+ghost use Rattle.rdl_marks.specs.View.{firsts_of, marked, piece_traces, pieces_traces, in_order, gone_trace, gone_item};
 ghost use Rattle.rdl_renew.specs.Raised.{told_of, brings_the_same, item_raises, gone_raises, all_raise, new_raise, raised};
 ghost use Rattle.rdl_seen.specs.Names.{class_of};
 
-use rdl_marks::marks::{BodyMarks, Gone, Mark, Piece};
+use rdl_marks::marks::{BodyMarks, Gone, Mark, Piece, Pieces};
 use rdl_seen::alert::Alert;
 use rdl_seen::names::{Class, NameSet, class_of};
 use rdl_seen::property_set::PropertySet;
@@ -136,14 +136,16 @@ fn piece_raises(piece: &Piece, items: &[Item]) -> Alert
 }
 
 /// What the items of pieces raise, of which these are the first.
-fn pieces_raise(pieces: &[Piece], items: &[Item]) -> Alert
-    ensures { result ≡ all_raise item_raises (pieces_traces pieces.now) items.now }
+fn pieces_raise(pieces: &Pieces, items: &[Item]) -> Alert
+    ensures { result ≡ all_raise item_raises (pieces_traces (in_order pieces.now)) items.now }
 {
     let mut alert = Alert::none();
     let mut rest = items;
-    for piece in pieces {
+    let mut place = 0usize;
+    while let Some(piece) = pieces.get(place) {
         alert = alert.with(piece_raises(piece, rest));
         rest = behind(rest, len(piece));
+        place += 1;
     }
     alert
 }
@@ -152,6 +154,6 @@ fn pieces_raise(pieces: &[Piece], items: &[Item]) -> Alert
 pub fn raised(marks: &BodyMarks, body: &Body) -> Alert
     ensures { result ≡ raised marks.now body.now }
 {
-    let here = pieces_raise(marks.pieces.as_slice(), body.as_slice());
+    let here = pieces_raise(&marks.pieces, body.as_slice());
     here.with(gone_raise(marks.gone.as_slice()))
 }

@@ -10,6 +10,7 @@ ghost use Rattle.rdl_nodes.specs.Placed.{all_placed, placed_over, CountsOn};
 ghost use Rattle.rdl_nodes.specs.View.{slots_of};
 ghost use Rattle.rdl_places.specs.HeldScope.{places_of, outer_places};
 ghost use Rattle.rdl_places.specs.Scopes.{around_places, IsScope};
+ghost use Rattle.rdl_places.specs.Lasting.{AreLasts};
 ghost use Rattle.rdl_renew.specs.AlikeSlots.{tells_of_width, are_alike};
 ghost use Rattle.rdl_renew.specs.Along.{next_of};
 ghost use Rattle.rdl_renew.specs.Anew.{slot_there, slots_there};
@@ -33,6 +34,7 @@ use crate::anew::{define, item_anew, part};
 use crate::deaf::is_settled;
 use crate::done::{Done, Reach, raises_behind};
 use crate::judge::Judge;
+use crate::look_ups::{names_again, names_of};
 use crate::raise::raised;
 use rdl_marks::marks::BodyMarks;
 use rdl_nodes::finished::finished_over;
@@ -151,14 +153,24 @@ fn renew_new<L: Lays>(
     item: &Item,
     account: &mut Account,
 ) -> Result<(), AllocError>
+    requires { AreLasts renewal.now.body.now done.old.lasts }
     ensures done { (m : Marks) (old : Items) (saw : Around) (n : ℕ) (e : Trace) → IsNext L.laying (renewing renewal.now m old saw) n done.old item.now e → IsMadeAnew e → OnOk result (AreDone L.laying (renewing renewal.now m old saw) (suc n) done.new) }
     ensures clean { (m : Marks) (old : Items) (saw : Around) (n : ℕ) (e : Trace) → IsNext L.laying (renewing renewal.now m old saw) n done.old item.now e → OnOk result (IfStillClean account.old.judge.is_clean account.new.judge.is_clean (IsCleanStill L.laying (renewing renewal.now m old saw) n item.now)) }
     ensures placed { (m : Marks) (old : Items) (saw : Around) (n : ℕ) (e : Trace) → IsNext L.laying (renewing renewal.now m old saw) n done.old item.now e → IsMadeAnew e → OnOk result (CountsItem L.laying (renewing renewal.now m old saw) (tells_of_width done.old.reach.alert) n e item.now account.old.placed account.new.placed) }
     ensures properties { OnOk result (done.new.reach.alert.properties ≡ done.old.reach.alert.properties) }
+    ensures lasts { AreLasts renewal.now.body.now done.new.lasts }
 {
     let slot = {
         let number = done.slots.len();
-        let scope = Scope::new(renewal.outer, renewal.body, number, done.slots.as_slice());
+        let names = names_of(item);
+        done.lasts.look(alloc, renewal.body, number, names)?;
+        let scope = Scope::among(
+            renewal.outer,
+            renewal.body,
+            &done.lasts,
+            number,
+            done.slots.as_slice(),
+        );
         account.judge.look_at(&scope, renewal.around, item);
         slot_anew(alloc, lay, &scope, &done.reach.defaults, item, account)?
     };
@@ -181,7 +193,11 @@ fn finished_again<L: Lays>(
     ensures slots { IfOk result (λ n. n.slots ≡ slots_of done.slots.items) }
     ensures placed { (old : Items) (saw : Around) → Became L.laying saw before.now.slots inside.now old component.now.body → IfOk result (λ n. CountsOn placed.old placed.new (placed_over (are_alike (not (tells_of_width done.reach.alert)) inside.now before.now.slots (slots_of done.slots.items) component.now.body) before.now.core n.core)) }
 {
-    let Done { slots, reach } = done;
+    let Done {
+        slots,
+        reach,
+        lasts: _,
+    } = done;
     let alike = are_alike(
         inside,
         &component.body,
@@ -267,15 +283,25 @@ fn renew_stayed<L: Lays>(
     item: &Item,
     account: &mut Account,
 ) -> Result<(), AllocError>
+    requires { AreLasts renewal.now.body.now done.old.lasts }
     ensures done { (m : Marks) (old : Items) (saw : Around) (n : ℕ) (firsts : Firsts) → IsNext L.laying (renewing renewal.now m old saw) n done.old item.now (old_item number firsts inside.now) → firsts.is_moved ≡ false → OnOk result (AreDone L.laying (renewing renewal.now m old saw) (suc n) done.new) }
     ensures clean { (m : Marks) (old : Items) (saw : Around) (n : ℕ) (firsts : Firsts) → IsNext L.laying (renewing renewal.now m old saw) n done.old item.now (old_item number firsts inside.now) → firsts.is_moved ≡ false → OnOk result (IfStillClean account.old.judge.is_clean account.new.judge.is_clean (IsCleanStill L.laying (renewing renewal.now m old saw) n item.now)) }
     ensures placed { (m : Marks) (old : Items) (saw : Around) (n : ℕ) (firsts : Firsts) → IsNext L.laying (renewing renewal.now m old saw) n done.old item.now (old_item number firsts inside.now) → firsts.is_moved ≡ false → OnOk result (CountsItem L.laying (renewing renewal.now m old saw) (tells_of_width done.old.reach.alert) n (old_item number firsts inside.now) item.now account.old.placed account.new.placed) }
     ensures properties { OnOk result (done.new.reach.alert.properties ≡ done.old.reach.alert.properties) }
+    ensures lasts { AreLasts renewal.now.body.now done.new.lasts }
 {
     let kept = kept_slot(renewal.slots, number);
     let slot = {
         let count = done.slots.len();
-        let scope = Scope::new(renewal.outer, renewal.body, count, done.slots.as_slice());
+        let names = names_again(item, kept, &done.reach.alert);
+        done.lasts.look(alloc, renewal.body, count, names)?;
+        let scope = Scope::among(
+            renewal.outer,
+            renewal.body,
+            &done.lasts,
+            count,
+            done.slots.as_slice(),
+        );
         account.judge.look_at(&scope, renewal.around, item);
         renewed_slot(alloc, lay, &scope, &done.reach, kept, inside, item, account)?
     };
@@ -294,10 +320,12 @@ fn renew_item<L: Lays>(
     item: &Item,
     account: &mut Account,
 ) -> Result<(), AllocError>
+    requires { AreLasts renewal.now.body.now done.old.lasts }
     ensures done { (m : Marks) (old : Items) (saw : Around) (n : ℕ) → IsNext L.laying (renewing renewal.now m old saw) n done.old item.now (next_of next.entry) → OnOk result (AreDone L.laying (renewing renewal.now m old saw) (suc n) done.new) }
     ensures clean { (m : Marks) (old : Items) (saw : Around) (n : ℕ) → IsNext L.laying (renewing renewal.now m old saw) n done.old item.now (next_of next.entry) → OnOk result (IfStillClean account.old.judge.is_clean account.new.judge.is_clean (IsCleanStill L.laying (renewing renewal.now m old saw) n item.now)) }
     ensures placed { (m : Marks) (old : Items) (saw : Around) (n : ℕ) → IsNext L.laying (renewing renewal.now m old saw) n done.old item.now (next_of next.entry) → OnOk result (CountsItem L.laying (renewing renewal.now m old saw) (tells_of_width done.old.reach.alert) n (next_of next.entry) item.now account.old.placed account.new.placed) }
     ensures properties { OnOk result (done.new.reach.alert.properties ≡ done.old.reach.alert.properties) }
+    ensures lasts { AreLasts renewal.now.body.now done.new.lasts }
 {
     match next {
         Next::New => renew_new(alloc, lay, renewal, done, item, account),
@@ -343,7 +371,7 @@ fn renew_body<L: Lays>(
     let mut done = Done::none(alloc, renewal.body.len(), first)?;
     let mut along = Along::new();
     for item in renewal.body.as_slice() {
-        let next = along.next(marks.pieces.as_slice(), marks.behind);
+        let next = along.next(&marks.pieces, marks.behind);
         renew_item(alloc, lay, renewal, &mut done, next, item, account)?;
     }
     Ok(done)
@@ -388,7 +416,11 @@ pub fn renewed<L: Lays>(
         placed: 0,
     };
     let done = renew_body(alloc, lay, &renewal, marks, &reach, &mut account)?;
-    let Done { slots, reach: _ } = done;
+    let Done {
+        slots,
+        reach: _,
+        lasts: _,
+    } = done;
     Ok(RenewedMap {
         tree: Tree::of_slots(slots),
         is_clean: account.judge.is_clean,

@@ -1,12 +1,10 @@
-use Rattle.std.proofs.Common.{◌≡◌, ◌+◌, ◌<◌, ◌^◌, ◌&&◌, List, length, Some, refl, sym, ap, subst, ◌∙◌, rules}
+use Rattle.std.proofs.Common.{◌≡◌, ◌+◌, ◌<◌, ◌^◌, ◌&&◌, length, refl, sym, ap, ◌∙◌, rules}
 use Rattle.rdl_tree.specs.Items.{Items}
-use Rattle.rdl_marks.specs.View.{told, marks_of}
-use Rattle.rdl_marks.specs.Was.{trace_of}
-use Rattle.rdl_marks.specs.declared.marks.Piece.{Piece}
+use Rattle.rdl_marks.specs.View.{in_order}
 use Rattle.rdl_nodes.specs.View.{slots_of}
 use Rattle.rdl_seen.specs.Layouts.{Laying}
 use Rattle.rdl_seen.specs.Node.{Around}
-use Rattle.rdl_renew.specs.Along.{next_of, HasPassed, HasNumber}
+use Rattle.rdl_renew.specs.Along.{next_of}
 use Rattle.rdl_renew.specs.Renewing.{Became}
 use Rattle.rdl_renew.proofs.AlikeSteps.{alike_from, alike_next, alike_past}
 use Rattle.rdl_renew.proofs.alike.all_alike.Goals as goal
@@ -19,18 +17,15 @@ next : (c : After-is_alike) (lay : Laying) (saw : Around) (old : Items) → Beca
 next c lay saw old became =
     let i = c.loop-i.i in
     let marks = c.marks.inside in
-    let same : c.as_slice.result.now ≡ marks.pieces.items = c.as_slice.ensures.value in
     let fit : length c.args.before.now < 2 ^ 64 = search rules in
-    let passed = subst (λ (ps : List Piece). HasPassed ps c.loop-i.along i) (sym same) c.loop-i.invariant.passed in
-    alike_next lay saw old c.args.is_width_same c.args.marks.now c.args.before.now c.args.now.now c.args.body.now i c.index-items-i.result (next_of c.next-next.result) c.as_slice-items.result.now marks.pieces.items
+    alike_next lay saw old c.args.is_width_same c.args.marks.now c.args.before.now c.args.now.now c.args.body.now i c.index-items-i.result (next_of c.next-next.result) c.as_slice-items.result.now (in_order marks.pieces)
     marks.behind marks.gone.items became fit c.as_slice-items.ensures c.loop-i-test.true c.index-items-i.is c.marks.view_is
-    (subst (λ (ps : List Piece). HasNumber (marks_of (told ps marks.behind marks.gone.items)) i → trace_of (marks_of (told ps marks.behind marks.gone.items)) i ≡ Some (next_of c.next-next.result)) same
-    (c.next-next.ensures.next marks.gone.items i passed))
+    (c.next-next.ensures.next marks.gone.items i c.loop-i.invariant.passed)
     ∙ ap (λ b. b && alike_from c.args.is_width_same c.args.marks.now c.args.before.now c.args.now.now c.args.body.now (i + 1)) (sym c.is_alike.ensures)
 
 pub loop-i-init : goal.loop-i-init
 loop-i-init c = record {
-  passed = c.new-along.ensures c.marks.inside.pieces.items;
+  passed = c.new-along.ensures (in_order c.marks.inside.pieces);
   alike = λ lay saw old became. refl;
 }
 
@@ -38,11 +33,9 @@ pub loop-i-preserved : goal.loop-i-preserved
 loop-i-preserved c =
     let i = c.loop-i.i in
     let marks = c.marks.inside in
-    let same : c.as_slice.result.now ≡ marks.pieces.items = c.as_slice.ensures.value in
     let few : i + 1 < 2 ^ 64 = search rules in
-    let passed = subst (λ (ps : List Piece). HasPassed ps c.loop-i.along i) (sym same) c.loop-i.invariant.passed in
     record {
-      passed = subst (λ (ps : List Piece). HasPassed ps c.next-next.new.self (i + 1)) same (c.next-next.ensures.passed i few passed);
+      passed = c.next-next.ensures.passed i few c.loop-i.invariant.passed;
       alike = λ lay saw old became.
           c.loop-i.invariant.alike lay saw old became
           ∙ (next c.before lay saw old became

@@ -1,5 +1,6 @@
 use Rattle.std.proofs.Common.{◌≡◌, ◌&&◌, not, Bool, sym, ap, ◌∙◌}
 use Rattle.rdl_tree.specs.View as tree
+use Rattle.rdl_marks.specs.View.{in_order}
 use Rattle.rdl_nodes.specs.View.{slots_of}
 use Rattle.rdl_renew.specs.AlikeSlots.{has_instance, all_alike}
 use Rattle.rdl_renew.proofs.AlikeSteps.{none_gone}
@@ -10,7 +11,7 @@ use Rattle.rdl_renew.proofs.alike.are_alike.Goals.{After-has_instance}
 gone : (c : After-has_instance) → c.has_instance.result ≡ has_instance (tree.list_of c.args.marks.now.items)
 gone c =
     let marks = c.marks.inside in
-    none_gone c.args.marks.now marks.pieces.items marks.behind marks.gone.items c.as_slice.result.now c.has_instance.result c.marks.view_is c.as_slice.ensures.value c.has_instance.ensures
+    none_gone c.args.marks.now (in_order marks.pieces) marks.behind marks.gone.items c.as_slice.result.now c.has_instance.result c.marks.view_is c.as_slice.ensures.value c.has_instance.ensures
 
 pub returns-then-not-has_instance : goal.returns-then-not-has_instance
 returns-then-not-has_instance c = λ lay saw old became.

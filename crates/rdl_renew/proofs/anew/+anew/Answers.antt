@@ -12,7 +12,7 @@ use Rattle.rdl_renew.specs.Anew.{slot_there}
 use Rattle.rdl_renew.specs.Fronts.{front_of}
 use Rattle.rdl_marks.specs.Describes.{IsItem}
 use Rattle.rdl_renew.proofs.CleanBelow.{one_looked_at, all_below}
-use Rattle.rdl_renew.proofs.NewItems.{place_made, reached_behind, item_there, one_longer, done_there, all_done}
+use Rattle.rdl_renew.proofs.NewItems.{AreFirst, none_done, place_made, reached_behind, item_there, one_longer, done_there, all_done}
 use Rattle.rdl_renew.proofs.anew.+anew.Goals as goal
 
 pub body_anew-item_anew-requires : goal.body_anew-item_anew-requires
@@ -20,6 +20,17 @@ body_anew-item_anew-requires g t c κs within =
     let few = count-item c.loop-i.i c.args.body.now c.as_slice-item-items.result.now c.item-item.result c.item-item.result c.as_slice-item-items.ensures c.loop-i-test.true c.item-item.is in
     let less : 4 * item_count c.item-item.result < t = omega (arith, c.decreases, few) in
     search (rules, less)
+
+pub body_anew-loop-i-init : goal.body_anew-loop-i-init
+body_anew-loop-i-init g t c =
+    let lay = g.L.Lays.laying in
+    let ps = outer_places c.args.outer in
+    record {
+      number = ap length c.new-slots.ensures.items;
+      lasts = c.none-lasts.ensures c.args.body.now;
+      done = λ is reached. subst (λ xs. AreFirst lay ps c.args.body.now xs c.args.defaults.now) (sym c.new-slots.ensures.items) (none_done lay ps c.args.body.now c.args.defaults.now reached);
+      clean = search rules;
+    }
 
 pub body_anew-loop-i-preserved : goal.body_anew-loop-i-preserved
 body_anew-loop-i-preserved g t c =
@@ -30,17 +41,18 @@ body_anew-loop-i-preserved g t c =
     let x = c.item-item.result in
     let s = c.in_ok-slot.slot in
     let count = c.loop-i.invariant.number in
-    let here = place_made ps (places_of c.new-scope.result) body done c.as_slice.result.now c.loop-i.i c.new-scope.ensures count c.as_slice.ensures.value in
+    let here = place_made ps (places_of c.among-scope.result) body done c.as_slice.result.now c.loop-i.i c.among-scope.ensures count c.as_slice.ensures.value in
     let got = item_there c.as_slice-item-items.result.now body c.loop-i.i (length done) x c.as_slice-item-items.ensures count c.loop-i-test.true c.item-item.is in
     record {
+      lasts = c.look.ensures;
       number = one_longer c.push.new.self.items done s c.loop-i.i c.in_ok-push.ensures.items count;
       done = λ is reached.
-          done_there lay ps (places_of c.new-scope.result) body done c.push.new.self.items c.loop-i.defaults c.put_default.new.defaults x s here got c.in_ok-slot.ensures.slot c.in_ok-push.ensures.items
+          done_there lay ps (places_of c.among-scope.result) body done c.push.new.self.items c.loop-i.defaults c.put_default.new.defaults x s here got c.in_ok-slot.ensures.slot c.in_ok-push.ensures.items
           c.put_default.ensures is (c.loop-i.invariant.done is reached);
       clean = λ is reached.
-          let there = reached_behind lay ps (places_of c.new-scope.result) body done c.loop-i.defaults here is (c.loop-i.invariant.done is reached) in
-          one_looked_at lay ps (places_of c.new-scope.result) c.args.around body (slots_of c.as_slice.result.now) c.loop-i.i x c.args.judge.now.is_clean c.loop-i.judge.is_clean c.look_at.new.self.is_clean
-          c.item_anew.new.judge.is_clean c.new-scope.ensures (subst (λ k. IsItem k body x) count got) (c.loop-i.invariant.clean is reached) (c.look_at.ensures lay there.0)
+          let there = reached_behind lay ps (places_of c.among-scope.result) body done c.loop-i.defaults here is (c.loop-i.invariant.done is reached) in
+          one_looked_at lay ps (places_of c.among-scope.result) c.args.around body (slots_of c.as_slice.result.now) c.loop-i.i x c.args.judge.now.is_clean c.loop-i.judge.is_clean c.look_at.new.self.is_clean
+          c.item_anew.new.judge.is_clean c.among-scope.ensures (subst (λ k. IsItem k body x) count got) (c.loop-i.invariant.clean is reached) (c.look_at.ensures lay there.0)
           (c.in_ok-slot.ensures.clean there.0 there.1);
     }
 

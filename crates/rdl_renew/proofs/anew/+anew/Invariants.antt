@@ -3,6 +3,7 @@ use Rattle.std.proofs.Common.{◌≡◌, ◌+◌, ◌*◌, length}
 use Rattle.rdl_tree.proofs.Sizes.{item_count}
 use Rattle.rdl_tree.specs.Items.{count}
 use Rattle.rdl_places.specs.HeldScope.{outer_places}
+use Rattle.rdl_places.specs.Lasting.{AreLasts}
 use Rattle.rdl_places.specs.Scopes.{around_places, IsScope}
 use Rattle.rdl_renew.specs.Judged.{IfStillClean}
 use Rattle.rdl_renew.proofs.CleanBelow.{HasCleanBelow}
@@ -24,6 +25,7 @@ decreases-item_anew g l = 4 * item_count l.item.now
 abbrev pub invariant-body_anew-loop-i : goal.invariant-body_anew-loop-i
 invariant-body_anew-loop-i g l = record {
   number : length l.slots.items ≡ l.i;
+  lasts : AreLasts l.body l.lasts;
   done : IsScope g.L.Lays.laying (outer_places l.outer) → l.fn.defaults ≡ (around_places g.L.Lays.laying (outer_places l.outer)).defaults
       → AreFirst g.L.Lays.laying (outer_places l.outer) l.body l.slots.items l.defaults;
   clean : IsScope g.L.Lays.laying (outer_places l.outer) → l.fn.defaults ≡ (around_places g.L.Lays.laying (outer_places l.outer)).defaults

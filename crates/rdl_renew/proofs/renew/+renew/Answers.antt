@@ -1,14 +1,12 @@
 -- The items of a body that are renewed, one by one.
-use Rattle.std.proofs.Common.{◌≡◌, ◌+◌, ◌*◌, ◌<◌, ◌^◌, ◌||◌, List, length, Some, None, refl, ap, subst, sym, ◌∙◌, arith, rules}
+use Rattle.std.proofs.Common.{◌≡◌, ◌+◌, ◌*◌, ◌<◌, ◌^◌, ◌||◌, length, Some, None, refl, ap, subst, sym, ◌∙◌, arith, rules}
 use Rattle.std.specs.Prelude.{option_map}
 use Rattle.std.specs.Option.{option_copied}
 use Rattle.rdl_tree.specs.Items.{Items}
 use Rattle.rdl_scope.proofs.Sizes.{count-item}
 use Rattle.rdl_tree.proofs.Sizes.{item_count}
 use Rattle.rdl_marks.specs.Marks.{no_firsts}
-use Rattle.rdl_marks.specs.View.{new_item, same_item, old_item, firsts_of, told, marks_of}
-use Rattle.rdl_marks.specs.Was.{trace_of}
-use Rattle.rdl_marks.specs.declared.marks.Piece.{Piece}
+use Rattle.rdl_marks.specs.View.{new_item, same_item, old_item, firsts_of, in_order}
 use Rattle.rdl_nodes.specs.KeptNode.{kept_of}
 use Rattle.rdl_nodes.specs.View.{slots_of}
 use Rattle.rdl_nodes.proofs.Counts.{counts_so}
@@ -20,7 +18,7 @@ use Rattle.rdl_seen.specs.Node.{Around}
 use Rattle.rdl_seen.specs.PropertySet.{with_properties}
 use Rattle.rdl_renew.specs.declared.done.Reach.{Reach}
 use Rattle.rdl_renew.specs.AlikeSlots.{tells_of_width}
-use Rattle.rdl_renew.specs.Along.{next_of, HasPassed, HasNumber}
+use Rattle.rdl_renew.specs.Along.{next_of}
 use Rattle.rdl_renew.specs.Anew.{slots_there}
 use Rattle.rdl_renew.specs.Fronts.{front_of}
 use Rattle.rdl_renew.specs.HeldRenewal.{renewing}
@@ -73,9 +71,9 @@ pub renew_stayed-returns-clause-done : goal.renew_stayed-returns-clause-done
 renew_stayed-returns-clause-done g t c = λ m old saw n firsts next unmoved.
     let r = renewing c.args.renewal.now m old saw in
     let d = c.args.done.now in
-    let there = place_made r d (places_of c.new-scope.result) c.len-count.result c.as_slice.result.now c.new-scope.ensures c.len-count.ensures c.as_slice.ensures.value in
+    let there = place_made r d (places_of c.among-scope.result) c.len-count.result c.as_slice.result.now c.among-scope.ensures c.len-count.ensures c.as_slice.ensures.value in
     on_all c.put.result c.put.ensures.slots c.put.ensures.defaults c.put.ensures.alert
-    (stayed_done g.L.Lays.laying r n d c.put.new.self c.args.item.now c.args.number firsts c.args.inside.now c.in_ok-slot.slot c.raises_behind-raises.result (option_map kept_of c.kept_slot-kept.result) (places_of c.new-scope.result)
+    (stayed_done g.L.Lays.laying r n d c.put.new.self c.args.item.now c.args.number firsts c.args.inside.now c.in_ok-slot.slot c.raises_behind-raises.result (option_map kept_of c.kept_slot-kept.result) (places_of c.among-scope.result)
     there next unmoved c.kept_slot-kept.ensures (c.in_ok-slot.ensures.slot (around_before g.L.Lays.laying c.args.number saw old)) c.raises_behind-raises.ensures.raises)
 
 pub renewed_slot-returns-in_ok-node-in-Some-kept_component-clause-slot : goal.renewed_slot-returns-in_ok-node-in-Some-kept_component-clause-slot
@@ -97,7 +95,8 @@ renewed_component-returns-clause-node g t c = λ old saw became laid reached.
 
 pub renew_body-loop-item-init : goal.renew_body-loop-item-init
 renew_body-loop-item-init g t c = record {
-  passed = c.new-along.ensures c.marks.inside.pieces.items;
+  passed = c.new-along.ensures (in_order c.marks.inside.pieces);
+  lasts = c.in_ok-done.ensures.lasts c.args.renewal.now.body.now;
   done = λ old saw became reached.
       first_done g.L.Lays.laying (renewing c.args.renewal.now c.args.marks.now old saw) c.in_ok-done.done c.args.reach.now c.raised.result became reached c.in_ok-done.ensures.slots (ap (λ (x : Reach). x.defaults) c.in_ok-done.ensures.reach)
       (ap (λ (x : Reach). x.alert) c.in_ok-done.ensures.reach ∙ c.with.ensures) c.raised.ensures;
@@ -122,20 +121,18 @@ renew_body-loop-item-preserved g t c =
     let lay = g.L.Lays.laying in
     let i = c.loop-item.item-index in
     let marks = c.marks.inside in
-    let same : c.as_slice.result.now ≡ marks.pieces.items = c.as_slice.ensures.value in
     let few : i + 1 < 2 ^ 64 = search rules in
-    let passed = subst (λ (ps : List Piece). HasPassed ps c.loop-item.along i) (sym same) c.loop-item.invariant.passed in
     let next : (old : Items) (saw : Around) → Became lay saw (slots_of c.args.renewal.now.slots.now) c.args.marks.now old c.args.renewal.now.body.now → IsReached lay (outer_places c.args.renewal.now.outer) saw c.args.reach.now
     → IsNext lay (renewing c.args.renewal.now c.args.marks.now old saw) i c.loop-item.done c.item-item.result (next_of c.next-next.result) =
     λ old saw became reached.
     let slots_fit : length c.args.renewal.now.slots.now < 2 ^ 64 = search rules in
-    next_is lay (renewing c.args.renewal.now c.args.marks.now old saw) i c.loop-item.done c.item-item.result (next_of c.next-next.result) c.as_slice-item-items.result.now c.args.reach.now marks.pieces.items marks.behind
+    next_is lay (renewing c.args.renewal.now c.args.marks.now old saw) i c.loop-item.done c.item-item.result (next_of c.next-next.result) c.as_slice-item-items.result.now c.args.reach.now (in_order marks.pieces) marks.behind
     marks.gone.items became reached (c.loop-item.invariant.done old saw became reached) c.as_slice-item-items.ensures c.loop-item-test.true c.item-item.is c.marks.view_is
-    (subst (λ (ps : List Piece). HasNumber (marks_of (told ps marks.behind marks.gone.items)) i → trace_of (marks_of (told ps marks.behind marks.gone.items)) i ≡ Some (next_of c.next-next.result)) same
-    (c.next-next.ensures.next marks.gone.items i passed))
+    (c.next-next.ensures.next marks.gone.items i c.loop-item.invariant.passed)
     c.args.renewal.now.slots.now refl slots_fit in
     record {
-      passed = subst (λ (ps : List Piece). HasPassed ps c.next-next.new.self (i + 1)) same (c.next-next.ensures.passed i few passed);
+      passed = c.next-next.ensures.passed i few c.loop-item.invariant.passed;
+      lasts = c.renew_item.ensures.lasts;
       done = λ old saw became reached.
           one_renewed lay (renewing c.args.renewal.now c.args.marks.now old saw) i c.renew_item.new.done (c.in_ok-renew_item.ensures.done c.args.marks.now old saw i (next old saw became reached));
       clean = λ old saw became reached.
@@ -177,8 +174,8 @@ renew_stayed-returns-clause-clean g t c = λ m old saw n firsts next unmoved.
     let lay = g.L.Lays.laying in
     let r = renewing c.args.renewal.now m old saw in
     let d = c.args.done.now in
-    let ps = places_of c.new-scope.result in
-    let there = place_made r d (places_of c.new-scope.result) c.len-count.result c.as_slice.result.now c.new-scope.ensures c.len-count.ensures c.as_slice.ensures.value in
+    let ps = places_of c.among-scope.result in
+    let there = place_made r d (places_of c.among-scope.result) c.len-count.result c.as_slice.result.now c.among-scope.ensures c.len-count.ensures c.as_slice.ensures.value in
     on_any c.put.result
     (stayed_clean lay r n d c.args.item.now c.args.number firsts c.args.inside.now (option_map kept_of c.kept_slot-kept.result) ps c.args.account.now.judge.is_clean c.look_at.new.self.is_clean c.renewed_slot.new.account.judge.is_clean
     there next unmoved c.kept_slot-kept.ensures (c.look_at.ensures lay) (c.in_ok-slot.ensures.clean (around_before lay c.args.number saw old) (was_clean lay r)))
@@ -265,8 +262,8 @@ renew_stayed-returns-clause-placed g t c = λ m old saw n firsts next unmoved.
     let lay = g.L.Lays.laying in
     let r = renewing c.args.renewal.now m old saw in
     let d = c.args.done.now in
-    let ps = places_of c.new-scope.result in
-    let there = place_made r d ps c.len-count.result c.as_slice.result.now c.new-scope.ensures c.len-count.ensures c.as_slice.ensures.value in
+    let ps = places_of c.among-scope.result in
+    let there = place_made r d ps c.len-count.result c.as_slice.result.now c.among-scope.ensures c.len-count.ensures c.as_slice.ensures.value in
     let kept = option_map kept_of c.kept_slot-kept.result in
     let became = stayed_became lay r n d c.args.item.now c.args.number firsts c.args.inside.now kept next c.kept_slot-kept.ensures in
     let reached = reached_stayed lay r n d c.args.item.now c.args.number firsts c.args.inside.now ps there next unmoved in

@@ -2,8 +2,10 @@
 use Rattle.std.proofs.Common.{◌≡◌, ◌+◌, ◌*◌, ◌||◌}
 use Rattle.rdl_tree.proofs.Sizes.{item_count}
 use Rattle.rdl_tree.specs.Items.{Items, count}
+use Rattle.rdl_marks.specs.View.{in_order}
 use Rattle.rdl_nodes.specs.View.{slots_of}
 use Rattle.rdl_places.specs.HeldScope.{outer_places}
+use Rattle.rdl_places.specs.Lasting.{AreLasts}
 use Rattle.rdl_seen.specs.Node.{Around}
 use Rattle.rdl_seen.specs.PropertySet.{with_properties}
 use Rattle.rdl_renew.specs.AlikeSlots.{tells_of_width}
@@ -34,7 +36,8 @@ decreases-renew_item g l = 8 * item_count l.item.now + 3
 
 abbrev pub invariant-renew_body-loop-item : goal.invariant-renew_body-loop-item
 invariant-renew_body-loop-item g l = record {
-  passed : HasPassed l.marks-inside.pieces.items l.along l.item-index;
+  passed : HasPassed (in_order l.marks-inside.pieces) l.along l.item-index;
+  lasts : AreLasts l.renewal.body.now l.done.lasts;
   done : (old : Items) (saw : Around) → Became g.L.Lays.laying saw (slots_of l.renewal.slots.now) l.marks old l.renewal.body.now → IsReached g.L.Lays.laying (outer_places l.renewal.outer) saw l.fn.reach
       → AreDone g.L.Lays.laying (renewing l.renewal l.marks old saw) l.item-index l.done;
   clean : (old : Items) (saw : Around) → Became g.L.Lays.laying saw (slots_of l.renewal.slots.now) l.marks old l.renewal.body.now → IsReached g.L.Lays.laying (outer_places l.renewal.outer) saw l.fn.reach

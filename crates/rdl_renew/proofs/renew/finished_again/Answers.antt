@@ -14,10 +14,10 @@ use Rattle.rdl_renew.proofs.CountSteps.{if_ok}
 use Rattle.rdl_renew.proofs.LaidAgain.{stays_laid_out, node_is}
 use Rattle.rdl_renew.proofs.renew.finished_again.Given.{Over}
 use Rattle.rdl_renew.proofs.renew.finished_again.Goals as goal
-use Rattle.rdl_renew.proofs.renew.finished_again.Goals.{After-finished_over}
+use Rattle.rdl_renew.proofs.renew.finished_again.Goals.{After-drop-done-2}
 
 -- what the code tells of the instances
-alike_is : (g : Over) (c : After-finished_over g) (old : Items) (saw : Around) → Became g.L.Lays.laying saw c.args.before.now.slots c.args.inside.now old c.args.component.now.body
+alike_is : (g : Over) (c : After-drop-done-2 g) (old : Items) (saw : Around) → Became g.L.Lays.laying saw c.args.before.now.slots c.args.inside.now old c.args.component.now.body
     → c.are_alike-alike.result ≡ are_alike (not (tells_of_width c.args.done.reach.alert)) c.args.inside.now c.args.before.now.slots (slots_of c.args.done.slots.items) c.args.component.now.body
 alike_is g c old saw became =
     let lay = g.L.Lays.laying in
