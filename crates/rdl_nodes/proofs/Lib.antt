@@ -2,6 +2,7 @@ pub mod Bodies
 pub mod Counts
 pub mod Defined
 pub mod FromBehind
+pub mod FromFront
 pub mod Instances
 pub mod Kept
 pub mod Paths

@@ -1,7 +1,7 @@
 //! Whether instances lie apart.
-ghost use Rattle.std.specs.Prelude.{◌≡◌, ◌<◌, ◌+◌, true, drop, map, not, length};
+ghost use Rattle.std.specs.Prelude.{◌≡◌, ◌<◌, ◌+◌, true, drop, map, not, length, IfSome};
 ghost use Rattle.std.specs.List.{list_all};
-ghost use Rattle.rdl_nodes.specs.Apart.{begin_from, first_clashes_none};
+ghost use Rattle.rdl_nodes.specs.Apart.{begin_from, end_by, first_clashes_none};
 ghost use Rattle.rdl_nodes.specs.Part.{member_of, access_of};
 ghost use Rattle.rdl_seen.specs.Fields.{clash_none};
 ghost use Rattle.rdl_seen.specs.Layouts.{Span, overlaps, are_apart, is_stride_wide, are_strides_wide, is_apart_under, apart_modes};
@@ -15,6 +15,9 @@ use rdl_seen::seen::Modes;
 use rdl_seen::values::Values;
 use rdl_text::token::Number;
 use rdl_tree::shell::Kind;
+
+/// How many spans are compared with all before them, where they are gone over from the first one on.
+const FEW: usize = 8;
 
 /// Whether the span overlaps none of these.
 fn overlaps_none(span: Span, others: &[Span]) -> bool
@@ -31,8 +34,37 @@ fn is_apart_from(span: Span, least: u64, others: &[Span]) -> bool
     span.end() <= least || overlaps_none(span, others)
 }
 
-/// Whether no two of the spans overlap. Where they stand in order, each is compared with one number alone.
-pub fn are_apart(spans: &[Span]) -> bool
+/// Whether the span overlaps none before it, of which none ends behind a number. Only so many that begin before it are compared with all.
+fn overlaps_none_before(span: Span, high: u64, before: &[Span], left: &mut usize) -> Option<bool>
+    requires { end_by high before.now ≡ true }
+    ensures { IfSome result (λ none. none ≡ list_all (λ (t : Span). not (overlaps span t)) before.now) }
+{
+    if span.start() >= high {
+        return Some(true);
+    }
+    *left = left.checked_sub(1)?;
+    Some(overlaps_none(span, before))
+}
+
+/// Whether no two of the spans overlap, if most of them begin behind all others before them: each of these is compared with one number
+/// alone. It isn't told where more than a few don't.
+fn are_apart_from_first(spans: &[Span]) -> Option<bool>
+    ensures { IfSome result (λ apart. apart ≡ are_apart spans.now) }
+{
+    let mut high = 0;
+    let mut left = FEW;
+    for (i, span) in spans.iter().enumerate() {
+        let none = overlaps_none_before(*span, high, &spans[..i], &mut left)?;
+        if !none {
+            return Some(false);
+        }
+        high = high.max(span.end());
+    }
+    Some(true)
+}
+
+/// The same from the last one on: where one ends before all others behind it begin, it is compared with one number alone.
+fn are_apart_from_last(spans: &[Span]) -> bool
     ensures { result ≡ are_apart spans.now }
 {
     let mut least = u64::MAX;
@@ -44,6 +76,16 @@ pub fn are_apart(spans: &[Span]) -> bool
         least = least.min(span.start());
     }
     true
+}
+
+/// Whether no two of the spans overlap. Where all but a few at one end stand in order, each is compared with one number alone.
+pub fn are_apart(spans: &[Span]) -> bool
+    ensures { result ≡ are_apart spans.now }
+{
+    match are_apart_from_first(spans) {
+        Some(apart) => apart,
+        None => are_apart_from_last(spans),
+    }
 }
 
 /// Whether the field of this number clashes with none behind it, of which none begins before a number.

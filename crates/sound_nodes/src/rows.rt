@@ -1,6 +1,7 @@
 //! The search for the first row that has a fault, below a component.
-ghost use Rattle.std.specs.Prelude.{◌≡◌, ◌<◌, ◌&&◌, [], length, IfOk};
+ghost use Rattle.std.specs.Prelude.{◌≡◌, ◌<◌, ◌&&◌, true, [], length, IfOk};
 ghost use Rattle.std.specs.List.{list_any};
+ghost use Rattle.rdl_nodes.specs.Apart.{end_by};
 ghost use Rattle.rdl_nodes.specs.KeptNode.{kept_of};
 ghost use Rattle.rdl_nodes.specs.View.{add, slots_of};
 ghost use Rattle.rdl_seen.specs.Contents.{are_harmless};
@@ -53,23 +54,40 @@ fn overlaps_one(span: Span, others: &[Span]) -> bool
     others.iter().any(|other| span.overlaps(*other))
 }
 
+/// Spans that are passed, in order: none of them ends behind the number.
+#[derive(Clone, Copy)]
+struct Passed<'s> {
+    spans: &'s [Span],
+    high: u64,
+}
+
+/// Whether the span overlaps one of those that are passed. Where it begins behind all of them it is compared with none.
+#[tactic(auto, using(rdl_nodes::proofs::FromFront::overlaps_no_one))]
+fn reaches_one(span: Span, before: Passed) -> bool
+    requires { end_by before.high before.spans.now ≡ true }
+    ensures { result ≡ list_any (overlaps span) before.entry.spans.now }
+{
+    span.start() < before.high && overlaps_one(span, before.spans)
+}
+
 /// What is wrong with an instance that is placed in this mode, behind others that lie there. If all are known to lie apart, nothing is
 /// wrong with its bytes.
 fn seen_fault(
     apart: bool,
     mode: Mode,
-    before: &[Span],
+    before: Passed,
     span: Span,
     shell: &Shell,
     seen: &Seen,
 ) -> Option<FaultKind>
-    ensures { result ≡ seen_fault apart mode before.now span shell.now seen.now }
+    requires { end_by before.high before.spans.now ≡ true }
+    ensures { result ≡ seen_fault apart mode before.entry.spans.now span shell.now seen.now }
 {
     if is_access_wide(mode, seen) {
         Some(FaultKind::AccessTooWide)
     } else if !apart && !is_stride_wide(seen.size.under(mode), shell.stride()) {
         Some(FaultKind::StrideTooSmall)
-    } else if !apart && overlaps_one(span, before) {
+    } else if !apart && reaches_one(span, before) {
         Some(FaultKind::AddressOverlap)
     } else {
         None
@@ -166,13 +184,14 @@ fn seen_row(
     mode: Mode,
     at: &Address,
     apart: bool,
-    before: &[Span],
+    before: Passed,
     span: Span,
     instance: &SeenInstance,
     levels: usize,
 ) -> Result<Found, AllocError>
-    requires { length at.now < 17 }
-    ensures { IfOk result (λ found. found ≡ seen_row (below_instance (searched levels description.now.items tree.now) description.now.items assigned mode at.now) at.now apart mode before.now span instance.now instance.now.seen) }
+    requires short { length at.now < 17 }
+    requires passed { end_by before.high before.spans.now ≡ true }
+    ensures { IfOk result (λ found. found ≡ seen_row (below_instance (searched levels description.now.items tree.now) description.now.items assigned mode at.now) at.now apart mode before.entry.spans.now span instance.now instance.now.seen) }
 {
     let Some(seen) = instance.seen() else {
         return Ok(Found::Untold);
@@ -212,9 +231,14 @@ fn rows(
     requires { length at.now < 17 }
     ensures { IfOk result (λ found. found ≡ rows (below_instance (searched levels description.now.items tree.now) description.now.items assigned mode at.now) at.now apart mode [] spans.now instances.now) }
 {
+    let mut high = 0;
     for (i, span) in spans.iter().enumerate() {
         let Some(instance) = instance_at(instances, i) else {
             return Ok(Found::Clear);
+        };
+        let before = Passed {
+            spans: &spans[..i],
+            high,
         };
         let found = seen_row(
             alloc,
@@ -224,7 +248,7 @@ fn rows(
             mode,
             at,
             apart,
-            &spans[..i],
+            before,
             *span,
             instance,
             levels,
@@ -232,6 +256,7 @@ fn rows(
         if !found.is_clear() {
             return Ok(found);
         }
+        high = high.max(span.end());
     }
     Ok(Found::Clear)
 }

@@ -1,4 +1,5 @@
-use Rattle.std.proofs.Common.{◌≡◌, ◌+◌, ◌*◌, [], take, drop}
+use Rattle.std.proofs.Common.{◌≡◌, ◌+◌, ◌*◌, [], take, drop, true}
+use Rattle.rdl_nodes.specs.Apart.{end_by}
 use Rattle.sound_nodes.specs.Rows.{below_instance, rows, searched}
 use Rattle.sound_nodes.proofs.rows.+search.Given as goal
 
@@ -21,6 +22,9 @@ abbrev pub decreases-in_component : goal.decreases-in_component
 decreases-in_component l = 6 * l.levels + 6
 
 abbrev pub invariant-rows-loop-i : goal.invariant-rows-loop-i
-invariant-rows-loop-i l =
-    rows (below_instance (searched l.levels l.description.items l.tree) l.description.items l.assigned l.mode l.at) l.at l.apart l.mode [] l.spans l.instances
-    ≡ rows (below_instance (searched l.levels l.description.items l.tree) l.description.items l.assigned l.mode l.at) l.at l.apart l.mode (take l.i l.spans) (drop l.i l.spans) (drop l.i l.instances)
+invariant-rows-loop-i l = record {
+  rows :
+      rows (below_instance (searched l.levels l.description.items l.tree) l.description.items l.assigned l.mode l.at) l.at l.apart l.mode [] l.spans l.instances
+      ≡ rows (below_instance (searched l.levels l.description.items l.tree) l.description.items l.assigned l.mode l.at) l.at l.apart l.mode (take l.i l.spans) (drop l.i l.spans) (drop l.i l.instances);
+  passed : end_by l.high (take l.i l.spans) ≡ true;
+}

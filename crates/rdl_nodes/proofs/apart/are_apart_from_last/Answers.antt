@@ -3,7 +3,7 @@ use Rattle.std.specs.List.{list_all}
 use Rattle.rdl_seen.specs.Layouts.{overlaps, Span, are_apart}
 use Rattle.rdl_nodes.specs.Apart.{begin_from}
 use Rattle.rdl_nodes.proofs.FromBehind.{order_at, apart_at, not_apart_at, rest_slice}
-use Rattle.rdl_nodes.proofs.apart.are_apart.Goals as goal
+use Rattle.rdl_nodes.proofs.apart.are_apart_from_last.Goals as goal
 
 pub returns-then-not-is_apart_from : goal.returns-then-not-is_apart_from
 returns-then-not-is_apart_from c =

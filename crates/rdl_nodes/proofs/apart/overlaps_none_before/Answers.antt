@@ -1,0 +1,6 @@
+use Rattle.std.proofs.Common.{arith, sym}
+use Rattle.rdl_nodes.proofs.FromFront.{overlaps_none}
+use Rattle.rdl_nodes.proofs.apart.overlaps_none_before.Goals as goal
+
+pub returns-then-start-high : goal.returns-then-start-high
+returns-then-start-high c = sym (overlaps_none c.args.span c.args.high c.args.before.now (omega (arith, c.if-start-high.true, c.start.ensures)) c.requires)
