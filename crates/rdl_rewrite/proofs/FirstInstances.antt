@@ -1,5 +1,5 @@
 -- What a walk keeps of the instances in a body is what the search for an instance finds.
-use Rattle.std.proofs.Common.{◌≡◌, ℕ, suc, ◌+◌, Bool, true, false, cond, List, [], ◌∷◌, ◌++◌, Some, None, Option, refl, ap, sym, subst, ◌∙◌, arith, option_map}
+use Rattle.std.proofs.Common.{◌≡◌, ℕ, suc, ◌+◌, Bool, true, false, cond, List, [], ◌∷◌, ◌++◌, Some, None, Option, refl, ap, sym, ◌∙◌, arith, option_map}
 use Rattle.std.proofs.lemmas.Slice.Eq.{bytes_eq-Decides}
 use Rattle.std.specs.Prelude.{slice_get, option_and_then, bytes_eq}
 use Rattle.std.specs.Option.{option_or}
@@ -49,10 +49,6 @@ firsts_next d place b n body x old new inside here got is within put = record {
     next : suc n ≡ n + 1
     next = omega arith
 
--- the place under another name
-pub firsts_here : (d : Items) (place b c : List ℕ) (n m : ℕ) (firsts : Firsts) → c ≡ b → m ≡ n → AreFirsts d place b n firsts → AreFirsts d place c m firsts
-firsts_here d place b c n m firsts e f is = subst (λ k. AreFirsts d place c k firsts) (sym f) (subst (λ a. AreFirsts d place a n firsts) (sym e) is)
-
 -- whether an instance's component is the one in which the item on the way stands
 component_inside : (d : Items) (place at : List ℕ) (x : Item) (led : Bool) → item_at at d ≡ Some x → IsLed d place at led → is_inside place (item_at place d) at led x ≡ leads_to place (component_of d at)
 component_inside d place at x led here is = by_item x ∙ sym (ap (λ o. leads_to place (option_and_then (held_by d at) o)) here)
@@ -83,13 +79,6 @@ first-put firsts name q v none = by_case (bytes_eq name q) refl
     by_case false e = or-none (first_under firsts q)
 
 -- ---- What it says of a name.
-
-pub first_none : (d : Items) (place b : List ℕ) (n : ℕ) (firsts : Firsts) (name : List ℕ) → AreFirsts d place b n firsts → first_under firsts name ≡ None → instance_in d b n name ≡ None
-first_none d place b n firsts name is none = by_case (option_and_then (instance_before name n) (body_at b d)) (sym (is.found name) ∙ none)
-  where
-    by_case : (o : Option ℕ) → option_map (first_at d place b) o ≡ None → option_map (λ k. b ++ k ∷ []) o ≡ None
-    by_case None e = refl
-    by_case (Some k) e = cc
 
 pub first_some : (d : Items) (place b : List ℕ) (n : ℕ) (firsts : Firsts) (name : List ℕ) (k : ℕ) (inside : Bool) → AreFirsts d place b n firsts → first_under firsts name ≡ Some (k, inside)
     → (instance_in d b n name ≡ Some (b ++ k ∷ [])) × (inside ≡ leads_to place (component_of d (b ++ k ∷ [])))

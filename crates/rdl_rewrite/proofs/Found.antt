@@ -1,5 +1,5 @@
 -- What a search for a type or along a target finds has the name that was looked for.
-use Rattle.std.proofs.Common.{◌≡◌, ℕ, zero, suc, Bool, true, false, cond, ◌||◌, ◌&&◌, ◌<◌, length, List, [], ◌∷◌, ◌++◌, Some, None, Option, refl, ap, sym, ◌∙◌, option_map, arith}
+use Rattle.std.proofs.Common.{◌≡◌, ℕ, zero, suc, Bool, true, false, cond, ◌||◌, ◌&&◌, List, [], ◌∷◌, ◌++◌, Some, None, Option, refl, ap, sym, ◌∙◌, option_map}
 use Rattle.std.proofs.lemmas.Slice.Eq.{bytes_eq-Decides}
 use Rattle.std.specs.Prelude.{slice_get, option_and_then, is_some}
 use Rattle.std.specs.Option.{option_or}
@@ -225,10 +225,6 @@ passes-first d b n name [] = by_case (instance_in d b n name)
     by_case None = refl
     by_case (Some a) = refl
 passes-first d b n name (next ∷ names) = refl
-
-pub passes_inside : (d : Items) (a c : List ℕ) (names : List (List ℕ)) → 0 < length names → component_of d a ≡ Some c → passes_from d a names ≡ option_map (λ more. a ∷ more) (passes d c (items_in c d) names)
-passes_inside d a c [] h e = absurd (omega arith)
-passes_inside d a c (next ∷ names) h e = ap (λ o. option_map (λ more. a ∷ more) (option_and_then (λ x. passes d x (items_in x d) (next ∷ names)) o)) e
 
 -- what the target of the assignment at an address passes
 pub through-passes : (d : Items) (at : List ℕ) (x : Item) (t : List (List ℕ)) (p : List ℕ) (v : Value) → item_at at d ≡ Some x → x ≡ Dynamic t p v → through d at ≡ passes d (holder_of at) (address.number_of at) t

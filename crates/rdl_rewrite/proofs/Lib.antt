@@ -1,4 +1,3 @@
-pub mod Apart
 pub mod Assignments
 pub mod Before
 pub mod Deep

@@ -1,5 +1,5 @@
 -- Where items stand, and the addresses inside a body, item by item.
-use Rattle.std.proofs.Common.{◌≡◌, ◌<◌, ◌≤◌, ◌+◌, ℕ, suc, Bool, true, false, ◌||◌, List, [], ◌∷◌, ◌++◌, length, get_or, drop, Some, None, Option, refl, ap, sym, ◌∙◌, arith}
+use Rattle.std.proofs.Common.{◌≡◌, ◌<◌, ◌+◌, ℕ, suc, Bool, true, false, ◌||◌, List, [], ◌∷◌, ◌++◌, length, get_or, drop, Some, None, Option, refl, ap, sym, ◌∙◌, arith}
 use Rattle.std.proofs.lemmas.List.{append-nil}
 use Rattle.std.proofs.lemmas.List.Folds.{list_any-append}
 use Rattle.std.specs.Prelude.{option_and_then}
@@ -8,11 +8,9 @@ use Rattle.rdl_tree.specs.ItemAt.{item_at}
 use Rattle.rdl_tree.specs.Items.{Items, no_items, count}
 use Rattle.rdl_tree.specs.View.{add, items_of, list_of, own_body}
 use Rattle.rdl_tree.specs.Address.{inner, body_at}
-use Rattle.rdl_tree.specs.Depth.{depth}
 use Rattle.rdl_tree.specs.declared.description.Item.{Item}
 use Rattle.rdl_tree.specs.declared.description.Item.TheVariants.{Define, Instance, Own, Default, Dynamic}
 use Rattle.rdl_tree.specs.declared.description.Of.TheVariants.{Named, Anonymous}
-use Rattle.rdl_tree.proofs.Nesting.{stands-short}
 use Rattle.rdl_tree.proofs.Rests.{rest-next}
 use Rattle.rdl_tree.proofs.Rounds.{items_of-list_of, inner-slice_get}
 use Rattle.rdl_tree.proofs.Sizes.{item_count}
@@ -90,8 +88,3 @@ any_itself p b n (Instance s (Anonymous c)) r none e = cc
 any_itself p b n (Own q v) r none e = e ∙ or-itself (p (b ++ n ∷ []))
 any_itself p b n (Default q v) r none e = e ∙ or-itself (p (b ++ n ∷ []))
 any_itself p b n (Dynamic t q v) r none e = e ∙ or-itself (p (b ++ n ∷ []))
-
--- ---- How long an item's address is.
-
-pub item-short : (at : List ℕ) (d : Items) (x : Item) → item_at at d ≡ Some x → depth d ≤ 16 → length at ≤ 17
-item-short at d x e h = omega (arith, stands-short at d x e)

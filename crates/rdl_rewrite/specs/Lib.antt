@@ -5,10 +5,8 @@ pub mod Change
 pub mod Dynamics
 pub mod Fates
 pub mod Firsts
-pub mod Known
 pub mod Led
 pub mod Names
-pub mod NewAssignment
 pub mod Passed
 pub mod Patches
 pub mod Place

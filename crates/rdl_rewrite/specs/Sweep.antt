@@ -6,7 +6,6 @@ use Rattle.rdl_tree.specs.Items.{Items}
 use Rattle.rdl_tree.specs.View.{list_of}
 use Rattle.rdl_tree.specs.Address.{body_at, holder_of, number_of}
 use Rattle.rdl_scope.specs.Types.{items_in}
-use Rattle.rdl_rewrite.specs.Known.{AreLeading}
 use Rattle.rdl_rewrite.specs.declared.sweep.Sweep.{Sweep}
 
 pub record Knows (r : Sweep) : Type 0 where
@@ -15,4 +14,3 @@ pub record Knows (r : Sweep) : Type 0 where
   pub holder : option_copied r.holder ≡ item_at (holder_of r.way.now) r.whole.now.items
   pub siblings : r.siblings ≡ items_in (holder_of r.way.now) r.whole.now.items
   pub before : (body : Items) → body_at (holder_of r.way.now) r.whole.now.items ≡ Some body → r.before.now ≡ take (number_of r.way.now) (list_of body)
-  pub leading : AreLeading r.whole.now.items r.way.now r.leading.now

@@ -4,7 +4,6 @@ ghost use Rattle.std.specs.List.{list_all};
 ghost use Rattle.rdl_tree.specs.Edit.{remove_item};
 ghost use Rattle.rdl_tree.specs.View.{list_of};
 ghost use Rattle.rdl_rewrite.specs.Change.{is_component, taken, added, moved, edited_body};
-ghost use Rattle.rdl_rewrite.specs.NewAssignment.{IsNewIn};
 ghost use Rattle.rdl_rewrite.specs.Patches.{inserts, inserts_at, move, body_patches};
 ghost use Rattle.rdl_rewrite.specs.Place.{place_number};
 ghost use Rattle.rdl_rewrite.specs.Refuses.{Refuses};
@@ -110,7 +109,7 @@ fn shift(
 }
 
 /// The patches for the body on the way. The number is that of the item, for an edit of an item; `whole` is the whole
-/// description. An assignment may be known to be new in the body.
+/// description.
 pub fn body_patches(
     alloc: Global,
     whole: &Body,
@@ -118,10 +117,8 @@ pub fn body_patches(
     number: usize,
     edit: &Edit,
     body: &Body,
-    is_new: bool,
 ) -> Result<Vec<Patch>, PatchRefusal>
-    requires room { length way.now < 17 }
-    requires new { is_new ≡ true → IsNewIn edit.now body.now }
+    requires { length way.now < 17 }
     ensures which { IfOk result (λ ps. ps.items ≡ body_patches way.now number edit.now body.now) }
     ensures accepted { IfOk result (λ _. is_ok (edited_body whole.now number edit.now body.now) ≡ true) }
     ensures refused { IfErr result (λ refusal. Refuses (edited_body whole.now number edit.now body.now) refusal) }
@@ -142,7 +139,7 @@ pub fn body_patches(
         Edit::ClearOwn(_, property) => clear(alloc, way, Sort::Own, property, body),
         Edit::ClearDefault(_, property) => clear(alloc, way, Sort::Default, property, body),
         Edit::Assign(_, target, property, value) => {
-            Ok(assign(alloc, way, target, property, value, body, is_new)?)
+            Ok(assign(alloc, way, target, property, value, body)?)
         }
         Edit::Unassign(_, target, property) => unassign(alloc, way, target, property, body),
         Edit::Remove(..) => reshape(alloc, way, number, edit, body),

@@ -1,5 +1,5 @@
 //! The assignments of a body to what stands inside its instances.
-ghost use Rattle.std.specs.Prelude.{◌≡◌, ◌<◌, length, true, None, is_ok, IfOk, IfErr};
+ghost use Rattle.std.specs.Prelude.{◌≡◌, ◌<◌, length, true, is_ok, IfOk, IfErr};
 ghost use Rattle.std.specs.List.{position};
 ghost use Rattle.rdl_tree.specs.View.{list_of};
 ghost use Rattle.rdl_rewrite.specs.Dynamics.{assigns_to, unassigned};
@@ -41,18 +41,6 @@ fn position_of(target: &Target, property: &Name, body: &Body) -> Option<usize>
         .position(|item| assigns_to(target, property, item))
 }
 
-/// The number of the body's assignment of the target's property, where it isn't known that there is none.
-fn old_number(is_new: bool, target: &Target, property: &Name, body: &Body) -> Option<usize>
-    requires { is_new ≡ true → position (assigns_to target.now property.now) (list_of body.now) ≡ None }
-    ensures { result ≡ position (assigns_to target.now property.now) (list_of body.now) }
-{
-    if is_new {
-        None
-    } else {
-        position_of(target, property, body)
-    }
-}
-
 fn dynamic(
     alloc: Global,
     target: &Target,
@@ -66,8 +54,7 @@ fn dynamic(
     Ok(Item::Dynamic(target.try_copy(alloc)?, property, value))
 }
 
-/// Gives the assignment of the target's property in the body on the way the value, or puts a new one behind all items. The
-/// body isn't searched where the assignment is known to be new.
+/// Gives the assignment of the target's property in the body on the way the value, or puts a new one behind all items.
 pub fn assign(
     alloc: Global,
     way: &Address,
@@ -75,13 +62,11 @@ pub fn assign(
     property: &Name,
     value: &Value,
     body: &Body,
-    is_new: bool,
 ) -> Result<Vec<Patch>, AllocError>
-    requires room { length way.now < 17 }
-    requires new { is_new ≡ true → position (assigns_to target.now property.now) (list_of body.now) ≡ None }
+    requires { length way.now < 17 }
     ensures { IfOk result (λ ps. ps.items ≡ set_dynamic way.now target.now property.now value.now (list_of body.now)) }
 {
-    match old_number(is_new, target, property, body) {
+    match position_of(target, property, body) {
         Some(number) => {
             let value = value.try_copy(alloc)?;
             let at = PatchAddress::new(alloc, &way.inside(number))?;

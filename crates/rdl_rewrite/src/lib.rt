@@ -7,7 +7,6 @@ mod dynamics;
 pub mod edit;
 mod fate;
 mod firsts;
-pub mod known;
 mod leads;
 mod names;
 mod passed;

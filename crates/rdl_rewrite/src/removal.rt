@@ -1,5 +1,5 @@
 //! What goes with an item that is taken out.
-ghost use Rattle.std.specs.Prelude.{◌≡◌, ◌≤◌, ◌<◌, ◌++◌, ◌∷◌, [], length, true, is_ok, Some, None, IfOk, IfErr, IsErrOf, option_copied};
+ghost use Rattle.std.specs.Prelude.{◌≡◌, ◌≤◌, ◌<◌, ◌++◌, ◌∷◌, [], length, true, is_ok, Some, None, IfOk, IfErr, IsErrOf};
 ghost use Rattle.std.specs.List.{list_any};
 ghost use Rattle.rdl_tree.specs.ItemAt.{item_at};
 ghost use Rattle.rdl_tree.specs.Items.{no_items};
@@ -7,7 +7,6 @@ ghost use Rattle.rdl_tree.specs.View.{add};
 ghost use Rattle.rdl_tree.specs.Address.{body_at, holder_of};
 ghost use Rattle.rdl_tree.specs.Depth.{depth};
 ghost use Rattle.rdl_scope.specs.Types.{type_of};
-ghost use Rattle.rdl_rewrite.specs.Known.{AreLeading};
 ghost use Rattle.rdl_rewrite.specs.Addresses.{leads_to, addresses};
 ghost use Rattle.rdl_rewrite.specs.Led.{IsLed};
 ghost use Rattle.rdl_rewrite.specs.Firsts.{AreFirsts, is_dynamic};
@@ -20,7 +19,6 @@ ghost use Rattle.rdl_rewrite.specs.declared.edit.PatchRefusal.{PatchRefusal};
 use crate::edit::PatchRefusal;
 use crate::fate::Fate;
 use crate::firsts::Firsts;
-use crate::known::Known;
 use crate::leads::{ends_at, leads_to, led_behind};
 use crate::passed::passes_taken;
 use crate::sweep::{Sweep, is_too_deep};
@@ -136,20 +134,19 @@ pub fn remove<'a>(
     alloc: Global,
     whole: &'a Description,
     way: &'a Address,
-    known: Known<'a>,
+    is_shallow: bool,
 ) -> Result<Vec<Patch>, PatchRefusal>
-    requires shallow { known.is_shallow ≡ true → depth whole.now.items ≤ 16 }
-    requires leading { AreLeading whole.now.items way.now known.leading.now }
+    requires { is_shallow ≡ true → depth whole.now.items ≤ 16 }
     ensures which { IfOk result (λ ps. ps.items ≡ fate_patches (fate whole.now.items way.now None) [] 0 whole.now.items) }
     ensures accepted { IfOk result (λ _. is_ok (removed whole.now.items way.now) ≡ true) }
     ensures level { IfOk result (λ _. depth whole.now.items ≤ 16) }
     ensures too_deep { IsErrOf result PatchRefusal.TooDeep → 16 < depth whole.now.items }
     ensures refused { IfErr result (λ refusal. RefusesEdit whole.now.items (removed whole.now.items way.now) refusal) }
 {
-    if is_too_deep(whole, known.is_shallow) {
+    if is_too_deep(whole, is_shallow) {
         return Err(PatchRefusal::TooDeep);
     }
-    let sweep = Sweep::new(whole, way, None, known.leading);
+    let sweep = Sweep::new(whole, way, None);
     if is_in_use(&sweep) {
         return Err(PatchRefusal::InUse);
     }

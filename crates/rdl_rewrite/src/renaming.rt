@@ -4,7 +4,6 @@ ghost use Rattle.rdl_tree.specs.ItemAt.{item_at};
 ghost use Rattle.rdl_tree.specs.Address.{holder_of};
 ghost use Rattle.rdl_tree.specs.Depth.{depth};
 ghost use Rattle.rdl_scope.specs.Target.{passes};
-ghost use Rattle.rdl_rewrite.specs.Known.{AreLeading};
 ghost use Rattle.rdl_rewrite.specs.Firsts.{AreFirsts, is_dynamic};
 ghost use Rattle.rdl_rewrite.specs.Passed.{if_passed};
 ghost use Rattle.rdl_rewrite.specs.Led.{IsLed};
@@ -18,7 +17,6 @@ ghost use Rattle.rdl_rewrite.specs.declared.edit.PatchRefusal.{PatchRefusal};
 use crate::edit::PatchRefusal;
 use crate::fate::Fate;
 use crate::firsts::Firsts;
-use crate::known::Known;
 use crate::leads::{ends_at, is_at, leads_to};
 use crate::names::{is_defined, is_instantiated};
 use crate::passed::{before_taken, passed};
@@ -205,17 +203,16 @@ pub fn rename<'a>(
     whole: &'a Description,
     way: &'a Address,
     name: &'a Name,
-    known: Known<'a>,
+    is_shallow: bool,
 ) -> Result<Vec<Patch>, PatchRefusal>
-    requires shallow { known.is_shallow ≡ true → depth whole.now.items ≤ 16 }
-    requires leading { AreLeading whole.now.items way.now known.leading.now }
+    requires { is_shallow ≡ true → depth whole.now.items ≤ 16 }
     ensures which { IfOk result (λ ps. ps.items ≡ fate_patches (fate whole.now.items way.now (Some name.now)) [] 0 whole.now.items) }
     ensures accepted { IfOk result (λ _. is_ok (renamed whole.now.items way.now name.now) ≡ true) }
     ensures level { IfOk result (λ _. depth whole.now.items ≤ 16) }
     ensures too_deep { IsErrOf result PatchRefusal.TooDeep → 16 < depth whole.now.items }
     ensures refused { IfErr result (λ refusal. RefusesEdit whole.now.items (renamed whole.now.items way.now name.now) refusal) }
 {
-    if is_too_deep(whole, known.is_shallow) {
+    if is_too_deep(whole, is_shallow) {
         return Err(PatchRefusal::TooDeep);
     }
     if is_taken(alloc, whole, way, name)? {
@@ -224,5 +221,5 @@ pub fn rename<'a>(
     if is_reserved(name) {
         return Err(PatchRefusal::Reserved);
     }
-    Ok(Sweep::new(whole, way, Some(name), known.leading).patches(alloc)?)
+    Ok(Sweep::new(whole, way, Some(name)).patches(alloc)?)
 }

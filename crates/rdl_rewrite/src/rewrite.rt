@@ -5,8 +5,6 @@ ghost use Rattle.rdl_tree.specs.Depth.{depth};
 ghost use Rattle.rdl_tree.specs.Weight.{capped};
 ghost use Rattle.rdl_tree.specs.Patch.{image, AllFit};
 ghost use Rattle.rdl_rewrite.specs.Change.{edited_body};
-ghost use Rattle.rdl_rewrite.specs.Known.{AreLeading, IsKnown, IsKnownOn};
-ghost use Rattle.rdl_rewrite.specs.NewAssignment.{IsNewOn};
 ghost use Rattle.rdl_rewrite.specs.Patches.{patches, patches_on, item_edit_patches, patches_in, level, level_on, item_edit_level, level_in};
 ghost use Rattle.rdl_rewrite.specs.Rewritten.{at_body, of_item, by_way, rewritten};
 ghost use Rattle.rdl_rewrite.specs.Refuses.{RefusesEdit};
@@ -14,7 +12,6 @@ ghost use Rattle.rdl_rewrite.specs.declared.edit.PatchRefusal.{PatchRefusal};
 
 use crate::body::body_patches;
 use crate::edit::{Edit, PatchRefusal};
-use crate::known::Known;
 use crate::removal::remove;
 use crate::renaming::rename;
 use rdl_tree::address::Address;
@@ -37,19 +34,35 @@ pub fn patches(
     ensures too_deep { IsErrOf result PatchRefusal.TooDeep → 16 < level description.now.items edit.now }
     ensures refused { IfErr result (λ refusal. RefusesEdit description.now.items (rewritten description.now.items edit.now) refusal) }
 {
-    patches_known(alloc, description, edit, Known::nothing())
+    patches_of(alloc, description, edit, false)
 }
 
-/// The same patches, or the same refusal. By what is known less of the description is looked at: not the body, where an
-/// assignment is new there, and of the items of the root, for what follows an item that is removed or renamed, only those
-/// that may lead to it.
-pub fn patches_known(
+/// The same patches, or the same refusal, of a description that nests at most 16 deep, as one that has rows. How deep it nests
+/// isn't looked at.
+pub fn patches_of_shallow(
     alloc: Global,
     description: &Description,
     edit: &Edit,
-    known: Known,
 ) -> Result<Vec<Patch>, PatchRefusal>
-    requires { IsKnown description.now.items edit.now known }
+    requires { depth description.now.items ≤ 16 }
+    ensures made { IfOk result (λ ps. rewritten description.now.items edit.now ≡ Ok (image ps.items description.now.items)) }
+    ensures fit { IfOk result (λ ps. AllFit ps.items description.now.items) }
+    ensures which { IfOk result (λ ps. ps.items ≡ patches description.now.items edit.now) }
+    ensures level { IfOk result (λ _. level description.now.items edit.now ≤ 16) }
+    ensures too_deep { IsErrOf result PatchRefusal.TooDeep → 16 < level description.now.items edit.now }
+    ensures refused { IfErr result (λ refusal. RefusesEdit description.now.items (rewritten description.now.items edit.now) refusal) }
+{
+    patches_of(alloc, description, edit, true)
+}
+
+/// The same. The description may be known to nest at most 16 deep.
+fn patches_of(
+    alloc: Global,
+    description: &Description,
+    edit: &Edit,
+    is_shallow: bool,
+) -> Result<Vec<Patch>, PatchRefusal>
+    requires { is_shallow ≡ true → depth description.now.items ≤ 16 }
     ensures made { IfOk result (λ ps. rewritten description.now.items edit.now ≡ Ok (image ps.items description.now.items)) }
     ensures fit { IfOk result (λ ps. AllFit ps.items description.now.items) }
     ensures which { IfOk result (λ ps. ps.items ≡ patches description.now.items edit.now) }
@@ -58,7 +71,7 @@ pub fn patches_known(
     ensures refused { IfErr result (λ refusal. RefusesEdit description.now.items (rewritten description.now.items edit.now) refusal) }
 {
     let way = description.find(edit.path())?;
-    patches_on(alloc, description, &way, edit, known)
+    patches_on(alloc, description, &way, edit, is_shallow)
 }
 
 /// The patches, where the edit's path leads to this address.
@@ -67,9 +80,9 @@ fn patches_on(
     whole: &Description,
     way: &Address,
     edit: &Edit,
-    known: Known,
+    is_shallow: bool,
 ) -> Result<Vec<Patch>, PatchRefusal>
-    requires { IsKnownOn whole.now.items way.now edit.now known }
+    requires { is_shallow ≡ true → depth whole.now.items ≤ 16 }
     ensures which { IfOk result (λ ps. ps.items ≡ patches_on (Ok way.now) whole.now.items edit.now) }
     ensures accepted { IfOk result (λ _. is_ok (by_way (Ok way.now) whole.now.items edit.now) ≡ true) }
     ensures level { IfOk result (λ _. level_on (Ok way.now) whole.now.items edit.now ≤ 16) }
@@ -77,12 +90,12 @@ fn patches_on(
     ensures refused { IfErr result (λ refusal. RefusesEdit whole.now.items (by_way (Ok way.now) whole.now.items edit.now) refusal) }
 {
     if !edit.is_of_item() {
-        return patches_in(alloc, whole, way, 0, edit, known.is_new);
+        return patches_in(alloc, whole, way, 0, edit);
     }
     if way.is_empty() {
         return Err(PatchRefusal::NotAnInstance);
     }
-    item_edit_patches(alloc, whole, way, edit, known)
+    item_edit_patches(alloc, whole, way, edit, is_shallow)
 }
 
 /// The patches of an edit of the item at the address.
@@ -91,11 +104,10 @@ fn item_edit_patches(
     whole: &Description,
     way: &Address,
     edit: &Edit,
-    known: Known,
+    is_shallow: bool,
 ) -> Result<Vec<Patch>, PatchRefusal>
     requires item { 0 < length way.now }
-    requires shallow { known.is_shallow ≡ true → depth whole.now.items ≤ 16 }
-    requires leading { AreLeading whole.now.items way.now known.leading.now }
+    requires shallow { is_shallow ≡ true → depth whole.now.items ≤ 16 }
     ensures which { IfOk result (λ ps. ps.items ≡ item_edit_patches whole.now.items way.now edit.now) }
     ensures accepted { IfOk result (λ _. is_ok (of_item way.now whole.now.items edit.now) ≡ true) }
     ensures level { IfOk result (λ _. item_edit_level whole.now.items way.now edit.now ≤ 16) }
@@ -103,9 +115,9 @@ fn item_edit_patches(
     ensures refused { IfErr result (λ refusal. RefusesEdit whole.now.items (of_item way.now whole.now.items edit.now) refusal) }
 {
     match edit {
-        Edit::Remove(_) => remove(alloc, whole, way, known),
-        Edit::Rename(_, name) => rename(alloc, whole, way, name, known),
-        _ => patches_in(alloc, whole, &way.holder(), way.number(), edit, false),
+        Edit::Remove(_) => remove(alloc, whole, way, is_shallow),
+        Edit::Rename(_, name) => rename(alloc, whole, way, name, is_shallow),
+        _ => patches_in(alloc, whole, &way.holder(), way.number(), edit),
     }
 }
 
@@ -116,9 +128,7 @@ fn patches_in(
     way: &Address,
     number: usize,
     edit: &Edit,
-    is_new: bool,
 ) -> Result<Vec<Patch>, PatchRefusal>
-    requires { is_new ≡ true → IsNewOn way.now whole.now.items edit.now }
     ensures which { IfOk result (λ ps. ps.items ≡ patches_in way.now number edit.now (body_at way.now whole.now.items)) }
     ensures accepted { IfOk result (λ _. is_ok (at_body way.now whole.now.items (edited_body whole.now.items number edit.now)) ≡ true) }
     ensures level { IfOk result (λ _. level_in way.now edit.now ≤ 16) }
@@ -131,7 +141,7 @@ fn patches_in(
     if way.len() > 16 {
         return Err(PatchRefusal::TooDeep);
     }
-    let patches = body_patches(alloc, &whole.items, way, number, edit, body, is_new)?;
+    let patches = body_patches(alloc, &whole.items, way, number, edit, body)?;
     if level_in(way, edit) > 16 {
         return Err(PatchRefusal::TooDeep);
     }

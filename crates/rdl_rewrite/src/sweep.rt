@@ -1,5 +1,5 @@
 //! The patches of an edit that reaches every body.
-ghost use Rattle.std.specs.Prelude.{◌≡◌, ◌≤◌, ◌<◌, ◌++◌, ◌∷◌, [], ℕ, List, take, true, false, length, nat_lt, reverse, Some, None, IfOk, OnOk, option_copied, slice_get};
+ghost use Rattle.std.specs.Prelude.{◌≡◌, ◌≤◌, ◌<◌, ◌++◌, ◌∷◌, [], ℕ, List, take, true, false, length, nat_lt, reverse, Some, None, IfOk, OnOk, option_copied};
 ghost use Rattle.std.specs.List.{list_any};
 ghost use Rattle.rdl_tree.specs.ItemAt.{item_at};
 ghost use Rattle.rdl_tree.specs.Items.{Items, no_items};
@@ -11,7 +11,6 @@ ghost use Rattle.rdl_scope.specs.Walk.{is_definition};
 ghost use Rattle.rdl_rewrite.specs.Addresses.{same, addresses};
 ghost use Rattle.rdl_rewrite.specs.Assigning.{assigns_at};
 ghost use Rattle.rdl_rewrite.specs.Firsts.{AreFirsts, NotesItem, first_under, is_inside, is_dynamic};
-ghost use Rattle.rdl_rewrite.specs.Known.{AreLeading};
 ghost use Rattle.rdl_rewrite.specs.Led.{IsLed};
 ghost use Rattle.rdl_rewrite.specs.Sweep.{Knows};
 ghost use Rattle.rdl_rewrite.specs.Fates.{fate, fate_patches};
@@ -46,8 +45,6 @@ pub(crate) struct Sweep<'a> {
     pub before: &'a [Item],
     /// None where the item is taken out.
     pub name: Option<&'a Name>,
-    /// For items of the root, whether there may be patches for them, or for what is inside.
-    pub leading: &'a [bool],
 }
 
 /// Whether an assignment to what is inside an instance is among the items of the body themselves.
@@ -133,13 +130,7 @@ pub(crate) fn is_too_deep(whole: &Description, is_shallow: bool) -> bool
 }
 
 impl<'a> Sweep<'a> {
-    pub(crate) fn new(
-        whole: &'a Description,
-        way: &'a Address,
-        name: Option<&'a Name>,
-        leading: &'a [bool],
-    ) -> Sweep<'a>
-        requires { AreLeading whole.now.items way.now leading.now }
+    pub(crate) fn new(whole: &'a Description, way: &'a Address, name: Option<&'a Name>) -> Sweep<'a>
         ensures whole { result.whole.now ≡ whole.now }
         ensures way { result.way.now ≡ way.now }
         ensures known { Knows result }
@@ -159,7 +150,6 @@ impl<'a> Sweep<'a> {
             siblings,
             before,
             name,
-            leading,
         }
     }
 
@@ -230,17 +220,6 @@ impl<'a> Sweep<'a> {
             && !assigns(self.whole, &at.inside(number), body)
     }
 
-    /// Whether this item of the root is known to be apart from the one on the way, where the body is the root's.
-    fn is_root_apart(&self, at: &Address, number: usize) -> bool
-        ensures root { result ≡ true → at.now ≡ [] }
-        ensures apart { result ≡ true → slice_get self.now.leading.now number ≡ Some false }
-    {
-        match self.leading.get(number) {
-            Some(may_lead) => !*may_lead && at.is_empty(),
-            None => false,
-        }
-    }
-
     /// Whether it is known at once that there are no patches for the item of this number in the body at the address, nor for
     /// any inside it. `led` says whether a reference to the taken item's name leads to it here.
     fn stays(&self, at: &Address, number: usize, found: &Item, led: bool) -> bool
@@ -251,9 +230,6 @@ impl<'a> Sweep<'a> {
         requires led { IsLed self.now.whole.now.items self.now.way.now (at.now ++ number ∷ []) led }
         ensures { result ≡ true → fate_patches (fate self.now.whole.now.items self.now.way.now (option_copied self.now.name)) at.now number (add found.now no_items) ≡ [] }
     {
-        if self.is_root_apart(at, number) {
-            return true;
-        }
         match found {
             Item::Own(..) => self.is_apart(number),
             Item::Default(..) => self.is_apart(number),

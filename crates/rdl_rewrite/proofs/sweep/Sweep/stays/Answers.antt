@@ -1,32 +1,19 @@
 use Rattle.std.proofs.Common.{◌≡◌, ℕ, List, true, false, ◌++◌, ◌∷◌, [], ◌&&◌, option_copied, ap, sym, ◌∙◌}
 use Rattle.std.proofs.lemmas.Bool.{not-true}
 use Rattle.rdl_tree.specs.ItemAt.{item_at}
-use Rattle.rdl_tree.specs.Items.{no_items}
-use Rattle.rdl_tree.specs.View.{add, own_body}
+use Rattle.rdl_tree.specs.View.{own_body}
 use Rattle.rdl_tree.specs.Address.{holder_of}
 use Rattle.rdl_tree.specs.declared.description.Item.TheVariants.{Instance}
 use Rattle.rdl_tree.specs.declared.description.Of.TheVariants.{Anonymous}
 use Rattle.rdl_scope.specs.Walk.{is_definition}
-use Rattle.rdl_rewrite.specs.Fates.{fate, fate_patches}
 use Rattle.rdl_rewrite.specs.Led.{refers_to}
 use Rattle.rdl_rewrite.specs.Passed.{may_pass}
-use Rattle.rdl_rewrite.proofs.Apart.{unpatched_apart}
 use Rattle.rdl_rewrite.proofs.Before.{nothing_passed}
 use Rattle.rdl_rewrite.proofs.Led.{led_type}
 use Rattle.rdl_rewrite.proofs.Located.{body_at-item}
 use Rattle.rdl_rewrite.proofs.Staying.{nothing_named}
 use Rattle.rdl_rewrite.proofs.Untouched.{nothing_inside}
 use Rattle.rdl_rewrite.proofs.sweep.Sweep.stays.Goals as goal
-
-pub returns-then-is_root_apart : goal.returns-then-is_root_apart
-returns-then-is_root_apart c = λ _.
-    let d = c.args.self.now.whole.now.items in
-    let way = c.args.self.now.way.now in
-    let name = option_copied c.args.self.now.name in
-    let n = c.args.number in
-    let x = c.args.found.now in
-    ap (λ b. fate_patches (fate d way name) b n (add x no_items)) (c.is_root_apart.ensures.root c.if-is_root_apart.true)
-    ∙ unpatched_apart d way name n x (c.requires.known.leading n (c.is_root_apart.ensures.apart c.if-is_root_apart.true))
 
 pub returns-then-is_apart : goal.returns-then-is_apart
 returns-then-is_apart c = λ h.
