@@ -11,7 +11,7 @@ use rdl_edit::map::Map;
 use rdl_elab::elaborate::elaborate;
 use rdl_elab::row::Rows;
 use rdl_header::{HeaderFault, header};
-use rdl_kept::kept::Kept;
+use rdl_held::held::Held;
 use rdl_list::list_text;
 use rdl_parse::parse::{parse, parse_item};
 use rdl_scope::faults::check;
@@ -44,7 +44,7 @@ enum Call {
     Elaborate,
     Open,
     Rows,
-    Kept,
+    Held,
     Header,
 }
 
@@ -218,11 +218,11 @@ fn rows_answer(alloc: Global, text: &str) -> Answer {
     lines(alloc, &opened(alloc, text)?)
 }
 
-/// The lines of the rows of layouts that are kept.
-fn finished_answer(alloc: Global, text: &str) -> Answer {
+/// The lines of the rows of a map of which all is held.
+fn held_answer(alloc: Global, text: &str) -> Answer {
     let description = description(alloc, text)?;
-    match Kept::of(alloc, &description, None) {
-        Ok(kept) => list_text(alloc, kept.rows(alloc, &description)?.as_slice()),
+    match Held::of(alloc, &description, None) {
+        Ok(held) => list_text(alloc, held.rows(alloc, &description)?.as_slice()),
         Err(fault) => fault_answer(alloc, &fault),
     }
 }
@@ -258,7 +258,7 @@ fn answer(alloc: Global, call: Call, text: &str) -> Answer {
         Call::Elaborate => elaborate_answer(alloc, text),
         Call::Open => open_answer(alloc, text),
         Call::Rows => rows_answer(alloc, text),
-        Call::Kept => finished_answer(alloc, text),
+        Call::Held => held_answer(alloc, text),
         Call::Header => header_answer(alloc, text),
     }
 }
@@ -340,9 +340,9 @@ const OF_MAPS: [Case; 21] = [
     (Call::Rows, THREE, THREE_LINES),
     (Call::Rows, SHARED, SHARED_LINES),
     (Call::Rows, NESTED, NESTED_LINES),
-    (Call::Kept, THREE, THREE_LINES),
-    (Call::Kept, WITH_NAMES, WITH_NAMES_LINES),
-    (Call::Kept, WIDE, "E21 at 0.0.0"),
+    (Call::Held, THREE, THREE_LINES),
+    (Call::Held, WITH_NAMES, WITH_NAMES_LINES),
+    (Call::Held, WIDE, "E21 at 0.0.0"),
     (Call::Header, THREE, THREE_HEADER),
     (Call::Header, SHARED, SHARED_HEADER),
     (Call::Header, NESTED, NESTED_HEADER),

@@ -342,7 +342,7 @@ fn placed() -> &'static [Step] {
 }
 
 #[test]
-fn of_kept_layouts(rt: HostRuntime) {
+fn of_held_layouts(rt: HostRuntime) {
     follow(&rt, rt.alloc(), TWO_FILES, 10_000, placed());
 }
 
@@ -390,12 +390,12 @@ fn follow_behind(rt: &impl Abort, alloc: Global, text: &str, steps: &[Step]) {
     }
 }
 
-// The opening places the registers of both files in three modes, and their two fields and the two files in one; a line
-// that enlarges the second file places its register and the two files.
+// The opening places the two fields, the registers of both files and the two files, each once for each mode; a line that
+// enlarges the second file places its register and the two files.
 const PLACED_LARGE: [Step; 12] = [
-    ("placed", "3007"),
+    ("placed", "3015"),
     ("resize /$B/x [2]", ""),
-    ("placed", "5"),
+    ("placed", "9"),
     ("rename /$B/x y", ""),
     ("placed", "0"),
     ("undo", ""),

@@ -8,8 +8,6 @@ mod calls;
 mod examples;
 #[cfg(test)]
 mod history;
-#[cfg(test)]
-mod layouts;
 pub mod patches;
 #[cfg(test)]
 mod runs;

@@ -2,7 +2,6 @@
 use crate::history::map_of;
 use crate::map::rows_or_fault;
 use crate::{assert_holds, assert_same};
-use rdl_elab::layout::{Layout, Span};
 use rdl_elab::row::{Row, Rows};
 use rdl_list::list_text;
 use rdl_text::token::Number;
@@ -12,18 +11,6 @@ use rdl_tree::value::{Value, Word};
 use std::alloc::{AllocError, Global};
 use std::process::Abort;
 use std::test::Fail;
-
-fn are_starts(spans: &[Span], starts: &[u64]) -> bool {
-    spans.len() == starts.len()
-        && spans
-            .iter()
-            .zip(starts)
-            .all(|(span, start)| span.start == *start)
-}
-
-pub(crate) fn is_laid_out(layout: &Layout, starts: &[u64], size: u64) -> bool {
-    layout.size == size && are_starts(layout.spans.as_slice(), starts)
-}
 
 // the nearer of two defaults, and the outer one behind the body that has the nearer
 const DEFAULTS: &str =

@@ -7,11 +7,11 @@ mod ample;
 #[cfg(test)]
 mod backs;
 #[cfg(test)]
+mod held;
+#[cfg(test)]
 mod history;
 #[cfg(test)]
 mod journal;
-#[cfg(test)]
-mod kept;
 #[cfg(test)]
 mod layouts;
 #[cfg(test)]
@@ -22,9 +22,9 @@ mod origins;
 #[cfg(test)]
 mod parse;
 #[cfg(test)]
-mod resumed;
+mod reaching;
 #[cfg(test)]
-mod roots;
+mod resumed;
 #[cfg(test)]
 mod rows;
 #[cfg(test)]

@@ -29,10 +29,14 @@ use Rattle.rdl_rewrite.specs.Addresses.{same, leads_to}
 use Rattle.rdl_rewrite.specs.Names.{holder_names, defined_names, has_name}
 use Rattle.rdl_rewrite.specs.declared.edit.PatchRefusal.TheVariants.{NameTaken, Reserved}
 use Rattle.rdl_rewrite.specs.Renaming.{renamed_shell, renamed_items, is_taken, is_reserved, renamed}
-use Rattle.rdl_kept.specs.Skeleton.{lays_out, skeleton_shell, number_in, skeleton_type, skeleton_in, skeleton}
+use Rattle.rdl_reach.specs.EditedBodies.{lays_out}
+use Rattle.rdl_reach.specs.Skeleton.{skeleton_shell, number_in, skeleton_type, skeleton_in, skeleton}
 use Rattle.rdl_elab.proofs.PartsFound.{item-here}
-use Rattle.rdl_kept.proofs.Skeletons.{names}
-use Rattle.rdl_kept.proofs.StandingIn.{body-inside}
+use Rattle.rdl_scope.proofs.Levelled.{body-deeper}
+
+-- the names of the types that stand before an item
+abbrev names : {X : Type 0} → List (List ℕ × X) → List (List ℕ)
+names ts = map (λ t. t.0) ts
 
 -- ---- A component has a body.
 
@@ -345,7 +349,7 @@ module _ (d : Items) (accepted : fault_of d ≡ None) (way name : List ℕ) (Goo
       let here : inner n t ≡ Some body = ap (λ j. inner j t) (first-more n) ∙ h.insides 0 in
       let stands : before n e b 0 t ≡ f = ap (λ j. before j e b 0 t) (first-more n) ∙ h.standing 0 in
       record {
-        body = body-inside b n d t is.body ∙ here;
+        body = body-deeper b n d t is.body ∙ here;
         standing = λ i a.
             ap (λ c. standing_at nothing [] c d) (append_assoc b (n ∷ []) (i ∷ a)) ∙ is.standing n (i ∷ a)
             ∙ ap (option_and_then (standing_at (before n e b 0 t) (b ++ n ∷ []) (i ∷ a))) here

@@ -20,8 +20,9 @@ use Rattle.rdl_tree.proofs.Edits.{insert-remove}
 use Rattle.rdl_tree.proofs.Reached.{lent_item}
 use Rattle.rdl_tree.proofs.Rounds.{items_of-list_of}
 use Rattle.rdl_tree.proofs.Undone.{shift_is, exchange_is}
-use Rattle.rdl_kept.specs.Reach.{SaysTheSame}
-use Rattle.rdl_kept.specs.Skeleton.{lays_out, skeleton_shell, number_in, skeleton_type, skeleton_in, skeleton}
+use Rattle.rdl_reach.specs.Quiet.{SaysTheSame}
+use Rattle.rdl_reach.specs.EditedBodies.{lays_out}
+use Rattle.rdl_reach.specs.Skeleton.{skeleton_shell, number_in, skeleton_type, skeleton_in, skeleton}
 use Rattle.rdl_edit.specs.Still.{is_still, IsStillPart, IsStill, AreStill}
 
 -- two lists of items have one skeleton, whatever is in scope

@@ -26,8 +26,8 @@ use Rattle.rdl_rewrite.specs.declared.assignment.Sort.{Sort}
 use Rattle.rdl_rewrite.specs.declared.assignment.Sort.TheVariants as sort
 use Rattle.rdl_rewrite.specs.declared.edit.Edit.{Edit}
 use Rattle.rdl_rewrite.specs.declared.edit.Edit.TheVariants.{Add, Remove, Rename, Move, Resize, SetBits, SetAddress, SetStride, SetAlign, SetReset, SetOwn, SetDefault, ClearOwn, ClearDefault, Assign, Unassign}
-use Rattle.rdl_kept.specs.Reach.{SaysTheSame}
-use Rattle.rdl_kept.specs.Skeleton.{lays_out}
+use Rattle.rdl_reach.specs.Quiet.{SaysTheSame}
+use Rattle.rdl_reach.specs.EditedBodies.{lays_out}
 use Rattle.rdl_edit.specs.Still.{is_still, IsStillPart, AreStill, is_still_edit}
 
 -- the item of a body at an address

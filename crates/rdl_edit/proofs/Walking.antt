@@ -1,20 +1,16 @@
 -- A step whose patches fit, each where those before it led, is as good as the map to which it leads.
-use Rattle.std.proofs.Common.{◌≡◌, Bool, true, false, length, List, [], ◌∷◌, ◌++◌, ℕ, ◌≤◌, map, refl, ap, sym, subst, ◌∙◌, Option, Some, None, ◌⊎◌, inl, inr}
+use Rattle.std.proofs.Common.{◌≡◌, true, List, [], ◌∷◌, ◌++◌, ℕ, ◌≤◌, map, refl, ap, sym, subst, ◌∙◌, Option, Some, None, ◌⊎◌, inl, inr}
 use mathlib.Core.List.{reverse}
-use Rattle.std.proofs.lemmas.List.{reverse-append, nil_from_length}
+use Rattle.std.proofs.lemmas.List.{reverse-append}
 use Rattle.journal_core.specs.Along.{FitInTurn}
 use Rattle.journal_core.proofs.Ways.{reverse-first}
 use Rattle.rdl_tree.specs.Depth.{depth}
 use Rattle.rdl_tree.proofs.Patching.{image-inverses, inverses-inverses}
 use Rattle.rdl_tree.proofs.Nesting.{AllFit-inverses, image-depth}
 use Rattle.rdl_edit.specs.Backs.{Reversal, read_back, prior, Fits}
-use Rattle.rdl_edit.specs.Keeping.{IsLaidOut}
-use Rattle.rdl_edit.specs.Ways.{place_of, way_back, ways_along, AllLead, is_empty}
+use Rattle.rdl_edit.specs.Ways.{place_of, way_back, ways_along, AllLead}
 use Rattle.rdl_edit.specs.declared.ways.Direction.TheVariants as way
-use Rattle.std.proofs.lemmas.Bool.Decides.{Decides-eqb}
-use Rattle.std.specs.List.{list_all}
 use Rattle.std.specs.Prelude.{◌&&◌, if◌then◌else◌}
-use Rattle.rdl_kept.specs.AllKept.{KeptLayouts}
 use Rattle.rdl_tree.specs.Items.{Items}
 use Rattle.rdl_tree.specs.Patch.{AllFit, patched, image}
 use Rattle.rdl_tree.specs.declared.patch.Patch.{Patch}
@@ -35,24 +31,6 @@ step-judged at option ps t new h made =
     ap (λ b. if b then place_fault at option (image ps t) else Some (PatchMisfits at)) (all-fit ps t h) ∙ ap (place_fault at option) (sym made)
 
 pub ruleset steps = (step-judged)
-
--- ---- A step without a patch stays where it begins.
-
-both : (a b : Bool) → (a && b) ≡ true → (a ≡ true) × (b ≡ true)
-both true b e = (refl, e)
-both false b e = cc
-
-stays : (steps : List Reversal) (d : Items) → list_all is_empty steps ≡ true → place_after d steps ≡ d
-stays [] d e = refl
-stays (step ∷ steps) d e =
-    let parts = both (is_empty step) (list_all is_empty steps) e in
-    let none : step.patches ≡ [] = nil_from_length step.patches ((Decides-eqb (length step.patches) 0).0 parts.0) in
-    ap (λ ps. place_after (image ps d) steps) none ∙ stays steps d parts.1
-
--- the layouts at the last place are those of the map again, if no step has a patch
-pub laid-out-home : (ways : List Reversal) (there home : Items) (o : Option (List ℕ)) (k : KeptLayouts) → list_all is_empty ways ≡ true → home ≡ place_after there ways
-    → IsLaidOut (record { description = there; option = o }) k → IsLaidOut (record { description = home; option = o }) k
-laid-out-home ways there home o k e came h = subst (λ t. IsLaidOut (record { description = t; option = o }) k) (sym (came ∙ stays ways there e)) h
 
 -- ---- There and home again.
 

@@ -25,11 +25,6 @@ pub record Fits (s : State) (back : Reversal) : Type 0 where
   pub applicable : AllFit back.patches s.description
   pub has_rows : HasRows (prior s back)
 
--- these lead from the new description to the old one
-pub record IsWayBack (old new : Items) (back : List Patch) : Type 0 where
-  pub applicable : AllFit back new
-  pub leads : image back new ≡ old
-
 -- what takes back a step along these patches from a description has as many, and weighs no more than what the step
 -- dropped and replaced, and 20 for each item that it touched
 pub record IsCheap (step : List Patch) (old : Items) (back : List Patch) : Type 0 where

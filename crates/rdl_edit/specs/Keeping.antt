@@ -1,19 +1,13 @@
--- What a map keeps beside its description: the layouts of its components.
+-- What a map keeps beside its description: what is held of it from edit to edit.
 -- own: SystemRDL 2.0 has no edits.
-use Rattle.std.specs.Prelude.{◌≡◌, ◌≤◌, ◌*◌, ℕ}
-use Rattle.rdl_kept.specs.AllKept.{KeptLayouts, AreOf}
-use Rattle.rdl_elab.specs.Anew.{all_instances}
+use Rattle.std.specs.Prelude.{◌≡◌, ℕ}
 use Rattle.rdl_edit.specs.Step.{State}
+use Rattle.rdl_held.specs.HeldMap.{HeldMap, IsHeldOf}
 
--- they are those of this description with this top, so it has no fault
-pub record Keeps (s : State) (k : KeptLayouts) : Type 0 where
-  pub layouts : AreOf s.description k
-  pub top : k.top ≡ s.option
-
--- they are, and at most three for each of its instances were placed
-pub record IsLaidOut (s : State) (k : KeptLayouts) : Type 0 where
-  pub keeps : Keeps s k
-  pub few : k.placed ≤ 3 * all_instances s.description
+-- it is that of this description with this top, so it has no fault
+pub record Keeps (s : State) (h : HeldMap) : Type 0 where
+  pub held : IsHeldOf s.description h
+  pub top : h.top ≡ s.option
 
 -- a map as a contract sees it: its state, and how many instances its last step placed, once for each mode
 pub record Held : Type 0 where

@@ -1,15 +1,13 @@
 pub mod Backs
 pub mod Faults
 pub mod Keeping
-pub mod Noting
 pub mod OfEdits
 pub mod Placing
+pub mod QuietEdits
+pub mod QuietSteps
 pub mod ResumeFault
 pub mod Resuming
-pub mod RootSteps
 pub mod Step
 pub mod Still
-pub mod Touching
-pub mod Tracking
 pub mod Ways
 pub mod Weights

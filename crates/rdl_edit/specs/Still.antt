@@ -1,7 +1,6 @@
 -- Patches that change nothing on which a layout depends: the skeleton of the description stays, and so do all layouts.
 -- own: SystemRDL 2.0 has no edits.
 use Rattle.std.specs.Prelude.{◌≡◌, not, Bool, true, false, IsSomeAnd, List, [], ◌∷◌}
-use Rattle.std.specs.List.{list_any}
 use Rattle.rdl_tree.specs.Items.{Items}
 use Rattle.rdl_tree.specs.ItemAt.{item_at}
 use Rattle.rdl_tree.specs.Patch.{patched}
@@ -13,8 +12,8 @@ use Rattle.rdl_tree.specs.declared.patch.Patch.{Patch}
 use Rattle.rdl_tree.specs.declared.patch.Patch.TheVariants.{Insert, Delete, Shift, Exchange}
 use Rattle.rdl_rewrite.specs.declared.edit.Edit.{Edit}
 use Rattle.rdl_rewrite.specs.declared.edit.Edit.TheVariants.{Rename, SetReset, SetOwn, SetDefault, ClearOwn, ClearDefault, Assign, Unassign}
-use Rattle.rdl_kept.specs.Reach.{SaysTheSame}
-use Rattle.rdl_kept.specs.Skeleton.{lays_out}
+use Rattle.rdl_reach.specs.Quiet.{SaysTheSame}
+use Rattle.rdl_reach.specs.EditedBodies.{lays_out}
 
 -- an assignment to what stands inside an instance, or of a property on which no layout depends
 abbrev pub is_still : Item → Bool
@@ -40,16 +39,6 @@ IsStill (Exchange at new) t = IsSomeAnd (item_at at t) (IsStillPart new)
 abbrev pub AreStill : List Patch → Items → Type 0
 AreStill [] t = Unit {0}
 AreStill (p ∷ ps) t = IsStill p t × AreStill ps (patched p t)
-
--- one of these patches moves an item
-abbrev pub is_shift : Patch → Bool
-is_shift (Insert at x) = false
-is_shift (Delete at) = false
-is_shift (Shift at to) = true
-is_shift (Exchange at new) = false
-
-abbrev pub moves_any : List Patch → Bool
-moves_any ps = list_any is_shift ps
 
 -- an edit that sets a reset, sets or takes out what is assigned to something inside an instance, or an assignment or default of a property
 -- on which no layout depends

@@ -1,6 +1,6 @@
 -- The steps of a session, taken one after another, and what leads home again.
 -- own: SystemRDL 2.0 has no edits.
-use Rattle.std.specs.Prelude.{◌≡◌, ◌==◌, ℕ, Bool, false, List, [], ◌∷◌, length, if◌then◌else◌}
+use Rattle.std.specs.Prelude.{◌≡◌, ℕ, Bool, false, List, [], ◌∷◌, if◌then◌else◌}
 use Rattle.rdl_tree.specs.Items.{Items}
 use Rattle.rdl_tree.specs.Patch.{AllFit, image, inverses}
 use Rattle.rdl_edit.specs.declared.resume_fault.Where.TheVariants as where_
@@ -29,10 +29,6 @@ abbrev pub refused : Where → Fault → ResumeFault
 refused at fault = if is_memory fault.kind then Memory else MapFaulty at fault
 
 -- ---- Steps, one after another.
-
--- a step without a patch
-abbrev pub is_empty : Reversal → Bool
-is_empty step = length step.patches == 0
 
 abbrev pub place_of : Direction → ℕ → Where
 place_of way.Undo n = where_.Undo n

@@ -1,60 +1,51 @@
 //! The map that a history keeps.
 ghost use Rattle.std.specs.Prelude.{◌≡◌, ◌⊎◌, ◌≤◌, ◌*◌, true, false, map, None, Some, Ok, Err, IfOk, IfErr, OnOk, OnErr, option_copied};
-ghost use Rattle.rdl_elab.specs.Faults.{elaborated};
-ghost use Rattle.rdl_scope.specs.ItemFaults.{out_of_memory};
-ghost use Rattle.rdl_kept.specs.AllKept.{AreOf};
-ghost use Rattle.rdl_elab.specs.Anew.{all_instances, instances_at};
-ghost use Rattle.rdl_kept.specs.Reach.{in_reach};
-ghost use Rattle.rdl_tree.specs.Patch.{inverses};
-ghost use Rattle.rdl_edit.specs.Step.{HasRows, Leads, Refuses};
 ghost use Rattle.journal_core.specs.Along.{FitInTurn};
-ghost use Rattle.rdl_edit.specs.declared.resume_fault.ResumeFault.{ResumeFault};
-ghost use Rattle.rdl_edit.specs.Placing.{IsFew, KeepsLayouts};
-ghost use Rattle.rdl_edit.specs.Still.{keeps_layouts};
-ghost use Rattle.rdl_edit.specs.Tracking.{steps_edit, steps_change, IsOrdinary, is_rename};
 ghost use Rattle.rdl_edit.specs.Backs.{read_back, prior, Fits, IsCheap};
 ghost use Rattle.rdl_edit.specs.OfEdits.{IsLeft, IsOwn, IsTurned};
 ghost use Rattle.rdl_edit.specs.Resuming.{session_fault};
+ghost use Rattle.rdl_edit.specs.Step.{HasRows, Leads, Refuses};
+ghost use Rattle.rdl_edit.specs.declared.resume_fault.ResumeFault.{ResumeFault};
+ghost use Rattle.rdl_edit.specs.Still.{keeps_layouts};
+ghost use Rattle.rdl_elab.specs.Anew.{all_instances};
+ghost use Rattle.rdl_elab.specs.Faults.{elaborated};
+ghost use Rattle.rdl_held.specs.HeldMap.{IsHeldOf};
+ghost use Rattle.rdl_edit.specs.Placing.{HasPlaced, IsInReach};
+ghost use Rattle.rdl_edit.specs.QuietSteps.{IsQuietStep};
 ghost use Rattle.rdl_rewrite.specs.Patches.{patches};
+ghost use Rattle.rdl_scope.specs.ItemFaults.{out_of_memory};
+ghost use Rattle.rdl_tree.specs.Patch.{inverses};
 
 use crate::back::Back;
-use crate::notes::{Notes, assigned_in, foretold, is_foretold, notes_behind, outlook_of};
-use crate::refusal::Refusal;
+use crate::refusal::{Refusal, refused};
 use crate::resume_fault::ResumeFault;
 use crate::resuming::{opened, visit};
-use crate::roots::Roots;
-use crate::turning::{again, turn};
 use crate::ways::{Direction, backs};
 use journal_core::invertible::Invertible;
 use rdl_elab::row::Rows;
-use rdl_kept::kept::Kept;
+use rdl_held::held::Held;
 use rdl_rewrite::edit::Edit;
-use rdl_rewrite::known::Known;
-use rdl_rewrite::rewrite::patches_known;
+use rdl_rewrite::rewrite::patches_of_shallow;
 use rdl_text::name::Name;
 use rdl_tree::address::Address;
 use rdl_tree::description::Description;
-use rdl_tree::fault::Fault;
+use rdl_tree::fault::{Fault, FaultKind};
 use rdl_tree::patch::Patch;
 use std::alloc::{AllocError, Global};
 use std::marker::Model;
 
-/// A map that has rows, with the name that the option asks of its top, and the layouts of all its components. A contract
-/// sees its `State`, and how many instances its last step placed.
+/// A map that has rows, with the name that the option asks of its top, and what is held of all its components. A contract sees its
+/// description and that name.
 #[derive(Debug, Drop)]
 pub struct Map {
     description: Description,
     name: Option<Name>,
-    kept: Kept,
-    notes: Option<Notes>,
-    roots: Roots,
-    /// The address of the body in which the last edit put an assignment, if it did.
-    last: Option<Address>,
+    held: Held,
 }
 
 impl Model for Map {
     ghost use Rattle.rdl_edit.specs.Keeping.{Held};
-    ghost use Rattle.rdl_edit.specs.Noting.{IsHeld};
+    ghost use Rattle.rdl_edit.specs.Keeping.{Keeps};
     ghost use Rattle.rdl_tree.specs.contracts.description.Body as body;
     ghost use Rattle.std.specs.Coded.{codes};
 
@@ -62,12 +53,12 @@ impl Model for Map {
 
     ghost coded = { Prim.hlevel (codes, body.the_row.coded) };
 
-    ghost view = { λ m. record { state = record { description = m.description.items; option = m.name }; placed = m.kept.placed } };
+    ghost view = { λ m. record { state = record { description = m.description.items; option = m.name }; placed = m.held.placed } };
 
-    ghost invariant = { λ m. IsHeld (record { description = m.description.items; option = m.name }) m.kept m.notes m.roots };
+    ghost invariant = { λ m. Keeps (record { description = m.description.items; option = m.name }) m.held };
 }
 
-/// What a contract knows of a map but for its layouts: its description, and the name that the option asks of its top. Code
+/// What a contract knows of a map but for what is held of it: its description, and the name that the option asks of its top. Code
 /// makes none.
 #[derive(Drop)]
 pub struct MapState {
@@ -96,6 +87,16 @@ pub struct Resumed {
     pub redo: Vec<Back>,
 }
 
+/// Want of memory as a fault of the map.
+fn no_memory() -> Fault
+    ensures { result ≡ out_of_memory }
+{
+    Fault {
+        kind: FaultKind::Memory,
+        address: Address::new(),
+    }
+}
+
 fn top_text(name: Option<&Name>) -> Option<&str>
     ensures { option_copied result ≡ option_copied name.entry }
 {
@@ -113,17 +114,12 @@ impl Map {
         ensures accepted { IfOk result (λ _. HasRows (record { description = description.items; option = name })) }
         ensures refused { IfErr result (λ fault. (elaborated description.items name ≡ Err fault) ⊎ (fault ≡ out_of_memory)) }
     {
-        match Kept::of(alloc, &description, top_text(name.as_ref())) {
-            Ok(kept) => Ok(Map {
-                description,
-                name,
-                kept,
-                notes: None,
-                roots: Roots::unknown(alloc),
-                last: None,
-            }),
-            Err(fault) => Err(fault),
-        }
+        let held = Held::of(alloc, &description, top_text(name.as_ref()))?;
+        Ok(Map {
+            description,
+            name,
+            held,
+        })
     }
 
     /// Takes the description as `open` does, or drops it with the fault of its map, and makes the rows of the map besides.
@@ -137,16 +133,11 @@ impl Map {
         ensures rows { IfOk result (λ shown. elaborated description.items name ≡ Ok shown.1) }
         ensures refused { IfErr result (λ fault. (elaborated description.items name ≡ Err fault) ⊎ (fault ≡ out_of_memory)) }
     {
-        let (kept, rows) = Kept::with_rows(alloc, &description, top_text(name.as_ref()))?;
-        let map = Map {
-            description,
-            name,
-            kept,
-            notes: None,
-            roots: Roots::unknown(alloc),
-            last: None,
-        };
-        Ok((map, rows))
+        let map = Map::open(alloc, description, name)?;
+        match map.rows(alloc) {
+            Ok(rows) => Ok((map, rows)),
+            Err(_) => Err(no_memory()),
+        }
     }
 
     /// Takes the description, with the steps that lead back from it and on, each list with the next one to be taken first,
@@ -168,42 +159,24 @@ impl Map {
         ensures refused { IfErr result (λ f. (session_fault name description.items (map (λ step. step.items) undo.items) (map (λ step. step.items) redo.items) ≡ Some f) ⊎ (f ≡ ResumeFault.Memory)) }
     {
         let mut description = description;
-        let top = top_text(name.as_ref());
-        let mut kept = match opened(alloc, &description, top) {
-            Ok(kept) => kept,
+        let held = match opened(alloc, &description, top_text(name.as_ref())) {
+            Ok(held) => held,
             Err(fault) => return Err(fault),
         };
         let undo = backs(alloc, undo)?;
         let redo = backs(alloc, redo)?;
-        let undo = match visit(
-            alloc,
-            &mut description,
-            &mut kept,
-            top,
-            undo,
-            Direction::Undo,
-        ) {
+        let undo = match visit(alloc, &mut description, &held, undo, Direction::Undo) {
             Ok(undo) => undo,
             Err(fault) => return Err(fault),
         };
-        let redo = match visit(
-            alloc,
-            &mut description,
-            &mut kept,
-            top,
-            redo,
-            Direction::Redo,
-        ) {
+        let redo = match visit(alloc, &mut description, &held, redo, Direction::Redo) {
             Ok(redo) => redo,
             Err(fault) => return Err(fault),
         };
         let map = Map {
             description,
             name,
-            kept,
-            notes: None,
-            roots: Roots::unknown(alloc),
-            last: None,
+            held,
         };
         Ok(Resumed { map, undo, redo })
     }
@@ -214,35 +187,35 @@ impl Map {
         &self.description
     }
 
-    /// The layouts of all its components.
-    pub fn kept(&self) -> &Kept
-        ensures layouts { AreOf self.now.state.description result.now }
+    /// What is held of all its components, their layouts among it.
+    pub fn held(&self) -> &Held
+        ensures held { IsHeldOf self.now.state.description result.now }
         ensures top { result.now.top ≡ self.now.state.option }
         ensures placed { result.now.placed ≡ self.now.placed }
     {
-        &self.kept
+        &self.held
     }
 
-    /// How many instances the last step placed, once for each mode: it was the opening, or an accepted edit, undo or redo.
-    /// Where a session is gone on with, it is how many the last time that the session's own map was laid out.
+    /// How many instances the last step placed, once for each mode: it was the opening, or an accepted edit, undo or redo. The count
+    /// stops at the greatest `u64`.
     pub fn placed(&self) -> u64
         ensures { result ≡ self.now.placed }
     {
-        self.kept.placed()
+        self.held.placed()
     }
 
     /// The rows, made anew.
     pub fn rows(&self, alloc: Global) -> Result<Rows, AllocError>
         ensures { IfOk result (λ rows. elaborated self.now.state.description self.now.state.option ≡ Ok rows) }
     {
-        self.kept.rows(alloc, &self.description)
+        self.held.rows(alloc, &self.description)
     }
 }
 
 impl Invertible for Map {
-    ghost use Rattle.rdl_edit.specs.Step.{Leads, Refuses};
     ghost use Rattle.rdl_edit.specs.Backs.{prior, Fits};
     ghost use Rattle.rdl_edit.specs.OfEdits.{IsLeft, IsOwn, IsTurned};
+    ghost use Rattle.rdl_edit.specs.Step.{Leads, Refuses};
 
     type Change = Edit;
 
@@ -278,39 +251,18 @@ impl Invertible for Map {
         ensures mark { IfOk result (λ back. back.read ≡ false) }
         ensures inverse { IfOk result (λ back. back.patches ≡ inverses (patches self.old.state.description edit.now) self.old.state.description) }
         ensures cost { IfOk result (λ back. IsCheap (patches self.old.state.description edit.now) self.old.state.description back.patches) }
-        ensures few { OnOk result (IsFew self.old.state.description (patches self.old.state.description edit.now) self.new.state.description self.new.placed) }
+        ensures placed { OnOk result (HasPlaced self.old.state.description (patches self.old.state.description edit.now) self.new.state.description self.new.placed) }
+        ensures edited { OnOk result (IsInReach self.old.state.description (patches self.old.state.description edit.now) self.new.state.description self.new.placed) }
         ensures none { OnOk result (keeps_layouts edit.now ≡ true → self.new.placed ≡ 0) }
-        ensures back_keeps { IfOk result (λ back. keeps_layouts edit.now ≡ true → KeepsLayouts back.patches self.new.state.description) }
-        ensures edited { OnOk result (self.new.placed ≤ 3 * instances_at (in_reach (steps_edit (patches self.old.state.description edit.now) self.old.state.description) self.new.state.description) self.new.state.description) }
-        ensures back_ordinary { IfOk result (λ back. is_rename edit.now ≡ false → IsOrdinary back.patches self.new.state.description) }
+        ensures back_quiet { IfOk result (λ back. keeps_layouts edit.now ≡ true → IsQuietStep back.patches self.new.state.description) }
         ensures refused { IfErr result (λ refusal. Refuses self.old.state edit.now refusal) }
         ensures err { OnErr result (self.new ≡ self.old) }
     {
-        let notes = foretold(&self.description, self.notes.take(), edit);
-        let is_new = is_foretold(&self.description, edit, notes.as_ref());
-        let leading = self.roots.leading(alloc, &self.description, edit);
-        let known = Known {
-            is_new,
-            is_shallow: true,
-            leading: leading.as_slice(),
+        let patches = patches_of_shallow(alloc, &self.description, edit)?;
+        let back = match self.held.turn(alloc, &mut self.description, patches) {
+            Ok(back) => back,
+            Err(fault) => return Err(refused(fault)),
         };
-        let patches = patches_known(alloc, &self.description, edit, known)?;
-        let outlook = outlook_of(&self.description, notes, edit, patches.as_slice());
-        let way = assigned_in(edit, patches.as_slice());
-        let name = top_text(self.name.as_ref());
-        let noted = outlook.as_ref();
-        let back = turn(
-            alloc,
-            &mut self.description,
-            &mut self.kept,
-            &mut self.roots,
-            name,
-            patches,
-            noted,
-        )?;
-        let last = self.last.as_ref();
-        self.notes = notes_behind(alloc, &self.description, outlook, way.as_ref(), last);
-        self.last = way;
         Ok(Back::new(back, false))
     }
 
@@ -325,27 +277,16 @@ impl Invertible for Map {
         ensures mark { IfOk result (λ forward. forward.read ≡ back.read) }
         ensures inverse { IfOk result (λ forward. forward.patches ≡ inverses back.patches self.old.state.description) }
         ensures cost { IfOk result (λ forward. IsCheap back.patches self.old.state.description forward.patches) }
-        ensures few { OnOk result (IsFew self.old.state.description back.patches self.new.state.description self.new.placed) }
-        ensures none { OnOk result (KeepsLayouts back.patches self.old.state.description → self.new.placed ≡ 0) }
-        ensures back_keeps { IfOk result (λ forward. KeepsLayouts back.patches self.old.state.description → KeepsLayouts forward.patches self.new.state.description) }
-        ensures edited { OnOk result (IsOrdinary back.patches self.old.state.description → self.new.placed ≤ 3 * instances_at (in_reach (steps_edit back.patches self.old.state.description) self.new.state.description) self.new.state.description) }
-        ensures back_ordinary { IfOk result (λ forward. IsOrdinary back.patches self.old.state.description → IsOrdinary forward.patches self.new.state.description) }
-        ensures changed { OnOk result (self.new.placed ≤ 3 * instances_at (in_reach (steps_change back.patches self.old.state.description) self.new.state.description) self.new.state.description) }
+        ensures placed { OnOk result (HasPlaced self.old.state.description back.patches self.new.state.description self.new.placed) }
+        ensures edited { OnOk result (IsInReach self.old.state.description back.patches self.new.state.description self.new.placed) }
+        ensures none { OnOk result (IsQuietStep back.patches self.old.state.description → self.new.placed ≡ 0) }
+        ensures back_quiet { IfOk result (λ forward. IsQuietStep back.patches self.old.state.description → IsQuietStep forward.patches self.new.state.description) }
         ensures handed { IfErr result (λ same. same ≡ back) }
         ensures err { OnErr result (self.new ≡ self.old) }
     {
-        self.notes = None;
-        let name = top_text(self.name.as_ref());
         let read = back.read();
         let patches = back.into_vec();
-        let forward = match again(
-            alloc,
-            &mut self.description,
-            &mut self.kept,
-            &mut self.roots,
-            name,
-            patches,
-        ) {
+        let forward = match self.held.turn_known(alloc, &mut self.description, patches) {
             Ok(forward) => forward,
             Err(same) => return Err(Back::new(same, read)),
         };

@@ -6,7 +6,7 @@ ghost use Rattle.rdl_tree.specs.Patch.{fits, AllFit, patched, image, inverse, in
 ghost use Rattle.rdl_edit.specs.declared.resume_fault.ResumeFault.TheVariants.{Memory};
 ghost use Rattle.rdl_edit.specs.Backs.{read_back};
 ghost use Rattle.rdl_edit.specs.Resuming.{all_fit, place_after};
-ghost use Rattle.rdl_edit.specs.Ways.{IsMisfit, stop_at, refused, place_of, ways_along, AllLead, is_empty};
+ghost use Rattle.rdl_edit.specs.Ways.{IsMisfit, stop_at, refused, place_of, ways_along, AllLead};
 
 use crate::back::Back;
 use crate::refusal::is_memory;
@@ -160,13 +160,6 @@ pub fn come_back(
         steps.push(Back::new(turned.keep(), read))?;
     }
     Ok(reversed(steps))
-}
-
-/// Whether none of the steps has a patch, so that all stay where they begin.
-pub fn are_empty(steps: &[Back]) -> bool
-    ensures { result ≡ list_all is_empty steps.now }
-{
-    steps.iter().all(|step| step.patches().is_empty())
 }
 
 /// The steps of a session as what takes a map back.

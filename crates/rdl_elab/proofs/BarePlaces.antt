@@ -1,8 +1,7 @@
 -- Instances that say nothing but their names.
-use Rattle.std.proofs.Common.{◌≡◌, ℕ, ◌+◌, ◌-◌, ◌*◌, ◌%◌, ◌^◌, ◌<◌, ◌≤◌, List, [], ◌∷◌, map, drop, length, refl, ap, sym, ◌∙◌, arith, Option, Some, None, get_or, true, false}
+use Rattle.std.proofs.Common.{◌≡◌, ℕ, ◌+◌, ◌-◌, ◌*◌, ◌%◌, ◌^◌, ◌<◌, refl, ap, sym, ◌∙◌, arith, Option}
 use Rattle.std.proofs.Math.Nat.{zero-mul}
-use Rattle.std.specs.Prelude.{min, max, unwrap_or, option_map, slice_get, IsSomeAnd, IfSome}
-use Rattle.std.specs.Int.{IsPowerOfTwo}
+use Rattle.std.specs.Prelude.{min, max, unwrap_or}
 use Rattle.rdl_tree.specs.declared.shell.Shell.{Shell}
 use Rattle.rdl_scope.specs.ItemFaults.{product}
 use Rattle.rdl_elab.specs.declared.layout.Mode.{Mode}
@@ -11,13 +10,13 @@ use Rattle.rdl_elab.specs.declared.layout.Placement.{Placement}
 use Rattle.rdl_elab.specs.declared.layout.Layout.{Layout}
 use Rattle.rdl_elab.specs.declared.layout.placing.BarePlace.{BarePlace}
 use Rattle.rdl_elab.specs.Bare.{IsBare}
-use Rattle.rdl_elab.specs.BarePlaces.{IsBareItem, IsBareStep, IsBarePlace, IsPlacedSo, bare_alignment}
+use Rattle.rdl_elab.specs.BarePlaces.{IsBareItem, IsBareStep, IsBarePlace, bare_alignment}
 use Rattle.rdl_elab.specs.Capped.{capped}
 use Rattle.rdl_elab.specs.Inside.{shown_placement}
 use Rattle.rdl_elab.specs.Layouts.{is_array}
 use Rattle.rdl_elab.specs.Rounding.{IsStep, next_multiple}
 use Rattle.rdl_elab.specs.Size.{end_of, stride_of}
-use Rattle.rdl_elab.specs.Start.{full_alignment, mode_alignment, aligned_start, start_by, start_of}
+use Rattle.rdl_elab.specs.Start.{full_alignment, mode_alignment, aligned_start, start_by}
 use Rattle.rdl_elab.proofs.CappedNumbers.{start_is}
 use Rattle.rdl_elab.proofs.Rounding.{step_alone}
 

@@ -18,8 +18,7 @@ use Rattle.rdl_elab.specs.Start.{full_alignment, mode_alignment, aligned_start, 
 use Rattle.rdl_elab.specs.Bits.{bits_from}
 use Rattle.rdl_elab.specs.Layouts.{placement, field_bits, member, container, laid_out}
 use Rattle.rdl_elab.specs.Capped.{capped, capped_span, capped_layout}
-use Rattle.rdl_elab.specs.Inside.{counted, shown_placement}
-use Rattle.rdl_elab.specs.LaidOut.{shown_member}
+use Rattle.rdl_elab.specs.Inside.{counted, shown_placement, shown_member}
 use Rattle.rdl_elab.proofs.CappedNumbers.{Alike, over, next_alike}
 use Rattle.rdl_elab.proofs.Placing.{to_span, greatest_capped}
 use Rattle.rdl_elab.proofs.KeptLayouts.{power_alike, max_alike}

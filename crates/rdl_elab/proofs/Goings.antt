@@ -1,6 +1,6 @@
 -- A walk goes on, and what it has kept stays.
 use Rattle.std.proofs.Common.{◌≡◌, ℕ, zero, suc, ◌+◌, ◌-◌, ◌≤◌, ◌<◌, List, [], ◌∷◌, ◌++◌, length, take, drop, get_or, Bool, true, false, Option, Some, None, refl, ap, sym, subst, ◌∙◌, arith, length-append}
-use Rattle.std.specs.Prelude.{IfSome, slice_get, bytes_eq, if◌then◌else◌}
+use Rattle.std.specs.Prelude.{slice_get, bytes_eq, if◌then◌else◌}
 use Rattle.std.proofs.Math.Seq.{drop-nil}
 use Rattle.std.proofs.lemmas.List.{take_more, length-take}
 use Rattle.std.proofs.lemmas.Option.{slice_get_within, slice_get-get_or}
@@ -14,17 +14,12 @@ use Rattle.rdl_tree.specs.declared.description.Item.{Item}
 use Rattle.rdl_tree.specs.declared.description.Item.TheVariants.{Define, Instance, Own, Default, Dynamic}
 use Rattle.rdl_tree.specs.declared.description.Of.TheVariants.{Named, Anonymous}
 use Rattle.rdl_tree.specs.declared.description.Component.{Component}
-use Rattle.rdl_scope.specs.Closed.{Parts, no_parts, part, Made, Standing, lookup, with_made, head_at, parts, standing, nothing, component}
+use Rattle.rdl_scope.specs.Closed.{Parts, no_parts, part, Made, Standing, lookup, with_made, head_at, parts, standing, nothing}
 use Rattle.rdl_elab.specs.declared.walk.finished.Finished.{Finished}
 use Rattle.rdl_elab.specs.Kept.{Part}
-use Rattle.rdl_elab.specs.declared.walk.passed.Passed.{Passed}
 use Rattle.rdl_elab.specs.declared.walk.Walk.{Walk}
 use Rattle.rdl_elab.specs.declared.walk.Found.{Found}
-use Rattle.rdl_elab.specs.Finished.{IsKept, AreParts}
-use Rattle.rdl_elab.specs.Inside.{are_whole}
-use Rattle.rdl_elab.specs.Reaches.{reaches}
-use Rattle.rdl_elab.specs.Ready.{IsKeptAlone, IsReadyAs, AreReadyParts, IsReady, AreAllWhole, KeepsWhole}
-use Rattle.rdl_elab.proofs.Insides.{whole-parts, all-whole}
+use Rattle.rdl_elab.specs.Finished.{IsKept, AreParts, IsFinished}
 use Rattle.rdl_elab.specs.Stands.{made_at, after_item, item_parts, LeadsTo, placed, in_list, AreTypes, Stands, Grows, IsLonger, IsBehind}
 
 -- finished components stay where they are
@@ -66,60 +61,19 @@ parts-grow d fs gs n m (p ∷ ps) (part at s k inside rest) g l h = (
   parts-grow d fs gs n m ps rest g l h.1,
 )
 
-pub ready-as-grow : (d : Items) (fs gs : List Finished) (k : ℕ) (f : Finished) (c : Made) → Grows fs gs → IsReadyAs d fs k f c → IsReadyAs d gs k f c
-ready-as-grow d fs gs k f c g h = record {
-  kept = h.kept;
-  whole = λ w. (let all = h.whole w in (all.0, parts-grow d fs gs k k f.parts.items c.parts g (omega arith) all.1));
-  origin = h.origin;
-  assigned = h.assigned;
-}
-
-pub ready-parts-grow : (d : Items) (fs gs : List Finished) (n m : ℕ) (ps : List Part) (inside : Parts) → Grows fs gs → n ≤ m → AreReadyParts d fs n ps inside → AreReadyParts d gs m ps inside
-ready-parts-grow d fs gs n m [] no_parts g l h = tt
-ready-parts-grow d fs gs n m (p ∷ ps) no_parts g l h = absurd h
-ready-parts-grow d fs gs n m [] (part at s k inside rest) g l h = absurd h
-ready-parts-grow d fs gs n m (p ∷ ps) (part at s k inside rest) g l h = (
-  record {
-    place = h.0.place;
-    shell = h.0.shell;
-    before = omega (arith, h.0.before, l);
-    finished = h.0.finished;
-    there = g.same p.component h.0.finished h.0.there;
-    ready = ready-as-grow d fs gs p.component h.0.finished (record { head = k; parts = inside }) g h.0.ready;
-  },
-  ready-parts-grow d fs gs n m ps rest g l h.1,
-)
-
-pub ready-grow : (d : Items) (fs gs : List Finished) (k : ℕ) (c : Made) → Grows fs gs → IsReady d fs k c → IsReady d gs k c
-ready-grow d fs gs k c g h = record {
+pub finished-grow : (d : Items) (fs gs : List Finished) (k : ℕ) (c : Made) → Grows fs gs → IsFinished d fs k c → IsFinished d gs k c
+finished-grow d fs gs k c g h = record {
   finished = h.finished;
   there = g.same k h.finished h.there;
-  ready = ready-as-grow d fs gs k h.finished c g h.ready;
-  held = λ none. ready-parts-grow d fs gs k k h.finished.parts.items c.parts g (omega arith) (h.held none);
+  kept = h.kept;
+  parts = parts-grow d fs gs k k h.finished.parts.items c.parts g (omega arith) h.parts;
 }
 
 pub types-grow : (d : Items) (fs gs : List Finished) (ks : List (List ℕ × ℕ)) (ts : List (List ℕ × Made)) → Grows fs gs → AreTypes d fs ks ts → AreTypes d gs ks ts
 types-grow d fs gs [] [] g h = tt
 types-grow d fs gs (k ∷ ks) [] g h = absurd h
 types-grow d fs gs [] (t ∷ ts) g h = absurd h
-types-grow d fs gs (k ∷ ks) (t ∷ ts) g h = (h.0, ready-grow d fs gs k.1 t.1 g h.1, types-grow d fs gs ks ts g h.2)
-
--- where all below each component is held, it still is with one more whose instances' components are among them
-pub whole-same : (fs : List Finished) → KeepsWhole fs fs
-whole-same fs = λ all. all
-
-pub whole-on : (fs gs hs : List Finished) → KeepsWhole fs gs → KeepsWhole gs hs → KeepsWhole fs hs
-whole-on fs gs hs g h = λ all. h (g all)
-
-whole-append : (fs : List Finished) (x : Finished) → x.whole ≡ true → AreAllWhole fs → (k : ℕ) (f : Finished) → slice_get (fs ++ x ∷ []) k ≡ Some f → f.whole ≡ true
-whole-append [] x w h zero f e = let same : x ≡ f = cc in ap (λ (y : Finished). y.whole) (sym same) ∙ w
-whole-append [] x w h (suc k) f e = cc
-whole-append (g ∷ fs) x w h zero f e = h zero f e
-whole-append (g ∷ fs) x w h (suc k) f e = whole-append fs x w (λ j y is. h (suc j) y is) k f e
-
-pub whole-last : (fs gs : List Finished) (x : Finished) → gs ≡ fs ++ x ∷ [] → x.whole ≡ are_whole fs x.parts.items → KeepsWhole fs gs
-whole-last fs gs x is e = λ all k f there.
-    whole-append fs x (e ∙ all-whole fs x.parts.items all) all k f (ap (λ hs. slice_get hs k) (sym is) ∙ there)
+types-grow d fs gs (k ∷ ks) (t ∷ ts) g h = (h.0, finished-grow d fs gs k.1 t.1 g h.1, types-grow d fs gs ks ts g h.2)
 
 -- the stacks of types and defaults get longer
 pub longer-same : {X : Type 0} (xs : List X) → IsLonger xs xs
@@ -163,7 +117,7 @@ then-none : (p : Parts) → then_parts p no_parts ≡ p
 then-none no_parts = refl
 then-none (part at s h inside rest) = ap (part at s h inside) (then-none rest)
 
-parts-then : (d : Items) (fs : List Finished) (n : ℕ) (ps qs : List Part) (a b : Parts) → AreReadyParts d fs n ps a → AreReadyParts d fs n qs b → AreReadyParts d fs n (ps ++ qs) (then_parts a b)
+parts-then : (d : Items) (fs : List Finished) (n : ℕ) (ps qs : List Part) (a b : Parts) → AreParts d fs n ps a → AreParts d fs n qs b → AreParts d fs n (ps ++ qs) (then_parts a b)
 parts-then d fs n [] qs no_parts b h g = g
 parts-then d fs n (p ∷ ps) qs no_parts b h g = absurd h
 parts-then d fs n [] qs (part at s k inside rest) b h g = absurd h
@@ -239,7 +193,7 @@ depth-rest (Own p v) rest = omega arith
 depth-rest (Default p v) rest = omega arith
 depth-rest (Dynamic t p v) rest = omega arith
 
-pub depth-one : (i : ℕ) (xs : List Item) (x : Item) → slice_get xs i ≡ Some x → depth (items_of (x ∷ [])) ≤ depth (items_of xs)
+depth-one : (i : ℕ) (xs : List Item) (x : Item) → slice_get xs i ≡ Some x → depth (items_of (x ∷ [])) ≤ depth (items_of xs)
 depth-one i [] x e = cc
 depth-one zero (y ∷ xs) x e = let same : y ≡ x = cc in omega (arith, ap (λ z. depth (add z no_items)) same, depth-first y (items_of xs))
 depth-one (suc i) (y ∷ xs) x e = omega (arith, depth-one i xs x e, depth-rest y (items_of xs))
@@ -296,70 +250,59 @@ module _ (d : Items) where
   }
 
   pub stands-define : (old new : Walk) (e : Standing) (at name : List ℕ) (k : ℕ) (c : Component) → new.types ≡ (name, k) ∷ old.types → new.defaults ≡ old.defaults → Grows old.components.items new.components.items
-      → IsReady d new.components.items k (made_at e at c) → Stands d old e → Stands d new (after_item at (Define name c) e)
+      → IsFinished d new.components.items k (made_at e at c) → Stands d old e → Stands d new (after_item at (Define name c) e)
   stands-define old new e at name k c t f g made h = record {
     types = subst (λ (ks : List (List ℕ × ℕ)). AreTypes d new.components.items ks ((name, made_at e at c) ∷ e.types)) (sym t)
         (refl, made, types-grow d old.components.items new.components.items old.types e.types g h.types);
     defaults = f ∙ h.defaults;
   }
 
-  pub ready-part : (fs : List Finished) (k : ℕ) (c : Made) (at : List ℕ) (s : Shell) (p : Part) → IsReady d fs k c → p.at ≡ at → p.shell ≡ s → p.component ≡ k
-      → AreReadyParts d fs (length fs) (p ∷ []) (part at s c.head c.parts no_parts)
-  ready-part fs k c at s p h a b e = (
+  pub finished-part : (fs : List Finished) (k : ℕ) (c : Made) (at : List ℕ) (s : Shell) (p : Part) → IsFinished d fs k c → p.at ≡ at → p.shell ≡ s → p.component ≡ k
+      → AreParts d fs (length fs) (p ∷ []) (part at s c.head c.parts no_parts)
+  finished-part fs k c at s p h a b e = (
     record {
       place = a;
       shell = b;
       before = omega (arith, e, slice_get_within fs k h.finished h.there);
       finished = h.finished;
       there = ap (slice_get fs) e ∙ h.there;
-      ready = subst (λ n. IsReadyAs d fs n h.finished c) (sym e) h.ready;
+      kept = h.kept;
+      inside = subst (λ n. AreParts d fs n h.finished.parts.items c.parts) (sym e) h.parts;
     },
     tt,
   )
 
   pub named-part : (fs : List Finished) (at : List ℕ) (s : Shell) (name : List ℕ) (r : Option Found) (ks : List (List ℕ × ℕ)) (ts : List (List ℕ × Made)) → AreTypes d fs ks ts → LeadsTo s (lookup name ks) r
-      → AreReadyParts d fs (length fs) (in_list (placed at r)) (with_made at s (lookup name ts) no_parts)
+      → AreParts d fs (length fs) (in_list (placed at r)) (with_made at s (lookup name ts) no_parts)
   named-part fs at s name None [] [] h g = tt
   named-part fs at s name (Some p) [] [] h g = absurd g
   named-part fs at s name r (k ∷ ks) [] h g = absurd h
   named-part fs at s name r [] (t ∷ ts) h g = absurd h
   named-part fs at s name r (k ∷ ks) (t ∷ ts) h g =
-      subst (λ (n : List ℕ). AreReadyParts d fs (length fs) (in_list (placed at r)) (with_made at s (if bytes_eq n name then Some t.1 else lookup name ts) no_parts)) h.0 (by_test (named-part fs at s name r ks ts h.2) (bytes_eq k.0 name) g)
+      subst (λ (n : List ℕ). AreParts d fs (length fs) (in_list (placed at r)) (with_made at s (if bytes_eq n name then Some t.1 else lookup name ts) no_parts)) h.0 (by_test (named-part fs at s name r ks ts h.2) (bytes_eq k.0 name) g)
     where
-      some : (r : Option Found) → LeadsTo s (Some k.1) r → AreReadyParts d fs (length fs) (in_list (placed at r)) (part at s t.1.head t.1.parts no_parts)
+      some : (r : Option Found) → LeadsTo s (Some k.1) r → AreParts d fs (length fs) (in_list (placed at r)) (part at s t.1.head t.1.parts no_parts)
       some None g = absurd g
-      some (Some f) g = ready-part fs k.1 t.1 at s (record { at = at; shell = f.shell.now; component = f.component }) h.1 refl g.0 g.1
+      some (Some f) g = finished-part fs k.1 t.1 at s (record { at = at; shell = f.shell.now; component = f.component }) h.1 refl g.0 g.1
 
-      by_test : (LeadsTo s (lookup name ks) r → AreReadyParts d fs (length fs) (in_list (placed at r)) (with_made at s (lookup name ts) no_parts)) → (b : Bool) → LeadsTo s (if b then Some k.1 else lookup name ks) r
-          → AreReadyParts d fs (length fs) (in_list (placed at r)) (with_made at s (if b then Some t.1 else lookup name ts) no_parts)
+      by_test : (LeadsTo s (lookup name ks) r → AreParts d fs (length fs) (in_list (placed at r)) (with_made at s (lookup name ts) no_parts)) → (b : Bool) → LeadsTo s (if b then Some k.1 else lookup name ks) r
+          → AreParts d fs (length fs) (in_list (placed at r)) (with_made at s (if b then Some t.1 else lookup name ts) no_parts)
       by_test further true g = some r g
       by_test further false g = further g
 
   -- a component, behind those of its instances
   pub made-last : (at : List ℕ) (c : Component) (e : Standing) (mid new : List Finished) (k : ℕ) (f : Finished) (xs : List Item) → xs ≡ list_of c.body → k ≡ length mid → new ≡ mid ++ f ∷ []
-      → AreReadyParts d mid (length mid) f.parts.items (parts e at 0 (items_of xs))
-      → ((inside : Parts) (n : ℕ) → AreReadyParts d mid n f.parts.items inside → IsKeptAlone f (record { head = head_at at c.kind c.body e; parts = inside }))
-      → ((inside : Parts) (n : ℕ) → AreReadyParts d mid n f.parts.items inside → f.whole ≡ true → IsKept d f (record { head = head_at at c.kind c.body e; parts = inside }))
-      → f.whole ≡ are_whole mid f.parts.items → f.passed ≡ None → (f.whole ≡ false → (f.assignments.items ≡ []) × (reaches d at 0 c.body ≡ []))
-      → IsReady d new k (made_at e at c)
-  made-last at c e mid new k f xs body number is inside kept whole all none assigned =
-      let here : AreReadyParts d mid (length mid) f.parts.items (parts e at 0 c.body) =
-      subst (λ t. AreReadyParts d mid (length mid) f.parts.items (parts e at 0 t)) (ap items_of body ∙ items_of-list_of c.body) inside in
-      let more = grows-push mid new f is in
-      let up : length mid ≤ k = omega (arith, number) in
+      → AreParts d mid (length mid) f.parts.items (parts e at 0 (items_of xs))
+      → ((inside : Parts) (n : ℕ) → AreParts d mid n f.parts.items inside → IsKept d f (record { head = head_at at c.kind c.body e; parts = inside }))
+      → IsFinished d new k (made_at e at c)
+  made-last at c e mid new k f xs body number is inside kept =
+      let here : AreParts d mid (length mid) f.parts.items (parts e at 0 c.body) =
+      subst (λ t. AreParts d mid (length mid) f.parts.items (parts e at 0 t)) (ap items_of body ∙ items_of-list_of c.body) inside in
       record {
         finished = f;
         there = ap (λ (fs : List Finished). slice_get fs k) is ∙ ap (slice_get (mid ++ f ∷ [])) number ∙ slice_get-last mid f;
-        ready = record {
-          kept = kept (parts e at 0 c.body) (length mid) here;
-          whole = λ w. (
-            whole (parts e at 0 c.body) (length mid) here w,
-            parts-grow d mid new (length mid) k f.parts.items (parts e at 0 c.body) more up (whole-parts d mid (length mid) f.parts.items (parts e at 0 c.body) here (sym all ∙ w)),
-          );
-          origin = subst (λ o. IfSome o (λ (p : Passed). component d (p.root ∷ []) ≡ Some (made_at e at c))) (sym none) tt;
-          assigned = λ w held. assigned w;
-        };
-        held = λ h. ready-parts-grow d mid new (length mid) k f.parts.items (parts e at 0 c.body) more up here;
+        kept = kept (parts e at 0 c.body) (length mid) here;
+        parts = parts-grow d mid new (length mid) k f.parts.items (parts e at 0 c.body) (grows-push mid new f is) (omega (arith, number)) here;
       }
 
   -- one more item
@@ -374,15 +317,15 @@ module _ (d : Items) where
     stands-next new g =
         subst (Stands d new) (sym (ap (λ ys. standing e at 0 (items_of ys)) taken ∙ standing-last e at 0 (take i xs) x ∙ ap (λ a. after_item a x (standing e at 0 (items_of (take i xs)))) place)) g
 
-    pub parts-next : (old new : List Finished) (done after : List Part) (r : Option Part) → Grows old new → after ≡ done ++ in_list r → AreReadyParts d old (length old) done (parts e at 0 (items_of (take i xs)))
-        → AreReadyParts d new (length new) (in_list r) (item_parts (standing e at 0 (items_of (take i xs))) below x) → AreReadyParts d new (length new) after (parts e at 0 (items_of (take (i + 1) xs)))
+    pub parts-next : (old new : List Finished) (done after : List Part) (r : Option Part) → Grows old new → after ≡ done ++ in_list r → AreParts d old (length old) done (parts e at 0 (items_of (take i xs)))
+        → AreParts d new (length new) (in_list r) (item_parts (standing e at 0 (items_of (take i xs))) below x) → AreParts d new (length new) after (parts e at 0 (items_of (take (i + 1) xs)))
     parts-next old new done after r g same before one =
-        let before_too = ready-parts-grow d old new (length old) (length new) done (parts e at 0 (items_of (take i xs))) g g.more before in
+        let before_too = parts-grow d old new (length old) (length new) done (parts e at 0 (items_of (take i xs))) g g.more before in
         let here : parts e at 0 (items_of (take (i + 1) xs)) ≡ then_parts (parts e at 0 (items_of (take i xs))) (item_parts (standing e at 0 (items_of (take i xs))) below x) =
         ap (λ ys. parts e at 0 (items_of ys)) taken ∙ parts-last e at 0 (take i xs) x
         ∙ ap (λ a. then_parts (parts e at 0 (items_of (take i xs))) (item_parts (standing e at 0 (items_of (take i xs))) a x)) place in
-        subst (λ ps. AreReadyParts d new (length new) ps (parts e at 0 (items_of (take (i + 1) xs)))) (sym same)
-        (subst (AreReadyParts d new (length new) (done ++ in_list r)) (sym here)
+        subst (λ ps. AreParts d new (length new) ps (parts e at 0 (items_of (take (i + 1) xs)))) (sym same)
+        (subst (AreParts d new (length new) (done ++ in_list r)) (sym here)
         (parts-then d new (length new) done (in_list r) (parts e at 0 (items_of (take i xs))) (item_parts (standing e at 0 (items_of (take i xs))) below x) before_too one))
 
 pub behind-on : (a b c : Walk) → IsBehind a b → IsBehind b c → IsBehind a c
@@ -390,7 +333,6 @@ behind-on a b c g h = record {
   types = longer-on a.types b.types c.types g.types h.types;
   defaults = longer-on a.defaults b.defaults c.defaults g.defaults h.defaults;
   components = grows-on a.components.items b.components.items c.components.items g.components h.components;
-  whole = whole-on a.components.items b.components.items c.components.items g.whole h.whole;
 }
 
-pub ruleset goings = (grows-same, longer-same, whole-same)
+pub ruleset goings = (grows-same, longer-same)

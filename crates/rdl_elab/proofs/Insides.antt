@@ -1,6 +1,6 @@
 -- What is found by what is kept of the instances' components is what the component has.
-use Rattle.std.proofs.Common.{◌≡◌, ℕ, zero, suc, Bool, true, false, ◌+◌, ◌≤◌, ◌<◌, List, [], ◌∷◌, map, length, drop, get_or, Option, Some, None, refl, ap, sym, ◌∙◌, arith, add-one, drop-cons, ◌++◌, append_assoc}
-use Rattle.std.specs.Prelude.{◌&&◌, max, min, option_map, slice_get, if◌then◌else◌}
+use Rattle.std.proofs.Common.{◌≡◌, ℕ, zero, suc, Bool, false, ◌+◌, ◌≤◌, ◌<◌, List, [], ◌∷◌, map, length, drop, get_or, Option, Some, None, refl, ap, sym, ◌∙◌, arith, add-one, drop-cons, ◌++◌, append_assoc}
+use Rattle.std.specs.Prelude.{max, min, option_map, slice_get, if◌then◌else◌}
 use Rattle.std.specs.Option.{option_or}
 use Rattle.std.specs.List.{cons_option}
 use Rattle.std.proofs.lemmas.List.{drop_all}
@@ -13,14 +13,15 @@ use Rattle.rdl_elab.specs.declared.layout.Mode.{Mode}
 use Rattle.rdl_elab.specs.declared.layout.Mode.TheVariants.{Compact}
 use Rattle.rdl_elab.specs.declared.layout.Layout.{Layout}
 use Rattle.rdl_elab.specs.declared.layout.Placement.{Placement}
-use Rattle.rdl_elab.specs.Kept.{Part}
+use Rattle.rdl_elab.specs.declared.layout.LayoutValues.{LayoutValues}
+use Rattle.rdl_elab.specs.Kept.{Layouts, Part}
 use Rattle.rdl_elab.specs.declared.walk.finished.Finished.{Finished}
+use Rattle.rdl_elab.specs.Layouts.{values_of, mode_inside, laid_out, layouts, layout, member}
+use Rattle.rdl_elab.specs.Capped.{capped_layout, capped_instance}
+use Rattle.rdl_elab.proofs.KeptLayouts.{kept-laid_out}
 use Rattle.rdl_elab.specs.Faults.{levels, count, is_empty, first_empty}
-use Rattle.rdl_elab.specs.Finished.{under, AreParts}
-use Rattle.rdl_elab.specs.Ready.{IsReadyPart, AreReadyParts, AreAllWhole}
-use Rattle.rdl_elab.specs.EachMember.{shown_each}
-use Rattle.rdl_elab.specs.LaidOut.{kept_member, kept_members}
-use Rattle.rdl_elab.specs.Inside.{shown_placement, kept_part, kept_parts, part_levels, kept_levels, part_rows, finished_rows, lacks_rows, part_empty, kept_empty, is_whole, are_whole, IsCounted}
+use Rattle.rdl_elab.specs.Finished.{under, IsPart, AreParts}
+use Rattle.rdl_elab.specs.Inside.{shown_placement, kept_part, kept_parts, part_levels, kept_levels, part_rows, finished_rows, lacks_rows, part_empty, kept_empty, IsCounted}
 
 pub or-assoc : {X : Type 0} (a b c : Option X) → option_or (option_or a b) c ≡ option_or a (option_or b c)
 or-assoc None b c = refl
@@ -57,37 +58,54 @@ lacks-empty k (part at s h inside rest) n e = lacks-some k n (some n (count insi
     full Field = refl
 
 module _ (d : Items) (fs : List Finished) where
-  pub levels-kept : (n : ℕ) (ps : List Part) (inside : Parts) → AreReadyParts d fs n ps inside → min (kept_levels fs ps) 16 ≡ min (levels inside) 16
+  abbrev Inside : (p : Part) (inside : Parts) → Finished → Type 0
+  Inside p inside f = AreParts d fs p.component f.parts.items inside
+
+  one-kept : (m : Mode) (n : ℕ) (p : Part) (at : List ℕ) (s : Shell) (h : Head) (inside : Parts) → IsPart d fs n p at s (record { head = h; parts = inside }) (Inside p inside) → kept_part m fs p ≡ Some (capped_instance (s, layout m (record { head = h; parts = inside })))
+  one-kept m n p at s h inside x =
+      ap (option_map (λ (f : Finished). (p.shell, under m f.layouts))) x.there
+      ∙ ap (λ t. Some (t, under m x.finished.layouts)) x.shell
+      ∙ ap (λ l. Some (s, l)) (x.kept.layouts m)
+
+  pub parts-kept : (m : Mode) (n : ℕ) (ps : List Part) (inside : Parts) → AreParts d fs n ps inside → kept_parts m fs ps ≡ map capped_instance (layouts m inside)
+  parts-kept m n [] no_parts h = refl
+  parts-kept m n (p ∷ ps) no_parts h = absurd h
+  parts-kept m n [] (part at s k inside rest) h = absurd h
+  parts-kept m n (p ∷ ps) (part at s k inside rest) h =
+      ap (λ o. cons_option o (kept_parts m fs ps)) (one-kept m n p at s k inside h.0)
+      ∙ ap (λ xs. capped_instance (s, layout m (record { head = k; parts = inside })) ∷ xs) (parts-kept m n ps rest h.1)
+
+  pub levels-kept : (n : ℕ) (ps : List Part) (inside : Parts) → AreParts d fs n ps inside → min (kept_levels fs ps) 16 ≡ min (levels inside) 16
   levels-kept n [] no_parts h = refl
   levels-kept n (p ∷ ps) no_parts h = absurd h
   levels-kept n [] (part at s k inside rest) h = absurd h
   levels-kept n (p ∷ ps) (part at s k inside rest) h =
-      more (levels inside) (levels rest) h.0.finished.levels (part_levels (slice_get fs p.component)) (kept_levels fs ps) h.0.ready.kept.levels (ap part_levels h.0.there) (levels-kept n ps rest h.1)
+      more (levels inside) (levels rest) h.0.finished.levels (part_levels (slice_get fs p.component)) (kept_levels fs ps) h.0.kept.levels (ap part_levels h.0.there) (levels-kept n ps rest h.1)
     where
       more : (a b f x y : ℕ) → f ≡ min a 16 → x ≡ f + 1 → min y 16 ≡ min b 16 → min (max x y) 16 ≡ min (max (a + 1) b) 16
       more a b f x y e g ih = omega arith
 
-  pub rows-kept : (n : ℕ) (ps : List Part) (inside : Parts) → AreReadyParts d fs n ps inside → min (finished_rows fs ps) 65536 ≡ min (count inside) 65536
+  pub rows-kept : (n : ℕ) (ps : List Part) (inside : Parts) → AreParts d fs n ps inside → min (finished_rows fs ps) 65536 ≡ min (count inside) 65536
   rows-kept n [] no_parts h = refl
   rows-kept n (p ∷ ps) no_parts h = absurd h
   rows-kept n [] (part at s k inside rest) h = absurd h
   rows-kept n (p ∷ ps) (part at s k inside rest) h =
-      more (count inside) (count rest) h.0.finished.rows (part_rows (slice_get fs p.component)) (finished_rows fs ps) h.0.ready.kept.rows (ap part_rows h.0.there) (rows-kept n ps rest h.1)
+      more (count inside) (count rest) h.0.finished.rows (part_rows (slice_get fs p.component)) (finished_rows fs ps) h.0.kept.rows (ap part_rows h.0.there) (rows-kept n ps rest h.1)
     where
       more : (a b f x y : ℕ) → f ≡ min a 65536 → x ≡ f + 1 → min y 65536 ≡ min b 65536 → min (x + y) 65536 ≡ min (a + 1 + b) 65536
       more a b f x y e g ih = omega arith
 
-  one-empty : (n : ℕ) (p : Part) (at : List ℕ) (s : Shell) (h : Head) (inside : Parts) → (x : IsReadyPart d fs n p at s (record { head = h; parts = inside }))
+  one-empty : (n : ℕ) (p : Part) (at : List ℕ) (s : Shell) (h : Head) (inside : Parts) → (x : IsPart d fs n p at s (record { head = h; parts = inside }) (Inside p inside))
       → part_empty p (slice_get fs p.component) ≡ option_or (if is_empty h.kind inside then Some at else None) (first_empty inside)
   one-empty n p at s h inside x =
       let f = x.finished in
-      let kept = x.ready.kept in
+      let kept = x.kept in
       ap (part_empty p) x.there
       ∙ ap (λ b. option_or (if b then Some p.at else None) f.first_empty) (ap (λ k. lacks_rows k f.rows) kept.kind ∙ lacks-empty h.kind inside f.rows kept.rows)
       ∙ ap (λ a. option_or (if is_empty h.kind inside then Some a else None) f.first_empty) x.place
       ∙ ap (λ o. option_or (if is_empty h.kind inside then Some at else None) o) kept.first_empty
 
-  pub empty-kept : (n : ℕ) (ps : List Part) (inside : Parts) → AreReadyParts d fs n ps inside → kept_empty fs ps ≡ first_empty inside
+  pub empty-kept : (n : ℕ) (ps : List Part) (inside : Parts) → AreParts d fs n ps inside → kept_empty fs ps ≡ first_empty inside
   empty-kept n [] no_parts h = refl
   empty-kept n (p ∷ ps) no_parts h = absurd h
   empty-kept n [] (part at s k inside rest) h = absurd h
@@ -95,29 +113,6 @@ module _ (d : Items) (fs : List Finished) where
       ap (λ o. option_or o (kept_empty fs ps)) (one-empty n p at s k inside h.0)
       ∙ ap (option_or (option_or (if is_empty k.kind inside then Some at else None) (first_empty inside))) (empty-kept n ps rest h.1)
       ∙ or-assoc (if is_empty k.kind inside then Some at else None) (first_empty inside) (first_empty rest)
-
--- all below the instances' components is held, if it is held below each
-and-true : (a b : Bool) → (a && b) ≡ true → (a ≡ true) × (b ≡ true)
-and-true true b h = (refl, h)
-and-true false b h = cc
-
-pub whole-parts : (d : Items) (fs : List Finished) (n : ℕ) (ps : List Part) (inside : Parts) → AreReadyParts d fs n ps inside → are_whole fs ps ≡ true → AreParts d fs n ps inside
-whole-parts d fs n [] no_parts h w = tt
-whole-parts d fs n (p ∷ ps) no_parts h w = absurd h
-whole-parts d fs n [] (part at s k inside rest) h w = absurd h
-whole-parts d fs n (p ∷ ps) (part at s k inside rest) h w =
-    let one = h.0 in
-    let both = and-true (is_whole (slice_get fs p.component)) (are_whole fs ps) w in
-    let all = one.ready.whole (sym (ap is_whole one.there) ∙ both.0) in
-    (record { place = one.place; shell = one.shell; before = one.before; finished = one.finished; there = one.there; kept = all.0; inside = all.1 }, whole-parts d fs n ps rest h.1 both.1)
-
-pub all-whole : (fs : List Finished) (ps : List Part) → AreAllWhole fs → are_whole fs ps ≡ true
-all-whole fs [] h = refl
-all-whole fs (p ∷ ps) h = by (slice_get fs p.component) refl (all-whole fs ps h)
-  where
-    by : (o : Option Finished) → slice_get fs p.component ≡ o → are_whole fs ps ≡ true → (is_whole o && are_whole fs ps) ≡ true
-    by None e rest = rest
-    by (Some f) e rest = ap (λ b. b && are_whole fs ps) (h p.component f e) ∙ rest
 
 -- steps of the loops over the instances
 pub next : (i : ℕ) (ps : List Part) (p : Part) → i < length ps → drop i ps ≡ get_or ps i p ∷ drop (i + 1) ps
@@ -175,8 +170,16 @@ module _ (fs : List Finished) (i : ℕ) (ps : List Part) (p : Part) (h : i < len
   pub same-none : slice_get fs p.component ≡ None → AreSame fs (drop (i + 1) ps) → AreSame fs ps
   same-none e = same-next (none-same fs p e)
 
-pub same-all : (fs : List Finished) (i : ℕ) (ps : List Part) → length ps ≤ i → (AreSame fs (drop i ps) → AreSame fs ps) → AreSame fs ps
-same-all fs i ps h inv = inv (λ m. kept-none m fs i ps h ∙ sym (kept-none Compact fs i ps h))
+-- the layouts of a component by what is kept of its instances' components
+pub layouts-are : (d : Items) (fs : List Finished) (n : ℕ) (ps : List Part) (inside : Parts) (h : Head) (v : LayoutValues) (ls : Layouts) → v ≡ values_of h → AreParts d fs n ps inside
+    → ((m : Mode) → under m ls ≡ capped_layout (laid_out h.kind v (mode_inside h.kind v m) (map member (kept_parts (mode_inside h.kind v m) fs ps))))
+    → (m : Mode) → under m ls ≡ capped_layout (layout m (record { head = h; parts = inside }))
+layouts-are d fs n ps inside h v ls e a g m =
+    let w = values_of h in
+    let k = mode_inside h.kind w m in
+    g m ∙ ap (λ (v : LayoutValues). capped_layout (laid_out h.kind v (mode_inside h.kind v m) (map member (kept_parts (mode_inside h.kind v m) fs ps)))) e
+    ∙ ap (λ xs. capped_layout (laid_out h.kind w k (map member xs))) (parts-kept d fs k n ps inside a)
+    ∙ kept-laid_out h.kind w k (layouts k inside)
 
 -- one more instance, with its component and without one, for what is taken of each
 module _ {X : Type 0} (g : Shell × Layout → X) (m : Mode) (fs : List Finished) (i : ℕ) (ps : List Part) (p : Part) (h : i < length ps) (is : p ≡ get_or ps i p) where
@@ -204,38 +207,6 @@ module _ {X : Type 0} (g : Shell × Layout → X) (m : Mode) (fs : List Finished
 pub placed-all : {L : Type 0} (last : List Placement → L) (m : Mode) (fs : List Finished) (i : ℕ) (ps : List Part) (whole : L) → length ps ≤ i
     → last (map shown_placement (kept_parts m fs (drop i ps))) ≡ whole → last [] ≡ whole
 placed-all last m fs i ps whole done inv = sym (ap (λ xs. last (map shown_placement xs)) (kept-none m fs i ps done)) ∙ inv
-
--- what is taken of the instances from one on, with its component and without one
-module _ (fs : List Finished) (i : ℕ) (ps : List Part) (p : Part) (h : i < length ps) (is : p ≡ get_or ps i p) where
-  members-next : kept_members fs (drop i ps) ≡ cons_option (kept_member fs p) (kept_members fs (drop (i + 1) ps))
-  members-next = ap (kept_members fs) (next i ps p h) ∙ ap (λ (q : Part). cons_option (kept_member fs q) (kept_members fs (drop (i + 1) ps))) (sym is)
-
-  pub member-some : (f : Finished) → slice_get fs p.component ≡ Some f → kept_members fs (drop i ps) ≡ shown_each p.shell f.layouts ∷ kept_members fs (drop (i + 1) ps)
-  member-some f found = members-next ∙ ap (λ o. cons_option (option_map (λ (f : Finished). shown_each p.shell f.layouts) o) (kept_members fs (drop (i + 1) ps))) found
-
-  pub member-none : slice_get fs p.component ≡ None → kept_members fs (drop i ps) ≡ kept_members fs (drop (i + 1) ps)
-  member-none found = members-next ∙ ap (λ o. cons_option (option_map (λ (f : Finished). shown_each p.shell f.layouts) o) (kept_members fs (drop (i + 1) ps))) found
-
-pub members-none : (fs : List Finished) (i : ℕ) (ps : List Part) → length ps ≤ i → kept_members fs (drop i ps) ≡ []
-members-none fs i ps h = ap (kept_members fs) (drop_all i ps h)
-
--- whether all is held below one more
-pub whole-end : (fs : List Finished) (i : ℕ) (ps : List Part) → length ps ≤ i → are_whole fs (drop i ps) ≡ true
-whole-end fs i ps h = ap (are_whole fs) (drop_all i ps h)
-
-pub whole-next : (fs : List Finished) (i : ℕ) (ps : List Part) (p : Part) (b : Bool) → i < length ps → p ≡ get_or ps i p → is_whole (slice_get fs p.component) ≡ b → are_whole fs (drop i ps) ≡ (b && are_whole fs (drop (i + 1) ps))
-whole-next fs i ps p b h is e =
-    ap (are_whole fs) (next i ps p h)
-    ∙ ap (λ (q : Part). is_whole (slice_get fs q.component) && are_whole fs (drop (i + 1) ps)) (sym is)
-    ∙ ap (λ w. w && are_whole fs (drop (i + 1) ps)) e
-
-and-assoc : (a b c : Bool) → ((a && b) && c) ≡ (a && (b && c))
-and-assoc true b c = refl
-and-assoc false b c = refl
-
-pub and-one : (b : Bool) → b ≡ (b && true)
-and-one true = refl
-and-one false = refl
 
 -- one more instance for the levels, the rows, and the instances that must not be empty
 module _ (fs : List Finished) (i : ℕ) (ps : List Part) (p : Part) (o : Option Finished) (h : i < length ps) (is : p ≡ get_or ps i p) (found : slice_get fs p.component ≡ o) where
@@ -266,11 +237,6 @@ module _ (fs : List Finished) (i : ℕ) (ps : List Part) (p : Part) (o : Option 
       empty-next fs i ps p h ∙ ap (λ (q : Part). option_or (part_empty q (slice_get fs q.component)) r) (sym is) ∙ ap (λ x. option_or (part_empty p x) r) found in
       ap (λ x. option_or x r) g ∙ sym one ∙ inv
 
-  pub whole-more : (so_far more whole : Bool) → more ≡ (so_far && is_whole o) → (so_far && are_whole fs (drop i ps)) ≡ whole → (more && are_whole fs (drop (i + 1) ps)) ≡ whole
-  whole-more so_far more whole e inv =
-      let r = are_whole fs (drop (i + 1) ps) in
-      ap (λ b. b && r) e ∙ and-assoc so_far (is_whole o) r ∙ ap (λ b. so_far && b) (sym (whole-next fs i ps p (is_whole o) h is (ap is_whole found))) ∙ inv
-
 -- an instance that isn't empty, and below which none is
 pub full-part : (p : Part) (f : Finished) → lacks_rows f.kind f.rows ≡ false → f.first_empty ≡ None → part_empty p (Some f) ≡ None
 full-part p f e g = ap (λ b. option_or (if b then Some p.at else None) f.first_empty) e ∙ g
@@ -278,24 +244,18 @@ full-part p f e g = ap (λ b. option_or (if b then Some p.at else None) f.first_
 -- ---- What is counted again.
 
 -- an instance without a component brings nothing
-pub nothing-counted : (levels : ℕ) (whole has_empty : Bool) → levels ≤ 16 → IsCounted None levels whole has_empty 0
-nothing-counted levels whole has_empty h = record { deep = omega arith; many = refl; held = sym (and-one whole); full = λ e p. refl }
-
-and-twice : (a b : Bool) → ((a && b) && b) ≡ (a && b)
-and-twice true true = refl
-and-twice true false = refl
-and-twice false b = refl
+pub nothing-counted : (levels : ℕ) (has_empty : Bool) → levels ≤ 16 → IsCounted None levels has_empty 0
+nothing-counted levels has_empty h = record { deep = omega arith; many = refl; full = λ e p. refl }
 
 -- an instance that is counted brings only its rows a second time
 pub once-counted :
-    (f : Finished) (before levels : ℕ) (so_far whole has_empty : Bool) (rows : ℕ)
-    → levels ≡ min (max before (f.levels + 1)) 16 → min rows 65536 ≡ min (f.rows + 1) 65536 → whole ≡ (so_far && f.whole)
+    (f : Finished) (before levels : ℕ) (has_empty : Bool) (rows : ℕ)
+    → levels ≡ min (max before (f.levels + 1)) 16 → min rows 65536 ≡ min (f.rows + 1) 65536
     → (has_empty ≡ false → lacks_rows f.kind f.rows ≡ false) → (has_empty ≡ false → f.first_empty ≡ None)
-    → IsCounted (Some f) levels whole has_empty rows
-once-counted f before levels so_far whole has_empty rows l r w e g =
+    → IsCounted (Some f) levels has_empty rows
+once-counted f before levels has_empty rows l r e g =
     record {
       deep = omega arith;
       many = r;
-      held = ap (λ b. b && f.whole) w ∙ and-twice so_far f.whole ∙ sym w;
       full = λ none p. full-part p f (e none) (g none);
     }

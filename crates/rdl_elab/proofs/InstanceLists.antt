@@ -66,10 +66,6 @@ one-reached k p i xs x first before after l is e f =
     ∙ ap (option_or first) (shown-or k p behind this)
     ∙ ap (λ o. option_or first (shown_on k p o)) (sym all)
 
--- one that has come assigns its value, and no other assigns anything
-pub come-assigns : (k : Kind) (p : Property) (r : Reach) → has_ended r.path ≡ true → shown_on k p (if_named r.property (Some r.value) p) ≡ shown_on k p (reached (row p).name (r ∷ []))
-come-assigns k p r come = ap (λ b. shown_on k p (if b && bytes_eq r.property (row p).name then Some r.value else None)) (sym come)
-
 pub passing-assigns : (k : Kind) (p : Property) (r : Reach) → has_ended r.path ≡ false → shown_on k p (reached (row p).name (r ∷ [])) ≡ None
 passing-assigns k p r more = ap (λ b. shown_on k p (if b && bytes_eq r.property (row p).name then Some r.value else None)) more ∙ if-none (on p k)
 

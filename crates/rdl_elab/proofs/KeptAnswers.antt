@@ -23,9 +23,8 @@ use Rattle.rdl_elab.proofs.RowsAlong.{values-top, reaches-body}
 use Rattle.rdl_elab.proofs.PartsFound.{parts-found}
 use Rattle.rdl_elab.proofs.FieldsInside.{registers-hold-fields}
 use Rattle.rdl_elab.proofs.Fitting.{FieldsIn, fits-inside}
-use Rattle.rdl_elab.proofs.SameLevels.{told_judged, judged-fault, judged-rows, alone, around_of, levels-same, level-same}
+use Rattle.rdl_elab.proofs.SameLevels.{told_judged, judged-fault, judged-rows, around_of, levels-same, level-same}
 use Rattle.rdl_elab.proofs.MapLimits.{of_levels, of_empty, of_size, limits, limits-kept, few-levels, small, size-exact}
-use Rattle.rdl_elab.specs.Ready.{IsKeptAlone}
 
 rows-after : (rows : List Row) (a b c r : Option Fault) → rows_or rows (option_or a (option_or b (option_or c r))) ≡ fault_or (option_or a (option_or b c)) (rows_or rows r)
 rows-after rows None None None r = refl
@@ -40,9 +39,6 @@ module _ (d : Items) (n : ℕ) (name : List ℕ) (c : Made) (fs : List Finished)
   abbrev f : Finished
   f = q.finished
 
-  kept_alone : IsKeptAlone f c
-  kept_alone = alone d f c q.kept
-
   abbrev of_map : Option Fault
   of_map = limits n c
 
@@ -53,7 +49,7 @@ module _ (d : Items) (n : ℕ) (name : List ℕ) (c : Made) (fs : List Finished)
           names = name ∷ [];
           kind = q.kept.kind i;
           base = 0;
-          location = Bytes (record { offset = 0; size = size-exact n c f kept_alone clear i; dims = []; stride = size-exact n c f kept_alone clear i });
+          location = Bytes (record { offset = 0; size = size-exact n c d f q.kept clear i; dims = []; stride = size-exact n c d f q.kept clear i });
           values = (q.kept.shown ∙ values-top d at c made) i;
         }
 
@@ -84,7 +80,7 @@ module _ (d : Items) (n : ℕ) (name : List ℕ) (c : Made) (fs : List Finished)
 
   kept-is : finished_rows_or_fault fs at name f ≡ rows_or (rows_of d name c) (fault_of_top d at name c)
   kept-is =
-      ap (λ x. fault_or x (rows_unless (told_below fs name f).fault (told_below fs name f).rows)) (limits-kept n c f kept_alone)
+      ap (λ x. fault_or x (rows_unless (told_below fs name f).fault (told_below fs name f).rows)) (limits-kept n c d f q.kept)
       ∙ by_fault of_map refl
       ∙ sym (rows-after (rows_of d name c) (of_levels n c) (of_empty c) (of_size n c) (first_row_fault d (rows_below d name c)))
     where

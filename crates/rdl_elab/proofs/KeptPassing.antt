@@ -1,28 +1,13 @@
 -- Steps along the names of a target, by what is kept of the components.
-use Rattle.std.proofs.Common.{◌≡◌, ◌≤◌, ◌<◌, length, get_or, arith, ℕ, true, List, [], ◌∷◌, ◌++◌, Some, None, Option, refl, ap, sym, ◌∙◌, append_assoc, option_map}
+use Rattle.std.proofs.Common.{◌≡◌, ◌≤◌, ◌<◌, length, get_or, arith, ℕ, true, List, [], ◌∷◌, Some, None, Option, refl, ap, ◌∙◌, option_map}
 use Rattle.std.specs.Prelude.{option_and_then, slice_get, nat_lt, if◌then◌else◌}
 use Rattle.rdl_tree.specs.Address.{number_of}
 use Rattle.rdl_elab.specs.Kept.{Part}
 use Rattle.rdl_elab.specs.declared.walk.finished.Finished.{Finished}
 use Rattle.rdl_elab.specs.PartNames.{part_named}
-use Rattle.rdl_elab.specs.KeptTargets.{after, is_before, kept_from, kept_passes, kept_target}
-
-after-push : (path : List (List ℕ)) (a : List ℕ) (o : Option (List (List ℕ))) → after path (option_map (λ more. a ∷ more) o) ≡ after (path ++ a ∷ []) o
-after-push path a None = refl
-after-push path a (Some x) = ap Some (sym (append_assoc path (a ∷ []) x))
-
-pub after-nothing : (o : Option (List (List ℕ))) → after [] o ≡ o
-after-nothing None = refl
-after-nothing (Some x) = refl
+use Rattle.rdl_elab.specs.KeptTargets.{is_before, kept_from, kept_passes, kept_target}
 
 module _ (fs : List Finished) where
-  -- from an instance to that of the next name
-  abbrev inside : List ℕ → List (List ℕ) → Finished → Option (List (List ℕ))
-  inside name names f = option_and_then (λ (q : Part). kept_from fs q names) (part_named name f.parts.items)
-
-  abbrev onward : List ℕ → List (List ℕ) → Part → Option Finished → Option (List (List ℕ))
-  onward name names p o = option_map (λ more. p.at ∷ more) (option_and_then (inside name names) o)
-
   last : (o : Option Part) → option_map (λ (p : Part). p.at ∷ []) o ≡ option_and_then (λ (p : Part). kept_from fs p []) o
   last None = refl
   last (Some p) = refl

@@ -1,8 +1,7 @@
 -- The values of a row, where assignments reach its instance and where none does.
-use Rattle.std.proofs.Common.{◌≡◌, ◌==◌, ℕ, Bool, true, false, List, [], ◌∷◌, length, Option, None, Some, refl, rules}
+use Rattle.std.proofs.Common.{◌≡◌, ℕ, Bool, true, false, List, [], ◌∷◌, Option, None, Some, refl, rules}
 use Rattle.rdl_tree.specs.declared.shell.Kind.{Kind}
 use Rattle.rdl_elab.specs.declared.row.PropertyValue.{PropertyValue}
-use Rattle.rdl_elab.specs.FinishedRows.{finished_values}
 use Rattle.rdl_elab.specs.Reaches.{Reach, has_ended, reached, reset_value, value_under, values_along}
 use Rattle.rdl_elab.specs.Shown.{valued}
 use Rattle.rdl_tree.specs.Properties.{row, on, properties}
@@ -10,21 +9,6 @@ use Rattle.rdl_scope.specs.Value.{shown}
 use Rattle.std.specs.Option.{option_or}
 use Rattle.std.specs.List.{filter_map, list_any}
 use Rattle.std.specs.Prelude.{◌||◌, ◌&&◌, bytes_eq, option_map, if◌then◌else◌}
-
-pub kept-reached : (k : Kind) (reset : Option ℕ) (rs : List Reach) (values : List PropertyValue) → false ≡ (length rs == 0) → values_along k reset rs values ≡ finished_values k reset rs values
-kept-reached k None [] values h = cc
-kept-reached k None (r ∷ rs) values h = refl
-kept-reached k (Some n) rs values h = refl
-
-pub kept-own : (k : Kind) (rs : List Reach) (values : List PropertyValue) → true ≡ (length rs == 0) → values ≡ finished_values k None rs values
-kept-own k [] values h = refl
-kept-own k (r ∷ rs) values h = absurd (search rules)
-
--- where an assignment has come, the values are those along all
-pub kept-come : (k : Kind) (reset : Option ℕ) (rs : List Reach) (values : List PropertyValue) → list_any (λ (a : Reach). has_ended a.path) rs ≡ true → values_along k reset rs values ≡ finished_values k reset rs values
-kept-come k None [] values h = absurd cc
-kept-come k None (r ∷ rs) values h = refl
-kept-come k (Some n) rs values h = refl
 
 -- assignments that have more instances to pass change no value
 module _ (rs : List Reach) (h : list_any (λ (a : Reach). has_ended a.path) rs ≡ false) where

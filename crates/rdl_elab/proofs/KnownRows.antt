@@ -10,8 +10,7 @@ use Rattle.rdl_tree.specs.declared.fault.Fault.{Fault}
 use Rattle.rdl_tree.specs.declared.fault.FaultKind.TheVariants.{DescriptionTooLarge}
 use Rattle.rdl_scope.specs.ItemFaults.{first_fault, is_too_large, fault_of}
 use Rattle.rdl_elab.specs.declared.row.Row.{Row}
-use Rattle.rdl_elab.specs.Faults.{fault_in}
-use Rattle.rdl_elab.specs.Faults.{elaborated, top_from, unless_fault, with_top}
+use Rattle.rdl_elab.specs.Faults.{elaborated, top_from, unless_fault}
 use Rattle.rdl_elab.specs.Known.{HasRows}
 use Rattle.rdl_elab.proofs.KeptAnswers.{judged-top}
 
@@ -46,6 +45,3 @@ module _ (d : Items) (wanted : Option (List ℕ)) (known : HasRows d wanted) whe
 
   pub top-there : top_from wanted 0 d ≡ None → ⊥
   top-there e = no-fault _ (judged-top d wanted None no-item-fault e)
-
-  pub top-faultless : (top : ℕ × List ℕ) → top_from wanted 0 d ≡ Some top → fault_in (with_top d (Some top)) ≡ None
-  top-faultless top e = ap fault_in (sym (judged-top d wanted (Some top) no-item-fault e) ∙ known.are)

@@ -1,5 +1,4 @@
 pub mod Examples
-pub mod StandInExamples
 pub mod KeptValues
 pub mod Rounding
 pub mod CappedNumbers
@@ -15,26 +14,18 @@ pub mod WideNumbers
 pub mod Watermarks
 pub mod RangeSearches
 pub mod RangesKept
-pub mod ReachedAt
 pub mod Telling
-pub mod Cleaning
-pub mod CleanAlone
 pub mod SiblingsBefore
-pub mod Accesses
 pub mod Counting
 pub mod EachMember
 pub mod Insides
 pub mod PlacedParts
-pub mod Bare
 pub mod InstanceLists
 pub mod SameValues
 pub mod Making
 pub mod Goings
-pub mod Writing
 pub mod Roots
-pub mod RootWalk
 pub mod DefaultStacks
-pub mod Digests
 pub mod ValueLists
 pub mod Onward
 pub mod BareHeads
@@ -59,24 +50,6 @@ pub mod FieldsInside
 pub mod MapLimits
 pub mod KeptAnswers
 pub mod KnownRows
-pub mod LedKeys
-pub mod Adding
-pub mod Tying
-pub mod Storing
-pub mod Coding
-pub mod Spelled
-pub mod Numbering
 pub mod AllTaken
 pub mod NamesAround
 pub mod Namesakes
-pub mod TopTypes
-pub mod FoundAgain
-pub mod ShownRows
-pub mod LikeRows
-pub mod KnownModes
-pub mod CleanHeads
-pub mod Carried
-pub mod PassedRows
-pub mod HeadNumbers
-mod StoredRuns
-mod RootRuns

@@ -1,8 +1,9 @@
--- The limits of a map, by what is kept of its top alone.
+-- The limits of a map, by what is kept of its top.
 use Rattle.std.proofs.Common.{◌≡◌, ℕ, ◌+◌, ◌^◌, ◌≤◌, ◌<◌, Bool, true, false, List, [], ◌∷◌, Option, Some, None, refl, ap, sym, ◌∙◌, arith, ◌⊎◌, inl, inr}
 use Rattle.std.specs.Prelude.{min, nat_lt, option_and_then}
 use Rattle.std.specs.Option.{option_or}
 use Rattle.std.proofs.lemmas.Bool.{cases_lt, lt-ltb, le-ltb, ltb-false}
+use Rattle.rdl_tree.specs.Items.{Items}
 use Rattle.rdl_tree.specs.declared.fault.Fault.{Fault}
 use Rattle.rdl_tree.specs.declared.fault.FaultKind.{FaultKind}
 use Rattle.rdl_tree.specs.declared.fault.FaultKind.TheVariants.{TooManyLevels, TooManyRows, EmptyComponent, MapTooLarge}
@@ -15,7 +16,7 @@ use Rattle.rdl_elab.specs.Capped.{capped}
 use Rattle.rdl_elab.specs.Rows.{top_layout}
 use Rattle.rdl_elab.specs.Faults.{levels, count, first_empty}
 use Rattle.rdl_elab.specs.FinishedRows.{finished_map_fault}
-use Rattle.rdl_elab.specs.Ready.{IsKeptAlone}
+use Rattle.rdl_elab.specs.Finished.{IsKept}
 use Rattle.rdl_elab.proofs.SameRows.{some-none}
 
 limit-same : (limit n cut : ℕ) → limit < cut → nat_lt limit (min n cut) ≡ nat_lt limit n
@@ -74,7 +75,7 @@ module _ (n : ℕ) (c : Made) where
     pub small : (top_layout c).size ≤ 2 ^ 40
     small = ltb-false (2 ^ 40) (top_layout c).size (none-first (nat_lt (2 ^ 40) (top_layout c).size) MapTooLarge [] (none-at (n ∷ []) _ (or-second (of_empty c) (of_size n c) (or-second (of_levels n c) _ clear))))
 
-  module _ (f : Finished) (kept : IsKeptAlone f c) where
+  module _ (d : Items) (f : Finished) (kept : IsKept d f c) where
     size-is : f.layouts.regalign.size ≡ capped (top_layout c).size
     size-is = ap (λ (x : Layout). x.size) (kept.layouts Regalign)
 

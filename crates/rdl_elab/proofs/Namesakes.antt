@@ -20,7 +20,6 @@ use Rattle.rdl_scope.specs.ItemFaults.{define_fault, instance_fault, instance_ki
 use Rattle.rdl_scope.proofs.Accepted.{clear-root, clear-inside}
 use Rattle.rdl_scope.proofs.AsFound.{as_found}
 use Rattle.rdl_scope.proofs.Holds.{holds}
-use Rattle.rdl_elab.specs.StandIns.{are_namesakes}
 
 -- ---- What is found among the first items.
 
@@ -83,6 +82,12 @@ instance-there (holder h body rest) (suc i) (suc j) s o m e less same =
     if-some _ (option_map suc (instance_before m j rest)) (some-next (instance_before m j rest) (instance-there rest i j s o m e (omega (arith, less)) same))
 
 -- ---- Namesakes have one name.
+
+-- two definitions, or two instances, of one name
+abbrev pub are_namesakes : Item → Item → Bool
+are_namesakes (Define n c) (Define m d) = bytes_eq n m
+are_namesakes (Instance s o) (Instance u p) = bytes_eq s.name u.name
+are_namesakes x y = false
 
 -- that of a definition, and that of an instance
 definition-of : (m : List ℕ) (d : Component) (x : Item) → are_namesakes (Define m d) x ≡ true → (n : List ℕ) × (c : Component) × (x ≡ Define n c) × (m ≡ n)

@@ -1,22 +1,20 @@
 -- The instances that a target has yet to pass, and the assignments that go on, in chains.
-use Rattle.std.proofs.Common.{◌≡◌, ℕ, zero, suc, ◌+◌, ◌-◌, ◌%◌, ◌<◌, ◌≤◌, List, [], ◌∷◌, ◌++◌, length, take, drop, get_or, Bool, true, false, Option, Some, None, refl, ap, sym, ◌∙◌, ◌⊎◌, inl, inr, subst, add-one, max, arith}
-use Rattle.std.specs.Prelude.{◌&&◌, nat_eq, slice_get, slice_set, replicate, if◌then◌else◌, option_map}
+use Rattle.std.proofs.Common.{◌≡◌, ℕ, zero, suc, ◌+◌, ◌-◌, ◌%◌, ◌<◌, ◌≤◌, List, [], ◌∷◌, length, drop, get_or, Bool, true, false, Option, Some, None, refl, ap, sym, ◌∙◌, ◌⊎◌, inl, inr, subst, add-one, max, arith}
+use Rattle.std.specs.Prelude.{nat_eq, slice_get, slice_set, if◌then◌else◌, option_map}
 use Rattle.std.specs.List.{cons_option}
 use Rattle.std.specs.Cmp.Lexicographic.{pointwise}
 use Rattle.std.proofs.lemmas.Bool.{cases_eq}
 use Rattle.std.proofs.lemmas.List.{drop-drop, drop-set, drop-set-lt, get_or-set_same, get_or-set_other, length-set}
 use Rattle.std.proofs.lemmas.Grind.{get_or_default_zero}
-use Rattle.std.proofs.Math.Seq.{drop-cons, drop-length}
+use Rattle.std.proofs.Math.Seq.{drop-cons}
 use Rattle.std.proofs.Math.ListN.{drop_of_length-le}
 use Rattle.std.proofs.Math.Nat.{mod-lt}
-use Rattle.std.proofs.lemmas.List.Elements.{filter_map-append}
 use Rattle.std.proofs.lemmas.Slice.Eq.{bytes_eq-Decides}
 use Rattle.std.specs.Option.{is_none}
 use Rattle.rdl_tree.specs.Address.{number_of}
 use Rattle.rdl_elab.specs.HeldPath.{has_at}
-use Rattle.rdl_elab.specs.ReachedAt.{ends_at}
 use Rattle.rdl_elab.specs.Reaches.{Reach, passed, behind, has_ended}
-use Rattle.rdl_elab.specs.Onward.{chain, first_in, first_under, AreChained, IsOnward}
+use Rattle.rdl_elab.specs.Onward.{chain, first_in, first_under, IsOnward}
 use Rattle.rdl_elab.specs.declared.walk.reaches.Onward.{Onward}
 
 pub first-dropped : {X : Type 0} (n : ℕ) (xs : List X) → slice_get (drop n xs) 0 ≡ slice_get xs n
@@ -67,51 +65,13 @@ next-number n path = ap (option_map number_of) (first-dropped n path)
 
 pub ruleset dropping = (next-number)
 
--- whether the next instance is the last
-pub ends-gone : (a : List ℕ) (n : ℕ) (path : List (List ℕ)) → slice_get path n ≡ None → ends_at a (drop n path) ≡ false
-ends-gone a zero [] e = refl
-ends-gone a (suc n) [] e = refl
-ends-gone a zero (b ∷ path) e = absurd cc
-ends-gone a (suc n) (b ∷ path) e = ends-gone a n path e
-
-pub ends-other : (a : List ℕ) (n : ℕ) (path : List (List ℕ)) (x : List ℕ) → slice_get path n ≡ Some x → pointwise nat_eq x a ≡ false → ends_at a (drop n path) ≡ false
-ends-other a zero [] x e f = absurd cc
-ends-other a (suc n) [] x e f = absurd cc
-ends-other a zero (b ∷ path) x e f = let same : b ≡ x = cc in ap (λ y. pointwise nat_eq y a && has_ended path) same ∙ ap (λ t. t && has_ended path) f
-ends-other a (suc n) (b ∷ path) x e f = ends-other a n path x e f
-
-pub ends-here : (a : List ℕ) (n : ℕ) (path : List (List ℕ)) (x : List ℕ) → slice_get path n ≡ Some x → pointwise nat_eq x a ≡ true → ends_at a (drop n path) ≡ is_none (slice_get path (n + 1))
-ends-here a zero [] x e f = absurd cc
-ends-here a (suc n) [] x e f = absurd cc
-ends-here a zero (b ∷ path) x e f = let same : b ≡ x = cc in ap (λ y. pointwise nat_eq y a && has_ended path) same ∙ ap (λ t. t && has_ended path) f ∙ ended path
-  where
-    ended : (rest : List (List ℕ)) → has_ended rest ≡ is_none (slice_get rest 0)
-    ended [] = refl
-    ended (y ∷ rest) = refl
-ends-here a (suc n) (b ∷ path) x e f = let next : suc (n + 1) ≡ suc n + 1 = omega arith in ends-here a n path x e f ∙ ap (λ j. is_none (slice_get (b ∷ path) j)) next
-
--- the same by whether the next instance is this one
-pub ends-away : (a : List ℕ) (n : ℕ) (path : List (List ℕ)) → has_at a (slice_get path n) ≡ false → ends_at a (drop n path) ≡ false
-ends-away a n path f = by (slice_get path n) refl
-  where
-    by : (o : Option (List ℕ)) → slice_get path n ≡ o → ends_at a (drop n path) ≡ false
-    by None e = ends-gone a n path e
-    by (Some x) e = ends-other a n path x e (sym (ap (has_at a) e) ∙ f)
-
-pub ends-there : (a : List ℕ) (n : ℕ) (path : List (List ℕ)) → has_at a (slice_get path n) ≡ true → ends_at a (drop n path) ≡ is_none (slice_get path (n + 1))
-ends-there a n path t = by (slice_get path n) refl
-  where
-    by : (o : Option (List ℕ)) → slice_get path n ≡ o → ends_at a (drop n path) ≡ is_none (slice_get path (n + 1))
-    by None e = let no : false ≡ true = sym (ap (has_at a) e) ∙ t in absurd cc
-    by (Some x) e = ends-here a n path x e (sym (ap (has_at a) e) ∙ t)
-
 pub ended-left : (n : ℕ) (path : List (List ℕ)) → has_ended (drop n path) ≡ is_none (slice_get path n)
 ended-left zero [] = refl
 ended-left zero (y ∷ rest) = refl
 ended-left (suc n) [] = refl
 ended-left (suc n) (y ∷ rest) = ended-left n rest
 
-pub ruleset ending = (ends-away, ends-there, ended-left)
+pub ruleset ending = (ended-left)
 
 -- an assignment whose next instance is another one
 passed-apart : (a x : List ℕ) (r : Reach) → slice_get r.path 0 ≡ Some x → (x ≡ a → ⊥) → passed a r r.path ≡ None
@@ -120,9 +80,6 @@ passed-apart a x r e apart = passed-next a r r.path x e ∙ by (pointwise nat_eq
     by : (t : Bool) → pointwise nat_eq x a ≡ t → (if t then Some (record r { path = drop 1 r.path }) else None) ≡ None
     by true f = absurd (apart ((bytes_eq-Decides x a).0 f))
     by false f = refl
-
-pub behind-append : (a : List ℕ) (xs ys : List Reach) → behind a (xs ++ ys) ≡ behind a xs ++ behind a ys
-behind-append a xs ys = filter_map-append (λ (r : Reach). passed a r r.path) xs ys
 
 -- a chain whose first stands behind all of them has none
 pub chain-beyond : (b : ℕ) (ks : List ℕ) (rs : List Reach) (n : ℕ) → length rs ≤ n → chain b ks rs n ≡ []
@@ -186,28 +143,6 @@ behind-passing a ks rs n k r l m is e none =
 pub record ChainedFrom (i : ℕ) (heads links : List ℕ) (rs : List Reach) : Type 0 where
   pub chains : (a : List ℕ) → behind a (chain i (drop i links) (drop i rs) (first_in heads rs (number_of a) - i)) ≡ behind a (drop i rs)
   pub above : (k : ℕ) → i ≤ first_in heads rs k
-
-replicated : (m k n : ℕ) → get_or (replicate m n) k n ≡ n
-replicated zero k n = refl
-replicated (suc m) zero n = refl
-replicated (suc m) (suc k) n = replicated m k n
-
-pub none-chained : (heads links : List ℕ) (rs : List Reach) (m : ℕ) → heads ≡ replicate m (length rs) → ChainedFrom (length rs) heads links rs
-none-chained heads links rs m e = record {
-  chains = λ a.
-      ap (λ ys. behind a (chain (length rs) (drop (length rs) links) ys (first_in heads rs (number_of a) - length rs))) (drop-length rs)
-      ∙ ap (behind a) (chain-none (length rs) (drop (length rs) links) (first_in heads rs (number_of a) - length rs))
-      ∙ ap (behind a) (sym (drop-length rs));
-  above = λ k.
-      let same : first_in heads rs k ≡ length rs = ap (λ xs. get_or xs (k % length heads) (length rs)) e ∙ replicated m (k % length heads) (length rs) in
-      omega arith;
-}
-
-pub all-chained : (heads links : List ℕ) (rs : List Reach) → ChainedFrom 0 heads links rs → AreChained heads links rs
-all-chained heads links rs h a = ap (λ n. behind a (chain 0 links rs n)) (sub-zero (first_in heads rs (number_of a))) ∙ h.chains a
-  where
-    sub-zero : (n : ℕ) → n ≡ n - 0
-    sub-zero n = omega arith
 
 -- what a chain has behind an assignment that isn't in it
 chain-skips : (j : ℕ) (links : List ℕ) (rs : List Reach) (r : Reach) (f : ℕ) → j < length links → j < length rs → suc j ≤ f

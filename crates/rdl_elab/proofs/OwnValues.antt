@@ -2,7 +2,7 @@
 use Rattle.std.proofs.Common.{◌≡◌, ℕ, zero, suc, ◌+◌, ◌<◌, ◌≤◌, List, [], ◌∷◌, ◌++◌, length, take, drop, get_or, Bool, true, false, Some, None, Option, refl, ap, sym, subst, ◌∙◌, add-one, arith}
 use Rattle.std.specs.Prelude.{◌||◌, IfSome, bytes_eq, if◌then◌else◌, slice_get}
 use Rattle.std.specs.List.{list_any}
-use Rattle.std.specs.Option.{option_or, is_some}
+use Rattle.std.specs.Option.{option_or}
 use Rattle.std.proofs.Math.Seq.{take-suc}
 use Rattle.rdl_tree.specs.Properties.{row, property_of}
 use Rattle.rdl_tree.specs.declared.shell.Kind.{Kind}
@@ -96,11 +96,6 @@ no-dynamic f n (plain (default p v) rest) h = no-dynamic f (suc n) rest h
 no-dynamic f n (plain (dynamic u p v) rest) h = absurd cc
 no-dynamic f n (holder (define m k) body rest) h = no-dynamic f (suc n) rest h
 no-dynamic f n (holder (anonymous s k) body rest) h = no-dynamic f (suc n) rest h
-
--- a body whose first dynamic assignment isn't there has none
-pub first-none : (o : Option ℕ) (xs : List Item) → is_some o ≡ false → IsFirstAmong o xs → list_any is_dynamic xs ≡ false
-first-none None xs e h = h
-first-none (Some n) xs e h = absurd cc
 
 pub first-next : (i : ℕ) (xs : List Item) (x : Item) (o : Option ℕ) → Some x ≡ slice_get xs i → IsFirstWithin o i xs → IsFirstWithin (first_met o i (is_dynamic x)) (suc i) xs
 first-next i xs x o e h = by o (is_dynamic x) (dynamic-next i xs (Some x) e) h

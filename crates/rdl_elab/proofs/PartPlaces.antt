@@ -1,5 +1,5 @@
 -- The number under a name leads to the first instance of the name.
-use Rattle.std.proofs.Common.{◌≡◌, ℕ, suc, ◌+◌, ◌<◌, ◌≤◌, List, [], ◌∷◌, length, drop, get_or, Bool, true, false, Option, Some, None, option_map, refl, ap, sym, ◌∙◌, arith, drop-cons, add-one, zero-add}
+use Rattle.std.proofs.Common.{◌≡◌, ℕ, suc, ◌+◌, ◌<◌, ◌≤◌, List, [], ◌∷◌, length, drop, get_or, Bool, true, false, Option, Some, None, option_map, refl, ap, sym, ◌∙◌, drop-cons, add-one}
 use Rattle.std.specs.Prelude.{IfSome, option_and_then, slice_get, unwrap_or, bytes_eq, if◌then◌else◌}
 use Rattle.std.proofs.lemmas.List.{drop_all}
 use Rattle.std.proofs.lemmas.Slice.Eq.{bytes_eq-Decides}
@@ -21,28 +21,6 @@ part-placed q (p ∷ ps) = by (part-placed q ps) (bytes_eq p.shell.name q)
 -- the number of the first instance of the name among those from number i on
 abbrev pub place_behind : List ℕ → ℕ → List Part → Option ℕ
 place_behind q i ps = option_map (λ k. i + k) (place_named q (drop i ps))
-
-pub behind-all : (q : List ℕ) (i : ℕ) (ps : List Part) → length ps ≤ i → place_behind q i ps ≡ None
-behind-all q i ps h = ap (λ qs. option_map (λ k. i + k) (place_named q qs)) (drop_all i ps h)
-
-pub behind-none : (q : List ℕ) (ps : List Part) → place_behind q 0 ps ≡ place_named q ps
-behind-none q ps = by (place_named q ps)
-  where
-    by : (o : Option ℕ) → option_map (λ k. 0 + k) o ≡ o
-    by None = refl
-    by (Some k) = ap Some (zero-add k)
-
-pub behind-next : (q : List ℕ) (i : ℕ) (ps : List Part) (p : Part) → i < length ps → p ≡ get_or ps i p → place_behind q i ps ≡ (if bytes_eq p.shell.name q then Some i else place_behind q (i + 1) ps)
-behind-next q i ps p h is =
-    ap (λ qs. option_map (λ k. i + k) (place_named q qs)) ((rw add-one (drop-cons ps i p h)) ∙ ap (λ y. y ∷ drop (i + 1) ps) (sym is)) ∙ by (bytes_eq p.shell.name q)
-  where
-    later : (o : Option ℕ) → option_map (λ k. i + k) (option_map suc o) ≡ option_map (λ k. (i + 1) + k) o
-    later None = refl
-    later (Some k) = let n : i + suc k ≡ (i + 1) + k = omega arith in ap Some n
-
-    by : (test : Bool) → option_map (λ k. i + k) (if test then Some 0 else option_map suc (place_named q (drop (i + 1) ps))) ≡ (if test then Some i else place_behind q (i + 1) ps)
-    by true = let n : i + 0 ≡ i = omega arith in ap Some n
-    by false = later (place_named q (drop (i + 1) ps))
 
 named-next : (q : List ℕ) (i : ℕ) (ps : List Part) (p : Part) → i < length ps → part_named q (drop i ps) ≡ (if bytes_eq (get_or ps i p).shell.name q then Some (get_or ps i p) else part_named q (drop (i + 1) ps))
 named-next q i ps p h =

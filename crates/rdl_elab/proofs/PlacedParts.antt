@@ -1,5 +1,5 @@
 -- Instances that are placed one after the other.
-use Rattle.std.proofs.Common.{◌≡◌, ℕ, ◌+◌, ◌<◌, List, ◌∷◌, map, drop, length, refl, ap, sym, ◌∙◌, subst, Option, Some, None, get_or}
+use Rattle.std.proofs.Common.{◌≡◌, ℕ, ◌+◌, ◌<◌, List, ◌∷◌, map, drop, length, ap, sym, ◌∙◌, subst, Option, Some, None, get_or}
 use Rattle.std.specs.Prelude.{option_map, slice_get, IsSomeAnd}
 use Rattle.std.specs.List.{cons_option}
 use Rattle.rdl_elab.specs.declared.layout.Layout.{Layout}
@@ -30,13 +30,6 @@ module _ {L : Type 0} (m : Mode) (fs : List Finished) (p : Part) (rest : List Pa
       by (Some f) h =
           let item = shown_placement (p.shell, under m f.layouts) in
           put item (map shown_placement (kept_parts m fs rest)) (h item (bare_item p.shell (under m f.layouts) bare))
-
-  pub next-some : (f : Finished) → slice_get fs p.component ≡ Some f → ((behind : List Placement) → before (shown_placement (p.shell, under m f.layouts) ∷ behind) ≡ after behind)
-      → before (map shown_placement (kept_parts m fs (p ∷ rest))) ≡ after (map shown_placement (kept_parts m fs rest))
-  next-some f found put = ap (λ o. before (with_one m fs p rest o)) found ∙ put (map shown_placement (kept_parts m fs rest))
-
-  pub next-none : slice_get fs p.component ≡ None → before ≡ after → before (map shown_placement (kept_parts m fs (p ∷ rest))) ≡ after (map shown_placement (kept_parts m fs rest))
-  next-none found same = ap (λ o. before (with_one m fs p rest o)) found ∙ ap (λ g. g (map shown_placement (kept_parts m fs rest))) same
 
 -- one more instance is placed
 pub one-placed : {L : Type 0} (m : Mode) (fs : List Finished) (i : ℕ) (ps : List Part) (p : Part) (before after : List Placement → L) (whole : L) → i < length ps → p ≡ get_or ps i p

@@ -7,7 +7,6 @@ use Rattle.rdl_tree.specs.ItemAt.{item_at}
 use Rattle.rdl_tree.specs.Items.{Items}
 use Rattle.rdl_tree.specs.Properties.{row, on, properties}
 use Rattle.rdl_tree.specs.declared.shell.Shell.{Shell}
-use Rattle.rdl_tree.specs.declared.shell.Kind.{Kind}
 use Rattle.rdl_tree.specs.declared.value.Value.{Value}
 use Rattle.rdl_tree.specs.declared.property.Property.{Property}
 use Rattle.rdl_tree.specs.declared.property.Property.TheVariants.{Reset}
@@ -49,9 +48,6 @@ under-among f p (q ∷ xs) =
 
 under-shown : (h : Head) (p : Property) → value_under p (shown_values h) ≡ shown_value h p
 under-shown h p = under-among (shown_value h) p properties ∙ ap (λ b. if b then shown_value h p else None) (all-named p)
-
-pub under_along : (k : Kind) (reset : Option ℕ) (rs : List Reach) (own : List PropertyValue) (p : Property) → value_under p (values_along k reset rs own) ≡ value_along k reset rs own p
-under_along k reset rs own p = under-among (value_along k reset rs own) p properties ∙ ap (λ b. if b then value_along k reset rs own p else None) (all-named p)
 
 or-map : (f : Value → Value) (a b : Option Value) → option_or (option_map f a) (option_map f b) ≡ option_map f (option_or a b)
 or-map f None b = refl

@@ -17,7 +17,7 @@ use Rattle.rdl_tree.specs.declared.fault.Fault.{Fault}
 use Rattle.rdl_tree.specs.declared.fault.FaultKind.{FaultKind}
 use Rattle.rdl_tree.specs.declared.property.Property.TheVariants.{Regwidth}
 use Rattle.rdl_scope.specs.ItemFaults.{fault_at, fault_of}
-use Rattle.rdl_scope.specs.Closed.{Head, Parts, no_parts, part, Made, head_value}
+use Rattle.rdl_scope.specs.Closed.{Head, Parts, no_parts, part, head_value}
 use Rattle.rdl_elab.specs.declared.layout.Span.{Span}
 use Rattle.rdl_elab.specs.declared.layout.Layout.{Layout}
 use Rattle.rdl_elab.specs.declared.row.Row.{Row}
@@ -31,7 +31,6 @@ use Rattle.rdl_elab.specs.Faults.{levels, kind_fault, row_fault, first_row_fault
 use Rattle.rdl_elab.specs.Found.{IsPartFound, ArePartsFound}
 use Rattle.rdl_elab.specs.Finished.{under, IsKept, IsPart, AreParts}
 use Rattle.rdl_elab.specs.Reaches.{Reach, values_along, along, behind, reaches, reaches_at}
-use Rattle.rdl_elab.specs.Ready.{IsKeptAlone}
 use Rattle.rdl_elab.specs.FinishedRows.{Surroundings, FinishedRow, Told, finished_base, finished_values, finished_row, seen, finished_fault, judged, surroundings_inside, level_rows, finished_rows, told_one, told}
 use Rattle.rdl_elab.proofs.Along.{along-further}
 use Rattle.rdl_elab.proofs.RowsAlong.{values-row, values-alone, reaches-body}
@@ -127,25 +126,13 @@ pub room-inside : (a : Around) (span : Span) (h : Head) (within : Parts) → (h.
 room-inside a span h within (inl e) = inl e
 room-inside a span h within (inr g) = inr (omega (arith, base-below h.kind a.base span, g.holds, g.room))
 
--- what is kept of a component but its instances and its assignments
-pub alone : (d : Items) (f : Finished) (c : Made) → IsKept d f c → IsKeptAlone f c
-alone d f c k = record {
-  kind = k.kind;
-  values = k.values;
-  shown = k.shown;
-  layouts = k.layouts;
-  levels = k.levels;
-  rows = k.rows;
-  first_empty = k.first_empty;
-}
-
 module _ (d : Items) (fs : List Finished) (faultless : fault_of d ≡ None) where
   -- what stands around the instances of the component at b, by what is kept
   abbrev pub around_of : List ℕ → Around → Surroundings
   around_of b a = record { mode = a.mode; names = a.names; base = a.base; bits = a.bits; reaching = along d [] a.path ++ reaches_at d b }
 
   module _ (b : List ℕ) (a : Around) (before : List (Span × Option Value)) (span : Span) (at : List ℕ) (s : Shell) (h : Head) (within : Parts) (p : Part) (f : Finished)
-      (place : p.at ≡ at) (shell : p.shell ≡ s) (k : IsKeptAlone f (record { head = h; parts = within })) (found : IsPartFound d b at s h within)
+      (place : p.at ≡ at) (shell : p.shell ≡ s) (k : IsKept d f (record { head = h; parts = within })) (found : IsPartFound d b at s h within)
       (small : a.bits ≤ 128) (fits : OneFits a.mode a.base span h within) where
     abbrev l : Layout
     l = layout_of a.mode h within
@@ -250,8 +237,8 @@ module _ (d : Items) (fs : List Finished) (faultless : fault_of d ≡ None) wher
     abbrev f : Finished
     f = q.finished
 
-    kept : IsKeptAlone f (record { head = h; parts = within })
-    kept = alone d f (record { head = h; parts = within }) q.kept
+    kept : IsKept d f (record { head = h; parts = within })
+    kept = q.kept
 
     abbrev size : Layout
     size = layout_of a.mode h within

@@ -62,9 +62,6 @@ pub told-end : (rows : List Row) (ks : List FinishedRow) (all : Told) → ks ≡
 told-end rows ks all e h = ap (told rows) (sym e) ∙ h
 
 module _ (fs : List Finished) (below : Surroundings → List Span → List Part → List FinishedRow) (o : Surroundings) where
-  rows-end : (before : List Sibling) (spans : List Span) → level_rows fs below o before spans [] ≡ []
-  rows-end before spans = refl
-
   spans-end : (before : List Sibling) (ps : List Part) → level_rows fs below o before [] ps ≡ []
   spans-end before [] = refl
   spans-end before (p ∷ ps) = refl

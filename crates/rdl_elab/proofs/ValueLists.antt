@@ -1,5 +1,5 @@
--- Steps along the properties whose values are listed, and along assignments.
-use Rattle.std.proofs.Common.{◌≡◌, ℕ, ◌+◌, ◌<◌, List, [], ◌∷◌, ◌++◌, length, take, get_or, true, Some, None, Option, refl, ap, sym, ◌∙◌, add-one, option_map, append-nil}
+-- Steps along the properties whose values are listed.
+use Rattle.std.proofs.Common.{◌≡◌, ℕ, ◌+◌, ◌<◌, List, [], ◌∷◌, ◌++◌, length, take, get_or, Some, None, Option, ap, ◌∙◌, add-one, option_map, append-nil}
 use Rattle.std.specs.List.{filter_map, cons_option}
 use Rattle.std.proofs.Math.Seq.{take-suc}
 use Rattle.std.proofs.lemmas.List.Elements.{filter_map-append}
@@ -9,7 +9,6 @@ use Rattle.rdl_tree.specs.declared.property.Property.{Property}
 use Rattle.rdl_tree.specs.declared.value.Value.{Value}
 use Rattle.rdl_elab.specs.Shown.{valued}
 use Rattle.rdl_elab.specs.Shown.{bare, shown_value, shown_among}
-use Rattle.rdl_elab.specs.Reaches.{Reach, passed, has_ended, behind}
 
 -- with one item more
 pub found-next : {X Y : Type 0} (h : X → Option Y) (i : ℕ) (xs : List X) (x : X) → i < length xs → filter_map h (take (i + 1) xs) ≡ filter_map h (take i xs) ++ cons_option (h (get_or xs i x)) []
@@ -32,18 +31,4 @@ pub shown-none : (k : Kind) (b : Items) (ds : List (List ℕ × Value)) (i : ℕ
     → shown_among (bare k b ds) (take (i + 1) xs) ≡ shown_among (bare k b ds) (take i xs)
 shown-none k b ds i xs x l e = found-none (λ p. option_map (valued p) (shown_value (bare k b ds) p)) i xs x l (ap (option_map (valued (get_or xs i x))) e)
 
-pub behind-some : (a : List ℕ) (i : ℕ) (rs : List Reach) (r q : Reach) → i < length rs → passed a (get_or rs i r) (get_or rs i r).path ≡ Some q → behind a (take (i + 1) rs) ≡ behind a (take i rs) ++ q ∷ []
-behind-some a i rs r q l e = found-some (λ (r : Reach). passed a r r.path) i rs r q l e
-
-pub behind-none : (a : List ℕ) (i : ℕ) (rs : List Reach) (r : Reach) → i < length rs → passed a (get_or rs i r) (get_or rs i r).path ≡ None → behind a (take (i + 1) rs) ≡ behind a (take i rs)
-behind-none a i rs r l e = found-none (λ (r : Reach). passed a r r.path) i rs r l e
-
-pub ended-none : (i : ℕ) (rs : List Reach) (r : Reach) → i < length rs → r ≡ get_or rs i r → has_ended r.path ≡ true → ((a : List ℕ) → behind a (take i rs) ≡ []) → (a : List ℕ) → behind a (take (i + 1) rs) ≡ []
-ended-none i rs r l is e h a =
-    behind-none a i rs r l (ap (λ (q : Reach). passed a q q.path) (sym is) ∙ no-path r r.path e) ∙ h a
-  where
-    no-path : (q : Reach) (path : List (List ℕ)) → has_ended path ≡ true → passed a q path ≡ None
-    no-path q [] e = refl
-    no-path q (b ∷ path) e = absurd cc
-
-pub ruleset steps = (shown-some, shown-none, behind-some, behind-none)
+pub ruleset steps = (shown-some, shown-none)

@@ -1,6 +1,6 @@
 -- How instances are placed that say nothing but their names, where their components have one layout.
 -- own: SystemRDL 2.0 places each instance by itself; those that are alike begin at multiples of one number.
-use Rattle.std.specs.Prelude.{◌≡◌, ℕ, ◌+◌, ◌^◌, ◌≤◌, false, Option, None, unwrap_or, max}
+use Rattle.std.specs.Prelude.{◌≡◌, ℕ, false, Option, None, unwrap_or, max}
 use Rattle.rdl_elab.specs.declared.layout.Mode.{Mode}
 use Rattle.rdl_elab.specs.declared.layout.Mode.TheVariants.{Compact, Regalign, Fullalign}
 use Rattle.rdl_elab.specs.declared.layout.Placement.{Placement}

@@ -7,10 +7,7 @@ use Rattle.rdl_elab.specs.declared.layout.Mode.{Mode}
 use Rattle.rdl_elab.specs.declared.layout.Mode.TheVariants.{Compact, Regalign, Fullalign}
 use Rattle.rdl_elab.specs.declared.layout.Layout.{Layout}
 use Rattle.rdl_elab.specs.declared.layout.Member.{Member}
-use Rattle.rdl_elab.specs.declared.walk.each_member.Said.{Said}
-use Rattle.rdl_elab.specs.declared.walk.each_member.Extent.{Extent}
-use Rattle.rdl_elab.specs.declared.walk.each_member.Extents.{Extents}
-use Rattle.rdl_elab.specs.Kept.{Layouts, EachMember}
+use Rattle.rdl_elab.specs.Kept.{Layouts, Said, Extent, Extents, EachMember}
 
 abbrev pub first_of : List ℕ → Option ℕ
 first_of [] = None

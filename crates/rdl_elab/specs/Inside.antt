@@ -1,6 +1,6 @@
 -- What a component takes of its instances, by what is kept of their components.
 -- own: SystemRDL 2.0 has no limits; levels, rows and elements are counted as far as they are told apart.
-use Rattle.std.specs.Prelude.{◌≡◌, ℕ, zero, ◌+◌, ◌-◌, ◌^◌, ◌&&◌, min, max, Bool, true, false, List, [], ◌∷◌, Option, Some, None, option_map, slice_get, if◌then◌else◌}
+use Rattle.std.specs.Prelude.{◌≡◌, ℕ, zero, ◌+◌, ◌-◌, ◌^◌, min, max, Bool, true, false, List, [], ◌∷◌, Option, Some, None, option_map, slice_get, if◌then◌else◌}
 use Rattle.std.specs.Option.{option_or}
 use Rattle.std.specs.List.{filter_map}
 use Rattle.rdl_tree.specs.declared.shell.Kind.{Kind}
@@ -11,7 +11,8 @@ use Rattle.rdl_elab.specs.declared.layout.Placement.{Placement}
 use Rattle.rdl_elab.specs.declared.layout.Layout.{Layout}
 use Rattle.rdl_elab.specs.Kept.{Part}
 use Rattle.rdl_elab.specs.declared.walk.finished.Finished.{Finished}
-use Rattle.rdl_elab.specs.Layouts.{placement}
+use Rattle.rdl_elab.specs.declared.layout.Member.{Member}
+use Rattle.rdl_elab.specs.Layouts.{placement, field_bits}
 use Rattle.rdl_elab.specs.Finished.{under}
 
 -- a placement whose elements are counted up to a limit
@@ -21,6 +22,10 @@ counted p = record p { elements = min p.elements (2 ^ 128 - 1) }
 -- what is taken of an instance for its place
 abbrev pub shown_placement : Shell × Layout → Placement
 shown_placement i = counted (placement i)
+
+-- what a layout takes of an instance
+abbrev pub shown_member : Shell × Layout → Member
+shown_member i = record { placement = shown_placement i; bits = field_bits i }
 
 -- an instance, with the kept layout of its component under a mode
 abbrev pub kept_part : Mode → List Finished → Part → Option (Shell × Layout)
@@ -62,18 +67,8 @@ abbrev pub kept_empty : List Finished → List Part → Option (List ℕ)
 kept_empty fs [] = None
 kept_empty fs (p ∷ ps) = option_or (part_empty p (slice_get fs p.component)) (kept_empty fs ps)
 
--- whether all below the component of an instance is held, if it is there
-abbrev pub is_whole : Option Finished → Bool
-is_whole None = true
-is_whole (Some f) = f.whole
-
-abbrev pub are_whole : List Finished → List Part → Bool
-are_whole fs [] = true
-are_whole fs (p ∷ ps) = is_whole (slice_get fs p.component) && are_whole fs ps
-
--- such an instance brings no more than its rows to what these levels and marks were gathered of
-pub record IsCounted (o : Option Finished) (levels : ℕ) (whole has_empty : Bool) (rows : ℕ) : Type 0 where
+-- such an instance brings no more than its rows to what these levels and this mark were gathered of
+pub record IsCounted (o : Option Finished) (levels : ℕ) (has_empty : Bool) (rows : ℕ) : Type 0 where
   pub deep : min (max levels (part_levels o)) 16 ≡ levels
   pub many : min rows 65536 ≡ min (part_rows o) 65536
-  pub held : (whole && is_whole o) ≡ whole
   pub full : has_empty ≡ false → (p : Part) → part_empty p o ≡ None

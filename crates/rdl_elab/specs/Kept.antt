@@ -5,8 +5,6 @@ use Rattle.rdl_tree.specs.declared.shell.Kind.{Kind}
 use Rattle.rdl_tree.specs.declared.shell.Shell.{Shell}
 use Rattle.rdl_elab.specs.declared.layout.LayoutValues.{LayoutValues}
 use Rattle.rdl_elab.specs.declared.layout.Layout.{Layout}
-use Rattle.rdl_elab.specs.declared.walk.each_member.Said.{Said}
-use Rattle.rdl_elab.specs.declared.walk.each_member.Extents.{Extents}
 
 -- an instance: its address, its shell, and the number of its component among the finished ones
 pub record Part : Type 0 where
@@ -24,6 +22,26 @@ pub record Layouts : Type 0 where
   pub regalign : Layout
   pub fullalign : Layout
 
+-- what an instance says of its place: how many elements it has, the first of its dims, and what stands behind `@`, `+=`, `%=` and in its brackets
+pub record Said : Type 0 where
+  pub elements : ℕ
+  pub size : Option ℕ
+  pub address : Option ℕ
+  pub stride : Option ℕ
+  pub align : Option ℕ
+  pub range : Option (ℕ × ℕ)
+
+-- how large a component is
+pub record Extent : Type 0 where
+  pub size : ℕ
+  pub access : ℕ
+
+-- how large a component is under each mode
+pub record Extents : Type 0 where
+  pub compact : Extent
+  pub regalign : Extent
+  pub fullalign : Extent
+
 -- what the layouts of a component take of one of its instances: what it says of its place, and how large its component is under each mode
 pub record EachMember : Type 0 where
   pub said : Said
@@ -34,17 +52,3 @@ pub record MadeOf : Type 0 where
   pub kind : Kind
   pub values : LayoutValues
   pub members : List EachMember
-
--- layouts, and the words of what they are made of, as bytes
-pub record LaidOut : Type 0 where
-  pub words : List ℕ
-  pub layouts : Layouts
-
--- what is kept: the slots of a slab with layouts, whose numbers are their keys; the keys of the layouts of all components in their order;
--- the words of what they are made of, as bytes, of all that stands in a slot, and under these keys in their order; and how many instances were placed for them
-pub record Stored : Type 0 where
-  pub slots : List (Option Layouts)
-  pub keys : List ℕ
-  pub words : List (List ℕ)
-  pub spelled : List (List ℕ)
-  pub placed : ℕ

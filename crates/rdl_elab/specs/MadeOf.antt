@@ -1,7 +1,6 @@
 -- What the layouts of a component are made of. Where that stays the same, so do they.
 -- own: SystemRDL 2.0 says how components are laid out, and nothing of edits.
 use Rattle.std.specs.Prelude.{List, [], ◌∷◌, map}
-use Rattle.rdl_tree.specs.Items.{Items}
 use Rattle.rdl_tree.specs.declared.shell.Shell.{Shell}
 use Rattle.rdl_scope.specs.Closed.{Parts, no_parts, part, Made}
 use Rattle.rdl_elab.specs.declared.layout.Mode.{Mode}
@@ -11,7 +10,7 @@ use Rattle.rdl_elab.specs.Kept.{Layouts, EachMember, MadeOf}
 use Rattle.rdl_elab.specs.Layouts.{values_of, mode_inside, laid_out}
 use Rattle.rdl_elab.specs.Capped.{capped_layout}
 use Rattle.rdl_elab.specs.EachMember.{member_under, shown_each}
-use Rattle.rdl_elab.specs.Written.{layouts_kept, all_written}
+use Rattle.rdl_elab.specs.Written.{layouts_kept}
 
 -- what is taken of an instance of this component
 abbrev pub each_member : Shell → Made → EachMember
@@ -23,10 +22,6 @@ members_of (part at s h inside rest) = each_member s (record { head = h; parts =
 
 abbrev pub made_of : Made → MadeOf
 made_of c = record { kind = c.head.kind; values = values_of c.head; members = members_of c.parts }
-
--- those of all components, each behind those inside it
-abbrev pub all_made : Items → List MadeOf
-all_made d = map made_of (all_written d)
 
 -- the layouts that are made of this
 abbrev pub layout_made : Mode → MadeOf → Layout

@@ -7,13 +7,12 @@ use Rattle.rdl_tree.specs.declared.description.Item.{Item}
 use Rattle.rdl_tree.specs.declared.description.Item.TheVariants.{Define, Instance, Own, Default, Dynamic}
 use Rattle.rdl_tree.specs.declared.description.Of.TheVariants.{Named, Anonymous}
 use Rattle.rdl_tree.specs.declared.description.Component.{Component}
-use Rattle.rdl_scope.specs.Closed.{Parts, no_parts, part, Made, Standing, lookup, component, with_type, with_default, with_made, head_at, parts}
+use Rattle.rdl_scope.specs.Closed.{Parts, no_parts, part, Made, Standing, lookup, with_type, with_default, with_made, head_at, parts}
 use Rattle.rdl_elab.specs.declared.walk.finished.Finished.{Finished}
 use Rattle.rdl_elab.specs.Kept.{Part}
 use Rattle.rdl_elab.specs.declared.walk.Walk.{Walk}
 use Rattle.rdl_elab.specs.declared.walk.Found.{Found}
-use Rattle.rdl_elab.specs.Finished.{IsFinished}
-use Rattle.rdl_elab.specs.Ready.{IsReady, KeepsWhole}
+use Rattle.rdl_elab.specs.Finished.{AreParts, IsFinished}
 
 -- the component written at an address
 abbrev pub made_at : Standing → List ℕ → Component → Made
@@ -57,26 +56,7 @@ abbrev pub AreTypes : Items → List Finished → List (List ℕ × ℕ) → Lis
 AreTypes d fs [] [] = Unit {0}
 AreTypes d fs (k ∷ ks) [] = ⊥
 AreTypes d fs [] (t ∷ ts) = ⊥
-AreTypes d fs (k ∷ ks) (t ∷ ts) = (k.0 ≡ t.0) × IsReady d fs k.1 t.1 × AreTypes d fs ks ts
-
--- a type, if there is one, is the finished component of this number
-abbrev pub IsType : Items → List Finished → Option ℕ → Option Made → Type 0
-IsType d fs None None = Unit {0}
-IsType d fs None (Some c) = ⊥
-IsType d fs (Some k) None = ⊥
-IsType d fs (Some k) (Some c) = IsFinished d fs k c
-
--- the items of the root that have a number here are the finished components of these numbers
-abbrev pub AreHeads : Items → List Finished → List (Option ℕ) → Type 0
-AreHeads d fs numbers = (j k : ℕ) → slice_get numbers j ≡ Some (Some k) → IsType d fs (Some k) (component d (j ∷ []))
-
--- the number of the component of an item, if it is a definition whose type stands
-abbrev pub head_number : List (List ℕ × ℕ) → Item → Option ℕ
-head_number types (Define n c) = lookup n types
-head_number types (Instance s o) = None
-head_number types (Own p v) = None
-head_number types (Default p v) = None
-head_number types (Dynamic t p v) = None
+AreTypes d fs (k ∷ ks) (t ∷ ts) = (k.0 ≡ t.0) × IsFinished d fs k.1 t.1 × AreTypes d fs ks ts
 
 -- a walk keeps what stands
 pub record Stands (d : Items) (w : Walk) (e : Standing) : Type 0 where
@@ -98,4 +78,11 @@ pub record IsBehind (old new : Walk) : Type 0 where
   pub types : IsLonger old.types new.types
   pub defaults : IsLonger old.defaults new.defaults
   pub components : Grows old.components.items new.components.items
-  pub whole : KeepsWhole old.components.items new.components.items
+
+-- what is found at the item at an address is the instance that the item brings, by what is finished behind it
+abbrev pub BringsPart : Items → Walk → Walk → List ℕ → Item → Option Found → Type 0
+BringsPart d old new at item f = (e : Standing) → Stands d old e → AreParts d new.components.items (length new.components.items) (in_list (placed at f)) (item_parts e at item)
+
+-- something holds of the component at an address, whatever stands there, if these are its instances
+abbrev pub HoldsAt : Items → Walk → List ℕ → Component → List Part → (Made → Type 0) → Type 0
+HoldsAt d walk at c ps Holds = (e : Standing) (inside : Parts) (n : ℕ) → walk.defaults ≡ e.defaults → AreParts d walk.components.items n ps inside → Holds (record { head = head_at at c.kind c.body e; parts = inside })

@@ -1,13 +1,9 @@
 -- All components written in a description, used or not, each behind those inside it, and their layouts as they are kept.
 -- own: SystemRDL 2.0 has no order of components; a body's layout depends on the components before it and inside it.
-use Rattle.std.specs.Prelude.{ℕ, suc, List, [], ◌∷◌, ◌++◌, map}
+use Rattle.std.specs.Prelude.{ℕ, suc, List, [], ◌∷◌, ◌++◌}
 use Rattle.rdl_tree.specs.Items.{Items, no_items, plain, holder}
 use Rattle.rdl_tree.specs.Component.{holder_kind}
 use Rattle.rdl_scope.specs.Closed.{Made, Standing, head_at, parts, after_plain, after_holder, nothing}
-use Rattle.rdl_tree.specs.declared.description.Item.{Item}
-use Rattle.rdl_tree.specs.declared.description.Item.TheVariants.{Define, Instance, Own, Default, Dynamic}
-use Rattle.rdl_tree.specs.declared.description.Of.TheVariants.{Named, Anonymous}
-use Rattle.rdl_elab.specs.Stands.{made_at}
 use Rattle.rdl_elab.specs.declared.layout.Mode.TheVariants.{Compact, Regalign, Fullalign}
 use Rattle.rdl_elab.specs.Kept.{Layouts}
 use Rattle.rdl_elab.specs.Layouts.{layout}
@@ -25,19 +21,7 @@ written e b n (holder h body rest) =
 abbrev pub all_written : Items → List Made
 all_written d = written nothing [] 0 d
 
--- the component that an item holds, behind those inside it
-abbrev pub item_written : Standing → List ℕ → Item → List Made
-item_written e at (Define n c) = written e at 0 c.body ++ made_at e at c ∷ []
-item_written e at (Instance s (Named t)) = []
-item_written e at (Instance s (Anonymous c)) = written e at 0 c.body ++ made_at e at c ∷ []
-item_written e at (Own p v) = []
-item_written e at (Default p v) = []
-item_written e at (Dynamic t p v) = []
-
 -- the layouts of a component, as they are kept
 abbrev pub layouts_kept : Made → Layouts
 layouts_kept c =
     record { compact = capped_layout (layout Compact c); regalign = capped_layout (layout Regalign c); fullalign = capped_layout (layout Fullalign c) }
-
-abbrev pub all_layouts : Items → List Layouts
-all_layouts d = map layouts_kept (all_written d)

@@ -1,11 +1,9 @@
 //! The rows of a map, or its first fault.
-ghost use Rattle.std.specs.Prelude.{◌≡◌, ℕ, ◌⊎◌, ◌∷◌, ◌≤◌, [], nat_lt, Ok, Err, Some, None, IfOk, IfErr, IfSome, OnOk, option_and_then, option_copied, option_map, slice_get, drop};
+ghost use Rattle.std.specs.Prelude.{◌≡◌, ℕ, ◌⊎◌, ◌∷◌, ◌≤◌, [], nat_lt, Ok, Err, Some, None, IfOk, IfErr, OnOk, option_copied, option_map, slice_get, drop};
 ghost use Rattle.std.specs.Option.{option_or};
 ghost use Rattle.rdl_tree.specs.Depth.{depth};
 ghost use Rattle.rdl_scope.specs.Closed.{component};
 ghost use Rattle.rdl_scope.specs.ItemFaults.{fault_at, fault_of, out_of_memory};
-ghost use Rattle.rdl_scope.specs.OneItem.{NoOtherFault};
-ghost use Rattle.rdl_scope.specs.Roots.{NoFaultOutside, IsSizeOf};
 ghost use Rattle.rdl_elab.specs.Faults.{has_name, top_from, elaborated, under_top};
 ghost use Rattle.rdl_elab.specs.Known.{HasRows};
 ghost use Rattle.rdl_elab.specs.Tops.{top_at};
@@ -20,9 +18,6 @@ use crate::walk::finished::Finished;
 use crate::walk::instances::mode_inside;
 use crate::walk::lay_out_item;
 use rdl_scope::faults::check;
-use rdl_scope::one_item::check_item;
-use rdl_scope::roots::check_roots;
-use rdl_scope::size::Size;
 use rdl_text::name::Name;
 use rdl_tree::address::Address;
 use rdl_tree::description::{Description, Item};
@@ -112,7 +107,7 @@ fn last_top<'a>(items: &'a [Item], wanted: Option<&str>) -> Option<Top<'a>>
 }
 
 /// What is wrong with a map, but for single rows, whose top is this component.
-pub(crate) fn map_fault(at: &Address, top: &Finished) -> Option<Fault>
+fn map_fault(at: &Address, top: &Finished) -> Option<Fault>
     ensures { result ≡ finished_map_fault at.now top.now }
 {
     if top.levels >= 16 {
@@ -208,10 +203,7 @@ fn rows_or_fault<'a>(
     }
 }
 
-pub(crate) fn finished_at<'c, 'a>(
-    components: &'c [Finished<'a>],
-    number: usize,
-) -> Option<&'c Finished<'a>>
+fn finished_at<'c, 'a>(components: &'c [Finished<'a>], number: usize) -> Option<&'c Finished<'a>>
     ensures { option_copied result ≡ slice_get components.now number }
 {
     components.get(number)
@@ -234,19 +226,16 @@ fn rows_of<'a>(
 }
 
 /// The rows of the map with this top, whose component has this number among them, or the first fault.
-pub(crate) fn rows_under<'a>(
+fn rows_under<'a>(
     alloc: Global,
     components: &[Finished<'a>],
-    number: Option<usize>,
+    number: usize,
     top: &Top,
 ) -> Result<Result<Rows, Fault>, AllocError>
-    ensures { IfOk result (λ answer. answer ≡ finished_answer components.now (top.now.0 ∷ []) top.now.1 (option_and_then (slice_get components.now) number)) }
+    ensures { IfOk result (λ answer. answer ≡ finished_answer components.now (top.now.0 ∷ []) top.now.1 (slice_get components.now number)) }
 {
     let at = Address::new().inside(top.number);
-    match number {
-        Some(number) => rows_of(alloc, components, number, &at, top.name),
-        None => Ok(Err(no_top())),
-    }
+    rows_of(alloc, components, number, &at, top.name)
 }
 
 /// The rows of the map with this top of the description, whose component is laid out here, or the first fault.
@@ -262,7 +251,7 @@ fn under_top(
     match lay_out_item(alloc, description, top.number)? {
         Some(walked) => {
             let components = walked.components.as_slice();
-            rows_under(alloc, components, Some(walked.number), top)
+            rows_under(alloc, components, walked.number, top)
         }
         None => Ok(Err(no_top())),
     }
@@ -276,7 +265,7 @@ pub fn find_top<'a>(description: &'a Description, wanted: Option<&str>) -> Optio
 }
 
 /// The top of a map that is known to have rows.
-pub fn known_top<'a>(description: &'a Description, wanted: Option<&str>) -> Top<'a>
+fn known_top<'a>(description: &'a Description, wanted: Option<&str>) -> Top<'a>
     requires { HasRows description.now.items (option_copied wanted) }
     ensures faultless { fault_of description.now.items ≡ None }
     ensures nesting { depth description.now.items ≤ 16 }
@@ -301,7 +290,7 @@ fn top_of<'a>(description: &'a Description, wanted: Option<&str>) -> Result<Top<
 }
 
 /// The top, if no item has a fault. Otherwise the first fault: those of `rdl_scope::faults::check`, and E13.
-pub fn checked_top<'a>(
+fn checked_top<'a>(
     alloc: Global,
     description: &'a Description,
     wanted: Option<&str>,
@@ -312,46 +301,6 @@ pub fn checked_top<'a>(
     ensures err { IfErr result (λ fault. (elaborated description.now.items (option_copied wanted.entry) ≡ Err fault) ⊎ (fault ≡ out_of_memory)) }
 {
     check(alloc, description)?;
-    top_of(description, wanted)
-}
-
-/// The top of a description in which no item but the one at this address may have a fault, or the first fault of an item, or
-/// that there is no top. The size may be known.
-pub fn checked_top_but<'a>(
-    alloc: Global,
-    description: &'a Description,
-    wanted: Option<&str>,
-    item: &Address,
-    size: Option<Size>,
-) -> Result<Top<'a>, Fault>
-    requires others { NoOtherFault description.now.items item.now }
-    requires size { IfSome size (IsSizeOf description.now.items) }
-    ensures faultless { OnOk result (fault_of description.now.items ≡ None) }
-    ensures nesting { OnOk result (depth description.now.items ≤ 16) }
-    ensures top { IfOk result (λ top. top_from (option_copied wanted.entry) 0 description.now.items ≡ Some top) }
-    ensures err { IfErr result (λ fault. (elaborated description.now.items (option_copied wanted.entry) ≡ Err fault) ⊎ (fault ≡ out_of_memory)) }
-{
-    check_item(alloc, description, item, size)?;
-    top_of(description, wanted)
-}
-
-/// The top of a description in which no item may have a fault but those inside these items of the root, or the first fault of
-/// an item, or that there is no top. The size may be known.
-pub fn checked_top_in<'a>(
-    alloc: Global,
-    description: &'a Description,
-    wanted: Option<&str>,
-    asked: &[bool],
-    size: Option<Size>,
-) -> Result<Top<'a>, Fault>
-    requires others { NoFaultOutside description.now.items asked.now }
-    requires size { IfSome size (IsSizeOf description.now.items) }
-    ensures faultless { OnOk result (fault_of description.now.items ≡ None) }
-    ensures nesting { OnOk result (depth description.now.items ≤ 16) }
-    ensures top { IfOk result (λ top. top_from (option_copied wanted.entry) 0 description.now.items ≡ Some top) }
-    ensures err { IfErr result (λ fault. (elaborated description.now.items (option_copied wanted.entry) ≡ Err fault) ⊎ (fault ≡ out_of_memory)) }
-{
-    check_roots(alloc, description, asked, size)?;
     top_of(description, wanted)
 }
 

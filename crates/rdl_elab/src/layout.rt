@@ -67,17 +67,6 @@ pub struct Layout {
     pub spans: Spans,
 }
 
-impl Layout {
-    ghost use Rattle.std.specs.Prelude.{◌≡◌, length};
-
-    /// How many spans it has.
-    pub(crate) fn placed(&self) -> u64
-        ensures { result ≡ length self.now.spans }
-    {
-        self.spans.as_slice().len() as u64
-    }
-}
-
 /// What the place of an instance in an address map or a register file depends on.
 #[derive(Clone, Copy, Debug, PartialEq, Eq)]
 pub struct Placement {

@@ -3,7 +3,6 @@ ghost use Rattle.std.specs.Prelude.{◌≡◌, [], ◌∷◌, None, true, option
 ghost use Rattle.std.specs.Option.{option_or};
 ghost use Rattle.rdl_tree.specs.Properties.{on};
 ghost use Rattle.rdl_tree.specs.declared.property.Property.TheVariants.{Reset};
-ghost use Rattle.rdl_elab.specs.Access.{access_of};
 ghost use Rattle.rdl_elab.specs.Reaches.{value_under};
 ghost use Rattle.rdl_elab.specs.SameValues.{HaveSameValues};
 ghost use Rattle.rdl_elab.specs.Shown.{valued};
@@ -13,17 +12,10 @@ use crate::walk::values::{under_either, value_under};
 use rdl_text::token::Number;
 use rdl_tree::property::Property;
 use rdl_tree::shell::Kind;
-use rdl_tree::value::{Value, Word};
+use rdl_tree::value::Value;
 use std::alloc::{AllocError, Global};
 use std::marker::Model;
 use std::rc::Rc;
-
-/// Whether software only reads a component, or only writes it.
-#[derive(Clone, Copy, Debug)]
-pub(crate) struct Access {
-    pub is_read_only: bool,
-    pub is_write_only: bool,
-}
 
 /// Whether the values are known to be the same.
 fn is_same_value(value: &Value, other: &Value) -> bool
@@ -62,29 +54,11 @@ fn are_same_values(values: &[PropertyValue], others: &[PropertyValue]) -> bool
     rest.is_empty()
 }
 
-/// How software accesses a component with this value of `sw`.
-pub(crate) fn access_of(sw: Option<&Value>) -> Access
-    ensures { result ≡ access_of (option_copied sw.entry) }
-{
-    match sw {
-        Some(Value::Word(word)) => Access {
-            is_read_only: *word == Word::R,
-            is_write_only: *word == Word::W || *word == Word::W1,
-        },
-        _ => Access {
-            is_read_only: false,
-            is_write_only: false,
-        },
-    }
-}
-
 /// The values of a component, in the parts in which they are held.
 #[derive(Debug, Drop)]
 pub(crate) struct HeldValues {
     stated: Option<Vec<PropertyValue>>,
     built_ins: Rc<Vec<PropertyValue>>,
-    /// What their `sw` says, which is asked of each instance.
-    access: Access,
 }
 
 /// The values of a component, which its rows share. A contract sees the list of all, in the order of the table of
@@ -98,25 +72,18 @@ pub(crate) struct ComponentValues {
 }
 
 impl Model for ComponentValues {
-    ghost use Rattle.std.specs.Prelude.{◌≡◌, List, option_map};
-    ghost use Rattle.rdl_tree.specs.declared.property.Property.TheVariants.{Sw};
+    ghost use Rattle.std.specs.Prelude.{List, option_map};
     ghost use Rattle.rdl_elab.specs.declared.row.PropertyValue.{PropertyValue};
-    ghost use Rattle.rdl_elab.specs.Access.{access_of};
-    ghost use Rattle.rdl_elab.specs.Reaches.{value_under};
     ghost use Rattle.rdl_elab.specs.StatedValues.{over};
 
     ghost Value = { List PropertyValue };
 
     ghost view = { λ values. over (option_map (λ stated. stated.items) values.held.value.stated) values.held.value.built_ins.value.items };
-
-    ghost invariant = { λ values. values.held.value.access ≡ access_of (value_under Sw (over (option_map (λ stated. stated.items) values.held.value.stated) values.held.value.built_ins.value.items)) };
 }
 
 impl ComponentValues {
     ghost use Rattle.std.specs.Prelude.{◌≡◌, Some, true, IfOk, option_copied};
     ghost use Rattle.rdl_tree.specs.declared.property.Property.{Property};
-    ghost use Rattle.rdl_tree.specs.declared.property.Property.TheVariants.{Sw};
-    ghost use Rattle.rdl_elab.specs.Access.{access_of};
     ghost use Rattle.rdl_elab.specs.Reaches.{value_under};
     ghost use Rattle.rdl_elab.specs.SameValues.{HaveSameValues};
     ghost use Rattle.rdl_elab.specs.StatedValues.{over, under_either};
@@ -128,11 +95,9 @@ impl ComponentValues {
     ) -> Result<ComponentValues, AllocError>
         ensures { IfOk result (λ values. values ≡ built_ins.value.items) }
     {
-        let access = access_of(value_under(Property::Sw, built_ins.as_slice()));
         let values = HeldValues {
             stated: None,
             built_ins,
-            access,
         };
         let held = Rc::new(alloc, values)?;
         Ok(ComponentValues { held })
@@ -146,12 +111,9 @@ impl ComponentValues {
     ) -> Result<ComponentValues, AllocError>
         ensures { IfOk result (λ values. values ≡ over (Some stated.items) built_ins.value.items) }
     {
-        let sw = under_either(Property::Sw, stated.as_slice(), built_ins.as_slice());
-        let access = access_of(sw);
         let values = HeldValues {
             stated: Some(stated),
             built_ins,
-            access,
         };
         let held = Rc::new(alloc, values)?;
         Ok(ComponentValues { held })
@@ -183,13 +145,6 @@ impl ComponentValues {
         let (stated, built_ins) = self.parts();
         let (other_stated, other_built_ins) = other.parts();
         are_same_values(stated, other_stated) && are_same_values(built_ins, other_built_ins)
-    }
-
-    /// How software accesses a component with these values.
-    pub(crate) fn access(&self) -> Access
-        ensures { result ≡ access_of (value_under Sw self.now) }
-    {
-        self.held.access
     }
 
     /// The same values once more, which costs no memory.

@@ -1,28 +1,20 @@
 //! The rows of a map, level by level, up to the first that has a fault.
-ghost use Rattle.std.specs.Prelude.{◌≡◌, ℕ, ◌+◌, ◌^◌, ◌-◌, ◌++◌, ◌∷◌, [], List, min, map, nat_lt, unwrap_or, zero, suc, true, false, Some, None, IfOk, OnOk, option_copied, option_map, slice_get};
-ghost use Rattle.rdl_scope.specs.ItemFaults.{fault_at};
-ghost use Rattle.rdl_elab.specs.Layouts.{number_in};
+ghost use Rattle.std.specs.Prelude.{◌≡◌, ◌+◌, ◌++◌, ◌∷◌, [], List, nat_lt, unwrap_or, true, false, None, IfOk, OnOk, option_copied, option_map, slice_get};
 ghost use Rattle.rdl_elab.specs.Rows.{location_of};
 ghost use Rattle.rdl_elab.specs.Onward.{AreOnward};
 ghost use Rattle.rdl_elab.specs.SiblingsBefore.{AreBefore, AreFirst, with_one};
-ghost use Rattle.rdl_elab.specs.Reaches.{Reach, behind, value_under, values_along};
-ghost use Rattle.rdl_tree.specs.declared.property.Property.TheVariants.{Sw, Reset};
+ghost use Rattle.rdl_elab.specs.Reaches.{Reach, behind, values_along};
 ghost use Rattle.rdl_tree.specs.declared.shell.Kind.{Kind};
-ghost use Rattle.rdl_tree.specs.declared.shell.Kind.TheVariants.{Field};
 ghost use Rattle.rdl_elab.specs.declared.row.PropertyValue.{PropertyValue};
 ghost use Rattle.rdl_elab.specs.Finished.{under};
-ghost use Rattle.rdl_elab.specs.FinishedRows.{finished_base, finished_values, finished_row, seen, finished_fault, field_fault, extent_fault, judged, surroundings_inside, level_rows, finished_rows, finished_rows_below, told_one, told, overlaps_before};
+ghost use Rattle.rdl_elab.specs.FinishedRows.{finished_base, finished_values, finished_row, seen, finished_fault, field_fault, extent_fault, judged, surroundings_inside, finished_rows, finished_rows_below, told, overlaps_before};
 
-pub mod clean;
-pub(crate) mod fields;
-pub(crate) mod heads;
 pub mod siblings;
 
 use crate::layout::{Mode, Span};
 use crate::row::{Extent, LeadingNames, Location, Row, RowPath};
-use crate::row_values::{ComponentValues, LastReset, RowValues, access_of};
-use crate::rows::clean::is_in_order;
-use crate::rows::siblings::{Sibling, Siblings, as_sibling, is_reset_too_wide};
+use crate::row_values::{ComponentValues, LastReset, RowValues};
+use crate::rows::siblings::{Sibling, Siblings, as_sibling, is_in_order, is_reset_too_wide};
 use crate::walk::finished::{Finished, Part};
 use crate::walk::instances::mode_inside;
 use crate::walk::reaches::{Assignment, Onward, has_come, with_own};
@@ -136,7 +128,7 @@ fn is_alone(reset: Option<Number>, reaching: &[Assignment]) -> bool
 }
 
 /// The values of the row of an instance with this reset, whose component has these values by itself.
-pub(crate) fn values(
+fn values(
     alloc: Global,
     kind: Kind,
     reset: Option<Number>,
@@ -154,51 +146,6 @@ pub(crate) fn values(
         return Ok(RowValues::of(own));
     }
     RowValues::with_reset(alloc, own, kind, reset, last)
-}
-
-/// What the faults of a row depend on: how its later siblings see it, and the reset of a field.
-#[derive(Clone, Copy, Debug)]
-pub(crate) struct Judged {
-    pub sibling: Sibling,
-    pub reset: Option<Number>,
-}
-
-/// The reset of a row that has the values of its component, if it is a field.
-fn own_reset(kind: Kind, own: &ComponentValues) -> Option<Number>
-    ensures { kind ≡ Field → result ≡ number_in (value_under Reset own.now) }
-{
-    if kind != Kind::Field {
-        return None;
-    }
-    match own.get(Property::Reset) {
-        Some(Value::Number(number)) => Some(*number),
-        _ => None,
-    }
-}
-
-/// What the faults depend on of the row of an instance with this reset, whose component has these values by itself.
-pub(crate) fn judged_row(
-    alloc: Global,
-    kind: Kind,
-    span: Span,
-    reset: Option<Number>,
-    reaching: &[Assignment],
-    own: &ComponentValues,
-) -> Result<Judged, AllocError>
-    ensures sibling { IfOk result (λ judged. judged.sibling ≡ seen span (finished_values kind reset reaching.now own.now)) }
-    ensures reset { IfOk result (λ judged. kind ≡ Field → judged.reset ≡ number_in (value_under Reset (finished_values kind reset reaching.now own.now))) }
-{
-    if is_alone(reset, reaching) {
-        return Ok(Judged {
-            sibling: as_sibling(span, own.access()),
-            reset: own_reset(kind, own),
-        });
-    }
-    let values = values(alloc, kind, reset, reaching, own, &mut LastReset::none())?;
-    Ok(Judged {
-        sibling: seen(span, &values),
-        reset: values.number(Property::Reset),
-    })
 }
 
 /// Those of these assignments that go on from a level with so many instances, if there is any assignment.
@@ -245,19 +192,23 @@ fn is_stride_too_small(stride: Option<Number>, size: u64) -> bool
 fn seen(span: Span, values: &RowValues) -> Sibling
     ensures { result ≡ seen span values.now }
 {
-    as_sibling(span, access_of(values.get(Property::Sw)))
+    as_sibling(span, values.get(Property::Sw))
 }
 
-/// What is wrong with a field, in a register of so many bits.
-fn field_fault(bits: u64, judged: Judged, before: &Siblings) -> Option<FaultKind>
-    ensures { (values : List PropertyValue) → judged.reset ≡ number_in (value_under Reset values) → result ≡ field_fault bits judged.sibling before.now values }
+/// What is wrong with a field whose row has these values, in a register of so many bits.
+fn field_fault(
+    bits: u64,
+    field: Sibling,
+    before: &Siblings,
+    values: &RowValues,
+) -> Option<FaultKind>
+    ensures { result ≡ field_fault bits field before.now values.now }
 {
-    let field = judged.sibling;
     if bits < field.span.end {
         Some(FaultKind::FieldPastRegister)
     } else if before.clash(field) {
         Some(FaultKind::FieldOverlap)
-    } else if is_reset_too_wide(judged.reset, field.span) {
+    } else if is_reset_too_wide(values.number(Property::Reset), field.span) {
         Some(FaultKind::ResetTooWide)
     } else {
         None
@@ -277,24 +228,24 @@ fn extent_fault(part: &Part, size: u64, span: Span, before: &Siblings) -> Option
     }
 }
 
-/// What is wrong with an instance that is placed in this mode, in a register of so many bits if it is a field.
-pub(crate) fn fault_kind(
-    mode: Mode,
-    bits: u64,
+/// What is wrong with an instance whose row has these values, and which its later siblings see so.
+fn fault_kind(
+    around: &Around,
     part: &Part,
     component: &Finished,
-    judged: Judged,
+    sibling: Sibling,
     before: &Siblings,
+    values: &RowValues,
 ) -> Option<FaultKind>
-    ensures { (values : List PropertyValue) → (component.now.kind ≡ Field → judged.reset ≡ number_in (value_under Reset values)) → result ≡ finished_fault component.now.kind component.now.values bits part.now.shell (under mode component.now.layouts).size judged.sibling before.now values }
+    ensures { result ≡ finished_fault component.now.kind component.now.values around.now.bits part.now.shell (under around.now.mode component.now.layouts).size sibling before.now values.now }
 {
-    let size = component.layouts.under(mode).size;
+    let size = component.layouts.under(around.mode).size;
     match component.kind {
-        Kind::Field => field_fault(bits, judged, before),
+        Kind::Field => field_fault(around.bits, sibling, before, values),
         Kind::Reg if component.values.regwidth < component.values.accesswidth => {
             Some(FaultKind::AccessTooWide)
         }
-        _ => extent_fault(part, size, judged.sibling.span, before),
+        _ => extent_fault(part, size, sibling.span, before),
     }
 }
 
@@ -361,9 +312,7 @@ fn judge(
         return Ok(fault_alone(around, part, component, span, values));
     };
     let sibling = seen(span, values);
-    let reset = values.number(Property::Reset);
-    let judged = Judged { sibling, reset };
-    let fault = fault_kind(around.mode, around.bits, part, component, judged, kept);
+    let fault = fault_kind(around, part, component, sibling, kept, values);
     if fault.is_none() {
         kept.push(sibling)?;
     }
@@ -464,7 +413,7 @@ fn inside<'r, 'a>(
     })
 }
 
-pub(crate) fn span_at(spans: &[Span], number: usize) -> Option<Span>
+fn span_at(spans: &[Span], number: usize) -> Option<Span>
     ensures { result ≡ slice_get spans.now number }
 {
     spans.get(number).copied()

@@ -122,10 +122,6 @@ appended_at q firsts x None f = refl
 appended_at q firsts x (Some zero) f = refl
 appended_at q firsts x (Some (suc m)) f = appended_in q firsts m x f
 
-or-false : (t : Bool) → t || false ≡ t
-or-false true = refl
-or-false false = refl
-
 module _ (slots : List ℕ) (firsts : List Key) where
   -- a key that is put in the slot that has nothing
   pub free_put : (s k : ℕ) (x : Key) (others : BTreeSet OtherKey) → key_spot slots firsts (names x) ≡ Free s → k ≡ suc (length firsts) → (q : List (List ℕ))
@@ -167,17 +163,6 @@ module _ (slots : List ℕ) (firsts : List Key) where
       (λ t. let none : Some (suc (length firsts)) ≡ Some 0 = ap (λ z. Some z) (sym number) ∙ sym t.0 ∙ here in absurd cc)
       (λ t. free q (sym t ∙ here))
       (set_any slots s (key_slot slots q) k (free_slot slots firsts p s h))
-
--- without a first key and without others no key was noted
-pub none-noted : (slots : List ℕ) (firsts : List Key) (others : BTreeSet OtherKey) → firsts ≡ [] → others.keys ≡ [] → (q : List (List ℕ)) → is_noted slots firsts others q ≡ false
-none-noted slots firsts others e g q =
-    ap (λ fs. is_at fs q (slice_get slots (key_slot slots q)) || is_other others q) e ∙ ap (λ ks. is_at [] q (slice_get slots (key_slot slots q)) || list_any (has_names q) ks) g
-    ∙ by (slice_get slots (key_slot slots q))
-  where
-    by : (o : Option ℕ) → is_at [] q o || false ≡ false
-    by None = refl
-    by (Some zero) = refl
-    by (Some (suc n)) = refl
 
 -- ---- The others.
 

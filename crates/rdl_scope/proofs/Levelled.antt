@@ -46,10 +46,6 @@ level-push ms m q =
 pub level_last : (levels ms : List Names) (m : Names) (q : List ℕ) → levels ≡ ms ++ m ∷ [] → level_found 0 levels q ≡ scope_found ms m q
 level_last levels ms m q e = ap (λ ls. level_found 0 ls q) e ∙ level-push ms m q
 
-pub level_none : (levels : List Names) (q : List ℕ) → length levels ≡ 0 → level_found 0 levels q ≡ None
-level_none [] q h = refl
-level_none (m ∷ ms) q h = absurd (omega arith)
-
 -- one body deeper
 no_inner : (o : Option Items) (q : List ℕ) → option_and_then (λ b. found [] b q) o ≡ None
 no_inner None q = refl

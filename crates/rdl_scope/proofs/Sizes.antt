@@ -8,7 +8,7 @@ use Rattle.rdl_tree.specs.View.{add, items_of, list_of}
 use Rattle.rdl_tree.specs.declared.description.Item.{Item}
 use Rattle.rdl_tree.proofs.Rounds.{items_of-list_of, weight-items_of}
 use Rattle.rdl_tree.proofs.Sizes.{item_count, item_depth, count-add, count-items_of, depth_more}
-use Rattle.rdl_scope.specs.Roots.{IsSizeOf}
+use Rattle.rdl_scope.specs.Sizes.{IsSizeOf}
 use Rattle.rdl_scope.specs.declared.size.Size.{Size}
 
 count-item-of : (i : ℕ) (xs : List Item) (x : Item) → i < length xs → item_count (get_or xs i x) ≤ count (items_of xs)

@@ -19,9 +19,6 @@ and-right : (a b : Bool) → a && b ≡ true → b ≡ true
 and-right true b h = h
 and-right false b h = absurd cc
 
-and-true : (a b : Bool) → a ≡ true → b ≡ true → a && b ≡ true
-and-true a b g h = cc
-
 module _ {V : Type 0} where
   -- the entry with another value
   abbrev pub changed : Entry V → Option V → Entry V

@@ -18,3 +18,12 @@ front q = fold with_byte 0 q
 -- a name compared to a key of a map by name: by their fronts, and where these are equal by their bytes
 abbrev pub name_cmp : List ℕ → ℕ × Bor (List ℕ) → Ordering
 name_cmp q k = ordering_then (nat_cmp (front q) k.0) (slice_cmp nat_cmp q k.1.now)
+
+-- ---- Assignments.
+
+abbrev pub front_with : ℕ → List ℕ → ℕ
+front_with n name = (((n * 257) % 2 ^ 64) + front name) % 2 ^ 64
+
+-- a number by which two assignments are mostly told apart: that of the names of the target, and then of the property
+unfoldable pub assigned_front : List (List ℕ) → List ℕ → ℕ
+assigned_front t p = front_with (fold front_with 0 t) p

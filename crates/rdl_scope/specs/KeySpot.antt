@@ -9,7 +9,7 @@ use Rattle.std.specs.BTreeSet.{BTreeSet}
 use Rattle.std.specs.declared.alloc.Global.{Global}
 use Rattle.std.specs.declared.vec.Vec.{Vec}
 use denote.Ref.{Bor}
-use Rattle.rdl_scope.specs.Noted.{assigned_front}
+use Rattle.rdl_scope.specs.Front.{assigned_front}
 use Rattle.rdl_scope.specs.Spot.{slot_of}
 use Rattle.rdl_scope.specs.declared.entry.Spot.{Spot}
 use Rattle.rdl_scope.specs.declared.entry.Spot.TheVariants.{Free, Own, Other}

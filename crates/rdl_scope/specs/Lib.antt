@@ -5,10 +5,8 @@ pub mod Front
 pub mod ItemFaults
 pub mod KeySpot
 pub mod Keys
-pub mod Noted
-pub mod OneItem
-pub mod Roots
 pub mod Scopes
+pub mod Sizes
 pub mod Spot
 pub mod Target
 pub mod Types

@@ -13,7 +13,7 @@ ghost use Rattle.rdl_scope.specs.Value.{own_before};
 ghost use Rattle.rdl_scope.specs.Scopes.{number_under, scope_found, level_found, along_place, address_under, instance_component, kind_below, kind_of_instance, IsMet, Knows};
 ghost use Rattle.rdl_scope.specs.Walk.{found};
 ghost use Rattle.rdl_scope.specs.ItemFaults.{kind_at, instance_kind, target_kind, is_set, is_excluded, excluded_by, item_fault, fault_at, first_fault, inside_fault, is_too_large, fault_of, out_of_memory};
-ghost use Rattle.rdl_scope.specs.Roots.{IsSizeOf};
+ghost use Rattle.rdl_scope.specs.Sizes.{IsSizeOf};
 ghost use Rattle.rdl_tree.specs.View.{list_of};
 
 use crate::assignments::{default_fault, dynamic_fault, own_fault, rivals};

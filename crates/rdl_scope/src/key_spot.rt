@@ -3,8 +3,8 @@ ghost use Rattle.std.specs.Prelude.{◌≡◌, slice_get, bytes_eq};
 ghost use Rattle.std.specs.Cmp.Lexicographic.{pointwise};
 ghost use Rattle.rdl_scope.specs.KeySpot.{key_front, key_spot, spot_in, is_of, names};
 
-use crate::assigned::assigned_front;
 use crate::entry::{Spot, slot_of};
+use crate::front::assigned_front;
 use rdl_text::name::Name;
 use rdl_tree::target::Target;
 

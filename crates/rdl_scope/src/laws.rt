@@ -1,22 +1,13 @@
 //! What the definitions have in common.
 ghost use Rattle.std.specs.Prelude.{◌≡◌, ℕ, List, [], ◌∷◌, Some, None, slice_get};
 ghost use Rattle.std.specs.Option.{is_some};
-ghost use Rattle.rdl_tree.specs.ItemAt.{item_at};
 ghost use Rattle.rdl_tree.specs.Items.{Items};
 ghost use Rattle.rdl_tree.specs.Address.{body_at};
 ghost use Rattle.rdl_tree.specs.View.{list_of};
-ghost use Rattle.rdl_tree.specs.Patch.{patched};
-ghost use Rattle.rdl_tree.specs.declared.patch.Patch.TheVariants.{Insert, Exchange};
-ghost use Rattle.rdl_tree.specs.declared.part.Part.TheVariants.{OfShell, OfValue};
-ghost use Rattle.rdl_tree.specs.declared.value.Value.{Value};
-ghost use Rattle.rdl_tree.specs.declared.shell.Shell.{Shell};
 ghost use Rattle.rdl_tree.specs.declared.description.Component.{Component};
 ghost use Rattle.rdl_tree.specs.declared.description.Item.{Item};
-ghost use Rattle.rdl_tree.specs.declared.description.Item.TheVariants.{Instance, Dynamic};
-ghost use Rattle.rdl_tree.specs.declared.description.Of.{Of};
 ghost use Rattle.rdl_scope.specs.Types.{component_at};
 ghost use Rattle.rdl_scope.specs.ItemFaults.{AreKindsAllowed, item_fault, fault_of};
-ghost use Rattle.rdl_scope.specs.OneItem.{IsLast, NoOtherFault};
 ghost use Rattle.rdl_scope.specs.Value.{component_value};
 ghost use Rattle.rdl_scope.specs.Closed.{Made, component, head_value, IsAsFound};
 
@@ -36,16 +27,4 @@ pub fn accepted_items_have_no_fault()
     ensures inside { (d : Items) (a : List ℕ) (c : Component) (n : ℕ) (x : Item) → fault_of d ≡ None → component_at d a ≡ Some c
         → slice_get (list_of c.body) n ≡ Some x → item_fault d (Some c.kind) a c.body n x ≡ None }
     ensures kinds { (d : Items) → fault_of d ≡ None → AreKindsAllowed d }
-{}
-
-/// In a description without a fault, another shell of an instance that keeps its name, another value of a dynamic
-/// assignment, and one more dynamic assignment at the end of a body can give no other item a fault. It does nothing when
-/// it runs.
-pub fn other_items_keep_no_fault()
-    ensures shell { (d : Items) (at : List ℕ) (s new : Shell) (o : Of) → fault_of d ≡ None → item_at at d ≡ Some (Instance s o) → new.name ≡ s.name
-        → NoOtherFault (patched (Exchange at (OfShell new)) d) at }
-    ensures value { (d : Items) (at : List ℕ) (t : List (List ℕ)) (p : List ℕ) (v w : Value) → fault_of d ≡ None → item_at at d ≡ Some (Dynamic t p v)
-        → NoOtherFault (patched (Exchange at (OfValue w)) d) at }
-    ensures put { (d : Items) (at : List ℕ) (t : List (List ℕ)) (p : List ℕ) (v : Value) → fault_of d ≡ None → IsLast at d
-        → NoOtherFault (patched (Insert at (Dynamic t p v)) d) at }
 {}

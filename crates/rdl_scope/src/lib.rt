@@ -3,7 +3,6 @@
 #![tactic(auto)]
 
 pub mod apart;
-pub mod assigned;
 pub mod assignments;
 pub mod before;
 pub mod by_name;
@@ -16,11 +15,8 @@ pub mod kinds;
 pub mod laws;
 mod levels;
 mod names;
-pub mod one_item;
 mod passed;
 mod places;
-pub mod room;
-pub mod roots;
 pub mod shells;
 pub mod size;
 pub mod targets;

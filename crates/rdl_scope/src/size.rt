@@ -6,7 +6,7 @@ ghost use Rattle.rdl_tree.specs.ItemWeight.{item_weight};
 ghost use Rattle.rdl_tree.specs.View.{add};
 ghost use Rattle.rdl_tree.specs.declared.description.Item.{Item};
 ghost use Rattle.rdl_tree.specs.declared.description.Of.{Of};
-ghost use Rattle.rdl_scope.specs.Roots.{IsSizeOf};
+ghost use Rattle.rdl_scope.specs.Sizes.{IsSizeOf};
 
 use rdl_text::name::Name;
 use rdl_tree::description::{Body, Description, Item, Of};
@@ -30,7 +30,7 @@ impl Size {
     ghost use Rattle.std.specs.Prelude.{◌≡◌, ◌+◌, max};
     ghost use Rattle.rdl_tree.specs.Weight.{capped};
     ghost use Rattle.rdl_tree.specs.Items.{no_items};
-    ghost use Rattle.rdl_scope.specs.Roots.{IsSizeOf};
+    ghost use Rattle.rdl_scope.specs.Sizes.{IsSizeOf};
 
     /// The size of no items.
     pub fn nothing() -> Size
@@ -167,15 +167,4 @@ pub(crate) fn body_size(body: &Body) -> Size
         size = size.beside(more);
     }
     size
-}
-
-/// The size of a description: this one, if it is known, and else found in one walk.
-pub(crate) fn size_of(description: &Description, known: Option<Size>) -> Size
-    requires { IfSome known (IsSizeOf description.now.items) }
-    ensures { IsSizeOf description.now.items result }
-{
-    match known {
-        Some(size) => size,
-        None => body_size(&description.items),
-    }
 }

@@ -1,17 +1,14 @@
 //! Siblings that overlap, and resets that are too wide.
-ghost use Rattle.std.specs.Prelude.{◌≡◌, ◌^◌, nat_le, false, List, [], ◌∷◌, ◌++◌, IfOk};
-ghost use Rattle.rdl_tree.specs.declared.property.Property.TheVariants.{Sw};
-ghost use Rattle.rdl_elab.specs.Access.{access_of};
-ghost use Rattle.rdl_elab.specs.Faults.{overlap, is_reset_too_wide};
-ghost use Rattle.rdl_elab.specs.FinishedRows.{share, seen, overlaps_before};
-ghost use Rattle.rdl_elab.specs.Reaches.{value_under};
-ghost use Rattle.rdl_elab.specs.declared.row.PropertyValue.{PropertyValue};
+ghost use Rattle.std.specs.Prelude.{◌≡◌, ◌^◌, nat_le, option_copied, false, List, [], ◌∷◌, ◌++◌, IfOk};
+ghost use Rattle.rdl_elab.specs.Faults.{overlap, is_read_only, is_write_only, is_reset_too_wide};
+ghost use Rattle.rdl_elab.specs.FinishedRows.{share, overlaps_before};
 ghost use Rattle.rdl_elab.specs.SiblingRanges.{AreApart, AreRanges, AreRangesIfKept};
+ghost use Rattle.rdl_elab.specs.SiblingsBefore.{in_order};
 ghost use Rattle.rdl_elab.specs.declared.rows.siblings.Sibling.{Sibling};
 
 use crate::layout::Span;
-use crate::row_values::Access;
 use rdl_text::token::Number;
+use rdl_tree::value::{Value, Word};
 use std::alloc::{AllocError, Global};
 use std::collections::BTreeMap;
 use std::marker::Model;
@@ -141,36 +138,9 @@ impl Siblings {
         with_range(ranges_of(self.alloc, self.items.as_slice())?, sibling.span)
     }
 
-    /// Whether the span begins at the greatest end of theirs, or behind it.
-    fn are_before(&self, span: Span) -> bool
-        ensures { result ≡ true → overlaps_before span self.now ≡ false }
-    {
-        if self.end <= span.start {
-            return true;
-        }
-        false
-    }
-
-    /// Takes one more if it is seen at once that it overlaps none of them.
-    fn push_behind(&mut self, sibling: Sibling) -> Result<bool, AllocError>
-        ensures taken { IfOk result (λ taken. taken ≡ true → self.new ≡ self.old ++ sibling ∷ []) }
-        ensures apart { IfOk result (λ taken. taken ≡ true → overlaps_before sibling.span self.old ≡ false) }
-        ensures left { IfOk result (λ taken. taken ≡ false → self.new ≡ self.old) }
-    {
-        if !self.are_before(sibling.span) || self.ranges.is_some() {
-            return Ok(false);
-        }
-        self.items.push(sibling)?;
-        self.end = self.end.max(sibling.span.end);
-        Ok(true)
-    }
-
     pub(crate) fn push(&mut self, sibling: Sibling) -> Result<(), AllocError>
         ensures { OnOk result (self.new ≡ self.old ++ sibling ∷ []) }
     {
-        if self.push_behind(sibling)? {
-            return Ok(());
-        }
         let are_apart = self.are_apart && !self.overlap(sibling.span);
         let ranges = self.ranges_with(sibling, are_apart)?;
         self.items.push(sibling)?;
@@ -214,6 +184,24 @@ pub fn overlap(first: Span, second: Span) -> bool
         && second.start < first.end
 }
 
+fn is_read_only(access: Option<&Value>) -> bool
+    ensures { result ≡ is_read_only (option_copied access.entry) }
+{
+    match access {
+        Some(Value::Word(word)) => *word == Word::R,
+        _ => false,
+    }
+}
+
+fn is_write_only(access: Option<&Value>) -> bool
+    ensures { result ≡ is_write_only (option_copied access.entry) }
+{
+    match access {
+        Some(Value::Word(word)) => *word == Word::W || *word == Word::W1,
+        _ => false,
+    }
+}
+
 /// Whether the number has more bits than this.
 #[tactic(auto, using(crate::proofs::WideNumbers::within_word))]
 pub fn is_wider(number: Number, width: u64) -> bool
@@ -225,14 +213,28 @@ pub fn is_wider(number: Number, width: u64) -> bool
     1 << width <= number
 }
 
-/// A row as its later siblings see it, by its span and how software accesses it.
-pub(crate) fn as_sibling(span: Span, access: Access) -> Sibling
-    ensures { (values : List PropertyValue) → access ≡ access_of (value_under Sw values) → result ≡ seen span values }
+/// Whether each of the spans begins where those before it end, or behind that.
+pub(crate) fn is_in_order(spans: &[Span]) -> bool
+    ensures { result ≡ in_order 0 spans.now }
+{
+    let mut end = 0;
+    for span in spans {
+        if span.start < end {
+            return false;
+        }
+        end = end.max(span.end);
+    }
+    true
+}
+
+/// A row as its later siblings see it, by its span and its value of `sw`.
+pub(crate) fn as_sibling(span: Span, access: Option<&Value>) -> Sibling
+    ensures { result ≡ record { span = span; is_read_only = is_read_only (option_copied access.entry); is_write_only = is_write_only (option_copied access.entry) } }
 {
     Sibling {
         span,
-        is_read_only: access.is_read_only,
-        is_write_only: access.is_write_only,
+        is_read_only: is_read_only(access),
+        is_write_only: is_write_only(access),
     }
 }
 

@@ -4,7 +4,6 @@ ghost use Rattle.rdl_elab.specs.Shown.{built_in_values};
 
 use crate::row::PropertyValue;
 use crate::row_values::ComponentValues;
-use crate::walk::shared_words::WordRoom;
 use crate::walk::values::built_in_values;
 use rdl_tree::shell::Kind;
 use std::alloc::{AllocError, Global};
@@ -20,14 +19,13 @@ pub(crate) struct KindValues {
 }
 
 /// The values of components without assignments that no default reaches, for each kind once. All of them are the same,
-/// so a contract sees nothing of them, and nothing of the room for words that components lend to one another.
+/// so a contract sees nothing of them.
 #[derive(Drop)]
 pub(crate) struct BuiltIns {
     addrmap: KindValues,
     regfile: KindValues,
     reg: KindValues,
     field: KindValues,
-    pub words: WordRoom,
 }
 
 impl Model for BuiltIns {
@@ -59,9 +57,6 @@ impl BuiltIns {
             regfile: shared(alloc, Kind::Regfile)?,
             reg: shared(alloc, Kind::Reg)?,
             field: shared(alloc, Kind::Field)?,
-            words: WordRoom {
-                bytes: Vec::new(alloc),
-            },
         })
     }
 

@@ -1,11 +1,7 @@
 //! Components that are laid out.
-ghost use Rattle.std.specs.Prelude.{◌≡◌, [], true, None};
-
 use crate::layout::{Layout, LayoutValues, Mode};
 use crate::row_values::ComponentValues;
-use crate::walk::laid_out::{LaidOut, SharedLayouts};
 use crate::walk::part_list::PartList;
-use crate::walk::passed::Passed;
 use crate::walk::reaches::Assignment;
 use crate::walk::shared::{InstanceAddress, SharedAddress};
 use rdl_text::token::Number;
@@ -139,8 +135,7 @@ pub(crate) struct ThreeLayouts {
 }
 
 impl ThreeLayouts {
-    ghost use Rattle.std.specs.Prelude.{◌≡◌, ◌≤◌};
-    ghost use Rattle.rdl_elab.specs.Anew.{all_spans};
+    ghost use Rattle.std.specs.Prelude.{◌≡◌};
     ghost use Rattle.rdl_elab.specs.EachMode.{of_three};
     ghost use Rattle.rdl_elab.specs.Finished.{under};
 
@@ -152,15 +147,6 @@ impl ThreeLayouts {
             Mode::Regalign => &self.regalign,
             Mode::Fullalign => &self.fullalign,
         }
-    }
-
-    fn placed(&self) -> u64
-        ensures { result ≤ all_spans (of_three self.now) }
-    {
-        self.compact
-            .placed()
-            .saturating_add(self.regalign.placed())
-            .saturating_add(self.fullalign.placed())
     }
 }
 
@@ -188,8 +174,7 @@ impl Model for Layouts {
 }
 
 impl Layouts {
-    ghost use Rattle.std.specs.Prelude.{◌≡◌, ◌≤◌, true, IfOk};
-    ghost use Rattle.rdl_elab.specs.Anew.{all_spans};
+    ghost use Rattle.std.specs.Prelude.{◌≡◌, true, IfOk};
     ghost use Rattle.rdl_elab.specs.declared.layout.Mode.{Mode};
     ghost use Rattle.rdl_elab.specs.declared.layout.Mode.TheVariants.{Compact};
     ghost use Rattle.rdl_elab.specs.EachMode.{of_three};
@@ -221,16 +206,6 @@ impl Layouts {
         }
     }
 
-    /// How many spans they have.
-    pub(crate) fn placed(&self) -> u64
-        ensures { result ≤ all_spans self.now }
-    {
-        match &self.each {
-            EachMode::Same(layout) => layout.placed(),
-            EachMode::Own(three) => three.placed(),
-        }
-    }
-
     /// Whether it is known that the mode makes no difference.
     pub(crate) fn is_same(&self) -> bool
         ensures { result ≡ true → (m : Mode) → under m self.now ≡ under Compact self.now }
@@ -252,19 +227,11 @@ pub(crate) struct Finished<'a> {
     /// The dynamic assignments in its body.
     pub assignments: Vec<Assignment<'a>>,
     pub parts: PartList<'a>,
-    pub layouts: SharedLayouts,
-    /// Its layouts once more, with the words of what they are made of.
-    pub laid_out: LaidOut,
-    /// The key of its layouts, if they were kept before.
-    pub key: Option<usize>,
+    pub layouts: Layouts,
     /// The names of the longest path below it, at most 16.
     pub levels: usize,
     /// The rows below it, at most 65,536.
     pub rows: usize,
     /// The first instance below it of a register file or address map without instances.
     pub first_empty: Option<SharedAddress>,
-    /// Whether the instances of this component and of all below it are held.
-    pub whole: bool,
-    /// Where it was passed over, what it is. Its instances aren't held then.
-    pub passed: Option<Passed>,
 }

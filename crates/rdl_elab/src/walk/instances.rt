@@ -1,5 +1,5 @@
 //! What a component takes of its instances, of whose components all is kept.
-ghost use Rattle.std.specs.Prelude.{◌≡◌, ◌≤◌, ◌+◌, ◌&&◌, ◌∷◌, List, min, max, map, slice_get, true, false, IfOk, IfSome, IsSomeAnd, OnOk, Some, None, option_copied};
+ghost use Rattle.std.specs.Prelude.{◌≡◌, ◌≤◌, ◌+◌, ◌∷◌, List, min, max, map, slice_get, true, false, IfOk, IfSome, IsSomeAnd, OnOk, Some, None, option_copied};
 ghost use Rattle.rdl_elab.specs.declared.layout.Mode.{Mode};
 ghost use Rattle.rdl_elab.specs.declared.layout.Mode.TheVariants.{Compact};
 ghost use Rattle.rdl_tree.specs.declared.shell.Kind.TheVariants.{Regfile, Reg};
@@ -12,7 +12,7 @@ ghost use Rattle.rdl_elab.specs.Kept.{Part};
 ghost use Rattle.rdl_elab.specs.AlikeParts.{AreAlike};
 ghost use Rattle.rdl_elab.specs.BarePlaces.{IsBarePlace};
 ghost use Rattle.rdl_elab.specs.Finished.{under};
-ghost use Rattle.rdl_elab.specs.Inside.{counted, shown_placement, kept_parts, part_levels, kept_levels, part_rows, finished_rows, lacks_rows, part_empty, kept_empty, is_whole, are_whole, IsCounted};
+ghost use Rattle.rdl_elab.specs.Inside.{counted, shown_placement, kept_parts, part_levels, kept_levels, part_rows, finished_rows, lacks_rows, part_empty, kept_empty, IsCounted};
 
 use crate::layout::bits::bits;
 use crate::layout::component::{field, register};
@@ -328,36 +328,32 @@ pub(crate) struct Contents {
     pub levels: usize,
     /// The rows, at most 65,536.
     pub rows: usize,
-    /// Whether all of it is held.
-    pub whole: bool,
     /// Whether a register file or address map without instances may be among it.
     pub has_empty: bool,
 }
 
 impl Contents {
-    ghost use Rattle.std.specs.Prelude.{◌≡◌, ◌≤◌, ◌&&◌, ◌||◌, ◌+◌, false, None, min, max};
+    ghost use Rattle.std.specs.Prelude.{◌≡◌, ◌≤◌, ◌||◌, ◌+◌, false, None, min, max};
     ghost use Rattle.rdl_elab.specs.Inside.{lacks_rows};
 
     /// Nothing.
     fn nothing() -> Contents
-        ensures { result ≡ record { levels = 0; rows = 0; whole = true; has_empty = false } }
+        ensures { result ≡ record { levels = 0; rows = 0; has_empty = false } }
     {
         Contents {
             levels: 0,
             rows: 0,
-            whole: true,
             has_empty: false,
         }
     }
 
     /// This, with one more instance of a component that is among it already, which has so many rows.
     fn again(self, rows: usize) -> Contents
-        ensures { result ≡ record { levels = self.levels; rows = min (self.rows + rows) 65536; whole = self.whole; has_empty = self.has_empty } }
+        ensures { result ≡ record { levels = self.levels; rows = min (self.rows + rows) 65536; has_empty = self.has_empty } }
     {
         Contents {
             levels: self.levels,
             rows: self.rows.saturating_add(rows).min(MAX_ROWS),
-            whole: self.whole,
             has_empty: self.has_empty,
         }
     }
@@ -366,7 +362,6 @@ impl Contents {
     fn with(self, finished: &Finished) -> Contents
         ensures levels { result.levels ≡ min (max self.levels (finished.now.levels + 1)) 16 }
         ensures rows { result.rows ≡ min (self.rows + (finished.now.rows + 1)) 65536 }
-        ensures whole { result.whole ≡ (self.whole && finished.now.whole) }
         ensures before { result.has_empty ≡ false → self.has_empty ≡ false }
         ensures empty { result.has_empty ≡ false → lacks_rows finished.now.kind finished.now.rows ≡ false }
         ensures inside { result.has_empty ≡ false → finished.now.first_empty ≡ None }
@@ -378,7 +373,6 @@ impl Contents {
                 .max(finished.levels.saturating_add(1))
                 .min(MAX_LEVELS),
             rows: rows.min(MAX_ROWS),
-            whole: self.whole && finished.whole,
             has_empty: self.has_empty
                 || finished.first_empty.is_some()
                 || is_empty(finished.kind, finished.rows),
@@ -401,13 +395,12 @@ fn with_part(
     components: &[Finished],
 ) -> Contents
     requires few { contents.rows ≤ 65536 }
-    requires last { IsCounted (slice_get components.now last.old.number) contents.levels contents.whole contents.has_empty last.old.rows }
+    requires last { IsCounted (slice_get components.now last.old.number) contents.levels contents.has_empty last.old.rows }
     ensures levels { result.levels ≡ min (max contents.levels (part_levels (slice_get components.now part.now.component))) 16 }
     ensures rows { result.rows ≡ min (contents.rows + part_rows (slice_get components.now part.now.component)) 65536 }
-    ensures whole { result.whole ≡ (contents.whole && is_whole (slice_get components.now part.now.component)) }
     ensures before { result.has_empty ≡ false → contents.has_empty ≡ false }
     ensures empty { result.has_empty ≡ false → part_empty part.now (slice_get components.now part.now.component) ≡ None }
-    ensures last { IsCounted (slice_get components.now last.new.number) result.levels result.whole result.has_empty last.new.rows }
+    ensures last { IsCounted (slice_get components.now last.new.number) result.levels result.has_empty last.new.rows }
 {
     if part.number() == last.number {
         return contents.again(last.rows);
@@ -426,7 +419,6 @@ fn with_part(
 pub(crate) fn contents_of(parts: &[Part], components: &[Finished]) -> Contents
     ensures levels { result.levels ≡ min (kept_levels components.now parts.now) 16 }
     ensures rows { result.rows ≡ min (finished_rows components.now parts.now) 65536 }
-    ensures whole { result.whole ≡ are_whole components.now parts.now }
     ensures empty { result.has_empty ≡ false → kept_empty components.now parts.now ≡ None }
 {
     let mut contents = Contents::nothing();

@@ -136,7 +136,7 @@ fn part_at<'p, 'a>(parts: &'p [Part<'a>], place: Option<usize>) -> Option<&'p Pa
 }
 
 impl<'a> PartList<'a> {
-    ghost use Rattle.std.specs.Prelude.{◌≡◌, [], IfOk, IfSome, option_copied};
+    ghost use Rattle.std.specs.Prelude.{◌≡◌, IfOk, IfSome, option_copied};
     ghost use Rattle.rdl_elab.specs.PartNames.{IsFirstNamed, part_named};
 
     /// These instances. The names of many are put in order, as far as they are looked up.
@@ -153,16 +153,6 @@ impl<'a> PartList<'a> {
             LookUps::All => Some(PartNames::of(alloc, items.as_slice(), None)?),
         };
         Ok(PartList { items, names })
-    }
-
-    /// No instances.
-    pub(crate) fn none(alloc: Global) -> PartList<'a>
-        ensures { result.items ≡ [] }
-    {
-        PartList {
-            items: Vec::new(alloc),
-            names: None,
-        }
     }
 
     pub(crate) fn as_slice(&self) -> &[Part<'a>]

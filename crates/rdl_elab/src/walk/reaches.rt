@@ -1,5 +1,5 @@
 //! The dynamic assignments that reach an instance.
-ghost use Rattle.std.specs.Prelude.{◌≡◌, ◌+◌, ◌-◌, ◌%◌, ◌<◌, ℕ, ◌++◌, ◌∷◌, List, [], false, true, length, replicate, get_or, slice_set, take, IfOk, IfSome, OnOk, option_copied};
+ghost use Rattle.std.specs.Prelude.{◌≡◌, ◌+◌, ◌-◌, ◌%◌, ◌<◌, ◌++◌, ◌∷◌, List, [], false, length, replicate, get_or, slice_set, take, IfOk, IfSome, OnOk, option_copied};
 ghost use Rattle.std.specs.Option.{option_or};
 ghost use Rattle.rdl_tree.specs.Properties.{row};
 ghost use Rattle.rdl_tree.specs.declared.property.Property.{Property};
@@ -19,7 +19,6 @@ use crate::walk::part_list::PartList;
 use crate::walk::shared::InstanceAddress;
 use crate::walk::targets::target_path;
 use crate::walk::values::add_assigned;
-use rdl_text::is_same;
 use rdl_text::name::Name;
 use rdl_tree::description::{Body, Item};
 use rdl_tree::properties::property;
@@ -50,10 +49,9 @@ impl<'a> Model for Assignment<'a> {
 }
 
 impl<'a> Assignment<'a> {
-    ghost use Rattle.std.specs.Prelude.{◌≡◌, ◌&&◌, IfOk, bytes_eq, option_map, slice_get};
+    ghost use Rattle.std.specs.Prelude.{◌≡◌, IfOk, option_map, slice_get};
     ghost use Rattle.rdl_tree.specs.Address.{number_of};
     ghost use Rattle.rdl_elab.specs.Reaches.{passed, has_ended};
-    ghost use Rattle.rdl_elab.specs.ReachedAt.{ends_at};
 
     /// The same assignment, for one more.
     fn share(&self) -> Result<Assignment<'a>, AllocError>
@@ -96,24 +94,6 @@ impl<'a> Assignment<'a> {
         ensures { result ≡ has_ended self.now.path }
     {
         self.path.is_over(self.passed)
-    }
-
-    /// Whether its target ends at this instance.
-    #[tactic(auto, using(crate::proofs::Onward::ending))]
-    fn ends_at(&self, instance: &InstanceAddress) -> bool
-        ensures { result ≡ ends_at instance.now self.now.path }
-    {
-        if !self.path.is_at(self.passed, instance) {
-            return false;
-        }
-        self.path.is_over(self.passed + 1)
-    }
-
-    /// Whether its target is the property of this name of this instance.
-    fn assigns(&self, name: &str, instance: &InstanceAddress) -> bool
-        ensures { result ≡ (ends_at instance.now self.now.path && bytes_eq self.now.property name.now) }
-    {
-        is_same(self.property.as_str(), name) && self.ends_at(instance)
     }
 }
 
@@ -213,41 +193,11 @@ fn add_all<'a>(list: &mut Vec<Assignment<'a>>, more: &[Assignment<'a>]) -> Resul
     Ok(())
 }
 
-/// Whether each of them has passed all its instances.
-#[tactic(auto, using(crate::proofs::ValueLists::steps))]
-pub(crate) fn have_ended(reaching: &[Assignment]) -> bool
-    ensures { result ≡ true → (a : List ℕ) → behind a reaching.now ≡ [] }
-{
-    for assignment in reaching {
-        if !assignment.has_ended() {
-            return false;
-        }
-    }
-    true
-}
-
 /// Whether one of them has passed all its instances.
 pub(crate) fn has_come(reaching: &[Assignment]) -> bool
     ensures { result ≡ list_any (λ (a : Reach). has_ended a.path) reaching.now }
 {
     reaching.iter().any(|assignment| assignment.has_ended())
-}
-
-/// What the first of them assigns to the property of this name, of those whose targets end at this instance.
-#[tactic(auto, using(crate::proofs::ReachedAt::steps))]
-pub(crate) fn reached_at<'a>(
-    name: &str,
-    instance: &InstanceAddress,
-    reaching: &[Assignment<'a>],
-) -> Option<&'a Value>
-    ensures { option_copied result ≡ reached name.now (behind instance.now reaching.now) }
-{
-    for assignment in reaching {
-        if assignment.assigns(name, instance) {
-            return Some(assignment.value);
-        }
-    }
-    None
 }
 
 /// So many assignments have no more slots than there are instances, where these are few.
@@ -343,7 +293,7 @@ pub(crate) struct Onward<'r, 'a> {
 }
 
 impl<'r, 'a> Onward<'r, 'a> {
-    ghost use Rattle.std.specs.Prelude.{◌≡◌, ℕ, [], List, true, IfOk, OnOk};
+    ghost use Rattle.std.specs.Prelude.{◌≡◌, List, IfOk, OnOk};
     ghost use Rattle.rdl_elab.specs.Onward.{IsOnward, first_under};
     ghost use Rattle.rdl_elab.specs.Reaches.{Reach, behind};
 
@@ -378,13 +328,6 @@ impl<'r, 'a> Onward<'r, 'a> {
             return self.reaching.len();
         }
         self.heads[slot(number, self.heads.len())]
-    }
-
-    /// Whether no target passes this instance, or any other of its slot.
-    pub(crate) fn passes_by(&self, part: &Part) -> bool
-        ensures { result ≡ true → (reaching : List Reach) → IsOnward self.now reaching → behind part.now.at reaching ≡ [] }
-    {
-        self.first_under(part.place()) >= self.reaching.len()
     }
 
     /// Puts those whose targets pass this instance in the place of what is in the list.

@@ -3,7 +3,6 @@ ghost use Rattle.std.specs.Prelude.{◌≡◌, ◌∷◌, [], Some, None, IfOk, 
 ghost use Rattle.rdl_elab.specs.KeptTargets.{after, kept_from, kept_target};
 ghost use Rattle.rdl_elab.specs.PartNames.{IsFirstNamed};
 
-use crate::kept_root::KeptRoot;
 use crate::walk::finished::{Finished, Part};
 use crate::walk::instance_path::InstancePath;
 use crate::walk::name_marks::NameMarks;
@@ -47,23 +46,21 @@ fn item_goes_further(item: &Item) -> bool {
 }
 
 /// Whether the target of the item of the root of this number, or of an item inside it, passes more than one instance.
-pub(crate) fn root_goes_further(description: &Description, number: usize) -> bool {
+fn root_goes_further(description: &Description, number: usize) -> bool {
     match description.items.item(number) {
         Some(item) => item_goes_further(item),
         None => false,
     }
 }
 
-/// The same of each of these items of the root, where it is kept.
-fn known_further(alloc: Global, roots: &[KeptRoot]) -> Result<Vec<Option<bool>>, AllocError> {
-    let mut known = Vec::with_capacity(alloc, roots.len())?;
-    for root in roots {
-        known.push(match &root.summary {
-            Some(summary) => Some(summary.further),
-            None => None,
-        })?;
+/// The last item of the root, from this one on and before that end, of which a target passes more than one instance.
+fn last_between(description: &Description, from: usize, end: usize) -> Option<usize> {
+    for number in (from..end).rev() {
+        if root_goes_further(description, number) {
+            return Some(number);
+        }
     }
-    Ok(known)
+    None
 }
 
 /// The marks of the names that the targets of the body's own items from this one on begin with, if they aren't too many to tell
@@ -88,8 +85,6 @@ fn first_names(body: &Body, first: usize) -> Option<NameMarks> {
 /// on. A contract sees nothing of it.
 #[derive(Drop)]
 pub(crate) struct Further {
-    /// Of each item of the root whether a target in it does, where that is kept.
-    known: Vec<Option<bool>>,
     /// The first item that was asked.
     asked: usize,
     last: Option<usize>,
@@ -104,31 +99,12 @@ impl Model for Further {
 impl Further {
     ghost use Rattle.std.specs.Prelude.{◌≡◌};
 
-    /// Nothing was asked yet, and this is kept of the items of the root.
-    pub(crate) fn of(alloc: Global, roots: &[KeptRoot]) -> Result<Further, AllocError> {
-        Ok(Further {
-            known: known_further(alloc, roots)?,
+    /// Nothing was asked yet.
+    pub(crate) fn nothing() -> Further {
+        Further {
             asked: usize::MAX,
             last: None,
-        })
-    }
-
-    /// Whether a target in the item of the root of this number passes more than one instance.
-    fn is_at(&self, description: &Description, number: usize) -> bool {
-        match self.known.get(number) {
-            Some(Some(further)) => *further,
-            _ => root_goes_further(description, number),
         }
-    }
-
-    /// The last item of the root, from this one on and before that end, of which a target passes more than one instance.
-    fn last_between(&self, description: &Description, from: usize, end: usize) -> Option<usize> {
-        for number in (from..end).rev() {
-            if self.is_at(description, number) {
-                return Some(number);
-            }
-        }
-        None
     }
 
     /// Whether a target in an item of the root from this one on passes more than one instance.
@@ -137,7 +113,7 @@ impl Further {
     {
         if self.last.is_none() && from < self.asked {
             let end = self.asked.min(description.items.len());
-            self.last = self.last_between(description, from, end);
+            self.last = last_between(description, from, end);
             self.asked = from;
         }
         match self.last {

@@ -1,7 +1,6 @@
-use Rattle.std.proofs.Common.{◌≡◌, ℕ, ◌∷◌, ◌+◌, ◌-◌, ◌*◌, ◌<◌, List, [], length, take, drop, ◌++◌, refl, ap, sym, subst, ◌∙◌, arith, length-append}
+use Rattle.std.proofs.Common.{◌≡◌, ℕ, ◌∷◌, ◌+◌, ◌-◌, ◌*◌, ◌<◌, List, [], length, take, drop, ◌++◌, refl, ap, sym, subst, ◌∙◌, arith}
 use Rattle.std.specs.Prelude.{IfOk, IfSome, Some}
 use Rattle.rdl_tree.specs.View.{items_of}
-use Rattle.rdl_tree.proofs.Rounds.{items_of-list_of}
 use Rattle.rdl_tree.specs.declared.shell.Shell.{Shell}
 use Rattle.rdl_tree.specs.declared.description.Item.{Item}
 use Rattle.rdl_tree.specs.declared.description.Of.{Of}
@@ -9,15 +8,11 @@ use Rattle.rdl_tree.specs.declared.description.Item.TheVariants.{Instance}
 use Rattle.rdl_scope.specs.Closed.{Standing, parts, standing}
 use Rattle.rdl_elab.specs.Kept.{Part}
 use Rattle.rdl_elab.specs.declared.walk.Walk.{Walk}
-use Rattle.rdl_elab.specs.Ready.{AreReadyParts, IsReady}
-use Rattle.rdl_elab.specs.Inside.{are_whole}
-use Rattle.rdl_elab.specs.Written.{written}
-use Rattle.rdl_elab.specs.Finishes.{FinishesAll}
+use Rattle.rdl_elab.specs.Finished.{AreParts, IsFinished}
 use Rattle.rdl_elab.specs.Stands.{made_at, after_item, item_parts, in_list, placed, Stands}
-use Rattle.rdl_elab.proofs.Goings.{append_nil, grows-on, grows-push, item-room, body-room, stands-grow, stands-define, ready-part, named-part, made-last, whole-on, whole-last, stands-next, parts-next, behind-on}
+use Rattle.rdl_elab.proofs.Goings.{append_nil, grows-on, grows-push, item-room, body-room, stands-grow, stands-define, finished-part, named-part, made-last, stands-next, parts-next, behind-on}
 use Rattle.rdl_elab.specs.OwnValues.{AreOfInstances, IsInstance}
 use Rattle.rdl_elab.proofs.OwnValues.{instances-next, instance-found}
-use Rattle.rdl_elab.proofs.Writing.{finishes-next, finishes-made, laid-out}
 use Rattle.rdl_elab.proofs.walk.+walk.Goals as goal
 use Rattle.rdl_elab.proofs.walk.+walk.Goals.{walk_items-in-Some+in_ok-reserve_first+in_ok-around+in_ok-push_part, walk_items-in_default}
 
@@ -38,48 +33,24 @@ finish-returns-clause-made t c = λ e h.
     let defaults = c.truncate-2.ensures ∙ ap (λ n. drop (length long - n) long) c.len-defaults.ensures ∙ behind.defaults.same ∙ h.defaults in
     let same = c.in_ok-finished.ensures.parts in
     let stays : c.finished_component.new.walk.components.items ≡ mid = ap (λ (w : Walk). w.components.items) c.in_ok-finished.ensures.walk in
-    let pushed = c.in_ok-push_finished.ensures.items ∙ ap (λ fs. fs ++ c.in_ok-finished.finished ∷ []) stays in
-    let number : c.in_ok-push_finished.field-0 ≡ length mid = c.in_ok-push_finished.ensures.number ∙ ap length stays in
-    made-last d c.args.at.now c.args.component.now e mid c.push_finished.new.components.items c.in_ok-push_finished.field-0 c.in_ok-finished.finished c.as_slice.result.now c.as_slice.ensures number pushed
-    (subst (λ (ps : List Part). AreReadyParts d mid (length mid) ps (parts e c.args.at.now 0 (items_of c.as_slice.result.now))) (sym same) (c.in_ok-parts.ensures.parts e h))
-    (λ inside n are. c.in_ok-finished.ensures.kept e inside n defaults (subst (λ (ps : List Part). AreReadyParts d mid n ps inside) same are))
-    (λ inside n are. c.in_ok-finished.ensures.whole e inside n defaults (subst (λ (ps : List Part). AreReadyParts d mid n ps inside) same are))
-    (c.in_ok-finished.ensures.all ∙ ap (are_whole mid) (sym same)) c.in_ok-finished.ensures.held c.in_ok-finished.ensures.assigned
-
-pub finish-returns-clause-last : goal.finish-returns-clause-last
-finish-returns-clause-last t c =
-    let mid = c.walk_items.new.walk.components.items in
-    let stays : c.finished_component.new.walk.components.items ≡ mid = ap (λ (w : Walk). w.components.items) c.in_ok-finished.ensures.walk in
-    let f = c.in_ok-finished.finished in
-    omega (arith, c.in_ok-push_finished.ensures.number, ap length c.in_ok-push_finished.ensures.items, length-append c.finished_component.new.walk.components.items (f ∷ []))
-
-pub finish-returns-clause-whole : goal.finish-returns-clause-whole
-finish-returns-clause-whole t c =
-    let mid = c.walk_items.new.walk.components.items in
-    let f = c.in_ok-finished.finished in
-    let stays : c.finished_component.new.walk.components.items ≡ mid = ap (λ (w : Walk). w.components.items) c.in_ok-finished.ensures.walk in
-    let pushed = c.in_ok-push_finished.ensures.items ∙ ap (λ fs. fs ++ f ∷ []) stays in
-    let all = c.in_ok-finished.ensures.all ∙ ap (are_whole mid) (sym c.in_ok-finished.ensures.parts) in
-    whole-on c.args.walk.now.components.items mid c.push_finished.new.components.items c.in_ok-parts.ensures.behind.whole (whole-last mid c.push_finished.new.components.items f pushed all)
+    let pushed = c.in_ok-push.ensures.items ∙ ap (λ fs. fs ++ c.in_ok-finished.finished ∷ []) stays in
+    let number : c.len-number.result ≡ length mid = omega (arith, c.len-number.ensures, ap length stays) in
+    made-last d c.args.at.now c.args.component.now e mid c.push.new.self.items c.len-number.result c.in_ok-finished.finished c.as_slice.result.now c.as_slice.ensures number pushed
+    (subst (λ (ps : List Part). AreParts d mid (length mid) ps (parts e c.args.at.now 0 (items_of c.as_slice.result.now))) (sym same) (c.in_ok-parts.ensures.parts e h))
+    (λ inside n are. c.in_ok-finished.ensures.kept e inside n defaults (subst (λ (ps : List Part). AreParts d mid n ps inside) same are))
 
 pub finish-returns-clause-components : goal.finish-returns-clause-components
 finish-returns-clause-components t c =
     let mid = c.walk_items.new.walk.components.items in
     let stays : c.finished_component.new.walk.components.items ≡ mid = ap (λ (w : Walk). w.components.items) c.in_ok-finished.ensures.walk in
-    let pushed = c.in_ok-push_finished.ensures.items ∙ ap (λ fs. fs ++ c.in_ok-finished.finished ∷ []) stays in
-    grows-on c.args.walk.now.components.items mid c.push_finished.new.components.items c.in_ok-parts.ensures.behind.components (grows-push mid c.push_finished.new.components.items c.in_ok-finished.finished pushed)
+    let pushed = c.in_ok-push.ensures.items ∙ ap (λ fs. fs ++ c.in_ok-finished.finished ∷ []) stays in
+    grows-on c.args.walk.now.components.items mid c.push.new.self.items c.in_ok-parts.ensures.behind.components (grows-push mid c.push.new.self.items c.in_ok-finished.finished pushed)
 
 pub finish_inside-returns-clause-made : goal.finish_inside-returns-clause-made
 finish_inside-returns-clause-made t c =
     let d = c.args.description.now.items in
     let new = c.finish.new.walk.components.items in
-    subst (λ (a : List ℕ). IfOk c.finish.result (λ k. (e : Standing) → Stands d c.args.walk.now e → IsReady d new k (made_at e a c.args.component.now))) c.inside-below.ensures c.finish.ensures.made
-
-pub finish_inside-returns-clause-finishes : goal.finish_inside-returns-clause-finishes
-finish_inside-returns-clause-finishes t c =
-    let d = c.args.description.now.items in
-    let k = c.args.component.now in
-    subst (λ (a : List ℕ). IfOk c.finish.result (λ n. FinishesAll d c.args.before.now c.args.walk.now c.finish.new.walk (λ e. written e a 0 k.body ++ made_at e a k ∷ []))) c.inside-below.ensures c.finish.ensures.finishes
+    subst (λ (a : List ℕ). IfOk c.finish.result (λ k. (e : Standing) → Stands d c.args.walk.now e → IsFinished d new k (made_at e a c.args.component.now))) c.inside-below.ensures c.finish.ensures.made
 
 pub walk_items-walk_item-requires : goal.walk_items-walk_item-requires
 walk_items-walk_item-requires t c =
@@ -96,7 +67,7 @@ walk_item-returns-in_ok-push-in-Define-clause-stands t c = λ e h.
     let new : Walk = record { types = c.push.new.self; defaults = mid.defaults; components = mid.components; built_ins = mid.built_ins; further = mid.further } in
     let k = c.in_ok-component-in-Define.component in
     let all = c.in_ok-component-in-Define.ensures in
-    let made : IsReady d mid.components.items k (made_at e at c.in-Define.component) = all.made e h in
+    let made : IsFinished d mid.components.items k (made_at e at c.in-Define.component) = all.made e h in
     subst (λ (x : Item). Stands d new (after_item at x e)) (sym c.in-Define.is)
     (stands-define d old new e at c.in-Define.name k c.in-Define.component (c.in_ok-push-in-Define.ensures ∙ ap (λ ts. (c.in-Define.name, k) ∷ ts) all.types) all.defaults all.components made h)
 
@@ -131,9 +102,6 @@ walk_items-loop-i-preserved t c =
           stands-next d b at xs i c.index-items-i.result c.loop-i-test.true c.index-items-i.is refl e new
           (all.stands (standing e b 0 (items_of (take i xs))) (c.loop-i.invariant.stands e h));
       shared = shared;
-      finishes = λ e h.
-          finishes-next c.args.before.now c.args.walk.now.components.items c.loop-i.walk.components.items new.components.items b at xs i c.index-items-i.result c.loop-i-test.true c.index-items-i.is refl e
-          (c.loop-i.invariant.finishes e h) (all.finishes (standing e b 0 (items_of (take i xs))) (c.loop-i.invariant.stands e h));
       behind = behind-on c.args.walk.now c.loop-i.walk new c.loop-i.invariant.behind all.behind;
       instances = instances-next xs b i c.index-items-i.result c.loop-i-test.true c.index-items-i.is done c.match-branch-2.parts.items c.in_ok-found.field-0 after all.instance c.loop-i.invariant.instances;
     }
@@ -148,9 +116,9 @@ walk_instance-returns-in_ok-component-in-Anonymous-clause-part t c = λ e h.
     let k = c.in_ok-component-in-Anonymous.component in
     let all = c.in_ok-component-in-Anonymous.ensures in
     let p : Part = record { at = at; shell = c.args.shell.now; component = k } in
-    let here : IsReady d new k (made_at e at made) = all.made e h in
-    subst (λ (o : Of). AreReadyParts d new (length new) (p ∷ []) (item_parts e at (Instance c.args.shell.now o))) (sym c.in-Anonymous.is)
-    (ready-part d new k (made_at e at made) at c.args.shell.now p here refl refl refl)
+    let here : IsFinished d new k (made_at e at made) = all.made e h in
+    subst (λ (o : Of). AreParts d new (length new) (p ∷ []) (item_parts e at (Instance c.args.shell.now o))) (sym c.in-Anonymous.is)
+    (finished-part d new k (made_at e at made) at c.args.shell.now p here refl refl refl)
 
 pub walk_instance-returns-in_ok-component-in-Anonymous-clause-stands :
     goal.walk_instance-returns-in_ok-component-in-Anonymous-clause-stands
@@ -175,24 +143,6 @@ walk_instance-returns-in-Named-clause-part t c = λ e h.
     let fs = c.args.walk.now.components.items in
     let found = c.named_part.result in
     let here =
-    subst (λ (o : Of). AreReadyParts d fs (length fs) (in_list (placed at found)) (item_parts e at (Instance c.args.shell.now o))) (sym c.in-Named.is)
+    subst (λ (o : Of). AreParts d fs (length fs) (in_list (placed at found)) (item_parts e at (Instance c.args.shell.now o))) (sym c.in-Named.is)
     (named-part d fs at c.args.shell.now c.in-Named.name found c.args.walk.now.types e.types h.types c.named_part.ensures.part) in
-    subst (λ (w : Walk). AreReadyParts d w.components.items (length w.components.items) (in_list (placed at found)) (item_parts e at (Instance c.args.shell.now c.args.of.now))) (sym c.named_part.ensures.same) here
-
-pub finish-returns-clause-finishes : goal.finish-returns-clause-finishes
-finish-returns-clause-finishes t c = λ e h.
-    let d = c.args.description.now.items in
-    let before = c.args.before.now in
-    let at = c.args.at.now in
-    let k = c.args.component.now in
-    let mid = c.walk_items.new.walk.components.items in
-    let f = c.in_ok-finished.finished in
-    let xs = c.as_slice.result.now in
-    let behind = c.in_ok-parts.ensures.behind in
-    let long = c.walk_items.new.walk.defaults in
-    let defaults = c.truncate-2.ensures ∙ ap (λ n. drop (length long - n) long) c.len-defaults.ensures ∙ behind.defaults.same ∙ h.defaults in
-    let are = subst (λ t. AreReadyParts d mid (length mid) c.in_ok-parts.parts.items (parts e at 0 t)) (ap items_of c.as_slice.ensures ∙ items_of-list_of k.body) (c.in_ok-parts.ensures.parts e h) in
-    let stays : c.finished_component.new.walk.components.items ≡ mid = ap (λ (w : Walk). w.components.items) c.in_ok-finished.ensures.walk in
-    let pushed = c.in_ok-push_finished.ensures.items ∙ ap (λ fs. fs ++ f ∷ []) stays in
-    finishes-made before c.args.walk.now.components.items mid c.push_finished.new.components.items at k e xs f c.as_slice.ensures pushed (c.in_ok-parts.ensures.finishes e h)
-    (laid-out before f (made_at e at k) (c.in_ok-finished.ensures.kept e (parts e at 0 k.body) (length mid) defaults are) c.in_ok-finished.ensures.held (c.in_ok-finished.ensures.words e (parts e at 0 k.body) (length mid) defaults are) c.in_ok-finished.ensures.same c.in_ok-finished.ensures.stood c.in_ok-finished.ensures.taken)
+    subst (λ (w : Walk). AreParts d w.components.items (length w.components.items) (in_list (placed at found)) (item_parts e at (Instance c.args.shell.now c.args.of.now))) (sym c.named_part.ensures.same) here

@@ -2,11 +2,9 @@ use Rattle.std.proofs.Common.{◌≡◌, ◌+◌, ◌-◌, ◌*◌, length, take
 use Rattle.std.specs.Prelude.{IfSome}
 use Rattle.rdl_tree.specs.View.{items_of}
 use Rattle.rdl_scope.specs.Closed.{Standing, parts, standing}
-use Rattle.rdl_elab.specs.Ready.{AreReadyParts}
+use Rattle.rdl_elab.specs.Finished.{AreParts}
 use Rattle.rdl_elab.specs.OwnValues.{AreOfInstances}
 use Rattle.rdl_elab.specs.Stands.{Stands, IsBehind}
-use Rattle.rdl_elab.specs.Written.{written}
-use Rattle.rdl_elab.specs.Finishes.{Finishes}
 use Rattle.rdl_elab.proofs.walk.+walk.Given as goal
 
 abbrev pub decreases-walk_items : goal.decreases-walk_items
@@ -26,10 +24,9 @@ decreases-finish l = 5 * (17 - length l.at.now) + 5
 
 abbrev pub invariant-walk_items-loop-i : goal.invariant-walk_items-loop-i
 invariant-walk_items-loop-i l = record {
-  parts : (e : Standing) → Stands l.description.items l.initial.walk e → AreReadyParts l.description.items l.walk.components.items (length l.walk.components.items) l.parts.items (parts e l.at 0 (items_of (take l.i l.items)));
+  parts : (e : Standing) → Stands l.description.items l.initial.walk e → AreParts l.description.items l.walk.components.items (length l.walk.components.items) l.parts.items (parts e l.at 0 (items_of (take l.i l.items)));
   stands : (e : Standing) → Stands l.description.items l.initial.walk e → Stands l.description.items l.walk (standing e l.at 0 (items_of (take l.i l.items)));
   shared : IfSome l.shared (λ a. a ≡ l.at);
-  finishes : (e : Standing) → Stands l.description.items l.initial.walk e → Finishes l.before l.initial.walk.components.items l.walk.components.items (written e l.at 0 (items_of (take l.i l.items)));
   behind : IsBehind l.initial.walk l.walk;
   instances : AreOfInstances l.items l.parts.items;
 }

@@ -1,7 +1,7 @@
 use Rattle.std.proofs.Common.{rules, subst, sym}
 use Rattle.rdl_tree.specs.Items.{no_items}
 use Rattle.rdl_tree.specs.View.{add}
-use Rattle.rdl_scope.specs.Roots.{IsSizeOf}
+use Rattle.rdl_scope.specs.Sizes.{IsSizeOf}
 use Rattle.rdl_scope.proofs.Sizes.{count-item, size-more, size-done}
 use Rattle.rdl_scope.proofs.size.+size.Goals as goal
 use Rattle.rdl_scope.proofs.size.+size.Goals.{body_size-in-Some, body_size-in-None}

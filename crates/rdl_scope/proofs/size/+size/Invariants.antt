@@ -2,7 +2,7 @@ use Rattle.std.proofs.Common.{take, ◌*◌, ◌+◌}
 use Rattle.rdl_tree.specs.Items.{count}
 use Rattle.rdl_tree.specs.View.{items_of}
 use Rattle.rdl_tree.proofs.Sizes.{item_count}
-use Rattle.rdl_scope.specs.Roots.{IsSizeOf}
+use Rattle.rdl_scope.specs.Sizes.{IsSizeOf}
 use Rattle.rdl_scope.proofs.size.+size.Given as goal
 
 abbrev pub decreases-item_size : goal.decreases-item_size

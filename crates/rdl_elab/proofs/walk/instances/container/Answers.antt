@@ -1,4 +1,4 @@
-use Rattle.std.proofs.Common.{ap, sym, subst, ◌∙◌, map, refl}
+use Rattle.std.proofs.Common.{sym, subst, ◌∙◌, map, refl}
 use Rattle.std.specs.Prelude.{IfSome}
 use Rattle.rdl_elab.specs.AlikeParts.{AreAlike}
 use Rattle.rdl_elab.specs.Inside.{shown_placement, kept_parts}

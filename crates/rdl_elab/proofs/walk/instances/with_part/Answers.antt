@@ -1,7 +1,7 @@
 use Rattle.std.proofs.Common.{◌+◌, Option, ap, sym, subst, ◌∙◌, arith}
-use Rattle.std.specs.Prelude.{◌&&◌, min, max, slice_get}
+use Rattle.std.specs.Prelude.{min, max, slice_get}
 use Rattle.rdl_elab.specs.declared.walk.finished.Finished.{Finished}
-use Rattle.rdl_elab.specs.Inside.{part_levels, part_rows, part_empty, is_whole, IsCounted}
+use Rattle.rdl_elab.specs.Inside.{part_levels, part_rows, part_empty, IsCounted}
 use Rattle.rdl_elab.proofs.Insides.{full-part, once-counted}
 use Rattle.rdl_elab.proofs.walk.instances.with_part.Goals as goal
 
@@ -17,9 +17,8 @@ returns c =
     record {
       levels = more.levels ∙ sym (ap (λ (o : Option Finished). min (max old.levels (part_levels o)) 16) there);
       rows = more.rows ∙ sym (ap (λ (o : Option Finished). min (old.rows + part_rows o) 65536) there);
-      whole = more.whole ∙ sym (ap (λ (o : Option Finished). old.whole && is_whole o) there);
       before = more.before;
       empty = λ none. ap (part_empty p) there ∙ full-part p f (more.empty none) (more.inside none);
-      last = subst (λ (o : Option Finished). IsCounted o new.levels new.whole new.has_empty c.saturating_add.result) (sym (ap (slice_get fs) c.number-2.ensures ∙ there))
-          (once-counted f old.levels new.levels old.whole new.whole new.has_empty c.saturating_add.result more.levels (omega (arith, c.saturating_add.ensures)) more.whole more.empty more.inside);
+      last = subst (λ (o : Option Finished). IsCounted o new.levels new.has_empty c.saturating_add.result) (sym (ap (slice_get fs) c.number-2.ensures ∙ there))
+          (once-counted f old.levels new.levels new.has_empty c.saturating_add.result more.levels (omega (arith, c.saturating_add.ensures)) more.empty more.inside);
     }

@@ -1,4 +1,4 @@
-use Rattle.std.proofs.Common.{◌≡◌, ◌++◌, ◌∷◌, [], ap, sym, ◌∙◌, append_assoc, append-nil, arith}
+use Rattle.std.proofs.Common.{◌++◌, ◌∷◌, [], ap, sym, ◌∙◌, append_assoc, append-nil}
 use Rattle.rdl_elab.specs.Reaches.{behind}
 use Rattle.rdl_elab.proofs.Onward.{going_from, going-ends, going-unlinked, behind-going, behind-passing}
 use Rattle.rdl_elab.proofs.walk.reaches.put_behind.Goals as goal

@@ -1,5 +1,0 @@
-use Rattle.rdl_kept.proofs.InReach.{is-in-reach}
-use Rattle.rdl_kept.proofs.laws.reach_is_as_found.Goals as goal
-
-pub returns : goal.returns
-returns c = is-in-reach

@@ -1,4 +1,0 @@
-pub mod Keeping
-pub mod Placing
-pub mod QuietEdits
-pub mod QuietSteps
