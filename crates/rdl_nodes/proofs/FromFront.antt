@@ -1,12 +1,12 @@
 -- Spans from the first one on: what begins behind the ends of all before it overlaps none of them.
-use Rattle.std.proofs.Common.{◌≡◌, ℕ, zero, suc, ◌+◌, ◌<◌, ◌≤◌, max, Bool, true, false, not, ◌&&◌, ◌||◌, List, [], ◌∷◌, ◌++◌, length, take, drop, get_or, refl, ap, sym, ◌∙◌, arith}
+use Rattle.std.proofs.Common.{min, ◌≡◌, ℕ, zero, suc, ◌+◌, ◌<◌, ◌≤◌, max, Bool, true, false, not, ◌&&◌, ◌||◌, List, [], ◌∷◌, ◌++◌, length, take, drop, get_or, refl, ap, sym, ◌∙◌, arith}
 use Rattle.std.specs.Prelude.{nat_le, nat_lt}
 use Rattle.std.specs.List.{list_all, list_any}
 use Rattle.std.proofs.lemmas.List.{take_more}
 use Rattle.std.proofs.lemmas.Bool.{and_parts, and_from, and_left, and_right}
 use Rattle.std.proofs.lemmas.Bool.Decides.{nat_tests}
 use Rattle.rdl_seen.specs.Layouts.{Span, overlaps, are_apart}
-use Rattle.rdl_nodes.specs.Apart.{end_by}
+use Rattle.rdl_nodes.specs.Apart.{begin_from, end_by}
 use Rattle.rdl_nodes.proofs.Bodies.{drop_at}
 
 begins_last : (s t : Span) (high : ℕ) → high ≤ s.start → nat_le t.end high ≡ true → nat_lt s.start t.end ≡ false
@@ -53,6 +53,25 @@ front_at xs i x h e = take_more xs i x h ∙ ap (λ y. take i xs ++ y ∷ []) (s
 -- one more span
 pub end_at : (high : ℕ) (xs : List Span) (i : ℕ) (x : Span) → i < length xs → x ≡ get_or xs i x → end_by high (take i xs) ≡ true → end_by (max high x.end) (take (i + 1) xs) ≡ true
 end_at high xs i x h e o = ap (end_by (max high x.end)) (front_at xs i x h e) ∙ end_with high x (take i xs) o
+
+-- ---- The least start.
+
+begins_lower : (low lower start : ℕ) → lower ≤ low → nat_le low start ≡ true → nat_le lower start ≡ true
+begins_lower low lower start h e = grind (arith, nat_tests)
+
+begins_itself : (low start : ℕ) → nat_le (min low start) start ≡ true
+begins_itself low start = grind (arith, nat_tests)
+
+begin_with : (low : ℕ) (s : Span) (ts : List Span) → begin_from low ts ≡ true → begin_from (min low s.start) (ts ++ s ∷ []) ≡ true
+begin_with low s [] e = and_from (nat_le (min low s.start) s.start) true (begins_itself low s.start) refl
+begin_with low s (t ∷ ts) e =
+    let parts = and_parts (nat_le low t.start) (begin_from low ts) e in
+    and_from (nat_le (min low s.start) t.start) (begin_from (min low s.start) (ts ++ s ∷ [])) (begins_lower low (min low s.start) t.start (omega arith) parts.0)
+    (begin_with low s ts parts.1)
+
+-- one more span
+pub begin_at : (low : ℕ) (xs : List Span) (i : ℕ) (x : Span) → i < length xs → x ≡ get_or xs i x → begin_from low (take i xs) ≡ true → begin_from (min low x.start) (take (i + 1) xs) ≡ true
+begin_at low xs i x h e o = ap (begin_from (min low x.start)) (front_at xs i x h e) ∙ begin_with low x (take i xs) o
 
 -- ---- Whether they lie apart.
 

@@ -34,30 +34,43 @@ fn is_apart_from(span: Span, least: u64, others: &[Span]) -> bool
     span.end() <= least || overlaps_none(span, others)
 }
 
-/// Whether the span overlaps none before it, of which none ends behind a number. Only so many that begin before it are compared with all.
-fn overlaps_none_before(span: Span, high: u64, before: &[Span], left: &mut usize) -> Option<bool>
-    requires { end_by high before.now ≡ true }
+/// Whether the span overlaps none before it, of which none begins before the first number, and none ends behind the second one. Only so
+/// many that lie between these are compared with all.
+fn overlaps_none_before(
+    span: Span,
+    low: u64,
+    high: u64,
+    before: &[Span],
+    left: &mut usize,
+) -> Option<bool>
+    requires begin { begin_from low before.now ≡ true }
+    requires end { end_by high before.now ≡ true }
     ensures { IfSome result (λ none. none ≡ list_all (λ (t : Span). not (overlaps span t)) before.now) }
 {
     if span.start() >= high {
+        return Some(true);
+    }
+    if span.end() <= low {
         return Some(true);
     }
     *left = left.checked_sub(1)?;
     Some(overlaps_none(span, before))
 }
 
-/// Whether no two of the spans overlap, if most of them begin behind all others before them: each of these is compared with one number
-/// alone. It isn't told where more than a few don't.
+/// Whether no two of the spans overlap, if most of them lie behind all others before them, or before all of these: each of these is compared
+/// with two numbers alone. It isn't told where more than a few lie in between.
 fn are_apart_from_first(spans: &[Span]) -> Option<bool>
     ensures { IfSome result (λ apart. apart ≡ are_apart spans.now) }
 {
+    let mut low = u64::MAX;
     let mut high = 0;
     let mut left = FEW;
     for (i, span) in spans.iter().enumerate() {
-        let none = overlaps_none_before(*span, high, &spans[..i], &mut left)?;
+        let none = overlaps_none_before(*span, low, high, &spans[..i], &mut left)?;
         if !none {
             return Some(false);
         }
+        low = low.min(span.start());
         high = high.max(span.end());
     }
     Some(true)
@@ -78,7 +91,7 @@ fn are_apart_from_last(spans: &[Span]) -> bool
     true
 }
 
-/// Whether no two of the spans overlap. Where all but a few at one end stand in order, each is compared with one number alone.
+/// Whether no two of the spans overlap. Where all but a few stand in order, up or down, each is compared with two numbers alone.
 pub fn are_apart(spans: &[Span]) -> bool
     ensures { result ≡ are_apart spans.now }
 {
