@@ -49,10 +49,11 @@ fn push_gone(text: &mut String, gone: &[Gone]) -> Result<(), AllocError> {
 /// was changed inside it, and from which number on all follow.
 fn text_of(alloc: Global, marks: &BodyMarks) -> Result<String, AllocError> {
     let mut text = String::new(alloc);
-    let mut place = 0usize;
-    while let Some(piece) = marks.pieces.get(place) {
+    for place in 0..usize::MAX {
+        let Some(piece) = marks.pieces.get(place) else {
+            break;
+        };
         push_piece(&mut text, piece)?;
-        place += 1;
     }
     let behind = marks.behind;
     write!(text, "from {behind}")?;
