@@ -28,22 +28,22 @@ use Rattle.rdl_places.proofs.Scopes.{own_node, part_node, kept_here, held_at, ty
 -- ---- Instances one by one.
 
 -- what targets find inside what is written there, and inside what an instance is an instance of
-abbrev part_within : Laying → Around → Kind → Items → Within
+abbrev pub part_within : Laying → Around → Kind → Items → Within
 part_within lay a Field body = nothing_within
 part_within lay a k body = (known lay a k body).within
 
-abbrev of_within : Laying → Around → Of → Within
+abbrev pub of_within : Laying → Around → Of → Within
 of_within lay a (Named t) = within_type (lookup t a.types)
 of_within lay a (Anonymous c) = part_within lay a c.kind c.body
 
-abbrev instances_behind : Laying → Around → Item → Inside → Inside
+abbrev pub instances_behind : Laying → Around → Item → Inside → Inside
 instances_behind lay a (Define n c) m = m
 instances_behind lay a (Instance s of) m = with_instance s.name (of_within lay a of) m
 instances_behind lay a (Own p v) m = m
 instances_behind lay a (Default p v) m = m
 instances_behind lay a (Dynamic t p v) m = m
 
-none_before : (lay : Laying) (a : Around) (m : Inside) (t : Items) → instances_before lay 0 a m t ≡ m
+pub none_before : (lay : Laying) (a : Around) (m : Inside) (t : Items) → instances_before lay 0 a m t ≡ m
 none_before lay a m no_items = refl
 none_before lay a m (plain p rest) = refl
 none_before lay a m (holder h body rest) = refl
@@ -70,7 +70,7 @@ holder_behind lay a m (anonymous s Regfile) body = refl
 holder_behind lay a m (anonymous s Reg) body = refl
 holder_behind lay a m (anonymous s Field) body = refl
 
-one_behind : (lay : Laying) (a : Around) (m : Inside) (t : Items) (i : ℕ) (x : Item) → slice_get (list_of t) i ≡ Some x
+pub one_behind : (lay : Laying) (a : Around) (m : Inside) (t : Items) (i : ℕ) (x : Item) → slice_get (list_of t) i ≡ Some x
     → instances_before lay (suc i) a m t ≡ instances_behind lay (around_before lay i a t) x (instances_before lay i a m t)
 one_behind lay a m no_items i x got = absurd cc
 one_behind lay a m (plain p rest) zero x got =

@@ -121,17 +121,23 @@ untold x no_slots k e f = absurd cc
 untold x (slot s rest) k e f = absurd cc
 untold x (written w core inside rest) k e f = was_false (tells_of_width x) (and_parts (not (tells_of_width x)) (listens_to_nothing w x core) e).0
 
+pub passed_counted : (lay : Laying) (r : Renewing) (n : ℕ) (d e : Done) (y : Item) (number : ℕ) (s : Slot) (xs : List Slot) (a : ℕ) → IsNext lay r n d y (same_item number) → r.slots ≡ slots_of xs
+    → slice_get xs number ≡ Some s → ((k : Node) → kept_at 0 (front_of s) ≡ Some k → tells_of_width d.reach.alert ≡ false)
+    → AreDone lay r (suc n) e → fronts e.slots.items ≡ fronts d.slots.items ++ front_of s ∷ []
+    → CountsItem lay r (tells_of_width d.reach.alert) n (same_item number) y a a
+passed_counted lay r n d e y number s xs a next of there unset done more =
+    let put = kept_put lay r n d e (front_of s) next.done done more in
+    let was : kept_at number r.slots ≡ kept_at 0 (front_of s) =
+    ap (kept_at number) of ∙ (kept_of_slot (slots_of xs) number ∙ ap (option_and_then (kept_at 0)) (fronts_are_slots xs number ∙ got_front xs number s there)) in
+    counts_so a a
+    (sym (settled_placed r.slots number (kept_at n (slots_there lay r.places r.now)) y (tells_of_width d.reach.alert) (put ∙ sym was) (λ k is. unset k (sym put ∙ is))))
+    (counts_none a)
+
 pub settled_counted : (lay : Laying) (r : Renewing) (n : ℕ) (d e : Done) (y : Item) (number : ℕ) (s : Slot) (xs : List Slot) (a : ℕ) → IsNext lay r n d y (same_item number) → r.slots ≡ slots_of xs
     → IsSettledAt d.reach.alert xs number s → AreDone lay r (suc n) e → fronts e.slots.items ≡ fronts d.slots.items ++ front_of s ∷ []
     → CountsItem lay r (tells_of_width d.reach.alert) n (same_item number) y a a
 settled_counted lay r n d e y number s xs a next of settled done more =
-    let put = kept_put lay r n d e (front_of s) next.done done more in
-    let was : kept_at number r.slots ≡ kept_at 0 (front_of s) =
-    ap (kept_at number) of ∙ (kept_of_slot (slots_of xs) number ∙ ap (option_and_then (kept_at 0)) (fronts_are_slots xs number ∙ got_front xs number s settled.there)) in
-    counts_so a a
-    (sym (settled_placed r.slots number (kept_at n (slots_there lay r.places r.now)) y (tells_of_width d.reach.alert) (put ∙ sym was)
-    (λ k is. untold d.reach.alert (front_of s) k settled.settled (sym put ∙ is))))
-    (counts_none a)
+    passed_counted lay r n d e y number s xs a next of settled.there (λ k is. untold d.reach.alert (front_of s) k settled.settled is) done more
 
 -- the same of another name for what is told
 pub on_told : {T E : Type 0} (lay : Laying) (r : Renewing) (n : ℕ) (y : Item) (t u : Trace) (w : Bool) (a b : ℕ) (o : Result T E) → u ≡ t → OnOk o (CountsItem lay r w n t y a b) → OnOk o (CountsItem lay r w n u y a b)

@@ -1,5 +1,5 @@
 -- Whether what is kept of an item stays, told by that alone.
-use Rattle.std.proofs.Common.{◌≡◌, ℕ, ◌&&◌, ◌||◌, not, Bool, true, false, Option, Some, refl, sym, ap, subst, ◌∙◌}
+use Rattle.std.proofs.Common.{◌≡◌, ℕ, suc, ◌&&◌, ◌||◌, not, Bool, true, false, Option, Some, refl, sym, ap, subst, ◌∙◌}
 use Rattle.std.proofs.lemmas.Bool.{and_parts}
 use Rattle.rdl_tree.specs.Items.{Items}
 use Rattle.rdl_tree.specs.declared.description.Item.{Item}
@@ -28,6 +28,8 @@ use Rattle.rdl_seen.proofs.Alerts.{unreached_are_known}
 use Rattle.rdl_seen.proofs.OneByOne.{slots_are_of_items}
 use Rattle.rdl_seen.proofs.Passing.{items_stay, some_same, stands_behind_item}
 use Rattle.rdl_renew.specs.AlikeSlots.{tells_of_width}
+use Rattle.rdl_renew.specs.Onward.{DiffersNoMoreBehind}
+use Rattle.rdl_renew.specs.TakenOver.{IsAsItWas}
 use Rattle.rdl_renew.specs.Deaf.{is_deaf_slot, is_first_deaf, SlotsTellDeafness, DeafSlotsAreTakenOver, is_settled_slot, listens_to_nothing, is_settled_component, is_first_settled, SettledSlotsAreDeaf, SettledItemsStay}
 use Rattle.rdl_renew.proofs.Alone.{was_false}
 use Rattle.rdl_renew.proofs.TakenOver.{same_items_stay, slots_are_taken_over}
@@ -107,9 +109,35 @@ defaults_stay lay x a b m (Own p v) e = refl
 defaults_stay lay x a b m (Default p v) e = absurd cc
 defaults_stay lay x a b m (Dynamic t p v) e = refl
 
+-- an item that is as it was brings what it brought, if that is as much as is said, and the defaults behind it are those before it
+pub same_item_stays : (lay : Laying) (x : Alert) (m : Marks) (old now : Items) (a b : Around) (i n : ℕ) (y : Item) → IsItem n old y → IsItem i now y → IsAsItWas m i n
+    → (AgreeBut x (around_before lay n a old) (around_before lay i b now) → AgreeBut x (behind_item lay (around_before lay n a old) y) (behind_item lay (around_before lay i b now) y))
+    → (behind_item lay (around_before lay i b now) y).defaults ≡ (around_before lay i b now).defaults
+    → DiffersNoMoreBehind lay x m old now a b i × ((around_before lay (suc i) b now).defaults ≡ (around_before lay i b now).defaults)
+same_item_stays lay x m old now a b i n y was got h brings defaults = (behind, ap (λ (d : Around). d.defaults) (stands_behind_item lay b now i y got) ∙ defaults)
+  where
+    c : Around
+    c = around_before lay i b now
+
+    before : Around
+    before = around_before lay n a old
+
+    behind : (k : ℕ) (firsts : Firsts) (inside : Marks) (z w : Item) → trace_of m i ≡ Some (old_item k firsts inside) → firsts.is_moved ≡ false → IsItem k old z → IsItem i now w
+        → AgreeBut x (around_before lay k a old) (around_before lay i b now) → AgreeBut x (behind_item lay (around_before lay k a old) z) (behind_item lay (around_before lay i b now) w)
+    behind k firsts inside z w trace stayed is_z is_w but =
+        let number : k ≡ n = cc in
+        let old_one : IsItem n old z = subst (λ j. IsItem j old z) number is_z in
+        let first = some_same z y (sym old_one ∙ was) in
+        let second = some_same w y (sym is_w ∙ got) in
+        let here = subst (λ j. AgreeBut x (around_before lay j a old) c) number but in
+        subst (λ j. AgreeBut x (behind_item lay (around_before lay j a old) z) (behind_item lay c w)) (sym number)
+        (subst (λ q. AgreeBut x (behind_item lay before q) (behind_item lay c w)) (sym first)
+        (subst (λ q. AgreeBut x (behind_item lay before y) (behind_item lay c q)) (sym second) (brings here)))
+
 pub settled_items_stay : SettledItemsStay
 settled_items_stay lay x m old now a b described i n y s got h there settled =
-    (behind, ap (λ (d : Around). d.defaults) (stands_behind_item lay b now i y got) ∙ defaults_stay lay x before c (instances_before lay n a no_instances old) y told)
+    same_item_stays lay x m old now a b i n y was got h (differs_no_more lay x before c (instances_before lay n a no_instances old) y told)
+    (defaults_stay lay x before c (instances_before lay n a no_instances old) y told)
   where
     c : Around
     c = around_before lay i b now
@@ -125,16 +153,3 @@ settled_items_stay lay x m old now a b described i n y s got h there settled =
 
     told : is_first_settled x (slot_of_item lay before (instances_before lay n a no_instances old) y) ≡ true
     told = subst (λ z. is_first_settled x z ≡ true) (sym (one (sym (slots_are_of_items lay a no_instances old n y was) ∙ there))) settled
-
-    behind : (k : ℕ) (firsts : Firsts) (inside : Marks) (z w : Item) → trace_of m i ≡ Some (old_item k firsts inside) → firsts.is_moved ≡ false → IsItem k old z → IsItem i now w
-        → AgreeBut x (around_before lay k a old) (around_before lay i b now) → AgreeBut x (behind_item lay (around_before lay k a old) z) (behind_item lay (around_before lay i b now) w)
-    behind k firsts inside z w trace stayed is_z is_w but =
-        let number : k ≡ n = cc in
-        let old_one : IsItem n old z = subst (λ j. IsItem j old z) number is_z in
-        let first = some_same z y (sym old_one ∙ was) in
-        let second = some_same w y (sym is_w ∙ got) in
-        let here = subst (λ j. AgreeBut x (around_before lay j a old) c) number but in
-        let out = differs_no_more lay x before c (instances_before lay n a no_instances old) y told here in
-        subst (λ j. AgreeBut x (behind_item lay (around_before lay j a old) z) (behind_item lay c w)) (sym number)
-        (subst (λ q. AgreeBut x (behind_item lay before q) (behind_item lay c w)) (sym first)
-        (subst (λ q. AgreeBut x (behind_item lay before y) (behind_item lay c q)) (sym second) out))

@@ -205,6 +205,14 @@ pub slot_made : {E : Type 0} (lay : Laying) (ps : List Place) (y : Item) (c : Co
 slot_made lay ps y c (Ok x) n is same made = made ∙ ((λ j. written (written_of y) (same j).core (same j).slots no_slots) ∙ sym (slot_of_component lay ps y c is))
 slot_made lay ps y c (Err e) n is same made = tt
 
+-- what was kept of it
+pub component_was : (lay : Laying) (saw : Around) (old : Items) (n : ℕ) (inside : Marks) (y : Item) (slots : Slots) (kept : Option Node) (was : WasThere old n inside y) → slots ≡ (body_of lay saw old).slots → kept ≡ kept_at n slots
+    → (k : Node) (c : Component) → kept ≡ Some k → (f : kept_component y ≡ Some c) → k ≡ node lay (around_before lay n saw old) c.kind (was.described c f).0
+component_was lay saw old n inside y slots kept was of there k c e f =
+    let d = was.described c f in
+    let a = around_before lay n saw old in
+    same_some (sym e ∙ (there ∙ (ap (kept_at n) of ∙ (kept_here lay n saw no_instances old was.item was.is ∙ own_kept lay a was.item (record { kind = c.kind; body = d.0 }) d.1))))
+
 -- what became of the component of what stood there
 pub component_became : (lay : Laying) (saw : Around) (old : Items) (n : ℕ) (inside : Marks) (y : Item) (slots : Slots) (kept : Option Node) (was : WasThere old n inside y) → AreInOrder inside → slots ≡ (body_of lay saw old).slots
     → kept ≡ kept_at n slots → (k : Node) (c : Component) → kept ≡ Some k → kept_component y ≡ Some c
@@ -212,9 +220,7 @@ pub component_became : (lay : Laying) (saw : Around) (old : Items) (n : ℕ) (in
     × WasLaidOut lay (around_before lay n saw old) c.kind b k.core
 component_became lay saw old n inside y slots kept was ordered of there k c e f =
     let d = was.described c f in
-    let a = around_before lay n saw old in
-    let same : k ≡ node lay a c.kind d.0 =
-    same_some (sym e ∙ (there ∙ (ap (kept_at n) of ∙ (kept_here lay n saw no_instances old was.item was.is ∙ own_kept lay a was.item (record { kind = c.kind; body = d.0 }) d.1)))) in (
+    let same = component_was lay saw old n inside y slots kept was of there k c e f in (
       d.0,
       record { describes = d.2; in_order = ordered; kept = ap (λ (z : Node). z.slots) same },
       d.1,

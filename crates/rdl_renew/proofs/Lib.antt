@@ -1,3 +1,4 @@
+pub mod Again
 pub mod AlikeItems
 pub mod AlikeSteps
 pub mod Alone
@@ -9,6 +10,7 @@ pub mod CleanSteps
 pub mod CountSteps
 pub mod DeafSlots
 pub mod FrontSlots
+pub mod InFront
 pub mod ItemSteps
 pub mod LaidAgain
 pub mod LoneItems

@@ -1,8 +1,9 @@
 -- Which item is the next one, where some of those that pieces tell of are passed.
-use Rattle.std.proofs.Common.{◌≡◌, ℕ, zero, suc, ◌+◌, ◌-◌, ◌<◌, ◌≤◌, ◌^◌, min, Bool, if◌then◌else◌, List, [], ◌∷◌, ◌++◌, length, take, drop, Option, Some, None, sym, ap, ◌∙◌, arith, length-append, take_all}
+use Rattle.std.proofs.Common.{◌≡◌, ℕ, zero, suc, ◌+◌, ◌-◌, ◌<◌, ◌≤◌, ◌^◌, min, Bool, if◌then◌else◌, List, [], ◌∷◌, ◌++◌, length, take, drop, Option, Some, None, refl, sym, ap, ◌∙◌, arith, length-append, take_all}
 use Rattle.std.specs.Prelude.{nat_lt, slice_get}
 use Rattle.std.proofs.lemmas.Bool.{lt-ltb, le-ltb}
 use Rattle.std.proofs.lemmas.Option.{slice_get_within, slice_get_past}
+use Rattle.rdl_marks.specs.Marks.{no_marks}
 use Rattle.rdl_marks.specs.View.{Trace, same_item, run, piece_traces, pieces_traces, told, marks_of}
 use Rattle.rdl_marks.specs.Was.{trace_of}
 use Rattle.rdl_marks.specs.declared.marks.Gone.{Gone}
@@ -11,7 +12,7 @@ use Rattle.rdl_marks.specs.declared.marks.Piece.TheVariants.{Kept}
 use Rattle.rdl_marks.proofs.Cuts.{length-run, at_piece, pieces_traces-append}
 use Rattle.rdl_marks.proofs.Rounds.{list_of-traces_of}
 use Rattle.rdl_renew.specs.declared.along.Along.{Along}
-use Rattle.rdl_renew.specs.Along.{HasPassed}
+use Rattle.rdl_renew.specs.Along.{HasPassed, AreUntouched}
 use Rattle.rdl_renew.proofs.SideBySide.{take_next}
 
 -- ---- Lists.
@@ -128,3 +129,33 @@ piece_passed ps a b i p passed here none f g =
       count = let c = passed.count in let w = passed.within p here in omega (arith, c, w, long, one, all, g);
       within = λ q h. omega (arith, g);
     }
+
+-- ---- Where nothing is told of.
+
+none_at_all : {X : Type 0} (xs : List X) → slice_get xs 0 ≡ None → xs ≡ []
+none_at_all [] e = refl
+none_at_all (x ∷ xs) e = absurd cc
+
+pub nothing_told : (ps : List Piece) (behind : ℕ) (gone : List Gone) → slice_get ps 0 ≡ None → behind ≡ 0 → gone ≡ [] → marks_of (told ps behind gone) ≡ no_marks
+nothing_told ps behind gone e b g = λ j. marks_of (told (none_at_all ps e j) (b j) (g j))
+
+-- ---- How many of the first items are as they were.
+
+-- where nothing is told of by pieces, and all stand behind them from the first one on, all are
+pub all_untouched : (ps : List Piece) (gone : List Gone) (behind front : ℕ) → slice_get ps 0 ≡ None → behind ≡ 0 → AreUntouched (marks_of (told ps behind gone)) front
+all_untouched ps gone behind front e b = λ j l.
+    told_behind ps behind gone j (let none = ap (λ qs. length (pieces_traces qs)) (none_at_all ps e) in omega (arith, none))
+    ∙ ap (λ n. Some (same_item n))
+    (let none : length (pieces_traces ps) ≡ 0 = ap (λ qs. length (pieces_traces qs)) (none_at_all ps e) in let n : behind + (j - length (pieces_traces ps)) ≡ j = omega (arith, none, b) in n)
+
+first_piece : (ps : List Piece) (p : Piece) (j : ℕ) (e : Trace) → slice_get ps 0 ≡ Some p → slice_get (piece_traces p) j ≡ Some e → slice_get (pieces_traces ps) j ≡ Some e
+first_piece [] p j e there got = absurd cc
+first_piece (q ∷ ps) p j e there got =
+    let same : p ≡ q = cc in
+    get_before (piece_traces q) (pieces_traces ps) j e (ap (λ (z : Piece). slice_get (piece_traces z) j) (sym same) ∙ got)
+
+-- where the first piece begins with the first item, its are
+pub first_untouched : (ps : List Piece) (behind : ℕ) (gone : List Gone) (to : ℕ) → slice_get ps 0 ≡ Some (Kept 0 to) → AreUntouched (marks_of (told ps behind gone)) to
+first_untouched ps behind gone to there = λ j l.
+    told_within ps behind gone j (same_item j)
+    (first_piece ps (Kept 0 to) j (same_item j) there (run_item 0 (to - 0) j (omega (arith, l)) ∙ ap (λ n. Some (same_item n)) (let n : 0 + j ≡ j = omega arith in n)))

@@ -23,3 +23,7 @@ pub record HasPassed (ps : List Piece) (a : Along) (i : ℕ) : Type 0 where
 -- the number that item i had, if it is as it was, is one of the code's
 abbrev pub HasNumber : Marks → ℕ → Type 0
 HasNumber m i = (n : ℕ) → trace_of m i ≡ Some (same_item n) → n < 2 ^ 64
+
+-- so many of the first items are as they were, and stand where they stood
+abbrev pub AreUntouched : Marks → ℕ → Type 0
+AreUntouched m front = (j : ℕ) → j < front → trace_of m j ≡ Some (same_item j)

@@ -1,3 +1,4 @@
+pub mod Again
 pub mod Alike
 pub mod AlikeSlots
 pub mod Alone
@@ -8,6 +9,7 @@ pub mod Counting
 pub mod Deaf
 pub mod Fronts
 pub mod HeldRenewal
+pub mod InFront
 pub mod Judged
 pub mod Onward
 pub mod Placed

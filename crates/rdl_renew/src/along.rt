@@ -4,9 +4,9 @@ ghost use Rattle.rdl_marks.specs.View.{piece_traces, in_order, told, marks_of};
 ghost use Rattle.rdl_marks.specs.Was.{trace_of};
 ghost use Rattle.rdl_marks.specs.declared.marks.Gone.{Gone};
 ghost use Rattle.rdl_marks.specs.declared.marks.Piece.{Piece};
-ghost use Rattle.rdl_renew.specs.Along.{next_of, HasPassed, HasNumber};
+ghost use Rattle.rdl_renew.specs.Along.{next_of, HasPassed, HasNumber, AreUntouched};
 
-use rdl_marks::marks::{Mark, Piece, Pieces};
+use rdl_marks::marks::{BodyMarks, Mark, Piece, Pieces};
 
 /// What became of an item.
 #[derive(Clone, Copy)]
@@ -52,6 +52,20 @@ fn item_of<'m, 'a>(piece: &'m Piece<'a>, number: usize) -> Option<Next<'m, 'a>>
                 None
             }
         }
+    }
+}
+
+/// How many of the first items of a body are as they were, and stand where they stood. Where it is the greatest `usize`, all do.
+pub(crate) fn untouched(marks: &BodyMarks) -> usize
+    ensures { AreUntouched marks.now result }
+{
+    match marks.pieces.get(0) {
+        Some(piece) => match piece {
+            Piece::Kept(from, to) => { if *from == 0 { *to } else { 0 } }
+            Piece::New(_) => 0,
+            Piece::Marked(_, _) => 0,
+        },
+        None => { if marks.behind == 0 { usize::MAX } else { 0 } }
     }
 }
 

@@ -5,6 +5,7 @@ mod alike;
 mod along;
 mod anew;
 mod apart;
+mod component;
 pub mod deaf;
 mod done;
 mod judge;

@@ -12,15 +12,18 @@ ghost use Rattle.rdl_places.specs.HeldScope.{places_of, outer_places};
 ghost use Rattle.rdl_places.specs.Scopes.{around_places, IsScope};
 ghost use Rattle.rdl_places.specs.Lasting.{AreLasts};
 ghost use Rattle.rdl_renew.specs.AlikeSlots.{tells_of_width, are_alike};
-ghost use Rattle.rdl_renew.specs.Along.{next_of};
+ghost use Rattle.rdl_renew.specs.Again.{IsHeldAgain};
+ghost use Rattle.rdl_renew.specs.Along.{next_of, AreUntouched};
 ghost use Rattle.rdl_renew.specs.Anew.{slot_there, slots_there};
 ghost use Rattle.rdl_renew.specs.Counting.{stayed_placed, CountsItem};
 ghost use Rattle.rdl_renew.specs.Fronts.{front_of};
+ghost use Rattle.rdl_renew.specs.InFront.{IsInFrontAt};
 ghost use Rattle.rdl_renew.specs.Judged.{IfStillClean, HasNoneInside};
 ghost use Rattle.rdl_renew.specs.Placed.{in_body, placed_in, placed_stayed, placed_of, sets_width};
 ghost use Rattle.rdl_renew.specs.Renewing.{part_of, kept_component, written_of, Became, WasLaidOut, BecameComponent, DiffersNoMoreBefore, IsReached, AreDone, IsNext, IsMadeAnew, IsSettledAt};
 ghost use Rattle.rdl_renew.specs.HeldRenewal.{renewing};
 ghost use Rattle.rdl_renew.specs.StillClean.{StaysClean, BecameClean, IsCleanStill};
+ghost use Rattle.rdl_seen.specs.Layouts.{Laying};
 ghost use Rattle.rdl_seen.specs.Meaning.{nothing_around, kept_at};
 ghost use Rattle.rdl_seen.specs.MeaningLaws.{is_clean_map};
 ghost use Rattle.rdl_seen.specs.Node.{Around, body_of, node};
@@ -29,8 +32,9 @@ ghost use Rattle.rdl_tree.specs.Items.{Items};
 ghost use Rattle.rdl_tree.specs.Weight.{capped};
 
 use crate::alike::{are_alike, is_width_same};
-use crate::along::{Along, Next};
-use crate::anew::{define, item_anew, part};
+use crate::along::{Along, Next, untouched};
+use crate::anew::item_anew;
+use crate::component::{kept_component, slot_again, slot_with};
 use crate::deaf::is_settled;
 use crate::done::{Done, Reach, raises_behind};
 use crate::judge::Judge;
@@ -45,7 +49,7 @@ use rdl_nodes::tree::Tree;
 use rdl_places::scope::{Outer, Scope};
 use rdl_seen::alert::Alert;
 use rdl_seen::values::Values;
-use rdl_tree::description::{Body, Component, Description, Item, Of};
+use rdl_tree::description::{Body, Component, Description, Item};
 use rdl_tree::shell::Kind;
 use std::alloc::{AllocError, Global};
 
@@ -64,40 +68,6 @@ pub(crate) struct Renewal<'o, 'b, 's> {
 pub(crate) struct Account {
     pub judge: Judge,
     pub placed: u64,
-}
-
-/// The component of an item, if it is kept by itself.
-fn kept_component(item: &Item) -> Option<&Component>
-    ensures { option_copied result ≡ kept_component item.now }
-{
-    match item {
-        Item::Define(_, component) => Some(component),
-        Item::Instance(_, of) => part_of(of),
-        _ => None,
-    }
-}
-
-/// What an instance is an instance of, if it is written there and no field.
-fn part_of(of: &Of) -> Option<&Component>
-    ensures { option_copied result ≡ part_of of.now }
-{
-    match of {
-        Of::Anonymous(component) => match component.kind {
-            Kind::Field => None,
-            _ => Some(component),
-        },
-        Of::Named(_) => None,
-    }
-}
-
-/// The slot of an item whose component is kept as this node.
-fn slot_with(alloc: Global, item: &Item, node: Node) -> Result<Slot, AllocError>
-    ensures { IfOk result (λ x. front_of x ≡ written (written_of item.now) node.core node.slots no_slots) }
-{
-    match item {
-        Item::Define(name, _) => define(alloc, name, node),
-        _ => part(alloc, node),
-    }
 }
 
 /// What was kept of the item of this number.
@@ -122,6 +92,23 @@ fn settled_slot<'s>(slots: &'s [Slot], number: usize, alert: &Alert) -> Option<&
                 None
             }
         }
+        None => None,
+    }
+}
+
+/// The slot of this number, if its item is a dynamic assignment before which nothing differs: the next item is one of the first ones, of
+/// which so many are as they were, and nothing is told of what stands around the body.
+fn front_slot<'s>(slots: &'s [Slot], number: usize, done: &Done, front: usize) -> Option<&'s Slot>
+    ensures { IfSome result (λ s. IsInFrontAt slots.now number done.now front s.now) }
+{
+    if done.slots.len() >= front || !done.reach.alert.is_none() {
+        return None;
+    }
+    match slots.get(number) {
+        Some(slot) => match slot {
+            Slot::Dynamic(_) => Some(slot),
+            _ => None,
+        },
         None => None,
     }
 }
@@ -309,7 +296,60 @@ fn renew_stayed<L: Lays>(
     done.put(item, slot, raises)
 }
 
-/// An item more, which became what it is so.
+/// An item more that stayed in order, whose component is as it was. It had this number, and this is its slot.
+fn renew_again(
+    renewal: &Renewal,
+    done: &mut Done,
+    number: usize,
+    slot: Slot,
+    item: &Item,
+    account: &mut Account,
+) -> Result<(), AllocError>
+    requires { AreLasts renewal.now.body.now done.old.lasts }
+    ensures done { (lay : Laying) (m : Marks) (old : Items) (saw : Around) (n : ℕ) (firsts : Firsts) (inside : Marks) → IsNext lay (renewing renewal.now m old saw) n done.old item.now (old_item number firsts inside) → firsts.is_moved ≡ false → IsHeldAgain done.old.reach.alert renewal.now.slots.now number inside item.now slot → OnOk result (AreDone lay (renewing renewal.now m old saw) (suc n) done.new) }
+    ensures clean { (lay : Laying) (m : Marks) (old : Items) (saw : Around) (n : ℕ) (firsts : Firsts) (inside : Marks) → IsNext lay (renewing renewal.now m old saw) n done.old item.now (old_item number firsts inside) → firsts.is_moved ≡ false → IsHeldAgain done.old.reach.alert renewal.now.slots.now number inside item.now slot → OnOk result (IfStillClean account.old.judge.is_clean account.new.judge.is_clean (IsCleanStill lay (renewing renewal.now m old saw) n item.now)) }
+    ensures placed { (lay : Laying) (m : Marks) (old : Items) (saw : Around) (n : ℕ) (firsts : Firsts) (inside : Marks) → IsNext lay (renewing renewal.now m old saw) n done.old item.now (old_item number firsts inside) → firsts.is_moved ≡ false → IsHeldAgain done.old.reach.alert renewal.now.slots.now number inside item.now slot → OnOk result (CountsItem lay (renewing renewal.now m old saw) (tells_of_width done.old.reach.alert) n (old_item number firsts inside) item.now account.old.placed account.new.placed) }
+    ensures properties { OnOk result (done.new.reach.alert.properties ≡ done.old.reach.alert.properties) }
+    ensures lasts { AreLasts renewal.now.body.now done.new.lasts }
+{
+    {
+        let count = done.slots.len();
+        let slots = done.slots.as_slice();
+        let scope = Scope::new(renewal.outer, renewal.body, count, slots);
+        account.judge.look_at(&scope, renewal.around, item);
+    }
+    let kept = kept_slot(renewal.slots, number);
+    let raises = raises_behind(item, kept, &slot);
+    done.put(item, slot, raises)
+}
+
+/// An item more that was changed, and stayed in order: it had this number, and inside it this was changed. It is gone into if something was,
+/// or if it listens to something that the alert tells of.
+#[cycle(renew)]
+fn renew_marked<L: Lays>(
+    alloc: Global,
+    lay: &L,
+    renewal: &Renewal,
+    done: &mut Done,
+    number: usize,
+    inside: &BodyMarks,
+    item: &Item,
+    account: &mut Account,
+) -> Result<(), AllocError>
+    requires { AreLasts renewal.now.body.now done.old.lasts }
+    ensures done { (m : Marks) (old : Items) (saw : Around) (n : ℕ) (firsts : Firsts) → IsNext L.laying (renewing renewal.now m old saw) n done.old item.now (old_item number firsts inside.now) → firsts.is_moved ≡ false → OnOk result (AreDone L.laying (renewing renewal.now m old saw) (suc n) done.new) }
+    ensures clean { (m : Marks) (old : Items) (saw : Around) (n : ℕ) (firsts : Firsts) → IsNext L.laying (renewing renewal.now m old saw) n done.old item.now (old_item number firsts inside.now) → firsts.is_moved ≡ false → OnOk result (IfStillClean account.old.judge.is_clean account.new.judge.is_clean (IsCleanStill L.laying (renewing renewal.now m old saw) n item.now)) }
+    ensures placed { (m : Marks) (old : Items) (saw : Around) (n : ℕ) (firsts : Firsts) → IsNext L.laying (renewing renewal.now m old saw) n done.old item.now (old_item number firsts inside.now) → firsts.is_moved ≡ false → OnOk result (CountsItem L.laying (renewing renewal.now m old saw) (tells_of_width done.old.reach.alert) n (old_item number firsts inside.now) item.now account.old.placed account.new.placed) }
+    ensures properties { OnOk result (done.new.reach.alert.properties ≡ done.old.reach.alert.properties) }
+    ensures lasts { AreLasts renewal.now.body.now done.new.lasts }
+{
+    match slot_again(renewal.slots, number, inside, &done.reach.alert, item)? {
+        Some(slot) => renew_again(renewal, done, number, slot, item, account),
+        None => renew_stayed(alloc, lay, renewal, done, number, inside, item, account),
+    }
+}
+
+/// An item more, which became what it is so. So many of the first items of the body are as they were, and stand where they stood.
 #[cycle(renew)]
 fn renew_item<L: Lays>(
     alloc: Global,
@@ -317,13 +357,14 @@ fn renew_item<L: Lays>(
     renewal: &Renewal,
     done: &mut Done,
     next: Next,
+    front: usize,
     item: &Item,
     account: &mut Account,
 ) -> Result<(), AllocError>
     requires { AreLasts renewal.now.body.now done.old.lasts }
-    ensures done { (m : Marks) (old : Items) (saw : Around) (n : ℕ) → IsNext L.laying (renewing renewal.now m old saw) n done.old item.now (next_of next.entry) → OnOk result (AreDone L.laying (renewing renewal.now m old saw) (suc n) done.new) }
-    ensures clean { (m : Marks) (old : Items) (saw : Around) (n : ℕ) → IsNext L.laying (renewing renewal.now m old saw) n done.old item.now (next_of next.entry) → OnOk result (IfStillClean account.old.judge.is_clean account.new.judge.is_clean (IsCleanStill L.laying (renewing renewal.now m old saw) n item.now)) }
-    ensures placed { (m : Marks) (old : Items) (saw : Around) (n : ℕ) → IsNext L.laying (renewing renewal.now m old saw) n done.old item.now (next_of next.entry) → OnOk result (CountsItem L.laying (renewing renewal.now m old saw) (tells_of_width done.old.reach.alert) n (next_of next.entry) item.now account.old.placed account.new.placed) }
+    ensures done { (m : Marks) (old : Items) (saw : Around) (n : ℕ) → IsNext L.laying (renewing renewal.now m old saw) n done.old item.now (next_of next.entry) → AreUntouched m front → OnOk result (AreDone L.laying (renewing renewal.now m old saw) (suc n) done.new) }
+    ensures clean { (m : Marks) (old : Items) (saw : Around) (n : ℕ) → IsNext L.laying (renewing renewal.now m old saw) n done.old item.now (next_of next.entry) → AreUntouched m front → OnOk result (IfStillClean account.old.judge.is_clean account.new.judge.is_clean (IsCleanStill L.laying (renewing renewal.now m old saw) n item.now)) }
+    ensures placed { (m : Marks) (old : Items) (saw : Around) (n : ℕ) → IsNext L.laying (renewing renewal.now m old saw) n done.old item.now (next_of next.entry) → AreUntouched m front → OnOk result (CountsItem L.laying (renewing renewal.now m old saw) (tells_of_width done.old.reach.alert) n (next_of next.entry) item.now account.old.placed account.new.placed) }
     ensures properties { OnOk result (done.new.reach.alert.properties ≡ done.old.reach.alert.properties) }
     ensures lasts { AreLasts renewal.now.body.now done.new.lasts }
 {
@@ -331,17 +372,20 @@ fn renew_item<L: Lays>(
         Next::New => renew_new(alloc, lay, renewal, done, item, account),
         Next::Same(number) => match settled_slot(renewal.slots, number, &done.reach.alert) {
             Some(slot) => done.keep(slot),
-            None => {
-                let unchanged = BodyMarks::new(alloc);
-                renew_stayed(alloc, lay, renewal, done, number, &unchanged, item, account)
-            }
+            None => match front_slot(renewal.slots, number, done, front) {
+                Some(slot) => done.keep(slot),
+                None => {
+                    let unchanged = BodyMarks::new(alloc);
+                    renew_stayed(alloc, lay, renewal, done, number, &unchanged, item, account)
+                }
+            },
         },
         Next::Marked(number, mark) => {
             if mark.is_moved {
                 renew_new(alloc, lay, renewal, done, item, account)
             } else {
                 let inside = &mark.inside;
-                renew_stayed(alloc, lay, renewal, done, number, inside, item, account)
+                renew_marked(alloc, lay, renewal, done, number, inside, item, account)
             }
         }
     }
@@ -369,10 +413,11 @@ fn renew_body<L: Lays>(
         alert: reach.alert.with(raised(marks, renewal.body)),
     };
     let mut done = Done::none(alloc, renewal.body.len(), first)?;
+    let front = untouched(marks);
     let mut along = Along::new();
     for item in renewal.body.as_slice() {
         let next = along.next(&marks.pieces, marks.behind);
-        renew_item(alloc, lay, renewal, &mut done, next, item, account)?;
+        renew_item(alloc, lay, renewal, &mut done, next, front, item, account)?;
     }
     Ok(done)
 }

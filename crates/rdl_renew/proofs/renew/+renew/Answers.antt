@@ -26,46 +26,94 @@ use Rattle.rdl_renew.specs.Judged.{IsCleanBody}
 use Rattle.rdl_renew.specs.Placed.{in_body, placed_stayed, sets_width}
 use Rattle.rdl_renew.specs.Raised.{raised}
 use Rattle.rdl_renew.specs.Renewing.{kept_component, Became, IsReached, IsNext}
+use Rattle.rdl_renew.proofs.Again.{which_held}
 use Rattle.rdl_renew.proofs.BodySteps.{first_done, next_is, one_renewed, body_done, differs_no_more}
 use Rattle.rdl_renew.proofs.CleanSteps.{on_any, was_clean, stayed_clean, settled_clean, same_judge, component_still, first_clean, next_clean, body_clean}
 use Rattle.rdl_renew.proofs.CountSteps.{if_both, on_two, width_either, on_told, stayed_became, stayed_counted, settled_counted, component_counted, bare_counted, unkept_counted, finished_counted, none_counted, one_counted, all_counted}
+use Rattle.rdl_renew.proofs.InFront.{front_done, front_clean, front_counted}
 use Rattle.rdl_renew.proofs.ItemSteps.{on_all, on_both, kept_done, stayed_done, slot_made, with_next, reached_stayed}
 use Rattle.rdl_renew.proofs.OneDone.{place_made}
 use Rattle.rdl_renew.proofs.Raises.{with_none}
 use Rattle.rdl_renew.proofs.renew.+renew.Goals as goal
 
 pub renew_item-returns-in-New-clause-done : goal.renew_item-returns-in-New-clause-done
-renew_item-returns-in-New-clause-done g t c = λ m old saw n next.
+renew_item-returns-in-New-clause-done g t c = λ m old saw n next ahead.
     c.renew_new.ensures.done m old saw n new_item (with_next g.L.Lays.laying (renewing c.args.renewal.now m old saw) n c.args.done.now c.args.item.now (next_of c.args.next) new_item (ap next_of c.in-New.is) next) tt
 
 pub renew_item-returns-in-Some-clause-done : goal.renew_item-returns-in-Some-clause-done
-renew_item-returns-in-Some-clause-done g t c = λ m old saw n next.
+renew_item-returns-in-Some-clause-done g t c = λ m old saw n next ahead.
     let r = renewing c.args.renewal.now m old saw in
     let d = c.args.done.now in
     let here = with_next g.L.Lays.laying r n d c.args.item.now (next_of c.args.next) (same_item c.in-Same.number) (ap next_of c.in-Same.is) next in
     on_both c.keep.result c.keep.ensures.slots
     (λ slots. kept_done g.L.Lays.laying r n d c.keep.new.self c.args.item.now c.in-Same.number c.in-Some.slot.now c.args.renewal.now.slots.now here refl c.in-Some.ensures slots c.keep.ensures.reach)
 
-pub renew_item-returns-in-None-clause-done : goal.renew_item-returns-in-None-clause-done
-renew_item-returns-in-None-clause-done g t c = λ m old saw n next.
+pub renew_item-returns-in-None-front_slot-clause-done : goal.renew_item-returns-in-None-front_slot-clause-done
+renew_item-returns-in-None-front_slot-clause-done g t c = λ m old saw n next ahead.
     let r = renewing c.args.renewal.now m old saw in
     let told : next_of c.args.next ≡ old_item c.in-Same.number no_firsts c.new-unchanged.result = ap next_of c.in-Same.is ∙ ap (old_item c.in-Same.number no_firsts) (sym c.new-unchanged.ensures) in
     c.renew_stayed.ensures.done m old saw n no_firsts
     (with_next g.L.Lays.laying r n c.args.done.now c.args.item.now (next_of c.args.next) (old_item c.in-Same.number no_firsts c.new-unchanged.result) told next) refl
 
 pub renew_item-returns-then-mark-clause-done : goal.renew_item-returns-then-mark-clause-done
-renew_item-returns-then-mark-clause-done g t c = λ m old saw n next.
+renew_item-returns-then-mark-clause-done g t c = λ m old saw n next ahead.
     let r = renewing c.args.renewal.now m old saw in
     let mark = c.in-Marked.mark.now in
     c.renew_new-then-mark.ensures.done m old saw n (old_item c.in-Marked.number (firsts_of mark) mark.inside)
     (with_next g.L.Lays.laying r n c.args.done.now c.args.item.now (next_of c.args.next) (old_item c.in-Marked.number (firsts_of mark) mark.inside) (ap next_of c.in-Marked.is) next) c.if-mark.true
 
 pub renew_item-returns-else-mark-clause-done : goal.renew_item-returns-else-mark-clause-done
-renew_item-returns-else-mark-clause-done g t c = λ m old saw n next.
+renew_item-returns-else-mark-clause-done g t c = λ m old saw n next ahead.
     let r = renewing c.args.renewal.now m old saw in
     let mark = c.in-Marked.mark.now in
-    c.renew_stayed-else-mark.ensures.done m old saw n (firsts_of mark)
+    c.renew_marked.ensures.done m old saw n (firsts_of mark)
     (with_next g.L.Lays.laying r n c.args.done.now c.args.item.now (next_of c.args.next) (old_item c.in-Marked.number (firsts_of mark) mark.inside) (ap next_of c.in-Marked.is) next) c.if-mark.false
+
+pub renew_item-returns-in-Some-front_slot-clause-done : goal.renew_item-returns-in-Some-front_slot-clause-done
+renew_item-returns-in-Some-front_slot-clause-done g t c = λ m old saw n next ahead.
+    let lay = g.L.Lays.laying in
+    let r = renewing c.args.renewal.now m old saw in
+    let d = c.args.done.now in
+    let y = c.args.item.now in
+    let s = c.in-Some-front_slot.slot.now in
+    let here = with_next lay r n d y (next_of c.args.next) (same_item c.in-Same.number) (ap next_of c.in-Same.is) next in
+    on_both c.keep-in-Some-front_slot.result c.keep-in-Some-front_slot.ensures.slots
+    (λ slots. front_done lay r n d y c.in-Same.number c.args.front s c.args.renewal.now.slots.now here refl c.in-Some-front_slot.ensures ahead c.keep-in-Some-front_slot.new.self slots c.keep-in-Some-front_slot.ensures.reach)
+
+pub renew_item-returns-in-Some-front_slot-clause-clean : goal.renew_item-returns-in-Some-front_slot-clause-clean
+renew_item-returns-in-Some-front_slot-clause-clean g t c = λ m old saw n next ahead.
+    let lay = g.L.Lays.laying in
+    let r = renewing c.args.renewal.now m old saw in
+    let d = c.args.done.now in
+    let y = c.args.item.now in
+    let s = c.in-Some-front_slot.slot.now in
+    let here = with_next lay r n d y (next_of c.args.next) (same_item c.in-Same.number) (ap next_of c.in-Same.is) next in
+    on_any c.keep-in-Some-front_slot.result
+    (same_judge c.args.account.now.judge.is_clean (front_clean lay r n d y c.in-Same.number c.args.front s c.args.renewal.now.slots.now here refl c.in-Some-front_slot.ensures ahead))
+
+pub renew_item-returns-in-Some-front_slot-clause-placed : goal.renew_item-returns-in-Some-front_slot-clause-placed
+renew_item-returns-in-Some-front_slot-clause-placed g t c = λ m old saw n next ahead.
+    let lay = g.L.Lays.laying in
+    let r = renewing c.args.renewal.now m old saw in
+    let d = c.args.done.now in
+    let y = c.args.item.now in
+    let a = c.args.account.now.placed in
+    let s = c.in-Some-front_slot.slot.now in
+    let told : next_of c.args.next ≡ same_item c.in-Same.number = ap next_of c.in-Same.is in
+    let here = with_next lay r n d y (next_of c.args.next) (same_item c.in-Same.number) told next in
+    on_told lay r n y (same_item c.in-Same.number) (next_of c.args.next) (tells_of_width d.reach.alert) a a c.keep-in-Some-front_slot.result told
+    (on_two c.keep-in-Some-front_slot.result (renew_item-returns-in-Some-front_slot-clause-done g t c m old saw n next ahead) c.keep-in-Some-front_slot.ensures.slots
+    (front_counted lay r n d y c.in-Same.number c.args.front s c.args.renewal.now.slots.now here refl c.in-Some-front_slot.ensures ahead c.keep-in-Some-front_slot.new.self a))
+
+pub renew_marked-returns-in-Some-clause-done : goal.renew_marked-returns-in-Some-clause-done
+renew_marked-returns-in-Some-clause-done g t c = λ m old saw n firsts next unmoved.
+    let held = which_held c.args.done.now.reach.alert c.args.renewal.now.slots.now c.args.number c.args.inside.now c.args.item.now c.in-Some.slot c.in_ok-slot.field-0 c.in-Some.is c.in_ok-slot.ensures in
+    c.renew_again.ensures.done g.L.Lays.laying m old saw n firsts c.args.inside.now next unmoved held
+
+pub renew_marked-returns-in-Some-clause-placed : goal.renew_marked-returns-in-Some-clause-placed
+renew_marked-returns-in-Some-clause-placed g t c = λ m old saw n firsts next unmoved.
+    let held = which_held c.args.done.now.reach.alert c.args.renewal.now.slots.now c.args.number c.args.inside.now c.args.item.now c.in-Some.slot c.in_ok-slot.field-0 c.in-Some.is c.in_ok-slot.ensures in
+    c.renew_again.ensures.placed g.L.Lays.laying m old saw n firsts c.args.inside.now next unmoved held
 
 pub renew_stayed-returns-clause-done : goal.renew_stayed-returns-clause-done
 renew_stayed-returns-clause-done g t c = λ m old saw n firsts next unmoved.
@@ -113,7 +161,7 @@ renew_body-loop-item-init g t c = record {
 pub renew_body-renew_item-requires : goal.renew_body-renew_item-requires
 renew_body-renew_item-requires g t c κs within =
     let few = count-item c.loop-item.item-index c.args.renewal.now.body.now c.as_slice-item-items.result.now c.item-item.result c.item-item.result c.as_slice-item-items.ensures c.loop-item-test.true c.item-item.is in
-    let less : 8 * item_count c.item-item.result + 3 < t = omega (arith, c.decreases, few) in
+    let less : 8 * item_count c.item-item.result + 4 < t = omega (arith, c.decreases, few) in
     search (rules, less)
 
 pub renew_body-loop-item-preserved : goal.renew_body-loop-item-preserved
@@ -134,17 +182,17 @@ renew_body-loop-item-preserved g t c =
       passed = c.next-next.ensures.passed i few c.loop-item.invariant.passed;
       lasts = c.renew_item.ensures.lasts;
       done = λ old saw became reached.
-          one_renewed lay (renewing c.args.renewal.now c.args.marks.now old saw) i c.renew_item.new.done (c.in_ok-renew_item.ensures.done c.args.marks.now old saw i (next old saw became reached));
+          one_renewed lay (renewing c.args.renewal.now c.args.marks.now old saw) i c.renew_item.new.done (c.in_ok-renew_item.ensures.done c.args.marks.now old saw i (next old saw became reached) c.untouched-front.ensures);
       clean = λ old saw became reached.
           let here = next old saw became reached in
           next_clean lay (renewing c.args.renewal.now c.args.marks.now old saw) i c.item-item.result c.args.account.now.judge.is_clean c.loop-item.account.judge.is_clean c.renew_item.new.account.judge.is_clean here.there
-          (c.loop-item.invariant.clean old saw became reached) (c.in_ok-renew_item.ensures.clean c.args.marks.now old saw i here);
+          (c.loop-item.invariant.clean old saw became reached) (c.in_ok-renew_item.ensures.clean c.args.marks.now old saw i here c.untouched-front.ensures);
       placed = λ old saw became reached.
           let r = renewing c.args.renewal.now c.args.marks.now old saw in
           let here = next old saw became reached in
           one_counted (tells_of_width c.args.reach.now.alert || sets_width r.marks r.now) (tells_of_width c.loop-item.done.reach.alert) r.marks r.slots (slots_there lay r.places r.now) r.now c.as_slice-item-items.result.now i
           c.args.account.now.placed c.loop-item.account.placed c.renew_item.new.account.placed (next_of c.next-next.result) c.item-item.result (c.loop-item.invariant.placed old saw became reached) c.loop-item-test.true c.item-item.is
-          here.told (width_either c.args.reach.now.alert.properties (raised r.marks r.now).properties c.loop-item.done.reach.alert c.loop-item.invariant.width) (c.in_ok-renew_item.ensures.placed c.args.marks.now old saw i here);
+          here.told (width_either c.args.reach.now.alert.properties (raised r.marks r.now).properties c.loop-item.done.reach.alert c.loop-item.invariant.width) (c.in_ok-renew_item.ensures.placed c.args.marks.now old saw i here c.untouched-front.ensures);
       width = c.in_ok-renew_item.ensures.properties ∙ c.loop-item.invariant.width;
     }
 
@@ -162,7 +210,7 @@ renew_body-returns-clause-alert g t c = λ old saw became reached.
 -- ---- That no item has a fault.
 
 pub renew_item-returns-in-Some-clause-clean : goal.renew_item-returns-in-Some-clause-clean
-renew_item-returns-in-Some-clause-clean g t c = λ m old saw n next.
+renew_item-returns-in-Some-clause-clean g t c = λ m old saw n next ahead.
     let r = renewing c.args.renewal.now m old saw in
     let d = c.args.done.now in
     let here = with_next g.L.Lays.laying r n d c.args.item.now (next_of c.args.next) (same_item c.in-Same.number) (ap next_of c.in-Same.is) next in
@@ -200,7 +248,7 @@ renew_body-returns-clause-clean g t c = λ old saw became reached.
 -- ---- How many instances are placed.
 
 pub renew_item-returns-in-New-clause-placed : goal.renew_item-returns-in-New-clause-placed
-renew_item-returns-in-New-clause-placed g t c = λ m old saw n next.
+renew_item-returns-in-New-clause-placed g t c = λ m old saw n next ahead.
     let lay = g.L.Lays.laying in
     let r = renewing c.args.renewal.now m old saw in
     let d = c.args.done.now in
@@ -210,7 +258,7 @@ renew_item-returns-in-New-clause-placed g t c = λ m old saw n next.
     (c.renew_new.ensures.placed m old saw n new_item (with_next lay r n d y (next_of c.args.next) new_item told next) tt)
 
 pub renew_item-returns-in-Some-clause-placed : goal.renew_item-returns-in-Some-clause-placed
-renew_item-returns-in-Some-clause-placed g t c = λ m old saw n next.
+renew_item-returns-in-Some-clause-placed g t c = λ m old saw n next ahead.
     let lay = g.L.Lays.laying in
     let r = renewing c.args.renewal.now m old saw in
     let d = c.args.done.now in
@@ -219,11 +267,11 @@ renew_item-returns-in-Some-clause-placed g t c = λ m old saw n next.
     let told : next_of c.args.next ≡ same_item c.in-Same.number = ap next_of c.in-Same.is in
     let here = with_next lay r n d y (next_of c.args.next) (same_item c.in-Same.number) told next in
     on_told lay r n y (same_item c.in-Same.number) (next_of c.args.next) (tells_of_width d.reach.alert) a a c.keep.result told
-    (on_two c.keep.result (renew_item-returns-in-Some-clause-done g t c m old saw n next) c.keep.ensures.slots
+    (on_two c.keep.result (renew_item-returns-in-Some-clause-done g t c m old saw n next ahead) c.keep.ensures.slots
     (settled_counted lay r n d c.keep.new.self y c.in-Same.number c.in-Some.slot.now c.args.renewal.now.slots.now a here refl c.in-Some.ensures))
 
-pub renew_item-returns-in-None-clause-placed : goal.renew_item-returns-in-None-clause-placed
-renew_item-returns-in-None-clause-placed g t c = λ m old saw n next.
+pub renew_item-returns-in-None-front_slot-clause-placed : goal.renew_item-returns-in-None-front_slot-clause-placed
+renew_item-returns-in-None-front_slot-clause-placed g t c = λ m old saw n next ahead.
     let lay = g.L.Lays.laying in
     let r = renewing c.args.renewal.now m old saw in
     let d = c.args.done.now in
@@ -234,7 +282,7 @@ renew_item-returns-in-None-clause-placed g t c = λ m old saw n next.
     (c.renew_stayed.ensures.placed m old saw n no_firsts (with_next lay r n d y (next_of c.args.next) e told next) refl)
 
 pub renew_item-returns-then-mark-clause-placed : goal.renew_item-returns-then-mark-clause-placed
-renew_item-returns-then-mark-clause-placed g t c = λ m old saw n next.
+renew_item-returns-then-mark-clause-placed g t c = λ m old saw n next ahead.
     let lay = g.L.Lays.laying in
     let r = renewing c.args.renewal.now m old saw in
     let d = c.args.done.now in
@@ -246,7 +294,7 @@ renew_item-returns-then-mark-clause-placed g t c = λ m old saw n next.
     (c.renew_new-then-mark.ensures.placed m old saw n e (with_next lay r n d y (next_of c.args.next) e told next) c.if-mark.true)
 
 pub renew_item-returns-else-mark-clause-placed : goal.renew_item-returns-else-mark-clause-placed
-renew_item-returns-else-mark-clause-placed g t c = λ m old saw n next.
+renew_item-returns-else-mark-clause-placed g t c = λ m old saw n next ahead.
     let lay = g.L.Lays.laying in
     let r = renewing c.args.renewal.now m old saw in
     let d = c.args.done.now in
@@ -254,8 +302,8 @@ renew_item-returns-else-mark-clause-placed g t c = λ m old saw n next.
     let mark = c.in-Marked.mark.now in
     let e = old_item c.in-Marked.number (firsts_of mark) mark.inside in
     let told : next_of c.args.next ≡ e = ap next_of c.in-Marked.is in
-    on_told lay r n y e (next_of c.args.next) (tells_of_width d.reach.alert) c.args.account.now.placed c.renew_stayed-else-mark.new.account.placed c.renew_stayed-else-mark.result told
-    (c.renew_stayed-else-mark.ensures.placed m old saw n (firsts_of mark) (with_next lay r n d y (next_of c.args.next) e told next) c.if-mark.false)
+    on_told lay r n y e (next_of c.args.next) (tells_of_width d.reach.alert) c.args.account.now.placed c.renew_marked.new.account.placed c.renew_marked.result told
+    (c.renew_marked.ensures.placed m old saw n (firsts_of mark) (with_next lay r n d y (next_of c.args.next) e told next) c.if-mark.false)
 
 pub renew_stayed-returns-clause-placed : goal.renew_stayed-returns-clause-placed
 renew_stayed-returns-clause-placed g t c = λ m old saw n firsts next unmoved.

@@ -20,10 +20,10 @@ use Rattle.rdl_renew.proofs.CountSteps.{AreCounted}
 use Rattle.rdl_renew.proofs.renew.+renew.Given as goal
 
 abbrev pub decreases-renew_body : goal.decreases-renew_body
-decreases-renew_body g l = 8 * count l.renewal.now.body.now + 4
+decreases-renew_body g l = 8 * count l.renewal.now.body.now + 5
 
 abbrev pub decreases-renewed_component : goal.decreases-renewed_component
-decreases-renewed_component g l = 8 * count l.component.now.body + 5
+decreases-renewed_component g l = 8 * count l.component.now.body + 6
 
 abbrev pub decreases-renewed_slot : goal.decreases-renewed_slot
 decreases-renewed_slot g l = 8 * item_count l.item.now + 1
@@ -31,8 +31,11 @@ decreases-renewed_slot g l = 8 * item_count l.item.now + 1
 abbrev pub decreases-renew_stayed : goal.decreases-renew_stayed
 decreases-renew_stayed g l = 8 * item_count l.item.now + 2
 
+abbrev pub decreases-renew_marked : goal.decreases-renew_marked
+decreases-renew_marked g l = 8 * item_count l.item.now + 3
+
 abbrev pub decreases-renew_item : goal.decreases-renew_item
-decreases-renew_item g l = 8 * item_count l.item.now + 3
+decreases-renew_item g l = 8 * item_count l.item.now + 4
 
 abbrev pub invariant-renew_body-loop-item : goal.invariant-renew_body-loop-item
 invariant-renew_body-loop-item g l = record {
