@@ -163,20 +163,32 @@ fn is_kept(piece: &Piece) -> bool
     }
 }
 
+/// Whether so many items of a body came or were changed that they aren't compared with all others.
+fn are_many_changed(pieces: &Pieces, body: &Body) -> bool {
+    let mut changed = 0usize;
+    for place in 0..usize::MAX {
+        let Some(piece) = pieces.get(place) else {
+            break;
+        };
+        if !is_kept(piece) {
+            changed = changed.saturating_add(len(piece));
+        }
+    }
+    changed.saturating_mul(body.len()) > MAX_PAIRS
+}
+
 /// Whether own assignments are among the items of these pieces that came or were changed, if it is seen that no other item of the body
 /// does the same as one of those.
 fn changes_owns(pieces: &Pieces, body: &Body) -> Option<bool>
     ensures { IfSome result (λ owns. AreSameOrApart (pieces_traces (in_order pieces.now)) body.now owns) }
 {
     let mut from = 0usize;
-    let mut pairs = 0usize;
     let mut owns = false;
     let mut place = 0usize;
     while let Some(piece) = pieces.get(place) {
         let to = from.checked_add(len(piece))?;
         if !is_kept(piece) {
-            pairs = pairs.saturating_add((to - from).saturating_mul(body.len()));
-            if pairs > MAX_PAIRS || !are_apart(body, from, to) {
+            if !are_apart(body, from, to) {
                 return None;
             }
             owns = owns || has_own(body, from, to);
@@ -191,6 +203,9 @@ fn changes_owns(pieces: &Pieces, body: &Body) -> Option<bool>
 pub(crate) fn stand_alone(marks: &BodyMarks, body: &Body) -> bool
     ensures { result ≡ true → (old : Items) → Describes marks.now old body.now → AllStandAlone old → AllStandAlone body.now }
 {
+    if are_many_changed(&marks.pieces, body) {
+        return false;
+    }
     match changes_owns(&marks.pieces, body) {
         Some(owns) => !owns || do_owns_stand_alone(body),
         None => false,

@@ -3,7 +3,7 @@ use Rattle.std.specs.Prelude.{None, slice_get}
 use Rattle.rdl_marks.specs.View.{piece_traces, pieces_traces, in_order}
 use Rattle.rdl_renew.proofs.ApartItems.{AreDoneApart, all_done, kept_piece, changed_piece}
 use Rattle.rdl_renew.proofs.Raises.{past_all}
-use Rattle.rdl_renew.proofs.apart.changes_owns.Goals.{then-not-is_kept+else-pairs-gt-MAX_PAIRS+else-not-are_apart+then-owns, then-not-is_kept+else-pairs-gt-MAX_PAIRS+else-not-are_apart+else-owns, else-not-is_kept}
+use Rattle.rdl_renew.proofs.apart.changes_owns.Goals.{then-not-is_kept+else-not-are_apart+then-owns, then-not-is_kept+else-not-are_apart+else-owns, else-not-is_kept}
 use Rattle.rdl_renew.proofs.apart.changes_owns.Goals as goal
 
 pub loop-piece-preserved : goal.loop-piece-preserved
@@ -17,10 +17,10 @@ loop-piece-preserved c =
     let owns = c.loop-piece.owns in
     let at : c.in_ok-to.to ≡ from + length (piece_traces p) = c.in_ok-to.ensures.1 ∙ ap (λ n. from + n) c.len.ensures in
     elim c.if-not-is_kept.branch [
-      | then-not-is_kept+else-pairs-gt-MAX_PAIRS+else-not-are_apart+then-owns w ↦
+      | then-not-is_kept+else-not-are_apart+then-owns w ↦
           changed_piece ps k p body owns c.if-not-is_kept.owns from c.in_ok-to.to here c.loop-piece.invariant at (w.are_apart.ensures w.if-not-are_apart.false)
           (λ q. absurd (let no = sym q ∙ (w.owns-is ∙ w.if-owns.true) in cc))
-      | then-not-is_kept+else-pairs-gt-MAX_PAIRS+else-not-are_apart+else-owns w ↦
+      | then-not-is_kept+else-not-are_apart+else-owns w ↦
           changed_piece ps k p body owns c.if-not-is_kept.owns from c.in_ok-to.to here c.loop-piece.invariant at (w.are_apart.ensures w.if-not-are_apart.false)
           (λ q. (w.if-owns.false, w.has_own-owns.ensures (sym w.owns-is ∙ q)))
       | else-not-is_kept w ↦
