@@ -19,4 +19,5 @@ pub mod Reached
 pub mod Reaching
 pub mod Renamed
 pub mod Staying
+pub mod Touched
 pub mod Untouched

@@ -76,15 +76,15 @@ pub any_unmet : (p : List ℕ → Bool) (b : List ℕ) (i : ℕ) (xs : List Item
 any_unmet p b i xs x r all h is e fails w =
     w ∙ any-next p b i xs x h is ∙ ap (λ q. q || list_any p (addresses b (i + 1) (items_of (drop (i + 1) xs)))) (sym e ∙ fails)
 
-or-itself : (b : Bool) → b ≡ (b || false)
-or-itself true = refl
-or-itself false = refl
+pub or_itself : (b : Bool) → b ≡ (b || false)
+or_itself true = refl
+or_itself false = refl
 
 -- an item without a body of its own passes it or doesn't
 pub any_itself : (p : List ℕ → Bool) (b : List ℕ) (n : ℕ) (x : Item) (r : Bool) → own_body x ≡ None → r ≡ p (b ++ n ∷ []) → r ≡ list_any p (addresses b n (add x no_items))
 any_itself p b n (Define m c) r none e = cc
-any_itself p b n (Instance s (Named t)) r none e = e ∙ or-itself (p (b ++ n ∷ []))
+any_itself p b n (Instance s (Named t)) r none e = e ∙ or_itself (p (b ++ n ∷ []))
 any_itself p b n (Instance s (Anonymous c)) r none e = cc
-any_itself p b n (Own q v) r none e = e ∙ or-itself (p (b ++ n ∷ []))
-any_itself p b n (Default q v) r none e = e ∙ or-itself (p (b ++ n ∷ []))
-any_itself p b n (Dynamic t q v) r none e = e ∙ or-itself (p (b ++ n ∷ []))
+any_itself p b n (Own q v) r none e = e ∙ or_itself (p (b ++ n ∷ []))
+any_itself p b n (Default q v) r none e = e ∙ or_itself (p (b ++ n ∷ []))
+any_itself p b n (Dynamic t q v) r none e = e ∙ or_itself (p (b ++ n ∷ []))

@@ -8,7 +8,6 @@ use Rattle.std.proofs.lemmas.Slice.Eq.{bytes_eq-Decides}
 use Rattle.std.proofs.Math.Bool.{not-not}
 use Rattle.std.specs.Prelude.{not, bytes_eq, MatchOption}
 use Rattle.std.specs.Bool.{one_answer}
-use Rattle.std.specs.BTreeMap.{is_at}
 use Rattle.std.specs.BTreeSet.{BTreeSet, contains, Updates}
 use Rattle.std.specs.Cmp.Lexicographic.{slice_cmp}
 use Rattle.std.specs.List.{list_any}
@@ -163,18 +162,6 @@ pub clash_repeated : (o : Option (BTreeSet (Bor (List ℕ)))) (names : List (Bor
     → o ≡ None → texts names ≡ new → true ≡ clash new old
 clash_repeated o names new old known is e =
     clash_twice new old (ap is_twice (sym e) ∙ subst (λ p. MatchOption p (is_twice (texts names) ≡ true) (λ s. IsSetOf s (texts names))) is known)
-
--- a set of one name
-pub among_one : (set next : BTreeSet (Bor (List ℕ))) (key : Bor (List ℕ)) (name : List ℕ) (names : List (List ℕ)) → key.now ≡ name → set.keys ≡ []
-    → Updates (λ x y. slice_cmp nat_cmp x.now y.now) set next key true → list_any (is_among next) names ≡ has_name name names
-among_one set next key name names same none updates =
-    any-same (is_among next) (λ n. bytes_eq n name) names
-    (λ n. among-more set next key updates n ∙ ap (λ ks. cond (bytes_eq key.now n) true (list_any (is_at (λ k. slice_cmp nat_cmp n k.now)) ks)) none
-    ∙ itself (bytes_eq key.now n) ∙ ap (λ m. bytes_eq m n) same ∙ bytes-swap name n)
-  where
-    itself : (b : Bool) → cond b true false ≡ b
-    itself true = refl
-    itself false = refl
 
 -- a new name that is the only one
 pub clash_only : (names : List (Bor (List ℕ))) (n : Bor (List ℕ)) (new old : List (List ℕ)) → 1 ≤ length names → length names < 2 → n ≡ get_or names 0 n → texts names ≡ new → has_name n.now old ≡ clash new old

@@ -1,42 +1,39 @@
 -- Bodies whose items stay as they are.
 use Rattle.std.proofs.Common.{◌≡◌, ℕ, suc, Bool, true, false, cond, List, [], ◌∷◌, ◌++◌, length, Some, None, Option, refl, ap, sym, ◌∙◌, append_assoc, nat_eq, eq-eqb, true≢false}
-use Rattle.std.proofs.lemmas.List.Folds.{list_any-append}
 use Rattle.std.proofs.lemmas.Slice.Eq.{bytes_eq-Decides}
 use Rattle.std.specs.Prelude.{slice_get, option_and_then}
-use Rattle.std.specs.List.{list_any}
 use Rattle.rdl_tree.specs.ItemAt.{item_at}
 use Rattle.rdl_tree.specs.Items.{Items, no_items, plain, holder, Plain, Holder, named, own, default, dynamic, define, anonymous}
 use Rattle.rdl_tree.specs.View.{add, list_of, plain_item, holder_item, own_body}
-use Rattle.rdl_tree.specs.Address.{body_at}
+use Rattle.rdl_tree.specs.Address.{body_at, holder_of}
 use Rattle.rdl_tree.specs.declared.description.Item.{Item}
 use Rattle.rdl_tree.specs.declared.description.Item.TheVariants.{Define, Instance, Own, Default, Dynamic}
 use Rattle.rdl_tree.specs.declared.description.Of.TheVariants.{Named, Anonymous}
 use Rattle.rdl_scope.specs.Types.{type_from, type_of}
-use Rattle.rdl_scope.specs.Walk.{is_definition}
 use Rattle.rdl_scope.proofs.Levelled.{item-deeper}
-use Rattle.rdl_rewrite.specs.Addresses.{same, leads_to, addresses}
-use Rattle.rdl_rewrite.specs.Assigning.{assigns_at, is_assigning}
+use Rattle.rdl_rewrite.specs.Addresses.{same, leads_to}
 use Rattle.rdl_rewrite.specs.Fates.{fate, given_if, item_patches, fate_patches}
-use Rattle.rdl_rewrite.specs.Firsts.{is_dynamic}
+use Rattle.rdl_rewrite.specs.Touched.{may_touch, is_any_inside}
 use Rattle.rdl_rewrite.specs.declared.fate.Fate.TheVariants.{Kept, Given}
 use Rattle.rdl_tree.specs.declared.part.Part.TheVariants.{OfShell, OfType, OfDefine}
+use Rattle.rdl_rewrite.proofs.Before.{nothing_passed}
 use Rattle.rdl_rewrite.proofs.Found.{or-false, unled-name}
 use Rattle.rdl_rewrite.proofs.Located.{body_at-item}
 use Rattle.rdl_rewrite.proofs.Staying.{not_out}
 
--- an item of a plain kind that assigns nothing from outside, where no reference leads to the item on the way
-plain_kept : (d : Items) (way : List ℕ) (name : Option (List ℕ)) (at : List ℕ) (p : Plain) → item_at at d ≡ Some (plain_item p) → same at way ≡ false → ((q : List ℕ) → is_definition q (item_at way d) ≡ false)
-    → is_dynamic (plain_item p) ≡ false → fate d way name at (plain_item p) ≡ Kept
-plain_kept d way None at (named s t) here off untyped quiet = not_out d way at _ here off refl
-plain_kept d way None at (own p v) here off untyped quiet = not_out d way at _ here off refl
-plain_kept d way None at (default p v) here off untyped quiet = not_out d way at _ here off refl
-plain_kept d way None at (dynamic t p v) here off untyped quiet = cc
-plain_kept d way (Some m) at (named s t) here off untyped quiet =
-    ap (λ c. cond c (Given (OfShell (record s { name = m }))) (given_if (leads_to way (type_of d at)) (OfType m))) off
-    ∙ ap (λ c. given_if c (OfType m)) (ap (λ o. leads_to way (option_and_then (type_from d at) o)) here ∙ unled-name d way at t (untyped t))
-plain_kept d way (Some m) at (own p v) here off untyped quiet = refl
-plain_kept d way (Some m) at (default p v) here off untyped quiet = refl
-plain_kept d way (Some m) at (dynamic t p v) here off untyped quiet = cc
+-- an item of a plain kind in which no name may stand for the item on the way
+plain_kept : (d : Items) (way : List ℕ) (name : Option (List ℕ)) (b : List ℕ) (n : ℕ) (p : Plain) → item_at (b ++ n ∷ []) d ≡ Some (plain_item p) → same (b ++ n ∷ []) way ≡ false
+    → may_touch (item_at way d) (item_at (holder_of way) d) (plain_item p) ≡ false → item_patches (b ++ n ∷ []) (fate d way name (b ++ n ∷ []) (plain_item p)) [] ≡ []
+plain_kept d way name b n (dynamic t p v) here off untouched = nothing_passed d way name b n (Dynamic t p v) t p v refl here off untouched
+plain_kept d way None b n (named s t) here off untouched = ap (λ f. item_patches (b ++ n ∷ []) f []) (not_out d way (b ++ n ∷ []) (Instance s (Named t)) here off refl)
+plain_kept d way None b n (own p v) here off untouched = ap (λ f. item_patches (b ++ n ∷ []) f []) (not_out d way (b ++ n ∷ []) (Own p v) here off refl)
+plain_kept d way None b n (default p v) here off untouched = ap (λ f. item_patches (b ++ n ∷ []) f []) (not_out d way (b ++ n ∷ []) (Default p v) here off refl)
+plain_kept d way (Some m) b n (named s t) here off untouched =
+    let at : List ℕ = b ++ n ∷ [] in
+    ap (λ c. item_patches at (cond c (Given (OfShell (record s { name = m }))) (given_if (leads_to way (type_of d at)) (OfType m))) []) off
+    ∙ ap (λ c. item_patches at (given_if c (OfType m)) []) (ap (λ o. leads_to way (option_and_then (type_from d at) o)) here ∙ unled-name d way at t untouched)
+plain_kept d way (Some m) b n (own p v) here off untouched = refl
+plain_kept d way (Some m) b n (default p v) here off untouched = refl
 
 -- an item with a body of its own
 holder_kept : (d : Items) (way : List ℕ) (name : Option (List ℕ)) (at : List ℕ) (h : Holder) (body : Items) → item_at at d ≡ Some (holder_item h body) → same at way ≡ false → fate d way name at (holder_item h body) ≡ Kept
@@ -62,33 +59,31 @@ located b d all front n x rest here len is = item-deeper b n d all here ∙ ap (
 
 -- the items behind these first ones of the body at b
 quiet : (d : Items) (way : List ℕ) (name : Option (List ℕ)) (b : List ℕ) (all : Items) (front : List Item) (n : ℕ) (t : Items) → body_at b d ≡ Some all → n ≡ length front → list_of all ≡ front ++ list_of t
-    → ((q : List ℕ) → is_definition q (item_at way d) ≡ false) → ((rest : List ℕ) → same (b ++ rest) way ≡ false) → list_any (assigns_at d) (addresses b n t) ≡ false → fate_patches (fate d way name) b n t ≡ []
-quiet d way name b all front n no_items here len is untyped off none = refl
-quiet d way name b all front n (plain p rest) here len is untyped off none =
+    → ((rest : List ℕ) → same (b ++ rest) way ≡ false) → is_any_inside (may_touch (item_at way d) (item_at (holder_of way) d)) t ≡ false → fate_patches (fate d way name) b n t ≡ []
+quiet d way name b all front n no_items here len is off none = refl
+quiet d way name b all front n (plain p rest) here len is off none =
     let at : List ℕ = b ++ n ∷ [] in
     let met : item_at at d ≡ Some (plain_item p) = located b d all front n (plain_item p) (list_of rest) here len is in
-    let parts = or-false (assigns_at d at) (list_any (assigns_at d) (addresses b (suc n) rest)) none in
-    let silent : is_dynamic (plain_item p) ≡ false = sym (ap is_assigning met) ∙ parts.0 in
+    let parts = or-false (may_touch (item_at way d) (item_at (holder_of way) d) (plain_item p)) (is_any_inside (may_touch (item_at way d) (item_at (holder_of way) d)) rest) none in
     let more : list_of all ≡ (front ++ plain_item p ∷ []) ++ list_of rest = is ∙ sym (append_assoc front (plain_item p ∷ []) (list_of rest)) in
-    ap (λ ps. ps ++ item_patches at (fate d way name at (plain_item p)) []) (quiet d way name b all (front ++ plain_item p ∷ []) (suc n) rest here (ap suc len ∙ one-longer front (plain_item p)) more untyped off parts.1)
-    ∙ ap (λ f. item_patches at f []) (plain_kept d way name at p met (off (n ∷ [])) untyped silent)
-quiet d way name b all front n (holder h body rest) here len is untyped off none =
+    ap (λ ps. ps ++ item_patches at (fate d way name at (plain_item p)) []) (quiet d way name b all (front ++ plain_item p ∷ []) (suc n) rest here (ap suc len ∙ one-longer front (plain_item p)) more off parts.1)
+    ∙ plain_kept d way name b n p met (off (n ∷ [])) parts.0
+quiet d way name b all front n (holder h body rest) here len is off none =
     let at : List ℕ = b ++ n ∷ [] in
     let met : item_at at d ≡ Some (holder_item h body) = located b d all front n (holder_item h body) (list_of rest) here len is in
     let held : body_at at d ≡ Some body = body_at-item at d (holder_item h body) met ∙ own-holder h body in
-    let parts = or-false (assigns_at d at) (list_any (assigns_at d) (addresses at 0 body ++ addresses b (suc n) rest)) none in
-    let both = or-false (list_any (assigns_at d) (addresses at 0 body)) (list_any (assigns_at d) (addresses b (suc n) rest)) (sym (list_any-append (assigns_at d) (addresses at 0 body) (addresses b (suc n) rest)) ∙ parts.1) in
+    let parts = or-false (is_any_inside (may_touch (item_at way d) (item_at (holder_of way) d)) body) (is_any_inside (may_touch (item_at way d) (item_at (holder_of way) d)) rest) none in
     let more : list_of all ≡ (front ++ holder_item h body ∷ []) ++ list_of rest = is ∙ sym (append_assoc front (holder_item h body ∷ []) (list_of rest)) in
     let inside = fate_patches (fate d way name) at 0 body in
     let deeper : (r : List ℕ) → same (at ++ r) way ≡ false = λ r. ap (λ a. same a way) (append_assoc b (n ∷ []) r) ∙ off (n ∷ r) in
-    ap (λ ps. ps ++ item_patches at (fate d way name at (holder_item h body)) inside) (quiet d way name b all (front ++ holder_item h body ∷ []) (suc n) rest here (ap suc len ∙ one-longer front (holder_item h body)) more untyped off both.1)
+    ap (λ ps. ps ++ item_patches at (fate d way name at (holder_item h body)) inside) (quiet d way name b all (front ++ holder_item h body ∷ []) (suc n) rest here (ap suc len ∙ one-longer front (holder_item h body)) more off parts.1)
     ∙ ap (λ f. item_patches at f inside) (holder_kept d way name at h body met (off (n ∷ [])))
-    ∙ quiet d way name at body [] 0 body held refl refl untyped deeper both.0
+    ∙ quiet d way name at body [] 0 body held refl refl deeper parts.0
 
--- an item with a body in which nothing is on the way and nothing is assigned from, where no reference leads to the item on the way
-pub nothing_inside : (d : Items) (way : List ℕ) (name : Option (List ℕ)) (b : List ℕ) (n : ℕ) (x : Item) (body : Items) → item_at (b ++ n ∷ []) d ≡ Some x → own_body x ≡ Some body → ((q : List ℕ) → is_definition q (item_at way d) ≡ false)
-    → ((rest : List ℕ) → same (b ++ n ∷ rest) way ≡ false) → list_any (assigns_at d) (addresses (b ++ n ∷ []) 0 body) ≡ false → fate_patches (fate d way name) b n (add x no_items) ≡ []
-nothing_inside d way name b n x body here has untyped off none = by_holder x here has
+-- an item with a body in which nothing is on the way, and no name may stand for the item on the way
+pub nothing_inside : (d : Items) (way : List ℕ) (name : Option (List ℕ)) (b : List ℕ) (n : ℕ) (x : Item) (body : Items) → item_at (b ++ n ∷ []) d ≡ Some x → own_body x ≡ Some body
+    → ((rest : List ℕ) → same (b ++ n ∷ rest) way ≡ false) → is_any_inside (may_touch (item_at way d) (item_at (holder_of way) d)) body ≡ false → fate_patches (fate d way name) b n (add x no_items) ≡ []
+nothing_inside d way name b n x body here has off none = by_holder x here has
   where
     at : List ℕ
     at = b ++ n ∷ []
@@ -100,7 +95,7 @@ nothing_inside d way name b n x body here has untyped off none = by_holder x her
     held = body_at-item at d x here ∙ has
 
     inside : fate_patches (fate d way name) at 0 body ≡ []
-    inside = quiet d way name at body [] 0 body held refl refl untyped deeper none
+    inside = quiet d way name at body [] 0 body held refl refl deeper none
 
     of_holder : (h : Holder) (t : Items) → t ≡ body → item_at at d ≡ Some (holder_item h t) → fate_patches (fate d way name) b n (holder h t no_items) ≡ []
     of_holder h t e met = ap (λ f. item_patches at f (fate_patches (fate d way name) at 0 t)) (holder_kept d way name at h t met (off [])) ∙ ap (λ u. fate_patches (fate d way name) at 0 u) e ∙ inside

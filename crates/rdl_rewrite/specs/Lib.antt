@@ -1,5 +1,4 @@
 pub mod Addresses
-pub mod Assigning
 pub mod Assignment
 pub mod Change
 pub mod Dynamics
@@ -11,6 +10,7 @@ pub mod Passed
 pub mod Patches
 pub mod Place
 pub mod Sweep
+pub mod Touched
 pub mod Refuses
 pub mod Removal
 pub mod Renaming

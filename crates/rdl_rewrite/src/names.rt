@@ -123,6 +123,9 @@ pub fn definition_taken(alloc: Global, added: &Body, all: &Body) -> Result<bool,
     if new.is_empty() {
         return Ok(false);
     }
+    if let [name] = new.as_slice() {
+        return Ok(is_defined(name, all));
+    }
     match distinct(alloc, new.as_slice())? {
         Some(names) => Ok(defines_any(&names, all)),
         None => Ok(true),
@@ -147,12 +150,28 @@ pub fn instance_taken(alloc: Global, added: &Body, body: &Body) -> Result<bool, 
 }
 
 /// Whether a definition among the items of the body, or inside them, has this name.
-pub(crate) fn is_defined(alloc: Global, name: &Name, body: &Body) -> Result<bool, AllocError>
-    ensures { IfOk result (λ answer. answer ≡ has_name name.now (defined_names body.now)) }
+#[cycle(one_name)]
+pub(crate) fn is_defined(name: &Name, body: &Body) -> bool
+    ensures { result ≡ has_name name.now (defined_names body.now) }
 {
-    let mut names = BTreeSet::new(alloc);
-    names.insert(name.as_str())?;
-    Ok(defines_any(&names, body))
+    'items: for item in body.as_slice() {
+        if item_defines(name, item) {
+            return true;
+        }
+    }
+    false
+}
+
+/// Whether this item, or a definition inside it, has this name.
+#[cycle(one_name)]
+fn item_defines(name: &Name, item: &Item) -> bool
+    ensures { result ≡ has_name name.now (defined_names (add item.now no_items)) }
+{
+    match item {
+        Item::Define(defined, component) => defined == name || is_defined(name, &component.body),
+        Item::Instance(_, Of::Anonymous(component)) => is_defined(name, &component.body),
+        _ => false,
+    }
 }
 
 /// Whether an instance among the items of the body themselves has this name.

@@ -179,21 +179,16 @@ fn is_in(name: &Name, body: Option<&Body>) -> bool
     }
 }
 
-fn is_taken(
-    alloc: Global,
-    whole: &Description,
-    way: &Address,
-    name: &Name,
-) -> Result<bool, AllocError>
-    ensures { IfOk result (λ answer. answer ≡ is_taken whole.now.items way.now name.now (item_at way.now whole.now.items)) }
+fn is_taken(whole: &Description, way: &Address, name: &Name) -> bool
+    ensures { result ≡ is_taken whole.now.items way.now name.now (item_at way.now whole.now.items) }
 {
     if way.is_empty() {
-        return Ok(false);
+        return false;
     }
     match item_at(&whole.items, way.as_slice()) {
-        Some(Item::Define(..)) => is_defined(alloc, name, &whole.items),
-        Some(Item::Instance(..)) => Ok(is_in(name, whole.body(&way.holder()))),
-        _ => Ok(false),
+        Some(Item::Define(..)) => is_defined(name, &whole.items),
+        Some(Item::Instance(..)) => is_in(name, whole.body(&way.holder())),
+        _ => false,
     }
 }
 
@@ -215,7 +210,7 @@ pub fn rename<'a>(
     if is_too_deep(whole, is_shallow) {
         return Err(PatchRefusal::TooDeep);
     }
-    if is_taken(alloc, whole, way, name)? {
+    if is_taken(whole, way, name) {
         return Err(PatchRefusal::NameTaken);
     }
     if is_reserved(name) {

@@ -1,52 +1,51 @@
 //! Bodies that an edit passes over.
-ghost use Rattle.std.specs.Prelude.{◌≡◌, ◌≤◌, ◌<◌, ◌++◌, ◌∷◌, [], ℕ, List, true, false, length, Some, option_copied};
-ghost use Rattle.std.specs.List.{list_any};
-ghost use Rattle.rdl_tree.specs.ItemAt.{item_at};
+ghost use Rattle.std.specs.Prelude.{◌≡◌, ◌++◌, ◌∷◌, ℕ, List, true, false, length, None, option_copied};
 ghost use Rattle.rdl_tree.specs.Items.{no_items};
-ghost use Rattle.rdl_tree.specs.View.{add};
-ghost use Rattle.rdl_tree.specs.Address.{body_at};
-ghost use Rattle.rdl_tree.specs.Depth.{depth};
-ghost use Rattle.rdl_scope.specs.Walk.{is_definition};
-ghost use Rattle.rdl_rewrite.specs.Addresses.{same, addresses};
-ghost use Rattle.rdl_rewrite.specs.Assigning.{assigns_at};
-ghost use Rattle.rdl_rewrite.specs.Firsts.{is_dynamic};
+ghost use Rattle.rdl_tree.specs.View.{add, own_body};
+ghost use Rattle.rdl_rewrite.specs.Addresses.{same};
+ghost use Rattle.rdl_rewrite.specs.Touched.{may_touch, is_any_inside};
 
+use crate::leads::leads_to;
+use crate::passed::may_pass_anywhere;
+use crate::sweep::Sweep;
 use rdl_tree::address::Address;
-use rdl_tree::description::{Body, Description, Item};
+use rdl_tree::description::{Body, Item};
 
-/// Whether the item assigns anything to what stands inside an instance.
-pub(crate) fn is_dynamic(item: &Item) -> bool
-    ensures { result ≡ is_dynamic item.now }
+/// Whether this item, which isn't the taken one, may have a patch of its own, as the names in it say. An item with a body has
+/// none.
+fn may_touch(sweep: &Sweep, found: &Item) -> bool
+    ensures { result ≡ may_touch (option_copied sweep.now.taken) (option_copied sweep.now.holder) found.now }
 {
-    matches!(item, Item::Dynamic(..))
+    match found {
+        Item::Define(..) => false,
+        Item::Instance(..) => leads_to(sweep.taken, true, found),
+        Item::Own(..) => false,
+        Item::Default(..) => false,
+        Item::Dynamic(target, ..) => may_pass_anywhere(sweep, target.names()),
+    }
 }
 
-/// Whether an assignment to what stands inside an instance is in this body, at its address, or inside one of its items.
-#[cycle(assigns)]
-pub(crate) fn assigns(whole: &Description, at: &Address, body: &Body) -> bool
-    requires nesting { depth whole.now.items ≤ 16 }
-    requires here { body_at at.now whole.now.items ≡ Some body.now }
-    ensures { result ≡ list_any (assigns_at whole.now.items) (addresses at.now 0 body.now) }
+/// Whether such an item is among those of the body, or inside one of them.
+#[cycle(touched)]
+pub(crate) fn is_touched(sweep: &Sweep, body: &Body) -> bool
+    ensures { result ≡ is_any_inside (may_touch (option_copied sweep.now.taken) (option_copied sweep.now.holder)) body.now }
 {
-    'items: for (number, found) in body.as_slice().iter().enumerate() {
-        if item_assigns(whole, at, number, found) {
+    'items: for found in body.as_slice() {
+        if is_item_touched(sweep, found) {
             return true;
         }
     }
     false
 }
 
-/// Whether the item of this number in the body at the address is such an assignment, or has one inside it.
-#[cycle(assigns)]
-fn item_assigns(whole: &Description, at: &Address, number: usize, found: &Item) -> bool
-    requires nesting { depth whole.now.items ≤ 16 }
-    requires room { length at.now < 17 }
-    requires here { item_at (at.now ++ number ∷ []) whole.now.items ≡ Some found.now }
-    ensures { result ≡ list_any (assigns_at whole.now.items) (addresses at.now number (add found.now no_items)) }
+/// Whether this item is such a one, or has one inside it.
+#[cycle(touched)]
+fn is_item_touched(sweep: &Sweep, found: &Item) -> bool
+    ensures { result ≡ is_any_inside (may_touch (option_copied sweep.now.taken) (option_copied sweep.now.holder)) (add found.now no_items) }
 {
     match found.own_body() {
-        Some(body) => assigns(whole, &at.inside(number), body),
-        None => is_dynamic(found),
+        Some(body) => is_touched(sweep, body),
+        None => may_touch(sweep, found),
     }
 }
 
@@ -58,21 +57,5 @@ pub(crate) fn may_lead_into(way: &Address, at: &Address, number: usize) -> bool
     match way.as_slice().get(at.len()) {
         Some(next) => *next == number,
         None => false,
-    }
-}
-
-/// Whether there is no definition here, so that no reference leads to it.
-pub(crate) fn is_no_type(taken: Option<&Item>) -> bool
-    ensures { result ≡ true → (name : List ℕ) → is_definition name (option_copied taken.entry) ≡ false }
-{
-    match taken {
-        None => true,
-        Some(item) => match item {
-            Item::Define(..) => false,
-            Item::Instance(..) => true,
-            Item::Own(..) => true,
-            Item::Default(..) => true,
-            Item::Dynamic(..) => true,
-        },
     }
 }

@@ -7,19 +7,18 @@ ghost use Rattle.rdl_tree.specs.View.{add, list_of};
 ghost use Rattle.rdl_tree.specs.Address.{body_at, holder_of, number_of};
 ghost use Rattle.rdl_tree.specs.Depth.{depth};
 ghost use Rattle.rdl_scope.specs.Types.{items_in};
-ghost use Rattle.rdl_scope.specs.Walk.{is_definition};
-ghost use Rattle.rdl_rewrite.specs.Addresses.{same, addresses};
-ghost use Rattle.rdl_rewrite.specs.Assigning.{assigns_at};
+ghost use Rattle.rdl_rewrite.specs.Addresses.{same};
 ghost use Rattle.rdl_rewrite.specs.Firsts.{AreFirsts, NotesItem, first_under, is_inside, is_dynamic};
 ghost use Rattle.rdl_rewrite.specs.Led.{IsLed};
 ghost use Rattle.rdl_rewrite.specs.Sweep.{Knows};
+ghost use Rattle.rdl_rewrite.specs.Touched.{may_touch, is_any_inside};
 ghost use Rattle.rdl_rewrite.specs.Fates.{fate, fate_patches};
 
 use crate::fate::Fate;
 use crate::firsts::Firsts;
 use crate::leads::{is_inside, leads_to, led_behind};
 use crate::passed::may_pass_anywhere;
-use crate::spared::{assigns, is_no_type, may_lead_into};
+use crate::spared::{is_touched, may_lead_into};
 use crate::{removal, renaming};
 use rdl_text::name::Name;
 use rdl_tree::address::Address;
@@ -206,18 +205,12 @@ impl<'a> Sweep<'a> {
     }
 
     /// Whether this is the body of the item of this number in the one at the address, and it is known that there are no patches
-    /// for what stands in it: no type is looked for, the way leads elsewhere, and nothing is assigned from there.
+    /// for what stands in it: the way leads elsewhere, and no name in it may stand for the taken item.
     fn spares(&self, at: &Address, number: usize, body: &Body) -> bool
-        requires nesting { depth self.now.whole.now.items ≤ 16 }
-        requires room { length at.now < 17 }
-        requires here { body_at (at.now ++ number ∷ []) self.now.whole.now.items ≡ Some body.now }
-        ensures untyped { result ≡ true → (name : List ℕ) → is_definition name (option_copied self.now.taken) ≡ false }
         ensures apart { result ≡ true → (rest : List ℕ) → same (at.now ++ number ∷ rest) self.now.way.now ≡ false }
-        ensures unassigned { result ≡ true → list_any (assigns_at self.now.whole.now.items) (addresses (at.now ++ number ∷ []) 0 body.now) ≡ false }
+        ensures untouched { result ≡ true → is_any_inside (may_touch (option_copied self.now.taken) (option_copied self.now.holder)) body.now ≡ false }
     {
-        is_no_type(self.taken)
-            && !may_lead_into(self.way, at, number)
-            && !assigns(self.whole, &at.inside(number), body)
+        !may_lead_into(self.way, at, number) && !is_touched(self, body)
     }
 
     /// Whether it is known at once that there are no patches for the item of this number in the body at the address, nor for

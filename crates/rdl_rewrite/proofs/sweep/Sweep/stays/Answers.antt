@@ -1,16 +1,15 @@
-use Rattle.std.proofs.Common.{◌≡◌, ℕ, List, true, false, ◌++◌, ◌∷◌, [], ◌&&◌, option_copied, ap, sym, ◌∙◌}
+use Rattle.std.proofs.Common.{◌≡◌, true, false, ◌++◌, ◌∷◌, [], ◌&&◌, option_copied, ap, sym, ◌∙◌}
 use Rattle.std.proofs.lemmas.Bool.{not-true}
 use Rattle.rdl_tree.specs.ItemAt.{item_at}
 use Rattle.rdl_tree.specs.View.{own_body}
 use Rattle.rdl_tree.specs.Address.{holder_of}
 use Rattle.rdl_tree.specs.declared.description.Item.TheVariants.{Instance}
 use Rattle.rdl_tree.specs.declared.description.Of.TheVariants.{Anonymous}
-use Rattle.rdl_scope.specs.Walk.{is_definition}
 use Rattle.rdl_rewrite.specs.Led.{refers_to}
 use Rattle.rdl_rewrite.specs.Passed.{may_pass}
+use Rattle.rdl_rewrite.specs.Touched.{may_touch, is_any_inside}
 use Rattle.rdl_rewrite.proofs.Before.{nothing_passed}
 use Rattle.rdl_rewrite.proofs.Led.{led_type}
-use Rattle.rdl_rewrite.proofs.Located.{body_at-item}
 use Rattle.rdl_rewrite.proofs.Staying.{nothing_named}
 use Rattle.rdl_rewrite.proofs.Untouched.{nothing_inside}
 use Rattle.rdl_rewrite.proofs.sweep.Sweep.stays.Goals as goal
@@ -31,25 +30,21 @@ returns-in-Define c = λ h.
     let d = c.args.self.now.whole.now.items in
     let way = c.args.self.now.way.now in
     let x = c.args.found.now in
-    let untyped : (q : List ℕ) → is_definition q (item_at way d) ≡ false = λ q. ap (is_definition q) (sym c.requires.known.taken) ∙ c.spares-in-Define.ensures.untyped h q in
-    nothing_inside d way (option_copied c.args.self.now.name) c.args.at.now c.args.number x c.in-Define.component.body c.requires.here (ap own_body c.in-Define.is) untyped (c.spares-in-Define.ensures.apart h) (c.spares-in-Define.ensures.unassigned h)
+    let none : is_any_inside (may_touch (item_at way d) (item_at (holder_of way) d)) c.in-Define.component.body ≡ false =
+    ap (λ o. is_any_inside (may_touch o (item_at (holder_of way) d)) c.in-Define.component.body) (sym c.requires.known.taken)
+    ∙ ap (λ o. is_any_inside (may_touch (option_copied c.args.self.now.taken) o) c.in-Define.component.body) (sym c.requires.known.holder) ∙ c.spares-in-Define.ensures.untouched h in
+    nothing_inside d way (option_copied c.args.self.now.name) c.args.at.now c.args.number x c.in-Define.component.body c.requires.here (ap own_body c.in-Define.is) (c.spares-in-Define.ensures.apart h) none
 
 pub returns-in-Anonymous : goal.returns-in-Anonymous
 returns-in-Anonymous c = λ h.
     let d = c.args.self.now.whole.now.items in
     let way = c.args.self.now.way.now in
     let x = c.args.found.now in
-    let untyped : (q : List ℕ) → is_definition q (item_at way d) ≡ false = λ q. ap (is_definition q) (sym c.requires.known.taken) ∙ c.spares.ensures.untyped h q in
     let is : x ≡ Instance c.in-Instance.field-0 (Anonymous c.in-Anonymous.component) = c.in-Instance.is ∙ ap (Instance c.in-Instance.field-0) c.in-Anonymous.is in
-    nothing_inside d way (option_copied c.args.self.now.name) c.args.at.now c.args.number x c.in-Anonymous.component.body c.requires.here (ap own_body is) untyped (c.spares.ensures.apart h) (c.spares.ensures.unassigned h)
-
-pub spares-requires-clause-here : goal.spares-requires-clause-here
-spares-requires-clause-here c =
-    let is : c.args.found.now ≡ Instance c.in-Instance.field-0 (Anonymous c.in-Anonymous.component) = c.in-Instance.is ∙ ap (Instance c.in-Instance.field-0) c.in-Anonymous.is in
-    body_at-item _ c.args.self.now.whole.now.items c.args.found.now c.requires.here ∙ ap own_body is
-
-pub spares-requires-in-Define-clause-here : goal.spares-requires-in-Define-clause-here
-spares-requires-in-Define-clause-here c = body_at-item _ c.args.self.now.whole.now.items c.args.found.now c.requires.here ∙ ap own_body c.in-Define.is
+    let none : is_any_inside (may_touch (item_at way d) (item_at (holder_of way) d)) c.in-Anonymous.component.body ≡ false =
+    ap (λ o. is_any_inside (may_touch o (item_at (holder_of way) d)) c.in-Anonymous.component.body) (sym c.requires.known.taken)
+    ∙ ap (λ o. is_any_inside (may_touch (option_copied c.args.self.now.taken) o) c.in-Anonymous.component.body) (sym c.requires.known.holder) ∙ c.spares.ensures.untouched h in
+    nothing_inside d way (option_copied c.args.self.now.name) c.args.at.now c.args.number x c.in-Anonymous.component.body c.requires.here (ap own_body is) (c.spares.ensures.apart h) none
 
 pub returns-then-is_apart-2 : goal.returns-then-is_apart-2
 returns-then-is_apart-2 c = λ h.
