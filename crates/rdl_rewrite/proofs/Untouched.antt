@@ -1,7 +1,9 @@
 -- Bodies whose items stay as they are.
 use Rattle.std.proofs.Common.{◌≡◌, ℕ, suc, Bool, true, false, cond, List, [], ◌∷◌, ◌++◌, length, Some, None, Option, refl, ap, sym, ◌∙◌, append_assoc, nat_eq, eq-eqb, true≢false}
+use Rattle.std.proofs.lemmas.List.Folds.{list_any-append}
 use Rattle.std.proofs.lemmas.Slice.Eq.{bytes_eq-Decides}
 use Rattle.std.specs.Prelude.{slice_get, option_and_then}
+use Rattle.std.specs.List.{list_any}
 use Rattle.rdl_tree.specs.ItemAt.{item_at}
 use Rattle.rdl_tree.specs.Items.{Items, no_items, plain, holder, Plain, Holder, named, own, default, dynamic, define, anonymous}
 use Rattle.rdl_tree.specs.View.{add, list_of, plain_item, holder_item, own_body}
@@ -11,13 +13,13 @@ use Rattle.rdl_tree.specs.declared.description.Item.TheVariants.{Define, Instanc
 use Rattle.rdl_tree.specs.declared.description.Of.TheVariants.{Named, Anonymous}
 use Rattle.rdl_scope.specs.Types.{type_from, type_of}
 use Rattle.rdl_scope.proofs.Levelled.{item-deeper}
-use Rattle.rdl_rewrite.specs.Addresses.{same, leads_to}
+use Rattle.rdl_rewrite.specs.Addresses.{same, leads_to, addresses}
 use Rattle.rdl_rewrite.specs.Fates.{fate, given_if, item_patches, fate_patches}
 use Rattle.rdl_rewrite.specs.Touched.{may_touch, is_any_inside}
 use Rattle.rdl_rewrite.specs.declared.fate.Fate.TheVariants.{Kept, Given}
 use Rattle.rdl_tree.specs.declared.part.Part.TheVariants.{OfShell, OfType, OfDefine}
 use Rattle.rdl_rewrite.proofs.Before.{nothing_passed}
-use Rattle.rdl_rewrite.proofs.Found.{or-false, unled-name}
+use Rattle.rdl_rewrite.proofs.Found.{or-false, or-both, unled-name}
 use Rattle.rdl_rewrite.proofs.Located.{body_at-item}
 use Rattle.rdl_rewrite.proofs.Staying.{not_out}
 
@@ -107,6 +109,69 @@ nothing_inside d way name b n x body here has off none = by_holder x here has
     by_holder (Own p v) met h = cc
     by_holder (Default p v) met h = cc
     by_holder (Dynamic t p v) met h = cc
+
+-- ---- No reference in such a body leads to the item on the way.
+
+plain_unled : (d : Items) (way : List ℕ) (outer : Option Item) (at : List ℕ) (p : Plain) → item_at at d ≡ Some (plain_item p) → may_touch (item_at way d) outer (plain_item p) ≡ false → leads_to way (type_of d at) ≡ false
+plain_unled d way outer at (named s t) here untouched = ap (λ o. leads_to way (option_and_then (type_from d at) o)) here ∙ unled-name d way at t untouched
+plain_unled d way outer at (own p v) here untouched = ap (λ o. leads_to way (option_and_then (type_from d at) o)) here
+plain_unled d way outer at (default p v) here untouched = ap (λ o. leads_to way (option_and_then (type_from d at) o)) here
+plain_unled d way outer at (dynamic t p v) here untouched = ap (λ o. leads_to way (option_and_then (type_from d at) o)) here
+
+holder_unled : (d : Items) (way : List ℕ) (at : List ℕ) (h : Holder) (body : Items) → item_at at d ≡ Some (holder_item h body) → leads_to way (type_of d at) ≡ false
+holder_unled d way at (define n k) body here = ap (λ o. leads_to way (option_and_then (type_from d at) o)) here
+holder_unled d way at (anonymous s k) body here = ap (λ o. leads_to way (option_and_then (type_from d at) o)) here
+
+-- from the items behind these first ones of the body at b
+unled : (d : Items) (way : List ℕ) (outer : Option Item) (b : List ℕ) (all : Items) (front : List Item) (n : ℕ) (t : Items) → body_at b d ≡ Some all → n ≡ length front → list_of all ≡ front ++ list_of t
+    → is_any_inside (may_touch (item_at way d) outer) t ≡ false → list_any (λ a. leads_to way (type_of d a)) (addresses b n t) ≡ false
+unled d way outer b all front n no_items here len is none = refl
+unled d way outer b all front n (plain p rest) here len is none =
+    let at : List ℕ = b ++ n ∷ [] in
+    let met : item_at at d ≡ Some (plain_item p) = located b d all front n (plain_item p) (list_of rest) here len is in
+    let parts = or-false (may_touch (item_at way d) outer (plain_item p)) (is_any_inside (may_touch (item_at way d) outer) rest) none in
+    let more : list_of all ≡ (front ++ plain_item p ∷ []) ++ list_of rest = is ∙ sym (append_assoc front (plain_item p ∷ []) (list_of rest)) in
+    or-both (leads_to way (type_of d at)) (list_any (λ a. leads_to way (type_of d a)) (addresses b (suc n) rest)) (plain_unled d way outer at p met parts.0)
+    (unled d way outer b all (front ++ plain_item p ∷ []) (suc n) rest here (ap suc len ∙ one-longer front (plain_item p)) more parts.1)
+unled d way outer b all front n (holder h body rest) here len is none =
+    let at : List ℕ = b ++ n ∷ [] in
+    let met : item_at at d ≡ Some (holder_item h body) = located b d all front n (holder_item h body) (list_of rest) here len is in
+    let held : body_at at d ≡ Some body = body_at-item at d (holder_item h body) met ∙ own-holder h body in
+    let parts = or-false (is_any_inside (may_touch (item_at way d) outer) body) (is_any_inside (may_touch (item_at way d) outer) rest) none in
+    let more : list_of all ≡ (front ++ holder_item h body ∷ []) ++ list_of rest = is ∙ sym (append_assoc front (holder_item h body ∷ []) (list_of rest)) in
+    let inside = list_any (λ a. leads_to way (type_of d a)) (addresses at 0 body) in
+    let behind = list_any (λ a. leads_to way (type_of d a)) (addresses b (suc n) rest) in
+    or-both (leads_to way (type_of d at)) (list_any (λ a. leads_to way (type_of d a)) (addresses at 0 body ++ addresses b (suc n) rest)) (holder_unled d way at h body met)
+    (list_any-append (λ a. leads_to way (type_of d a)) (addresses at 0 body) (addresses b (suc n) rest)
+    ∙ or-both inside behind (unled d way outer at body [] 0 body held refl refl parts.0)
+    (unled d way outer b all (front ++ holder_item h body ∷ []) (suc n) rest here (ap suc len ∙ one-longer front (holder_item h body)) more parts.1))
+
+-- from an item with such a body
+pub nothing_led : (d : Items) (way : List ℕ) (outer : Option Item) (b : List ℕ) (n : ℕ) (x : Item) (body : Items) → item_at (b ++ n ∷ []) d ≡ Some x → own_body x ≡ Some body
+    → is_any_inside (may_touch (item_at way d) outer) body ≡ false → list_any (λ a. leads_to way (type_of d a)) (addresses b n (add x no_items)) ≡ false
+nothing_led d way outer b n x body here has none = by_holder x here has
+  where
+    at : List ℕ
+    at = b ++ n ∷ []
+
+    inside : list_any (λ a. leads_to way (type_of d a)) (addresses at 0 body) ≡ false
+    inside = unled d way outer at body [] 0 body (body_at-item at d x here ∙ has) refl refl none
+
+    of_holder : (h : Holder) (t : Items) → t ≡ body → item_at at d ≡ Some (holder_item h t) → list_any (λ a. leads_to way (type_of d a)) (addresses b n (holder h t no_items)) ≡ false
+    of_holder h t e met =
+        or-both (leads_to way (type_of d at)) (list_any (λ a. leads_to way (type_of d a)) (addresses at 0 t ++ [])) (holder_unled d way at h t met)
+        (list_any-append (λ a. leads_to way (type_of d a)) (addresses at 0 t) []
+        ∙ or-both (list_any (λ a. leads_to way (type_of d a)) (addresses at 0 t)) false (ap (λ u. list_any (λ a. leads_to way (type_of d a)) (addresses at 0 u)) e ∙ inside) refl)
+
+    by_holder : (y : Item) → item_at at d ≡ Some y → own_body y ≡ Some body → list_any (λ a. leads_to way (type_of d a)) (addresses b n (add y no_items)) ≡ false
+    by_holder (Define m c) met h = let same_body : c.body ≡ body = cc in of_holder (define m c.kind) c.body same_body met
+    by_holder (Instance s (Anonymous c)) met h = let same_body : c.body ≡ body = cc in of_holder (anonymous s c.kind) c.body same_body met
+    by_holder (Instance s (Named t)) met h = cc
+    by_holder (Own p v) met h = cc
+    by_holder (Default p v) met h = cc
+    by_holder (Dynamic t p v) met h = cc
+
+-- ---- A way that goes on otherwise.
 
 -- what stands behind a way that goes on otherwise
 next-is : (at : List ℕ) (n : ℕ) (rest : List ℕ) → slice_get (at ++ n ∷ rest) (length at) ≡ Some n

@@ -21,6 +21,7 @@ use crate::fate::Fate;
 use crate::firsts::Firsts;
 use crate::leads::{ends_at, leads_to, led_behind};
 use crate::passed::passes_taken;
+use crate::spared::is_touched;
 use crate::sweep::{Sweep, is_too_deep};
 use rdl_tree::address::Address;
 use rdl_tree::description::{Body, Description, Item};
@@ -58,7 +59,7 @@ fn is_used_by(sweep: &Sweep, at: &Address, number: usize, found: &Item, led: boo
     ensures { result ≡ list_any (λ a. leads_to sweep.now.way.now (type_of sweep.now.whole.now.items a)) (addresses at.now number (add found.now no_items)) }
 {
     match found.own_body() {
-        Some(body) => is_used(sweep, &at.inside(number), body, led),
+        Some(body) => { is_touched(sweep, body) && is_used(sweep, &at.inside(number), body, led) }
         None => leads_to(sweep.taken, led, found),
     }
 }

@@ -1,5 +1,6 @@
-use Rattle.std.proofs.Common.{◌*◌, ◌+◌, ◌<◌, ◌++◌, ◌∷◌, [], ◌&&◌, length, ap, sym, ◌∙◌, arith}
+use Rattle.std.proofs.Common.{◌≡◌, ◌*◌, ◌+◌, ◌<◌, ◌++◌, ◌∷◌, [], ◌&&◌, false, length, option_copied, ap, sym, ◌∙◌, arith}
 use Rattle.rdl_tree.specs.Address.{body_at}
+use Rattle.rdl_tree.specs.ItemAt.{item_at}
 use Rattle.rdl_tree.specs.Items.{count}
 use Rattle.rdl_tree.proofs.Sizes.{item_count}
 use Rattle.rdl_scope.specs.Types.{type_of}
@@ -7,9 +8,11 @@ use Rattle.rdl_scope.proofs.Depths.{depth-body_at}
 use Rattle.rdl_scope.proofs.Levelled.{item_got}
 use Rattle.rdl_rewrite.specs.Addresses.{leads_to}
 use Rattle.rdl_rewrite.specs.Led.{refers_to, led_behind}
+use Rattle.rdl_rewrite.specs.Touched.{may_touch, is_any_inside}
 use Rattle.rdl_rewrite.proofs.Defined.{count-item}
 use Rattle.rdl_rewrite.proofs.Led.{led_first, led_next, led_here, led_type}
 use Rattle.rdl_rewrite.proofs.Located.{body_at-item, item_met, count-own, any_first, any_unmet, any_itself}
+use Rattle.rdl_rewrite.proofs.Untouched.{nothing_led}
 use Rattle.rdl_rewrite.proofs.removal.+used.Goals as goal
 
 pub is_used-items-init : goal.is_used-items-init
@@ -45,6 +48,15 @@ is_used_by-is_used-requires t c =
     let less : 2 * count c.in-Some.body.now + 1 < t = omega (arith, h, c.decreases) in
     let at = c.inside.ensures in
     (less, (c.requires.nesting, (c.requires.known, (ap (λ a. body_at a c.args.sweep.now.whole.now.items) at ∙ body_at-item _ c.args.sweep.now.whole.now.items c.args.found.now c.requires.here ∙ held, led_here _ _ _ _ _ at c.requires.led))))
+
+pub is_used_by-returns-else-is_touched : goal.is_used_by-returns-else-is_touched
+is_used_by-returns-else-is_touched t c =
+    let d = c.args.sweep.now.whole.now.items in
+    let way = c.args.sweep.now.way.now in
+    let outer = option_copied c.args.sweep.now.holder in
+    let none : is_any_inside (may_touch (item_at way d) outer) c.in-Some.body.now ≡ false =
+    ap (λ o. is_any_inside (may_touch o outer) c.in-Some.body.now) (sym c.requires.known.taken) ∙ sym c.is_touched.ensures ∙ c.if-is_touched.false in
+    c.if-is_touched.false ∙ sym (nothing_led d way outer c.args.at.now c.args.number c.args.found.now c.in-Some.body.now c.requires.here (sym c.in-Some.ensures) none)
 
 pub is_used_by-returns-in-None : goal.is_used_by-returns-in-None
 is_used_by-returns-in-None t c =
