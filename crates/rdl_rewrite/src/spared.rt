@@ -1,7 +1,7 @@
 //! Bodies that an edit passes over.
-ghost use Rattle.std.specs.Prelude.{◌≡◌, ◌++◌, ◌∷◌, ℕ, List, true, false, length, None, option_copied};
+ghost use Rattle.std.specs.Prelude.{◌≡◌, ◌++◌, ◌∷◌, ℕ, List, false, option_copied};
 ghost use Rattle.rdl_tree.specs.Items.{no_items};
-ghost use Rattle.rdl_tree.specs.View.{add, own_body};
+ghost use Rattle.rdl_tree.specs.View.{add};
 ghost use Rattle.rdl_rewrite.specs.Addresses.{same};
 ghost use Rattle.rdl_rewrite.specs.Touched.{may_touch, is_any_inside};
 
