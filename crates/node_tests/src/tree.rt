@@ -5,8 +5,8 @@ use rdl_marks::marks::BodyMarks;
 use rdl_nodes::lays::Lays;
 use rdl_nodes::tree::Tree;
 use rdl_parse::parse::parse;
+use rdl_renew::deaf::is_settled;
 use rdl_renew::renew::{RenewedMap, renewed};
-use rdl_renew::taken::take_over;
 use rdl_seen::alert::Alert;
 use rdl_seen::names::{NameSet, class_of};
 use rdl_seen::seen::Seen;
@@ -73,26 +73,28 @@ fn a_node_is_kept_of_each_component_but_fields_at_their_instance(
     Ok(())
 }
 
-/// How many of the three items of the map's top are taken over, where the alert tells of this.
-fn taken_of(alloc: Global, tree: &Tree, alert: &Alert) -> Result<Option<usize>, AllocError> {
-    let Some(top) = tree.node(&address(&[1])) else {
-        return Ok(None);
-    };
-    let mut taken = Vec::new(alloc);
-    let end = take_over(top.node.slots(), 0, 3, alert, &mut taken)?;
-    Ok(if taken.len() == end { Some(end) } else { None })
+/// How many of the items of the map's top are settled, where the alert tells of this.
+fn settled_of(tree: &Tree, alert: &Alert) -> Option<usize> {
+    let top = tree.node(&address(&[1]))?;
+    let mut settled = 0;
+    for slot in top.node.slots() {
+        if is_settled(slot, alert) {
+            settled += 1;
+        }
+    }
+    Some(settled)
 }
 
 #[test]
-fn who_listens_to_nothing_is_taken_over(rt: HostRuntime) -> Result<(), Fail> {
+fn who_listens_to_nothing_is_settled(rt: HostRuntime) -> Result<(), Fail> {
     let alloc = rt.alloc();
     let tree = tree_of(alloc, MAP)?;
     let classes = NameSet::of(class_of(&Name::new(alloc, "T")?));
-    let all = taken_of(alloc, &tree, &Alert::none())?;
-    let none = taken_of(alloc, &tree, &Alert::none().with_types(classes))?;
+    let all = settled_of(&tree, &Alert::none());
+    let some = settled_of(&tree, &Alert::none().with_types(classes));
     assert_holds(
         &rt,
-        all == Some(3) && none == Some(0),
+        all == Some(3) && some == Some(1),
         "the items of the top",
     );
     Ok(())

@@ -1,6 +1,6 @@
--- The slots of a body in a list, each by itself, and those that are taken over in a run.
+-- The slots of a body in a list, each by itself.
 -- own: how the code holds slots.
-use Rattle.std.specs.Prelude.{◌≡◌, ℕ, ◌-◌, List, map, take, drop, slice_get}
+use Rattle.std.specs.Prelude.{◌≡◌, ℕ, List, map, slice_get}
 use Rattle.rdl_nodes.specs.declared.node.Slot.{Slot}
 use Rattle.rdl_nodes.specs.View.{add, slots_of}
 use Rattle.rdl_seen.specs.OneByOne.{slot_at}
@@ -11,10 +11,6 @@ front_of s = add s no_slots
 
 abbrev pub fronts : List Slot → List Slots
 fronts xs = map front_of xs
-
--- those from one number up to another
-abbrev pub run_of : (from to : ℕ) → List Slot → List Slots
-run_of from to xs = take (to - from) (drop from (fronts xs))
 
 -- the slot of a number is that of the list
 abbrev pub FrontsAreSlots : Type 0

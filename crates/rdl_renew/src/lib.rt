@@ -15,4 +15,3 @@ pub mod raise;
 pub mod renew;
 mod same;
 pub mod stayed;
-pub mod taken;
