@@ -23,7 +23,7 @@ how_many_over : (xs : List Instance) (before : seen.Inside) → how_many (inside
 how_many_over [] before = omega arith
 how_many_over (x ∷ xs) before = omega (arith, how_many_over xs (with_held x before))
 
-how_many_before : (xs : List Instance) (k : ℕ) → k < length xs → how_many (inside_of (take k xs)) ≡ k
+pub how_many_before : (xs : List Instance) (k : ℕ) → k < length xs → how_many (inside_of (take k xs)) ≡ k
 how_many_before xs k h = omega (arith, how_many_over (take k xs) no_instances, length-take k xs)
 
 found_next : (q : List ℕ) (xs : List Instance) (k n : ℕ) (x : Instance) → n ≡ suc k → k < length xs → x ≡ get_or xs k x

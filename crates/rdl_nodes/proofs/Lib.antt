@@ -5,6 +5,7 @@ pub mod FromBehind
 pub mod FromFront
 pub mod Instances
 pub mod Kept
+pub mod LastOnes
 pub mod Paths
 pub mod PlacedSlots
 pub mod SameSlots

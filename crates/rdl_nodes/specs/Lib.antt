@@ -15,6 +15,7 @@ pub mod HeldWalked
 pub mod HoldsNodes
 pub mod InsideFalls
 pub mod KeptNode
+pub mod Lasting
 pub mod Part
 pub mod Parts
 pub mod Placed

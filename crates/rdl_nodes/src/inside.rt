@@ -1,9 +1,11 @@
 //! What the targets of dynamic assignments find inside a component.
-ghost use Rattle.std.specs.Prelude.{◌≡◌, IfOk, option_map};
+ghost use Rattle.std.specs.Prelude.{◌≡◌, ◌≤◌, IfOk, IfSome, MatchOption, Some, length, option_map, take};
 ghost use Rattle.rdl_nodes.specs.Found.{found_of};
 ghost use Rattle.rdl_nodes.specs.HeldInside.{within_of, inside_of};
+ghost use Rattle.rdl_nodes.specs.Lasting.{AreLasts};
 ghost use Rattle.rdl_seen.specs.Inside.{find};
 
+use crate::lasts::Lasts;
 use crate::layouts::Layouts;
 use rdl_text::is_same;
 use rdl_text::name::Name;
@@ -16,8 +18,8 @@ use std::rc::Rc;
 #[cycle(inside)]
 #[derive(Drop)]
 pub struct Instance<'a> {
-    name: &'a Name,
-    within: Within<'a>,
+    pub(crate) name: &'a Name,
+    pub(crate) within: Within<'a>,
 }
 
 /// What a target finds inside a component.
@@ -30,11 +32,18 @@ pub enum Within<'a> {
     Of(Kind, Rc<Layouts>, bool, Rc<Inside<'a>>),
 }
 
+/// Among how few instances each name is looked up one by one.
+const FEW: usize = 16;
+
 /// The instances of a body, in order, as targets find them. A contract sees the tree of `rdl_seen`.
+///
+/// Where the last ones of each name stand takes memory of its own, and is known only if there are more than a few and names are looked
+/// up among them.
 #[cycle(inside)]
 #[derive(Drop)]
 pub struct Inside<'a> {
     instances: Vec<Instance<'a>>,
+    lasts: Option<Box<Lasts>>,
 }
 
 impl<'a> Model for Inside<'a> {
@@ -48,6 +57,11 @@ impl<'a> Model for Inside<'a> {
     ghost use Rattle.rdl_nodes.specs.HeldInside.{inside_of, inside_count};
 
     ghost view = { λ a. inside_of a.instances.items };
+
+    ghost use Rattle.std.specs.Prelude.{IfSome};
+    ghost use Rattle.rdl_nodes.specs.Lasting.{AreLasts};
+
+    ghost invariant = { λ a. IfSome a.lasts (λ lasts. AreLasts a.instances.items lasts.value) };
 
     ghost size = { inside_count };
 
@@ -63,11 +77,16 @@ pub(crate) struct Found<'i, 'a> {
     pub within: &'i Within<'a>,
 }
 
-/// The last one of these instances that has this name.
-fn find_in<'i, 'a>(instances: &'i [Instance<'a>], name: &Name) -> Option<Found<'i, 'a>>
-    ensures { option_map found_of result ≡ find name.now (inside_of instances.now) }
+/// The last one of these instances that has this name, from the one of this number on.
+fn find_from<'i, 'a>(
+    instances: &'i [Instance<'a>],
+    from: usize,
+    name: &Name,
+) -> Option<Found<'i, 'a>>
+    requires { from ≤ length instances.now }
+    ensures { MatchOption result (find name.now (inside_of instances.now) ≡ find name.now (inside_of (take from instances.now))) (λ f. Some (found_of f) ≡ find name.now (inside_of instances.now)) }
 {
-    for i in (0..instances.len()).rev() {
+    for i in (from..instances.len()).rev() {
         let instance = &instances[i];
         if is_same(instance.name.as_str(), name.as_str()) {
             let within = &instance.within;
@@ -75,6 +94,24 @@ fn find_in<'i, 'a>(instances: &'i [Instance<'a>], name: &Name) -> Option<Found<'
         }
     }
     None
+}
+
+/// The last one of these instances that has this name, where the last ones of each name may be known.
+fn find_among<'i, 'a>(
+    instances: &'i [Instance<'a>],
+    lasts: Option<&Lasts>,
+    name: &Name,
+) -> Option<Found<'i, 'a>>
+    requires { IfSome lasts (λ lasts. AreLasts instances.now lasts.now) }
+    ensures { option_map found_of result ≡ find name.now (inside_of instances.now) }
+{
+    let Some(lasts) = lasts else {
+        return find_from(instances, 0, name);
+    };
+    match find_from(instances, lasts.len(), name) {
+        Some(found) => Some(found),
+        None => lasts.find(instances, name),
+    }
 }
 
 impl<'a> Within<'a> {
@@ -105,6 +142,7 @@ impl<'a> Inside<'a> {
     {
         Inside {
             instances: Vec::new(alloc),
+            lasts: None,
         }
     }
 
@@ -116,10 +154,26 @@ impl<'a> Inside<'a> {
         Ok(())
     }
 
+    /// A name may be looked up among these. Where that is so more than a few times, it takes the same time however many there are.
+    pub(crate) fn look(&mut self, alloc: Global) -> Result<(), AllocError>
+        ensures { self.new ≡ self.old }
+    {
+        if self.instances.len() <= FEW {
+            return Ok(());
+        }
+        match &mut self.lasts {
+            Some(lasts) => lasts.look(self.instances.as_slice()),
+            None => {
+                self.lasts = Some(Box::new(alloc, Lasts::none(alloc))?);
+                Ok(())
+            }
+        }
+    }
+
     /// The last instance that has this name.
     pub(crate) fn find<'i>(&'i self, name: &Name) -> Option<Found<'i, 'a>>
         ensures { option_map found_of result ≡ find name.now self.now }
     {
-        find_in(self.instances.as_slice(), name)
+        find_among(self.instances.as_slice(), self.lasts.as_deref(), name)
     }
 }

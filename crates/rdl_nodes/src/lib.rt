@@ -9,6 +9,7 @@ pub mod field;
 pub mod fields;
 pub mod finished;
 pub mod inside;
+pub mod lasts;
 pub mod layouts;
 pub mod lays;
 pub mod node;

@@ -203,6 +203,7 @@ fn walk_item<'a, L: Lays>(
         Item::Own(_, _) => Ok(Slot::Own),
         Item::Default(name, value) => Ok(default(around, name, value)),
         Item::Dynamic(target, name, value) => {
+            before.look(alloc)?;
             let verdict = verdict_of(name, value, target.names(), before);
             Ok(Slot::Dynamic(verdict))
         }

@@ -1,7 +1,0 @@
-use Rattle.std.proofs.Common.{◌≡◌, take}
-use Rattle.rdl_seen.specs.Inside.{find}
-use Rattle.rdl_nodes.specs.HeldInside.{inside_of}
-use Rattle.rdl_nodes.proofs.inside.find_in.Given as goal
-
-abbrev pub invariant-loop-i : goal.invariant-loop-i
-invariant-loop-i l = find l.name (inside_of l.instances) ≡ find l.name (inside_of (take l.i l.instances))
