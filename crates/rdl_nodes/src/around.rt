@@ -14,10 +14,13 @@ use rdl_text::name::Name;
 use std::alloc::{AllocError, Global};
 
 /// What a body sees: the types that are defined before an item, and the defaults that reach it.
+///
+/// It is known, too, whether an assignment may look names up inside a component. Nothing that is kept goes by that.
 #[derive(Drop)]
 pub struct Around<'a> {
     types: Types<'a>,
     pub defaults: Values,
+    pub(crate) leads_inside: bool,
 }
 
 impl<'a> Around<'a> {
@@ -28,6 +31,7 @@ impl<'a> Around<'a> {
         Around {
             types: Types::new(alloc),
             defaults: Values::none(),
+            leads_inside: false,
         }
     }
 

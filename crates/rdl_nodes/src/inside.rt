@@ -170,6 +170,19 @@ impl<'a> Inside<'a> {
         }
     }
 
+    /// These are all. Where names may be looked up among them, that takes the same time however many there are.
+    pub(crate) fn close(&mut self, alloc: Global, is_searched: bool) -> Result<(), AllocError>
+        ensures { self.new ≡ self.old }
+    {
+        if !is_searched || self.instances.len() <= FEW {
+            return Ok(());
+        }
+        let mut lasts = Lasts::none(alloc);
+        lasts.reach(self.instances.as_slice())?;
+        self.lasts = Some(Box::new(alloc, lasts)?);
+        Ok(())
+    }
+
     /// The last instance that has this name.
     pub(crate) fn find<'i>(&'i self, name: &Name) -> Option<Found<'i, 'a>>
         ensures { option_map found_of result ≡ find name.now self.now }

@@ -104,7 +104,7 @@ impl Lasts {
     }
 
     /// Puts in all of these.
-    fn reach(&mut self, instances: &[Instance]) -> Result<(), AllocError>
+    pub(crate) fn reach(&mut self, instances: &[Instance]) -> Result<(), AllocError>
         requires { AreLasts instances.now self.old }
         ensures { AreLasts instances.now self.new }
     {

@@ -12,6 +12,7 @@ pub mod inside;
 pub mod lasts;
 pub mod layouts;
 pub mod lays;
+mod leads;
 pub mod node;
 pub mod parts;
 pub mod placed;

@@ -6,6 +6,7 @@ ghost use Rattle.rdl_seen.specs.Meaning.{kept_at, node_at};
 
 use crate::around::Around;
 use crate::lays::Lays;
+use crate::leads::leads_inside;
 use crate::node::{Kept, Slot};
 use crate::placed::all_placed;
 use crate::walk::walk;
@@ -88,6 +89,7 @@ impl Tree {
         ensures nodes { IfOk result (λ tree. HoldsNodes L.laying description.now.items tree) }
     {
         let mut around = Around::nothing(alloc);
+        around.leads_inside = leads_inside(&description.items);
         let walked = walk(alloc, lay, &mut around, &description.items)?;
         Ok(Tree {
             slots: walked.slots,

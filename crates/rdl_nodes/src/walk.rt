@@ -116,21 +116,26 @@ fn define<'a>(
     Ok(Slot::Define(class_of(name), seen, node))
 }
 
-/// A component whose items are walked, under these defaults.
+/// A component whose items are walked, under these defaults. It is said whether names may be looked up inside it.
 fn finish<'a, L: Lays>(
     alloc: Global,
     lay: &L,
     defaults: &Values,
+    leads_inside: bool,
     component: &'a Component,
     items: Walked<'a>,
 ) -> Result<Made<'a>, AllocError>
     ensures node { IfOk result (λ m. m.node ≡ record { core = core_of L.laying component.now.kind defaults.now component.now.body (walked_of items.entry).slots; slots = (walked_of items.entry).slots }) }
     ensures within { IfOk result (λ m. within_of m.within ≡ (known_of (core_of L.laying component.now.kind defaults.now component.now.body (walked_of items.entry).slots) (walked_of items.entry).instances).within) }
 {
-    let Walked { slots, instances } = items;
+    let Walked {
+        slots,
+        mut instances,
+    } = items;
     let node = finished(alloc, lay, defaults, component, slots)?;
     let layouts = node.core().layouts.clone()?;
     let is_ordered = node.core().seen.is_ordered;
+    instances.close(alloc, leads_inside)?;
     let instances = Rc::new(alloc, instances)?;
     Ok(Made {
         node,
@@ -162,7 +167,14 @@ fn walk_component<'a, L: Lays>(
     ensures defaults { OnOk result (around.new.defaults ≡ around.old.defaults) }
 {
     let items = walk(alloc, lay, around, &component.body)?;
-    finish(alloc, lay, &around.defaults, component, items)
+    finish(
+        alloc,
+        lay,
+        &around.defaults,
+        around.leads_inside,
+        component,
+        items,
+    )
 }
 
 /// An instance of a component that is written there.
