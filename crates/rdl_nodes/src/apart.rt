@@ -5,6 +5,7 @@ ghost use Rattle.rdl_nodes.specs.Apart.{begin_from, end_by, first_clashes_none};
 ghost use Rattle.rdl_nodes.specs.Part.{member_of, access_of};
 ghost use Rattle.rdl_seen.specs.Fields.{clash_none};
 ghost use Rattle.rdl_seen.specs.Layouts.{Span, overlaps, are_apart, is_stride_wide, are_strides_wide, is_apart_under, apart_modes};
+ghost use Rattle.rdl_seen.specs.Modes.{number_under};
 ghost use Rattle.rdl_seen.specs.Node.{apart_of, mode_inside};
 
 use crate::fields::clashes_none;
@@ -134,12 +135,12 @@ pub fn clash_none(spans: &[Span], parts: &[Part]) -> bool
     true
 }
 
-/// Whether a stride is no smaller than the size of an element.
-fn is_stride_wide(size: u64, stride: Option<Number>) -> bool
-    ensures { result ≡ is_stride_wide size stride }
+/// Whether the stride of an instance, if it says one, is no smaller than the size of an element under the mode.
+fn is_stride_wide(mode: Mode, part: &Part) -> bool
+    ensures { result ≡ is_stride_wide (number_under part.now.member.size mode) part.now.member.shell.stride }
 {
-    match stride {
-        Some(stride) => stride >= Number::from(size),
+    match part.shell().stride() {
+        Some(stride) => stride >= Number::from(part.size().under(mode)),
         None => true,
     }
 }
@@ -149,7 +150,7 @@ fn are_strides_wide(mode: Mode, parts: &[Part]) -> bool
     ensures { result ≡ are_strides_wide mode (map member_of parts.now) }
 {
     for part in parts {
-        if !is_stride_wide(part.size().under(mode), part.shell().stride()) {
+        if !is_stride_wide(mode, part) {
             return false;
         }
     }

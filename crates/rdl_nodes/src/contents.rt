@@ -2,6 +2,7 @@
 ghost use Rattle.std.specs.Prelude.{◌≡◌};
 ghost use Rattle.rdl_nodes.specs.Folded.{AreInside, with_field, with_written, with_instance};
 ghost use Rattle.rdl_nodes.specs.View.{add, slots_of};
+ghost use Rattle.rdl_seen.specs.Modes.{and_modes};
 ghost use Rattle.rdl_seen.specs.Slots.{Slots, no_slots};
 
 use crate::field::FieldBody;
@@ -35,6 +36,17 @@ pub struct Contents {
     pub is_assigned: bool,
 }
 
+/// The modes that are in both, told without a branch.
+fn sound_in_both(one: Modes, other: Modes) -> Modes
+    ensures { result ≡ and_modes one other }
+{
+    Modes {
+        compact: one.compact & other.compact,
+        regalign: one.regalign & other.regalign,
+        fullalign: one.fullalign & other.fullalign,
+    }
+}
+
 impl Contents {
     /// Nothing.
     fn nothing() -> Contents
@@ -56,76 +68,59 @@ impl Contents {
     }
 
     /// One more instance of a field that is written there.
-    fn with_field(self, field: FieldBody) -> Contents
-        ensures { result ≡ with_field field self }
+    fn put_field(&mut self, field: FieldBody)
+        ensures { self.new ≡ with_field field self.old }
     {
-        Contents {
-            levels: self.levels.max(1),
-            depth: self.depth.max(1),
-            rows: self.rows.saturating_add(1),
-            has_instances: true,
-            count: self.count.saturating_add(u64::from(field.count())),
-            weight: self.weight.saturating_add(u64::from(field.weight())),
-            ..self
-        }
+        self.levels = self.levels.max(1);
+        self.depth = self.depth.max(1);
+        self.rows = self.rows.saturating_add(1);
+        self.has_instances = true;
+        self.count = self.count.saturating_add(u64::from(field.count()));
+        self.weight = self.weight.saturating_add(u64::from(field.weight()));
     }
 
     /// One more component that is written in the body.
-    fn with_written(self, seen: &Seen) -> Contents
-        ensures { result ≡ with_written seen.now self }
+    fn put_written(&mut self, seen: &Seen)
+        ensures { self.new ≡ with_written seen.now self.old }
     {
-        Contents {
-            depth: self.depth.max(u64::from(seen.depth) + 1),
-            count: self.count.saturating_add(u64::from(seen.count)),
-            weight: self.weight.saturating_add(u64::from(seen.weight)),
-            takes: seen.takes.with(self.takes),
-            asks: seen.asks.with(self.asks),
-            is_assigned: seen.is_assigned || self.is_assigned,
-            ..self
-        }
+        self.depth = self.depth.max(u64::from(seen.depth) + 1);
+        self.count = self.count.saturating_add(u64::from(seen.count));
+        self.weight = self.weight.saturating_add(u64::from(seen.weight));
+        self.takes = seen.takes.with(self.takes);
+        self.asks = seen.asks.with(self.asks);
+        self.is_assigned = seen.is_assigned | self.is_assigned;
     }
 
     /// One more instance of a component of which this is seen.
-    fn with_instance(self, seen: &Seen) -> Contents
-        ensures { result ≡ with_instance seen.now self }
+    fn put_instance(&mut self, seen: &Seen)
+        ensures { self.new ≡ with_instance seen.now self.old }
     {
-        Contents {
-            levels: self.levels.max(u64::from(seen.levels) + 1),
-            rows: self.rows.saturating_add(u64::from(seen.rows) + 1),
-            has_instances: true,
-            has_empty: seen.has_empty || seen.is_empty || self.has_empty,
-            sound: seen.sound.and(self.sound),
-            ..self
-        }
+        self.levels = self.levels.max(u64::from(seen.levels) + 1);
+        self.rows = self.rows.saturating_add(u64::from(seen.rows) + 1);
+        self.has_instances = true;
+        self.has_empty = seen.has_empty | seen.is_empty | self.has_empty;
+        self.sound = sound_in_both(seen.sound, self.sound);
     }
 
     /// One more item before the others.
-    fn with(self, slot: &Slot) -> Contents
-        ensures { (rest : Slots) → AreInside self rest → AreInside result (add slot.now rest) }
+    fn put(&mut self, slot: &Slot)
+        ensures { (rest : Slots) → AreInside self.old rest → AreInside self.new (add slot.now rest) }
     {
         match slot {
-            Slot::Own => self,
-            Slot::Default(property) => Contents {
-                takes: self.takes.without(*property),
-                ..self
-            },
-            Slot::Dynamic(_) => Contents {
-                is_assigned: true,
-                ..self
-            },
-            Slot::Field(field) => self.with_field(*field),
-            Slot::Named(class, None) => Contents {
-                asks: NameSet::of(*class).with(self.asks),
-                ..self
-            },
-            Slot::Named(class, Some(seen)) => Contents {
-                asks: NameSet::of(*class).with(self.asks),
-                ..self.with_instance(seen.as_ref())
-            },
-            Slot::Define(_, seen, _) => self.with_written(seen.as_ref()),
+            Slot::Own => {}
+            Slot::Default(property) => self.takes = self.takes.without(*property),
+            Slot::Dynamic(_) => self.is_assigned = true,
+            Slot::Field(field) => self.put_field(*field),
+            Slot::Named(class, None) => self.asks = NameSet::of(*class).with(self.asks),
+            Slot::Named(class, Some(seen)) => {
+                self.put_instance(seen.as_ref());
+                self.asks = NameSet::of(*class).with(self.asks);
+            }
+            Slot::Define(_, seen, _) => self.put_written(seen.as_ref()),
             Slot::Part(node) => {
                 let seen = &node.as_ref().core().seen;
-                self.with_instance(seen).with_written(seen)
+                self.put_instance(seen);
+                self.put_written(seen);
             }
         }
     }
@@ -136,7 +131,7 @@ impl Contents {
     {
         let mut contents = Contents::nothing();
         for i in (0..slots.len()).rev() {
-            contents = contents.with(&slots[i]);
+            contents.put(&slots[i]);
         }
         contents
     }

@@ -15,7 +15,7 @@ ghost use Rattle.rdl_seen.specs.Values.{stated};
 
 use crate::apart::{apart_of, are_apart, clash_none, mode_inside};
 use crate::contents::Contents;
-use crate::field::{own_values, own_weight};
+use crate::field::{Own, own_of};
 use crate::fields::{are_fields_sound, field_takes};
 use crate::layouts::{Layouts, Span};
 use crate::node::{Core, Slot};
@@ -203,8 +203,10 @@ impl Core {
         ensures with_layouts { result ≡ core_with kind defaults.now body.now (slots_of slots.now) layouts.value }
         ensures however_laid { (lay : Laying) → layouts.value ≡ layouts_of lay kind defaults.now body.now (slots_of slots.now) → result ≡ core_of lay kind defaults.now body.now (slots_of slots.now) }
     {
-        let own = own_values(body);
-        let own_weight = own_weight(body);
+        let Own {
+            values: own,
+            weight: own_weight,
+        } = own_of(body);
         let values = own.over(defaults).of_kind(kind);
         let contents = Contents::of(slots);
         let kept = layouts.as_ref();

@@ -78,6 +78,31 @@ pub fn own_weight(body: &Body) -> u32
     weight.min(1 << 31) as u32
 }
 
+/// What the own assignments of a body state, and what its items weigh but for what is inside them.
+#[derive(Clone, Copy)]
+pub(crate) struct Own {
+    pub values: Values,
+    /// At most 2^31.
+    pub weight: u32,
+}
+
+/// Both, told while the items are gone along once.
+pub(crate) fn own_of(body: &Body) -> Own
+    ensures values { result.values ≡ own_values body.now }
+    ensures weight { result.weight ≡ own_weight body.now }
+{
+    let mut values = Values::none();
+    let mut weight = 0u64;
+    for item in body.as_slice() {
+        put_own(&mut values, item);
+        weight = weight.saturating_add(shallow_weight(item));
+    }
+    Own {
+        values,
+        weight: weight.min(1 << 31) as u32,
+    }
+}
+
 impl FieldBody {
     ghost use Rattle.std.specs.Prelude.{◌≡◌};
     ghost use Rattle.rdl_seen.specs.Contents.{field_of};

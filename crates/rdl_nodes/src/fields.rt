@@ -1,10 +1,12 @@
 //! The fields of a register: what they take of defaults, and whether one can have a fault.
-ghost use Rattle.std.specs.Prelude.{◌≡◌, map, nat_le, option_copied};
+ghost use Rattle.std.specs.Prelude.{◌≡◌, false, map, nat_le, option_copied};
 ghost use Rattle.std.specs.List.{list_all};
 ghost use Rattle.rdl_seen.specs.Layouts.{Span};
 ghost use Rattle.rdl_nodes.specs.Parts.{of_item, before_item};
 ghost use Rattle.rdl_nodes.specs.Part.{reset_of, access_of};
 ghost use Rattle.rdl_nodes.specs.View.{slots_of};
+ghost use Rattle.rdl_seen.specs.PropertySet.{no_properties};
+ghost use Rattle.rdl_tree.specs.declared.shell.Shell.{Shell};
 ghost use Rattle.rdl_seen.specs.Fields.{instance_takes, of_field, field_takes, may_share, clashes_none, clash_none, have_room, are_fields_sound};
 
 use crate::field::FieldBody;
@@ -51,6 +53,23 @@ fn instance_takes(shell: &Shell, slot: Option<&Slot>) -> PropertySet
     }
 }
 
+/// Whether the slot is that of a field that is written where it is instantiated.
+fn is_field(slot: Option<&Slot>) -> bool
+    ensures { result ≡ false → (s : Shell) → instance_takes s (of_item (option_copied slot.entry)) ≡ no_properties }
+{
+    match slot {
+        Some(Slot::Field(_)) => true,
+        Some(Slot::Named(_, Some(_))) => false,
+        Some(Slot::Named(_, None)) => false,
+        Some(Slot::Define(_, _, _)) => false,
+        Some(Slot::Part(_)) => false,
+        Some(Slot::Own) => false,
+        Some(Slot::Default(_)) => false,
+        Some(Slot::Dynamic(_)) => false,
+        None => false,
+    }
+}
+
 /// Which defaults the fields take that are written among an item with this slot and those behind it, which take these.
 fn before_item(item: &Item, slot: Option<&Slot>, takes: PropertySet) -> PropertySet
     ensures { result ≡ before_item item.now (of_item (option_copied slot.entry)) takes }
@@ -62,6 +81,16 @@ fn before_item(item: &Item, slot: Option<&Slot>, takes: PropertySet) -> Property
     }
 }
 
+/// The same. Where nothing is taken and this is no such field, the item isn't looked at.
+fn before_slot(item: &Item, slot: Option<&Slot>, takes: PropertySet) -> PropertySet
+    ensures { result ≡ before_item item.now (of_item (option_copied slot.entry)) takes }
+{
+    if takes.is_empty() && !is_field(slot) {
+        return takes;
+    }
+    before_item(item, slot, takes)
+}
+
 /// Which defaults the fields of a body with these slots take from outside.
 pub fn field_takes(body: &Body, slots: &[Slot]) -> PropertySet
     ensures { result ≡ field_takes body.now (slots_of slots.now) }
@@ -69,7 +98,7 @@ pub fn field_takes(body: &Body, slots: &[Slot]) -> PropertySet
     let items = body.as_slice();
     let mut takes = PropertySet::none();
     for i in (0..items.len()).rev() {
-        takes = before_item(&items[i], slots.get(i), takes);
+        takes = before_slot(&items[i], slots.get(i), takes);
     }
     takes
 }

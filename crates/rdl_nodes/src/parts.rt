@@ -1,5 +1,5 @@
 //! The instances of a body.
-ghost use Rattle.std.specs.Prelude.{◌≡◌, ◌++◌, IfOk, OnOk, option_copied, option_map};
+ghost use Rattle.std.specs.Prelude.{◌≡◌, ◌++◌, ◌∷◌, [], IfOk, OnOk, option_copied, option_map};
 ghost use Rattle.rdl_nodes.specs.Bodies.{after_default_item};
 ghost use Rattle.rdl_nodes.specs.Part.{part_of};
 ghost use Rattle.rdl_nodes.specs.Parts.{of_item, parts_of, item_parts};
@@ -106,23 +106,6 @@ impl<'a> Part<'a> {
         }
     }
 
-    /// An instance whose item has this slot.
-    fn at(defaults: &Values, shell: &'a Shell, slot: Option<&Slot>) -> Part<'a>
-        ensures { result ≡ part_of defaults.now shell.now (of_item (option_copied slot.entry)) }
-    {
-        match slot {
-            Some(Slot::Field(field)) => Part::of_field(defaults, shell, *field),
-            Some(Slot::Named(_, Some(seen))) => Part::of_seen(defaults, shell, seen.as_ref()),
-            Some(Slot::Define(_, seen, _)) => Part::of_seen(defaults, shell, seen.as_ref()),
-            Some(Slot::Part(node)) => Part::of_seen(defaults, shell, &node.as_ref().core().seen),
-            Some(Slot::Named(_, None)) => Part::of_nothing(defaults, shell),
-            Some(Slot::Own) => Part::of_nothing(defaults, shell),
-            Some(Slot::Default(_)) => Part::of_nothing(defaults, shell),
-            Some(Slot::Dynamic(_)) => Part::of_nothing(defaults, shell),
-            None => Part::of_nothing(defaults, shell),
-        }
-    }
-
     /// The instance's name and the parts around it.
     pub fn shell(&self) -> &'a Shell
         ensures { result.now ≡ self.now.member.shell }
@@ -159,30 +142,52 @@ impl<'a> Part<'a> {
     }
 }
 
-/// States what a default states; another item states nothing.
-fn put_default(defaults: &mut Values, item: &Item)
-    ensures { defaults.new ≡ after_default_item item.now defaults.old }
-{
-    if let Item::Default(name, value) = item {
-        defaults.put_named(name, value);
-    }
-}
-
-/// Puts the item behind the others, if it is an instance.
-fn put_part<'a>(
+/// Puts an instance behind the others, whose item has this slot. Each is made where it comes to stand.
+fn put_instance<'a>(
     parts: &mut Vec<Part<'a>>,
     defaults: &Values,
+    shell: &'a Shell,
+    slot: Option<&Slot>,
+) -> Result<(), AllocError>
+    ensures { OnOk result (parts.new.items ≡ parts.old.items ++ part_of defaults.now shell.now (of_item (option_copied slot.entry)) ∷ []) }
+{
+    match slot {
+        Some(Slot::Field(field)) => parts.push(Part::of_field(defaults, shell, *field))?,
+        Some(Slot::Named(_, Some(seen))) => {
+            parts.push(Part::of_seen(defaults, shell, seen.as_ref()))?
+        }
+        Some(Slot::Define(_, seen, _)) => {
+            parts.push(Part::of_seen(defaults, shell, seen.as_ref()))?
+        }
+        Some(Slot::Part(node)) => {
+            parts.push(Part::of_seen(defaults, shell, &node.as_ref().core().seen))?
+        }
+        Some(Slot::Named(_, None)) => parts.push(Part::of_nothing(defaults, shell))?,
+        Some(Slot::Own) => parts.push(Part::of_nothing(defaults, shell))?,
+        Some(Slot::Default(_)) => parts.push(Part::of_nothing(defaults, shell))?,
+        Some(Slot::Dynamic(_)) => parts.push(Part::of_nothing(defaults, shell))?,
+        None => parts.push(Part::of_nothing(defaults, shell))?,
+    }
+    Ok(())
+}
+
+/// Puts the item behind the others, if it is an instance. A default is one of those that reach the items behind it.
+fn put_item<'a>(
+    parts: &mut Vec<Part<'a>>,
+    defaults: &mut Values,
     item: &'a Item,
     slot: Option<&Slot>,
 ) -> Result<(), AllocError>
-    ensures { OnOk result (parts.new.items ≡ parts.old.items ++ item_parts defaults.now item.now (of_item (option_copied slot.entry))) }
+    ensures parts { OnOk result (parts.new.items ≡ parts.old.items ++ item_parts defaults.old item.now (of_item (option_copied slot.entry))) }
+    ensures defaults { OnOk result (defaults.new ≡ after_default_item item.now defaults.old) }
 {
     match item {
-        Item::Instance(shell, _) => {
-            parts.push(Part::at(defaults, shell, slot))?;
+        Item::Instance(shell, _) => put_instance(parts, defaults, shell, slot),
+        Item::Default(name, value) => {
+            defaults.put_named(name, value);
             Ok(())
         }
-        _ => Ok(()),
+        Item::Define(_, _) | Item::Own(_, _) | Item::Dynamic(_, _, _) => Ok(()),
     }
 }
 
@@ -198,8 +203,7 @@ pub fn parts<'a>(
     let mut parts = Vec::with_capacity(alloc, slots.len())?;
     let mut defaults = *defaults;
     for (i, item) in body.as_slice().iter().enumerate() {
-        put_part(&mut parts, &defaults, item, slots.get(i))?;
-        put_default(&mut defaults, item);
+        put_item(&mut parts, &mut defaults, item, slots.get(i))?;
     }
     Ok(parts)
 }
