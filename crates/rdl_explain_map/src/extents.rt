@@ -81,6 +81,11 @@ pub fn value_at<'a>(view: View<'a>, address: &[usize], property: Property) -> Op
             return Some(value);
         }
     }
+    default_above(view, address, name)
+}
+
+/// The nearest default before the item at an address.
+fn default_above<'a>(view: View<'a>, address: &[usize], name: &str) -> Option<&'a Value> {
     let mut rest = address;
     for _ in 0..address.len() {
         let (holder, number) = around(rest);
@@ -90,6 +95,35 @@ pub fn value_at<'a>(view: View<'a>, address: &[usize], property: Property) -> Op
         rest = holder;
     }
     None
+}
+
+/// The number of a property of the component that the item at an address holds, in a body that may have no defaults: then it isn't looked
+/// through for each of its items.
+fn number_in(
+    view: View<'_>,
+    address: &[usize],
+    property: Property,
+    is_plain: bool,
+) -> Option<Number> {
+    if !is_plain {
+        return number_at(view, address, property);
+    }
+    let name = property.name();
+    let own = own_value(view.body(address)?, name);
+    match own.or(default_above(view, around(address).0, name)) {
+        Some(Value::Number(number)) => Some(*number),
+        _ => None,
+    }
+}
+
+/// Whether no default stands in a body.
+fn is_plain(body: &Body) -> bool {
+    for item in body.as_slice() {
+        if let Item::Default(..) = item {
+            return false;
+        }
+    }
+    true
 }
 
 fn default_before<'a>(body: &'a Body, number: usize, name: &str) -> Option<&'a Value> {
@@ -141,8 +175,13 @@ fn mode_inside(view: View<'_>, address: &[usize], kind: Kind, mode: Mode) -> Mod
 
 /// The bits of a register, and those of an access to it.
 pub fn widths(view: View<'_>, address: &[usize]) -> (Number, Number) {
-    let regwidth = number_at(view, address, Property::Regwidth).unwrap_or(32);
-    let access = number_at(view, address, Property::Accesswidth).unwrap_or(regwidth);
+    widths_in(view, address, false)
+}
+
+/// The same in a body that may have no defaults.
+fn widths_in(view: View<'_>, address: &[usize], is_plain: bool) -> (Number, Number) {
+    let regwidth = number_in(view, address, Property::Regwidth, is_plain).unwrap_or(32);
+    let access = number_in(view, address, Property::Accesswidth, is_plain).unwrap_or(regwidth);
     (regwidth, access)
 }
 
@@ -265,38 +304,44 @@ fn known<'a>(item: &'a Item, measure: Measure) -> Option<Before<'a>> {
     })
 }
 
-/// The measure of the component of the instance at an address, so many levels deep.
+/// The measure of the component of the instance at an address, in a body that may have no defaults, so many levels deep.
 #[cycle(measures)]
 fn member_measure(
     view: View<'_>,
     item: &Item,
     at: &Address,
     mode: Mode,
+    is_plain: bool,
     levels: usize,
     work: &mut Work,
 ) -> Result<Option<Measure>, AllocError> {
     let (_, number) = around(at.as_slice());
-    if levels == 0 || !work.may(number) {
+    if levels == 0 {
         return Ok(None);
     }
     if reference(Some(item)).is_none() {
-        return component_measure(view, at, mode, levels - 1, work);
+        if !work.may(if is_plain { 0 } else { number }) {
+            return Ok(None);
+        }
+        return component_measure(view, at, mode, is_plain, levels - 1, work);
     }
-    if !work.may(view.description.items.len()) {
+    if !work.may(number) || !work.may(view.description.items.len()) {
         return Ok(None);
     }
     match view.type_of(at.as_slice()) {
-        Some(defined) => component_measure(view, &defined, mode, levels - 1, work),
+        Some(defined) => component_measure(view, &defined, mode, false, levels - 1, work),
         None => Ok(None),
     }
 }
 
-/// The measure of the component that the item at an address holds, whose kind is this, so many levels deep.
+/// The measure of the component that the item at an address holds, whose kind is this, so many levels deep. The item stands in a body that
+/// may have no defaults.
 #[cycle(measures)]
 fn component_measure(
     view: View<'_>,
     address: &Address,
     mode: Mode,
+    is_plain: bool,
     levels: usize,
     work: &mut Work,
 ) -> Result<Option<Measure>, AllocError> {
@@ -306,11 +351,11 @@ fn component_measure(
     };
     match kind {
         Kind::Field => Ok(Some(Measure {
-            size: number_at(view, at, Property::Fieldwidth).unwrap_or(1),
+            size: number_in(view, at, Property::Fieldwidth, is_plain).unwrap_or(1),
             access: 0,
         })),
         Kind::Reg => {
-            let (regwidth, access) = widths(view, at);
+            let (regwidth, access) = widths_in(view, at, is_plain);
             Ok(Some(Measure {
                 size: regwidth / 8,
                 access: access / 8,
@@ -350,6 +395,7 @@ fn extents_below(
         return Ok(None);
     };
     let alignment = number_at(view, here, Property::Alignment).unwrap_or(1);
+    let is_plain = is_plain(body);
     let mut placing = Placing {
         kind,
         mode,
@@ -370,7 +416,7 @@ fn extents_below(
         };
         let measured = match same_measure(&before, item) {
             Some(measured) => Some(measured),
-            None => member_measure(view, item, &at, mode, levels, work)?,
+            None => member_measure(view, item, &at, mode, is_plain, levels, work)?,
         };
         let Some(measured) = measured else {
             return Ok(None);

@@ -10,7 +10,7 @@ use rdl_tree::description::Item;
 use rdl_tree::property::Property;
 use rdl_tree::shell::Shell;
 use rdl_tree::value::{Value, Word};
-use std::alloc::AllocError;
+use std::alloc::{AllocError, Global};
 
 fn shell_at<'a>(view: View<'a>, address: &[usize]) -> Option<&'a Shell> {
     match view.item(address)? {
@@ -137,28 +137,28 @@ fn partner(
 }
 
 /// The least address from that of an instance on at which it meets no other that stands before it or has an address.
-fn next_free(extents: &[Extent], own: Extent) -> Number {
+fn next_free(alloc: Global, extents: &[Extent], own: Extent) -> Result<Number, AllocError> {
+    let mut others = Vec::new(alloc);
+    for other in extents {
+        if other.number != own.number && (other.is_fixed || other.number < own.number) {
+            others.push(*other)?;
+        }
+    }
+    others.sort_unstable_by_key(|other: &Extent| other.start);
+    let step = own.step.max(1);
     let length = own.end.saturating_sub(own.start);
-    let mut start = next_multiple(own.start, own.step.max(1));
-    for _ in 0..extents.len() {
+    let mut start = next_multiple(own.start, step);
+    for other in others.as_slice() {
         let moved = Extent {
             start,
             end: start.saturating_add(length),
             ..own
         };
-        let hit = extents.iter().find(|other| {
-            let is_fixed = other.is_fixed || other.number < own.number;
-            other.number != own.number && is_fixed && other.meets(&moved)
-        });
-        match hit {
-            Some(other) => start = next_multiple(
-                other.end.max(start.saturating_add(1)),
-                own.step.max(1),
-            ),
-            None => return start,
+        if other.meets(&moved) {
+            start = next_multiple(other.end.max(start.saturating_add(1)), step);
         }
     }
-    start
+    Ok(start)
 }
 
 /// E20.
@@ -200,7 +200,7 @@ pub fn address_overlap(
         }
     )?;
     let mut cure = String::new(view.alloc);
-    let free = Hex(next_free(extents, own));
+    let free = Hex(next_free(view.alloc, extents, own)?);
     write!(
         cure,
         "the next free address in {} is {free}",
@@ -284,7 +284,7 @@ pub fn field_overlap(
         }
     )?;
     let mut cure = String::new(view.alloc);
-    let free = next_free(extents, own);
+    let free = next_free(view.alloc, extents, own)?;
     write!(
         cure,
         "the next free bit in {} is {free}",
