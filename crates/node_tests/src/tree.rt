@@ -76,10 +76,10 @@ fn a_node_is_kept_of_each_component_but_fields_at_their_instance(
 /// How many of the items of the map's top are settled, where the alert tells of this.
 fn settled_of(tree: &Tree, alert: &Alert) -> Option<usize> {
     let top = tree.node(&address(&[1]))?;
-    let mut settled = 0;
+    let mut settled = 0usize;
     for slot in top.node.slots() {
         if is_settled(slot, alert) {
-            settled += 1;
+            settled = settled.saturating_add(1);
         }
     }
     Some(settled)
