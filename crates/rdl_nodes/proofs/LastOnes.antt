@@ -6,10 +6,10 @@ use Rattle.std.proofs.lemmas.Bool.{cases_lt, eq-eqb, eqb-true, eqb-false}
 use Rattle.rdl_seen.specs.Inside as seen
 use Rattle.rdl_seen.specs.Inside.{how_many, find, no_instances, instance}
 use Rattle.rdl_nodes.specs.declared.inside.Instance.{Instance}
-use Rattle.rdl_nodes.specs.HeldInside.{within_of, with_held, inside_of}
+use Rattle.rdl_nodes.specs.HeldInside.{with_held, inside_of}
 use Rattle.rdl_nodes.specs.Lasting.{slot_of, last_in, links_of, first_of, AreLastsOf, AreLasts}
 use Rattle.rdl_nodes.specs.declared.lasts.Lasts.{Lasts}
-use Rattle.rdl_nodes.proofs.Instances.{take_one, inside_more, how_many_before, found_here, not_here}
+use Rattle.rdl_nodes.proofs.Instances.{take_one, inside_more, how_many_before, not_here}
 
 -- ---- The first instances, and one more.
 

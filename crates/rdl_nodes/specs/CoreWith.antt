@@ -7,12 +7,13 @@ use Rattle.rdl_seen.specs.declared.property_set.PropertySet.{PropertySet}
 use Rattle.rdl_seen.specs.declared.seen.Modes.{Modes}
 use Rattle.rdl_seen.specs.declared.seen.Seen.{Seen}
 use Rattle.rdl_seen.specs.declared.values.Values.{Values}
-use Rattle.rdl_seen.specs.Contents.{contents, asks, is_assigned}
-use Rattle.rdl_seen.specs.Fields.{members, resets, accesses, clash_none}
+use Rattle.rdl_seen.specs.Contents.{contents, asks, takes, is_assigned, are_harmless, item_count}
+use Rattle.rdl_seen.specs.Fields.{members, resets, accesses, field_takes, clash_none}
 use Rattle.rdl_seen.specs.Layouts.{Layouts, sizes, accesses as widest}
-use Rattle.rdl_seen.specs.Node.{is_container, is_ordered, values_of, core_by}
+use Rattle.rdl_seen.specs.Node.{is_container, is_ordered, spots_of, sound_inside, sound_of, without_access, values_of, core_by}
+use Rattle.rdl_seen.specs.PropertySet.{kind_set, with_properties, without_properties}
 use Rattle.rdl_seen.specs.Slots.{Core, Slots}
-use Rattle.rdl_seen.specs.Values.{access}
+use Rattle.rdl_seen.specs.Values.{stated, access}
 
 -- no two of its fields share a bit, or those that do may, by how they are accessed
 abbrev pub may_share : Kind → Layouts → Values → Items → Slots → Bool
@@ -45,3 +46,11 @@ seen_with k v l s takes sound ordered items weight =
       size = sizes l;
       asks = asks s;
     }
+
+-- a component of which it is said what its own assignments state and its items weigh, its values, its layouts, the modes in which its instances lie
+-- apart, and whether its fields are sound
+abbrev pub core_made : Kind → (own : Values) → (own_weight : ℕ) → Values → Layouts → (apart : Modes) → Items → Slots → (fields : Bool) → Core
+core_made k own weight v l apart body s fields =
+    let takes = with_properties (without_properties (kind_set k) (stated own)) (with_properties (without_access (is_ordered k l) (field_takes body s)) (takes s)) in
+    let sound = sound_of k (sound_inside k v (contents s).sound) apart fields (are_harmless (spots_of k l) s) in
+    record { seen = seen_with k v l s takes sound (is_ordered k l) (item_count body) weight; own = own; values = v; layouts = l; apart = apart; own_weight = weight }

@@ -1,6 +1,6 @@
 //! What is kept of a component but for its items, by these and by its layouts.
 ghost use Rattle.std.specs.Prelude.{◌≡◌, ◌+◌, ◌^◌, ◌-◌, ◌||◌, ◌&&◌, map, min, not, length};
-ghost use Rattle.rdl_nodes.specs.CoreWith.{seen_with};
+ghost use Rattle.rdl_nodes.specs.CoreWith.{seen_with, core_made};
 ghost use Rattle.rdl_nodes.specs.Folded.{AreInside};
 ghost use Rattle.rdl_nodes.specs.Part.{reset_of, access_of};
 ghost use Rattle.rdl_nodes.specs.Parts.{parts_of};
@@ -135,7 +135,8 @@ fn takes_of(kind: Kind, own: &Values, fields: PropertySet, inside: PropertySet) 
         .with(fields.with(inside))
 }
 
-fn is_container(kind: Kind) -> bool
+/// Whether it may have instances that have addresses.
+pub(crate) fn is_container(kind: Kind) -> bool
     ensures { result ≡ is_container kind }
 {
     match kind {
@@ -180,13 +181,55 @@ fn seen_of(
     }
 }
 
+/// What is kept of a component that states this itself, with these values and these layouts. Its instances are these parts, and lie apart in
+/// these modes.
+fn made(
+    kind: Kind,
+    own: Own,
+    values: Values,
+    apart: Modes,
+    body: &Body,
+    slots: &[Slot],
+    parts: &[Part],
+    layouts: Rc<Layouts>,
+) -> Core
+    ensures { result ≡ core_made kind own.values own.weight values layouts.value apart body.now (slots_of slots.now) (are_fields_sound values layouts.value.compact.spans (map reset_of parts.now) (is_ordered kind layouts.value || clash_none layouts.value.compact.spans (map access_of parts.now))) }
+{
+    let contents = Contents::of(slots);
+    let kept = layouts.as_ref();
+    let is_ordered = is_ordered(kind, kept);
+    let laid = Laid {
+        kind,
+        values: &values,
+        spans: kept.under(Mode::Compact).spans(),
+        is_ordered,
+        parts,
+        slots,
+    };
+    let sound = sound_of(&laid, contents.sound, apart);
+    let fields = without_access(is_ordered, field_takes(body, slots));
+    let takes = takes_of(kind, &own.values, fields, contents.takes);
+    let seen = seen_of(&laid, kept, &contents, takes, sound, body.len(), own.weight);
+    Core {
+        seen,
+        own: own.values,
+        values,
+        layouts,
+        apart,
+        own_weight: own.weight,
+    }
+}
+
 impl Core {
-    ghost use Rattle.std.specs.Prelude.{◌≡◌};
+    ghost use Rattle.std.specs.Prelude.{◌≡◌, true};
     ghost use Rattle.rdl_nodes.specs.CoreWith.{core_with};
     ghost use Rattle.rdl_nodes.specs.Parts.{parts_of};
     ghost use Rattle.rdl_nodes.specs.View.{slots_of};
+    ghost use Rattle.rdl_seen.specs.Contents.{own_weight};
+    ghost use Rattle.rdl_seen.specs.Fields.{members};
     ghost use Rattle.rdl_seen.specs.Layouts.{Laying};
-    ghost use Rattle.rdl_seen.specs.Node.{layouts_of, core_of};
+    ghost use Rattle.rdl_seen.specs.Node.{is_container, values_of, apart_of, layouts_of, core_of};
+    ghost use Rattle.rdl_seen.specs.Values.{own_values};
 
     /// That of a component of this kind with this body, whose items have these slots and whose instances are these parts, under the
     /// defaults that reach it and with these layouts. However components are laid out: where these are its layouts, it is what is kept
@@ -203,34 +246,27 @@ impl Core {
         ensures with_layouts { result ≡ core_with kind defaults.now body.now (slots_of slots.now) layouts.value }
         ensures however_laid { (lay : Laying) → layouts.value ≡ layouts_of lay kind defaults.now body.now (slots_of slots.now) → result ≡ core_of lay kind defaults.now body.now (slots_of slots.now) }
     {
-        let Own {
-            values: own,
-            weight: own_weight,
-        } = own_of(body);
-        let values = own.over(defaults).of_kind(kind);
-        let contents = Contents::of(slots);
-        let kept = layouts.as_ref();
-        let is_ordered = is_ordered(kind, kept);
-        let laid = Laid {
-            kind,
-            values: &values,
-            spans: kept.under(Mode::Compact).spans(),
-            is_ordered,
-            parts,
-            slots,
-        };
-        let apart = apart_of(kind, &values, kept, parts);
-        let sound = sound_of(&laid, contents.sound, apart);
-        let fields = without_access(is_ordered, field_takes(body, slots));
-        let takes = takes_of(kind, &own, fields, contents.takes);
-        let seen = seen_of(&laid, kept, &contents, takes, sound, body.len(), own_weight);
-        Core {
-            seen,
-            own,
-            values,
-            layouts,
-            apart,
-            own_weight,
-        }
+        let own = own_of(body);
+        let values = own.values.over(defaults).of_kind(kind);
+        let apart = apart_of(kind, &values, layouts.as_ref(), parts);
+        made(kind, own, values, apart, body, slots, parts, layouts)
+    }
+
+    /// That of a container whose items have these slots, which states this itself, with these values and these layouts, and whose instances
+    /// lie apart in these modes. Of its instances no more is asked, as it has no fields of its own.
+    pub(crate) fn of_container(
+        kind: Kind,
+        own: Own,
+        values: Values,
+        apart: Modes,
+        body: &Body,
+        slots: &[Slot],
+        layouts: Rc<Layouts>,
+    ) -> Core
+        ensures however_laid { (lay : Laying) (defaults : Values) → is_container kind ≡ true → own.values ≡ own_values body.now → own.weight ≡ own_weight body.now → values ≡ values_of kind defaults body.now → layouts.value ≡ layouts_of lay kind defaults body.now (slots_of slots.now) → apart ≡ apart_of kind (values_of kind defaults body.now) (layouts_of lay kind defaults body.now (slots_of slots.now)) (members defaults body.now (slots_of slots.now)) → result ≡ core_of lay kind defaults body.now (slots_of slots.now) }
+        ensures values { result.values ≡ values }
+    {
+        let none: &[Part] = &[];
+        made(kind, own, values, apart, body, slots, none, layouts)
     }
 }

@@ -1,5 +1,5 @@
 -- An item that was changed itself, and whose component is as it was.
-use Rattle.std.proofs.Common.{◌≡◌, ℕ, suc, ◌+◌, Bool, true, false, List, Option, Some, None, refl, sym, ap, subst, ◌∙◌}
+use Rattle.std.proofs.Common.{◌≡◌, ℕ, Bool, true, false, List, Option, Some, None, refl, sym, ap, subst, ◌∙◌}
 use Rattle.std.specs.Prelude.{slice_get, option_and_then, Result, Ok, Err, IfOk, IfSome}
 use Rattle.rdl_tree.specs.Items.{Items}
 use Rattle.rdl_tree.specs.declared.description.Component.{Component}
@@ -17,11 +17,11 @@ use Rattle.rdl_nodes.proofs.Counts.{counts_so, counts_none}
 use Rattle.rdl_nodes.proofs.Paths.{kept_at_is}
 use Rattle.rdl_places.specs.Scopes.{Place, around_places}
 use Rattle.rdl_seen.specs.declared.alert.Alert.{Alert}
-use Rattle.rdl_seen.specs.Alert.{reaches, AgreeBut}
+use Rattle.rdl_seen.specs.Alert.{reaches}
 use Rattle.rdl_seen.specs.Layouts.{Laying}
 use Rattle.rdl_seen.specs.Meaning.{around_before, kept_at}
 use Rattle.rdl_seen.specs.Node.{Around, node}
-use Rattle.rdl_seen.specs.Slots.{Slots, no_slots, written, Node}
+use Rattle.rdl_seen.specs.Slots.{no_slots, written, Node}
 use Rattle.rdl_seen.proofs.Alerts.{unreached_are_kept}
 use Rattle.rdl_renew.specs.declared.done.Done.{Done}
 use Rattle.rdl_renew.specs.Again.{IsSameComponent, IsHeldAgain}

@@ -7,14 +7,15 @@ use Rattle.rdl_tree.specs.View.{list_of}
 use Rattle.rdl_tree.specs.declared.description.Item.{Item}
 use Rattle.rdl_tree.specs.declared.description.Item.TheVariants.{Define, Instance, Own, Default, Dynamic}
 use Rattle.rdl_marks.specs.Describes.{Describes, IsItem}
-use Rattle.rdl_marks.specs.Marks.{Marks}
-use Rattle.rdl_marks.specs.View.{Trace, same_item, run, list_of as traces_of, piece_traces, pieces_traces}
+use Rattle.rdl_marks.specs.Marks.{Marks, no_firsts, no_marks}
+use Rattle.rdl_marks.specs.View.{Trace, old_item, same_item, run, list_of as traces_of, firsts_of, marked, piece_traces, pieces_traces}
+use Rattle.rdl_marks.specs.declared.marks.Mark.{Mark}
 use Rattle.rdl_marks.specs.declared.marks.Piece.{Piece}
 use Rattle.rdl_marks.specs.Was.{trace_of}
 use Rattle.rdl_marks.proofs.Cuts.{length-run}
 use Rattle.rdl_renew.specs.Alone.{clashes, stands_alone, AllStandAlone}
 use Rattle.rdl_renew.specs.Apart.{is_own, has_same_key, IsApart, DoOwnsStandAlone, IsAsItWasOrApart, AllStandAloneStill, ApartStandAlone, AreSame, IsSameOrApart, AreSameOrApart}
-use Rattle.rdl_renew.specs.TakenOver.{IsAsItWas}
+use Rattle.rdl_renew.specs.TakenOver.{IsAsItWasOutside}
 use Rattle.rdl_renew.proofs.Raises.{drop_here}
 use Rattle.rdl_renew.proofs.Alone.{clashes_are_turned, stands_alone_by_items, stands_alone_still}
 
@@ -90,10 +91,10 @@ other_alone : (m : Marks) (old now : Items) (owns : Bool) → Describes m old no
     → (i : ℕ) (y : Item) → IsItem i now y → is_own y ≡ false → IsAsItWasOrApart m now owns i y → stands_alone now i y ≡ true
 other_alone m old now owns described was each i y got other (inl stayed) = stands_alone_still m old now described was i stayed.0 y got stayed.1 before
   where
-    before : (j : ℕ) (z : Item) → j < i → IsItem j now z → ((k : ℕ) × IsAsItWas m j k) ⊎ (clashes y z ≡ false)
+    before : (j : ℕ) (z : Item) → j < i → IsItem j now z → ((k : ℕ) × IsAsItWasOutside m j k) ⊎ (clashes y z ≡ false)
     before j z l here = by (each j z here) (decide (is_own z))
       where
-        by : IsAsItWasOrApart m now owns j z → (is_own z ≡ true) ⊎ (is_own z ≡ false) → ((k : ℕ) × IsAsItWas m j k) ⊎ (clashes y z ≡ false)
+        by : IsAsItWasOrApart m now owns j z → (is_own z ≡ true) ⊎ (is_own z ≡ false) → ((k : ℕ) × IsAsItWasOutside m j k) ⊎ (clashes y z ≡ false)
         by (inl same) o = inl same
         by (inr apart) (inl own) = inr (own_clash y z other own)
         by (inr apart) (inr name) = inr (clashes_are_turned y z ∙ apart_clash z y (apart.0 i y (λ e. absurd (omega (arith, l, e))) got) name)
@@ -105,10 +106,10 @@ own_alone : (m : Marks) (old now : Items) → Describes m old now → AllStandAl
     → (i : ℕ) (y : Item) → IsItem i now y → is_own y ≡ true → IsAsItWasOrApart m now false i y → stands_alone now i y ≡ true
 own_alone m old now described was each i y got own (inl stayed) = stands_alone_still m old now described was i stayed.0 y got stayed.1 before
   where
-    before : (j : ℕ) (z : Item) → j < i → IsItem j now z → ((k : ℕ) × IsAsItWas m j k) ⊎ (clashes y z ≡ false)
+    before : (j : ℕ) (z : Item) → j < i → IsItem j now z → ((k : ℕ) × IsAsItWasOutside m j k) ⊎ (clashes y z ≡ false)
     before j z l here = by (each j z here)
       where
-        by : IsAsItWasOrApart m now false j z → ((k : ℕ) × IsAsItWas m j k) ⊎ (clashes y z ≡ false)
+        by : IsAsItWasOrApart m now false j z → ((k : ℕ) × IsAsItWasOutside m j k) ⊎ (clashes y z ≡ false)
         by (inl same) = inl same
         by (inr apart) = inr (clashes_are_turned y z ∙ own_clash z y (apart.1 refl) own)
 own_alone m old now described was each i y got own (inr apart) = absurd (let e = sym own ∙ apart.1 refl in cc)
@@ -137,7 +138,12 @@ get_run from (suc count) zero l = ap (λ n. Some (same_item n)) (let e : from �
 get_run from (suc count) (suc j) l = get_run (from + 1) count j (omega (arith, l)) ∙ ap (λ n. Some (same_item n)) (let e : from + 1 + j ≡ from + suc j = omega arith in e)
 
 pub run_same : (from count : ℕ) → AreSame (run from count)
-run_same from count j l = (from + j, get_run from count j (let n = length-run from count in omega (arith, l, n)))
+run_same from count j l = (from + j, no_marks, get_run from count j (let n = length-run from count in omega (arith, l, n)))
+
+-- an item of which no part was exchanged
+pub one_same : (number : ℕ) (m : Mark) → firsts_of m ≡ no_firsts → AreSame (marked number m ∷ [])
+one_same number m none zero l = (number, m.inside, ap (λ f. Some (old_item number f m.inside)) none)
+one_same number m none (suc j) l = absurd (omega (arith, l))
 
 get_behind : (done es : List Trace) (j : ℕ) → slice_get (done ++ es) (length done + j) ≡ slice_get es j
 get_behind [] es j = ap (slice_get es) (let e : 0 + j ≡ j = omega arith in e)
@@ -177,12 +183,12 @@ kept_done all es rest body owns from is same =
       each = each;
     }
   where
-    here : (i : ℕ) → from ≤ i → i < from + length es → (n : ℕ) × (slice_get all i ≡ Some (same_item n))
+    here : (i : ℕ) → from ≤ i → i < from + length es → (n : ℕ) × (inside : Marks) × (slice_get all i ≡ Some (old_item n no_firsts inside))
     here i l g =
         let n = is.count in
         let at : i ≡ length is.done + (i - from) = omega (arith, l, n) in
         let one = same (i - from) (omega (arith, l, g)) in
-        (one.0, ap (λ zs. slice_get zs i) is.parts ∙ (ap (slice_get (is.done ++ (es ++ rest))) at ∙ (get_behind is.done (es ++ rest) (i - from) ∙ (get_first es rest (i - from) (omega (arith, l, g)) ∙ one.1))))
+        (one.0, one.1, ap (λ zs. slice_get zs i) is.parts ∙ (ap (slice_get (is.done ++ (es ++ rest))) at ∙ (get_behind is.done (es ++ rest) (i - from) ∙ (get_first es rest (i - from) (omega (arith, l, g)) ∙ one.2))))
 
     each : AllFrom (IsSameOrApart all body owns) body 0 (from + length es)
     each i y z l got = by (cases_lt i from)
@@ -250,6 +256,6 @@ as_it_was m es body owns are each i y got = by (nat_lt i (length (traces_of m.tr
     by true e = here (each i y (subst (λ zs. i < length zs) are (ltb-true i (length (traces_of m.traces)) e)) got)
       where
         here : IsSameOrApart es body owns i y → IsAsItWasOrApart m body owns i y
-        here (inl same) = inl (same.0, told true e ∙ (ap (λ zs. slice_get zs i) are ∙ same.1))
+        here (inl same) = inl (same.0, (same.1, told true e ∙ (ap (λ zs. slice_get zs i) are ∙ same.2)))
         here (inr apart) = inr apart
-    by false e = inl (m.behind + (i - length (traces_of m.traces)), told false e)
+    by false e = inl (m.behind + (i - length (traces_of m.traces)), (no_marks, told false e))

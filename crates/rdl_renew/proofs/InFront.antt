@@ -1,5 +1,5 @@
 -- A dynamic assignment in front of all that differs.
-use Rattle.std.proofs.Common.{◌≡◌, ℕ, zero, suc, ◌+◌, ◌<◌, ◌≤◌, ◌&&◌, ◌||◌, ◌==◌, not, Bool, true, false, List, [], ◌∷◌, ◌++◌, length, Option, Some, None, refl, sym, ap, subst, ◌∙◌, arith, inr}
+use Rattle.std.proofs.Common.{◌≡◌, ℕ, zero, suc, ◌<◌, ◌≤◌, ◌&&◌, ◌||◌, ◌==◌, not, true, false, List, [], ◌∷◌, ◌++◌, Option, Some, None, refl, sym, ap, subst, ◌∙◌, arith, inr}
 use Rattle.std.specs.Prelude.{slice_get, option_map}
 use Rattle.std.specs.Int.Bits.{and_zero_r}
 use Rattle.std.proofs.lemmas.Bool.{and_parts, eqb-true}
@@ -18,18 +18,17 @@ use Rattle.rdl_marks.specs.Marks.{no_firsts, no_marks}
 use Rattle.rdl_marks.specs.View.{Trace, same_item}
 use Rattle.rdl_nodes.specs.View.{slots_of}
 use Rattle.rdl_nodes.specs.declared.node.Slot.{Slot}
-use Rattle.rdl_places.specs.Scopes.{around_places}
 use Rattle.rdl_places.proofs.Reached.{part_within, of_within, instances_behind, none_before, one_behind}
 use Rattle.rdl_seen.specs.declared.alert.Alert.{Alert}
 use Rattle.rdl_seen.specs.declared.seen.Seen.{Seen}
 use Rattle.rdl_seen.specs.Agree.{shown}
 use Rattle.rdl_seen.specs.Alert.{no_alert, is_silent, reaches_as, AgreeBut}
-use Rattle.rdl_seen.specs.Inside.{Inside, Within, no_instances, with_instance, asked, verdict_of}
+use Rattle.rdl_seen.specs.Inside.{Inside, no_instances, with_instance, asked, verdict_of}
 use Rattle.rdl_seen.specs.Layouts.{Laying}
 use Rattle.rdl_seen.specs.Clean.{kind_in}
 use Rattle.rdl_seen.specs.Meaning.{around_before, kept_at}
 use Rattle.rdl_seen.specs.Names.{is_no_name}
-use Rattle.rdl_seen.specs.Node.{Known, Around, known, node, body_of, within_type}
+use Rattle.rdl_seen.specs.Node.{Known, Around, node, body_of, within_type}
 use Rattle.rdl_seen.specs.OneByOne.{slot_at, slot_of_item, instances_before, IsDeaf}
 use Rattle.rdl_seen.specs.Passing.{behind_item}
 use Rattle.rdl_seen.specs.PropertySet.{is_no_property}

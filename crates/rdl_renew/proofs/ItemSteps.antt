@@ -224,7 +224,13 @@ component_became lay saw old n inside y slots kept was ordered of there k c e f 
       d.0,
       record { describes = d.2; in_order = ordered; kept = ap (λ (z : Node). z.slots) same },
       d.1,
-      record { values = ap (λ (z : Node). z.core.values) same; layouts = ap (λ (z : Node). z.core.layouts) same },
+      record {
+        own = ap (λ (z : Node). z.core.own) same;
+        own_weight = ap (λ (z : Node). z.core.own_weight) same;
+        values = ap (λ (z : Node). z.core.values) same;
+        layouts = ap (λ (z : Node). z.core.layouts) same;
+        apart = ap (λ (z : Node). z.core.apart) same;
+      },
     )
 
 pub became_component : (lay : Laying) (saw : Around) (old : Items) (n : ℕ) (inside : Marks) (y : Item) (slots : Slots) (kept : Option Node) → WasThere old n inside y → AreInOrder inside → slots ≡ (body_of lay saw old).slots

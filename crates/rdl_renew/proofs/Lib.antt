@@ -11,12 +11,14 @@ pub mod CountSteps
 pub mod DeafSlots
 pub mod FrontSlots
 pub mod InFront
+pub mod InPlace
 pub mod ItemSteps
 pub mod LaidAgain
 pub mod LoneItems
 pub mod NewItems
 pub mod OneDone
 pub mod Onward
+pub mod Outside
 pub mod Passed
 pub mod PlacedItems
 pub mod Raised

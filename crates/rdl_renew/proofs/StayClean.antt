@@ -1,5 +1,5 @@
 -- The items of a body that stayed as they were, and had no fault, still have none.
-use Rattle.std.proofs.Common.{◌≡◌, ℕ, suc, Bool, true, false, List, [], ◌∷◌, Option, Some, None, option_map, refl, sym, ap, ◌∙◌}
+use Rattle.std.proofs.Common.{◌≡◌, ℕ, suc, Bool, true, false, List, [], ◌∷◌, Option, Some, None, option_map, refl, sym, ap, ◌∙◌, ◌⊎◌, inl, inr}
 use Rattle.std.specs.Prelude.{◌&&◌, not}
 use Rattle.std.specs.Option.{is_some, is_none}
 use Rattle.rdl_tree.specs.Component.{holder_kind}
@@ -32,7 +32,7 @@ use Rattle.rdl_seen.specs.Node.{Known, Around, after_plain, after_holder, plain_
 use Rattle.rdl_seen.specs.OneByOne.{instances_before, IsDeaf, IsDeafPart}
 use Rattle.rdl_seen.proofs.Alerts.{unreached_are_kept, both_lack}
 use Rattle.rdl_seen.proofs.Around.{same_seen}
-use Rattle.rdl_marks.specs.Marks.{no_firsts, no_marks}
+use Rattle.rdl_marks.specs.Marks.{Marks, no_firsts, no_marks}
 use Rattle.rdl_renew.specs.Alone.{stands_alone}
 use Rattle.rdl_places.specs.Judged.{item_fault}
 use Rattle.rdl_places.specs.ScopeLaws.{IsCleanInside}
@@ -40,6 +40,8 @@ use Rattle.rdl_renew.specs.StayClean.{LeadsToSameKind, CleanItemsStayClean}
 use Rattle.rdl_renew.proofs.Alone.{two_true, and_true, was_false, clean_stand_alone, stands_alone_still}
 use Rattle.rdl_places.proofs.CleanItems.{items_are_clean_in_bodies}
 use Rattle.rdl_renew.proofs.SideBySide.{no_more_differs_before}
+use Rattle.rdl_renew.specs.Alone.{clashes}
+use Rattle.rdl_renew.specs.TakenOver.{IsAsItWas, IsAsItWasOutside}
 use Rattle.rdl_renew.proofs.TakenOver.{same_items_stay}
 
 -- ---- Faults of one item, which stands alone in both bodies.
@@ -163,10 +165,15 @@ module _ (lay : Laying) (x : Alert) (around : Option Kind) (old now : Items) (a 
       let alone = both_false (reached_before t p i now) (reached_before t p n old) (was_false (reached_before t p i now) is) (was_false (reached_before t p n old) was) in
       ((λ j. is_none (dynamic_fault (alone j) (property_of p) v (sym leads j))) ∙ e.0, tt)
 
+or_outside : (m : Marks) (j : ℕ) (A : Type 0) → ((k : ℕ) × IsAsItWas m j k) ⊎ A → ((k : ℕ) × IsAsItWasOutside m j k) ⊎ A
+or_outside m j A (inl h) = inl (h.0, (no_marks, h.1))
+or_outside m j A (inr a) = inr a
+
 pub clean_items_stay_clean : CleanItemsStayClean
 clean_items_stay_clean lay x m old now a b around to described ordered tells but clean i n y up got h deaf leads others =
     let was = same_items_stay m old now i n y described got h in
     let before = no_more_differs_before lay x m old now a b to described ordered tells but i n no_firsts no_marks y up got h refl in
     item_stays lay x around old now (around_before lay n a old) (around_before lay i b now) (instances_before lay n a no_instances old) (instances_before lay i b no_instances now) before n i y
     (clean_stand_alone lay a around no_instances old clean n y was)
-    (stands_alone_still m old now described (clean_stand_alone lay a around no_instances old clean) i n y got h others) deaf leads (items_are_clean_in_bodies lay a around old clean n y was)
+    (stands_alone_still m old now described (clean_stand_alone lay a around no_instances old clean) i n y got (no_marks, h)
+    (λ j z l there. or_outside m j (clashes y z ≡ false) (others j z l there))) deaf leads (items_are_clean_in_bodies lay a around old clean n y was)

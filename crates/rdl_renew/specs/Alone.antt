@@ -21,7 +21,7 @@ use Rattle.rdl_seen.specs.Clean.{are_clean}
 use Rattle.rdl_seen.specs.Inside.{Inside}
 use Rattle.rdl_seen.specs.Layouts.{Laying}
 use Rattle.rdl_seen.specs.Node.{Around}
-use Rattle.rdl_renew.specs.TakenOver.{IsAsItWas}
+use Rattle.rdl_renew.specs.TakenOver.{IsAsItWasOutside}
 
 -- the item sets a property that excludes this one
 abbrev pub is_rival : Option Property → Item → Bool
@@ -62,9 +62,9 @@ StandsAloneByItems = (body : Items) (n : ℕ) (y : Item) → ((k : ℕ) (z : Ite
 abbrev pub NoneClash : Type 0
 NoneClash = (body : Items) → AllStandAlone body → (k n : ℕ) (z y : Item) → k < n → IsItem k body z → IsItem n body y → clashes y z ≡ false
 
--- one that is as it was still stands alone, if it clashes with none before it but those that are as they were, with which it didn't
+-- one that is as it was, but for what is inside it, still stands alone, if it clashes with none before it but such ones, with which it didn't
 abbrev pub StandsAloneStill : Type 0
 StandsAloneStill =
-    (m : Marks) (old now : Items) → Describes m old now → AllStandAlone old → (i n : ℕ) (y : Item) → IsItem i now y → IsAsItWas m i n
-    → ((j : ℕ) (z : Item) → j < i → IsItem j now z → ((k : ℕ) × IsAsItWas m j k) ⊎ (clashes y z ≡ false))
+    (m : Marks) (old now : Items) → Describes m old now → AllStandAlone old → (i n : ℕ) (y : Item) → IsItem i now y → IsAsItWasOutside m i n
+    → ((j : ℕ) (z : Item) → j < i → IsItem j now z → ((k : ℕ) × IsAsItWasOutside m j k) ⊎ (clashes y z ≡ false))
     → stands_alone now i y ≡ true

@@ -8,10 +8,10 @@ use Rattle.rdl_tree.specs.declared.description.Item.TheVariants.{Define, Instanc
 use Rattle.rdl_scope.specs.Keys.{has_key}
 use Rattle.rdl_scope.specs.Walk.{defaulted_by, is_definition, is_instance}
 use Rattle.rdl_marks.specs.Describes.{Describes, IsItem}
-use Rattle.rdl_marks.specs.Marks.{Marks}
-use Rattle.rdl_marks.specs.View.{Trace, same_item}
+use Rattle.rdl_marks.specs.Marks.{Marks, no_firsts}
+use Rattle.rdl_marks.specs.View.{Trace, old_item}
 use Rattle.rdl_renew.specs.Alone.{stands_alone, AllStandAlone}
-use Rattle.rdl_renew.specs.TakenOver.{IsAsItWas}
+use Rattle.rdl_renew.specs.TakenOver.{IsAsItWasOutside}
 
 abbrev pub is_own : Item → Bool
 is_own (Define name c) = false
@@ -36,9 +36,9 @@ IsApart body i y = (j : ℕ) (z : Item) → (j ≡ i → ⊥) → IsItem j body 
 abbrev pub DoOwnsStandAlone : Items → Type 0
 DoOwnsStandAlone body = (i : ℕ) (y : Item) → IsItem i body y → is_own y ≡ true → stands_alone body i y ≡ true
 
--- the item is as it was, or no other one does the same; and where no own assignments are said to have changed, it is none
+-- the item is as it was but for what is inside it, or no other one does the same; and where no own assignments are said to have changed, it is none
 abbrev pub IsAsItWasOrApart : Marks → Items → (owns : Bool) → ℕ → Item → Type 0
-IsAsItWasOrApart m now owns i y = ((n : ℕ) × IsAsItWas m i n) ⊎ (IsApart now i y × (owns ≡ false → is_own y ≡ false))
+IsAsItWasOrApart m now owns i y = ((n : ℕ) × IsAsItWasOutside m i n) ⊎ (IsApart now i y × (owns ≡ false → is_own y ≡ false))
 
 -- if each item is, all stand alone
 abbrev pub AllStandAloneStill : Type 0
@@ -52,13 +52,13 @@ ApartStandAlone = (body : Items) → ((i : ℕ) (y : Item) → IsItem i body y �
 
 -- ---- By the pieces of a body.
 
--- each of these items is as it was
+-- each of these items is as it was but for what is inside it
 abbrev pub AreSame : List Trace → Type 0
-AreSame es = (j : ℕ) → j < length es → (n : ℕ) × (slice_get es j ≡ Some (same_item n))
+AreSame es = (j : ℕ) → j < length es → (n : ℕ) × (inside : Marks) × (slice_get es j ≡ Some (old_item n no_firsts inside))
 
--- by what is told of the items, this one is as it was, or no other one does the same
+-- by what is told of the items, this one is as it was but for what is inside it, or no other one does the same
 abbrev pub IsSameOrApart : List Trace → Items → (owns : Bool) → ℕ → Item → Type 0
-IsSameOrApart es body owns i y = ((n : ℕ) × (slice_get es i ≡ Some (same_item n))) ⊎ (IsApart body i y × (owns ≡ false → is_own y ≡ false))
+IsSameOrApart es body owns i y = ((n : ℕ) × (inside : Marks) × (slice_get es i ≡ Some (old_item n no_firsts inside))) ⊎ (IsApart body i y × (owns ≡ false → is_own y ≡ false))
 
 abbrev pub AreSameOrApart : List Trace → Items → (owns : Bool) → Type 0
 AreSameOrApart es body owns = (i : ℕ) (y : Item) → i < length es → IsItem i body y → IsSameOrApart es body owns i y

@@ -10,6 +10,7 @@ pub mod Deaf
 pub mod Fronts
 pub mod HeldRenewal
 pub mod InFront
+pub mod InPlace
 pub mod Judged
 pub mod Onward
 pub mod Placed

@@ -18,12 +18,15 @@ use Rattle.rdl_nodes.specs.declared.node.Slot.{Slot}
 use Rattle.rdl_places.specs.Scopes.{Place, around_places, IsScope}
 use Rattle.rdl_seen.specs.declared.alert.Alert.{Alert}
 use Rattle.rdl_seen.specs.Alert.{AgreeBut}
+use Rattle.rdl_seen.specs.Contents.{own_weight}
+use Rattle.rdl_seen.specs.Fields.{members}
 use Rattle.rdl_seen.specs.Layouts.{Laying}
 use Rattle.rdl_seen.specs.Meaning.{around_before}
 use Rattle.rdl_seen.specs.Names.{class_of}
-use Rattle.rdl_seen.specs.Node.{Around, values_of, layouts_of, body_of}
+use Rattle.rdl_seen.specs.Node.{Around, apart_of, values_of, layouts_of, body_of}
 use Rattle.rdl_seen.specs.OneByOne.{slot_at}
 use Rattle.rdl_seen.specs.Slots.{Slots, Written, type_slot, part_slot, Core, Node}
+use Rattle.rdl_seen.specs.Values.{own_values}
 use Rattle.rdl_renew.specs.declared.done.Done.{Done}
 use Rattle.rdl_renew.specs.declared.done.Reach.{Reach}
 use Rattle.rdl_renew.specs.Deaf.{is_first_settled}
@@ -113,10 +116,14 @@ written_of (Own p v) = part_slot
 written_of (Default p v) = part_slot
 written_of (Dynamic t p v) = part_slot
 
--- a component of this kind with this body, which saw this, had these values and these layouts
+-- a component of this kind with this body, which saw this, stated that itself, and had these values and these layouts, in which its instances
+-- lay apart so
 pub record WasLaidOut (lay : Laying) (saw : Around) (k : Kind) (old : Items) (c : Core) : Type 0 where
+  pub own : c.own ≡ own_values old
+  pub own_weight : c.own_weight ≡ own_weight old
   pub values : c.values ≡ values_of k saw.defaults old
   pub layouts : c.layouts ≡ layouts_of lay k saw.defaults old (body_of lay saw old).slots
+  pub apart : c.apart ≡ apart_of k (values_of k saw.defaults old) (layouts_of lay k saw.defaults old (body_of lay saw old).slots) (members saw.defaults old (body_of lay saw old).slots)
 
 -- if this was kept of an item that saw this, and it has a component now, that became of the old one's as marks tell
 abbrev pub BecameComponent : Laying → Around → Option Node → Marks → Item → Type 0

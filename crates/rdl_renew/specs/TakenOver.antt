@@ -5,8 +5,8 @@ use Rattle.rdl_tree.specs.Items.{Items}
 use Rattle.rdl_tree.specs.declared.description.Item.{Item}
 use Rattle.rdl_marks.specs.Describes.{Describes, IsItem}
 use Rattle.rdl_marks.specs.InOrder.{AreInOrder}
-use Rattle.rdl_marks.specs.Marks.{Marks}
-use Rattle.rdl_marks.specs.View.{same_item}
+use Rattle.rdl_marks.specs.Marks.{Marks, no_firsts}
+use Rattle.rdl_marks.specs.View.{same_item, old_item}
 use Rattle.rdl_marks.specs.Was.{trace_of}
 use Rattle.rdl_seen.specs.declared.alert.Alert.{Alert}
 use Rattle.rdl_seen.specs.Alert.{AgreeBut}
@@ -21,7 +21,11 @@ use Rattle.rdl_renew.specs.SideBySide.{TellsOfAll}
 abbrev pub IsAsItWas : Marks → (i n : ℕ) → Type 0
 IsAsItWas m i n = trace_of m i ≡ Some (same_item n)
 
--- it is that item
+-- item i is as item n was, but for what is inside it, and stands in order
+abbrev pub IsAsItWasOutside : Marks → (i n : ℕ) → Type 0
+IsAsItWasOutside m i n = (inside : Marks) × (trace_of m i ≡ Some (old_item n no_firsts inside))
+
+-- one that is as it was is that item
 abbrev pub SameItemsStay : Type 0
 SameItemsStay = (m : Marks) (old now : Items) (i n : ℕ) (y : Item) → Describes m old now → IsItem i now y → IsAsItWas m i n → IsItem n old y
 

@@ -157,7 +157,7 @@ fn is_alike_instance(
 }
 
 /// Whether the item of this number is no instance, or layouts take the same of it as of what it was.
-fn is_alike(
+pub(crate) fn is_alike(
     next: Next,
     item: &Item,
     before: &[Slot],
@@ -203,7 +203,7 @@ fn is_instance(item: &Item) -> bool
     }
 }
 
-fn has_instance(gone: &[Gone]) -> bool
+pub(crate) fn has_instance(gone: &[Gone]) -> bool
     ensures { result ≡ has_instance (map gone_item gone.now) }
 {
     for one in gone {

@@ -1,10 +1,12 @@
 //! What became of the items of a body, told of one after another.
-ghost use Rattle.std.specs.Prelude.{◌≡◌, ℕ, ◌+◌, ◌<◌, ◌^◌, List, option_map, slice_get};
-ghost use Rattle.rdl_marks.specs.View.{piece_traces, in_order, told, marks_of};
+ghost use Rattle.std.specs.Prelude.{◌≡◌, ℕ, ◌+◌, ◌<◌, ◌^◌, true, List, option_map, slice_get};
+ghost use Rattle.rdl_marks.specs.Marks.{no_firsts};
+ghost use Rattle.rdl_marks.specs.View.{firsts_of, piece_traces, in_order, told, marks_of};
 ghost use Rattle.rdl_marks.specs.Was.{trace_of};
 ghost use Rattle.rdl_marks.specs.declared.marks.Gone.{Gone};
 ghost use Rattle.rdl_marks.specs.declared.marks.Piece.{Piece};
 ghost use Rattle.rdl_renew.specs.Along.{next_of, HasPassed, HasNumber, AreUntouched};
+ghost use Rattle.rdl_renew.specs.InPlace.{IsInPlace};
 
 use rdl_marks::marks::{BodyMarks, Mark, Piece, Pieces};
 
@@ -52,6 +54,29 @@ fn item_of<'m, 'a>(piece: &'m Piece<'a>, number: usize) -> Option<Next<'m, 'a>>
                 None
             }
         }
+    }
+}
+
+/// Whether no part of the item was exchanged, and it wasn't moved.
+pub(crate) fn has_no_firsts(mark: &Mark) -> bool
+    ensures { result ≡ true → firsts_of mark.now ≡ no_firsts }
+{
+    mark.shell.is_none()
+        && mark.defined.is_none()
+        && mark.type_name.is_none()
+        && mark.value.is_none()
+        && mark.target.is_none()
+        && !mark.is_moved
+}
+
+/// Whether an item of which this became is the old one of this number but for what is inside it.
+pub(crate) fn is_in_place(next: Next, number: usize) -> bool
+    ensures { result ≡ true → IsInPlace number (next_of next.entry) }
+{
+    match next {
+        Next::New => false,
+        Next::Same(old) => old == number,
+        Next::Marked(old, mark) => old == number && has_no_firsts(mark),
     }
 }
 

@@ -11,6 +11,7 @@ ghost use Rattle.rdl_scope.specs.Walk.{defaulted_by};
 ghost use Rattle.rdl_tree.specs.Items.{Items};
 ghost use Rattle.rdl_tree.specs.declared.description.Item.{Item};
 
+use crate::along::has_no_firsts;
 use crate::raise::len;
 use rdl_marks::marks::{BodyMarks, Piece, Pieces};
 use rdl_scope::before::excluded_by;
@@ -153,13 +154,14 @@ pub(crate) fn all_stand_alone(body: &Body) -> bool
     are_apart(body, 0, count) && do_owns_stand_alone(body)
 }
 
-/// Whether the items of a piece are as they were.
+/// Whether the items of a piece are as they were but for what is inside them.
 fn is_kept(piece: &Piece) -> bool
     ensures { result ≡ true → AreSame (piece_traces piece.now) }
 {
     match piece {
+        Piece::New(_) => false,
         Piece::Kept(_, _) => true,
-        Piece::New(_) | Piece::Marked(_, _) => false,
+        Piece::Marked(_, mark) => has_no_firsts(mark),
     }
 }
 

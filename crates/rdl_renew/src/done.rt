@@ -1,23 +1,33 @@
 //! The items of a body that are done, while it is renewed.
-ghost use Rattle.std.specs.Prelude.{◌≡◌, ◌∷◌, ◌++◌, [], true, IfOk, OnOk, option_map};
+ghost use Rattle.std.specs.Prelude.{◌≡◌, ◌∷◌, ◌++◌, ◌&&◌, [], true, not, length, IfOk, OnOk, option_map, slice_get};
 ghost use Rattle.rdl_nodes.specs.Bodies.{after_default_item};
 ghost use Rattle.rdl_nodes.specs.KeptNode.{kept_of, slot_node};
+ghost use Rattle.rdl_nodes.specs.Parts.{of_item};
+ghost use Rattle.rdl_nodes.specs.View.{slots_of};
 ghost use Rattle.rdl_places.specs.Lasting.{AreLasts};
 ghost use Rattle.rdl_tree.specs.Items.{Items};
+ghost use Rattle.rdl_renew.specs.AlikeSlots.{tells_of_width, is_alike, are_alike};
+ghost use Rattle.rdl_renew.specs.Along.{next_of};
 ghost use Rattle.rdl_renew.specs.Fronts.{front_of, fronts};
-ghost use Rattle.rdl_renew.specs.Renewing.{SeesSame, RaisesBehind};
+ghost use Rattle.rdl_renew.specs.InPlace.{IsInPlace, IsLikeAs, IsLike};
+ghost use Rattle.rdl_renew.specs.Renewing.{Became, SeesSame, RaisesBehind};
 ghost use Rattle.rdl_seen.specs.Alert.{with_alert};
+ghost use Rattle.rdl_seen.specs.Layouts.{Laying};
+ghost use Rattle.rdl_seen.specs.Node.{Around};
 ghost use Rattle.rdl_seen.specs.PropertySet.{no_properties};
 
+use crate::alike::{are_alike, has_instance, is_alike, is_width_same};
+use crate::along::{Next, is_in_place};
 use crate::anew::put_default;
 use crate::same::is_same;
 use crate::stayed::definition_raises;
+use rdl_marks::marks::BodyMarks;
 use rdl_nodes::node::{Kept, Slot};
 use rdl_places::lasts::Lasts;
 use rdl_seen::alert::Alert;
 use rdl_seen::names::class_of;
 use rdl_seen::values::Values;
-use rdl_tree::description::Item;
+use rdl_tree::description::{Body, Item};
 use std::alloc::{AllocError, Global};
 
 /// What reaches an item: defaults, and what may differ from what stood before it.
@@ -34,6 +44,10 @@ pub(crate) struct Done {
     pub slots: Vec<Slot>,
     pub reach: Reach,
     pub lasts: Lasts,
+    /// Each is the old item of its number but for what is inside it, as far as that is known.
+    pub are_in_place: bool,
+    /// Each is no instance, or stayed in order, and layouts take the same of it where the default width of fields is the same.
+    pub are_alike: bool,
 }
 
 impl Done {
@@ -42,21 +56,27 @@ impl Done {
         ensures slots { IfOk result (λ done. done.slots.items ≡ []) }
         ensures reach { IfOk result (λ done. done.reach ≡ reach) }
         ensures lasts { IfOk result (λ done. (t : Items) → AreLasts t done.lasts) }
+        ensures alike { IfOk result (λ done. done.are_alike ≡ true) }
     {
         Ok(Done {
             slots: Vec::with_capacity(alloc, items)?,
             reach,
             lasts: Lasts::none(alloc),
+            are_in_place: true,
+            are_alike: true,
         })
     }
 
-    /// One item more, of which this was kept. It is passed over.
-    pub(crate) fn keep(&mut self, slot: &Slot) -> Result<(), AllocError>
+    /// One item more, which had this number, and of which this was kept. It is passed over.
+    pub(crate) fn keep(&mut self, number: usize, slot: &Slot) -> Result<(), AllocError>
         ensures slots { OnOk result (fronts self.new.slots.items ≡ fronts self.old.slots.items ++ front_of slot.now ∷ []) }
         ensures reach { self.new.reach ≡ self.old.reach }
         ensures lasts { self.new.lasts ≡ self.old.lasts }
+        ensures in_place { OnOk result (self.new.are_in_place ≡ true → (self.old.are_in_place ≡ true) × (number ≡ length self.old.slots.items)) }
+        ensures alike { self.new.are_alike ≡ self.old.are_alike }
     {
         let slot = slot.try_copy()?;
+        self.are_in_place = self.are_in_place && number == self.slots.len();
         self.slots.push(slot)?;
         Ok(())
     }
@@ -67,11 +87,44 @@ impl Done {
         ensures defaults { OnOk result (self.new.reach.defaults ≡ after_default_item item.now self.old.reach.defaults) }
         ensures alert { OnOk result (self.new.reach.alert ≡ with_alert self.old.reach.alert raises) }
         ensures lasts { self.new.lasts ≡ self.old.lasts }
+        ensures likeness { IsLikeAs self.old self.new }
     {
         self.slots.push(slot)?;
         put_default(&mut self.reach.defaults, item);
         self.reach.alert = self.reach.alert.with(raises);
         Ok(())
+    }
+
+    /// How the item of this number, which is done, is like what it was: that is told of it, and these slots were kept.
+    pub(crate) fn liken(&mut self, number: usize, before: &[Slot], next: Next, item: &Item)
+        ensures slots { self.new.slots ≡ self.old.slots }
+        ensures reach { self.new.reach ≡ self.old.reach }
+        ensures lasts { self.new.lasts ≡ self.old.lasts }
+        ensures in_place { self.new.are_in_place ≡ true → (self.old.are_in_place ≡ true) × IsInPlace number (next_of next.entry) }
+        ensures alike { self.new.are_alike ≡ (self.old.are_alike && is_alike true (slots_of before.now) (of_item (slice_get self.old.slots.items number)) (next_of next.entry) item.now) }
+    {
+        self.are_in_place = self.are_in_place && is_in_place(next, number);
+        self.are_alike =
+            self.are_alike && is_alike(next, item, before, self.slots.as_slice(), number, true);
+    }
+
+    /// Whether layouts take the same of the instances of a body as of those of what it was, where all items are done. These slots were kept of
+    /// that, and it became the body as marks tell.
+    pub(crate) fn is_alike(&self, marks: &BodyMarks, body: &Body, before: &[Slot]) -> bool
+        ensures { (lay : Laying) (saw : Around) (old : Items) → Became lay saw (slots_of before.now) marks.now old body.now → IsLike marks.now (slots_of before.now) body.now self.now → result ≡ are_alike (not (tells_of_width self.now.reach.alert)) marks.now (slots_of before.now) (slots_of self.now.slots.items) body.now }
+    {
+        if is_width_same(self.reach.alert) {
+            return !has_instance(marks.gone.as_slice()) && self.are_alike;
+        }
+        are_alike(marks, body, before, self.slots.as_slice(), false)
+    }
+
+    /// Whether it is known that each item is the old one of its number but for what is inside it, and there are as many as these slots that were
+    /// kept.
+    pub(crate) fn is_in_place(&self, before: &[Slot]) -> bool
+        ensures { result ≡ true → (self.now.are_in_place ≡ true) × (length before.now ≡ length self.now.slots.items) }
+    {
+        self.are_in_place && before.len() == self.slots.len()
     }
 }
 

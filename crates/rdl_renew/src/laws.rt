@@ -2,6 +2,7 @@
 ghost use Rattle.rdl_renew.specs.Alone.{CleanStandAlone, ClashesAreTurned, StandsAloneByItems, NoneClash, StandsAloneStill};
 ghost use Rattle.rdl_renew.specs.Deaf.{SlotsTellDeafness, DeafSlotsAreTakenOver, SettledSlotsAreDeaf, SettledItemsStay};
 ghost use Rattle.rdl_renew.specs.Fronts.{FrontsAreSlots};
+ghost use Rattle.rdl_renew.specs.InPlace.{InPlaceAreBare};
 ghost use Rattle.rdl_renew.specs.Judged.{LoneFaultsAreTheirs, LoneItemsAreClean, LoneBodiesAreClean, SettledItemsStayClean};
 ghost use Rattle.rdl_renew.specs.Onward.{TellsOfOneMore, AlertsGrow};
 ghost use Rattle.rdl_renew.specs.Raised.{AlertsAddUp, HasAllOfIt, RaisedTells, RaisedTellsBehind, RaisedTellsOfAll};
@@ -78,4 +79,10 @@ pub fn bodies_are_judged_item_by_item()
     ensures items { LoneItemsAreClean }
     ensures bodies { LoneBodiesAreClean }
     ensures settled { SettledItemsStayClean }
+{}
+
+/// Where each item of a body is the old one of its number but for what is inside it, and there are as many as were, they are the old items
+/// but for that.
+pub fn items_in_place_are_bare()
+    ensures { InPlaceAreBare }
 {}

@@ -1,5 +1,5 @@
 //! What is kept of a body that was changed, over what was kept of it before.
-ghost use Rattle.std.specs.Prelude.{◌≡◌, ◌||◌, ℕ, suc, not, Bool, true, false, Some, IfOk, IfSome, OnOk, option_map, option_copied};
+ghost use Rattle.std.specs.Prelude.{◌≡◌, ◌||◌, ◌&&◌, ℕ, suc, not, length, Bool, true, false, Some, IfOk, IfSome, OnOk, option_map, option_copied};
 ghost use Rattle.rdl_marks.specs.Describes.{Describes};
 ghost use Rattle.rdl_marks.specs.InOrder.{AreInOrder};
 ghost use Rattle.rdl_marks.specs.Marks.{Firsts, Marks};
@@ -11,13 +11,14 @@ ghost use Rattle.rdl_nodes.specs.View.{slots_of};
 ghost use Rattle.rdl_places.specs.HeldScope.{places_of, outer_places};
 ghost use Rattle.rdl_places.specs.Scopes.{around_places, IsScope};
 ghost use Rattle.rdl_places.specs.Lasting.{AreLasts};
-ghost use Rattle.rdl_renew.specs.AlikeSlots.{tells_of_width, are_alike};
+ghost use Rattle.rdl_renew.specs.AlikeSlots.{tells_of_width, is_alike, are_alike};
 ghost use Rattle.rdl_renew.specs.Again.{IsHeldAgain};
 ghost use Rattle.rdl_renew.specs.Along.{next_of, AreUntouched};
 ghost use Rattle.rdl_renew.specs.Anew.{slot_there, slots_there};
 ghost use Rattle.rdl_renew.specs.Counting.{stayed_placed, CountsItem};
 ghost use Rattle.rdl_renew.specs.Fronts.{front_of};
 ghost use Rattle.rdl_renew.specs.InFront.{IsInFrontAt};
+ghost use Rattle.rdl_renew.specs.InPlace.{IsInPlace, IsLikeAs, IsLike, of_last};
 ghost use Rattle.rdl_renew.specs.Judged.{IfStillClean, HasNoneInside};
 ghost use Rattle.rdl_renew.specs.Placed.{in_body, placed_in, placed_stayed, placed_of, sets_width};
 ghost use Rattle.rdl_renew.specs.Renewing.{part_of, kept_component, written_of, Became, WasLaidOut, BecameComponent, DiffersNoMoreBefore, IsReached, AreDone, IsNext, IsMadeAnew, IsSettledAt};
@@ -31,7 +32,6 @@ ghost use Rattle.rdl_seen.specs.Slots.{no_slots, written};
 ghost use Rattle.rdl_tree.specs.Items.{Items};
 ghost use Rattle.rdl_tree.specs.Weight.{capped};
 
-use crate::alike::{are_alike, is_width_same};
 use crate::along::{Along, Next, untouched};
 use crate::anew::item_anew;
 use crate::component::{kept_component, slot_again, slot_with};
@@ -41,7 +41,7 @@ use crate::judge::Judge;
 use crate::look_ups::{names_again, names_of};
 use crate::raise::raised;
 use rdl_marks::marks::BodyMarks;
-use rdl_nodes::finished::finished_over;
+use rdl_nodes::finished::{Likeness, finished_over};
 use rdl_nodes::lays::Lays;
 use rdl_nodes::node::{Kept, Node, Slot};
 use rdl_nodes::placed::slot_placed;
@@ -146,6 +146,7 @@ fn renew_new<L: Lays>(
     ensures placed { (m : Marks) (old : Items) (saw : Around) (n : ℕ) (e : Trace) → IsNext L.laying (renewing renewal.now m old saw) n done.old item.now e → IsMadeAnew e → OnOk result (CountsItem L.laying (renewing renewal.now m old saw) (tells_of_width done.old.reach.alert) n e item.now account.old.placed account.new.placed) }
     ensures properties { OnOk result (done.new.reach.alert.properties ≡ done.old.reach.alert.properties) }
     ensures lasts { AreLasts renewal.now.body.now done.new.lasts }
+    ensures likeness { OnOk result (IsLikeAs done.old done.new) }
 {
     let slot = {
         let number = done.slots.len();
@@ -176,25 +177,24 @@ fn finished_again<L: Lays>(
     inside: &BodyMarks,
     placed: &mut u64,
 ) -> Result<Node, AllocError>
-    ensures node { (old : Items) (saw sees : Around) → Became L.laying saw before.now.slots inside.now old component.now.body → WasLaidOut L.laying saw component.now.kind old before.now.core → DiffersNoMoreBefore L.laying done.reach.alert inside.now old component.now.body saw sees → defaults.now ≡ sees.defaults → slots_of done.slots.items ≡ (body_of L.laying sees component.now.body).slots → IfOk result (λ n. n ≡ node L.laying sees component.now.kind component.now.body) }
+    ensures node { (old : Items) (saw sees : Around) → Became L.laying saw before.now.slots inside.now old component.now.body → WasLaidOut L.laying saw component.now.kind old before.now.core → DiffersNoMoreBefore L.laying done.reach.alert inside.now old component.now.body saw sees → IsLike inside.now before.now.slots component.now.body done → defaults.now ≡ sees.defaults → slots_of done.slots.items ≡ (body_of L.laying sees component.now.body).slots → IfOk result (λ n. n ≡ node L.laying sees component.now.kind component.now.body) }
     ensures slots { IfOk result (λ n. n.slots ≡ slots_of done.slots.items) }
-    ensures placed { (old : Items) (saw : Around) → Became L.laying saw before.now.slots inside.now old component.now.body → IfOk result (λ n. CountsOn placed.old placed.new (placed_over (are_alike (not (tells_of_width done.reach.alert)) inside.now before.now.slots (slots_of done.slots.items) component.now.body) before.now.core n.core)) }
+    ensures placed { (old : Items) (saw : Around) → Became L.laying saw before.now.slots inside.now old component.now.body → IsLike inside.now before.now.slots component.now.body done → IfOk result (λ n. CountsOn placed.old placed.new (placed_over (are_alike (not (tells_of_width done.reach.alert)) inside.now before.now.slots (slots_of done.slots.items) component.now.body) before.now.core n.core)) }
 {
+    let likeness = Likeness {
+        are_alike: done.is_alike(inside, &component.body, before.slots()),
+        is_own_same: done.is_in_place(before.slots()),
+    };
     let Done {
         slots,
-        reach,
+        reach: _,
         lasts: _,
+        are_in_place: _,
+        are_alike: _,
     } = done;
-    let alike = are_alike(
-        inside,
-        &component.body,
-        before.slots(),
-        slots.as_slice(),
-        is_width_same(reach.alert),
-    );
     let before = before.core();
     finished_over(
-        alloc, lay, defaults, component, slots, before, alike, placed,
+        alloc, lay, defaults, component, slots, before, likeness, placed,
     )
 }
 
@@ -276,6 +276,7 @@ fn renew_stayed<L: Lays>(
     ensures placed { (m : Marks) (old : Items) (saw : Around) (n : ℕ) (firsts : Firsts) → IsNext L.laying (renewing renewal.now m old saw) n done.old item.now (old_item number firsts inside.now) → firsts.is_moved ≡ false → OnOk result (CountsItem L.laying (renewing renewal.now m old saw) (tells_of_width done.old.reach.alert) n (old_item number firsts inside.now) item.now account.old.placed account.new.placed) }
     ensures properties { OnOk result (done.new.reach.alert.properties ≡ done.old.reach.alert.properties) }
     ensures lasts { AreLasts renewal.now.body.now done.new.lasts }
+    ensures likeness { OnOk result (IsLikeAs done.old done.new) }
 {
     let kept = kept_slot(renewal.slots, number);
     let slot = {
@@ -311,6 +312,7 @@ fn renew_again(
     ensures placed { (lay : Laying) (m : Marks) (old : Items) (saw : Around) (n : ℕ) (firsts : Firsts) (inside : Marks) → IsNext lay (renewing renewal.now m old saw) n done.old item.now (old_item number firsts inside) → firsts.is_moved ≡ false → IsHeldAgain done.old.reach.alert renewal.now.slots.now number inside item.now slot → OnOk result (CountsItem lay (renewing renewal.now m old saw) (tells_of_width done.old.reach.alert) n (old_item number firsts inside) item.now account.old.placed account.new.placed) }
     ensures properties { OnOk result (done.new.reach.alert.properties ≡ done.old.reach.alert.properties) }
     ensures lasts { AreLasts renewal.now.body.now done.new.lasts }
+    ensures likeness { OnOk result (IsLikeAs done.old done.new) }
 {
     {
         let count = done.slots.len();
@@ -342,10 +344,47 @@ fn renew_marked<L: Lays>(
     ensures placed { (m : Marks) (old : Items) (saw : Around) (n : ℕ) (firsts : Firsts) → IsNext L.laying (renewing renewal.now m old saw) n done.old item.now (old_item number firsts inside.now) → firsts.is_moved ≡ false → OnOk result (CountsItem L.laying (renewing renewal.now m old saw) (tells_of_width done.old.reach.alert) n (old_item number firsts inside.now) item.now account.old.placed account.new.placed) }
     ensures properties { OnOk result (done.new.reach.alert.properties ≡ done.old.reach.alert.properties) }
     ensures lasts { AreLasts renewal.now.body.now done.new.lasts }
+    ensures likeness { OnOk result (IsLikeAs done.old done.new) }
 {
     match slot_again(renewal.slots, number, inside, &done.reach.alert, item)? {
         Some(slot) => renew_again(renewal, done, number, slot, item, account),
         None => renew_stayed(alloc, lay, renewal, done, number, inside, item, account),
+    }
+}
+
+/// An item more that isn't passed over, which became what it is so.
+#[cycle(renew)]
+fn renew_other<L: Lays>(
+    alloc: Global,
+    lay: &L,
+    renewal: &Renewal,
+    done: &mut Done,
+    next: Next,
+    item: &Item,
+    account: &mut Account,
+) -> Result<(), AllocError>
+    requires { AreLasts renewal.now.body.now done.old.lasts }
+    ensures done { (m : Marks) (old : Items) (saw : Around) (n : ℕ) → IsNext L.laying (renewing renewal.now m old saw) n done.old item.now (next_of next.entry) → OnOk result (AreDone L.laying (renewing renewal.now m old saw) (suc n) done.new) }
+    ensures clean { (m : Marks) (old : Items) (saw : Around) (n : ℕ) → IsNext L.laying (renewing renewal.now m old saw) n done.old item.now (next_of next.entry) → OnOk result (IfStillClean account.old.judge.is_clean account.new.judge.is_clean (IsCleanStill L.laying (renewing renewal.now m old saw) n item.now)) }
+    ensures placed { (m : Marks) (old : Items) (saw : Around) (n : ℕ) → IsNext L.laying (renewing renewal.now m old saw) n done.old item.now (next_of next.entry) → OnOk result (CountsItem L.laying (renewing renewal.now m old saw) (tells_of_width done.old.reach.alert) n (next_of next.entry) item.now account.old.placed account.new.placed) }
+    ensures properties { OnOk result (done.new.reach.alert.properties ≡ done.old.reach.alert.properties) }
+    ensures lasts { AreLasts renewal.now.body.now done.new.lasts }
+    ensures likeness { OnOk result (IsLikeAs done.old done.new) }
+{
+    match next {
+        Next::New => renew_new(alloc, lay, renewal, done, item, account),
+        Next::Same(number) => {
+            let unchanged = BodyMarks::new(alloc);
+            renew_stayed(alloc, lay, renewal, done, number, &unchanged, item, account)
+        }
+        Next::Marked(number, mark) => {
+            if mark.is_moved {
+                renew_new(alloc, lay, renewal, done, item, account)
+            } else {
+                let inside = &mark.inside;
+                renew_marked(alloc, lay, renewal, done, number, inside, item, account)
+            }
+        }
     }
 }
 
@@ -367,28 +406,21 @@ fn renew_item<L: Lays>(
     ensures placed { (m : Marks) (old : Items) (saw : Around) (n : ℕ) → IsNext L.laying (renewing renewal.now m old saw) n done.old item.now (next_of next.entry) → AreUntouched m front → OnOk result (CountsItem L.laying (renewing renewal.now m old saw) (tells_of_width done.old.reach.alert) n (next_of next.entry) item.now account.old.placed account.new.placed) }
     ensures properties { OnOk result (done.new.reach.alert.properties ≡ done.old.reach.alert.properties) }
     ensures lasts { AreLasts renewal.now.body.now done.new.lasts }
+    ensures in_place { OnOk result (done.new.are_in_place ≡ true → (done.old.are_in_place ≡ true) × IsInPlace (length done.old.slots.items) (next_of next.entry)) }
+    ensures alike { OnOk result (done.new.are_alike ≡ (done.old.are_alike && is_alike true (slots_of renewal.now.slots.now) (of_last done.old done.new) (next_of next.entry) item.now)) }
 {
-    match next {
-        Next::New => renew_new(alloc, lay, renewal, done, item, account),
-        Next::Same(number) => match settled_slot(renewal.slots, number, &done.reach.alert) {
-            Some(slot) => done.keep(slot),
-            None => match front_slot(renewal.slots, number, done, front) {
-                Some(slot) => done.keep(slot),
-                None => {
-                    let unchanged = BodyMarks::new(alloc);
-                    renew_stayed(alloc, lay, renewal, done, number, &unchanged, item, account)
-                }
-            },
-        },
-        Next::Marked(number, mark) => {
-            if mark.is_moved {
-                renew_new(alloc, lay, renewal, done, item, account)
-            } else {
-                let inside = &mark.inside;
-                renew_marked(alloc, lay, renewal, done, number, inside, item, account)
-            }
+    if let Next::Same(number) = next {
+        if let Some(slot) = settled_slot(renewal.slots, number, &done.reach.alert) {
+            return done.keep(number, slot);
+        }
+        if let Some(slot) = front_slot(renewal.slots, number, done, front) {
+            return done.keep(number, slot);
         }
     }
+    let number = done.slots.len();
+    renew_other(alloc, lay, renewal, done, next, item, account)?;
+    done.liken(number, renewal.slots, next, item);
+    Ok(())
 }
 
 /// The items of a body of which this became what it is, and which this reaches, when all are done.
@@ -406,6 +438,7 @@ fn renew_body<L: Lays>(
     ensures clean { (old : Items) (saw : Around) → Became L.laying saw (slots_of renewal.now.slots.now) marks.now old renewal.now.body.now → IsReached L.laying (outer_places renewal.now.outer) saw reach.now → OnOk result (IfStillClean account.old.judge.is_clean account.new.judge.is_clean (StaysClean L.laying (outer_places renewal.now.outer) renewal.now.around saw old renewal.now.body.now)) }
     ensures placed { (old : Items) (saw : Around) → Became L.laying saw (slots_of renewal.now.slots.now) marks.now old renewal.now.body.now → IsReached L.laying (outer_places renewal.now.outer) saw reach.now → IfOk result (λ done. CountsOn account.old.placed account.new.placed (placed_in (tells_of_width reach.now.alert || sets_width marks.now renewal.now.body.now) marks.now (slots_of renewal.now.slots.now) (slots_of done.slots.items) 0 renewal.now.body.now)) }
     ensures width { IfOk result (λ done. tells_of_width done.reach.alert ≡ (tells_of_width reach.now.alert || sets_width marks.now renewal.now.body.now)) }
+    ensures likeness { (old : Items) (saw : Around) → Became L.laying saw (slots_of renewal.now.slots.now) marks.now old renewal.now.body.now → IsReached L.laying (outer_places renewal.now.outer) saw reach.now → IfOk result (λ done. IsLike marks.now (slots_of renewal.now.slots.now) renewal.now.body.now done) }
 {
     account.judge.look_at_changed(marks, renewal.body);
     let first = Reach {
@@ -465,6 +498,8 @@ pub fn renewed<L: Lays>(
         slots,
         reach: _,
         lasts: _,
+        are_in_place: _,
+        are_alike: _,
     } = done;
     Ok(RenewedMap {
         tree: Tree::of_slots(slots),

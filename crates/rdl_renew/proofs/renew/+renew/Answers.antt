@@ -22,22 +22,24 @@ use Rattle.rdl_renew.specs.Along.{next_of}
 use Rattle.rdl_renew.specs.Anew.{slots_there}
 use Rattle.rdl_renew.specs.Fronts.{front_of}
 use Rattle.rdl_renew.specs.HeldRenewal.{renewing}
+use Rattle.rdl_renew.specs.InPlace.{IsLike}
 use Rattle.rdl_renew.specs.Judged.{IsCleanBody}
 use Rattle.rdl_renew.specs.Placed.{in_body, placed_stayed, sets_width}
 use Rattle.rdl_renew.specs.Raised.{raised}
-use Rattle.rdl_renew.specs.Renewing.{kept_component, Became, IsReached, IsNext}
+use Rattle.rdl_renew.specs.Renewing.{kept_component, Became, WasLaidOut, IsReached, IsNext}
 use Rattle.rdl_renew.proofs.Again.{which_held}
 use Rattle.rdl_renew.proofs.BodySteps.{first_done, next_is, one_renewed, body_done, differs_no_more}
 use Rattle.rdl_renew.proofs.CleanSteps.{on_any, was_clean, stayed_clean, settled_clean, same_judge, component_still, first_clean, next_clean, body_clean}
 use Rattle.rdl_renew.proofs.CountSteps.{if_both, on_two, width_either, on_told, stayed_became, stayed_counted, settled_counted, component_counted, bare_counted, unkept_counted, finished_counted, none_counted, one_counted, all_counted}
 use Rattle.rdl_renew.proofs.InFront.{front_done, front_clean, front_counted}
+use Rattle.rdl_renew.proofs.InPlace.{kept_in_place, kept_alike, next_in_place, first_alike, next_alike, all_like}
 use Rattle.rdl_renew.proofs.ItemSteps.{on_all, on_both, kept_done, stayed_done, slot_made, with_next, reached_stayed}
-use Rattle.rdl_renew.proofs.OneDone.{place_made}
+use Rattle.rdl_renew.proofs.OneDone.{done_many, place_made}
 use Rattle.rdl_renew.proofs.Raises.{with_none}
 use Rattle.rdl_renew.proofs.renew.+renew.Goals as goal
 
-pub renew_item-returns-in-New-clause-done : goal.renew_item-returns-in-New-clause-done
-renew_item-returns-in-New-clause-done g t c = λ m old saw n next ahead.
+pub renew_other-returns-in-New-clause-done : goal.renew_other-returns-in-New-clause-done
+renew_other-returns-in-New-clause-done g t c = λ m old saw n next.
     c.renew_new.ensures.done m old saw n new_item (with_next g.L.Lays.laying (renewing c.args.renewal.now m old saw) n c.args.done.now c.args.item.now (next_of c.args.next) new_item (ap next_of c.in-New.is) next) tt
 
 pub renew_item-returns-in-Some-clause-done : goal.renew_item-returns-in-Some-clause-done
@@ -48,22 +50,22 @@ renew_item-returns-in-Some-clause-done g t c = λ m old saw n next ahead.
     on_both c.keep.result c.keep.ensures.slots
     (λ slots. kept_done g.L.Lays.laying r n d c.keep.new.self c.args.item.now c.in-Same.number c.in-Some.slot.now c.args.renewal.now.slots.now here refl c.in-Some.ensures slots c.keep.ensures.reach)
 
-pub renew_item-returns-in-None-front_slot-clause-done : goal.renew_item-returns-in-None-front_slot-clause-done
-renew_item-returns-in-None-front_slot-clause-done g t c = λ m old saw n next ahead.
+pub renew_other-returns-in-Same-clause-done : goal.renew_other-returns-in-Same-clause-done
+renew_other-returns-in-Same-clause-done g t c = λ m old saw n next.
     let r = renewing c.args.renewal.now m old saw in
     let told : next_of c.args.next ≡ old_item c.in-Same.number no_firsts c.new-unchanged.result = ap next_of c.in-Same.is ∙ ap (old_item c.in-Same.number no_firsts) (sym c.new-unchanged.ensures) in
     c.renew_stayed.ensures.done m old saw n no_firsts
     (with_next g.L.Lays.laying r n c.args.done.now c.args.item.now (next_of c.args.next) (old_item c.in-Same.number no_firsts c.new-unchanged.result) told next) refl
 
-pub renew_item-returns-then-mark-clause-done : goal.renew_item-returns-then-mark-clause-done
-renew_item-returns-then-mark-clause-done g t c = λ m old saw n next ahead.
+pub renew_other-returns-then-mark-clause-done : goal.renew_other-returns-then-mark-clause-done
+renew_other-returns-then-mark-clause-done g t c = λ m old saw n next.
     let r = renewing c.args.renewal.now m old saw in
     let mark = c.in-Marked.mark.now in
     c.renew_new-then-mark.ensures.done m old saw n (old_item c.in-Marked.number (firsts_of mark) mark.inside)
     (with_next g.L.Lays.laying r n c.args.done.now c.args.item.now (next_of c.args.next) (old_item c.in-Marked.number (firsts_of mark) mark.inside) (ap next_of c.in-Marked.is) next) c.if-mark.true
 
-pub renew_item-returns-else-mark-clause-done : goal.renew_item-returns-else-mark-clause-done
-renew_item-returns-else-mark-clause-done g t c = λ m old saw n next ahead.
+pub renew_other-returns-else-mark-clause-done : goal.renew_other-returns-else-mark-clause-done
+renew_other-returns-else-mark-clause-done g t c = λ m old saw n next.
     let r = renewing c.args.renewal.now m old saw in
     let mark = c.in-Marked.mark.now in
     c.renew_marked.ensures.done m old saw n (firsts_of mark)
@@ -132,14 +134,19 @@ renewed_slot-returns-in_ok-node-in-Some-kept_component-clause-slot g t c = λ sa
     let component = c.in-Some-kept_component.component.now in
     let is : kept_component c.args.item.now ≡ Some component = sym c.kept_component.ensures ∙ ap option_copied c.in-Some-kept_component.is in
     let was = became (kept_of kept) component (ap (option_map kept_of) c.in-Some.is) is in
-    let node = c.in_ok-node-in-Some-kept_component.ensures.node was.0 saw was.1 (record { values = was.2.values; layouts = was.2.layouts }) reached in
+    let laid : WasLaidOut lay saw component.kind was.0 kept.node.now.core =
+    record { own = was.2.own; own_weight = was.2.own_weight; values = was.2.values; layouts = was.2.layouts; apart = was.2.apart } in
+    let node = c.in_ok-node-in-Some-kept_component.ensures.node was.0 saw was.1 laid reached in
     slot_made lay ps c.args.item.now component c.slot_with.result c.in_ok-node-in-Some-kept_component.node is node c.slot_with.ensures
 
 pub renewed_component-returns-clause-node : goal.renewed_component-returns-clause-node
 renewed_component-returns-clause-node g t c = λ old saw became laid reached.
     let lay = g.L.Lays.laying in
-    let same = subst (λ s. Became lay saw s c.args.inside.now old c.args.component.now.body) (sym c.slots.ensures) became in
-    c.finished_again.ensures.node old saw (around_places lay (places_of c.args.scope.now)) became laid (c.in_ok-done.ensures.alert old saw same reached) reached.defaults (c.in_ok-done.ensures.slots old saw same reached)
+    let body = c.args.component.now.body in
+    let inside = c.args.inside.now in
+    let same = subst (λ s. Became lay saw s inside old body) (sym c.slots.ensures) became in
+    let like = subst (λ s. IsLike inside s body c.in_ok-done.done) c.slots.ensures (c.in_ok-done.ensures.likeness old saw same reached) in
+    c.finished_again.ensures.node old saw (around_places lay (places_of c.args.scope.now)) became laid (c.in_ok-done.ensures.alert old saw same reached) like reached.defaults (c.in_ok-done.ensures.slots old saw same reached)
 
 pub renew_body-loop-item-init : goal.renew_body-loop-item-init
 renew_body-loop-item-init g t c = record {
@@ -154,6 +161,10 @@ renew_body-loop-item-init g t c = record {
       let r = renewing c.args.renewal.now c.args.marks.now old saw in
       none_counted (tells_of_width c.args.reach.now.alert || sets_width r.marks r.now) r.marks r.slots (slots_there g.L.Lays.laying r.places r.now) r.now c.as_slice-item-items.result.now c.args.account.now.placed
       c.as_slice-item-items.ensures;
+  in_place = λ old saw became reached so j l. absurd (omega (arith, l));
+  alike = λ old saw became reached.
+      first_alike c.args.marks.now (slots_of c.args.renewal.now.slots.now) (slots_there g.L.Lays.laying (outer_places c.args.renewal.now.outer) c.args.renewal.now.body.now) c.args.renewal.now.body.now c.in_ok-done.done
+      c.in_ok-done.ensures.alike;
   width = ap (λ (x : Reach). x.alert.properties) c.in_ok-done.ensures.reach
       ∙ (ap (λ (x : Alert). x.properties) c.with.ensures ∙ ap (λ (x : Alert). with_properties c.args.reach.now.alert.properties x.properties) c.raised.ensures);
 }
@@ -161,7 +172,7 @@ renew_body-loop-item-init g t c = record {
 pub renew_body-renew_item-requires : goal.renew_body-renew_item-requires
 renew_body-renew_item-requires g t c κs within =
     let few = count-item c.loop-item.item-index c.args.renewal.now.body.now c.as_slice-item-items.result.now c.item-item.result c.item-item.result c.as_slice-item-items.ensures c.loop-item-test.true c.item-item.is in
-    let less : 8 * item_count c.item-item.result + 4 < t = omega (arith, c.decreases, few) in
+    let less : 9 * item_count c.item-item.result + 5 < t = omega (arith, c.decreases, few) in
     search (rules, less)
 
 pub renew_body-loop-item-preserved : goal.renew_body-loop-item-preserved
@@ -193,6 +204,15 @@ renew_body-loop-item-preserved g t c =
           one_counted (tells_of_width c.args.reach.now.alert || sets_width r.marks r.now) (tells_of_width c.loop-item.done.reach.alert) r.marks r.slots (slots_there lay r.places r.now) r.now c.as_slice-item-items.result.now i
           c.args.account.now.placed c.loop-item.account.placed c.renew_item.new.account.placed (next_of c.next-next.result) c.item-item.result (c.loop-item.invariant.placed old saw became reached) c.loop-item-test.true c.item-item.is
           here.told (width_either c.args.reach.now.alert.properties (raised r.marks r.now).properties c.loop-item.done.reach.alert c.loop-item.invariant.width) (c.in_ok-renew_item.ensures.placed c.args.marks.now old saw i here c.untouched-front.ensures);
+      in_place = λ old saw became reached.
+          let r = renewing c.args.renewal.now c.args.marks.now old saw in
+          next_in_place r.marks i c.loop-item.done c.renew_item.new.done (next_of c.next-next.result) (c.loop-item.invariant.in_place old saw became reached)
+          (done_many lay r i c.loop-item.done (c.loop-item.invariant.done old saw became reached)) (next old saw became reached).told c.in_ok-renew_item.ensures.in_place;
+      alike = λ old saw became reached.
+          let r = renewing c.args.renewal.now c.args.marks.now old saw in
+          let here = next old saw became reached in
+          next_alike lay r i c.loop-item.done c.renew_item.new.done c.item-item.result (next_of c.next-next.result) c.as_slice-item-items.result.now (c.loop-item.invariant.alike old saw became reached) c.as_slice-item-items.ensures
+          c.loop-item-test.true c.item-item.is here.told here.done (c.in_ok-renew_item.ensures.done c.args.marks.now old saw i here c.untouched-front.ensures) c.in_ok-renew_item.ensures.alike;
       width = c.in_ok-renew_item.ensures.properties ∙ c.loop-item.invariant.width;
     }
 
@@ -247,8 +267,8 @@ renew_body-returns-clause-clean g t c = λ old saw became reached.
 
 -- ---- How many instances are placed.
 
-pub renew_item-returns-in-New-clause-placed : goal.renew_item-returns-in-New-clause-placed
-renew_item-returns-in-New-clause-placed g t c = λ m old saw n next ahead.
+pub renew_other-returns-in-New-clause-placed : goal.renew_other-returns-in-New-clause-placed
+renew_other-returns-in-New-clause-placed g t c = λ m old saw n next.
     let lay = g.L.Lays.laying in
     let r = renewing c.args.renewal.now m old saw in
     let d = c.args.done.now in
@@ -270,8 +290,8 @@ renew_item-returns-in-Some-clause-placed g t c = λ m old saw n next ahead.
     (on_two c.keep.result (renew_item-returns-in-Some-clause-done g t c m old saw n next ahead) c.keep.ensures.slots
     (settled_counted lay r n d c.keep.new.self y c.in-Same.number c.in-Some.slot.now c.args.renewal.now.slots.now a here refl c.in-Some.ensures))
 
-pub renew_item-returns-in-None-front_slot-clause-placed : goal.renew_item-returns-in-None-front_slot-clause-placed
-renew_item-returns-in-None-front_slot-clause-placed g t c = λ m old saw n next ahead.
+pub renew_other-returns-in-Same-clause-placed : goal.renew_other-returns-in-Same-clause-placed
+renew_other-returns-in-Same-clause-placed g t c = λ m old saw n next.
     let lay = g.L.Lays.laying in
     let r = renewing c.args.renewal.now m old saw in
     let d = c.args.done.now in
@@ -281,8 +301,8 @@ renew_item-returns-in-None-front_slot-clause-placed g t c = λ m old saw n next 
     on_told lay r n y e (next_of c.args.next) (tells_of_width d.reach.alert) c.args.account.now.placed c.renew_stayed.new.account.placed c.renew_stayed.result told
     (c.renew_stayed.ensures.placed m old saw n no_firsts (with_next lay r n d y (next_of c.args.next) e told next) refl)
 
-pub renew_item-returns-then-mark-clause-placed : goal.renew_item-returns-then-mark-clause-placed
-renew_item-returns-then-mark-clause-placed g t c = λ m old saw n next ahead.
+pub renew_other-returns-then-mark-clause-placed : goal.renew_other-returns-then-mark-clause-placed
+renew_other-returns-then-mark-clause-placed g t c = λ m old saw n next.
     let lay = g.L.Lays.laying in
     let r = renewing c.args.renewal.now m old saw in
     let d = c.args.done.now in
@@ -293,8 +313,8 @@ renew_item-returns-then-mark-clause-placed g t c = λ m old saw n next ahead.
     on_told lay r n y e (next_of c.args.next) (tells_of_width d.reach.alert) c.args.account.now.placed c.renew_new-then-mark.new.account.placed c.renew_new-then-mark.result told
     (c.renew_new-then-mark.ensures.placed m old saw n e (with_next lay r n d y (next_of c.args.next) e told next) c.if-mark.true)
 
-pub renew_item-returns-else-mark-clause-placed : goal.renew_item-returns-else-mark-clause-placed
-renew_item-returns-else-mark-clause-placed g t c = λ m old saw n next ahead.
+pub renew_other-returns-else-mark-clause-placed : goal.renew_other-returns-else-mark-clause-placed
+renew_other-returns-else-mark-clause-placed g t c = λ m old saw n next.
     let lay = g.L.Lays.laying in
     let r = renewing c.args.renewal.now m old saw in
     let d = c.args.done.now in
@@ -365,7 +385,8 @@ renewed_component-returns-clause-placed g t c = λ old saw became reached.
     let before = c.args.before.now in
     let same = subst (λ s. Became lay saw s inside old body) (sym c.slots.ensures) became in
     let first = c.in_ok-done.ensures.placed old saw same reached in
-    if_both c.finished_again.result c.finished_again.ensures.slots (c.finished_again.ensures.placed old saw became)
+    let like = subst (λ s. IsLike inside s body c.in_ok-done.done) c.slots.ensures (c.in_ok-done.ensures.likeness old saw same reached) in
+    if_both c.finished_again.result c.finished_again.ensures.slots (c.finished_again.ensures.placed old saw became like)
     (λ n slots counted.
     finished_counted body inside before n (slots_of c.slots.result.now) (slots_of c.in_ok-done.done.slots.items) (tells_of_width c.in_ok-done.done.reach.alert)
     (tells_of_width c.args.reach.now.alert || sets_width inside body) c.args.account.now.placed c.renew_body.new.account.placed c.finished_again.new.placed c.in_ok-done.ensures.width c.slots.ensures slots first counted)
@@ -379,3 +400,31 @@ renew_body-returns-clause-placed g t c = λ old saw became reached.
 pub renew_body-returns-clause-width : goal.renew_body-returns-clause-width
 renew_body-returns-clause-width g t c =
     width_either c.args.reach.now.alert.properties (raised c.args.marks.now c.args.renewal.now.body.now).properties c.loop-item.done.reach.alert c.loop-item.invariant.width
+
+pub renew_body-returns-clause-likeness : goal.renew_body-returns-clause-likeness
+renew_body-returns-clause-likeness g t c = λ old saw became reached.
+    let r = renewing c.args.renewal.now c.args.marks.now old saw in
+    all_like g.L.Lays.laying r c.loop-item.item-index c.loop-item.done c.as_slice-item-items.result.now (c.loop-item.invariant.in_place old saw became reached) (c.loop-item.invariant.alike old saw became reached)
+    c.as_slice-item-items.ensures c.loop-item-test.false (renew_body-returns-clause-slots g t c old saw became reached)
+
+-- ---- How its items are like what they were.
+
+pub renew_item-returns-in-Some-clause-in_place : goal.renew_item-returns-in-Some-clause-in_place
+renew_item-returns-in-Some-clause-in_place g t c = on_both c.keep.result c.keep.ensures.in_place
+    (λ one. kept_in_place c.args.done.now c.keep.new.self c.in-Same.number (next_of c.args.next) (ap next_of c.in-Same.is) one)
+
+pub renew_item-returns-in-Some-clause-alike : goal.renew_item-returns-in-Some-clause-alike
+renew_item-returns-in-Some-clause-alike g t c = on_both c.keep.result c.keep.ensures.slots
+    (λ slots.
+    kept_alike c.args.renewal.now.slots.now c.args.done.now c.keep.new.self c.in-Some.slot.now c.in-Same.number (next_of c.args.next) c.args.item.now c.in-Some.ensures.there (ap next_of c.in-Same.is) slots
+    c.keep.ensures.alike)
+
+pub renew_item-returns-in-Some-front_slot-clause-in_place : goal.renew_item-returns-in-Some-front_slot-clause-in_place
+renew_item-returns-in-Some-front_slot-clause-in_place g t c = on_both c.keep-in-Some-front_slot.result c.keep-in-Some-front_slot.ensures.in_place
+    (λ one. kept_in_place c.args.done.now c.keep-in-Some-front_slot.new.self c.in-Same.number (next_of c.args.next) (ap next_of c.in-Same.is) one)
+
+pub renew_item-returns-in-Some-front_slot-clause-alike : goal.renew_item-returns-in-Some-front_slot-clause-alike
+renew_item-returns-in-Some-front_slot-clause-alike g t c = on_both c.keep-in-Some-front_slot.result c.keep-in-Some-front_slot.ensures.slots
+    (λ slots.
+    kept_alike c.args.renewal.now.slots.now c.args.done.now c.keep-in-Some-front_slot.new.self c.in-Some-front_slot.slot.now c.in-Same.number (next_of c.args.next) c.args.item.now c.in-Some-front_slot.ensures.there (ap next_of c.in-Same.is) slots
+    c.keep-in-Some-front_slot.ensures.alike)

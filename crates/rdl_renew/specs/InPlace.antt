@@ -1,0 +1,50 @@
+-- How the items of a body that is renewed are like what they were.
+-- own: SystemRDL 2.0 has no edits.
+use Rattle.std.specs.Prelude.{◌≡◌, ℕ, ◌<◌, true, length, slice_get}
+use Rattle.rdl_tree.specs.Items.{Items, no_items, plain, holder}
+use Rattle.rdl_tree.specs.View as tree
+use Rattle.rdl_marks.specs.Describes.{Describes}
+use Rattle.rdl_marks.specs.Marks.{Marks, no_firsts}
+use Rattle.rdl_marks.specs.View.{Trace, old_item}
+use Rattle.rdl_nodes.specs.Parts.{of_item}
+use Rattle.rdl_nodes.specs.View.{slots_of}
+use Rattle.rdl_seen.specs.Fields.{Of}
+use Rattle.rdl_seen.specs.Slots.{Slots}
+use Rattle.rdl_renew.specs.declared.done.Done.{Done}
+use Rattle.rdl_renew.specs.AlikeSlots.{all_alike}
+use Rattle.rdl_renew.specs.TakenOver.{IsAsItWasOutside}
+
+-- an item is the old one of this number but for what is inside it
+abbrev pub IsInPlace : ℕ → Trace → Type 0
+IsInPlace number e = (inside : Marks) × (e ≡ old_item number no_firsts inside)
+
+-- so are as many of the first items
+abbrev pub AreInPlace : Marks → ℕ → Type 0
+AreInPlace m count = (j : ℕ) → j < count → IsAsItWasOutside m j j
+
+-- the items of a body but for what is inside them
+abbrev pub bare_items : Items → Items
+bare_items no_items = no_items
+bare_items (plain p rest) = plain p (bare_items rest)
+bare_items (holder h body rest) = holder h no_items (bare_items rest)
+
+-- if each is in place, and there are as many, they are the same
+abbrev pub InPlaceAreBare : Type 0
+InPlaceAreBare =
+    (m : Marks) (old now : Items) → Describes m old now → AreInPlace m (length (tree.list_of now)) → length (tree.list_of old) ≡ length (tree.list_of now) → bare_items old ≡ bare_items now
+
+-- ---- Items that are done.
+
+-- the likeness of the second ones is told as that of the first ones
+pub record IsLikeAs (d e : Done) : Type 0 where
+  pub in_place : e.are_in_place ≡ d.are_in_place
+  pub alike : e.are_alike ≡ d.are_alike
+
+-- the component of the item by which the second ones are more than the first ones
+abbrev pub of_last : Done → Done → Of
+of_last d e = of_item (slice_get e.slots.items (length d.slots.items))
+
+-- what is told of the likeness of all items of a body, of which that was kept, holds
+pub record IsLike (m : Marks) (before : Slots) (body : Items) (d : Done) : Type 0 where
+  pub in_place : d.are_in_place ≡ true → AreInPlace m (length (tree.list_of body))
+  pub alike : d.are_alike ≡ all_alike true m before (slots_of d.slots.items) 0 (tree.list_of body)
