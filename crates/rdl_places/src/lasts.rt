@@ -8,8 +8,9 @@ use rdl_text::name::Name;
 use rdl_tree::description::{Body, Item};
 use std::alloc::{AllocError, Global};
 
-/// How many names are looked up in a body from item to item.
-const FEW: usize = 16;
+/// How many items of a body are gone along for the names that are looked up there, before it is worth while to know where they stand: so many,
+/// and twice as many as it has.
+const FEW: usize = 256;
 
 /// An item that was gone along: how many instances stand before it, and one more than the number of the last item before it whose name has
 /// the same slot, or 0.
@@ -19,7 +20,7 @@ struct Link {
     next: usize,
 }
 
-/// Where the last items of each name stand among the first items of a body: of none, as long as no more than a few looked names up.
+/// Where the last items of each name stand among the first items of a body: of none, as long as no more than a few were gone along.
 ///
 /// The names of definitions and of instances have slots. A slot has one more than the number of its last item, or 0.
 #[derive(Drop)]
@@ -27,7 +28,8 @@ pub struct Lasts {
     slots: Vec<usize>,
     links: Vec<Link>,
     instances: usize,
-    looks: usize,
+    /// How many items are gone along for the names that are looked up.
+    gone_along: usize,
 }
 
 /// A body with where its last items stand.
@@ -92,7 +94,7 @@ impl Lasts {
             slots: Vec::new(alloc),
             links: Vec::new(alloc),
             instances: 0,
-            looks: 0,
+            gone_along: 0,
         }
     }
 
@@ -145,8 +147,8 @@ impl Lasts {
         Ok(())
     }
 
-    /// So many names may be looked up from the place of the item of this number of the body. Where more than a few were, the items before
-    /// it are known.
+    /// So many names may be looked up from the place of the item of this number of the body. Where more than a few items are gone along for
+    /// names, those before it are known.
     pub fn look(
         &mut self,
         alloc: Global,
@@ -157,8 +159,9 @@ impl Lasts {
         requires { AreLasts body.now self.old }
         ensures { AreLasts body.now self.new }
     {
-        self.looks = self.looks.saturating_add(names);
-        if names == 0 || self.looks <= FEW {
+        self.gone_along = self.gone_along.saturating_add(names.saturating_mul(number));
+        let few = body.len().saturating_mul(2).max(FEW);
+        if names == 0 || self.gone_along <= few {
             return Ok(());
         }
         if self.slots.is_empty() {
