@@ -9,7 +9,7 @@ use rdl_tree::description::{Body, Item};
 use std::alloc::{AllocError, Global};
 
 /// How many items of a body are gone along for the names that are looked up there, before it is worth while to know where they stand: so many,
-/// and twice as many as it has.
+/// and as many as it has.
 const FEW: usize = 256;
 
 /// An item that was gone along: how many instances stand before it, and one more than the number of the last item before it whose name has
@@ -160,7 +160,7 @@ impl Lasts {
         ensures { AreLasts body.now self.new }
     {
         self.gone_along = self.gone_along.saturating_add(names.saturating_mul(number));
-        let few = body.len().saturating_mul(2).max(FEW);
+        let few = body.len().max(FEW);
         if names == 0 || self.gone_along <= few {
             return Ok(());
         }
