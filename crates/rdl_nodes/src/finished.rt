@@ -194,6 +194,13 @@ pub fn finished_over<L: Lays>(
         likeness.are_alike,
         placed,
     )?;
-    let core = Core::of(kind, defaults, body, slots.as_slice(), parts.as_slice(), layouts);
+    let core = Core::of(
+        kind,
+        defaults,
+        body,
+        slots.as_slice(),
+        parts.as_slice(),
+        layouts,
+    );
     Ok(Node::new(core, slots))
 }

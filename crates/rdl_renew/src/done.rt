@@ -104,8 +104,8 @@ impl Done {
         ensures alike { self.new.are_alike ≡ (self.old.are_alike && is_alike true (slots_of before.now) (of_item (slice_get self.old.slots.items number)) (next_of next.entry) item.now) }
     {
         self.are_in_place = self.are_in_place && is_in_place(next, number);
-        self.are_alike =
-            self.are_alike && is_alike(next, item, before, self.slots.as_slice(), number, true);
+        self.are_alike = self.are_alike
+            && is_alike(next, item, before, self.slots.as_slice(), number, true);
     }
 
     /// Whether layouts take the same of the instances of a body as of those of what it was, where all items are done. These slots were kept of
