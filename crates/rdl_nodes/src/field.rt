@@ -63,6 +63,10 @@ fn shallow_weight(item: &Item) -> u64
     match item {
         Item::Define(name, _) => (name.len() as u64).saturating_add(1),
         Item::Instance(shell, Of::Anonymous(_)) => (shell.name().len() as u64).saturating_add(1),
+        Item::Instance(shell, Of::Named(name)) => {
+            let names = (shell.name().len() as u64).saturating_add(name.len() as u64);
+            names.saturating_add(1)
+        }
         _ => item.weight(),
     }
 }

@@ -5,13 +5,13 @@ use rdl_seen::alert::Alert;
 use rdl_tree::description::{Body, Component, Item, Of};
 use rdl_tree::shell::Kind;
 
-/// How many items of a body look up a name.
+/// How many names the items of a body look up: an instance its type, an assignment its target, once for its verdict and once for its fault.
 fn names_in(body: &Body) -> usize {
     let mut names = 0usize;
     for item in body.as_slice() {
         match item {
             Item::Instance(_, Of::Named(_)) => names = names.saturating_add(1),
-            Item::Dynamic(_, _, _) => names = names.saturating_add(1),
+            Item::Dynamic(_, _, _) => names = names.saturating_add(2),
             _ => {}
         }
     }
@@ -24,7 +24,7 @@ pub(crate) fn names_of(item: &Item) -> usize {
         Item::Instance(_, Of::Named(_)) => 1,
         Item::Instance(_, Of::Anonymous(component)) => names_inside(component),
         Item::Define(_, component) => names_inside(component),
-        Item::Dynamic(_, _, _) => 1,
+        Item::Dynamic(_, _, _) => 2,
         _ => 0,
     }
 }
