@@ -8,6 +8,7 @@ pub mod Kept
 pub mod LastOnes
 pub mod Paths
 pub mod PlacedSlots
+pub mod SameInside
 pub mod SameSlots
 pub mod Targets
 pub mod Walks

@@ -19,6 +19,7 @@ pub mod Lasting
 pub mod Part
 pub mod Parts
 pub mod Placed
+pub mod SameInside
 pub mod Targets
 pub mod TypeStack
 pub mod View

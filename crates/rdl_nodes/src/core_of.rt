@@ -5,7 +5,7 @@ ghost use Rattle.rdl_nodes.specs.Folded.{AreInside};
 ghost use Rattle.rdl_nodes.specs.Part.{reset_of, access_of};
 ghost use Rattle.rdl_nodes.specs.Parts.{parts_of};
 ghost use Rattle.rdl_nodes.specs.View.{add, slots_of};
-ghost use Rattle.rdl_seen.specs.Contents.{are_harmless};
+ghost use Rattle.rdl_seen.specs.Contents.{are_harmless, is_assigned};
 ghost use Rattle.rdl_seen.specs.Fields.{are_fields_sound, clash_none};
 ghost use Rattle.rdl_seen.specs.Layouts.{Laying};
 ghost use Rattle.rdl_seen.specs.Node.{is_ordered, sound_inside, sound_of, without_access, is_container, layouts_of, core_of};
@@ -15,7 +15,7 @@ ghost use Rattle.rdl_seen.specs.Values.{stated};
 
 use crate::apart::{apart_of, are_apart, clash_none, mode_inside};
 use crate::contents::Contents;
-use crate::field::{Own, own_of};
+use crate::field::Own;
 use crate::fields::{are_fields_sound, field_takes};
 use crate::layouts::{Layouts, Span};
 use crate::node::{Core, Slot};
@@ -40,6 +40,8 @@ struct Laid<'c, 'a> {
     is_ordered: bool,
     parts: &'c [Part<'a>],
     slots: &'c [Slot],
+    /// Whether a dynamic assignment stands among its items or inside.
+    is_assigned: bool,
 }
 
 /// Whether no two fields of a register share a bit.
@@ -79,13 +81,25 @@ fn are_harmless(slots: &[Slot], spans: &[Span], is_ordered: bool) -> bool
     true
 }
 
+/// Whether no dynamic assignment among the items of a component can give a row a fault.
+fn is_harmless_inside(laid: &Laid) -> bool
+    requires { laid.now.is_assigned ≡ is_assigned (slots_of laid.now.slots.now) }
+    ensures { result ≡ are_harmless (record { spans = laid.now.spans.now; is_ordered = laid.now.is_ordered }) (slots_of laid.now.slots.now) }
+{
+    if laid.is_assigned {
+        are_harmless(laid.slots, laid.spans, laid.is_ordered)
+    } else {
+        true
+    }
+}
+
 /// Whether no row of a register can have a fault, if nothing reaches it from outside.
 fn is_register_sound(laid: &Laid) -> bool
+    requires { laid.now.is_assigned ≡ is_assigned (slots_of laid.now.slots.now) }
     ensures { result ≡ (are_fields_sound laid.now.values.now laid.now.spans.now (map reset_of laid.now.parts.now) (laid.now.is_ordered || clash_none laid.now.spans.now (map access_of laid.now.parts.now)) && are_harmless (record { spans = laid.now.spans.now; is_ordered = laid.now.is_ordered }) (slots_of laid.now.slots.now)) }
 {
     let may_share = laid.is_ordered || clash_none(laid.spans, laid.parts);
-    are_fields_sound(laid.values, laid.spans, laid.parts, may_share)
-        && are_harmless(laid.slots, laid.spans, laid.is_ordered)
+    are_fields_sound(laid.values, laid.spans, laid.parts, may_share) && is_harmless_inside(laid)
 }
 
 /// The modes in which the instances are sound, if these are the modes in which all are.
@@ -101,13 +115,14 @@ fn sound_inside(kind: Kind, values: &Values, inside: Modes) -> Modes
 /// The modes in which no row below the component can have a fault, if these are the modes in which all instances are sound, and those
 /// in which they lie apart.
 fn sound_of(laid: &Laid, inside: Modes, apart: Modes) -> Modes
+    requires { laid.now.is_assigned ≡ is_assigned (slots_of laid.now.slots.now) }
     ensures { result ≡ sound_of laid.now.kind (sound_inside laid.now.kind laid.now.values.now inside) apart (are_fields_sound laid.now.values.now laid.now.spans.now (map reset_of laid.now.parts.now) (laid.now.is_ordered || clash_none laid.now.spans.now (map access_of laid.now.parts.now))) (are_harmless (record { spans = laid.now.spans.now; is_ordered = laid.now.is_ordered }) (slots_of laid.now.slots.now)) }
 {
     match laid.kind {
         Kind::Field => Modes::all(true),
         Kind::Reg => Modes::all(is_register_sound(laid)),
         Kind::Addrmap | Kind::Regfile => {
-            let harmless = are_harmless(laid.slots, laid.spans, laid.is_ordered);
+            let harmless = is_harmless_inside(laid);
             let inside = sound_inside(laid.kind, laid.values, inside);
             inside.and(apart.and(Modes::all(harmless)))
         }
@@ -181,8 +196,8 @@ fn seen_of(
     }
 }
 
-/// What is kept of a component that states this itself, with these values and these layouts. Its instances are these parts, and lie apart in
-/// these modes.
+/// What is kept of a component that states this itself, with these values and these layouts, and with that inside it. Its instances are these
+/// parts, and lie apart in these modes.
 fn made(
     kind: Kind,
     own: Own,
@@ -190,12 +205,13 @@ fn made(
     apart: Modes,
     body: &Body,
     slots: &[Slot],
+    contents: &Contents,
     parts: &[Part],
     layouts: Rc<Layouts>,
 ) -> Core
+    requires { AreInside contents.now (slots_of slots.now) }
     ensures { result ≡ core_made kind own.values own.weight values layouts.value apart body.now (slots_of slots.now) (are_fields_sound values layouts.value.compact.spans (map reset_of parts.now) (is_ordered kind layouts.value || clash_none layouts.value.compact.spans (map access_of parts.now))) }
 {
-    let contents = Contents::of(slots);
     let kept = layouts.as_ref();
     let is_ordered = is_ordered(kind, kept);
     let laid = Laid {
@@ -205,11 +221,12 @@ fn made(
         is_ordered,
         parts,
         slots,
+        is_assigned: contents.is_assigned,
     };
     let sound = sound_of(&laid, contents.sound, apart);
     let fields = without_access(is_ordered, field_takes(body, slots));
     let takes = takes_of(kind, &own.values, fields, contents.takes);
-    let seen = seen_of(&laid, kept, &contents, takes, sound, body.len(), own.weight);
+    let seen = seen_of(&laid, kept, contents, takes, sound, body.len(), own.weight);
     Core {
         seen,
         own: own.values,
@@ -223,6 +240,7 @@ fn made(
 impl Core {
     ghost use Rattle.std.specs.Prelude.{◌≡◌, true};
     ghost use Rattle.rdl_nodes.specs.CoreWith.{core_with};
+    ghost use Rattle.rdl_nodes.specs.Folded.{AreInside};
     ghost use Rattle.rdl_nodes.specs.Parts.{parts_of};
     ghost use Rattle.rdl_nodes.specs.View.{slots_of};
     ghost use Rattle.rdl_seen.specs.Contents.{own_weight};
@@ -231,29 +249,32 @@ impl Core {
     ghost use Rattle.rdl_seen.specs.Node.{is_container, values_of, apart_of, layouts_of, core_of};
     ghost use Rattle.rdl_seen.specs.Values.{own_values};
 
-    /// That of a component of this kind with this body, whose items have these slots and whose instances are these parts, under the
-    /// defaults that reach it and with these layouts. However components are laid out: where these are its layouts, it is what is kept
-    /// of the component.
-    pub fn of(
+    /// That of a component of this kind with this body, which states this itself and has these values under the defaults that reach it. Its
+    /// items have these slots and this is inside it, its instances are these parts, and these are its layouts, however components are laid
+    /// out.
+    pub(crate) fn of(
         kind: Kind,
-        defaults: &Values,
+        own: Own,
+        values: Values,
         body: &Body,
         slots: &[Slot],
+        contents: &Contents,
         parts: &[Part],
         layouts: Rc<Layouts>,
     ) -> Core
-        requires { parts.now ≡ parts_of defaults.now body.now (slots_of slots.now) }
-        ensures with_layouts { result ≡ core_with kind defaults.now body.now (slots_of slots.now) layouts.value }
-        ensures however_laid { (lay : Laying) → layouts.value ≡ layouts_of lay kind defaults.now body.now (slots_of slots.now) → result ≡ core_of lay kind defaults.now body.now (slots_of slots.now) }
+        requires { AreInside contents.now (slots_of slots.now) }
+        ensures with_layouts { (defaults : Values) → own.values ≡ own_values body.now → own.weight ≡ own_weight body.now → values ≡ values_of kind defaults body.now → parts.now ≡ parts_of defaults body.now (slots_of slots.now) → result ≡ core_with kind defaults body.now (slots_of slots.now) layouts.value }
+        ensures values { result.values ≡ values }
+        ensures layouts { result.layouts ≡ layouts.value }
     {
-        let own = own_of(body);
-        let values = own.values.over(defaults).of_kind(kind);
         let apart = apart_of(kind, &values, layouts.as_ref(), parts);
-        made(kind, own, values, apart, body, slots, parts, layouts)
+        made(
+            kind, own, values, apart, body, slots, contents, parts, layouts,
+        )
     }
 
-    /// That of a container whose items have these slots, which states this itself, with these values and these layouts, and whose instances
-    /// lie apart in these modes. Of its instances no more is asked, as it has no fields of its own.
+    /// That of a container whose items have these slots, with that inside it, which states this itself, with these values and these layouts, and
+    /// whose instances lie apart in these modes. Of its instances no more is asked, as it has no fields of its own.
     pub(crate) fn of_container(
         kind: Kind,
         own: Own,
@@ -261,12 +282,16 @@ impl Core {
         apart: Modes,
         body: &Body,
         slots: &[Slot],
+        contents: &Contents,
         layouts: Rc<Layouts>,
     ) -> Core
+        requires { AreInside contents.now (slots_of slots.now) }
         ensures however_laid { (lay : Laying) (defaults : Values) → is_container kind ≡ true → own.values ≡ own_values body.now → own.weight ≡ own_weight body.now → values ≡ values_of kind defaults body.now → layouts.value ≡ layouts_of lay kind defaults body.now (slots_of slots.now) → apart ≡ apart_of kind (values_of kind defaults body.now) (layouts_of lay kind defaults body.now (slots_of slots.now)) (members defaults body.now (slots_of slots.now)) → result ≡ core_of lay kind defaults body.now (slots_of slots.now) }
         ensures values { result.values ≡ values }
     {
         let none: &[Part] = &[];
-        made(kind, own, values, apart, body, slots, none, layouts)
+        made(
+            kind, own, values, apart, body, slots, contents, none, layouts,
+        )
     }
 }

@@ -1,16 +1,19 @@
 //! What is kept of a component whose items are done.
 ghost use Rattle.std.specs.Prelude.{◌≡◌, IfOk, IfSome, map};
 ghost use Rattle.rdl_nodes.specs.Bare.{AreStillLayouts, StaysLaidOut, StaysOwn};
+ghost use Rattle.rdl_nodes.specs.Folded.{AreInside};
 ghost use Rattle.rdl_nodes.specs.Part.{member_of};
 ghost use Rattle.rdl_nodes.specs.Placed.{same_words, same_widths, same_numbers, same_values, placed_by, placed_over, CountsOn};
+ghost use Rattle.rdl_nodes.specs.SameInside.{StaysInside};
 ghost use Rattle.rdl_nodes.specs.View.{slots_of};
 ghost use Rattle.rdl_seen.specs.Contents.{own_weight};
 ghost use Rattle.rdl_seen.specs.Layouts.{Laying};
-ghost use Rattle.rdl_seen.specs.Node.{core_of};
+ghost use Rattle.rdl_seen.specs.Node.{values_of, core_of};
 ghost use Rattle.rdl_seen.specs.Values.{own_values};
 
+use crate::contents::Contents;
 use crate::core_of::is_container;
-use crate::field::{Own, own_of, own_values};
+use crate::field::{Own, own_of};
 use crate::layouts::Layouts;
 use crate::lays::Lays;
 use crate::node::{Core, Node, Slot};
@@ -32,20 +35,25 @@ pub fn finished<L: Lays>(
 ) -> Result<Node, AllocError>
     ensures { IfOk result (λ node. node ≡ record { core = core_of L.laying component.now.kind defaults.now component.now.body (slots_of slots.items); slots = slots_of slots.items }) }
 {
+    let kind = component.kind;
     let body = &component.body;
+    let own = own_of(body);
+    let values = own.values.over(defaults).of_kind(kind);
+    let contents = Contents::of(slots.as_slice());
     let parts = parts(alloc, defaults, body, slots.as_slice())?;
-    let values = own_values(body).over(defaults).of_kind(component.kind);
-    let layouts = lay.lay(alloc, component.kind, &values, parts.as_slice())?;
+    let layouts = lay.lay(alloc, kind, &values, parts.as_slice())?;
     let layouts = Rc::new(alloc, layouts)?;
     let core = Core::of(
-        component.kind,
-        defaults,
+        kind,
+        own,
+        values,
         body,
         slots.as_slice(),
+        &contents,
         parts.as_slice(),
         layouts,
     );
-    Ok(Node::new(core, slots))
+    Ok(Node::new(core, slots, contents))
 }
 
 fn have_same_words(values: &Values, others: &Values) -> bool
@@ -116,6 +124,8 @@ pub struct Likeness {
     pub are_alike: bool,
     /// Its own assignments state the same, and its items weigh the same but for what is inside them.
     pub is_own_same: bool,
+    /// Each of its items adds the same to what is inside it, but for sums.
+    pub is_inside_same: bool,
 }
 
 /// What the own assignments of a body state, and what its items weigh but for what is inside them. This was kept of the component before, and
@@ -133,30 +143,42 @@ fn own_over(body: &Body, before: &Core, is_same: bool) -> Own
     }
 }
 
-/// What is kept of a component with these items, but for these, by what was kept of it before: if it is a container of which the instances are
-/// alike and the values the same. Then it has the layouts that it had, and its instances lie apart as they did.
-fn core_again(
-    kind: Kind,
-    defaults: &Values,
-    body: &Body,
-    slots: &[Slot],
-    before: &Core,
-    likeness: Likeness,
-) -> Result<Option<Core>, AllocError>
-    ensures core { (lay : Laying) → StaysOwn likeness.is_own_same before.now body.now → StaysLaidOut lay likeness.are_alike before.now kind defaults.now body.now (slots_of slots.now) → IfOk result (λ again. IfSome again (λ c. c ≡ core_of lay kind defaults.now body.now (slots_of slots.now))) }
-    ensures placed { IfOk result (λ again. IfSome again (λ c. placed_over likeness.are_alike before.now c ≡ 0)) }
+/// What is inside a component with these items. This was kept of it before, and if that is said, its items add the same to it.
+fn contents_over(slots: &[Slot], before: &Node, is_same: bool) -> Contents
+    requires { StaysInside is_same before.now.slots (slots_of slots.now) }
+    ensures { AreInside result (slots_of slots.now) }
 {
-    if !likeness.are_alike || !is_container(kind) {
+    if is_same {
+        before.contents().again(slots)
+    } else {
+        Contents::of(slots)
+    }
+}
+
+/// What is kept of a component with these items, but for these, by what was kept of it before: if it is a container of which the instances are
+/// alike and the values the same. Then it has the layouts that it had, and its instances lie apart as they did. It states this itself, with
+/// these values and with that inside it.
+fn core_again(
+    component: &Component,
+    own: Own,
+    values: &Values,
+    slots: &[Slot],
+    contents: &Contents,
+    before: &Core,
+    are_alike: bool,
+) -> Result<Option<Core>, AllocError>
+    requires { AreInside contents.now (slots_of slots.now) }
+    ensures core { (lay : Laying) (defaults : Values) → own.values ≡ own_values component.now.body → own.weight ≡ own_weight component.now.body → values.now ≡ values_of component.now.kind defaults component.now.body → StaysLaidOut lay are_alike before.now component.now.kind defaults component.now.body (slots_of slots.now) → IfOk result (λ again. IfSome again (λ c. c ≡ core_of lay component.now.kind defaults component.now.body (slots_of slots.now))) }
+    ensures placed { IfOk result (λ again. IfSome again (λ c. placed_over are_alike before.now c ≡ 0)) }
+{
+    let kind = component.kind;
+    if !are_alike || !is_container(kind) || !are_same(&before.values, values) {
         return Ok(None);
     }
-    let own = own_over(body, before, likeness.is_own_same);
-    let values = own.values.over(defaults).of_kind(kind);
-    if !are_same(&before.values, &values) {
-        return Ok(None);
-    }
+    let body = &component.body;
     let layouts = kept_layouts(before)?;
     let apart = before.apart;
-    let core = Core::of_container(kind, own, values, apart, body, slots, layouts);
+    let core = Core::of_container(kind, own, *values, apart, body, slots, contents, layouts);
     Ok(Some(core))
 }
 
@@ -169,21 +191,28 @@ pub fn finished_over<L: Lays>(
     defaults: &Values,
     component: &Component,
     slots: Vec<Slot>,
-    before: &Core,
+    before: &Node,
     likeness: Likeness,
     placed: &mut u64,
 ) -> Result<Node, AllocError>
-    ensures node { StaysOwn likeness.is_own_same before.now component.now.body → StaysLaidOut L.laying likeness.are_alike before.now component.now.kind defaults.now component.now.body (slots_of slots.items) → IfOk result (λ node. node ≡ record { core = core_of L.laying component.now.kind defaults.now component.now.body (slots_of slots.items); slots = slots_of slots.items }) }
+    requires { StaysInside likeness.is_inside_same before.now.slots (slots_of slots.items) }
+    ensures node { StaysOwn likeness.is_own_same before.now.core component.now.body → StaysLaidOut L.laying likeness.are_alike before.now.core component.now.kind defaults.now component.now.body (slots_of slots.items) → IfOk result (λ node. node ≡ record { core = core_of L.laying component.now.kind defaults.now component.now.body (slots_of slots.items); slots = slots_of slots.items }) }
     ensures slots { IfOk result (λ node. node.slots ≡ slots_of slots.items) }
-    ensures placed { IfOk result (λ node. CountsOn placed.old placed.new (placed_over likeness.are_alike before.now node.core)) }
+    ensures placed { IfOk result (λ node. CountsOn placed.old placed.new (placed_over likeness.are_alike before.now.core node.core)) }
 {
     let kind = component.kind;
     let body = &component.body;
-    if let Some(core) = core_again(kind, defaults, body, slots.as_slice(), before, likeness)? {
-        return Ok(Node::new(core, slots));
+    let own = own_over(body, before.core(), likeness.is_own_same);
+    let values = own.values.over(defaults).of_kind(kind);
+    let contents = contents_over(slots.as_slice(), before, likeness.is_inside_same);
+    let before = before.core();
+    let are_alike = likeness.are_alike;
+    let items = slots.as_slice();
+    let again = core_again(component, own, &values, items, &contents, before, are_alike)?;
+    if let Some(core) = again {
+        return Ok(Node::new(core, slots, contents));
     }
     let parts = parts(alloc, defaults, body, slots.as_slice())?;
-    let values = own_values(body).over(defaults).of_kind(kind);
     let layouts = layouts_over(
         alloc,
         lay,
@@ -191,16 +220,18 @@ pub fn finished_over<L: Lays>(
         &values,
         parts.as_slice(),
         before,
-        likeness.are_alike,
+        are_alike,
         placed,
     )?;
     let core = Core::of(
         kind,
-        defaults,
+        own,
+        values,
         body,
         slots.as_slice(),
+        &contents,
         parts.as_slice(),
         layouts,
     );
-    Ok(Node::new(core, slots))
+    Ok(Node::new(core, slots, contents))
 }

@@ -1,4 +1,5 @@
 //! What is kept of a component that is written in a map.
+use crate::contents::Contents;
 use crate::field::FieldBody;
 use crate::layouts::Layouts;
 use crate::verdict::Verdict;
@@ -44,6 +45,8 @@ pub struct Node {
     core: Core,
     /// One for each item of its body.
     slots: Vec<Slot>,
+    /// What is inside it.
+    contents: Contents,
 }
 
 /// What is kept of an item.
@@ -79,6 +82,10 @@ impl Model for Node {
 
     ghost view = { λ n. record { core = n.core; slots = slots_of n.slots.items } };
 
+    ghost use Rattle.rdl_nodes.specs.Folded.{AreInside};
+
+    ghost invariant = { λ n. AreInside n.contents (slots_of n.slots.items) };
+
     ghost size = { λ n. slots_count n.slots };
 
     ghost use Rattle.rdl_nodes.specs.Falls.{deep_le-count};
@@ -88,13 +95,19 @@ impl Model for Node {
 
 impl Node {
     ghost use Rattle.std.specs.Prelude.{◌≡◌};
+    ghost use Rattle.rdl_nodes.specs.Folded.{AreInside};
     ghost use Rattle.rdl_nodes.specs.View.{slots_of};
 
-    /// A component of which this is kept, with these items.
-    pub fn new(core: Core, slots: Vec<Slot>) -> Node
+    /// A component of which this is kept, with these items and with that inside it.
+    pub fn new(core: Core, slots: Vec<Slot>, contents: Contents) -> Node
+        requires { AreInside contents (slots_of slots.items) }
         ensures { result ≡ record { core = core; slots = slots_of slots.items } }
     {
-        Node { core, slots }
+        Node {
+            core,
+            slots,
+            contents,
+        }
     }
 
     /// All but its items.
@@ -109,6 +122,13 @@ impl Node {
         ensures { slots_of result.now ≡ self.now.slots }
     {
         self.slots.as_slice()
+    }
+
+    /// What is inside it.
+    pub fn contents(&self) -> Contents
+        ensures { AreInside result self.now.slots }
+    {
+        self.contents
     }
 }
 
@@ -149,6 +169,7 @@ impl Slot {
     }
 
     /// The same, for one more. What is inside is shared.
+    #[inline(always)]
     pub fn try_copy(&self) -> Result<Slot, AllocError>
         ensures { IfOk result (λ slot. (rest : Slots) → add slot rest ≡ add self.now rest) }
     {

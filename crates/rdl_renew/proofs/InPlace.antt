@@ -1,5 +1,5 @@
 -- How the items of a body that is renewed are like what they were.
-use Rattle.std.proofs.Common.{◌≡◌, ℕ, zero, suc, ◌+◌, ◌<◌, ◌≤◌, ◌^◌, min, ◌&&◌, ◌||◌, Bool, true, false, List, [], ◌∷◌, ◌++◌, length, drop, get_or, Option, Some, None, ◌⊎◌, inl, inr, refl, sym, ap, ◌∙◌, arith, add-one}
+use Rattle.std.proofs.Common.{◌≡◌, ℕ, zero, suc, ◌+◌, ◌<◌, ◌≤◌, ◌^◌, min, ◌&&◌, ◌||◌, Bool, true, false, List, [], ◌∷◌, ◌++◌, length, drop, get_or, Option, Some, None, ◌⊎◌, inl, inr, refl, sym, ap, subst, ◌∙◌, arith, add-one, length-append}
 use Rattle.std.specs.Prelude.{slice_get, option_map}
 use Rattle.std.proofs.lemmas.Bool.{cases_lt}
 use Rattle.std.proofs.lemmas.Option.{slice_get_within, slice_get-map}
@@ -20,11 +20,13 @@ use Rattle.rdl_marks.specs.Was.{trace_of}
 use Rattle.rdl_marks.proofs.From.{IsFrom}
 use Rattle.rdl_nodes.specs.Bare.{StaysOwn}
 use Rattle.rdl_nodes.specs.Parts.{of_item}
+use Rattle.rdl_nodes.specs.SameInside.{HaveSame, AddsSame, StaysInside}
 use Rattle.rdl_nodes.specs.View.{slots_of}
 use Rattle.rdl_nodes.specs.declared.node.Slot.{Slot}
 use Rattle.rdl_nodes.specs.declared.node.Slot.TheVariants as slots
 use Rattle.rdl_nodes.proofs.Bodies.{drop_at, drop_past}
 use Rattle.rdl_nodes.proofs.Counts.{stated_same}
+use Rattle.rdl_nodes.proofs.SameInside.{own_adds, default_adds, dynamic_adds, field_adds, unknown_adds, named_adds, type_adds, part_adds, seen_own}
 use Rattle.rdl_seen.specs.declared.values.Values.{Values}
 use Rattle.rdl_seen.specs.Contents.{items_weight, own_weight}
 use Rattle.rdl_seen.specs.Fields.{Of, of_field, of_seen, of_none, first_of, says_bits}
@@ -38,12 +40,12 @@ use Rattle.rdl_renew.specs.declared.done.Done.{Done}
 use Rattle.rdl_renew.specs.AlikeSlots.{of_at, takes_same, is_alike, is_told_alike, all_alike}
 use Rattle.rdl_renew.specs.Anew.{slots_there}
 use Rattle.rdl_renew.specs.Fronts.{front_of, fronts}
-use Rattle.rdl_renew.specs.InPlace.{IsInPlace, AreInPlace, bare_items, InPlaceAreBare, of_last, IsLike}
+use Rattle.rdl_renew.specs.InPlace.{IsInPlace, AreInPlace, AddSameAt, AddSame, AddAsSaid, AddsAsSaid, IsLikeAs, bare_items, InPlaceAreBare, of_last, IsLike}
 use Rattle.rdl_renew.specs.Renewing.{Renewing, Became, WasLaidOut, AreDone}
 use Rattle.rdl_renew.proofs.AlikeItems.{at_slot}
 use Rattle.rdl_renew.proofs.AlikeSteps.{by_mode_own, same_alike}
 use Rattle.rdl_renew.proofs.FrontSlots.{fronts_are_slots}
-use Rattle.rdl_renew.proofs.OneDone.{get_last, done_many}
+use Rattle.rdl_renew.proofs.OneDone.{get_last, get_front, done_many}
 use Rattle.rdl_renew.proofs.Outside.{shut, item_outside}
 use Rattle.rdl_renew.proofs.Raised.{from_there}
 
@@ -164,6 +166,109 @@ stays_own lay k old now saw sees m before slots was done same became laid kept t
     let bare = in_place_are_bare m old now became.describes here.0 many in
     (laid.own ∙ states_same old now bare, laid.own_weight ∙ weighs_same old now bare)
 
+-- ---- Items that add the same to what is inside, but for sums.
+
+same_on : (s t : Slots) → count_of s ≡ count_of t → AddSame (count_of s) s t → HaveSame s t
+same_on no_slots no_slots e each = record { levels = refl; depth = refl; has_instances = refl; has_empty = refl; sound = refl; asks = refl; is_assigned = refl }
+same_on no_slots (slot y t) e each = absurd (omega (arith, e))
+same_on no_slots (written w c inside t) e each = absurd (omega (arith, e))
+same_on (slot x s) no_slots e each = absurd (omega (arith, e))
+same_on (written v b within s) no_slots e each = absurd (omega (arith, e))
+same_on (slot x s) (slot y t) e each =
+    each 0 (omega arith) (slot x no_slots) (slot y no_slots) refl refl s t (same_on s t (omega (arith, e)) (λ j l. each (suc j) (omega (arith, l))))
+same_on (slot x s) (written w c inside t) e each =
+    each 0 (omega arith) (slot x no_slots) (written w c inside no_slots) refl refl s t (same_on s t (omega (arith, e)) (λ j l. each (suc j) (omega (arith, l))))
+same_on (written v b within s) (slot y t) e each =
+    each 0 (omega arith) (written v b within no_slots) (slot y no_slots) refl refl s t (same_on s t (omega (arith, e)) (λ j l. each (suc j) (omega (arith, l))))
+same_on (written v b within s) (written w c inside t) e each =
+    each 0 (omega arith) (written v b within no_slots) (written w c inside no_slots) refl refl s t (same_on s t (omega (arith, e)) (λ j l. each (suc j) (omega (arith, l))))
+
+many_fronts : (xs : List Slot) → length (fronts xs) ≡ length xs
+many_fronts [] = refl
+many_fronts (x ∷ xs) = ap suc (many_fronts xs)
+
+-- what is inside a body is what was inside it, if its items say so, and there are as many
+pub stays_inside : (slots : Slots) (was : List Slot) (d : Done) (same : Bool) → slots_of was ≡ slots → AddAsSaid slots d → (same ≡ true → (d.add_same ≡ true) × (length was ≡ length d.slots.items))
+    → StaysInside same slots (slots_of d.slots.items)
+stays_inside slots was d same kept said told = λ yes.
+    let here = told yes in
+    let first : count_of slots ≡ length was = ap count_of (sym kept) ∙ count_listed was in
+    let all = said here.0 in
+    same_on slots (slots_of d.slots.items) (first ∙ (here.1 ∙ sym (count_listed d.slots.items))) (λ j l. all j (omega (arith, l, first, here.1)))
+
+-- the last one
+last_front : (d e : Done) (f : Slots) → fronts e.slots.items ≡ fronts d.slots.items ++ f ∷ [] → slice_get (fronts e.slots.items) (length d.slots.items) ≡ Some f
+last_front d e f slots =
+    ap (λ fs. slice_get fs (length d.slots.items)) slots
+    ∙ (ap (slice_get (fronts d.slots.items ++ f ∷ [])) (sym (many_fronts d.slots.items)) ∙ get_last (fronts d.slots.items) f)
+
+some_front : (f g : Slots) → ◌≡◌ {A = Option Slots} (Some f) (Some g) → f ≡ g
+some_front f g e = cc
+
+-- the slot of a number in a list
+at_front : (xs : List Slot) (n : ℕ) (x : Slot) (f : Slots) → slice_get xs n ≡ Some x → slot_at n (slots_of xs) ≡ Some f → f ≡ front_of x
+at_front xs n x f there is = some_front f (front_of x) (sym is ∙ (fronts_are_slots xs n ∙ (slice_get-map front_of xs n ∙ ap (option_map front_of) there)))
+
+pub adds_at : (before now : List Slot) (n : ℕ) (x y : Slot) → slice_get before n ≡ Some x → slice_get now n ≡ Some y → AddsSame (front_of x) (front_of y) → AddSameAt n (slots_of before) (slots_of now)
+adds_at before now n x y was there same = λ f g h k.
+    subst (λ q. AddsSame q g) (sym (at_front before n x f was h)) (subst (λ q. AddsSame (front_of x) q) (sym (at_front now n y g there k)) same)
+
+own_same : (x : Slot) → AddsSame (front_of x) (front_of x)
+own_same slots.Own = own_adds
+own_same (slots.Default p) = default_adds p p
+own_same (slots.Dynamic v) = dynamic_adds v v
+own_same (slots.Field f) = field_adds f f
+own_same (slots.Named class None) = unknown_adds class
+own_same (slots.Named class (Some r)) = named_adds class class r.value r.value refl (seen_own r.value)
+own_same (slots.Define class s n) = type_adds class class (record n.value.core { seen = s.value }) (record n.value.core { seen = s.value }) n.value.slots n.value.slots (seen_own s.value)
+own_same (slots.Part n) = part_adds n.value.core n.value.core n.value.slots n.value.slots (seen_own n.value.core.seen)
+
+-- an item that is passed over adds what it added
+pub kept_add : (before : List Slot) (d e : Done) (s : Slot) (n : ℕ) → slice_get before n ≡ Some s → fronts e.slots.items ≡ fronts d.slots.items ++ front_of s ∷ []
+    → (e.add_same ≡ true → (d.add_same ≡ true) × (n ≡ length d.slots.items)) → AddsAsSaid (slots_of before) d e
+kept_add before d e s n there slots one =
+    let count = length d.slots.items in
+    record {
+      more = (front_of s, slots);
+      same = λ so.
+          let two = one so in (
+            two.0,
+            λ f g was is.
+                let old : f ≡ front_of s = at_front before count s f (ap (slice_get before) (sym two.1) ∙ there) was in
+                let new : g ≡ front_of s = some_front g (front_of s) (sym is ∙ (fronts_are_slots e.slots.items count ∙ last_front d e (front_of s) slots)) in
+                subst (λ h. AddsSame h g) (sym old) (subst (λ h. AddsSame (front_of s) h) (sym new) (own_same s)),
+          );
+    }
+
+-- one more that is done, of which that is told then
+pub liken_add : (before : Slots) (d m e : Done) (n : ℕ) → IsLikeAs d m → e.slots ≡ m.slots → n ≡ length d.slots.items → (e.add_same ≡ true → (m.add_same ≡ true) × AddSameAt n before (slots_of m.slots.items)) → AddsAsSaid before d e
+liken_add before d m e n like slots number told = record {
+  more = (like.more.0, ap (λ v. fronts v.items) slots ∙ like.more.1);
+  same = λ so.
+      let two = told so in
+      (sym like.add_same ∙ two.0, subst (λ k. AddSameAt k before (slots_of e.slots.items)) number (subst (λ v. AddSameAt n before (slots_of v.items)) (sym slots) two.1));
+}
+
+-- one more of which it is said
+pub next_add : (before : Slots) (d e : Done) → AddAsSaid before d → AddsAsSaid before d e → AddAsSaid before e
+next_add before d e was one = λ so.
+    let two = one.same so in
+    let count = length d.slots.items in
+    let many : length e.slots.items ≡ count + 1 =
+    sym (many_fronts e.slots.items) ∙ (ap length one.more.1 ∙ (length-append (fronts d.slots.items) (one.more.0 ∷ []) ∙ ap (λ n. n + 1) (many_fronts d.slots.items))) in
+    λ j l. by two j (omega (arith, l, many)) (cases_lt j count)
+  where
+    by : (d.add_same ≡ true) × AddSameAt (length d.slots.items) before (slots_of e.slots.items) → (j : ℕ) → j < length d.slots.items + 1 → ((j < length d.slots.items) ⊎ (length d.slots.items ≤ j)) → AddSameAt j before (slots_of e.slots.items)
+    by two j l (inl less) = λ f g there is.
+        was two.0 j less f g there
+        (fronts_are_slots d.slots.items j
+        ∙ (sym (get_front (fronts d.slots.items) one.more.0 j (let m = many_fronts d.slots.items in omega (arith, less, m)))
+        ∙ (ap (λ fs. slice_get fs j) (sym one.more.1) ∙ (sym (fronts_are_slots e.slots.items j) ∙ is))))
+    by two j l (inr least) = let at : length d.slots.items ≡ j = omega (arith, l, least) in subst (λ k. AddSameAt k before (slots_of e.slots.items)) at two.1
+
+pub none_add : (before : Slots) (d : Done) → d.slots.items ≡ [] → AddAsSaid before d
+none_add before d none = λ so j l. let e : length d.slots.items ≡ 0 = ap length none in absurd (omega (arith, l, e))
+
 -- ---- Item by item.
 
 pub next_in_place : (m : Marks) (i : ℕ) (d e : Done) (t : Trace) → (d.are_in_place ≡ true → AreInPlace m i) → length d.slots.items ≡ i → trace_of m i ≡ Some t
@@ -227,16 +332,11 @@ of_front_is : (o : Option Slot) → of_item o ≡ of_front (option_map front_of 
 of_front_is None = refl
 of_front_is (Some x) = refl
 
-many_fronts : (xs : List Slot) → length (fronts xs) ≡ length xs
-many_fronts [] = refl
-many_fronts (x ∷ xs) = ap suc (many_fronts xs)
-
 pub kept_alike : (before : List Slot) (d e : Done) (s : Slot) (n : ℕ) (t : Trace) (y : Item) → slice_get before n ≡ Some s → t ≡ same_item n → fronts e.slots.items ≡ fronts d.slots.items ++ front_of s ∷ []
     → e.are_alike ≡ d.are_alike → e.are_alike ≡ (d.are_alike && is_alike true (slots_of before) (of_last d e) t y)
 kept_alike before d e s n t y there told slots alike =
     let count = length d.slots.items in
-    let got : slice_get (fronts e.slots.items) count ≡ Some (front_of s) =
-    ap (λ fs. slice_get fs count) slots ∙ (ap (slice_get (fronts d.slots.items ++ front_of s ∷ [])) (sym (many_fronts d.slots.items)) ∙ get_last (fronts d.slots.items) (front_of s)) in
+    let got = last_front d e (front_of s) slots in
     let last : of_last d e ≡ of_item (Some s) = of_front_is (slice_get e.slots.items count) ∙ ap of_front (sym (slice_get-map front_of e.slots.items count) ∙ got) in
     let was : of_at n (slots_of before) ≡ of_item (Some s) = at_slot n before ∙ ap of_item there in
     let same : is_alike true (slots_of before) (of_last d e) t y ≡ true =

@@ -1,17 +1,20 @@
 -- How the items of a body that is renewed are like what they were.
 -- own: SystemRDL 2.0 has no edits.
-use Rattle.std.specs.Prelude.{◌≡◌, ℕ, ◌<◌, true, length, slice_get}
+use Rattle.std.specs.Prelude.{◌≡◌, ℕ, ◌<◌, ◌∷◌, ◌++◌, [], true, length, Some, slice_get}
 use Rattle.rdl_tree.specs.Items.{Items, no_items, plain, holder}
 use Rattle.rdl_tree.specs.View as tree
 use Rattle.rdl_marks.specs.Describes.{Describes}
 use Rattle.rdl_marks.specs.Marks.{Marks, no_firsts}
 use Rattle.rdl_marks.specs.View.{Trace, old_item}
 use Rattle.rdl_nodes.specs.Parts.{of_item}
+use Rattle.rdl_nodes.specs.SameInside.{AddsSame}
 use Rattle.rdl_nodes.specs.View.{slots_of}
 use Rattle.rdl_seen.specs.Fields.{Of}
+use Rattle.rdl_seen.specs.OneByOne.{slot_at}
 use Rattle.rdl_seen.specs.Slots.{Slots}
 use Rattle.rdl_renew.specs.declared.done.Done.{Done}
 use Rattle.rdl_renew.specs.AlikeSlots.{all_alike}
+use Rattle.rdl_renew.specs.Fronts.{fronts}
 use Rattle.rdl_renew.specs.TakenOver.{IsAsItWasOutside}
 
 -- an item is the old one of this number but for what is inside it
@@ -33,11 +36,34 @@ abbrev pub InPlaceAreBare : Type 0
 InPlaceAreBare =
     (m : Marks) (old now : Items) → Describes m old now → AreInPlace m (length (tree.list_of now)) → length (tree.list_of old) ≡ length (tree.list_of now) → bare_items old ≡ bare_items now
 
+-- the items of this number add the same to what is inside, but for sums
+abbrev pub AddSameAt : ℕ → Slots → Slots → Type 0
+AddSameAt j s t = (f g : Slots) → slot_at j s ≡ Some f → slot_at j t ≡ Some g → AddsSame f g
+
+-- so do as many of the first ones
+abbrev pub AddSame : ℕ → Slots → Slots → Type 0
+AddSame count s t = (j : ℕ) → j < count → AddSameAt j s t
+
 -- ---- Items that are done.
 
--- the likeness of the second ones is told as that of the first ones
+-- the second ones are the first ones and one more
+abbrev pub IsOneMore : Done → Done → Type 0
+IsOneMore d e = (f : Slots) × (fronts e.slots.items ≡ fronts d.slots.items ++ f ∷ [])
+
+-- if it is said that they add the same to what is inside as these, they do
+abbrev pub AddAsSaid : Slots → Done → Type 0
+AddAsSaid before d = d.add_same ≡ true → AddSame (length d.slots.items) before (slots_of d.slots.items)
+
+-- the second ones are one more than the first ones, and if it is said that they add the same as these, the first ones and that one do
+pub record AddsAsSaid (before : Slots) (d e : Done) : Type 0 where
+  pub more : IsOneMore d e
+  pub same : e.add_same ≡ true → (d.add_same ≡ true) × AddSameAt (length d.slots.items) before (slots_of e.slots.items)
+
+-- the likeness of the second ones, which are one more, is told as that of the first ones
 pub record IsLikeAs (d e : Done) : Type 0 where
   pub in_place : e.are_in_place ≡ d.are_in_place
+  pub add_same : e.add_same ≡ d.add_same
+  pub more : IsOneMore d e
   pub alike : e.are_alike ≡ d.are_alike
 
 -- the component of the item by which the second ones are more than the first ones

@@ -9,7 +9,7 @@ ghost use Rattle.rdl_tree.specs.Items.{Items};
 ghost use Rattle.rdl_renew.specs.AlikeSlots.{tells_of_width, is_alike, are_alike};
 ghost use Rattle.rdl_renew.specs.Along.{next_of};
 ghost use Rattle.rdl_renew.specs.Fronts.{front_of, fronts};
-ghost use Rattle.rdl_renew.specs.InPlace.{IsInPlace, IsLikeAs, IsLike};
+ghost use Rattle.rdl_renew.specs.InPlace.{IsInPlace, AddSameAt, IsLikeAs, IsLike};
 ghost use Rattle.rdl_renew.specs.Renewing.{Became, SeesSame, RaisesBehind};
 ghost use Rattle.rdl_seen.specs.Alert.{with_alert};
 ghost use Rattle.rdl_seen.specs.Layouts.{Laying};
@@ -22,6 +22,7 @@ use crate::anew::put_default;
 use crate::same::is_same;
 use crate::stayed::definition_raises;
 use rdl_marks::marks::BodyMarks;
+use rdl_nodes::contents::adds_same;
 use rdl_nodes::node::{Kept, Slot};
 use rdl_places::lasts::Lasts;
 use rdl_seen::alert::Alert;
@@ -46,6 +47,8 @@ pub(crate) struct Done {
     pub lasts: Lasts,
     /// Each is the old item of its number but for what is inside it, as far as that is known.
     pub are_in_place: bool,
+    /// Each adds the same to what is inside the body as the old item of its number, but for sums, as far as that is known.
+    pub add_same: bool,
     /// Each is no instance, or stayed in order, and layouts take the same of it where the default width of fields is the same.
     pub are_alike: bool,
 }
@@ -63,6 +66,7 @@ impl Done {
             reach,
             lasts: Lasts::none(alloc),
             are_in_place: true,
+            add_same: true,
             are_alike: true,
         })
     }
@@ -73,10 +77,14 @@ impl Done {
         ensures reach { self.new.reach ≡ self.old.reach }
         ensures lasts { self.new.lasts ≡ self.old.lasts }
         ensures in_place { OnOk result (self.new.are_in_place ≡ true → (self.old.are_in_place ≡ true) × (number ≡ length self.old.slots.items)) }
+        ensures add_same { OnOk result (self.new.add_same ≡ true → (self.old.add_same ≡ true) × (number ≡ length self.old.slots.items)) }
         ensures alike { self.new.are_alike ≡ self.old.are_alike }
     {
         let slot = slot.try_copy()?;
-        self.are_in_place = self.are_in_place && number == self.slots.len();
+        if number != self.slots.len() {
+            self.are_in_place = false;
+            self.add_same = false;
+        }
         self.slots.push(slot)?;
         Ok(())
     }
@@ -87,7 +95,7 @@ impl Done {
         ensures defaults { OnOk result (self.new.reach.defaults ≡ after_default_item item.now self.old.reach.defaults) }
         ensures alert { OnOk result (self.new.reach.alert ≡ with_alert self.old.reach.alert raises) }
         ensures lasts { self.new.lasts ≡ self.old.lasts }
-        ensures likeness { IsLikeAs self.old self.new }
+        ensures likeness { OnOk result (IsLikeAs self.old self.new) }
     {
         self.slots.push(slot)?;
         put_default(&mut self.reach.defaults, item);
@@ -101,9 +109,12 @@ impl Done {
         ensures reach { self.new.reach ≡ self.old.reach }
         ensures lasts { self.new.lasts ≡ self.old.lasts }
         ensures in_place { self.new.are_in_place ≡ true → (self.old.are_in_place ≡ true) × IsInPlace number (next_of next.entry) }
+        ensures add_same { self.new.add_same ≡ true → (self.old.add_same ≡ true) × AddSameAt number (slots_of before.now) (slots_of self.old.slots.items) }
         ensures alike { self.new.are_alike ≡ (self.old.are_alike && is_alike true (slots_of before.now) (of_item (slice_get self.old.slots.items number)) (next_of next.entry) item.now) }
     {
         self.are_in_place = self.are_in_place && is_in_place(next, number);
+        let adds_same = adds_same_at(before, self.slots.as_slice(), number);
+        self.add_same = self.add_same && adds_same;
         self.are_alike = self.are_alike
             && is_alike(next, item, before, self.slots.as_slice(), number, true);
     }
@@ -125,6 +136,27 @@ impl Done {
         ensures { result ≡ true → (self.now.are_in_place ≡ true) × (length before.now ≡ length self.now.slots.items) }
     {
         self.are_in_place && before.len() == self.slots.len()
+    }
+
+    /// Whether it is known that each item adds the same to what is inside the body as the old one of its number, but for sums, and there are as
+    /// many as these slots that were kept.
+    pub(crate) fn is_same_inside(&self, before: &[Slot]) -> bool
+        ensures { result ≡ true → (self.now.add_same ≡ true) × (length before.now ≡ length self.now.slots.items) }
+    {
+        self.add_same && before.len() == self.slots.len()
+    }
+}
+
+/// Whether both items of this number add the same to what is inside their bodies, but for sums.
+fn adds_same_at(before: &[Slot], now: &[Slot], number: usize) -> bool
+    ensures { result ≡ true → AddSameAt number (slots_of before.now) (slots_of now.now) }
+{
+    match before.get(number) {
+        Some(before) => match now.get(number) {
+            Some(now) => adds_same(before, now),
+            None => false,
+        },
+        None => false,
     }
 }
 

@@ -18,7 +18,7 @@ ghost use Rattle.rdl_renew.specs.Anew.{slot_there, slots_there};
 ghost use Rattle.rdl_renew.specs.Counting.{stayed_placed, CountsItem};
 ghost use Rattle.rdl_renew.specs.Fronts.{front_of};
 ghost use Rattle.rdl_renew.specs.InFront.{IsInFrontAt};
-ghost use Rattle.rdl_renew.specs.InPlace.{IsInPlace, IsLikeAs, IsLike, of_last};
+ghost use Rattle.rdl_renew.specs.InPlace.{IsInPlace, AddAsSaid, AddsAsSaid, IsLikeAs, IsLike, of_last};
 ghost use Rattle.rdl_renew.specs.Judged.{IfStillClean, HasNoneInside};
 ghost use Rattle.rdl_renew.specs.Placed.{in_body, placed_in, placed_stayed, placed_of, sets_width};
 ghost use Rattle.rdl_renew.specs.Renewing.{part_of, kept_component, written_of, Became, WasLaidOut, BecameComponent, DiffersNoMoreBefore, IsReached, AreDone, IsNext, IsMadeAnew, IsSettledAt};
@@ -177,6 +177,7 @@ fn finished_again<L: Lays>(
     inside: &BodyMarks,
     placed: &mut u64,
 ) -> Result<Node, AllocError>
+    requires { AddAsSaid before.now.slots done }
     ensures node { (old : Items) (saw sees : Around) → Became L.laying saw before.now.slots inside.now old component.now.body → WasLaidOut L.laying saw component.now.kind old before.now.core → DiffersNoMoreBefore L.laying done.reach.alert inside.now old component.now.body saw sees → IsLike inside.now before.now.slots component.now.body done → defaults.now ≡ sees.defaults → slots_of done.slots.items ≡ (body_of L.laying sees component.now.body).slots → IfOk result (λ n. n ≡ node L.laying sees component.now.kind component.now.body) }
     ensures slots { IfOk result (λ n. n.slots ≡ slots_of done.slots.items) }
     ensures placed { (old : Items) (saw : Around) → Became L.laying saw before.now.slots inside.now old component.now.body → IsLike inside.now before.now.slots component.now.body done → IfOk result (λ n. CountsOn placed.old placed.new (placed_over (are_alike (not (tells_of_width done.reach.alert)) inside.now before.now.slots (slots_of done.slots.items) component.now.body) before.now.core n.core)) }
@@ -184,15 +185,16 @@ fn finished_again<L: Lays>(
     let likeness = Likeness {
         are_alike: done.is_alike(inside, &component.body, before.slots()),
         is_own_same: done.is_in_place(before.slots()),
+        is_inside_same: done.is_same_inside(before.slots()),
     };
     let Done {
         slots,
         reach: _,
         lasts: _,
         are_in_place: _,
+        add_same: _,
         are_alike: _,
     } = done;
-    let before = before.core();
     finished_over(
         alloc, lay, defaults, component, slots, before, likeness, placed,
     )
@@ -407,6 +409,7 @@ fn renew_item<L: Lays>(
     ensures properties { OnOk result (done.new.reach.alert.properties ≡ done.old.reach.alert.properties) }
     ensures lasts { AreLasts renewal.now.body.now done.new.lasts }
     ensures in_place { OnOk result (done.new.are_in_place ≡ true → (done.old.are_in_place ≡ true) × IsInPlace (length done.old.slots.items) (next_of next.entry)) }
+    ensures add_same { OnOk result (AddsAsSaid (slots_of renewal.now.slots.now) done.old done.new) }
     ensures alike { OnOk result (done.new.are_alike ≡ (done.old.are_alike && is_alike true (slots_of renewal.now.slots.now) (of_last done.old done.new) (next_of next.entry) item.now)) }
 {
     if let Next::Same(number) = next {
@@ -437,6 +440,7 @@ fn renew_body<L: Lays>(
     ensures alert { (old : Items) (saw : Around) → Became L.laying saw (slots_of renewal.now.slots.now) marks.now old renewal.now.body.now → IsReached L.laying (outer_places renewal.now.outer) saw reach.now → IfOk result (λ done. DiffersNoMoreBefore L.laying done.reach.alert marks.now old renewal.now.body.now saw (around_places L.laying (outer_places renewal.now.outer))) }
     ensures clean { (old : Items) (saw : Around) → Became L.laying saw (slots_of renewal.now.slots.now) marks.now old renewal.now.body.now → IsReached L.laying (outer_places renewal.now.outer) saw reach.now → OnOk result (IfStillClean account.old.judge.is_clean account.new.judge.is_clean (StaysClean L.laying (outer_places renewal.now.outer) renewal.now.around saw old renewal.now.body.now)) }
     ensures placed { (old : Items) (saw : Around) → Became L.laying saw (slots_of renewal.now.slots.now) marks.now old renewal.now.body.now → IsReached L.laying (outer_places renewal.now.outer) saw reach.now → IfOk result (λ done. CountsOn account.old.placed account.new.placed (placed_in (tells_of_width reach.now.alert || sets_width marks.now renewal.now.body.now) marks.now (slots_of renewal.now.slots.now) (slots_of done.slots.items) 0 renewal.now.body.now)) }
+    ensures add_same { IfOk result (λ done. AddAsSaid (slots_of renewal.now.slots.now) done) }
     ensures width { IfOk result (λ done. tells_of_width done.reach.alert ≡ (tells_of_width reach.now.alert || sets_width marks.now renewal.now.body.now)) }
     ensures likeness { (old : Items) (saw : Around) → Became L.laying saw (slots_of renewal.now.slots.now) marks.now old renewal.now.body.now → IsReached L.laying (outer_places renewal.now.outer) saw reach.now → IfOk result (λ done. IsLike marks.now (slots_of renewal.now.slots.now) renewal.now.body.now done) }
 {
@@ -499,6 +503,7 @@ pub fn renewed<L: Lays>(
         reach: _,
         lasts: _,
         are_in_place: _,
+        add_same: _,
         are_alike: _,
     } = done;
     Ok(RenewedMap {

@@ -25,7 +25,7 @@ returns c =
     let ordered : c.is_ordered-is_ordered.result ≡ is_ordered k l = c.is_ordered-is_ordered.ensures ∙ ap (is_ordered k) kept in
     let compact : c.under.result.now ≡ l.compact = c.under.ensures ∙ ap (λ (x : Layouts). layout_under x Compact) kept in
     let spans : c.spans.result.now ≡ l.compact.spans = c.spans.ensures ∙ ap (λ (x : Layout). x.spans) compact in
-    let inside = c.of-contents.ensures in
+    let inside = c.requires in
     let sound : c.sound_of-sound.result
     ≡ sound_of k (sound_inside k v (contents s).sound) c.args.apart
     (are_fields_sound v l.compact.spans (map reset_of ps) (is_ordered k l || clash_none l.compact.spans (map access_of ps))) (are_harmless (spots_of k l) s) =

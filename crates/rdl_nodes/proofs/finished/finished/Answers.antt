@@ -3,6 +3,7 @@ use Rattle.std.specs.Prelude.{map}
 use Rattle.rdl_seen.specs.Node.{values_of, layouts_of, core_of}
 use Rattle.rdl_seen.specs.Values.{of_kind, over}
 use Rattle.rdl_nodes.specs.declared.node.Slot.{Slot}
+use Rattle.rdl_nodes.specs.CoreWith.{core_with}
 use Rattle.rdl_nodes.specs.Part.{member_of}
 use Rattle.rdl_nodes.specs.Parts.{parts_of}
 use Rattle.rdl_nodes.specs.View.{slots_of}
@@ -20,17 +21,16 @@ core_is g c =
     let t = c.args.component.now.body in
     let xs = c.args.slots.items in
     let lay = g.L.Lays.laying in
-    let first : c.as_slice.result.now ≡ xs = c.as_slice.ensures.value in
-    let third : c.as_slice-3.result.now ≡ xs = c.as_slice-3.ensures.value in
+    let first : c.as_slice-2.result.now ≡ xs = c.as_slice-2.ensures.value in
+    let third : c.as_slice-4.result.now ≡ xs = c.as_slice-4.ensures.value in
     let parts : c.in_ok-parts.parts.items ≡ parts_of v t (slots_of xs) = c.in_ok-parts.ensures ∙ ap (λ (ys : List Slot). parts_of v t (slots_of ys)) first in
-    let second : c.as_slice-2.result.now ≡ parts_of v t (slots_of xs) = c.as_slice-2.ensures.value ∙ parts in
-    let values : c.of_kind-values.result ≡ values_of k v t = c.of_kind-values.ensures ∙ ap (of_kind k) (c.over.ensures ∙ ap (λ o. over o v) c.own_values.ensures) in
-    let said : c.in_ok-layouts.layouts ≡ lay k c.of_kind-values.result (map member_of c.as_slice-2.result.now) = c.in_ok-layouts.ensures in
-    let laid : c.in_ok-layouts.layouts ≡ layouts_of lay k v t (slots_of xs) = said ∙ (λ i. lay k (values i) (members_are v t (slots_of xs) c.as_slice-2.result.now second i)) in
+    let second : c.as_slice-3.result.now ≡ parts_of v t (slots_of xs) = c.as_slice-3.ensures.value ∙ parts in
+    let last : c.as_slice-5.result.now ≡ parts_of v t (slots_of c.as_slice-4.result.now) = c.as_slice-5.ensures.value ∙ (parts ∙ ap (λ (ys : List Slot). parts_of v t (slots_of ys)) (sym third)) in
+    let values : c.of_kind-values.result ≡ values_of k v t = c.of_kind-values.ensures ∙ ap (of_kind k) (c.over.ensures ∙ ap (λ o. over o v) c.own_of-own.ensures.values) in
+    let said : c.in_ok-layouts.layouts ≡ lay k c.of_kind-values.result (map member_of c.as_slice-3.result.now) = c.in_ok-layouts.ensures in
+    let laid : c.in_ok-layouts.layouts ≡ layouts_of lay k v t (slots_of xs) = said ∙ (λ i. lay k (values i) (members_are v t (slots_of xs) c.as_slice-3.result.now second i)) in
     let boxed : c.in_ok-layouts-2.layouts.value ≡ c.in_ok-layouts.layouts = c.in_ok-layouts-2.ensures.ok in
-    let made : c.in_ok-layouts-2.layouts.value ≡ layouts_of lay k v t (slots_of c.as_slice-3.result.now) → c.of-core.result ≡ core_of lay k v t (slots_of c.as_slice-3.result.now) =
-    c.of-core.ensures.however_laid lay in
-    made (boxed ∙ laid ∙ ap (λ (ys : List Slot). layouts_of lay k v t (slots_of ys)) (sym third)) ∙ ap (λ (ys : List Slot). core_of lay k v t (slots_of ys)) third
+    c.of-core.ensures.with_layouts v c.own_of-own.ensures.values c.own_of-own.ensures.weight values last ∙ (λ i. core_with k v t (slots_of (third i)) ((boxed ∙ laid) i))
 
 pub returns : goal.returns
 returns g c =

@@ -22,7 +22,7 @@ use Rattle.rdl_renew.specs.Along.{next_of}
 use Rattle.rdl_renew.specs.Anew.{slots_there}
 use Rattle.rdl_renew.specs.Fronts.{front_of}
 use Rattle.rdl_renew.specs.HeldRenewal.{renewing}
-use Rattle.rdl_renew.specs.InPlace.{IsLike}
+use Rattle.rdl_renew.specs.InPlace.{AddAsSaid, IsLike}
 use Rattle.rdl_renew.specs.Judged.{IsCleanBody}
 use Rattle.rdl_renew.specs.Placed.{in_body, placed_stayed, sets_width}
 use Rattle.rdl_renew.specs.Raised.{raised}
@@ -32,7 +32,7 @@ use Rattle.rdl_renew.proofs.BodySteps.{first_done, next_is, one_renewed, body_do
 use Rattle.rdl_renew.proofs.CleanSteps.{on_any, was_clean, stayed_clean, settled_clean, same_judge, component_still, first_clean, next_clean, body_clean}
 use Rattle.rdl_renew.proofs.CountSteps.{if_both, on_two, width_either, on_told, stayed_became, stayed_counted, settled_counted, component_counted, bare_counted, unkept_counted, finished_counted, none_counted, one_counted, all_counted}
 use Rattle.rdl_renew.proofs.InFront.{front_done, front_clean, front_counted}
-use Rattle.rdl_renew.proofs.InPlace.{kept_in_place, kept_alike, next_in_place, first_alike, next_alike, all_like}
+use Rattle.rdl_renew.proofs.InPlace.{kept_in_place, kept_add, liken_add, kept_alike, next_in_place, none_add, next_add, first_alike, next_alike, all_like}
 use Rattle.rdl_renew.proofs.ItemSteps.{on_all, on_both, kept_done, stayed_done, slot_made, with_next, reached_stayed}
 use Rattle.rdl_renew.proofs.OneDone.{done_many, place_made}
 use Rattle.rdl_renew.proofs.Raises.{with_none}
@@ -162,6 +162,7 @@ renew_body-loop-item-init g t c = record {
       none_counted (tells_of_width c.args.reach.now.alert || sets_width r.marks r.now) r.marks r.slots (slots_there g.L.Lays.laying r.places r.now) r.now c.as_slice-item-items.result.now c.args.account.now.placed
       c.as_slice-item-items.ensures;
   in_place = λ old saw became reached so j l. absurd (omega (arith, l));
+  add_same = none_add (slots_of c.args.renewal.now.slots.now) c.in_ok-done.done c.in_ok-done.ensures.slots;
   alike = λ old saw became reached.
       first_alike c.args.marks.now (slots_of c.args.renewal.now.slots.now) (slots_there g.L.Lays.laying (outer_places c.args.renewal.now.outer) c.args.renewal.now.body.now) c.args.renewal.now.body.now c.in_ok-done.done
       c.in_ok-done.ensures.alike;
@@ -208,6 +209,7 @@ renew_body-loop-item-preserved g t c =
           let r = renewing c.args.renewal.now c.args.marks.now old saw in
           next_in_place r.marks i c.loop-item.done c.renew_item.new.done (next_of c.next-next.result) (c.loop-item.invariant.in_place old saw became reached)
           (done_many lay r i c.loop-item.done (c.loop-item.invariant.done old saw became reached)) (next old saw became reached).told c.in_ok-renew_item.ensures.in_place;
+      add_same = next_add (slots_of c.args.renewal.now.slots.now) c.loop-item.done c.renew_item.new.done c.loop-item.invariant.add_same c.in_ok-renew_item.ensures.add_same;
       alike = λ old saw became reached.
           let r = renewing c.args.renewal.now c.args.marks.now old saw in
           let here = next old saw became reached in
@@ -407,11 +409,23 @@ renew_body-returns-clause-likeness g t c = λ old saw became reached.
     all_like g.L.Lays.laying r c.loop-item.item-index c.loop-item.done c.as_slice-item-items.result.now (c.loop-item.invariant.in_place old saw became reached) (c.loop-item.invariant.alike old saw became reached)
     c.as_slice-item-items.ensures c.loop-item-test.false (renew_body-returns-clause-slots g t c old saw became reached)
 
+pub renewed_component-finished_again-requires : goal.renewed_component-finished_again-requires
+renewed_component-finished_again-requires g t c = subst (λ s. AddAsSaid s c.in_ok-done.done) c.slots.ensures c.in_ok-done.ensures.add_same
+
 -- ---- How its items are like what they were.
 
 pub renew_item-returns-in-Some-clause-in_place : goal.renew_item-returns-in-Some-clause-in_place
 renew_item-returns-in-Some-clause-in_place g t c = on_both c.keep.result c.keep.ensures.in_place
     (λ one. kept_in_place c.args.done.now c.keep.new.self c.in-Same.number (next_of c.args.next) (ap next_of c.in-Same.is) one)
+
+pub renew_item-returns-in-Some-clause-add_same : goal.renew_item-returns-in-Some-clause-add_same
+renew_item-returns-in-Some-clause-add_same g t c = on_two c.keep.result c.keep.ensures.slots c.keep.ensures.add_same
+    (λ slots one. kept_add c.args.renewal.now.slots.now c.args.done.now c.keep.new.self c.in-Some.slot.now c.in-Same.number c.in-Some.ensures.there slots one)
+
+pub renew_item-returns-clause-add_same : goal.renew_item-returns-clause-add_same
+renew_item-returns-clause-add_same g t c =
+    let number : c.len-number.result ≡ length c.args.done.now.slots.items = search rules in
+    liken_add (slots_of c.args.renewal.now.slots.now) c.args.done.now c.renew_other.new.done c.liken.new.self c.len-number.result c.in_ok-renew_other.ensures.likeness c.liken.ensures.slots number c.liken.ensures.add_same
 
 pub renew_item-returns-in-Some-clause-alike : goal.renew_item-returns-in-Some-clause-alike
 renew_item-returns-in-Some-clause-alike g t c = on_both c.keep.result c.keep.ensures.slots
@@ -422,6 +436,11 @@ renew_item-returns-in-Some-clause-alike g t c = on_both c.keep.result c.keep.ens
 pub renew_item-returns-in-Some-front_slot-clause-in_place : goal.renew_item-returns-in-Some-front_slot-clause-in_place
 renew_item-returns-in-Some-front_slot-clause-in_place g t c = on_both c.keep-in-Some-front_slot.result c.keep-in-Some-front_slot.ensures.in_place
     (λ one. kept_in_place c.args.done.now c.keep-in-Some-front_slot.new.self c.in-Same.number (next_of c.args.next) (ap next_of c.in-Same.is) one)
+
+pub renew_item-returns-in-Some-front_slot-clause-add_same : goal.renew_item-returns-in-Some-front_slot-clause-add_same
+renew_item-returns-in-Some-front_slot-clause-add_same g t c = on_two c.keep-in-Some-front_slot.result c.keep-in-Some-front_slot.ensures.slots c.keep-in-Some-front_slot.ensures.add_same
+    (λ slots one.
+    kept_add c.args.renewal.now.slots.now c.args.done.now c.keep-in-Some-front_slot.new.self c.in-Some-front_slot.slot.now c.in-Same.number c.in-Some-front_slot.ensures.there slots one)
 
 pub renew_item-returns-in-Some-front_slot-clause-alike : goal.renew_item-returns-in-Some-front_slot-clause-alike
 renew_item-returns-in-Some-front_slot-clause-alike g t c = on_both c.keep-in-Some-front_slot.result c.keep-in-Some-front_slot.ensures.slots

@@ -12,7 +12,7 @@ use Rattle.rdl_renew.specs.AlikeSlots.{tells_of_width}
 use Rattle.rdl_renew.specs.Along.{HasPassed}
 use Rattle.rdl_renew.specs.Anew.{slots_there}
 use Rattle.rdl_renew.specs.HeldRenewal.{renewing}
-use Rattle.rdl_renew.specs.InPlace.{AreInPlace}
+use Rattle.rdl_renew.specs.InPlace.{AreInPlace, AddAsSaid}
 use Rattle.rdl_renew.specs.Placed.{sets_width}
 use Rattle.rdl_renew.specs.Raised.{raised}
 use Rattle.rdl_renew.specs.Renewing.{Became, IsReached, AreDone}
@@ -55,6 +55,7 @@ invariant-renew_body-loop-item g l = record {
       l.renewal.body.now l.item-items l.item-index l.fn.account.placed l.account.placed;
   in_place : (old : Items) (saw : Around) → Became g.L.Lays.laying saw (slots_of l.renewal.slots.now) l.marks old l.renewal.body.now → IsReached g.L.Lays.laying (outer_places l.renewal.outer) saw l.fn.reach
       → l.done.are_in_place ≡ true → AreInPlace l.marks l.item-index;
+  add_same : AddAsSaid (slots_of l.renewal.slots.now) l.done;
   alike : (old : Items) (saw : Around) → Became g.L.Lays.laying saw (slots_of l.renewal.slots.now) l.marks old l.renewal.body.now → IsReached g.L.Lays.laying (outer_places l.renewal.outer) saw l.fn.reach
       → alike_on l.marks (slots_of l.renewal.slots.now) (slots_there g.L.Lays.laying (outer_places l.renewal.outer) l.renewal.body.now) l.renewal.body.now 0
       ≡ (l.done.are_alike && alike_on l.marks (slots_of l.renewal.slots.now) (slots_there g.L.Lays.laying (outer_places l.renewal.outer) l.renewal.body.now) l.renewal.body.now l.item-index);

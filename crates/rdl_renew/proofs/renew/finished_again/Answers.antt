@@ -1,7 +1,6 @@
 use Rattle.std.proofs.Common.{◌≡◌, not, true, length, sym, ap, subst, ◌∙◌}
 use Rattle.rdl_tree.specs.Items.{Items}
 use Rattle.rdl_tree.specs.View as tree
-use Rattle.rdl_nodes.specs.Bare.{StaysLaidOut, StaysOwn}
 use Rattle.rdl_nodes.specs.Placed.{placed_over}
 use Rattle.rdl_nodes.specs.View.{slots_of}
 use Rattle.rdl_nodes.proofs.Counts.{counts_so}
@@ -13,7 +12,7 @@ use Rattle.rdl_renew.specs.Renewing.{Became}
 use Rattle.rdl_renew.proofs.Alone.{was_false}
 use Rattle.rdl_renew.proofs.AlikeSteps.{alike_are}
 use Rattle.rdl_renew.proofs.CountSteps.{if_ok}
-use Rattle.rdl_renew.proofs.InPlace.{stays_own}
+use Rattle.rdl_renew.proofs.InPlace.{stays_own, stays_inside}
 use Rattle.rdl_renew.proofs.LaidAgain.{stays_laid_out, node_is}
 use Rattle.rdl_renew.proofs.renew.finished_again.Given.{Over}
 use Rattle.rdl_renew.proofs.renew.finished_again.Goals as goal
@@ -48,12 +47,13 @@ returns-clause-node g c = λ old saw sees became core differs like here kept.
     let place : c.is_in_place.result ≡ true → AreInPlace inside (length (tree.list_of body)) × (length c.slots-2.result.now ≡ length items) =
     λ so. let told = c.is_in_place.ensures so in (like.in_place told.0, told.1) in
     let own = stays_own lay kind old body saw sees inside c.args.before.now.core c.args.before.now.slots c.slots-2.result.now items c.is_in_place.result became core c.slots-2.ensures kept place in
-    node_is lay kind body sees defaults (slots_of items) c.finished_over.result here kept
-    (c.finished_over.ensures.node (subst (λ k. StaysOwn c.is_in_place.result k body) (sym c.core-before.ensures) own)
-    (subst (λ k. StaysLaidOut lay alike k kind defaults body (slots_of items)) (sym c.core-before.ensures) stays))
+    node_is lay kind body sees defaults (slots_of items) c.finished_over.result here kept (c.finished_over.ensures.node own stays)
 
 pub returns-clause-placed : goal.returns-clause-placed
 returns-clause-placed g c = λ old saw became like.
     if_ok c.finished_over.result c.finished_over.ensures.placed
     (λ n counted.
-    counts_so c.args.placed.now c.finished_over.new.placed (λ j. placed_over (alike_is g c old saw became like j) (c.core-before.ensures j) n.core) counted)
+    counts_so c.args.placed.now c.finished_over.new.placed (λ j. placed_over (alike_is g c old saw became like j) c.args.before.now.core n.core) counted)
+
+pub finished_over-requires : goal.finished_over-requires
+finished_over-requires g c = stays_inside c.args.before.now.slots c.slots-3.result.now c.args.done c.is_same_inside.result c.slots-3.ensures c.requires c.is_same_inside.ensures
