@@ -30,7 +30,6 @@ use Rattle.rdl_scope.proofs.Repeats.{dynamic-key, key-suc}
 use Rattle.rdl_scope.proofs.Searches.{last-suc}
 use Rattle.rdl_scope.proofs.ValueSearches.{own-suc, default-suc}
 use Rattle.rdl_marks.specs.Describes.{IsItem}
-use Rattle.rdl_marks.specs.Marks.{no_firsts}
 use Rattle.rdl_marks.specs.View.{old_item}
 use Rattle.rdl_marks.specs.Was.{number_of, was}
 use Rattle.rdl_marks.proofs.Apart.{had_other_numbers}
@@ -40,8 +39,8 @@ use Rattle.rdl_seen.specs.Layouts.{Laying}
 use Rattle.rdl_seen.specs.Node.{Around, after_plain, after_holder, plain_instances, holder_instances, known}
 use Rattle.rdl_seen.proofs.Puts.{name-of}
 use Rattle.rdl_renew.specs.Alone.{is_rival, clashes, stands_alone, AllStandAlone, CleanStandAlone, ClashesAreTurned, StandsAloneByItems, NoneClash, StandsAloneStill}
-use Rattle.rdl_renew.specs.TakenOver.{IsAsItWasOutside}
-use Rattle.rdl_renew.proofs.Outside.{shut, item_outside, clash_same}
+use Rattle.rdl_renew.specs.TakenOver.{retyped, IsAsItWasOutside}
+use Rattle.rdl_renew.proofs.Outside.{untyped, item_untyped, clash_same}
 use Rattle.rdl_renew.proofs.Raised.{from_there}
 
 -- ---- Tests.
@@ -433,11 +432,11 @@ pub stands_alone_still : StandsAloneStill
 stands_alone_still m old now d all i n y got h others = stands_alone_by_items now i y each
   where
     was_n : was m i ≡ Some n
-    was_n = ap (option_and_then number_of) h.1
+    was_n = ap (option_and_then number_of) h.2
 
     -- what stood there
-    first : (j k : ℕ) (z : Item) → IsItem j now z → IsAsItWasOutside m j k → (w : Item) × IsItem k old w × (shut w ≡ shut z)
-    first j k z there g = item_outside old k g.0 z (from_there m old now j (old_item k no_firsts g.0) z d there g.1)
+    first : (j k : ℕ) (z : Item) → IsItem j now z → IsAsItWasOutside m j k → (w : Item) × IsItem k old w × (untyped w ≡ untyped z)
+    first j k z there g = item_untyped old k g.1 g.0 z (from_there m old now j (old_item k (retyped g.1) g.0) z d there g.2)
 
     kept : (j k : ℕ) (z : Item) → j < i → IsItem j now z → IsAsItWasOutside m j k → clashes y z ≡ false
     kept j k z l there g = by (cases_lt k n) (cases_lt n k)
@@ -450,7 +449,7 @@ stands_alone_still m old now d all i n y got h others = stands_alone_by_items no
             clashes_are_turned y z ∙ (clash_same z y w.0 v.0 w.2 v.2 ∙ none_clash old all n k v.0 w.0 c v.1 w.1)
         by (inr b) (inr c) =
             let same : k ≡ n = omega (arith, b, c) in
-            let one : j ≡ i = had_other_numbers m old now d j i n (ap (option_and_then number_of) g.1 ∙ ap Some same) was_n in
+            let one : j ≡ i = had_other_numbers m old now d j i n (ap (option_and_then number_of) g.2 ∙ ap Some same) was_n in
             absurd (omega (arith, l, one))
 
     each : (j : ℕ) (z : Item) → j < i → IsItem j now z → clashes y z ≡ false

@@ -7,7 +7,7 @@ use Rattle.rdl_tree.specs.View.{list_of}
 use Rattle.rdl_tree.specs.declared.description.Item.{Item}
 use Rattle.rdl_tree.specs.declared.description.Item.TheVariants.{Define, Instance, Own, Default, Dynamic}
 use Rattle.rdl_marks.specs.Describes.{Describes, IsItem}
-use Rattle.rdl_marks.specs.Marks.{Marks, no_firsts, no_marks}
+use Rattle.rdl_marks.specs.Marks.{Marks, no_marks}
 use Rattle.rdl_marks.specs.View.{Trace, old_item, same_item, run, list_of as traces_of, firsts_of, marked, piece_traces, pieces_traces}
 use Rattle.rdl_marks.specs.declared.marks.Mark.{Mark}
 use Rattle.rdl_marks.specs.declared.marks.Piece.{Piece}
@@ -15,7 +15,7 @@ use Rattle.rdl_marks.specs.Was.{trace_of}
 use Rattle.rdl_marks.proofs.Cuts.{length-run}
 use Rattle.rdl_renew.specs.Alone.{clashes, stands_alone, AllStandAlone}
 use Rattle.rdl_renew.specs.Apart.{is_own, has_same_key, IsApart, DoOwnsStandAlone, IsAsItWasOrApart, AllStandAloneStill, ApartStandAlone, AreSame, IsSameOrApart, AreSameOrApart}
-use Rattle.rdl_renew.specs.TakenOver.{IsAsItWasOutside}
+use Rattle.rdl_renew.specs.TakenOver.{retyped, IsAsItWasOutside}
 use Rattle.rdl_renew.proofs.Raises.{drop_here}
 use Rattle.rdl_renew.proofs.Alone.{clashes_are_turned, stands_alone_by_items, stands_alone_still}
 
@@ -138,11 +138,11 @@ get_run from (suc count) zero l = ap (λ n. Some (same_item n)) (let e : from �
 get_run from (suc count) (suc j) l = get_run (from + 1) count j (omega (arith, l)) ∙ ap (λ n. Some (same_item n)) (let e : from + 1 + j ≡ from + suc j = omega arith in e)
 
 pub run_same : (from count : ℕ) → AreSame (run from count)
-run_same from count j l = (from + j, no_marks, get_run from count j (let n = length-run from count in omega (arith, l, n)))
+run_same from count j l = (from + j, no_marks, None, get_run from count j (let n = length-run from count in omega (arith, l, n)))
 
--- an item of which no part was exchanged
-pub one_same : (number : ℕ) (m : Mark) → firsts_of m ≡ no_firsts → AreSame (marked number m ∷ [])
-one_same number m none zero l = (number, m.inside, ap (λ f. Some (old_item number f m.inside)) none)
+-- an item of which no part was exchanged but the type that it names
+pub one_same : (number : ℕ) (m : Mark) → firsts_of m ≡ retyped (firsts_of m).type_name → AreSame (marked number m ∷ [])
+one_same number m none zero l = (number, m.inside, (firsts_of m).type_name, ap (λ f. Some (old_item number f m.inside)) none)
 one_same number m none (suc j) l = absurd (omega (arith, l))
 
 get_behind : (done es : List Trace) (j : ℕ) → slice_get (done ++ es) (length done + j) ≡ slice_get es j
@@ -183,12 +183,12 @@ kept_done all es rest body owns from is same =
       each = each;
     }
   where
-    here : (i : ℕ) → from ≤ i → i < from + length es → (n : ℕ) × (inside : Marks) × (slice_get all i ≡ Some (old_item n no_firsts inside))
+    here : (i : ℕ) → from ≤ i → i < from + length es → (n : ℕ) × (inside : Marks) × (t : Option (List ℕ)) × (slice_get all i ≡ Some (old_item n (retyped t) inside))
     here i l g =
         let n = is.count in
         let at : i ≡ length is.done + (i - from) = omega (arith, l, n) in
         let one = same (i - from) (omega (arith, l, g)) in
-        (one.0, one.1, ap (λ zs. slice_get zs i) is.parts ∙ (ap (slice_get (is.done ++ (es ++ rest))) at ∙ (get_behind is.done (es ++ rest) (i - from) ∙ (get_first es rest (i - from) (omega (arith, l, g)) ∙ one.2))))
+        (one.0, one.1, one.2, ap (λ zs. slice_get zs i) is.parts ∙ (ap (slice_get (is.done ++ (es ++ rest))) at ∙ (get_behind is.done (es ++ rest) (i - from) ∙ (get_first es rest (i - from) (omega (arith, l, g)) ∙ one.3))))
 
     each : AllFrom (IsSameOrApart all body owns) body 0 (from + length es)
     each i y z l got = by (cases_lt i from)
@@ -256,6 +256,6 @@ as_it_was m es body owns are each i y got = by (nat_lt i (length (traces_of m.tr
     by true e = here (each i y (subst (λ zs. i < length zs) are (ltb-true i (length (traces_of m.traces)) e)) got)
       where
         here : IsSameOrApart es body owns i y → IsAsItWasOrApart m body owns i y
-        here (inl same) = inl (same.0, (same.1, told true e ∙ (ap (λ zs. slice_get zs i) are ∙ same.2)))
+        here (inl same) = inl (same.0, (same.1, same.2, told true e ∙ (ap (λ zs. slice_get zs i) are ∙ same.3)))
         here (inr apart) = inr apart
-    by false e = inl (m.behind + (i - length (traces_of m.traces)), (no_marks, told false e))
+    by false e = inl (m.behind + (i - length (traces_of m.traces)), (no_marks, None, told false e))

@@ -166,7 +166,7 @@ module _ (lay : Laying) (x : Alert) (around : Option Kind) (old now : Items) (a 
       ((λ j. is_none (dynamic_fault (alone j) (property_of p) v (sym leads j))) ∙ e.0, tt)
 
 or_outside : (m : Marks) (j : ℕ) (A : Type 0) → ((k : ℕ) × IsAsItWas m j k) ⊎ A → ((k : ℕ) × IsAsItWasOutside m j k) ⊎ A
-or_outside m j A (inl h) = inl (h.0, (no_marks, h.1))
+or_outside m j A (inl h) = inl (h.0, (no_marks, None, h.1))
 or_outside m j A (inr a) = inr a
 
 pub clean_items_stay_clean : CleanItemsStayClean
@@ -175,5 +175,5 @@ clean_items_stay_clean lay x m old now a b around to described ordered tells but
     let before = no_more_differs_before lay x m old now a b to described ordered tells but i n no_firsts no_marks y up got h refl in
     item_stays lay x around old now (around_before lay n a old) (around_before lay i b now) (instances_before lay n a no_instances old) (instances_before lay i b no_instances now) before n i y
     (clean_stand_alone lay a around no_instances old clean n y was)
-    (stands_alone_still m old now described (clean_stand_alone lay a around no_instances old clean) i n y got (no_marks, h)
+    (stands_alone_still m old now described (clean_stand_alone lay a around no_instances old clean) i n y got (no_marks, None, h)
     (λ j z l there. or_outside m j (clashes y z ≡ false) (others j z l there))) deaf leads (items_are_clean_in_bodies lay a around old clean n y was)

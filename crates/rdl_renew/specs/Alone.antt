@@ -62,7 +62,7 @@ StandsAloneByItems = (body : Items) (n : ℕ) (y : Item) → ((k : ℕ) (z : Ite
 abbrev pub NoneClash : Type 0
 NoneClash = (body : Items) → AllStandAlone body → (k n : ℕ) (z y : Item) → k < n → IsItem k body z → IsItem n body y → clashes y z ≡ false
 
--- one that is as it was, but for what is inside it, still stands alone, if it clashes with none before it but such ones, with which it didn't
+-- one that is as it was, but for what is inside it and the type that it names, still stands alone, if it clashes with none before it but such ones, with which it didn't
 abbrev pub StandsAloneStill : Type 0
 StandsAloneStill =
     (m : Marks) (old now : Items) → Describes m old now → AllStandAlone old → (i n : ℕ) (y : Item) → IsItem i now y → IsAsItWasOutside m i n

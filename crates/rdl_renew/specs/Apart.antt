@@ -1,6 +1,6 @@
 -- Items of a body that define or assign the same, and how it is told that none stands beside another with which it clashes.
 -- SystemRDL 2.0, clause 5: a name is defined once in a scope, and a property is assigned once.
-use Rattle.std.specs.Prelude.{◌≡◌, ℕ, ◌<◌, Bool, true, false, List, ◌∷◌, length, Some, ◌⊎◌, slice_get}
+use Rattle.std.specs.Prelude.{◌≡◌, ℕ, ◌<◌, Bool, true, false, List, ◌∷◌, length, Option, Some, ◌⊎◌, slice_get}
 use Rattle.std.specs.Option.{is_some}
 use Rattle.rdl_tree.specs.Items.{Items}
 use Rattle.rdl_tree.specs.declared.description.Item.{Item}
@@ -8,10 +8,10 @@ use Rattle.rdl_tree.specs.declared.description.Item.TheVariants.{Define, Instanc
 use Rattle.rdl_scope.specs.Keys.{has_key}
 use Rattle.rdl_scope.specs.Walk.{defaulted_by, is_definition, is_instance}
 use Rattle.rdl_marks.specs.Describes.{Describes, IsItem}
-use Rattle.rdl_marks.specs.Marks.{Marks, no_firsts}
+use Rattle.rdl_marks.specs.Marks.{Marks}
 use Rattle.rdl_marks.specs.View.{Trace, old_item}
 use Rattle.rdl_renew.specs.Alone.{stands_alone, AllStandAlone}
-use Rattle.rdl_renew.specs.TakenOver.{IsAsItWasOutside}
+use Rattle.rdl_renew.specs.TakenOver.{retyped, IsAsItWasOutside}
 
 abbrev pub is_own : Item → Bool
 is_own (Define name c) = false
@@ -36,7 +36,7 @@ IsApart body i y = (j : ℕ) (z : Item) → (j ≡ i → ⊥) → IsItem j body 
 abbrev pub DoOwnsStandAlone : Items → Type 0
 DoOwnsStandAlone body = (i : ℕ) (y : Item) → IsItem i body y → is_own y ≡ true → stands_alone body i y ≡ true
 
--- the item is as it was but for what is inside it, or no other one does the same; and where no own assignments are said to have changed, it is none
+-- the item is as it was but for what is inside it and the type that it names, or no other one does the same; and where no own assignments are said to have changed, it is none
 abbrev pub IsAsItWasOrApart : Marks → Items → (owns : Bool) → ℕ → Item → Type 0
 IsAsItWasOrApart m now owns i y = ((n : ℕ) × IsAsItWasOutside m i n) ⊎ (IsApart now i y × (owns ≡ false → is_own y ≡ false))
 
@@ -52,13 +52,13 @@ ApartStandAlone = (body : Items) → ((i : ℕ) (y : Item) → IsItem i body y �
 
 -- ---- By the pieces of a body.
 
--- each of these items is as it was but for what is inside it
+-- each of these items is as it was but for what is inside it and the type that it names
 abbrev pub AreSame : List Trace → Type 0
-AreSame es = (j : ℕ) → j < length es → (n : ℕ) × (inside : Marks) × (slice_get es j ≡ Some (old_item n no_firsts inside))
+AreSame es = (j : ℕ) → j < length es → (n : ℕ) × (inside : Marks) × (t : Option (List ℕ)) × (slice_get es j ≡ Some (old_item n (retyped t) inside))
 
--- by what is told of the items, this one is as it was but for what is inside it, or no other one does the same
+-- by what is told of the items, this one is so, or no other one does the same
 abbrev pub IsSameOrApart : List Trace → Items → (owns : Bool) → ℕ → Item → Type 0
-IsSameOrApart es body owns i y = ((n : ℕ) × (inside : Marks) × (slice_get es i ≡ Some (old_item n no_firsts inside))) ⊎ (IsApart body i y × (owns ≡ false → is_own y ≡ false))
+IsSameOrApart es body owns i y = ((n : ℕ) × (inside : Marks) × (t : Option (List ℕ)) × (slice_get es i ≡ Some (old_item n (retyped t) inside))) ⊎ (IsApart body i y × (owns ≡ false → is_own y ≡ false))
 
 abbrev pub AreSameOrApart : List Trace → Items → (owns : Bool) → Type 0
 AreSameOrApart es body owns = (i : ℕ) (y : Item) → i < length es → IsItem i body y → IsSameOrApart es body owns i y

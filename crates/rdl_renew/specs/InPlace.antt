@@ -6,6 +6,7 @@ use Rattle.rdl_tree.specs.View as tree
 use Rattle.rdl_marks.specs.Describes.{Describes}
 use Rattle.rdl_marks.specs.Marks.{Marks, no_firsts}
 use Rattle.rdl_marks.specs.View.{Trace, old_item}
+use Rattle.rdl_marks.specs.Was.{trace_of}
 use Rattle.rdl_nodes.specs.Parts.{of_item}
 use Rattle.rdl_nodes.specs.SameInside.{AddsSame}
 use Rattle.rdl_nodes.specs.View.{slots_of}
@@ -15,7 +16,6 @@ use Rattle.rdl_seen.specs.Slots.{Slots}
 use Rattle.rdl_renew.specs.declared.done.Done.{Done}
 use Rattle.rdl_renew.specs.AlikeSlots.{all_alike}
 use Rattle.rdl_renew.specs.Fronts.{fronts}
-use Rattle.rdl_renew.specs.TakenOver.{IsAsItWasOutside}
 
 -- an item is the old one of this number but for what is inside it
 abbrev pub IsInPlace : ℕ → Trace → Type 0
@@ -23,7 +23,7 @@ IsInPlace number e = (inside : Marks) × (e ≡ old_item number no_firsts inside
 
 -- so are as many of the first items
 abbrev pub AreInPlace : Marks → ℕ → Type 0
-AreInPlace m count = (j : ℕ) → j < count → IsAsItWasOutside m j j
+AreInPlace m count = (j : ℕ) → j < count → (inside : Marks) × (trace_of m j ≡ Some (old_item j no_firsts inside))
 
 -- the items of a body but for what is inside them
 abbrev pub bare_items : Items → Items

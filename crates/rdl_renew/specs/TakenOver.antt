@@ -1,11 +1,11 @@
 -- What of a body's slots is taken over from what the body was.
 -- own: SystemRDL 2.0 has no edits.
-use Rattle.std.specs.Prelude.{◌≡◌, ℕ, ◌≤◌, Some}
+use Rattle.std.specs.Prelude.{◌≡◌, ℕ, ◌≤◌, false, List, Option, Some, None}
 use Rattle.rdl_tree.specs.Items.{Items}
 use Rattle.rdl_tree.specs.declared.description.Item.{Item}
 use Rattle.rdl_marks.specs.Describes.{Describes, IsItem}
 use Rattle.rdl_marks.specs.InOrder.{AreInOrder}
-use Rattle.rdl_marks.specs.Marks.{Marks, no_firsts}
+use Rattle.rdl_marks.specs.Marks.{Firsts, Marks}
 use Rattle.rdl_marks.specs.View.{same_item, old_item}
 use Rattle.rdl_marks.specs.Was.{trace_of}
 use Rattle.rdl_seen.specs.declared.alert.Alert.{Alert}
@@ -21,9 +21,13 @@ use Rattle.rdl_renew.specs.SideBySide.{TellsOfAll}
 abbrev pub IsAsItWas : Marks → (i n : ℕ) → Type 0
 IsAsItWas m i n = trace_of m i ≡ Some (same_item n)
 
--- item i is as item n was, but for what is inside it, and stands in order
+-- no part was exchanged but the type that an instance names
+abbrev pub retyped : Option (List ℕ) → Firsts
+retyped t = record { shell = None; defined = None; type_name = t; value = None; target = None; is_moved = false }
+
+-- item i is as item n was, but for what is inside it and for the type that it names, and stands in order
 abbrev pub IsAsItWasOutside : Marks → (i n : ℕ) → Type 0
-IsAsItWasOutside m i n = (inside : Marks) × (trace_of m i ≡ Some (old_item n no_firsts inside))
+IsAsItWasOutside m i n = (inside : Marks) × (t : Option (List ℕ)) × (trace_of m i ≡ Some (old_item n (retyped t) inside))
 
 -- one that is as it was is that item
 abbrev pub SameItemsStay : Type 0

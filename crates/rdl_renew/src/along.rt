@@ -58,7 +58,7 @@ fn item_of<'m, 'a>(piece: &'m Piece<'a>, number: usize) -> Option<Next<'m, 'a>>
 }
 
 /// Whether no part of the item was exchanged, and it wasn't moved.
-pub(crate) fn has_no_firsts(mark: &Mark) -> bool
+fn has_no_firsts(mark: &Mark) -> bool
     ensures { result ≡ true → firsts_of mark.now ≡ no_firsts }
 {
     mark.shell.is_none()

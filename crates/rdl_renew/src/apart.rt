@@ -3,17 +3,17 @@ ghost use Rattle.std.specs.Prelude.{◌≡◌, ◌<◌, ◌≤◌, ◌∷◌, �
 ghost use Rattle.std.specs.Cmp.Lexicographic.{pointwise};
 ghost use Rattle.std.specs.Option.{is_some, option_copied};
 ghost use Rattle.rdl_marks.specs.Describes.{Describes, IsItem};
-ghost use Rattle.rdl_marks.specs.View.{piece_traces, pieces_traces, in_order};
+ghost use Rattle.rdl_marks.specs.View.{firsts_of, piece_traces, pieces_traces, in_order};
 ghost use Rattle.rdl_renew.specs.Alone.{stands_alone, AllStandAlone};
+ghost use Rattle.rdl_renew.specs.TakenOver.{retyped};
 ghost use Rattle.rdl_renew.specs.Apart.{is_own, has_same_key, IsApart, DoOwnsStandAlone, AreSame, AreSameOrApart};
 ghost use Rattle.rdl_scope.specs.Keys.{has_key};
 ghost use Rattle.rdl_scope.specs.Walk.{defaulted_by};
 ghost use Rattle.rdl_tree.specs.Items.{Items};
 ghost use Rattle.rdl_tree.specs.declared.description.Item.{Item};
 
-use crate::along::has_no_firsts;
 use crate::raise::len;
-use rdl_marks::marks::{BodyMarks, Piece, Pieces};
+use rdl_marks::marks::{BodyMarks, Mark, Piece, Pieces};
 use rdl_scope::before::excluded_by;
 use rdl_scope::targets::is_instance;
 use rdl_scope::types::defines;
@@ -23,7 +23,7 @@ use rdl_tree::description::{Body, Item};
 use rdl_tree::properties::property;
 
 /// The most pairs of items that are compared. Of a body that has more it isn't told whether its items stand alone.
-const MAX_PAIRS: usize = 1 << 20;
+const MAX_PAIRS: usize = 1 << 16;
 
 /// Whether the item is a default of this property.
 fn is_default(item: &Item, property: &Name) -> bool
@@ -154,14 +154,25 @@ pub(crate) fn all_stand_alone(body: &Body) -> bool
     are_apart(body, 0, count) && do_owns_stand_alone(body)
 }
 
-/// Whether the items of a piece are as they were but for what is inside them.
+/// Whether no part of the item was exchanged but the type that it names, and it wasn't moved.
+fn has_no_firsts_but_its_type(mark: &Mark) -> bool
+    ensures { result ≡ true → firsts_of mark.now ≡ retyped (firsts_of mark.now).type_name }
+{
+    mark.shell.is_none()
+        && mark.defined.is_none()
+        && mark.value.is_none()
+        && mark.target.is_none()
+        && !mark.is_moved
+}
+
+/// Whether the items of a piece are as they were but for what is inside them and the types that they name.
 fn is_kept(piece: &Piece) -> bool
     ensures { result ≡ true → AreSame (piece_traces piece.now) }
 {
     match piece {
         Piece::New(_) => false,
         Piece::Kept(_, _) => true,
-        Piece::Marked(_, mark) => has_no_firsts(mark),
+        Piece::Marked(_, mark) => has_no_firsts_but_its_type(mark),
     }
 }
 
