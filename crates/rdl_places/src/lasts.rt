@@ -11,6 +11,7 @@ use std::alloc::{AllocError, Global};
 /// How many items of a body are gone along for the names that are looked up there, before it is worth while to know where they stand: so many,
 /// and as many as it has.
 const FEW: usize = 256;
+const ROUNDS: usize = 2;
 
 /// An item that was gone along: how many instances stand before it, and one more than the number of the last item before it whose name has
 /// the same slot, or 0.
@@ -160,7 +161,7 @@ impl Lasts {
         ensures { AreLasts body.now self.new }
     {
         self.gone_along = self.gone_along.saturating_add(names.saturating_mul(number));
-        let few = body.len().max(FEW);
+        let few = body.len().saturating_mul(ROUNDS).max(FEW);
         if names == 0 || self.gone_along <= few {
             return Ok(());
         }

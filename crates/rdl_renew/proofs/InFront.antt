@@ -41,7 +41,7 @@ use Rattle.rdl_renew.specs.AlikeSlots.{tells_of_width}
 use Rattle.rdl_renew.specs.Along.{AreUntouched}
 use Rattle.rdl_renew.specs.Counting.{CountsItem}
 use Rattle.rdl_renew.specs.Fronts.{front_of, fronts}
-use Rattle.rdl_renew.specs.InFront.{is_first_dynamic, IsInFrontAt}
+use Rattle.rdl_renew.specs.InFront.{is_first_dynamic, IsInFront}
 use Rattle.rdl_renew.specs.Onward.{DiffersNoMoreBehind}
 use Rattle.rdl_renew.specs.Renewing.{Renewing, AreDone, IsNext}
 use Rattle.rdl_renew.specs.StayClean.{LeadsToSameKind}
@@ -166,7 +166,7 @@ one_slot : {p q : Slots} → ◌≡◌ {A = Option Slots} (Some p) (Some q) → 
 one_slot e = cc
 
 module _ (lay : Laying) (r : Renewing) (n : ℕ) (d : Done) (y : Item) (number front : ℕ) (s : Slot) (xs : List Slot) (next : IsNext lay r n d y (same_item number)) (of : r.slots ≡ slots_of xs)
-    (h : IsInFrontAt xs number d front s) (ahead : AreUntouched r.marks front) where
+    (kept : slice_get xs number ≡ Some s) (h : IsInFront d front s) (ahead : AreUntouched r.marks front) where
   abbrev b : Around
   b = around_here lay r
 
@@ -200,7 +200,7 @@ module _ (lay : Laying) (r : Renewing) (n : ℕ) (d : Done) (y : Item) (number f
   was = same_items_stay r.marks r.old r.now n number y next.became.describes next.there next.told
 
   there : slot_at number (body_of lay r.saw r.old).slots ≡ Some (front_of s)
-  there = ap (slot_at number) (sym next.became.kept ∙ of) ∙ (fronts_are_slots xs number ∙ got_front xs number s h.there)
+  there = ap (slot_at number) (sym next.became.kept ∙ of) ∙ (fronts_are_slots xs number ∙ got_front xs number s kept)
 
   dynamic : is_first_dynamic (slot_of_item lay (around_before lay number r.saw r.old) (instances_before lay number r.saw no_instances r.old) y) ≡ true
   dynamic = ap is_first_dynamic (one_slot (sym (slots_are_of_items lay r.saw no_instances r.old number y was) ∙ there)) ∙ h.dynamic
@@ -234,4 +234,4 @@ module _ (lay : Laying) (r : Renewing) (n : ℕ) (d : Done) (y : Item) (number f
 
   -- and nothing is placed for it
   pub front_counted : (e : Done) (a : ℕ) → AreDone lay r (suc n) e → fronts e.slots.items ≡ fronts d.slots.items ++ front_of s ∷ [] → CountsItem lay r (tells_of_width x) n (same_item number) y a a
-  front_counted e a done more = passed_counted lay r n d e y number s xs a next of h.there (λ k is. absurd (no_node (front_of s) k h.dynamic is)) done more
+  front_counted e a done more = passed_counted lay r n d e y number s xs a next of kept (λ k is. absurd (no_node (front_of s) k h.dynamic is)) done more

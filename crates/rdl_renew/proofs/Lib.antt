@@ -20,6 +20,7 @@ pub mod OneDone
 pub mod Onward
 pub mod Outside
 pub mod Passed
+pub mod PassedOver
 pub mod PlacedItems
 pub mod Raised
 pub mod Raises

@@ -1,5 +1,5 @@
 -- Which item is the next one, where some of those that pieces tell of are passed.
-use Rattle.std.proofs.Common.{◌≡◌, ℕ, zero, suc, ◌+◌, ◌-◌, ◌<◌, ◌≤◌, ◌^◌, min, Bool, if◌then◌else◌, List, [], ◌∷◌, ◌++◌, length, take, drop, Option, Some, None, refl, sym, ap, ◌∙◌, arith, length-append, take_all}
+use Rattle.std.proofs.Common.{◌≡◌, ℕ, zero, suc, ◌+◌, ◌-◌, ◌<◌, ◌≤◌, ◌^◌, min, Bool, if◌then◌else◌, List, [], ◌∷◌, ◌++◌, length, take, drop, Option, Some, None, refl, sym, ap, subst, ◌∙◌, arith, length-append, take_all}
 use Rattle.std.specs.Prelude.{nat_lt, slice_get}
 use Rattle.std.proofs.lemmas.Bool.{lt-ltb, le-ltb}
 use Rattle.std.proofs.lemmas.Option.{slice_get_within, slice_get_past}
@@ -12,7 +12,7 @@ use Rattle.rdl_marks.specs.declared.marks.Piece.TheVariants.{Kept}
 use Rattle.rdl_marks.proofs.Cuts.{length-run, at_piece, pieces_traces-append}
 use Rattle.rdl_marks.proofs.Rounds.{list_of-traces_of}
 use Rattle.rdl_renew.specs.declared.along.Along.{Along}
-use Rattle.rdl_renew.specs.Along.{HasPassed, AreUntouched}
+use Rattle.rdl_renew.specs.Along.{AreSame, HasPassed, HasNumber, AreUntouched}
 use Rattle.rdl_renew.proofs.SideBySide.{take_next}
 
 -- ---- Lists.
@@ -69,7 +69,7 @@ told_behind ps behind gone i l =
 -- ---- What is told of the next one.
 
 -- the next item of a piece
-pub next_within : (ps : List Piece) (behind : ℕ) (gone : List Gone) (a : Along) (i : ℕ) (p : Piece) (e : Trace) → HasPassed ps a i → slice_get ps a.pieces ≡ Some p
+pub next_within : (ps : List Piece) (behind : ℕ) (gone : List Gone) (a : Along) (i : ℕ) (p : Piece) (e : Trace) → HasPassed ps behind a i → slice_get ps a.pieces ≡ Some p
     → slice_get (piece_traces p) a.items ≡ Some e → trace_of (marks_of (told ps behind gone)) i ≡ Some e
 next_within ps behind gone a i p e passed here got =
     let before = pieces_traces (take a.pieces ps) in
@@ -80,7 +80,7 @@ next_within ps behind gone a i p e passed here got =
     ∙ (get_after before rest a.items ∙ get_before (piece_traces p) (pieces_traces (drop (suc a.pieces) ps)) a.items e got)))
 
 -- and the next one behind all pieces
-pub next_behind : (ps : List Piece) (behind : ℕ) (gone : List Gone) (a : Along) (i : ℕ) → HasPassed ps a i → length ps ≤ a.pieces → trace_of (marks_of (told ps behind gone)) i ≡ Some (same_item (behind + a.items))
+pub next_behind : (ps : List Piece) (behind : ℕ) (gone : List Gone) (a : Along) (i : ℕ) → HasPassed ps behind a i → length ps ≤ a.pieces → trace_of (marks_of (told ps behind gone)) i ≡ Some (same_item (behind + a.items))
 next_behind ps behind gone a i passed l =
     let all : length (pieces_traces ps) + a.items ≡ i = ap (λ qs. length (pieces_traces qs) + a.items) (sym (take_all a.pieces ps l)) ∙ passed.count in
     told_behind ps behind gone i (omega (arith, all))
@@ -88,38 +88,45 @@ next_behind ps behind gone a i passed l =
 
 -- ---- On.
 
+-- what is said of the next piece holds as long as no piece is passed
+still_same : (ps : List Piece) (behind : ℕ) (a b : Along) → b.pieces ≡ a.pieces → b.same ≡ a.same → AreSame (slice_get ps a.pieces) behind a.same → AreSame (slice_get ps b.pieces) behind b.same
+still_same ps behind a b f h is =
+    subst (λ n. AreSame (slice_get ps n) behind b.same) (sym f) (subst (AreSame (slice_get ps a.pieces) behind) (sym h) is)
+
 -- with one more item the code's numbers don't end
-pub items_fit : (ps : List Piece) (a : Along) (i : ℕ) → HasPassed ps a i → i + 1 < 2 ^ 64 → min (a.items + 1) (2 ^ 64 - 1) ≡ a.items + 1
-items_fit ps a i passed few = let c = passed.count in omega (arith, few, c)
+pub items_fit : (ps : List Piece) (behind : ℕ) (a : Along) (i : ℕ) → HasPassed ps behind a i → i + 1 < 2 ^ 64 → min (a.items + 1) (2 ^ 64 - 1) ≡ a.items + 1
+items_fit ps behind a i passed few = let c = passed.count in omega (arith, few, c)
 
 -- one item of a piece is passed
-pub item_passed : (ps : List Piece) (a b : Along) (i : ℕ) (p : Piece) (e : Trace) → HasPassed ps a i → slice_get ps a.pieces ≡ Some p → slice_get (piece_traces p) a.items ≡ Some e
-    → b.pieces ≡ a.pieces → b.items ≡ a.items + 1 → HasPassed ps b (i + 1)
-item_passed ps a b i p e passed here got f g =
+pub item_passed : (ps : List Piece) (behind : ℕ) (a b : Along) (i : ℕ) (p : Piece) (e : Trace) → HasPassed ps behind a i → slice_get ps a.pieces ≡ Some p → slice_get (piece_traces p) a.items ≡ Some e
+    → b.pieces ≡ a.pieces → b.items ≡ a.items + 1 → b.same ≡ a.same → HasPassed ps behind b (i + 1)
+item_passed ps behind a b i p e passed here got f g h =
     record {
       count = let c = passed.count in let d = ap (λ n. length (pieces_traces (take n ps))) f in omega (arith, c, d, g);
-      within = λ q h.
-          let same : p ≡ q = some (sym here ∙ (ap (slice_get ps) (sym f) ∙ h)) in
+      within = λ q there.
+          let same : p ≡ q = some (sym here ∙ (ap (slice_get ps) (sym f) ∙ there)) in
           let l = slice_get_within (piece_traces p) a.items e got in
           let long = ap (λ z. length (piece_traces z)) same in
           omega (arith, g, l, long);
+      same = still_same ps behind a b f h passed.same;
     }
   where
     some : {x y : Piece} → ◌≡◌ {A = Option Piece} (Some x) (Some y) → x ≡ y
     some h = cc
 
 -- one behind all pieces is
-pub one_passed : (ps : List Piece) (a b : Along) (i : ℕ) → HasPassed ps a i → length ps ≤ a.pieces → b.pieces ≡ a.pieces → b.items ≡ a.items + 1 → HasPassed ps b (i + 1)
-one_passed ps a b i passed l f g =
+pub one_passed : (ps : List Piece) (behind : ℕ) (a b : Along) (i : ℕ) → HasPassed ps behind a i → length ps ≤ a.pieces → b.pieces ≡ a.pieces → b.items ≡ a.items + 1 → b.same ≡ a.same → HasPassed ps behind b (i + 1)
+one_passed ps behind a b i passed l f g h =
     record {
       count = let c = passed.count in let d = ap (λ n. length (pieces_traces (take n ps))) f in omega (arith, c, d, g);
-      within = λ q h. let k = slice_get_within ps b.pieces q h in absurd (omega (arith, k, l, f));
+      within = λ q there. let k = slice_get_within ps b.pieces q there in absurd (omega (arith, k, l, f));
+      same = still_same ps behind a b f h passed.same;
     }
 
 -- a piece is passed of which no item is left
-pub piece_passed : (ps : List Piece) (a b : Along) (i : ℕ) (p : Piece) → HasPassed ps a i → slice_get ps a.pieces ≡ Some p → slice_get (piece_traces p) a.items ≡ None
-    → b.pieces ≡ a.pieces + 1 → b.items ≡ 0 → HasPassed ps b i
-piece_passed ps a b i p passed here none f g =
+pub piece_passed : (ps : List Piece) (behind : ℕ) (a b : Along) (i : ℕ) (p : Piece) → HasPassed ps behind a i → slice_get ps a.pieces ≡ Some p → slice_get (piece_traces p) a.items ≡ None
+    → b.pieces ≡ a.pieces + 1 → b.items ≡ 0 → AreSame (slice_get ps b.pieces) behind b.same → HasPassed ps behind b i
+piece_passed ps behind a b i p passed here none f g same =
     let next : b.pieces ≡ suc a.pieces = omega (arith, f) in
     let more = ap (λ n. pieces_traces (take n ps)) next ∙ (ap pieces_traces (take_next ps a.pieces p here) ∙ pieces_traces-append (take a.pieces ps) (p ∷ [])) in
     let long = ap length more ∙ length-append (pieces_traces (take a.pieces ps)) (pieces_traces (p ∷ [])) in
@@ -127,8 +134,44 @@ piece_passed ps a b i p passed here none f g =
     let all = none_there (piece_traces p) a.items none in
     record {
       count = let c = passed.count in let w = passed.within p here in omega (arith, c, w, long, one, all, g);
-      within = λ q h. omega (arith, g);
+      within = λ q there. omega (arith, g);
+      same = same;
     }
+
+-- ---- Of items that are as they were.
+
+-- the next one, if the piece, or what stands behind all, is said to have it
+pub same_told : (ps : List Piece) (behind : ℕ) (gone : List Gone) (a : Along) (i : ℕ) → HasPassed ps behind a i → a.items < a.same.count → trace_of (marks_of (told ps behind gone)) i ≡ Some (same_item (a.same.from + a.items))
+same_told ps behind gone a i passed l = by (slice_get ps a.pieces) refl
+  where
+    by : (o : Option Piece) → slice_get ps a.pieces ≡ o → trace_of (marks_of (told ps behind gone)) i ≡ Some (same_item (a.same.from + a.items))
+    by (Some p) here = next_within ps behind gone a i p (same_item (a.same.from + a.items)) passed here (passed.same.within p a.items here l)
+    by None none = next_behind ps behind gone a i passed (none_past ps a.pieces none) ∙ ap (λ n. Some (same_item (n + a.items))) (sym (passed.same.past none))
+
+-- so many of them are passed
+pub same_passed : (ps : List Piece) (behind : ℕ) (a b : Along) (i k : ℕ) → HasPassed ps behind a i → k ≤ a.same.count - a.items → b.pieces ≡ a.pieces → b.items ≡ a.items + k → b.same ≡ a.same → HasPassed ps behind b (i + k)
+same_passed ps behind a b i k passed l f g h = record {
+  count = let c = passed.count in let d = ap (λ n. length (pieces_traces (take n ps))) f in omega (arith, c, d, g);
+  within = λ p there. by p (ap (slice_get ps) (sym f) ∙ there) k l g;
+  same = still_same ps behind a b f h passed.same;
+}
+  where
+    by : (p : Piece) → slice_get ps a.pieces ≡ Some p → (n : ℕ) → n ≤ a.same.count - a.items → b.items ≡ a.items + n → b.items ≤ length (piece_traces p)
+    by p here zero m e = let w = passed.within p here in omega (arith, w, e)
+    by p here (suc n) m e =
+        let got = slice_get_within (piece_traces p) (a.items + n) (same_item (a.same.from + (a.items + n))) (passed.same.within p (a.items + n) here (omega (arith, m))) in
+        omega (arith, got, e)
+
+-- and so they are told of
+pub all_told : (ps : List Piece) (behind : ℕ) (gone : List Gone) (a : Along) (i from : ℕ) → HasPassed ps behind a i → HasNumber (marks_of (told ps behind gone)) i → from ≡ min (a.same.from + a.items) (2 ^ 64 - 1)
+    → (k : ℕ) → k < a.same.count - a.items → trace_of (marks_of (told ps behind gone)) (i + k) ≡ Some (same_item (from + k))
+all_told ps behind gone a i from passed numbered is k l =
+    let first = same_told ps behind gone a i passed (omega (arith, l)) in
+    let fits = numbered (a.same.from + a.items) first in
+    let b : Along = record { pieces = a.pieces; items = a.items + k; same = a.same } in
+    let there = same_passed ps behind a b i k passed (omega (arith, l)) refl refl refl in
+    same_told ps behind gone b (i + k) there (omega (arith, l))
+    ∙ ap (λ n. Some (same_item n)) (let e : a.same.from + (a.items + k) ≡ from + k = omega (arith, is, fits) in e)
 
 -- ---- Where nothing is told of.
 

@@ -1,6 +1,6 @@
 -- A dynamic assignment in front of all that differs.
 -- own: SystemRDL 2.0 has no edits.
-use Rattle.std.specs.Prelude.{◌≡◌, ℕ, ◌<◌, Bool, true, false, List, Some, length, slice_get}
+use Rattle.std.specs.Prelude.{◌≡◌, ℕ, ◌<◌, Bool, true, false, length}
 use Rattle.rdl_nodes.specs.declared.node.Slot.{Slot}
 use Rattle.rdl_seen.specs.Alert.{is_silent}
 use Rattle.rdl_seen.specs.Slots as seen
@@ -18,10 +18,8 @@ is_first_dynamic no_slots = false
 is_first_dynamic (slot s rest) = is_dynamic s
 is_first_dynamic (written w core inside rest) = false
 
--- of the item of this number this slot was kept, and it is one; it is among so many first items, and nothing is told of what stands
--- around their body
-pub record IsInFrontAt (slots : List Slot) (number : ℕ) (d : Done) (front : ℕ) (s : Slot) : Type 0 where
-  pub there : slice_get slots number ≡ Some s
+-- the next item is such a one, with this slot, among so many first items, and nothing is told of what stands around their body
+pub record IsInFront (d : Done) (front : ℕ) (s : Slot) : Type 0 where
   pub within : length d.slots.items < front
   pub silent : is_silent d.reach.alert ≡ true
   pub dynamic : is_first_dynamic (front_of s) ≡ true

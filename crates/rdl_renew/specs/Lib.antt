@@ -13,6 +13,7 @@ pub mod InFront
 pub mod InPlace
 pub mod Judged
 pub mod Onward
+pub mod PassedOver
 pub mod Placed
 pub mod Raised
 pub mod Renewing

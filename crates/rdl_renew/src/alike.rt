@@ -184,7 +184,7 @@ fn all_alike(
     ensures { (lay : Laying) (saw : Around) (old : Items) → Became lay saw (slots_of before.now) marks.now old body.now → result ≡ all_alike is_width_same marks.now (slots_of before.now) (slots_of now.now) 0 (list_of body.now) }
 {
     let items = body.as_slice();
-    let mut along = Along::new();
+    let mut along = Along::new(&marks.pieces, marks.behind);
     for i in 0..items.len() {
         let next = along.next(&marks.pieces, marks.behind);
         if !is_alike(next, &items[i], before, now, i, is_width_same) {

@@ -1,13 +1,14 @@
 //! What became of the items of a body, told of one after another.
-ghost use Rattle.std.specs.Prelude.{◌≡◌, ℕ, ◌+◌, ◌<◌, ◌^◌, true, List, option_map, slice_get};
+ghost use Rattle.std.specs.Prelude.{◌≡◌, ℕ, ◌+◌, ◌-◌, ◌<◌, ◌≤◌, ◌^◌, min, true, List, option_map, option_copied, slice_get};
 ghost use Rattle.rdl_marks.specs.Marks.{no_firsts};
 ghost use Rattle.rdl_marks.specs.View.{firsts_of, piece_traces, in_order, told, marks_of};
 ghost use Rattle.rdl_marks.specs.Was.{trace_of};
 ghost use Rattle.rdl_marks.specs.declared.marks.Gone.{Gone};
 ghost use Rattle.rdl_marks.specs.declared.marks.Piece.{Piece};
-ghost use Rattle.rdl_renew.specs.Along.{next_of, HasPassed, HasNumber, AreUntouched};
+ghost use Rattle.rdl_renew.specs.Along.{next_of, AreSame, AreAsTheyWere, HasPassed, HasNumber, AreUntouched};
 ghost use Rattle.rdl_renew.specs.InPlace.{IsInPlace};
 
+use crate::raise::len;
 use rdl_marks::marks::{BodyMarks, Mark, Piece, Pieces};
 
 /// What became of an item.
@@ -21,11 +22,52 @@ pub(crate) enum Next<'m, 'a> {
     Marked(usize, &'m Mark<'a>),
 }
 
+/// Items that are as they were, one after the other: the number that the first one had, and how many they are.
+#[derive(Clone, Copy)]
+pub(crate) struct Stretch {
+    pub from: usize,
+    pub count: usize,
+}
+
+impl Stretch {
+    /// The first ones of them, as many as these at most.
+    pub(crate) fn within(self, most: usize) -> Stretch
+        ensures { result ≡ record self { count = min self.count most } }
+    {
+        Stretch {
+            from: self.from,
+            count: self.count.min(most),
+        }
+    }
+}
+
 /// How far somebody has come along the items of pieces: so many pieces are behind, and so many items of the next one.
 #[derive(Clone, Copy)]
 pub(crate) struct Along {
     pieces: usize,
     items: usize,
+    /// The first items of the next piece, or of those behind all pieces, as far as they are as they were.
+    same: Stretch,
+}
+
+/// The first items of a piece, or of those behind all pieces from this number on, as far as they are as they were.
+fn same_of(piece: Option<&Piece>, behind: usize) -> Stretch
+    ensures { AreSame (option_copied piece.entry) behind result }
+{
+    match piece {
+        Some(piece) => match piece {
+            Piece::Kept(from, to) => Stretch {
+                from: *from,
+                count: to.saturating_sub(*from),
+            },
+            Piece::New(_) => Stretch { from: 0, count: 0 },
+            Piece::Marked(_, _) => Stretch { from: 0, count: 0 },
+        },
+        None => Stretch {
+            from: behind,
+            count: usize::MAX,
+        },
+    }
 }
 
 /// What became of the item of a piece that has this number there.
@@ -96,19 +138,69 @@ pub(crate) fn untouched(marks: &BodyMarks) -> usize
 
 impl Along {
     /// Before the first item.
-    pub(crate) fn new() -> Along
-        ensures { (ps : List Piece) → HasPassed ps result 0 }
+    pub(crate) fn new(pieces: &Pieces, behind: usize) -> Along
+        ensures { HasPassed (in_order pieces.now) behind result 0 }
     {
         Along {
             pieces: 0,
             items: 0,
+            same: same_of(pieces.get(0), behind),
         }
     }
 
+    /// Goes on to the next piece of which an item is left.
+    fn go_on(&mut self, pieces: &Pieces, behind: usize)
+        ensures { (i : ℕ) → HasPassed (in_order pieces.now) behind self.old i → HasPassed (in_order pieces.now) behind self.new i }
+    {
+        while let Some(piece) = pieces.get(self.pieces) {
+            if self.items < len(piece) {
+                return;
+            }
+            self.pieces += 1;
+            self.items = 0;
+            self.same = same_of(pieces.get(self.pieces), behind);
+        }
+    }
+
+    /// The next items, as far as it is known that they are as they were. None is passed.
+    pub(crate) fn stretch(&mut self, pieces: &Pieces, behind: usize) -> Stretch
+        ensures passed { (i : ℕ) → HasPassed (in_order pieces.now) behind self.old i → HasPassed (in_order pieces.now) behind self.new i }
+        ensures told { (gone : List Gone) (i : ℕ) → HasPassed (in_order pieces.now) behind self.old i → HasNumber (marks_of (told (in_order pieces.now) behind gone)) i → AreAsTheyWere (marks_of (told (in_order pieces.now) behind gone)) i result }
+        ensures left { result.count ≡ self.new.same.count - self.new.items }
+    {
+        self.go_on(pieces, behind);
+        Stretch {
+            from: self.same.from.saturating_add(self.items),
+            count: self.same.count.saturating_sub(self.items),
+        }
+    }
+
+    /// Passes so many of them.
+    pub(crate) fn pass(&mut self, count: usize)
+        ensures { (ps : List Piece) (behind i : ℕ) → HasPassed ps behind self.old i → count ≤ self.old.same.count - self.old.items → i + count < 2 ^ 64 → HasPassed ps behind self.new (i + count) }
+    {
+        self.items = self.items.saturating_add(count);
+    }
+
     /// What became of the next item. Behind the pieces all items are as they were, from the number `behind` on.
+    #[inline]
     pub(crate) fn next<'m, 'a>(&mut self, pieces: &'m Pieces<'a>, behind: usize) -> Next<'m, 'a>
-        ensures passed { (i : ℕ) → i + 1 < 2 ^ 64 → HasPassed (in_order pieces.now) self.old i → HasPassed (in_order pieces.now) self.new (i + 1) }
-        ensures next { (gone : List Gone) (i : ℕ) → HasPassed (in_order pieces.now) self.old i → HasNumber (marks_of (told (in_order pieces.now) behind gone)) i → trace_of (marks_of (told (in_order pieces.now) behind gone)) i ≡ Some (next_of result) }
+        ensures passed { (i : ℕ) → i + 1 < 2 ^ 64 → HasPassed (in_order pieces.now) behind self.old i → HasPassed (in_order pieces.now) behind self.new (i + 1) }
+        ensures next { (gone : List Gone) (i : ℕ) → HasPassed (in_order pieces.now) behind self.old i → HasNumber (marks_of (told (in_order pieces.now) behind gone)) i → trace_of (marks_of (told (in_order pieces.now) behind gone)) i ≡ Some (next_of result) }
+    {
+        if self.items < self.same.count {
+            let number = self.same.from.saturating_add(self.items);
+            self.items += 1;
+            return Next::Same(number);
+        }
+        self.next_other(pieces, behind)
+    }
+
+    /// The same where it isn't known that the next item is as it was.
+    #[inline(never)]
+    fn next_other<'m, 'a>(&mut self, pieces: &'m Pieces<'a>, behind: usize) -> Next<'m, 'a>
+        ensures passed { (i : ℕ) → i + 1 < 2 ^ 64 → HasPassed (in_order pieces.now) behind self.old i → HasPassed (in_order pieces.now) behind self.new (i + 1) }
+        ensures next { (gone : List Gone) (i : ℕ) → HasPassed (in_order pieces.now) behind self.old i → HasNumber (marks_of (told (in_order pieces.now) behind gone)) i → trace_of (marks_of (told (in_order pieces.now) behind gone)) i ≡ Some (next_of result) }
     {
         while let Some(piece) = pieces.get(self.pieces) {
             if let Some(next) = item_of(piece, self.items) {
@@ -117,6 +209,7 @@ impl Along {
             }
             self.pieces += 1;
             self.items = 0;
+            self.same = same_of(pieces.get(self.pieces), behind);
         }
         let number = behind.saturating_add(self.items);
         self.items = self.items.saturating_add(1);

@@ -1,5 +1,5 @@
 //! The items of a body that are done, while it is renewed.
-ghost use Rattle.std.specs.Prelude.{◌≡◌, ◌∷◌, ◌++◌, ◌&&◌, [], true, not, length, IfOk, OnOk, option_map, slice_get};
+ghost use Rattle.std.specs.Prelude.{◌≡◌, ◌≤◌, ◌∷◌, ◌++◌, ◌&&◌, [], true, not, length, IfOk, OnOk, option_map, slice_get};
 ghost use Rattle.rdl_nodes.specs.Bodies.{after_default_item};
 ghost use Rattle.rdl_nodes.specs.KeptNode.{kept_of, slot_node};
 ghost use Rattle.rdl_nodes.specs.Parts.{of_item};
@@ -9,7 +9,9 @@ ghost use Rattle.rdl_tree.specs.Items.{Items};
 ghost use Rattle.rdl_renew.specs.AlikeSlots.{tells_of_width, is_alike, are_alike};
 ghost use Rattle.rdl_renew.specs.Along.{next_of};
 ghost use Rattle.rdl_renew.specs.Fronts.{front_of, fronts};
+ghost use Rattle.rdl_renew.specs.InFront.{IsInFront};
 ghost use Rattle.rdl_renew.specs.InPlace.{IsInPlace, AddSameAt, IsLikeAs, IsLike};
+ghost use Rattle.rdl_renew.specs.PassedOver.{ArePassed};
 ghost use Rattle.rdl_renew.specs.Renewing.{Became, SeesSame, RaisesBehind};
 ghost use Rattle.rdl_seen.specs.Alert.{with_alert};
 ghost use Rattle.rdl_seen.specs.Layouts.{Laying};
@@ -17,8 +19,9 @@ ghost use Rattle.rdl_seen.specs.Node.{Around};
 ghost use Rattle.rdl_seen.specs.PropertySet.{no_properties};
 
 use crate::alike::{are_alike, has_instance, is_alike, is_width_same};
-use crate::along::{Next, is_in_place};
+use crate::along::{Next, Stretch, is_in_place};
 use crate::anew::put_default;
+use crate::deaf::is_settled;
 use crate::same::is_same;
 use crate::stayed::definition_raises;
 use rdl_marks::marks::BodyMarks;
@@ -72,7 +75,8 @@ impl Done {
     }
 
     /// One item more, which had this number, and of which this was kept. It is passed over.
-    pub(crate) fn keep(&mut self, number: usize, slot: &Slot) -> Result<(), AllocError>
+    #[inline(always)]
+    fn keep(&mut self, number: usize, slot: &Slot) -> Result<(), AllocError>
         ensures slots { OnOk result (fronts self.new.slots.items ≡ fronts self.old.slots.items ++ front_of slot.now ∷ []) }
         ensures reach { self.new.reach ≡ self.old.reach }
         ensures lasts { self.new.lasts ≡ self.old.lasts }
@@ -87,6 +91,45 @@ impl Done {
         }
         self.slots.push(slot)?;
         Ok(())
+    }
+
+    /// Whether this slot is that of a dynamic assignment before which nothing differs: the next item is one of the first ones, of which so many
+    /// are as they were, and nothing is told of what stands around the body.
+    fn is_in_front(&self, slot: &Slot, front: usize) -> bool
+        ensures { result ≡ true → IsInFront self.now front slot.now }
+    {
+        match slot {
+            Slot::Dynamic(_) => self.slots.len() < front && self.reach.alert.is_none(),
+            _ => false,
+        }
+    }
+
+    /// Items more that are as they were and had these numbers, as far as they may be passed over, and how many they are. These slots were kept
+    /// of them, and so many of the first items of the body are as they were.
+    #[inline(never)]
+    pub(crate) fn pass_over(
+        &mut self,
+        before: &[Slot],
+        stretch: Stretch,
+        front: usize,
+    ) -> Result<usize, AllocError>
+        ensures passed { IfOk result (λ count. ArePassed before.now front stretch.from count self.old self.new) }
+        ensures few { IfOk result (λ count. count ≤ stretch.count) }
+    {
+        let mut passed = 0;
+        while passed < stretch.count {
+            let number = stretch.from.saturating_add(passed);
+            let Some(slot) = before.get(number) else {
+                return Ok(passed);
+            };
+            let is_settled = is_settled(slot, &self.reach.alert);
+            if !is_settled && !self.is_in_front(slot, front) {
+                return Ok(passed);
+            }
+            self.keep(number, slot)?;
+            passed += 1;
+        }
+        Ok(passed)
     }
 
     /// One item more, with its slot. Behind it differs what it raises, too.

@@ -13,15 +13,14 @@ ghost use Rattle.rdl_places.specs.Scopes.{around_places, IsScope};
 ghost use Rattle.rdl_places.specs.Lasting.{AreLasts};
 ghost use Rattle.rdl_renew.specs.AlikeSlots.{tells_of_width, is_alike, are_alike};
 ghost use Rattle.rdl_renew.specs.Again.{IsHeldAgain};
-ghost use Rattle.rdl_renew.specs.Along.{next_of, AreUntouched};
+ghost use Rattle.rdl_renew.specs.Along.{next_of};
 ghost use Rattle.rdl_renew.specs.Anew.{slot_there, slots_there};
 ghost use Rattle.rdl_renew.specs.Counting.{stayed_placed, CountsItem};
 ghost use Rattle.rdl_renew.specs.Fronts.{front_of};
-ghost use Rattle.rdl_renew.specs.InFront.{IsInFrontAt};
 ghost use Rattle.rdl_renew.specs.InPlace.{IsInPlace, AddAsSaid, AddsAsSaid, IsLikeAs, IsLike, of_last};
 ghost use Rattle.rdl_renew.specs.Judged.{IfStillClean, HasNoneInside};
 ghost use Rattle.rdl_renew.specs.Placed.{in_body, placed_in, placed_stayed, placed_of, sets_width};
-ghost use Rattle.rdl_renew.specs.Renewing.{part_of, kept_component, written_of, Became, WasLaidOut, BecameComponent, DiffersNoMoreBefore, IsReached, AreDone, IsNext, IsMadeAnew, IsSettledAt};
+ghost use Rattle.rdl_renew.specs.Renewing.{part_of, kept_component, written_of, Became, WasLaidOut, BecameComponent, DiffersNoMoreBefore, IsReached, AreDone, IsNext, IsMadeAnew};
 ghost use Rattle.rdl_renew.specs.HeldRenewal.{renewing};
 ghost use Rattle.rdl_renew.specs.StillClean.{StaysClean, BecameClean, IsCleanStill};
 ghost use Rattle.rdl_seen.specs.Layouts.{Laying};
@@ -35,7 +34,6 @@ ghost use Rattle.rdl_tree.specs.Weight.{capped};
 use crate::along::{Along, Next, untouched};
 use crate::anew::item_anew;
 use crate::component::{kept_component, slot_again, slot_with};
-use crate::deaf::is_settled;
 use crate::done::{Done, Reach, raises_behind};
 use crate::judge::Judge;
 use crate::look_ups::{names_again, names_of};
@@ -76,39 +74,6 @@ fn kept_slot<'s>(slots: &'s [Slot], number: usize) -> Option<Kept<'s>>
 {
     match slots.get(number) {
         Some(slot) => slot.kept(),
-        None => None,
-    }
-}
-
-/// The slot of this number, if its item may be passed over.
-fn settled_slot<'s>(slots: &'s [Slot], number: usize, alert: &Alert) -> Option<&'s Slot>
-    ensures { IfSome result (λ s. IsSettledAt alert.now slots.now number s.now) }
-{
-    match slots.get(number) {
-        Some(slot) => {
-            if is_settled(slot, alert) {
-                Some(slot)
-            } else {
-                None
-            }
-        }
-        None => None,
-    }
-}
-
-/// The slot of this number, if its item is a dynamic assignment before which nothing differs: the next item is one of the first ones, of
-/// which so many are as they were, and nothing is told of what stands around the body.
-fn front_slot<'s>(slots: &'s [Slot], number: usize, done: &Done, front: usize) -> Option<&'s Slot>
-    ensures { IfSome result (λ s. IsInFrontAt slots.now number done.now front s.now) }
-{
-    if done.slots.len() >= front || !done.reach.alert.is_none() {
-        return None;
-    }
-    match slots.get(number) {
-        Some(slot) => match slot {
-            Slot::Dynamic(_) => Some(slot),
-            _ => None,
-        },
         None => None,
     }
 }
@@ -390,7 +355,7 @@ fn renew_other<L: Lays>(
     }
 }
 
-/// An item more, which became what it is so. So many of the first items of the body are as they were, and stand where they stood.
+/// An item more, which became what it is so.
 #[cycle(renew)]
 fn renew_item<L: Lays>(
     alloc: Global,
@@ -398,28 +363,19 @@ fn renew_item<L: Lays>(
     renewal: &Renewal,
     done: &mut Done,
     next: Next,
-    front: usize,
     item: &Item,
     account: &mut Account,
 ) -> Result<(), AllocError>
     requires { AreLasts renewal.now.body.now done.old.lasts }
-    ensures done { (m : Marks) (old : Items) (saw : Around) (n : ℕ) → IsNext L.laying (renewing renewal.now m old saw) n done.old item.now (next_of next.entry) → AreUntouched m front → OnOk result (AreDone L.laying (renewing renewal.now m old saw) (suc n) done.new) }
-    ensures clean { (m : Marks) (old : Items) (saw : Around) (n : ℕ) → IsNext L.laying (renewing renewal.now m old saw) n done.old item.now (next_of next.entry) → AreUntouched m front → OnOk result (IfStillClean account.old.judge.is_clean account.new.judge.is_clean (IsCleanStill L.laying (renewing renewal.now m old saw) n item.now)) }
-    ensures placed { (m : Marks) (old : Items) (saw : Around) (n : ℕ) → IsNext L.laying (renewing renewal.now m old saw) n done.old item.now (next_of next.entry) → AreUntouched m front → OnOk result (CountsItem L.laying (renewing renewal.now m old saw) (tells_of_width done.old.reach.alert) n (next_of next.entry) item.now account.old.placed account.new.placed) }
+    ensures done { (m : Marks) (old : Items) (saw : Around) (n : ℕ) → IsNext L.laying (renewing renewal.now m old saw) n done.old item.now (next_of next.entry) → OnOk result (AreDone L.laying (renewing renewal.now m old saw) (suc n) done.new) }
+    ensures clean { (m : Marks) (old : Items) (saw : Around) (n : ℕ) → IsNext L.laying (renewing renewal.now m old saw) n done.old item.now (next_of next.entry) → OnOk result (IfStillClean account.old.judge.is_clean account.new.judge.is_clean (IsCleanStill L.laying (renewing renewal.now m old saw) n item.now)) }
+    ensures placed { (m : Marks) (old : Items) (saw : Around) (n : ℕ) → IsNext L.laying (renewing renewal.now m old saw) n done.old item.now (next_of next.entry) → OnOk result (CountsItem L.laying (renewing renewal.now m old saw) (tells_of_width done.old.reach.alert) n (next_of next.entry) item.now account.old.placed account.new.placed) }
     ensures properties { OnOk result (done.new.reach.alert.properties ≡ done.old.reach.alert.properties) }
     ensures lasts { AreLasts renewal.now.body.now done.new.lasts }
     ensures in_place { OnOk result (done.new.are_in_place ≡ true → (done.old.are_in_place ≡ true) × IsInPlace (length done.old.slots.items) (next_of next.entry)) }
     ensures add_same { OnOk result (AddsAsSaid (slots_of renewal.now.slots.now) done.old done.new) }
     ensures alike { OnOk result (done.new.are_alike ≡ (done.old.are_alike && is_alike true (slots_of renewal.now.slots.now) (of_last done.old done.new) (next_of next.entry) item.now)) }
 {
-    if let Next::Same(number) = next {
-        if let Some(slot) = settled_slot(renewal.slots, number, &done.reach.alert) {
-            return done.keep(number, slot);
-        }
-        if let Some(slot) = front_slot(renewal.slots, number, done, front) {
-            return done.keep(number, slot);
-        }
-    }
     let number = done.slots.len();
     renew_other(alloc, lay, renewal, done, next, item, account)?;
     done.liken(number, renewal.slots, next, item);
@@ -451,10 +407,20 @@ fn renew_body<L: Lays>(
     };
     let mut done = Done::none(alloc, renewal.body.len(), first)?;
     let front = untouched(marks);
-    let mut along = Along::new();
-    for item in renewal.body.as_slice() {
-        let next = along.next(&marks.pieces, marks.behind);
-        renew_item(alloc, lay, renewal, &mut done, next, front, item, account)?;
+    let items = renewal.body.as_slice();
+    let mut along = Along::new(&marks.pieces, marks.behind);
+    let mut number = 0;
+    while number < items.len() {
+        let left = items.len() - number;
+        let stretch = along.stretch(&marks.pieces, marks.behind).within(left);
+        let passed = done.pass_over(renewal.slots, stretch, front)?;
+        along.pass(passed);
+        number += passed;
+        if number < items.len() {
+            let next = along.next(&marks.pieces, marks.behind);
+            renew_item(alloc, lay, renewal, &mut done, next, &items[number], account)?;
+            number += 1;
+        }
     }
     Ok(done)
 }

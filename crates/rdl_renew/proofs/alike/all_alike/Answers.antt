@@ -25,7 +25,7 @@ next c lay saw old became =
 
 pub loop-i-init : goal.loop-i-init
 loop-i-init c = record {
-  passed = c.new-along.ensures (in_order c.marks.inside.pieces);
+  passed = c.new-along.ensures;
   alike = λ lay saw old became. refl;
 }
 

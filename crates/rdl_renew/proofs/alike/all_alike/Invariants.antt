@@ -11,7 +11,7 @@ use Rattle.rdl_renew.proofs.alike.all_alike.Given as goal
 
 abbrev pub invariant-loop-i : goal.invariant-loop-i
 invariant-loop-i l = record {
-  passed : HasPassed (in_order l.marks-inside.pieces) l.along l.i;
+  passed : HasPassed (in_order l.marks-inside.pieces) l.marks-inside.behind l.along l.i;
   alike : (lay : Laying) (saw : Around) (old : Items) → Became lay saw (slots_of l.before) l.marks old l.body
       → alike_from l.is_width_same l.marks l.before l.now l.body 0 ≡ alike_from l.is_width_same l.marks l.before l.now l.body l.i;
 }

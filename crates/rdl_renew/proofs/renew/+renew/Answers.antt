@@ -16,6 +16,7 @@ use Rattle.rdl_seen.specs.declared.alert.Alert.{Alert}
 use Rattle.rdl_seen.specs.Meaning.{around_before}
 use Rattle.rdl_seen.specs.Node.{Around}
 use Rattle.rdl_seen.specs.PropertySet.{with_properties}
+use Rattle.rdl_renew.specs.declared.along.Stretch.{Stretch}
 use Rattle.rdl_renew.specs.declared.done.Reach.{Reach}
 use Rattle.rdl_renew.specs.AlikeSlots.{tells_of_width}
 use Rattle.rdl_renew.specs.Along.{next_of}
@@ -34,21 +35,14 @@ use Rattle.rdl_renew.proofs.CountSteps.{if_both, on_two, width_either, on_told, 
 use Rattle.rdl_renew.proofs.InFront.{front_done, front_clean, front_counted}
 use Rattle.rdl_renew.proofs.InPlace.{kept_in_place, kept_add, liken_add, kept_alike, next_in_place, none_add, next_add, first_alike, next_alike, all_like}
 use Rattle.rdl_renew.proofs.ItemSteps.{on_all, on_both, kept_done, stayed_done, slot_made, with_next, reached_stayed}
-use Rattle.rdl_renew.proofs.OneDone.{done_many, place_made}
+use Rattle.rdl_renew.proofs.OneDone.{place_made}
+use Rattle.rdl_renew.proofs.PassedOver.{told_of, same_reach, same_lasts, adds_passed, stand_next, stands_on}
 use Rattle.rdl_renew.proofs.Raises.{with_none}
 use Rattle.rdl_renew.proofs.renew.+renew.Goals as goal
 
 pub renew_other-returns-in-New-clause-done : goal.renew_other-returns-in-New-clause-done
 renew_other-returns-in-New-clause-done g t c = λ m old saw n next.
     c.renew_new.ensures.done m old saw n new_item (with_next g.L.Lays.laying (renewing c.args.renewal.now m old saw) n c.args.done.now c.args.item.now (next_of c.args.next) new_item (ap next_of c.in-New.is) next) tt
-
-pub renew_item-returns-in-Some-clause-done : goal.renew_item-returns-in-Some-clause-done
-renew_item-returns-in-Some-clause-done g t c = λ m old saw n next ahead.
-    let r = renewing c.args.renewal.now m old saw in
-    let d = c.args.done.now in
-    let here = with_next g.L.Lays.laying r n d c.args.item.now (next_of c.args.next) (same_item c.in-Same.number) (ap next_of c.in-Same.is) next in
-    on_both c.keep.result c.keep.ensures.slots
-    (λ slots. kept_done g.L.Lays.laying r n d c.keep.new.self c.args.item.now c.in-Same.number c.in-Some.slot.now c.args.renewal.now.slots.now here refl c.in-Some.ensures slots c.keep.ensures.reach)
 
 pub renew_other-returns-in-Same-clause-done : goal.renew_other-returns-in-Same-clause-done
 renew_other-returns-in-Same-clause-done g t c = λ m old saw n next.
@@ -70,42 +64,6 @@ renew_other-returns-else-mark-clause-done g t c = λ m old saw n next.
     let mark = c.in-Marked.mark.now in
     c.renew_marked.ensures.done m old saw n (firsts_of mark)
     (with_next g.L.Lays.laying r n c.args.done.now c.args.item.now (next_of c.args.next) (old_item c.in-Marked.number (firsts_of mark) mark.inside) (ap next_of c.in-Marked.is) next) c.if-mark.false
-
-pub renew_item-returns-in-Some-front_slot-clause-done : goal.renew_item-returns-in-Some-front_slot-clause-done
-renew_item-returns-in-Some-front_slot-clause-done g t c = λ m old saw n next ahead.
-    let lay = g.L.Lays.laying in
-    let r = renewing c.args.renewal.now m old saw in
-    let d = c.args.done.now in
-    let y = c.args.item.now in
-    let s = c.in-Some-front_slot.slot.now in
-    let here = with_next lay r n d y (next_of c.args.next) (same_item c.in-Same.number) (ap next_of c.in-Same.is) next in
-    on_both c.keep-in-Some-front_slot.result c.keep-in-Some-front_slot.ensures.slots
-    (λ slots. front_done lay r n d y c.in-Same.number c.args.front s c.args.renewal.now.slots.now here refl c.in-Some-front_slot.ensures ahead c.keep-in-Some-front_slot.new.self slots c.keep-in-Some-front_slot.ensures.reach)
-
-pub renew_item-returns-in-Some-front_slot-clause-clean : goal.renew_item-returns-in-Some-front_slot-clause-clean
-renew_item-returns-in-Some-front_slot-clause-clean g t c = λ m old saw n next ahead.
-    let lay = g.L.Lays.laying in
-    let r = renewing c.args.renewal.now m old saw in
-    let d = c.args.done.now in
-    let y = c.args.item.now in
-    let s = c.in-Some-front_slot.slot.now in
-    let here = with_next lay r n d y (next_of c.args.next) (same_item c.in-Same.number) (ap next_of c.in-Same.is) next in
-    on_any c.keep-in-Some-front_slot.result
-    (same_judge c.args.account.now.judge.is_clean (front_clean lay r n d y c.in-Same.number c.args.front s c.args.renewal.now.slots.now here refl c.in-Some-front_slot.ensures ahead))
-
-pub renew_item-returns-in-Some-front_slot-clause-placed : goal.renew_item-returns-in-Some-front_slot-clause-placed
-renew_item-returns-in-Some-front_slot-clause-placed g t c = λ m old saw n next ahead.
-    let lay = g.L.Lays.laying in
-    let r = renewing c.args.renewal.now m old saw in
-    let d = c.args.done.now in
-    let y = c.args.item.now in
-    let a = c.args.account.now.placed in
-    let s = c.in-Some-front_slot.slot.now in
-    let told : next_of c.args.next ≡ same_item c.in-Same.number = ap next_of c.in-Same.is in
-    let here = with_next lay r n d y (next_of c.args.next) (same_item c.in-Same.number) told next in
-    on_told lay r n y (same_item c.in-Same.number) (next_of c.args.next) (tells_of_width d.reach.alert) a a c.keep-in-Some-front_slot.result told
-    (on_two c.keep-in-Some-front_slot.result (renew_item-returns-in-Some-front_slot-clause-done g t c m old saw n next ahead) c.keep-in-Some-front_slot.ensures.slots
-    (front_counted lay r n d y c.in-Same.number c.args.front s c.args.renewal.now.slots.now here refl c.in-Some-front_slot.ensures ahead c.keep-in-Some-front_slot.new.self a))
 
 pub renew_marked-returns-in-Some-clause-done : goal.renew_marked-returns-in-Some-clause-done
 renew_marked-returns-in-Some-clause-done g t c = λ m old saw n firsts next unmoved.
@@ -148,96 +106,127 @@ renewed_component-returns-clause-node g t c = λ old saw became laid reached.
     let like = subst (λ s. IsLike inside s body c.in_ok-done.done) c.slots.ensures (c.in_ok-done.ensures.likeness old saw same reached) in
     c.finished_again.ensures.node old saw (around_places lay (places_of c.args.scope.now)) became laid (c.in_ok-done.ensures.alert old saw same reached) like reached.defaults (c.in_ok-done.ensures.slots old saw same reached)
 
-pub renew_body-loop-item-init : goal.renew_body-loop-item-init
-renew_body-loop-item-init g t c = record {
-  passed = c.new-along.ensures (in_order c.marks.inside.pieces);
+pub renew_body-loop-number-init : goal.renew_body-loop-number-init
+renew_body-loop-number-init g t c = record {
+  passed = c.new-along.ensures;
+  few = omega arith;
   lasts = c.in_ok-done.ensures.lasts c.args.renewal.now.body.now;
-  done = λ old saw became reached.
-      first_done g.L.Lays.laying (renewing c.args.renewal.now c.args.marks.now old saw) c.in_ok-done.done c.args.reach.now c.raised.result became reached c.in_ok-done.ensures.slots (ap (λ (x : Reach). x.defaults) c.in_ok-done.ensures.reach)
-      (ap (λ (x : Reach). x.alert) c.in_ok-done.ensures.reach ∙ c.with.ensures) c.raised.ensures;
-  clean = λ old saw became reached.
-      first_clean g.L.Lays.laying (renewing c.args.renewal.now c.args.marks.now old saw) c.args.account.now.judge.is_clean c.look_at_changed.new.self.is_clean became c.look_at_changed.ensures;
-  placed = λ old saw became reached.
+  stand = λ old saw became reached.
       let r = renewing c.args.renewal.now c.args.marks.now old saw in
-      none_counted (tells_of_width c.args.reach.now.alert || sets_width r.marks r.now) r.marks r.slots (slots_there g.L.Lays.laying r.places r.now) r.now c.as_slice-item-items.result.now c.args.account.now.placed
-      c.as_slice-item-items.ensures;
-  in_place = λ old saw became reached so j l. absurd (omega (arith, l));
+      record {
+        done =
+            first_done g.L.Lays.laying r c.in_ok-done.done c.args.reach.now c.raised.result became reached c.in_ok-done.ensures.slots (ap (λ (x : Reach). x.defaults) c.in_ok-done.ensures.reach)
+            (ap (λ (x : Reach). x.alert) c.in_ok-done.ensures.reach ∙ c.with.ensures) c.raised.ensures;
+        clean = first_clean g.L.Lays.laying r c.args.account.now.judge.is_clean c.look_at_changed.new.self.is_clean became c.look_at_changed.ensures;
+        counted =
+            none_counted (tells_of_width c.args.reach.now.alert || sets_width r.marks r.now) r.marks r.slots (slots_there g.L.Lays.laying r.places r.now) r.now c.as_slice-items.result.now c.args.account.now.placed c.as_slice-items.ensures;
+        in_place = λ so j l. absurd (omega (arith, l));
+        alike = first_alike r.marks r.slots (slots_there g.L.Lays.laying r.places r.now) r.now c.in_ok-done.done c.in_ok-done.ensures.alike;
+      };
   add_same = none_add (slots_of c.args.renewal.now.slots.now) c.in_ok-done.done c.in_ok-done.ensures.slots;
-  alike = λ old saw became reached.
-      first_alike c.args.marks.now (slots_of c.args.renewal.now.slots.now) (slots_there g.L.Lays.laying (outer_places c.args.renewal.now.outer) c.args.renewal.now.body.now) c.args.renewal.now.body.now c.in_ok-done.done
-      c.in_ok-done.ensures.alike;
   width = ap (λ (x : Reach). x.alert.properties) c.in_ok-done.ensures.reach
       ∙ (ap (λ (x : Alert). x.properties) c.with.ensures ∙ ap (λ (x : Alert). with_properties c.args.reach.now.alert.properties x.properties) c.raised.ensures);
 }
 
 pub renew_body-renew_item-requires : goal.renew_body-renew_item-requires
 renew_body-renew_item-requires g t c κs within =
-    let few = count-item c.loop-item.item-index c.args.renewal.now.body.now c.as_slice-item-items.result.now c.item-item.result c.item-item.result c.as_slice-item-items.ensures c.loop-item-test.true c.item-item.is in
-    let less : 9 * item_count c.item-item.result + 5 < t = omega (arith, c.decreases, few) in
-    search (rules, less)
+    let few =
+    count-item (c.loop-number.number + c.in_ok-passed.passed) c.args.renewal.now.body.now c.as_slice-items.result.now c.index-items-number.result c.index-items-number.result c.as_slice-items.ensures c.if-number-items.true
+    c.index-items-number.is in
+    let less : 9 * item_count c.index-items-number.result + 5 < t = omega (arith, c.decreases, few) in
+    let lasts =
+    same_lasts c.args.renewal.now.slots.now c.untouched-front.result c.within-stretch.result.from c.in_ok-passed.passed c.loop-number.done c.pass_over.new.self c.args.renewal.now.body.now c.in_ok-passed.ensures.passed
+    c.loop-number.invariant.lasts in
+    search (rules, less, lasts)
 
-pub renew_body-loop-item-preserved : goal.renew_body-loop-item-preserved
-renew_body-loop-item-preserved g t c =
+pub renew_body-loop-number-preserved : goal.renew_body-loop-number-preserved
+renew_body-loop-number-preserved g t c =
     let lay = g.L.Lays.laying in
-    let i = c.loop-item.item-index in
+    let i = c.loop-number.number in
+    let k = c.in_ok-passed.passed in
     let marks = c.marks.inside in
-    let few : i + 1 < 2 ^ 64 = search rules in
-    let next : (old : Items) (saw : Around) → Became lay saw (slots_of c.args.renewal.now.slots.now) c.args.marks.now old c.args.renewal.now.body.now → IsReached lay (outer_places c.args.renewal.now.outer) saw c.args.reach.now
-    → IsNext lay (renewing c.args.renewal.now c.args.marks.now old saw) i c.loop-item.done c.item-item.result (next_of c.next-next.result) =
-    λ old saw became reached.
-    let slots_fit : length c.args.renewal.now.slots.now < 2 ^ 64 = search rules in
-    next_is lay (renewing c.args.renewal.now c.args.marks.now old saw) i c.loop-item.done c.item-item.result (next_of c.next-next.result) c.as_slice-item-items.result.now c.args.reach.now (in_order marks.pieces) marks.behind
-    marks.gone.items became reached (c.loop-item.invariant.done old saw became reached) c.as_slice-item-items.ensures c.loop-item-test.true c.item-item.is c.marks.view_is
-    (c.next-next.ensures.next marks.gone.items i c.loop-item.invariant.passed)
-    c.args.renewal.now.slots.now refl slots_fit in
+    let inv = c.loop-number.invariant in
+    let slots = c.args.renewal.now.slots.now in
+    let front = c.untouched-front.result in
+    let from = c.within-stretch.result.from in
+    let over = c.in_ok-passed.ensures.passed in
+    let ys = c.as_slice-items.result.now in
+    let count = ap (λ (z : Stretch). z.count) c.within-stretch.ensures in
+    let few = c.in_ok-passed.ensures.few in
+    let fit : length ys < 2 ^ 64 = search rules in
     record {
-      passed = c.next-next.ensures.passed i few c.loop-item.invariant.passed;
+      passed = c.pass.ensures (in_order marks.pieces) marks.behind i (c.stretch.ensures.passed i inv.passed) (omega (arith, few, count, c.stretch.ensures.left)) (omega (arith, few, count, inv.few, fit));
+      few = omega (arith, few, count, inv.few);
+      lasts = same_lasts slots front from k c.loop-number.done c.pass_over.new.self c.args.renewal.now.body.now over inv.lasts;
+      stand = λ old saw became reached.
+          let r = renewing c.args.renewal.now c.args.marks.now old saw in
+          let slots_fit : length slots < 2 ^ 64 = search rules in
+          stands_on lay r ys (tells_of_width c.args.reach.now.alert || sets_width r.marks r.now) c.args.account.now.judge.is_clean c.loop-number.account.judge.is_clean c.args.account.now.placed c.loop-number.account.placed slots front i k
+          c.stretch.result c.within-stretch.result c.loop-number.done c.pass_over.new.self refl c.untouched-front.ensures c.as_slice-items.ensures became reached.scope
+          (told_of lay r i ys slots (in_order marks.pieces) marks.behind marks.gone.items c.stretch.result became refl slots_fit c.as_slice-items.ensures c.loop-number-test.true c.marks.view_is (c.stretch.ensures.told marks.gone.items i inv.passed))
+          c.within-stretch.ensures inv.few few (width_either c.args.reach.now.alert.properties (raised r.marks r.now).properties c.loop-number.done.reach.alert inv.width) over (inv.stand old saw became reached);
+      add_same = adds_passed slots front from k c.loop-number.done c.pass_over.new.self over inv.add_same;
+      width = ap (λ (x : Reach). x.alert.properties) (same_reach slots front from k c.loop-number.done c.pass_over.new.self over) ∙ inv.width;
+    }
+
+pub renew_body-loop-number-preserved-then-number-items : goal.renew_body-loop-number-preserved-then-number-items
+renew_body-loop-number-preserved-then-number-items g t c =
+    let lay = g.L.Lays.laying in
+    let i = c.loop-number.number in
+    let k = c.in_ok-passed.passed in
+    let n = i + k in
+    let marks = c.marks.inside in
+    let inv = c.loop-number.invariant in
+    let slots = c.args.renewal.now.slots.now in
+    let front = c.untouched-front.result in
+    let from = c.within-stretch.result.from in
+    let over = c.in_ok-passed.ensures.passed in
+    let ys = c.as_slice-items.result.now in
+    let y = c.index-items-number.result in
+    let d = c.pass_over.new.self in
+    let e = c.renew_item.new.done in
+    let count = ap (λ (z : Stretch). z.count) c.within-stretch.ensures in
+    let few = c.in_ok-passed.ensures.few in
+    let low = c.if-number-items.true in
+    let fit : length ys < 2 ^ 64 = search rules in
+    let slots_fit : length slots < 2 ^ 64 = search rules in
+    let passed = c.pass.ensures (in_order marks.pieces) marks.behind i (c.stretch.ensures.passed i inv.passed) (omega (arith, few, count, c.stretch.ensures.left)) (omega (arith, low, fit)) in
+    let width = ap (λ (x : Reach). x.alert.properties) (same_reach slots front from k c.loop-number.done d over) ∙ inv.width in
+    record {
+      passed = c.next-next.ensures.passed n (omega (arith, low, fit)) passed;
+      few = omega (arith, low);
       lasts = c.renew_item.ensures.lasts;
-      done = λ old saw became reached.
-          one_renewed lay (renewing c.args.renewal.now c.args.marks.now old saw) i c.renew_item.new.done (c.in_ok-renew_item.ensures.done c.args.marks.now old saw i (next old saw became reached) c.untouched-front.ensures);
-      clean = λ old saw became reached.
-          let here = next old saw became reached in
-          next_clean lay (renewing c.args.renewal.now c.args.marks.now old saw) i c.item-item.result c.args.account.now.judge.is_clean c.loop-item.account.judge.is_clean c.renew_item.new.account.judge.is_clean here.there
-          (c.loop-item.invariant.clean old saw became reached) (c.in_ok-renew_item.ensures.clean c.args.marks.now old saw i here c.untouched-front.ensures);
-      placed = λ old saw became reached.
+      stand = λ old saw became reached.
           let r = renewing c.args.renewal.now c.args.marks.now old saw in
-          let here = next old saw became reached in
-          one_counted (tells_of_width c.args.reach.now.alert || sets_width r.marks r.now) (tells_of_width c.loop-item.done.reach.alert) r.marks r.slots (slots_there lay r.places r.now) r.now c.as_slice-item-items.result.now i
-          c.args.account.now.placed c.loop-item.account.placed c.renew_item.new.account.placed (next_of c.next-next.result) c.item-item.result (c.loop-item.invariant.placed old saw became reached) c.loop-item-test.true c.item-item.is
-          here.told (width_either c.args.reach.now.alert.properties (raised r.marks r.now).properties c.loop-item.done.reach.alert c.loop-item.invariant.width) (c.in_ok-renew_item.ensures.placed c.args.marks.now old saw i here c.untouched-front.ensures);
-      in_place = λ old saw became reached.
-          let r = renewing c.args.renewal.now c.args.marks.now old saw in
-          next_in_place r.marks i c.loop-item.done c.renew_item.new.done (next_of c.next-next.result) (c.loop-item.invariant.in_place old saw became reached)
-          (done_many lay r i c.loop-item.done (c.loop-item.invariant.done old saw became reached)) (next old saw became reached).told c.in_ok-renew_item.ensures.in_place;
-      add_same = next_add (slots_of c.args.renewal.now.slots.now) c.loop-item.done c.renew_item.new.done c.loop-item.invariant.add_same c.in_ok-renew_item.ensures.add_same;
-      alike = λ old saw became reached.
-          let r = renewing c.args.renewal.now c.args.marks.now old saw in
-          let here = next old saw became reached in
-          next_alike lay r i c.loop-item.done c.renew_item.new.done c.item-item.result (next_of c.next-next.result) c.as_slice-item-items.result.now (c.loop-item.invariant.alike old saw became reached) c.as_slice-item-items.ensures
-          c.loop-item-test.true c.item-item.is here.told here.done (c.in_ok-renew_item.ensures.done c.args.marks.now old saw i here c.untouched-front.ensures) c.in_ok-renew_item.ensures.alike;
-      width = c.in_ok-renew_item.ensures.properties ∙ c.loop-item.invariant.width;
+          let w = tells_of_width c.args.reach.now.alert || sets_width r.marks r.now in
+          let here =
+          stands_on lay r ys w c.args.account.now.judge.is_clean c.loop-number.account.judge.is_clean c.args.account.now.placed c.loop-number.account.placed slots front i k
+          c.stretch.result c.within-stretch.result c.loop-number.done d refl c.untouched-front.ensures c.as_slice-items.ensures became reached.scope
+          (told_of lay r i ys slots (in_order marks.pieces) marks.behind marks.gone.items c.stretch.result became refl slots_fit c.as_slice-items.ensures c.loop-number-test.true c.marks.view_is (c.stretch.ensures.told marks.gone.items i inv.passed))
+          c.within-stretch.ensures inv.few few (width_either c.args.reach.now.alert.properties (raised r.marks r.now).properties c.loop-number.done.reach.alert inv.width) over (inv.stand old saw became reached) in
+          let next =
+          next_is lay r n d y (next_of c.next-next.result) ys c.args.reach.now (in_order marks.pieces) marks.behind marks.gone.items became reached here.done c.as_slice-items.ensures low c.index-items-number.is c.marks.view_is
+          (c.next-next.ensures.next marks.gone.items n passed) slots refl slots_fit in
+          stand_next lay r ys w c.args.account.now.judge.is_clean c.loop-number.account.judge.is_clean c.renew_item.new.account.judge.is_clean c.args.account.now.placed c.loop-number.account.placed c.renew_item.new.account.placed n d e y
+          (next_of c.next-next.result) next c.as_slice-items.ensures low c.index-items-number.is (width_either c.args.reach.now.alert.properties (raised r.marks r.now).properties d.reach.alert width) here
+          (c.in_ok-renew_item.ensures.done c.args.marks.now old saw n next) (c.in_ok-renew_item.ensures.clean c.args.marks.now old saw n next) (c.in_ok-renew_item.ensures.placed c.args.marks.now old saw n next)
+          c.in_ok-renew_item.ensures.in_place c.in_ok-renew_item.ensures.alike;
+      add_same = next_add (slots_of slots) d e (adds_passed slots front from k c.loop-number.done d over inv.add_same) c.in_ok-renew_item.ensures.add_same;
+      width = c.in_ok-renew_item.ensures.properties ∙ width;
     }
 
 pub renew_body-returns-clause-slots : goal.renew_body-returns-clause-slots
 renew_body-returns-clause-slots g t c = λ old saw became reached.
     let r = renewing c.args.renewal.now c.args.marks.now old saw in
-    body_done g.L.Lays.laying r c.loop-item.item-index c.loop-item.done c.as_slice-item-items.result.now (c.loop-item.invariant.done old saw became reached) c.as_slice-item-items.ensures
-    c.loop-item.auto.item-index-end c.loop-item-test.false
+    body_done g.L.Lays.laying r c.loop-number.number c.loop-number.done c.as_slice-items.result.now (c.loop-number.invariant.stand old saw became reached).done c.as_slice-items.ensures
+    c.loop-number.invariant.few c.loop-number-test.false
 
 pub renew_body-returns-clause-alert : goal.renew_body-returns-clause-alert
 renew_body-returns-clause-alert g t c = λ old saw became reached.
     let r = renewing c.args.renewal.now c.args.marks.now old saw in
-    differs_no_more g.L.Lays.laying r c.loop-item.item-index c.loop-item.done c.as_slice-item-items.result.now became (c.loop-item.invariant.done old saw became reached) c.as_slice-item-items.ensures c.loop-item-test.false
+    differs_no_more g.L.Lays.laying r c.loop-number.number c.loop-number.done c.as_slice-items.result.now became (c.loop-number.invariant.stand old saw became reached).done c.as_slice-items.ensures c.loop-number-test.false
 
 -- ---- That no item has a fault.
-
-pub renew_item-returns-in-Some-clause-clean : goal.renew_item-returns-in-Some-clause-clean
-renew_item-returns-in-Some-clause-clean g t c = λ m old saw n next ahead.
-    let r = renewing c.args.renewal.now m old saw in
-    let d = c.args.done.now in
-    let here = with_next g.L.Lays.laying r n d c.args.item.now (next_of c.args.next) (same_item c.in-Same.number) (ap next_of c.in-Same.is) next in
-    on_any c.keep.result
-    (same_judge c.args.account.now.judge.is_clean (settled_clean g.L.Lays.laying r n d c.args.item.now c.in-Same.number c.in-Some.slot.now c.args.renewal.now.slots.now here refl c.in-Some.ensures))
 
 pub renew_stayed-returns-clause-clean : goal.renew_stayed-returns-clause-clean
 renew_stayed-returns-clause-clean g t c = λ m old saw n firsts next unmoved.
@@ -264,8 +253,8 @@ renewed_slot-returns-in_ok-node-in-Some-kept_component-clause-clean g t c = λ s
 pub renew_body-returns-clause-clean : goal.renew_body-returns-clause-clean
 renew_body-returns-clause-clean g t c = λ old saw became reached.
     let r = renewing c.args.renewal.now c.args.marks.now old saw in
-    body_clean g.L.Lays.laying r c.loop-item.item-index c.args.account.now.judge.is_clean c.loop-item.account.judge.is_clean c.as_slice-item-items.result.now (c.loop-item.invariant.clean old saw became reached) c.as_slice-item-items.ensures
-    c.loop-item-test.false
+    body_clean g.L.Lays.laying r c.loop-number.number c.args.account.now.judge.is_clean c.loop-number.account.judge.is_clean c.as_slice-items.result.now (c.loop-number.invariant.stand old saw became reached).clean c.as_slice-items.ensures
+    c.loop-number-test.false
 
 -- ---- How many instances are placed.
 
@@ -278,19 +267,6 @@ renew_other-returns-in-New-clause-placed g t c = λ m old saw n next.
     let told : next_of c.args.next ≡ new_item = ap next_of c.in-New.is in
     on_told lay r n y new_item (next_of c.args.next) (tells_of_width d.reach.alert) c.args.account.now.placed c.renew_new.new.account.placed c.renew_new.result told
     (c.renew_new.ensures.placed m old saw n new_item (with_next lay r n d y (next_of c.args.next) new_item told next) tt)
-
-pub renew_item-returns-in-Some-clause-placed : goal.renew_item-returns-in-Some-clause-placed
-renew_item-returns-in-Some-clause-placed g t c = λ m old saw n next ahead.
-    let lay = g.L.Lays.laying in
-    let r = renewing c.args.renewal.now m old saw in
-    let d = c.args.done.now in
-    let y = c.args.item.now in
-    let a = c.args.account.now.placed in
-    let told : next_of c.args.next ≡ same_item c.in-Same.number = ap next_of c.in-Same.is in
-    let here = with_next lay r n d y (next_of c.args.next) (same_item c.in-Same.number) told next in
-    on_told lay r n y (same_item c.in-Same.number) (next_of c.args.next) (tells_of_width d.reach.alert) a a c.keep.result told
-    (on_two c.keep.result (renew_item-returns-in-Some-clause-done g t c m old saw n next ahead) c.keep.ensures.slots
-    (settled_counted lay r n d c.keep.new.self y c.in-Same.number c.in-Some.slot.now c.args.renewal.now.slots.now a here refl c.in-Some.ensures))
 
 pub renew_other-returns-in-Same-clause-placed : goal.renew_other-returns-in-Same-clause-placed
 renew_other-returns-in-Same-clause-placed g t c = λ m old saw n next.
@@ -396,54 +372,26 @@ renewed_component-returns-clause-placed g t c = λ old saw became reached.
 pub renew_body-returns-clause-placed : goal.renew_body-returns-clause-placed
 renew_body-returns-clause-placed g t c = λ old saw became reached.
     let r = renewing c.args.renewal.now c.args.marks.now old saw in
-    all_counted (tells_of_width c.args.reach.now.alert || sets_width r.marks r.now) r.marks r.slots (slots_there g.L.Lays.laying r.places r.now) (slots_of c.loop-item.done.slots.items) r.now c.as_slice-item-items.result.now
-    c.loop-item.item-index c.args.account.now.placed c.loop-item.account.placed (c.loop-item.invariant.placed old saw became reached) c.loop-item-test.false (renew_body-returns-clause-slots g t c old saw became reached)
+    all_counted (tells_of_width c.args.reach.now.alert || sets_width r.marks r.now) r.marks r.slots (slots_there g.L.Lays.laying r.places r.now) (slots_of c.loop-number.done.slots.items) r.now c.as_slice-items.result.now
+    c.loop-number.number c.args.account.now.placed c.loop-number.account.placed (c.loop-number.invariant.stand old saw became reached).counted c.loop-number-test.false (renew_body-returns-clause-slots g t c old saw became reached)
 
 pub renew_body-returns-clause-width : goal.renew_body-returns-clause-width
 renew_body-returns-clause-width g t c =
-    width_either c.args.reach.now.alert.properties (raised c.args.marks.now c.args.renewal.now.body.now).properties c.loop-item.done.reach.alert c.loop-item.invariant.width
+    width_either c.args.reach.now.alert.properties (raised c.args.marks.now c.args.renewal.now.body.now).properties c.loop-number.done.reach.alert c.loop-number.invariant.width
 
 pub renew_body-returns-clause-likeness : goal.renew_body-returns-clause-likeness
 renew_body-returns-clause-likeness g t c = λ old saw became reached.
     let r = renewing c.args.renewal.now c.args.marks.now old saw in
-    all_like g.L.Lays.laying r c.loop-item.item-index c.loop-item.done c.as_slice-item-items.result.now (c.loop-item.invariant.in_place old saw became reached) (c.loop-item.invariant.alike old saw became reached)
-    c.as_slice-item-items.ensures c.loop-item-test.false (renew_body-returns-clause-slots g t c old saw became reached)
+    all_like g.L.Lays.laying r c.loop-number.number c.loop-number.done c.as_slice-items.result.now (c.loop-number.invariant.stand old saw became reached).in_place (c.loop-number.invariant.stand old saw became reached).alike
+    c.as_slice-items.ensures c.loop-number-test.false (renew_body-returns-clause-slots g t c old saw became reached)
 
 pub renewed_component-finished_again-requires : goal.renewed_component-finished_again-requires
 renewed_component-finished_again-requires g t c = subst (λ s. AddAsSaid s c.in_ok-done.done) c.slots.ensures c.in_ok-done.ensures.add_same
 
 -- ---- How its items are like what they were.
 
-pub renew_item-returns-in-Some-clause-in_place : goal.renew_item-returns-in-Some-clause-in_place
-renew_item-returns-in-Some-clause-in_place g t c = on_both c.keep.result c.keep.ensures.in_place
-    (λ one. kept_in_place c.args.done.now c.keep.new.self c.in-Same.number (next_of c.args.next) (ap next_of c.in-Same.is) one)
-
-pub renew_item-returns-in-Some-clause-add_same : goal.renew_item-returns-in-Some-clause-add_same
-renew_item-returns-in-Some-clause-add_same g t c = on_two c.keep.result c.keep.ensures.slots c.keep.ensures.add_same
-    (λ slots one. kept_add c.args.renewal.now.slots.now c.args.done.now c.keep.new.self c.in-Some.slot.now c.in-Same.number c.in-Some.ensures.there slots one)
-
 pub renew_item-returns-clause-add_same : goal.renew_item-returns-clause-add_same
 renew_item-returns-clause-add_same g t c =
     let number : c.len-number.result ≡ length c.args.done.now.slots.items = search rules in
     liken_add (slots_of c.args.renewal.now.slots.now) c.args.done.now c.renew_other.new.done c.liken.new.self c.len-number.result c.in_ok-renew_other.ensures.likeness c.liken.ensures.slots number c.liken.ensures.add_same
 
-pub renew_item-returns-in-Some-clause-alike : goal.renew_item-returns-in-Some-clause-alike
-renew_item-returns-in-Some-clause-alike g t c = on_both c.keep.result c.keep.ensures.slots
-    (λ slots.
-    kept_alike c.args.renewal.now.slots.now c.args.done.now c.keep.new.self c.in-Some.slot.now c.in-Same.number (next_of c.args.next) c.args.item.now c.in-Some.ensures.there (ap next_of c.in-Same.is) slots
-    c.keep.ensures.alike)
-
-pub renew_item-returns-in-Some-front_slot-clause-in_place : goal.renew_item-returns-in-Some-front_slot-clause-in_place
-renew_item-returns-in-Some-front_slot-clause-in_place g t c = on_both c.keep-in-Some-front_slot.result c.keep-in-Some-front_slot.ensures.in_place
-    (λ one. kept_in_place c.args.done.now c.keep-in-Some-front_slot.new.self c.in-Same.number (next_of c.args.next) (ap next_of c.in-Same.is) one)
-
-pub renew_item-returns-in-Some-front_slot-clause-add_same : goal.renew_item-returns-in-Some-front_slot-clause-add_same
-renew_item-returns-in-Some-front_slot-clause-add_same g t c = on_two c.keep-in-Some-front_slot.result c.keep-in-Some-front_slot.ensures.slots c.keep-in-Some-front_slot.ensures.add_same
-    (λ slots one.
-    kept_add c.args.renewal.now.slots.now c.args.done.now c.keep-in-Some-front_slot.new.self c.in-Some-front_slot.slot.now c.in-Same.number c.in-Some-front_slot.ensures.there slots one)
-
-pub renew_item-returns-in-Some-front_slot-clause-alike : goal.renew_item-returns-in-Some-front_slot-clause-alike
-renew_item-returns-in-Some-front_slot-clause-alike g t c = on_both c.keep-in-Some-front_slot.result c.keep-in-Some-front_slot.ensures.slots
-    (λ slots.
-    kept_alike c.args.renewal.now.slots.now c.args.done.now c.keep-in-Some-front_slot.new.self c.in-Some-front_slot.slot.now c.in-Same.number (next_of c.args.next) c.args.item.now c.in-Some-front_slot.ensures.there (ap next_of c.in-Same.is) slots
-    c.keep-in-Some-front_slot.ensures.alike)
