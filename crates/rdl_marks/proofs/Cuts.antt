@@ -4,9 +4,10 @@ use Rattle.std.specs.Prelude.{insert, remove, slice_get, slice_set, replicate, I
 use Rattle.std.proofs.lemmas.List.{append-nil, reverse-append, length-replicate, replicate-append-replicate}
 use Rattle.rdl_marks.specs.Marks.{no_firsts, no_marks}
 use Rattle.rdl_marks.specs.View.{Trace, new_item, old_item, same_item, run, firsts_of, marked, piece_traces, pieces_traces}
-use Rattle.rdl_marks.specs.Cut.{traces_behind, rest_traces, IsSingle, the_trace, Reaches}
+use Rattle.rdl_marks.specs.Cut.{traces_before, traces_behind, traces_in, rest_traces, IsSingle, the_trace, Reaches}
 use Rattle.rdl_marks.specs.declared.marks.Mark.{Mark}
 use Rattle.rdl_marks.specs.declared.marks.Piece.{Piece}
+use Rattle.rdl_marks.specs.declared.marks.Pieces.{Pieces}
 use Rattle.rdl_marks.specs.declared.marks.Piece.TheVariants.{New, Kept, Marked}
 
 -- ---- Lists.
@@ -172,3 +173,43 @@ taken_behind old before behind rest b c d n o p r s e i f a t g =
     let all : before ++ behind ≡ before = ap (λ l. before ++ l) (e ∙ ap (λ q. rest_traces q ++ traces_behind rest) i ∙ none) ∙ append-nil before in
     reaches_next old before (before ++ the_trace p ∷ traces_behind rest) b c d n (subst (λ l. Reaches old b l c n) all r) s
     (ap (λ l. before ++ the_trace p ∷ l) none ∙ ap (λ l. before ++ l) (sym (single_traces p a) ∙ t)) g
+
+-- ---- An item that is the last one before the gap.
+
+pub held_here : (old before behind : List Trace) (rest : List Piece) (new : Pieces) (b c n : ℕ) (o : Option Piece) (p : Piece) → Reaches old b (before ++ behind) c n → length before ≡ n → behind ≡ rest_traces o ++ traces_behind rest → o ≡ Some p → IfSome o IsSingle
+    → traces_before new ≡ before ++ piece_traces p → new.back.items ≡ rest → Reaches old b (traces_in new) c (n + 1)
+held_here old before behind rest new b c n o p r s e i a f g =
+    let alone = subst (λ q. IfSome q IsSingle) i a in
+    let one : before ++ the_trace p ∷ traces_behind rest ≡ traces_before new ++ traces_behind rest = sym (append_assoc before (the_trace p ∷ []) (traces_behind rest)) ∙ ap (λ l. l ++ traces_behind rest) (sym (f ∙ ap (λ l. before ++ l) (single_traces p alone))) in
+    let all : before ++ the_trace p ∷ traces_behind rest ≡ traces_in new = one ∙ ap (λ q. traces_before new ++ traces_behind q) (sym g) in
+    subst (λ l. Reaches old b l c (n + 1)) all (taken_here old before behind (traces_behind rest) b c n o p r s e i a)
+
+pub held_behind : (old before behind : List Trace) (rest : List Piece) (new : Pieces) (b c d n : ℕ) (o : Option Piece) → Reaches old b (before ++ behind) c n → length before ≡ n → behind ≡ rest_traces o ++ traces_behind rest → o ≡ None → (o ≡ None → rest ≡ [])
+    → traces_before new ≡ before ++ run c 1 → new.back.items ≡ rest → d ≡ c + 1 → Reaches old b (traces_in new) d (n + 1)
+held_behind old before behind rest new b c d n o r s e i f t g h =
+    let none : traces_behind rest ≡ [] = ap traces_behind (f i) in
+    let all : before ++ behind ≡ before = ap (λ l. before ++ l) (e ∙ ap (λ q. rest_traces q ++ traces_behind rest) i ∙ none) ∙ append-nil before in
+    let whole : traces_in new ≡ before ++ run c 1 = ap (λ q. traces_before new ++ traces_behind q) g ∙ ap (λ l. traces_before new ++ l) none ∙ append-nil (traces_before new) ∙ t in
+    reaches_next old before (traces_in new) b c d n (subst (λ l. Reaches old b l c n) all r) s whole h
+
+pub last_alone : (ps new : List Piece) (o : Option Piece) (p : Piece) → new ≡ ps ++ p ∷ [] → o ≡ Some p → IfSome o IsSingle → IfSome (slice_get new (length new - 1)) IsSingle
+last_alone ps new o p e i a =
+    let place : length new - 1 ≡ length ps = omega (arith, ap length e, length-append ps (p ∷ [])) in
+    let last : slice_get new (length new - 1) ≡ Some p = ap (slice_get new) place ∙ ap (λ l. slice_get l (length ps)) e ∙ get_at ps p [] in
+    subst (λ q. IfSome q IsSingle) (i ∙ sym last) a
+
+-- the last piece, alone
+pub last_single : (ps : List Piece) (k : ℕ) (p : Piece) → slice_get ps k ≡ Some p → k + 1 ≡ length ps → IsSingle p → pieces_traces ps ≡ pieces_traces (take k ps) ++ the_trace p ∷ []
+last_single [] k p e h s = cc
+last_single (r ∷ []) zero p e h s = let same : r ≡ p = cc in append-nil (piece_traces r) ∙ ap piece_traces same ∙ single_traces p s
+last_single (r ∷ q ∷ ps) zero p e h s = absurd (omega (arith, h))
+last_single (r ∷ ps) (suc k) p e h s =
+    ap (λ l. piece_traces r ++ l) (last_single ps k p e (omega (arith, h)) s) ∙ sym (append_assoc (piece_traces r) (pieces_traces (take k ps)) (the_trace p ∷ []))
+
+-- and another in its place
+pub last_set : (ps : List Piece) (k : ℕ) (q : Piece) → k + 1 ≡ length ps → IsSingle q → pieces_traces (slice_set ps k q) ≡ pieces_traces (take k ps) ++ the_trace q ∷ []
+last_set [] k q h s = absurd (omega (arith, h))
+last_set (r ∷ []) zero q h s = append-nil (piece_traces q) ∙ single_traces q s
+last_set (r ∷ o ∷ ps) zero q h s = absurd (omega (arith, h))
+last_set (r ∷ ps) (suc k) q h s =
+    ap (λ l. piece_traces r ++ l) (last_set ps k q (omega (arith, h)) s) ∙ sym (append_assoc (piece_traces r) (pieces_traces (take k ps)) (the_trace q ∷ []))

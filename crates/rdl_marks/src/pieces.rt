@@ -1,5 +1,5 @@
 //! Pieces, cut where a patch changes something.
-ghost use Rattle.std.specs.Prelude.{◌≡◌, ◌+◌, ◌^◌, ◌<◌, ◌≤◌, [], ◌∷◌, ◌++◌, length, IfOk, IfErr, IfSome, None, if◌then◌else◌, slice_get, option_copied};
+ghost use Rattle.std.specs.Prelude.{◌≡◌, ◌+◌, ◌-◌, ◌^◌, ◌<◌, ◌≤◌, [], ◌∷◌, ◌++◌, length, IfOk, IfErr, IfSome, IsTrue, None, if◌then◌else◌, slice_get, option_copied};
 ghost use Rattle.rdl_marks.specs.View.{new_item, run, piece_traces, pieces_traces, in_order, IsCounted};
 ghost use Rattle.rdl_marks.specs.Cut.{traces_before, traces_behind, traces_in, rest_traces, IsSingle, the_trace, Reaches};
 
@@ -13,6 +13,17 @@ fn len(piece: &Piece) -> usize
         Piece::New(count) => *count,
         Piece::Kept(from, to) => to.saturating_sub(*from),
         Piece::Marked(..) => 1,
+    }
+}
+
+/// Whether it is one item alone, which has a mark if it was there before.
+fn is_single(piece: &Piece) -> bool
+    ensures { IsTrue result → IsSingle piece.now }
+{
+    match piece {
+        Piece::New(count) => *count == 1,
+        Piece::Kept(..) => false,
+        Piece::Marked(..) => true,
     }
 }
 
@@ -211,6 +222,7 @@ impl<'a> Pieces<'a> {
         ensures before { IfOk result (λ _. traces_before self.new ≡ traces_before self.old ++ piece_traces piece.entry) }
         ensures count { IfOk result (λ _. self.new.before ≡ self.old.before + length (piece_traces piece.entry)) }
         ensures behind { self.new.back ≡ self.old.back }
+        ensures last { IfOk result (λ _. self.new.front.items ≡ self.old.front.items ++ piece.entry ∷ []) }
     {
         let Some(before) = self.before.checked_add(len(&piece)) else {
             return Err(AllocError);
@@ -306,6 +318,68 @@ impl<'a> Pieces<'a> {
             None => {
                 let piece = pop_behind(behind, alloc)?;
                 Ok(piece)
+            }
+        }
+    }
+
+    /// Whether the item of this number is the last one before the gap, and a piece by itself.
+    fn holds(&self, number: usize) -> bool
+        ensures begins { IsTrue result → self.now.before ≡ number + 1 }
+        ensures some { IsTrue result → 0 < length self.now.front.items }
+        ensures alone { IsTrue result → IfSome (slice_get self.now.front.items (length self.now.front.items - 1)) IsSingle }
+    {
+        let count = self.front.len();
+        if count == 0 || self.before <= number || self.before - number != 1 {
+            return false;
+        }
+        is_single(&self.front[count - 1])
+    }
+
+    /// Puts the first one of those that stood in the body from a number on before the gap, with a mark.
+    fn put_behind(&mut self, behind: &mut usize, alloc: Global) -> Result<(), AllocError>
+        requires { IsCounted self.old }
+        ensures counted { IsCounted self.new }
+        ensures before { IfOk result (λ _. traces_before self.new ≡ traces_before self.old ++ run behind.old 1) }
+        ensures count { IfOk result (λ _. self.new.before ≡ self.old.before + 1) }
+        ensures behind { self.new.back ≡ self.old.back }
+        ensures more { IfOk result (λ _. behind.new ≡ behind.old + 1) }
+        ensures some { IfOk result (λ _. 0 < length self.new.front.items) }
+        ensures alone { IfOk result (λ _. IfSome (slice_get self.new.front.items (length self.new.front.items - 1)) IsSingle) }
+    {
+        let Some(end) = behind.checked_add(1) else {
+            return Err(AllocError);
+        };
+        self.put(Piece::Marked(*behind, Mark::none(alloc)))?;
+        *behind = end;
+        Ok(())
+    }
+
+    /// Makes the item of this number the last one before the gap, and a piece by itself, which has a mark if it was there before.
+    pub(crate) fn hold(
+        &mut self,
+        behind: &mut usize,
+        alloc: Global,
+        number: usize,
+    ) -> Result<(), AllocError>
+        requires { IsCounted self.old }
+        ensures counted { IsCounted self.new }
+        ensures reaches { IfOk result (λ _. Reaches (traces_in self.old) behind.old (traces_in self.new) behind.new (number + 1)) }
+        ensures begins { IfOk result (λ _. self.new.before ≡ number + 1) }
+        ensures some { IfOk result (λ _. 0 < length self.new.front.items) }
+        ensures alone { IfOk result (λ _. IfSome (slice_get self.new.front.items (length self.new.front.items - 1)) IsSingle) }
+    {
+        if self.holds(number) {
+            return Ok(());
+        }
+        self.go_to(behind, number)?;
+        match pop_first(&mut self.back, alloc)? {
+            Some(piece) => {
+                self.put(piece)?;
+                Ok(())
+            }
+            None => {
+                self.put_behind(behind, alloc)?;
+                Ok(())
             }
         }
     }

@@ -1,0 +1,20 @@
+use Rattle.std.proofs.Common.{ap, sym, ◌∙◌}
+use Rattle.rdl_marks.specs.Cut.{traces_before, traces_behind, traces_in}
+use Rattle.rdl_marks.proofs.Cuts.{held_here, held_behind, last_alone}
+use Rattle.rdl_marks.proofs.marks.Pieces.hold.Goals as goal
+
+pub returns-in_ok-put-in-Some-clause-reaches : goal.returns-in_ok-put-in-Some-clause-reaches
+returns-in_ok-put-in-Some-clause-reaches c =
+    held_here (traces_in c.args.self.now) (traces_before c.go_to.new.self) (traces_behind c.go_to.new.self.back.items) c.pop_first.new.back.items c.put.new.self c.args.behind.now c.go_to.new.behind c.args.number c.in_ok-piece.field-0
+    c.in-Some.piece c.in_ok-go_to.ensures.reaches (sym c.in_ok-go_to.ensures.counted ∙ c.in_ok-go_to.ensures.begins) c.in_ok-piece.ensures.same c.in-Some.is c.in_ok-piece.ensures.alone c.in_ok-put-in-Some.ensures.before
+    (ap (λ v. v.items) c.in_ok-put-in-Some.ensures.behind)
+
+pub returns-in_ok-put-in-Some-clause-alone : goal.returns-in_ok-put-in-Some-clause-alone
+returns-in_ok-put-in-Some-clause-alone c =
+    last_alone c.go_to.new.self.front.items c.put.new.self.front.items c.in_ok-piece.field-0 c.in-Some.piece c.in_ok-put-in-Some.ensures.last c.in-Some.is c.in_ok-piece.ensures.alone
+
+pub returns-in_ok-put_behind-in-None-clause-reaches : goal.returns-in_ok-put_behind-in-None-clause-reaches
+returns-in_ok-put_behind-in-None-clause-reaches c =
+    held_behind (traces_in c.args.self.now) (traces_before c.go_to.new.self) (traces_behind c.go_to.new.self.back.items) c.pop_first.new.back.items c.put_behind.new.self c.args.behind.now c.go_to.new.behind c.put_behind.new.behind
+    c.args.number c.in_ok-piece.field-0 c.in_ok-go_to.ensures.reaches (sym c.in_ok-go_to.ensures.counted ∙ c.in_ok-go_to.ensures.begins) c.in_ok-piece.ensures.same c.in-None.is c.in_ok-piece.ensures.none
+    c.in_ok-put_behind-in-None.ensures.before (ap (λ v. v.items) c.in_ok-put_behind-in-None.ensures.behind) c.in_ok-put_behind-in-None.ensures.more
