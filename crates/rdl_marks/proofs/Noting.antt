@@ -11,7 +11,7 @@ use Rattle.rdl_marks.specs.Noted.{moved, reach, put_in, take_out, gone_as, told_
 use Rattle.rdl_marks.specs.declared.marks.Piece.{Piece}
 use Rattle.rdl_marks.specs.declared.marks.Pieces.{Pieces}
 use Rattle.rdl_marks.specs.declared.marks.Gone.{Gone}
-use Rattle.rdl_marks.proofs.Cuts.{get_at, put_at_end, remove_at, insert_at, pieces_traces-append, single_traces, last_single, last_set}
+use Rattle.rdl_marks.proofs.Cuts.{get_at, put_at_end, remove_at, insert_at, pieces_traces-append, single_traces, last_single, set_single}
 
 -- ---- What is told by the items one by one.
 
@@ -139,7 +139,7 @@ changed mid k q = record mid { front = with_item mid.front k q }
 pub held_counted : (old : Pieces) (b : ℕ) (mid : Pieces) (c n k : ℕ) (p q : Piece) → IsHeld old b mid c n k p → IsSingle q → mid.before ≡ n + 1 → IsCounted (changed mid k q)
 held_counted old b mid c n k p q t s h =
     let before = pieces_traces (take k mid.front.items) in
-    omega (arith, h, t.begins, ap length (last_single mid.front.items k p t.place t.last t.alone), ap length (last_set mid.front.items k q t.last s), length-append before (the_trace p ∷ []), length-append before (the_trace q ∷ []))
+    omega (arith, h, t.begins, ap length (last_single mid.front.items k p t.place t.last t.alone), ap length (set_single mid.front.items k q t.last s), length-append before (the_trace p ∷ []), length-append before (the_trace q ∷ []))
 
 pub changed_held : (f : Trace → Trace) (old : Pieces) (b : ℕ) (mid : Pieces) (c n k : ℕ) (p q : Piece) → IsHeld old b mid c n k p → IsSingle q → the_trace q ≡ f (the_trace p)
     → (gs : List Gone) → told (in_order (changed mid k q)) c gs ≡ at_item n f (told (in_order old) b gs)
@@ -151,7 +151,7 @@ changed_held f old b mid c n k p q t s m gs =
     let held = last_single mid.front.items k p t.place t.last t.alone in
     let begins : length before ≡ n = omega (arith, t.begins, ap length held, length-append before (e ∷ [])) in
     let whole : traces_in mid ≡ all = ap (λ l. l ++ behind) held ∙ append_assoc before (e ∷ []) behind in
-    let after : traces_in (changed mid k q) ≡ before ++ the_trace q ∷ behind = ap (λ l. l ++ behind) (last_set mid.front.items k q t.last s) ∙ append_assoc before (the_trace q ∷ []) behind in
+    let after : traces_in (changed mid k q) ≡ before ++ the_trace q ∷ behind = ap (λ l. l ++ behind) (set_single mid.front.items k q t.last s) ∙ append_assoc before (the_trace q ∷ []) behind in
     told_in (changed mid k q) c gs
     ∙ ap (λ l. told_by l c gs) (after ∙ set_there before behind n e (the_trace q) begins)
     ∙ ap (λ g. told_by (slice_set all n g) c gs) m
