@@ -193,8 +193,8 @@ held_here old before behind rest new b c n o p r s e i a f g =
 pub held_kept : (old before behind : List Trace) (rest : List Piece) (new : Pieces) (b c n k : ℕ) → Reaches old b (before ++ behind) c n → length before ≡ n → behind ≡ same_item k ∷ traces_behind rest → traces_before new ≡ before ++ same_item k ∷ []
     → new.back.items ≡ rest → Reaches old b (traces_in new) c (n + 1)
 held_kept old before behind rest new b c n k r s e f g =
-    let all : before ++ behind ≡ traces_in new =
-    ap (λ l. before ++ l) e ∙ sym (append_assoc before (same_item k ∷ []) (traces_behind rest)) ∙ ap (λ l. l ++ traces_behind rest) (sym f) ∙ ap (λ q. traces_before new ++ traces_behind q) (sym g) in
+    let put : before ++ same_item k ∷ traces_behind rest ≡ traces_before new ++ traces_behind rest = sym (append_assoc before (same_item k ∷ []) (traces_behind rest)) ∙ ap (λ l. l ++ traces_behind rest) (sym f) in
+    let all : before ++ behind ≡ traces_in new = ap (λ l. before ++ l) e ∙ put ∙ ap (λ q. traces_before new ++ traces_behind q) (sym g) in
     let long : n < length (traces_in new) = omega (arith, ap length (sym all), ap length e, length-append before behind, s) in
     reaches_one old (traces_in new) b c n (subst (λ l. Reaches old b l c n) all r) long
 

@@ -1,5 +1,5 @@
 //! Pieces, cut where a patch changes something.
-ghost use Rattle.std.specs.Prelude.{◌≡◌, ◌+◌, ◌-◌, ◌^◌, ◌<◌, ◌≤◌, [], ◌∷◌, ◌++◌, length, IfOk, IfErr, IfSome, IsTrue, Some, None, false, if◌then◌else◌, slice_get, option_copied};
+ghost use Rattle.std.specs.Prelude.{◌≡◌, ◌+◌, ◌-◌, ◌^◌, ◌<◌, ◌≤◌, [], ◌∷◌, ◌++◌, length, IfOk, IfErr, IfSome, IsTrue, None, false, if◌then◌else◌, slice_get, option_copied};
 ghost use Rattle.rdl_marks.specs.View.{new_item, same_item, run, piece_traces, pieces_traces, in_order, IsCounted};
 ghost use Rattle.rdl_marks.specs.Cut.{traces_before, traces_behind, traces_in, rest_traces, IsSingle, the_trace, Reaches};
 
@@ -351,6 +351,9 @@ impl<'a> Pieces<'a> {
         ensures reaches { IfOk result (λ _. Reaches (traces_in self.old) behind.old (traces_in self.new) behind.new number) }
         ensures begins { IfOk result (λ _. self.new.before ≡ number) }
     {
+        if self.before == number {
+            return Ok(());
+        }
         self.go_back(number)?;
         self.go_on(number)?;
         self.extend(behind, number)
@@ -447,6 +450,10 @@ impl<'a> Pieces<'a> {
             return Ok(());
         }
         self.go_to(behind, number)?;
+        if self.back.is_empty() {
+            self.put_behind(behind, alloc)?;
+            return Ok(());
+        }
         if let Some(first) = pop_kept(&mut self.back) {
             self.put_marked(alloc, first)?;
             return Ok(());
