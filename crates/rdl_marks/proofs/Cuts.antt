@@ -4,9 +4,10 @@ use Rattle.std.specs.Prelude.{insert, remove, slice_get, slice_set, replicate, I
 use Rattle.std.proofs.lemmas.List.{append-nil, reverse-append, length-replicate, replicate-append-replicate}
 use Rattle.rdl_marks.specs.Marks.{no_firsts, no_marks}
 use Rattle.rdl_marks.specs.View.{Trace, new_item, old_item, same_item, run, firsts_of, marked, piece_traces, pieces_traces}
-use Rattle.rdl_marks.specs.Cut.{traces_behind, rest_traces, IsSingle, the_trace, Reaches}
+use Rattle.rdl_marks.specs.Cut.{traces_before, traces_behind, traces_in, rest_traces, IsSingle, the_trace, Reaches}
 use Rattle.rdl_marks.specs.declared.marks.Mark.{Mark}
 use Rattle.rdl_marks.specs.declared.marks.Piece.{Piece}
+use Rattle.rdl_marks.specs.declared.marks.Pieces.{Pieces}
 use Rattle.rdl_marks.specs.declared.marks.Piece.TheVariants.{New, Kept, Marked}
 
 -- ---- Lists.
@@ -125,6 +126,12 @@ kept_first p from to m e h f g =
     let more : to - from ≡ suc (to - (from + 1)) = omega (arith, room) in
     ap piece_traces e ∙ ap (run from) more ∙ ap (λ o. old_item from o no_marks ∷ run (from + 1) (to - (from + 1))) (sym f) ∙ ap (λ o. old_item from (firsts_of m) o ∷ run (from + 1) (to - (from + 1))) (sym g)
 
+pub kept_next : (p : Piece) (from to : ℕ) → p ≡ Kept from to → from < to → piece_traces p ≡ same_item from ∷ run (from + 1) (to - (from + 1))
+kept_next p from to e h = let more : to - from ≡ suc (to - (from + 1)) = omega (arith, h) in ap piece_traces e ∙ ap (run from) more
+
+pub marked_same : (number : ℕ) (m : Mark) → firsts_of m ≡ no_firsts → m.inside ≡ no_marks → marked number m ≡ same_item number
+marked_same number m f g = ap (λ o. old_item number o m.inside) f ∙ ap (λ o. old_item number no_firsts o) g
+
 -- ---- How far is told.
 
 -- as long as the number says, if it wasn't
@@ -172,3 +179,83 @@ taken_behind old before behind rest b c d n o p r s e i f a t g =
     let all : before ++ behind ≡ before = ap (λ l. before ++ l) (e ∙ ap (λ q. rest_traces q ++ traces_behind rest) i ∙ none) ∙ append-nil before in
     reaches_next old before (before ++ the_trace p ∷ traces_behind rest) b c d n (subst (λ l. Reaches old b l c n) all r) s
     (ap (λ l. before ++ the_trace p ∷ l) none ∙ ap (λ l. before ++ l) (sym (single_traces p a) ∙ t)) g
+
+-- ---- An item that is the last one before the gap.
+
+pub held_here : (old before behind : List Trace) (rest : List Piece) (new : Pieces) (b c n : ℕ) (o : Option Piece) (p : Piece) → Reaches old b (before ++ behind) c n → length before ≡ n → behind ≡ rest_traces o ++ traces_behind rest → o ≡ Some p → IfSome o IsSingle
+    → traces_before new ≡ before ++ piece_traces p → new.back.items ≡ rest → Reaches old b (traces_in new) c (n + 1)
+held_here old before behind rest new b c n o p r s e i a f g =
+    let alone = subst (λ q. IfSome q IsSingle) i a in
+    let one : before ++ the_trace p ∷ traces_behind rest ≡ traces_before new ++ traces_behind rest = sym (append_assoc before (the_trace p ∷ []) (traces_behind rest)) ∙ ap (λ l. l ++ traces_behind rest) (sym (f ∙ ap (λ l. before ++ l) (single_traces p alone))) in
+    let all : before ++ the_trace p ∷ traces_behind rest ≡ traces_in new = one ∙ ap (λ q. traces_before new ++ traces_behind q) (sym g) in
+    subst (λ l. Reaches old b l c (n + 1)) all (taken_here old before behind (traces_behind rest) b c n o p r s e i a)
+
+pub held_kept : (old before behind : List Trace) (rest : List Piece) (new : Pieces) (b c n k : ℕ) → Reaches old b (before ++ behind) c n → length before ≡ n → behind ≡ same_item k ∷ traces_behind rest → traces_before new ≡ before ++ same_item k ∷ []
+    → new.back.items ≡ rest → Reaches old b (traces_in new) c (n + 1)
+held_kept old before behind rest new b c n k r s e f g =
+    let put : before ++ same_item k ∷ traces_behind rest ≡ traces_before new ++ traces_behind rest = sym (append_assoc before (same_item k ∷ []) (traces_behind rest)) ∙ ap (λ l. l ++ traces_behind rest) (sym f) in
+    let all : before ++ behind ≡ traces_in new = ap (λ l. before ++ l) e ∙ put ∙ ap (λ q. traces_before new ++ traces_behind q) (sym g) in
+    let long : n < length (traces_in new) = omega (arith, ap length (sym all), ap length e, length-append before behind, s) in
+    reaches_one old (traces_in new) b c n (subst (λ l. Reaches old b l c n) all r) long
+
+pub held_behind : (old before behind : List Trace) (rest : List Piece) (new : Pieces) (b c d n : ℕ) (o : Option Piece) → Reaches old b (before ++ behind) c n → length before ≡ n → behind ≡ rest_traces o ++ traces_behind rest → o ≡ None → (o ≡ None → rest ≡ [])
+    → traces_before new ≡ before ++ run c 1 → new.back.items ≡ rest → d ≡ c + 1 → Reaches old b (traces_in new) d (n + 1)
+held_behind old before behind rest new b c d n o r s e i f t g h =
+    let none : traces_behind rest ≡ [] = ap traces_behind (f i) in
+    let all : before ++ behind ≡ before = ap (λ l. before ++ l) (e ∙ ap (λ q. rest_traces q ++ traces_behind rest) i ∙ none) ∙ append-nil before in
+    let whole : traces_in new ≡ before ++ run c 1 = ap (λ q. traces_before new ++ traces_behind q) g ∙ ap (λ l. traces_before new ++ l) none ∙ append-nil (traces_before new) ∙ t in
+    reaches_next old before (traces_in new) b c d n (subst (λ l. Reaches old b l c n) all r) s whole h
+
+pub last_alone : (ps new : List Piece) (o : Option Piece) (p : Piece) → new ≡ ps ++ p ∷ [] → o ≡ Some p → IfSome o IsSingle → IfSome (slice_get new (length new - 1)) IsSingle
+last_alone ps new o p e i a =
+    let place : length new - 1 ≡ length ps = omega (arith, ap length e, length-append ps (p ∷ [])) in
+    let last : slice_get new (length new - 1) ≡ Some p = ap (slice_get new) place ∙ ap (λ l. slice_get l (length ps)) e ∙ get_at ps p [] in
+    subst (λ q. IfSome q IsSingle) (i ∙ sym last) a
+
+-- ---- The last piece.
+
+last_of : {X : Type 0} (xs : List X) (k : ℕ) (x : X) → slice_get xs k ≡ Some x → k + 1 ≡ length xs → xs ≡ take k xs ++ x ∷ []
+last_of [] k x e h = cc
+last_of (y ∷ []) zero x e h = let same : y ≡ x = cc in ap (λ z. z ∷ []) same
+last_of (y ∷ z ∷ xs) zero x e h = absurd (omega (arith, h))
+last_of (y ∷ xs) (suc k) x e h = ap (λ l. y ∷ l) (last_of xs k x e (omega (arith, h)))
+
+set_last : {X : Type 0} (xs : List X) (k : ℕ) (x : X) → k + 1 ≡ length xs → slice_set xs k x ≡ take k xs ++ x ∷ []
+set_last [] k x h = absurd (omega (arith, h))
+set_last (y ∷ []) zero x h = refl
+set_last (y ∷ z ∷ xs) zero x h = absurd (omega (arith, h))
+set_last (y ∷ xs) (suc k) x h = ap (λ l. y ∷ l) (set_last xs k x (omega (arith, h)))
+
+last_traces : (ps : List Piece) (k : ℕ) (p : Piece) → slice_get ps k ≡ Some p → k + 1 ≡ length ps → pieces_traces ps ≡ pieces_traces (take k ps) ++ piece_traces p
+last_traces ps k p e h = traces_put (take k ps) ps p (last_of ps k p e h)
+
+-- and of another in its place
+set_traces : (ps : List Piece) (k : ℕ) (q : Piece) → k + 1 ≡ length ps → pieces_traces (slice_set ps k q) ≡ pieces_traces (take k ps) ++ piece_traces q
+set_traces ps k q h = traces_put (take k ps) (slice_set ps k q) q (set_last ps k q h)
+
+pub last_single : (ps : List Piece) (k : ℕ) (p : Piece) → slice_get ps k ≡ Some p → k + 1 ≡ length ps → IsSingle p → pieces_traces ps ≡ pieces_traces (take k ps) ++ the_trace p ∷ []
+last_single ps k p e h s = last_traces ps k p e h ∙ ap (λ l. pieces_traces (take k ps) ++ l) (single_traces p s)
+
+pub set_single : (ps : List Piece) (k : ℕ) (q : Piece) → k + 1 ≡ length ps → IsSingle q → pieces_traces (slice_set ps k q) ≡ pieces_traces (take k ps) ++ the_trace q ∷ []
+set_single ps k q h s = set_traces ps k q h ∙ ap (λ l. pieces_traces (take k ps) ++ l) (single_traces q s)
+
+pub last_fits : (ps : List Piece) (k : ℕ) (p : Piece) (n s : ℕ) → slice_get ps k ≡ Some p → k + 1 ≡ length ps → n ≡ length (pieces_traces ps) → s ≡ length (piece_traces p) → s ≤ n
+last_fits ps k p n s e h i l = omega (arith, i, l, ap length (last_traces ps k p e h), length-append (pieces_traces (take k ps)) (piece_traces p))
+
+-- it is cut, so that so many items are before the cut
+pub cut_counted : (ps : List Piece) (k : ℕ) (p q : Piece) (n s m : ℕ) → slice_get ps k ≡ Some p → k + 1 ≡ length ps → n ≡ length (pieces_traces ps) → s ≡ length (piece_traces p) → n - s < m → length (piece_traces q) ≡ m - (n - s) → m ≡ length (pieces_traces (slice_set ps k q))
+cut_counted ps k p q n s m e h i l g j =
+    let before = pieces_traces (take k ps) in
+    omega (arith, i, l, g, j, ap length (last_traces ps k p e h), ap length (set_traces ps k q h), length-append before (piece_traces p), length-append before (piece_traces q))
+
+pub cut_same : (ps : List Piece) (k : ℕ) (p q r : Piece) (qs new : List Piece) → slice_get ps k ≡ Some p → k + 1 ≡ length ps → piece_traces p ≡ piece_traces q ++ piece_traces r → new ≡ qs ++ r ∷ [] → pieces_traces (slice_set ps k q) ++ traces_behind new ≡ pieces_traces ps ++ traces_behind qs
+cut_same ps k p q r qs new e h s f =
+    let before = pieces_traces (take k ps) in
+    let behind = traces_behind qs in
+    ap (λ l. l ++ traces_behind new) (set_traces ps k q h)
+    ∙ ap (λ l. (before ++ piece_traces q) ++ l) (behind_put qs new r f)
+    ∙ append_assoc before (piece_traces q) (piece_traces r ++ behind)
+    ∙ ap (λ l. before ++ l) (sym (append_assoc (piece_traces q) (piece_traces r) behind))
+    ∙ ap (λ l. before ++ (l ++ behind)) (sym s)
+    ∙ sym (append_assoc before (piece_traces p) behind)
+    ∙ ap (λ l. l ++ behind) (sym (last_traces ps k p e h))

@@ -1,15 +1,17 @@
 -- What the changes of pieces make of what is told.
-use Rattle.std.proofs.Common.{◌≡◌, ℕ, ◌+◌, length, List, [], ◌∷◌, ◌++◌, map, reverse, Some, ap, sym, ◌∙◌, append_assoc}
-use Rattle.std.specs.Prelude.{slice_get, slice_set, insert, remove}
+use Rattle.std.proofs.Common.{◌≡◌, ℕ, ◌+◌, ◌-◌, ◌<◌, length, List, [], ◌∷◌, ◌++◌, map, reverse, take, Some, refl, ap, sym, ◌∙◌, arith, subst, append_assoc, length-append}
+use Rattle.std.specs.Prelude.{slice_get, slice_set, get_or, insert, remove, IfSome}
+use Rattle.std.specs.Vec.{vec_len, with_item}
+use Rattle.std.proofs.lemmas.Option.{slice_get_read}
 use Rattle.rdl_tree.specs.declared.description.Item.{Item}
 use Rattle.rdl_tree.specs.declared.patch.Patch.TheVariants.{Insert, Shift}
-use Rattle.rdl_marks.specs.View.{Trace, new_item, piece_traces, in_order, IsCounted, gone_trace, gone_item, told, Told}
+use Rattle.rdl_marks.specs.View.{Trace, new_item, piece_traces, pieces_traces, in_order, IsCounted, gone_trace, gone_item, told, Told}
 use Rattle.rdl_marks.specs.Cut.{traces_before, traces_behind, traces_in, IsSingle, the_trace, Reaches}
 use Rattle.rdl_marks.specs.Noted.{moved, reach, put_in, take_out, gone_as, told_at, taken_out_as, moved_to, at_item, noted_here}
 use Rattle.rdl_marks.specs.declared.marks.Piece.{Piece}
 use Rattle.rdl_marks.specs.declared.marks.Pieces.{Pieces}
 use Rattle.rdl_marks.specs.declared.marks.Gone.{Gone}
-use Rattle.rdl_marks.proofs.Cuts.{get_at, put_at_end, remove_at, insert_at, pieces_traces-append, single_traces}
+use Rattle.rdl_marks.proofs.Cuts.{get_at, put_at_end, remove_at, insert_at, pieces_traces-append, single_traces, last_single, set_single}
 
 -- ---- What is told by the items one by one.
 
@@ -107,15 +109,51 @@ shifted old mid last new b c d from to p q t m a u gs =
     ∙ ap (λ o. moved_to from to o (told_by all c gs)) (sym (get_there (traces_before mid) (traces_behind mid.back.items) from e t.begins))
     ∙ ap (λ (l : Told). moved_to from to (slice_get l.traces from) l) (reached old all b c (from + 1) gs t.reaches)
 
-pub changed_at : (f : Trace → Trace) (old mid new : Pieces) (b c n : ℕ) (p q : Piece) → IsTaken old b mid c n (the_trace p) → the_trace q ≡ f (the_trace p) → IsPut mid new (the_trace q)
-    → (gs : List Gone) → told (in_order new) c gs ≡ at_item n f (told (in_order old) b gs)
-changed_at f old mid new b c n p q t m u gs =
+-- ---- A piece that is changed where it stands.
+
+-- the item of a number is the last one before the gap, and a piece by itself
+pub record IsHeld (old : Pieces) (b : ℕ) (mid : Pieces) (c n k : ℕ) (p : Piece) : Type 0 where
+  pub reaches : Reaches (traces_in old) b (traces_in mid) c (n + 1)
+  pub begins : length (traces_before mid) ≡ n + 1
+  pub place : slice_get mid.front.items k ≡ Some p
+  pub last : k + 1 ≡ length mid.front.items
+  pub alone : IsSingle p
+
+pub is_held : (old : Pieces) (b : ℕ) (mid : Pieces) (c n k : ℕ) (p : Piece) → Reaches (traces_in old) b (traces_in mid) c (n + 1) → IsCounted mid → mid.before ≡ n + 1 → 0 < length mid.front.items
+    → IfSome (slice_get mid.front.items (length mid.front.items - 1)) IsSingle → k ≡ vec_len mid.front - 1 → p ≡ get_or mid.front.items k p → IsHeld old b mid c n k p
+is_held old b mid c n k p r i h w a l g =
+    let size : k ≡ length mid.front.items - 1 = omega (arith, l) in
+    let within : k < length mid.front.items = omega (arith, w, size) in
+    let place = slice_get_read mid.front.items (length mid.front.items) k p refl within g in record {
+      reaches = r;
+      begins = sym i ∙ h;
+      place = place;
+      last = omega (arith, w, size);
+      alone = subst (λ o. IfSome o IsSingle) (ap (slice_get mid.front.items) (sym size) ∙ place) a;
+    }
+
+-- with another piece in its place
+abbrev pub changed : Pieces → ℕ → Piece → Pieces
+changed mid k q = record mid { front = with_item mid.front k q }
+
+pub held_counted : (old : Pieces) (b : ℕ) (mid : Pieces) (c n k : ℕ) (p q : Piece) → IsHeld old b mid c n k p → IsSingle q → mid.before ≡ n + 1 → IsCounted (changed mid k q)
+held_counted old b mid c n k p q t s h =
+    let before = pieces_traces (take k mid.front.items) in
+    omega (arith, h, t.begins, ap length (last_single mid.front.items k p t.place t.last t.alone), ap length (set_single mid.front.items k q t.last s), length-append before (the_trace p ∷ []), length-append before (the_trace q ∷ []))
+
+pub changed_held : (f : Trace → Trace) (old : Pieces) (b : ℕ) (mid : Pieces) (c n k : ℕ) (p q : Piece) → IsHeld old b mid c n k p → IsSingle q → the_trace q ≡ f (the_trace p)
+    → (gs : List Gone) → told (in_order (changed mid k q)) c gs ≡ at_item n f (told (in_order old) b gs)
+changed_held f old b mid c n k p q t s m gs =
     let e = the_trace p in
-    let before = traces_before mid in
+    let before = pieces_traces (take k mid.front.items) in
     let behind = traces_behind mid.back.items in
     let all = before ++ e ∷ behind in
-    told_in new c gs
-    ∙ ap (λ l. told_by l c gs) (put_between mid new (the_trace q) u ∙ set_there before behind n e (the_trace q) t.begins)
+    let held = last_single mid.front.items k p t.place t.last t.alone in
+    let begins : length before ≡ n = omega (arith, t.begins, ap length held, length-append before (e ∷ [])) in
+    let whole : traces_in mid ≡ all = ap (λ l. l ++ behind) held ∙ append_assoc before (e ∷ []) behind in
+    let after : traces_in (changed mid k q) ≡ before ++ the_trace q ∷ behind = ap (λ l. l ++ behind) (set_single mid.front.items k q t.last s) ∙ append_assoc before (the_trace q ∷ []) behind in
+    told_in (changed mid k q) c gs
+    ∙ ap (λ l. told_by l c gs) (after ∙ set_there before behind n e (the_trace q) begins)
     ∙ ap (λ g. told_by (slice_set all n g) c gs) m
-    ∙ ap (λ o. told_at n f o (told_by all c gs)) (sym (get_there before behind n e t.begins))
-    ∙ ap (λ (l : Told). told_at n f (slice_get l.traces n) l) (reached old all b c (n + 1) gs t.reaches)
+    ∙ ap (λ o. told_at n f o (told_by all c gs)) (sym (get_there before behind n e begins))
+    ∙ ap (λ (l : Told). told_at n f (slice_get l.traces n) l) (reached old all b c (n + 1) gs (subst (λ l. Reaches (traces_in old) b l c (n + 1)) whole t.reaches))

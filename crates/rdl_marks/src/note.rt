@@ -1,5 +1,5 @@
 //! Patches, noted by those that take them back.
-ghost use Rattle.std.specs.Prelude.{◌≡◌, ℕ, List, [], IfOk, Some, unwrap_or, option_copied};
+ghost use Rattle.std.specs.Prelude.{◌≡◌, ℕ, List, [], IfOk, IfErr, Some, unwrap_or, option_copied};
 ghost use Rattle.rdl_marks.specs.declared.marks.Gone.{Gone};
 ghost use Rattle.rdl_marks.specs.declared.marks.Piece.{Piece};
 ghost use Rattle.rdl_marks.specs.View.{new_item, in_order, IsCounted, told, firsts_of};
@@ -131,9 +131,9 @@ fn note_exchange<'a>(
     ensures counted { IsCounted pieces.new }
     ensures told { IfOk result (λ _. (gone : List Gone) → told (in_order pieces.new) behind.new gone ≡ at_item number (exchanged old.now) (told (in_order pieces.old) behind.old gone)) }
 {
-    let mut piece = pieces.take(behind, alloc, number)?;
-    note_part(&mut piece, old);
-    pieces.put(piece)?;
+    pieces.hold(behind, alloc, number)?;
+    let last = pieces.front.len() - 1;
+    note_part(&mut pieces.front[last], old);
     Ok(())
 }
 
@@ -198,9 +198,9 @@ impl<'a> BodyMarks<'a> {
                 Ok(())
             }
             [first, rest @ ..] => {
-                let mut piece = self.pieces.take(&mut self.behind, alloc, *first)?;
-                note_inside(&mut piece, alloc, rest, number, back)?;
-                self.pieces.put(piece)?;
+                self.pieces.hold(&mut self.behind, alloc, *first)?;
+                let last = self.pieces.front.len() - 1;
+                note_inside(&mut self.pieces.front[last], alloc, rest, number, back)?;
                 Ok(())
             }
         }
@@ -219,6 +219,7 @@ fn note_inside<'a>(
     requires { IsSingle piece.old }
     ensures trace { IfOk result (λ _. the_trace piece.new ≡ changed_inside (marks_at way.now (here back.now number)) (the_trace piece.old)) }
     ensures alone { IfOk result (λ _. IsSingle piece.new) }
+    ensures still { IfErr result (λ _. IsSingle piece.new) }
 {
     match piece {
         Piece::Marked(_, mark) => {

@@ -1,6 +1,6 @@
 //! Pieces, cut where a patch changes something.
-ghost use Rattle.std.specs.Prelude.{◌≡◌, ◌+◌, ◌^◌, ◌<◌, ◌≤◌, [], ◌∷◌, ◌++◌, length, IfOk, IfErr, IfSome, None, if◌then◌else◌, slice_get, option_copied};
-ghost use Rattle.rdl_marks.specs.View.{new_item, run, piece_traces, pieces_traces, in_order, IsCounted};
+ghost use Rattle.std.specs.Prelude.{◌≡◌, ◌+◌, ◌-◌, ◌^◌, ◌<◌, ◌≤◌, [], ◌∷◌, ◌++◌, length, IfOk, IfErr, IfSome, IsTrue, None, false, if◌then◌else◌, slice_get, option_copied};
+ghost use Rattle.rdl_marks.specs.View.{new_item, same_item, run, piece_traces, pieces_traces, in_order, IsCounted};
 ghost use Rattle.rdl_marks.specs.Cut.{traces_before, traces_behind, traces_in, rest_traces, IsSingle, the_trace, Reaches};
 
 use crate::marks::{Mark, Piece, Pieces};
@@ -13,6 +13,17 @@ fn len(piece: &Piece) -> usize
         Piece::New(count) => *count,
         Piece::Kept(from, to) => to.saturating_sub(*from),
         Piece::Marked(..) => 1,
+    }
+}
+
+/// Whether it is one item alone, which has a mark if it was there before.
+fn is_single(piece: &Piece) -> bool
+    ensures { IsTrue result → IsSingle piece.now }
+{
+    match piece {
+        Piece::New(count) => *count == 1,
+        Piece::Kept(..) => false,
+        Piece::Marked(..) => true,
     }
 }
 
@@ -58,6 +69,21 @@ fn cut_first<'a>(piece: &mut Piece<'a>, alloc: Global) -> Option<Piece<'a>>
             Some(Piece::Kept(first + 1, end))
         }
         Piece::Marked(..) => None,
+    }
+}
+
+/// Takes the first item out, if it is one of several as they were, and gives its number.
+fn cut_kept(piece: &mut Piece) -> Option<usize>
+    ensures some { IfSome result (λ first. piece_traces piece.old ≡ same_item first ∷ piece_traces piece.new) }
+    ensures none { result ≡ None → piece.new ≡ piece.old }
+{
+    match piece {
+        Piece::Kept(from, to) if *from < *to => {
+            let first = *from;
+            *from = first + 1;
+            Some(first)
+        }
+        _ => None,
     }
 }
 
@@ -146,6 +172,22 @@ fn pop_some<'a>(back: &mut Vec<Piece<'a>>) -> Option<Piece<'a>>
     None
 }
 
+/// Takes the next item from behind the gap, if it is one of a piece of items as they were, and gives its number.
+fn pop_kept(back: &mut Vec<Piece>) -> Option<usize>
+    ensures some { IfSome result (λ first. traces_behind back.old.items ≡ same_item first ∷ traces_behind back.new.items) }
+    ensures none { result ≡ None → back.new.items ≡ back.old.items }
+{
+    let count = back.len();
+    if count == 0 {
+        return None;
+    }
+    let first = cut_kept(&mut back[count - 1])?;
+    if len(&back[count - 1]) == 0 {
+        back.pop();
+    }
+    Some(first)
+}
+
 /// Takes the next item from behind the gap.
 fn pop_first<'a>(back: &mut Vec<Piece<'a>>, alloc: Global) -> Result<Option<Piece<'a>>, AllocError>
     ensures same { IfOk result (λ piece. traces_behind back.old.items ≡ rest_traces piece ++ traces_behind back.new.items) }
@@ -211,6 +253,7 @@ impl<'a> Pieces<'a> {
         ensures before { IfOk result (λ _. traces_before self.new ≡ traces_before self.old ++ piece_traces piece.entry) }
         ensures count { IfOk result (λ _. self.new.before ≡ self.old.before + length (piece_traces piece.entry)) }
         ensures behind { self.new.back ≡ self.old.back }
+        ensures last { IfOk result (λ _. self.new.front.items ≡ self.old.front.items ++ piece.entry ∷ []) }
     {
         let Some(before) = self.before.checked_add(len(&piece)) else {
             return Err(AllocError);
@@ -218,6 +261,29 @@ impl<'a> Pieces<'a> {
         self.front.push(piece)?;
         self.before = before;
         Ok(())
+    }
+
+    /// Brings the gap back into the last piece before it, if so many items stand before it then, and says whether it did.
+    fn cut_back(&mut self, number: usize) -> Result<bool, AllocError>
+        requires counted { IsCounted self.old }
+        requires far { number < self.old.before }
+        ensures counted { IsCounted self.new }
+        ensures same { IfOk result (λ _. traces_in self.new ≡ traces_in self.old) }
+        ensures cut { IfOk result (λ is_cut. IsTrue is_cut → self.new.before ≡ number) }
+        ensures whole { IfOk result (λ is_cut. is_cut ≡ false → self.new ≡ self.old) }
+    {
+        let count = self.front.len();
+        if count == 0 {
+            return Ok(false);
+        }
+        let start = self.before - len(&self.front[count - 1]);
+        if number <= start {
+            return Ok(false);
+        }
+        let rest = split(&mut self.front[count - 1], number - start);
+        self.before = number;
+        self.back.push(rest)?;
+        Ok(true)
     }
 
     /// Brings the gap back, until no more items than these stand before it.
@@ -228,6 +294,9 @@ impl<'a> Pieces<'a> {
         ensures far { IfOk result (λ _. self.new.before ≤ number) }
     {
         while self.before > number {
+            if self.cut_back(number)? {
+                return Ok(());
+            }
             let Some(piece) = self.front.pop() else {
                 return Ok(());
             };
@@ -282,6 +351,9 @@ impl<'a> Pieces<'a> {
         ensures reaches { IfOk result (λ _. Reaches (traces_in self.old) behind.old (traces_in self.new) behind.new number) }
         ensures begins { IfOk result (λ _. self.new.before ≡ number) }
     {
+        if self.before == number {
+            return Ok(());
+        }
         self.go_back(number)?;
         self.go_on(number)?;
         self.extend(behind, number)
@@ -306,6 +378,94 @@ impl<'a> Pieces<'a> {
             None => {
                 let piece = pop_behind(behind, alloc)?;
                 Ok(piece)
+            }
+        }
+    }
+
+    /// Whether the item of this number is the last one before the gap, and a piece by itself.
+    fn holds(&self, number: usize) -> bool
+        ensures begins { IsTrue result → self.now.before ≡ number + 1 }
+        ensures some { IsTrue result → 0 < length self.now.front.items }
+        ensures alone { IsTrue result → IfSome (slice_get self.now.front.items (length self.now.front.items - 1)) IsSingle }
+    {
+        let count = self.front.len();
+        if count == 0 || self.before <= number || self.before - number != 1 {
+            return false;
+        }
+        is_single(&self.front[count - 1])
+    }
+
+    /// Puts the item that had this number before the gap, with a mark.
+    fn put_marked(&mut self, alloc: Global, number: usize) -> Result<(), AllocError>
+        requires { IsCounted self.old }
+        ensures counted { IsCounted self.new }
+        ensures before { IfOk result (λ _. traces_before self.new ≡ traces_before self.old ++ same_item number ∷ []) }
+        ensures count { IfOk result (λ _. self.new.before ≡ self.old.before + 1) }
+        ensures behind { self.new.back ≡ self.old.back }
+        ensures some { IfOk result (λ _. 0 < length self.new.front.items) }
+        ensures alone { IfOk result (λ _. IfSome (slice_get self.new.front.items (length self.new.front.items - 1)) IsSingle) }
+    {
+        let Some(before) = self.before.checked_add(1) else {
+            return Err(AllocError);
+        };
+        self.front.push(Piece::Marked(number, Mark::none(alloc)))?;
+        self.before = before;
+        Ok(())
+    }
+
+    /// Puts the first one of those that stood in the body from a number on before the gap, with a mark.
+    fn put_behind(&mut self, behind: &mut usize, alloc: Global) -> Result<(), AllocError>
+        requires { IsCounted self.old }
+        ensures counted { IsCounted self.new }
+        ensures before { IfOk result (λ _. traces_before self.new ≡ traces_before self.old ++ run behind.old 1) }
+        ensures count { IfOk result (λ _. self.new.before ≡ self.old.before + 1) }
+        ensures behind { self.new.back ≡ self.old.back }
+        ensures more { IfOk result (λ _. behind.new ≡ behind.old + 1) }
+        ensures some { IfOk result (λ _. 0 < length self.new.front.items) }
+        ensures alone { IfOk result (λ _. IfSome (slice_get self.new.front.items (length self.new.front.items - 1)) IsSingle) }
+    {
+        let Some(end) = behind.checked_add(1) else {
+            return Err(AllocError);
+        };
+        self.put_marked(alloc, *behind)?;
+        *behind = end;
+        Ok(())
+    }
+
+    /// Makes the item of this number the last one before the gap, and a piece by itself, which has a mark if it was there before.
+    pub(crate) fn hold(
+        &mut self,
+        behind: &mut usize,
+        alloc: Global,
+        number: usize,
+    ) -> Result<(), AllocError>
+        requires { IsCounted self.old }
+        ensures counted { IsCounted self.new }
+        ensures reaches { IfOk result (λ _. Reaches (traces_in self.old) behind.old (traces_in self.new) behind.new (number + 1)) }
+        ensures begins { IfOk result (λ _. self.new.before ≡ number + 1) }
+        ensures some { IfOk result (λ _. 0 < length self.new.front.items) }
+        ensures alone { IfOk result (λ _. IfSome (slice_get self.new.front.items (length self.new.front.items - 1)) IsSingle) }
+    {
+        if self.holds(number) {
+            return Ok(());
+        }
+        self.go_to(behind, number)?;
+        if self.back.is_empty() {
+            self.put_behind(behind, alloc)?;
+            return Ok(());
+        }
+        if let Some(first) = pop_kept(&mut self.back) {
+            self.put_marked(alloc, first)?;
+            return Ok(());
+        }
+        match pop_first(&mut self.back, alloc)? {
+            Some(piece) => {
+                self.put(piece)?;
+                Ok(())
+            }
+            None => {
+                self.put_behind(behind, alloc)?;
+                Ok(())
             }
         }
     }
