@@ -9,8 +9,10 @@ use rdl_tree::description::{Body, Item};
 use std::alloc::{AllocError, Global};
 
 /// How many items of a body are gone along for the names that are looked up there, before it is worth while to know where they stand: so many,
-/// and as many as it has.
+/// and as many as it has in all, as often as `ROUNDS` says.
 const FEW: usize = 256;
+
+/// To know where all items of a body stand takes about as long as to go along all of them twice.
 const ROUNDS: usize = 2;
 
 /// An item that was gone along: how many instances stand before it, and one more than the number of the last item before it whose name has

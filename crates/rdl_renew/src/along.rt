@@ -152,6 +152,9 @@ impl Along {
     fn go_on(&mut self, pieces: &Pieces, behind: usize)
         ensures { (i : ℕ) → HasPassed (in_order pieces.now) behind self.old i → HasPassed (in_order pieces.now) behind self.new i }
     {
+        if self.items < self.same.count {
+            return;
+        }
         while let Some(piece) = pieces.get(self.pieces) {
             if self.items < len(piece) {
                 return;

@@ -106,7 +106,6 @@ impl Done {
 
     /// Items more that are as they were and had these numbers, as far as they may be passed over, and how many they are. These slots were kept
     /// of them, and so many of the first items of the body are as they were.
-    #[inline(never)]
     pub(crate) fn pass_over(
         &mut self,
         before: &[Slot],

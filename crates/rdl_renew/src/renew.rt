@@ -418,7 +418,15 @@ fn renew_body<L: Lays>(
         number += passed;
         if number < items.len() {
             let next = along.next(&marks.pieces, marks.behind);
-            renew_item(alloc, lay, renewal, &mut done, next, &items[number], account)?;
+            renew_item(
+                alloc,
+                lay,
+                renewal,
+                &mut done,
+                next,
+                &items[number],
+                account,
+            )?;
             number += 1;
         }
     }

@@ -2,19 +2,17 @@
 use Rattle.std.proofs.Common.{◌≡◌, ◌+◌, ◌*◌, ◌<◌, ◌^◌, ◌||◌, length, Some, None, refl, ap, subst, sym, ◌∙◌, arith, rules}
 use Rattle.std.specs.Prelude.{option_map}
 use Rattle.std.specs.Option.{option_copied}
-use Rattle.rdl_tree.specs.Items.{Items}
 use Rattle.rdl_scope.proofs.Sizes.{count-item}
 use Rattle.rdl_tree.proofs.Sizes.{item_count}
 use Rattle.rdl_marks.specs.Marks.{no_firsts}
-use Rattle.rdl_marks.specs.View.{new_item, same_item, old_item, firsts_of, in_order}
+use Rattle.rdl_marks.specs.View.{new_item, old_item, firsts_of, in_order}
 use Rattle.rdl_nodes.specs.KeptNode.{kept_of}
 use Rattle.rdl_nodes.specs.View.{slots_of}
 use Rattle.rdl_nodes.proofs.Counts.{counts_so}
-use Rattle.rdl_places.specs.HeldScope.{places_of, outer_places}
+use Rattle.rdl_places.specs.HeldScope.{places_of}
 use Rattle.rdl_places.specs.Scopes.{around_places}
 use Rattle.rdl_seen.specs.declared.alert.Alert.{Alert}
 use Rattle.rdl_seen.specs.Meaning.{around_before}
-use Rattle.rdl_seen.specs.Node.{Around}
 use Rattle.rdl_seen.specs.PropertySet.{with_properties}
 use Rattle.rdl_renew.specs.declared.along.Stretch.{Stretch}
 use Rattle.rdl_renew.specs.declared.done.Reach.{Reach}
@@ -27,14 +25,13 @@ use Rattle.rdl_renew.specs.InPlace.{AddAsSaid, IsLike}
 use Rattle.rdl_renew.specs.Judged.{IsCleanBody}
 use Rattle.rdl_renew.specs.Placed.{in_body, placed_stayed, sets_width}
 use Rattle.rdl_renew.specs.Raised.{raised}
-use Rattle.rdl_renew.specs.Renewing.{kept_component, Became, WasLaidOut, IsReached, IsNext}
+use Rattle.rdl_renew.specs.Renewing.{kept_component, Became, WasLaidOut}
 use Rattle.rdl_renew.proofs.Again.{which_held}
-use Rattle.rdl_renew.proofs.BodySteps.{first_done, next_is, one_renewed, body_done, differs_no_more}
-use Rattle.rdl_renew.proofs.CleanSteps.{on_any, was_clean, stayed_clean, settled_clean, same_judge, component_still, first_clean, next_clean, body_clean}
-use Rattle.rdl_renew.proofs.CountSteps.{if_both, on_two, width_either, on_told, stayed_became, stayed_counted, settled_counted, component_counted, bare_counted, unkept_counted, finished_counted, none_counted, one_counted, all_counted}
-use Rattle.rdl_renew.proofs.InFront.{front_done, front_clean, front_counted}
-use Rattle.rdl_renew.proofs.InPlace.{kept_in_place, kept_add, liken_add, kept_alike, next_in_place, none_add, next_add, first_alike, next_alike, all_like}
-use Rattle.rdl_renew.proofs.ItemSteps.{on_all, on_both, kept_done, stayed_done, slot_made, with_next, reached_stayed}
+use Rattle.rdl_renew.proofs.BodySteps.{first_done, next_is, body_done, differs_no_more}
+use Rattle.rdl_renew.proofs.CleanSteps.{on_any, was_clean, stayed_clean, component_still, first_clean, body_clean}
+use Rattle.rdl_renew.proofs.CountSteps.{if_both, on_two, width_either, on_told, stayed_became, stayed_counted, component_counted, bare_counted, unkept_counted, finished_counted, none_counted, all_counted}
+use Rattle.rdl_renew.proofs.InPlace.{liken_add, none_add, next_add, first_alike, all_like}
+use Rattle.rdl_renew.proofs.ItemSteps.{on_all, on_both, stayed_done, slot_made, with_next, reached_stayed}
 use Rattle.rdl_renew.proofs.OneDone.{place_made}
 use Rattle.rdl_renew.proofs.PassedOver.{told_of, same_reach, same_lasts, adds_passed, stand_next, stands_on}
 use Rattle.rdl_renew.proofs.Raises.{with_none}
@@ -394,4 +391,3 @@ pub renew_item-returns-clause-add_same : goal.renew_item-returns-clause-add_same
 renew_item-returns-clause-add_same g t c =
     let number : c.len-number.result ≡ length c.args.done.now.slots.items = search rules in
     liken_add (slots_of c.args.renewal.now.slots.now) c.args.done.now c.renew_other.new.done c.liken.new.self c.len-number.result c.in_ok-renew_other.ensures.likeness c.liken.ensures.slots number c.liken.ensures.add_same
-

@@ -1,4 +1,4 @@
-use Rattle.std.proofs.Common.{◌-◌, ◌<◌, subst, arith}
+use Rattle.std.proofs.Common.{◌-◌, ◌<◌, arith}
 use Rattle.rdl_marks.specs.View.{in_order}
 use Rattle.rdl_renew.proofs.Passed.{all_told}
 use Rattle.rdl_renew.proofs.along.Along.stretch.Goals as goal

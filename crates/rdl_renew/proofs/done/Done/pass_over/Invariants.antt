@@ -1,4 +1,4 @@
-use Rattle.std.proofs.Common.{ℕ, ◌-◌, ◌≤◌}
+use Rattle.std.proofs.Common.{◌-◌, ◌≤◌}
 use Rattle.rdl_renew.specs.PassedOver.{ArePassed}
 use Rattle.rdl_renew.proofs.done.Done.pass_over.Given as goal
 
